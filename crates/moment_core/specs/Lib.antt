@@ -1,0 +1,3 @@
+pub mod Conformance
+pub mod Metering
+pub mod Tokens

@@ -1,0 +1,50 @@
+-- The token meter: what any of the three-colour meters does with a packet, token by token and nanosecond by nanosecond.
+use Rattle.std.specs.Prelude.{ℕ, ◌-◌, nat_lt, if◌then◌else◌, List, [], ◌∷◌}
+use Rattle.moment_core.specs.declared.colour.Colour.{Colour}
+use Rattle.moment_core.specs.declared.colour.Mode.{Mode}
+use Rattle.moment_core.specs.Tokens.{each_nanosecond}
+
+-- a packet that is offered to a meter: when, how many bytes, and the colour that it comes in with
+pub record Offer : Type 0 where
+  pub moment : ℕ
+  pub size : ℕ
+  pub came : Colour
+
+-- a meter at work: its parameters, the levels of its buckets, and the newest moment that it metered at
+pub record State (P L : Type 0) : Type 0 where
+  pub parameters : P
+  pub mode : Mode
+  pub origin : ℕ
+  pub newest : ℕ
+  pub levels : L
+
+-- What the standard of a meter says: the levels of full buckets, what the tokens of one nanosecond do to the levels,
+-- the colour of a packet at its levels, and the levels after a packet of that colour.
+pub record Rules (P L : Type 0) : Type 0 where
+  pub full : P → L
+  pub gain : P → ℕ → ℕ → L → L
+  pub coloured : Mode → L → ℕ → Colour → Colour
+  pub without : L → ℕ → Colour → L
+
+-- a meter as it begins: full buckets at its origin (RFC 2697 section 3, RFC 2698 section 3)
+unfoldable pub opening : {P L : Type 0} → Rules P L → P → Mode → ℕ → State P L
+opening rules p mode origin = record { parameters = p; mode = mode; origin = origin; newest = origin; levels = rules.full p }
+
+-- a meter never goes back: a packet is metered at its moment or at the newest one, whichever is later
+unfoldable pub used : ℕ → ℕ → ℕ
+used newest moment = if nat_lt newest moment then moment else newest
+
+-- the levels once each nanosecond up to a moment has given its tokens, and before a packet of that moment
+unfoldable pub levels_at : {P L : Type 0} → Rules P L → State P L → ℕ → L
+levels_at rules m moment = each_nanosecond (rules.gain m.parameters m.origin) m.newest (moment - m.newest) m.levels
+
+-- the colour that a packet leaves with
+unfoldable pub colour_of : {P L : Type 0} → Rules P L → State P L → Offer → Colour
+colour_of rules m o = rules.coloured m.mode (levels_at rules m (used m.newest o.moment)) o.size o.came
+
+-- the meter after a packet
+unfoldable pub after : {P L : Type 0} → Rules P L → State P L → Offer → State P L
+after rules m o = record m {
+  newest = used m.newest o.moment;
+  levels = rules.without (levels_at rules m (used m.newest o.moment)) o.size (colour_of rules m o);
+}
