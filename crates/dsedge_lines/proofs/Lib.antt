@@ -1,0 +1,2 @@
+-- Lemmas on what a desk answers.
+pub mod DeskLemmas

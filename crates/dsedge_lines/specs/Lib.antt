@@ -1,0 +1,3 @@
+-- What is answered to lines.
+pub mod Answers
+pub mod Desks
