@@ -1,2 +1,3 @@
--- Lemmas on what a desk answers.
+-- Lemmas on answers and on what a desk answers.
+pub mod AnswerLemmas
 pub mod DeskLemmas

@@ -25,10 +25,15 @@ pub trait Command {
     /// Answers a line behind `out`, or says how the answer ends before it.
     ///
     /// Where memory runs out, `out` holds a front of the answer, and the command is of no more use.
-    fn line(&mut self, number: u64, line: &[u8], out: &mut Vec<u8>) -> Result<Option<Ending>, AllocError>
+    fn line(
+        &mut self,
+        number: u64,
+        line: &[u8],
+        out: &mut Vec<u8>,
+    ) -> Result<Option<Ending>, AllocError>
         ensures { (later : List (List ℕ)) →
             Answers (behind out.old.items (answer self.old number (line.now ∷ later)))
-                (behind out.new.items (answer self.new (number + 1) later)) out.new.items result };
+            (behind out.new.items (answer self.new (number + 1) later)) out.new.items result };
 
     /// Answers the end of the input behind `out`, where `number` is that of a line to come, and
     /// says how the answer ends.

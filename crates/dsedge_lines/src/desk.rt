@@ -29,7 +29,7 @@ fn answer_carried<C: Command>(
     requires one_line { has_byte 10 rest.now ≡ false }
     ensures answer { (later : List ℕ) →
         Answers (answer_with (C.answer command.old) desk.old (rest.now ++ 10 ∷ later))
-            (answer_with (C.answer command.new) desk.new later) desk.new.out.items result }
+        (answer_with (C.answer command.new) desk.new later) desk.new.out.items result }
     ensures carried { IfOk result (λ ended. IfNone ended (desk.new.carry.items ≡ [])) }
     ensures number { IfOk result (λ ended. IfNone ended (desk.new.number ≡ desk.old.number + 1)) }
 {
@@ -51,7 +51,7 @@ fn answer_line<C: Command>(
     requires one_line { has_byte 10 rest.now ≡ false }
     ensures answer { (later : List ℕ) →
         Answers (answer_with (C.answer command.old) desk.old (rest.now ++ 10 ∷ later))
-            (answer_with (C.answer command.new) desk.new later) desk.new.out.items result }
+        (answer_with (C.answer command.new) desk.new later) desk.new.out.items result }
     ensures carried { IfOk result (λ ended. IfNone ended (desk.new.carry.items ≡ [])) }
     ensures number { IfOk result (λ ended. IfNone ended (desk.new.number ≡ desk.old.number + 1)) }
 {
@@ -73,7 +73,7 @@ pub fn answer_piece<C: Command>(
     requires carried { has_byte 10 desk.old.carry.items ≡ false }
     ensures answer { (later : List ℕ) →
         Answers (answer_with (C.answer command.old) desk.old (piece.now ++ later))
-            (answer_with (C.answer command.new) desk.new later) desk.new.out.items result }
+        (answer_with (C.answer command.new) desk.new later) desk.new.out.items result }
     ensures carried { IfOk result (λ ended. IfNone ended (has_byte 10 desk.new.carry.items ≡ false)) }
     ensures number { IfOk result (λ ended. IfNone ended
         (desk.new.number ≤ desk.old.number + length piece.now)) }

@@ -1,10 +1,12 @@
 //! Commands that answer lines: what they read, and what they write.
 #![tactic(auto)]
 
-pub mod command;
+mod command;
 mod desk;
+mod engine;
+mod fault;
 mod hand_over;
-mod pump;
 
 pub use command::{Command, Ending};
-pub use pump::PumpFault;
+pub use engine::pump;
+pub use fault::PumpFault;

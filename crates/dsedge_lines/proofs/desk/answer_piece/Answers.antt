@@ -11,13 +11,13 @@ loop-line-preserved g c =
     record {
       carried = rw (rw c.in-None.is at told.carried) (has_byte-nil 10);
       number =
-        let count : c.answer_line.new.desk.number ≡ c.loop-line.desk.number + 1 = rw c.in-None.is at told.number in
-        let size : length c.loop-line.rest.now ≡ length (line ++ 10 ∷ next) = ap length c.in-Some.ensures.1 in
-        omega (arith, count, size, length-append line (10 ∷ next), c.loop-line.invariant.number);
+          let count : c.answer_line.new.desk.number ≡ c.loop-line.desk.number + 1 = rw c.in-None.is at told.number in
+          let size : length c.loop-line.rest.now ≡ length (line ++ 10 ∷ next) = ap length c.in-Some.ensures.1 in
+          omega (arith, count, size, length-append line (10 ∷ next), c.loop-line.invariant.number);
       answer = λ later.
-        let joined = ap (λ bytes. bytes ++ later) c.in-Some.ensures.1 ∙ append_assoc line (10 ∷ next) later in
-        let on = rw c.in-None.is at (told.answer (next ++ later)) in
-        on ∙ sym (ap (answer_with (g.C.Command.answer c.loop-line.command) c.loop-line.desk) joined) ∙ c.loop-line.invariant.answer later;
+          let joined = ap (λ bytes. bytes ++ later) c.in-Some.ensures.1 ∙ append_assoc line (10 ∷ next) later in
+          let on = rw c.in-None.is at (told.answer (next ++ later)) in
+          on ∙ sym (ap (answer_with (g.C.Command.answer c.loop-line.command) c.loop-line.desk) joined) ∙ c.loop-line.invariant.answer later;
     }
 
 pub returns-clause-carried : goal.returns-clause-carried

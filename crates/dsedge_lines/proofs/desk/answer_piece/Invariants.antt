@@ -8,7 +8,7 @@ abbrev pub invariant-loop-line : goal.invariant-loop-line
 invariant-loop-line g l = record {
   carried : has_byte 10 l.desk.carry.items ≡ false;
   number : l.desk.number + length l.rest ≤ l.initial.desk.number + length l.piece;
-  answer : (later : List ℕ) → answer_with (g.C.Command.answer l.command) l.desk (l.rest ++ later) ≡ answer_with (g.C.Command.answer l.initial.command) l.initial.desk (l.piece ++ later)
+  answer : (later : List ℕ) → answer_with (g.C.Command.answer l.command) l.desk (l.rest ++ later) ≡ answer_with (g.C.Command.answer l.initial.command) l.initial.desk (l.piece ++ later);
 }
 
 abbrev pub decreases-loop-line : goal.decreases-loop-line

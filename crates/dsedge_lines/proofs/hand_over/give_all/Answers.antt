@@ -13,8 +13,8 @@ loop-given-preserved g c =
       within = let bound : more ≤ length (drop given text) = rw take_rest at c.in_ok-given.ensures.within in omega (arith, length-drop given text);
       told = λ tells. c.give.ensures.told (c.loop-given.invariant.told tells);
       bytes = λ tells.
-        let took : held c.give.new.self ≡ held c.loop-given.outlet ++ take more (drop given text) = rw take_rest at (c.in_ok-given.ensures.bytes (c.loop-given.invariant.told tells)) in
-        let front = c.loop-given.invariant.bytes tells in
-        rw (took, front, take-add given more text) (append_assoc (held c.args.outlet.now) (take given text) (take more (drop given text)));
+          let took : held c.give.new.self ≡ held c.loop-given.outlet ++ take more (drop given text) = rw take_rest at (c.in_ok-given.ensures.bytes (c.loop-given.invariant.told tells)) in
+          let front = c.loop-given.invariant.bytes tells in
+          rw (took, front, take-add given more text) (append_assoc (held c.args.outlet.now) (take given text) (take more (drop given text)));
       failures = c.in_ok-given.ensures.failures ∙ c.loop-given.invariant.failures;
     }

@@ -7,7 +7,7 @@ invariant-loop-given g l = record {
   within : l.given ≤ length l.text;
   told : g.O.Outlet.tells l.initial.outlet → g.O.Outlet.tells l.outlet;
   bytes : g.O.Outlet.tells l.initial.outlet → g.O.Outlet.held l.outlet ≡ g.O.Outlet.held l.initial.outlet ++ take l.given l.text;
-  failures : g.O.Outlet.failed l.outlet ≡ g.O.Outlet.failed l.initial.outlet
+  failures : g.O.Outlet.failed l.outlet ≡ g.O.Outlet.failed l.initial.outlet;
 }
 
 abbrev pub decreases-loop-given : goal.decreases-loop-given
