@@ -1,0 +1,3 @@
+-- Lemmas on answers and on what a desk answers.
+pub mod AnswerLemmas
+pub mod DeskLemmas

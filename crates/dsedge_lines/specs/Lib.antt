@@ -1,0 +1,5 @@
+-- What is answered to lines.
+pub mod Answers
+pub mod Codes
+pub mod Desks
+pub mod Faults

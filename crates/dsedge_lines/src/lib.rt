@@ -1,0 +1,12 @@
+//! Commands that answer lines: what they read, and what they write.
+#![tactic(auto)]
+
+mod command;
+mod desk;
+mod engine;
+mod fault;
+mod hand_over;
+
+pub use command::{Command, Ending};
+pub use engine::pump;
+pub use fault::PumpFault;
