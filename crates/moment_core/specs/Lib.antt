@@ -1,3 +1,4 @@
 pub mod Conformance
 pub mod Metering
 pub mod Tokens
+pub mod Volume

@@ -1,0 +1,3 @@
+pub mod LinearPass
+pub mod Quotients
+pub mod Windows
