@@ -3,8 +3,7 @@ use Rattle.std.specs.Prelude.{ℕ, ◌+◌, ◌≤◌, List, ◌++◌, All, map,
 use Rattle.std.specs.List.{flat_map}
 use Rattle.std.specs.List.Sorted.{IsPermutation}
 use Rattle.moment_core.specs.Conformance.{Keeps}
-use Rattle.moment_core.specs.Volume.{bytes_over}
-use Rattle.envelope_core.specs.Curve.{Curve, KeepsCurve, total}
+use Rattle.envelope_core.specs.Curve.{Curve, KeepsCurve, widened, total}
 
 -- a flow: its envelope and its sized moments
 pub record Flow : Type 0 where
@@ -42,10 +41,10 @@ FlowsAdd =
 -- even where packets overtake one another.
 abbrev pub DelaysWiden : Type 0
 DelaysWiden =
-    (rate burst floor jitter : ℕ) (journeys : List Journey)
+    (curve : Curve) (floor jitter : ℕ) (journeys : List Journey)
     → All (λ journey. (floor ≤ journey.delay) × (journey.delay ≤ floor + jitter)) journeys
-    → Keeps rate burst (map departure journeys)
-    → Keeps rate (burst + bytes_over rate jitter) (map arrival journeys)
+    → KeepsCurve curve (map departure journeys)
+    → KeepsCurve (widened jitter curve) (map arrival journeys)
 
 -- the order in which sized moments are listed does not matter
 abbrev pub OrderIsFree : Type 0
