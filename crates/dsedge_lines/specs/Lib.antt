@@ -3,3 +3,4 @@ pub mod Answers
 pub mod Codes
 pub mod Desks
 pub mod Faults
+pub mod FirstLine

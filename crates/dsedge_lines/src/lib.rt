@@ -6,7 +6,9 @@ mod desk;
 mod engine;
 mod fault;
 mod hand_over;
+mod words;
 
 pub use command::{Command, Ending};
 pub use engine::pump;
 pub use fault::PumpFault;
+pub use words::{FirstLineFault, Words, first_line};
