@@ -1,1 +1,2 @@
+pub mod MeteringLaws
 pub mod TokenLaws

@@ -1,10 +1,9 @@
 -- What the token law and a bucket's one-by-one filling come to in closed form.
-use Rattle.std.proofs.Common.{◌≡◌, ℕ, ◌+◌, ◌-◌, ◌*◌, ◌/◌, ◌<◌, ◌≤◌, zero, suc, cond, Bool, true, false, refl, sym, ◌∙◌, ap, arith, nat_lt, add-zero, mul-zero, inl, inr}
-use Rattle.std.proofs.Math.Nat.{div-le_of_le-mul, div-mul-le_self, mul-le-mul_left}
+use Rattle.std.proofs.Common.{◌≡◌, ℕ, ◌+◌, ◌-◌, ◌*◌, ◌/◌, ◌<◌, ◌≤◌, zero, suc, refl, sym, ◌∙◌, ap, arith, add-zero, mul-zero, inl, inr}
+use Rattle.std.proofs.Math.Nat.{div-mul-le_self, mul-le-mul_left}
 use Rattle.std.proofs.lemmas.Nat.{le-div}
 use Rattle.std.proofs.lemmas.Bool.{cases_lt}
 use Rattle.std.proofs.lemmas.Bool.Decides.{nat_tests}
-use Rattle.std.specs.Fn.{iterate}
 use Rattle.moment_core.specs.Tokens.{given, tokens_at, each_nanosecond, with_token, with_tokens}
 
 -- a quotient does not fall where what is divided does not

@@ -1,3 +1,4 @@
+pub mod Colours
 pub mod Conformance
 pub mod Metering
 pub mod Tokens

@@ -1,7 +1,8 @@
-ghost use Rattle.std.specs.Prelude.{◌≡◌, ◌+◌, ◌≤◌, ◌↔◌, IsTrue, if◌then◌else◌};
-ghost use Rattle.moment_core.specs.Tokens.{with_tokens};
+ghost use Rattle.std.specs.Prelude.{◌≡◌, ◌+◌, ◌-◌, ◌≤◌, ◌↔◌, IsTrue, if◌then◌else◌};
+ghost use Rattle.moment_core.specs.Tokens.{given, with_tokens};
 
-use crate::quantity::PacketSize;
+use crate::quantity::{Moment, PacketSize, Rate};
+use crate::tokens::tokens_given;
 
 /// A token bucket: its level and its size, in bytes (RFC 2697 section 3, RFC 2698 section 3).
 #[derive(Clone, Copy, Debug, PartialEq, Eq, Hash)]
@@ -40,6 +41,28 @@ impl Bucket {
                 tokens - u128::from(room)
             }
         }
+    }
+
+    /// Takes in what a rate has given since `counted` tokens were given, up to a moment, and answers how many tokens
+    /// found it full; `counted` is brought up to the moment too. One division.
+    pub fn fill_to(
+        &mut self,
+        counted: &mut u128,
+        rate: Rate,
+        origin: Moment,
+        moment: Moment,
+    ) -> u128
+        requires begun { origin ≤ moment }
+        requires counted { counted.old ≤ given rate origin moment }
+        ensures counted { counted.new ≡ given rate origin moment }
+        ensures level { self.new.level ≡ with_tokens self.old.size (given rate origin moment - counted.old) self.old.level }
+        ensures surplus { self.new.level + result ≡ self.old.level + (given rate origin moment - counted.old) }
+        ensures size { self.new.size ≡ self.old.size }
+    {
+        let before = *counted;
+        let now = tokens_given(rate, origin, moment);
+        *counted = now;
+        self.refill(now - before)
     }
 
     /// Whether it holds the tokens for so many bytes.

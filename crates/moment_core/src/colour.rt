@@ -1,3 +1,5 @@
+ghost use Rattle.std.specs.Prelude.{◌≡◌};
+
 /// The colour of a packet (RFC 2697 section 1, RFC 2698 section 1), from the best to the worst.
 #[derive(Clone, Copy, Debug, PartialEq, Eq, PartialOrd, Ord, Hash)]
 pub enum Colour {
@@ -16,4 +18,18 @@ pub enum Mode {
     Blind,
     /// The colour that a packet comes in with bounds the colour that it can leave with.
     Aware,
+}
+
+impl Mode {
+    ghost use Rattle.moment_core.specs.Metering.{seen};
+
+    /// The colour that a meter in this mode sees a packet come in with: green in blind mode.
+    pub fn seen(self, came: Colour) -> Colour
+        ensures { result ≡ seen self came }
+    {
+        match self {
+            Mode::Blind => Colour::Green,
+            Mode::Aware => came,
+        }
+    }
 }

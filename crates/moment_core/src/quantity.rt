@@ -1,4 +1,5 @@
-ghost use Rattle.std.specs.Prelude.{◌≡◌, ℕ, ◌<◌, ◌≤◌, ◌^◌};
+ghost use Rattle.std.specs.Prelude.{◌≡◌, ℕ, ◌-◌, ◌<◌, ◌≤◌, ◌^◌};
+ghost use Rattle.moment_core.specs.Metering.{used};
 ghost use Rattle.std.specs.Result.{OkIff};
 
 use std::marker::Model;
@@ -52,6 +53,29 @@ impl Moment {
         ensures range { result < 2 ^ 63 }
     {
         self.nanoseconds
+    }
+
+    /// The moment at which a meter whose newest moment is `self` meters an arrival: the later of the two, since a
+    /// meter never goes back.
+    #[tactic(auto, unfolding(crate::specs::Metering::used))]
+    pub fn used_for(self, arrival: Moment) -> Moment
+        ensures { result ≡ used self arrival }
+    {
+        if self.nanoseconds < arrival.nanoseconds {
+            arrival
+        } else {
+            self
+        }
+    }
+
+    /// The time from an earlier moment to this one.
+    pub fn since(self, earlier: Moment) -> Gap
+        requires { earlier ≤ self }
+        ensures { result ≡ self - earlier }
+    {
+        Gap {
+            nanoseconds: self.nanoseconds - earlier.nanoseconds,
+        }
     }
 }
 

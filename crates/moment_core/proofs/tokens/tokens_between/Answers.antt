@@ -1,4 +1,3 @@
-use Rattle.std.proofs.Common.{arith}
 use Rattle.moment_core.proofs.TokenLaws.{given-mono}
 use Rattle.moment_core.proofs.tokens.tokens_between.Goals as goal
 

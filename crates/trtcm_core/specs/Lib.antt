@@ -1,0 +1,2 @@
+pub mod TwoRate
+pub mod Kept

@@ -1,0 +1,190 @@
+ghost use Rattle.std.specs.Prelude.{◌≡◌, ◌<◌, ◌^◌, Option, None, Some, IfOk, IfErr, MatchResult};
+ghost use Rattle.moment_core.specs.Metering.{after, colour_of, opening};
+ghost use Rattle.trtcm_core.specs.TwoRate.{coloured, fault_of, two_rate, without};
+
+use crate::parameters::{TrTcmFault, TrTcmParameters};
+use moment_core::{Bucket, Colour, Mode, Moment, PacketSize};
+use std::marker::Model;
+
+/// A two-rate three-colour meter at work (RFC 2698): a committed and a peak bucket, full at the meter's origin.
+#[derive(Clone, Copy, Debug, PartialEq, Eq, Hash)]
+pub struct TrTcm {
+    parameters: TrTcmParameters,
+    mode: Mode,
+    origin: Moment,
+    newest: Moment,
+    committed_level: u32,
+    committed_given: u128,
+    peak_level: u32,
+    peak_given: u128,
+}
+
+impl Model for TrTcm {
+    ghost use Rattle.moment_core.specs.Metering.{State};
+    ghost use Rattle.trtcm_core.specs.declared.parameters.TrTcmParameters.{TrTcmParameters};
+    ghost use Rattle.trtcm_core.specs.TwoRate.{Levels};
+
+    ghost Value = { State TrTcmParameters Levels };
+
+    ghost use Rattle.trtcm_core.specs.Kept.{state_of, IsKept, fields_of, fields_of-state_of};
+
+    ghost view = { state_of };
+
+    ghost invariant = { IsKept };
+
+    ghost inverse = { fields_of };
+
+    ghost inverse_ok = { fields_of-state_of };
+}
+
+impl TrTcm {
+    /// A meter with full buckets at its origin.
+    ///
+    /// Refused: `SizeZero` where a burst size is 0, else `PeakBelowCommitted` where the peak rate is below the
+    /// committed rate (RFC 2698 section 2).
+    pub fn new(parameters: TrTcmParameters, mode: Mode, origin: Moment) -> Result<Self, TrTcmFault>
+        ensures { MatchResult result
+            (λ meter. (fault_of parameters ≡ None) × (meter ≡ opening two_rate parameters mode origin))
+            (λ fault. fault_of parameters ≡ Some fault) }
+    {
+        match parameters.fault() {
+            Some(fault) => Err(fault),
+            None => Ok(TrTcm {
+                parameters,
+                mode,
+                origin,
+                newest: origin,
+                committed_level: parameters.committed_burst,
+                committed_given: 0,
+                peak_level: parameters.peak_burst,
+                peak_given: 0,
+            }),
+        }
+    }
+
+    /// The newest moment that it metered at: its origin at first.
+    pub fn newest(&self) -> Moment
+        ensures { result ≡ self.now.newest }
+    {
+        self.newest
+    }
+
+    /// Meters a packet of a moment and a size that comes in with a colour, and answers the colour that it leaves
+    /// with (RFC 2698 section 3). A moment before the newest one counts as the newest.
+    pub fn admit(&mut self, moment: Moment, size: PacketSize, colour: Colour) -> Colour
+        ensures colour { result ≡ colour_of two_rate self.old (record { moment = moment; size = size; came = colour }) }
+        ensures after { self.new ≡ after two_rate self.old (record { moment = moment; size = size; came = colour }) }
+    {
+        let used = self.newest.used_for(moment);
+        let parameters = self.parameters;
+        let mut committed = Bucket {
+            level: self.committed_level,
+            size: parameters.committed_burst,
+        };
+        committed.fill_to(
+            &mut self.committed_given,
+            parameters.committed_rate,
+            self.origin,
+            used,
+        );
+        let mut peak = Bucket {
+            level: self.peak_level,
+            size: parameters.peak_burst,
+        };
+        peak.fill_to(
+            &mut self.peak_given,
+            parameters.peak_rate,
+            self.origin,
+            used,
+        );
+        let left = take(&mut committed, &mut peak, size, self.mode.seen(colour));
+        self.newest = used;
+        self.committed_level = committed.level;
+        self.peak_level = peak.level;
+        left
+    }
+}
+
+/// Takes a packet's bytes out of the buckets that its colour names, and answers that colour (RFC 2698 section 3).
+#[tactic(auto, unfolding(crate::specs::TwoRate::coloured, crate::specs::TwoRate::without))]
+fn take(committed: &mut Bucket, peak: &mut Bucket, size: PacketSize, seen: Colour) -> Colour
+    ensures colour { result ≡ coloured (record { committed = committed.old.level; peak = peak.old.level }) size seen }
+    ensures levels { record { committed = committed.new.level; peak = peak.new.level }
+        ≡ without (record { committed = committed.old.level; peak = peak.old.level }) size result }
+    ensures committed_size { committed.new.size ≡ committed.old.size }
+    ensures peak_size { peak.new.size ≡ peak.old.size }
+{
+    if seen == Colour::Red || !peak.take(size) {
+        Colour::Red
+    } else if seen == Colour::Yellow || !committed.take(size) {
+        Colour::Yellow
+    } else {
+        Colour::Green
+    }
+}
+
+#[cfg(test)]
+mod tests {
+    use super::*;
+    use moment_core::Rate;
+    use std::test::Fail;
+
+    fn parameters(cir: u64, cbs: u32, pir: u64, pbs: u32) -> Result<TrTcmParameters, Fail> {
+        Ok(TrTcmParameters {
+            committed_rate: Rate::new(cir)?,
+            committed_burst: cbs,
+            peak_rate: Rate::new(pir)?,
+            peak_burst: pbs,
+        })
+    }
+
+    #[test]
+    fn tokens_of_a_nanosecond_come_before_its_packets(rt: HostRuntime) -> Result<(), Fail> {
+        let both = parameters(800_000_000, 20, 800_000_000, 20)?;
+        let mut meter = TrTcm::new(both, Mode::Blind, Moment::new(0)?)?;
+        for (moment, bytes) in [(9, 20), (10, 1)] {
+            let (moment, size) = (Moment::new(moment)?, PacketSize::new(bytes)?);
+            assert_eq!(rt; meter.admit(moment, size, Colour::Red), Colour::Green);
+        }
+        Ok(())
+    }
+
+    #[test]
+    fn an_aware_meter_heeds_the_colour_that_comes_in(rt: HostRuntime) -> Result<(), Fail> {
+        let both = parameters(8_000, 1_000, 16_000, 2_000)?;
+        let mut meter = TrTcm::new(both, Mode::Aware, Moment::new(0)?)?;
+        for (moment, bytes, came, left) in [
+            (0, 500, Colour::Yellow, Colour::Yellow),
+            (0, 100, Colour::Red, Colour::Red),
+            (0, 1_000, Colour::Green, Colour::Green),
+            (0, 500, Colour::Green, Colour::Yellow),
+            (0, 1, Colour::Green, Colour::Red),
+            (1_000_000, 2, Colour::Green, Colour::Yellow),
+            (0, 1, Colour::Green, Colour::Red),
+        ] {
+            let (at, size) = (Moment::new(moment)?, PacketSize::new(bytes)?);
+            assert_eq!(rt;
+                meter.admit(at, size, came),
+                left,
+                "{bytes} bytes at {moment}"
+            );
+        }
+        assert_eq!(rt; meter.newest().get(), 1_000_000);
+        Ok(())
+    }
+
+    #[test]
+    fn parameters_that_are_not_those_of_a_meter(rt: HostRuntime) -> Result<(), Fail> {
+        let origin = Moment::new(0)?;
+        for (cir, cbs, pir, pbs, code) in [
+            (8_000, 0, 7_000, 1, 1),
+            (8_000, 1, 7_000, 0, 1),
+            (8_000, 1, 7_000, 1, 2),
+            (8_000, 1, 8_000, 1, 0),
+        ] {
+            let made = TrTcm::new(parameters(cir, cbs, pir, pbs)?, Mode::Blind, origin);
+            assert_eq!(rt; made.err().map_or(0, |fault| fault.code()), code);
+        }
+        Ok(())
+    }
+}

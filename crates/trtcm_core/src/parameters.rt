@@ -1,0 +1,59 @@
+ghost use Rattle.std.specs.Prelude.{◌≡◌};
+
+use moment_core::Rate;
+use thiserror::Error;
+
+/// The parameters of a two-rate three-colour meter (RFC 2698 section 2).
+#[derive(Clone, Copy, Debug, PartialEq, Eq, Hash)]
+pub struct TrTcmParameters {
+    /// The committed information rate, CIR, in bits per second.
+    pub committed_rate: Rate,
+    /// The committed burst size, CBS, in bytes.
+    pub committed_burst: u32,
+    /// The peak information rate, PIR, in bits per second.
+    pub peak_rate: Rate,
+    /// The peak burst size, PBS, in bytes.
+    pub peak_burst: u32,
+}
+
+/// Why parameters are not those of a two-rate meter (RFC 2698 section 2).
+#[derive(Clone, Copy, Debug, PartialEq, Eq, Hash, Drop, Error)]
+pub enum TrTcmFault {
+    /// A burst size is 0.
+    #[error("a burst size is 0")]
+    SizeZero,
+    /// The peak rate is below the committed rate.
+    #[error("the peak rate is below the committed rate")]
+    PeakBelowCommitted,
+}
+
+impl TrTcmFault {
+    /// The fault's number: 1 for a burst size of 0, 2 for a peak rate below the committed rate.
+    pub fn code(&self) -> u8
+        ensures size { self.now ≡ TrTcmFault.SizeZero → result ≡ 1 }
+        ensures peak { self.now ≡ TrTcmFault.PeakBelowCommitted → result ≡ 2 }
+    {
+        match self {
+            TrTcmFault::SizeZero => 1,
+            TrTcmFault::PeakBelowCommitted => 2,
+        }
+    }
+}
+
+impl TrTcmParameters {
+    ghost use Rattle.trtcm_core.specs.TwoRate.{fault_of};
+
+    /// What is wrong with the parameters, if anything: a burst size of 0, else a peak rate below the committed rate
+    /// (RFC 2698 section 2).
+    pub fn fault(&self) -> Option<TrTcmFault>
+        ensures { result ≡ fault_of self.now }
+    {
+        if self.committed_burst == 0 || self.peak_burst == 0 {
+            Some(TrTcmFault::SizeZero)
+        } else if self.peak_rate < self.committed_rate {
+            Some(TrTcmFault::PeakBelowCommitted)
+        } else {
+            None
+        }
+    }
+}
