@@ -15,14 +15,14 @@ Keeps-merged rate burst part item flows rows same all start end ordered =
     let weigh = λ (r : _). size_within start end (item r) in
     let whole = Keeps-flat_map rate burst (λ f. map item (part f)) flows all start end ordered in
     let one : sum_by (size_within start end) (map item rows) ≡ sum_by weigh (flat_map part flows) =
-        sum_by-map (size_within start end) item rows ∙ sum_by-IsPermutation weigh (flat_map part flows) rows same
+    sum_by-map (size_within start end) item rows ∙ sum_by-IsPermutation weigh (flat_map part flows) rows same
     in
     let split : sum_by weigh (flat_map part flows) ≡ sum_by (λ f. sum_by weigh (part f)) flows = sum_by-flat_map weigh part flows in
     let parts : sum_by (size_within start end) (flat_map (λ f. map item (part f)) flows) ≡ sum_by (λ f. sum_by (size_within start end) (map item (part f))) flows =
-        sum_by-flat_map (size_within start end) (λ f. map item (part f)) flows
+    sum_by-flat_map (size_within start end) (λ f. map item (part f)) flows
     in
     let each = sum_by-mono (λ f. sum_by weigh (part f)) (λ f. sum_by (size_within start end) (map item (part f))) flows
-        (λ k d h. omega (arith, sum_by-map (size_within start end) item (part (get_or flows k d)))) in
+    (λ k d h. omega (arith, sum_by-map (size_within start end) item (part (get_or flows k d)))) in
     omega (arith, whole, one, split, parts, each)
 
 -- an item that weighs nothing where it does not pass
