@@ -1,0 +1,3 @@
+-- Lemmas on lines, fields and numbers.
+pub mod LineLemmas
+pub mod NumberLemmas

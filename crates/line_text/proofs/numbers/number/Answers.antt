@@ -1,0 +1,47 @@
+use Rattle.std.proofs.Common.{◌≡◌, ◌+◌, ◌*◌, ◌-◌, ◌<◌, ◌≤◌, ◌^◌, Bool, true, drop, fold, length, get_or, sym, ◌∙◌, arith}
+use Rattle.std.proofs.lemmas.Bool.Decides.{nat_tests}
+use Rattle.std.proofs.lemmas.List.{at_drop_all}
+use Rattle.std.specs.List.{list_all}
+use Rattle.std.specs.Char.{is_ascii_digit}
+use Rattle.line_text.specs.Numbers.{with_digit}
+use Rattle.line_text.proofs.NumberLemmas.{number_of-empty, number_of-long, number_of-other, number_of-over, number_of-value, digits-other, value-over}
+use Rattle.line_text.proofs.numbers.number.Goals as goal
+
+pub returns-then-is_empty : goal.returns-then-is_empty
+returns-then-is_empty c = grind (arith, nat_tests, number_of-empty, number_of-long)
+
+pub returns-then-not-is_ascii_digit : goal.returns-then-not-is_ascii_digit
+returns-then-not-is_ascii_digit c =
+    sym (number_of-other c.args.most c.args.text.now (sym c.loop-byte.invariant.digits ∙ digits-other c.args.text.now c.loop-byte.byte-index c.loop-byte-test.true (sym c.is_ascii_digit.ensures.value ∙ c.if-not-is_ascii_digit.true)))
+
+pub returns-in_err-tens : goal.returns-in_err-tens
+returns-in_err-tens c =
+    let text = c.args.text.now in
+    let i = c.loop-byte.byte-index in
+    let wide : 2 ^ 64 ≤ c.loop-byte.value * 10 = omega (arith, c.in_err-tens.ensures) in
+    let over = value-over c.args.most c.loop-byte.value text i c.loop-byte-test.true (omega arith) in
+    c.from_residual.ensures ∙ sym (number_of-over c.args.most text (omega (arith, over, c.loop-byte.invariant.value)))
+
+pub returns-in_err-value : goal.returns-in_err-value
+returns-in_err-value c =
+    let text = c.args.text.now in
+    let i = c.loop-byte.byte-index in
+    let wide : 2 ^ 64 ≤ c.loop-byte.value * 10 + (get_or text i 0 - 48) = omega (arith, c.in_err-value.ensures, c.in_ok-tens.ensures) in
+    let over = value-over c.args.most c.loop-byte.value text i c.loop-byte-test.true (omega arith) in
+    c.from_residual-in_err-value.ensures ∙ sym (number_of-over c.args.most text (omega (arith, over, c.loop-byte.invariant.value)))
+
+pub returns-then-value-most : goal.returns-then-value-most
+returns-then-value-most c =
+    let text = c.args.text.now in
+    let i = c.loop-byte.byte-index in
+    let value : fold with_digit c.loop-byte.value (drop i text) ≡ c.loop-byte.value = at_drop_all (fold with_digit c.loop-byte.value) text i (omega arith) in
+    let digits : list_all is_ascii_digit (drop i text) ≡ true = at_drop_all (list_all is_ascii_digit) text i (omega arith) in
+    let some : 0 < length text = grind (arith, nat_tests) in
+    grind (arith, number_of-value, c.loop-byte.invariant.value, c.loop-byte.invariant.digits)
+
+pub returns-else-value-most : goal.returns-else-value-most
+returns-else-value-most c =
+    let text = c.args.text.now in
+    let i = c.loop-byte.byte-index in
+    let value : fold with_digit c.loop-byte.value (drop i text) ≡ c.loop-byte.value = at_drop_all (fold with_digit c.loop-byte.value) text i (omega arith) in
+    sym (number_of-over c.args.most text (omega (arith, value, c.loop-byte.invariant.value)))

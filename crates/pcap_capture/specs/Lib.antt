@@ -1,0 +1,2 @@
+-- What the devices and the captures of this crate do.
+pub mod Counts

@@ -1,0 +1,87 @@
+ghost use Rattle.std.specs.Prelude.{◌≡◌, ℕ, ◌<◌, ◌≤◌, List, [], ◌++◌, length, take, IfOk, MatchResult, is_ok, if◌then◌else◌};
+ghost use Rattle.pcap_capture.specs.Counts.{next_count};
+
+use thiserror::Error;
+
+/// A device failed.
+#[derive(Clone, Copy, Debug, PartialEq, Eq, Error)]
+pub enum DeviceFault {
+    /// 1: the device could not give or take bytes.
+    #[error("the device failed")]
+    Failed,
+}
+
+impl DeviceFault {
+    /// The number of the fault, 1.
+    pub fn code(&self) -> u8
+        ensures { result ≡ 1 }
+    {
+        1
+    }
+}
+
+/// A device that gives bytes.
+pub trait Intake {
+    // Whether the device tells which bytes it gives: memory does, a terminal does not. What is
+    // said of bytes holds where it does.
+    ghost tells: { Self → Type 0 };
+
+    // The bytes that it still gives.
+    ghost left: { Self → List ℕ };
+
+    // How often it failed, modulo 2^64.
+    ghost failed: { Self → ℕ };
+
+    // How often it was asked, modulo 2^64.
+    ghost turns: { Self → ℕ };
+
+    /// Fills the front of the buffer with the next bytes, and says how many they are: 0 only where
+    /// no byte is left, or where the buffer is empty.
+    ///
+    /// A fault takes no byte.
+    fn take(&mut self, buffer: &mut [u8]) -> Result<usize, DeviceFault>
+        ensures within { IfOk result (λ taken. taken ≤ length buffer.new) }
+        ensures told { tells self.old → tells self.new }
+        ensures bytes { tells self.old → MatchResult result
+            (λ taken. left self.old ≡ take taken buffer.new ++ left self.new)
+            (λ _. left self.new ≡ left self.old) }
+        ensures end { tells self.old → IfOk result (λ taken.
+            taken ≡ 0 → 0 < length buffer.new → left self.new ≡ []) }
+        ensures failures { failed self.new
+            ≡ (if is_ok result then failed self.old else next_count (failed self.old)) }
+        ensures asked { turns self.new ≡ next_count (turns self.old) };
+
+    /// How often the device failed, modulo 2^64.
+    fn failures(&self) -> u64
+        ensures { result ≡ failed self.now };
+}
+
+/// A device that takes bytes.
+pub trait Outlet {
+    // Whether the device tells which bytes it took. What is said of bytes holds where it does.
+    ghost tells: { Self → Type 0 };
+
+    // The bytes that it holds.
+    ghost held: { Self → List ℕ };
+
+    // How often it failed, modulo 2^64.
+    ghost failed: { Self → ℕ };
+
+    /// Hands over the front of a piece, and says how many bytes were taken: 0 only of an empty
+    /// piece.
+    ///
+    /// A fault leaves what the device holds.
+    fn give(&mut self, piece: &[u8]) -> Result<usize, DeviceFault>
+        ensures within { IfOk result (λ given. given ≤ length piece.now) }
+        ensures moves { IfOk result (λ given. 0 < length piece.now → 0 < given) }
+        ensures told { tells self.old → tells self.new }
+        ensures bytes { tells self.old → MatchResult result
+            (λ given. held self.new ≡ held self.old ++ take given piece.now)
+            (λ _. held self.new ≡ held self.old) }
+        ensures failures { failed self.new
+            ≡ (if is_ok result then failed self.old else next_count (failed self.old)) };
+
+    /// How often the device failed, modulo 2^64.
+    fn failures(&self) -> u64
+        ensures { result ≡ failed self.now };
+}

@@ -1,0 +1,119 @@
+ghost use Rattle.std.specs.Prelude.{◌≡◌, ◌-◌, ◌^◌};
+
+use super::device::{DeviceFault, Intake, Outlet};
+
+/// An intake over bytes in memory, which may give few bytes a call and fail at a call.
+#[derive(Clone, Copy, Debug)]
+pub struct SliceIntake<'a> {
+    /// The bytes that it still gives.
+    pub bytes: &'a [u8],
+    /// The most bytes that a call gives, of which 0 counts as 1.
+    pub most: usize,
+    /// The call that fails, counted from 1.
+    pub fails_at: Option<u64>,
+    /// How often it failed, modulo 2^64.
+    pub failures: u64,
+    /// How often it was asked, modulo 2^64.
+    pub turns: u64,
+}
+
+impl<'a> SliceIntake<'a> {
+    /// An intake over these bytes that gives as many as there is room for, and never fails.
+    pub fn new(bytes: &'a [u8]) -> Self
+        ensures bytes { result.bytes.now ≡ bytes.now }
+        ensures whole { (result.most ≡ 2 ^ 64 - 1) × (result.fails_at ≡ None) }
+        ensures counts { (result.failures ≡ 0) × (result.turns ≡ 0) }
+    {
+        SliceIntake {
+            bytes,
+            most: usize::MAX,
+            fails_at: None,
+            failures: 0,
+            turns: 0,
+        }
+    }
+}
+
+impl Intake for SliceIntake<'_> {
+    ghost tells = { λ _. Unit {0} };
+
+    ghost left = { λ intake. intake.bytes.now };
+
+    ghost failed = { λ intake. intake.failures };
+
+    ghost turns = { λ intake. intake.turns };
+
+    fn take(&mut self, buffer: &mut [u8]) -> Result<usize, DeviceFault> {
+        self.turns = self.turns.wrapping_add(1);
+        if self.fails_at == Some(self.turns) {
+            self.failures = self.failures.wrapping_add(1);
+            return Err(DeviceFault::Failed);
+        }
+        let taken = self.most.max(1).min(self.bytes.len()).min(buffer.len());
+        let (front, rest) = self.bytes.split_at(taken);
+        buffer[..taken].copy_from_slice(front);
+        self.bytes = rest;
+        Ok(taken)
+    }
+
+    fn failures(&self) -> u64 {
+        self.failures
+    }
+}
+
+/// An outlet that collects its bytes in memory, and may take few bytes a call and fail at a call.
+#[derive(Debug, Drop)]
+pub struct VecOutlet {
+    /// The bytes that it holds.
+    pub bytes: Vec<u8>,
+    /// The most bytes that a call takes, of which 0 counts as 1.
+    pub most: usize,
+    /// The call that fails, counted from 1.
+    pub fails_at: Option<u64>,
+    /// How often it failed, modulo 2^64.
+    pub failures: u64,
+    /// How often it was asked, modulo 2^64.
+    pub turns: u64,
+}
+
+impl VecOutlet {
+    /// An outlet that holds these bytes, takes all that it is given, and fails only where memory
+    /// runs out.
+    pub fn new(bytes: Vec<u8>) -> Self
+        ensures bytes { result.bytes ≡ bytes }
+        ensures whole { (result.most ≡ 2 ^ 64 - 1) × (result.fails_at ≡ None) }
+        ensures counts { (result.failures ≡ 0) × (result.turns ≡ 0) }
+    {
+        VecOutlet {
+            bytes,
+            most: usize::MAX,
+            fails_at: None,
+            failures: 0,
+            turns: 0,
+        }
+    }
+}
+
+impl Outlet for VecOutlet {
+    ghost tells = { λ _. Unit {0} };
+
+    ghost held = { λ outlet. outlet.bytes.items };
+
+    ghost failed = { λ outlet. outlet.failures };
+
+    fn give(&mut self, piece: &[u8]) -> Result<usize, DeviceFault> {
+        self.turns = self.turns.wrapping_add(1);
+        let given = self.most.max(1).min(piece.len());
+        if self.fails_at == Some(self.turns)
+            || self.bytes.extend_from_slice(&piece[..given]).is_err()
+        {
+            self.failures = self.failures.wrapping_add(1);
+            return Err(DeviceFault::Failed);
+        }
+        Ok(given)
+    }
+
+    fn failures(&self) -> u64 {
+        self.failures
+    }
+}
