@@ -1,11 +1,11 @@
 -- How a text is cut into lines and fields: what a reader of a text in pieces needs.
 use Rattle.std.proofs.Common.{◌≡◌, ◌≢◌, ℕ, ◌+◌, ◌<◌, ◌≤◌, zero, suc, not, Bool, true, false, ◌||◌, ◌&&◌, eqb, ltb, cond, List, [], ◌∷◌, ◌++◌, length, get_or, take, drop, Option, None, Some, refl, sym, ap, ◌∙◌, arith, rules, append_assoc}
-use Rattle.std.specs.List.{list_any, position_or_len, prefix_len, before_first, after_first, position}
+use Rattle.std.specs.List.{onto_first, slice_split, list_any, position_or_len, prefix_len, before_first, after_first, position}
 use Rattle.std.proofs.lemmas.Bool.{eqb-true, not-false}
 use Rattle.std.proofs.lemmas.List.Sums.{split_at_first, prefix_len_stops}
 use Rattle.std.proofs.lemmas.Bool.Decides.{nat_tests}
 use Rattle.std.proofs.lemmas.Grind.{common_steps}
-use Rattle.line_text.specs.Lines.{lines_of, fields_of, has_byte, onto_first, fields_left}
+use Rattle.line_text.specs.Lines.{lines_of, fields_of, has_byte, fields_left}
 
 -- where neither of two tests passes, each fails
 or_false : (x y : Bool) → x || y ≡ false → (x ≡ false) × (y ≡ false)
@@ -135,3 +135,9 @@ three_or_more line first second rest more later last e is_rest f is_more two =
     let whole : fields_of line ≡ first ∷ second ∷ fields_of last = e ∙ ap (λ left. first ∷ fields_left left) is_rest ∙ ap (λ left. first ∷ left) tail in
     let count : length (fields_of line) ≡ suc (suc (length (fields_of last))) = ap length whole in
     some (omega arith)
+
+-- the fields of a line are std's parts of it
+pub fields_of-slice_split : (line : List ℕ) → fields_of line ≡ slice_split (λ byte. eqb byte 32) line
+unfolding fields_of
+fields_of-slice_split [] = refl
+fields_of-slice_split (byte ∷ line) = rw (fields_of-slice_split line) refl

@@ -1,11 +1,6 @@
 -- Lines of a text, and fields of a line.
 use Rattle.std.specs.Prelude.{ℕ, Bool, ◌==◌, List, [], ◌∷◌, Option, None, Some, if◌then◌else◌}
-use Rattle.std.specs.List.{list_any}
-
--- a text in parts, with a byte put before the first of them
-abbrev pub onto_first : ℕ → List (List ℕ) → List (List ℕ)
-onto_first byte [] = (byte ∷ []) ∷ []
-onto_first byte (part ∷ parts) = (byte ∷ part) ∷ parts
+use Rattle.std.specs.List.{list_any, onto_first}
 
 -- the lines of a text: LF (10) ends a line, the last may lack it, and nothing after the last LF is no line
 unfoldable pub lines_of : List ℕ → List (List ℕ)

@@ -19,6 +19,16 @@ is_green Green = true
 is_green Yellow = false
 is_green Red = false
 
+abbrev pub is_yellow : Colour → Bool
+is_yellow Green = false
+is_yellow Yellow = true
+is_yellow Red = false
+
+abbrev pub is_red : Colour → Bool
+is_red Green = false
+is_red Yellow = false
+is_red Red = true
+
 -- in profile: green or yellow
 abbrev pub is_in_profile : Colour → Bool
 is_in_profile Green = true

@@ -2,3 +2,4 @@ pub mod Colours
 pub mod Conformance
 pub mod Metering
 pub mod Tokens
+pub mod Volume

@@ -1,4 +1,4 @@
-ghost use Rattle.std.specs.Prelude.{◌≡◌, ℕ, ◌<◌, ◌≤◌, ◌^◌};
+ghost use Rattle.std.specs.Prelude.{◌≡◌, ℕ, ◌-◌, ◌<◌, ◌≤◌, ◌^◌};
 ghost use Rattle.moment_core.specs.Metering.{used};
 ghost use Rattle.std.specs.Result.{OkIff};
 
@@ -65,6 +65,16 @@ impl Moment {
             arrival
         } else {
             self
+        }
+    }
+
+    /// The time from an earlier moment to this one.
+    pub fn since(self, earlier: Moment) -> Gap
+        requires { earlier ≤ self }
+        ensures { result ≡ self - earlier }
+    {
+        Gap {
+            nanoseconds: self.nanoseconds - earlier.nanoseconds,
         }
     }
 }

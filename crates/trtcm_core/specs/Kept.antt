@@ -1,5 +1,5 @@
 -- What the fields of a meter stand for, and what they keep.
-use Rattle.std.specs.Prelude.{◌≡◌, ◌≤◌}
+use Rattle.std.specs.Prelude.{◌≡◌, ◌≤◌, refl}
 use Rattle.moment_core.specs.Metering.{State}
 use Rattle.moment_core.specs.Tokens.{given}
 use Rattle.trtcm_core.specs.declared.meter.TrTcm.TheInside.{Inside}
@@ -12,13 +12,29 @@ state_of m = record {
   mode = m.mode;
   origin = m.origin;
   newest = m.newest;
-  levels = record { committed = m.committed.level; peak = m.peak.level };
+  levels = record { committed = m.committed_level; peak = m.peak_level };
 }
 
--- the buckets have the sizes of the parameters, and what they were given is counted from the origin
+-- the buckets are within their sizes, and what they were given is counted from the origin
 pub record IsKept (m : Inside) : Type 0 where
   pub begun : m.origin ≤ m.newest
-  pub committed_size : m.committed.size ≡ m.parameters.committed_burst
+  pub committed_within : m.committed_level ≤ m.parameters.committed_burst
   pub committed_given : m.committed_given ≡ given m.parameters.committed_rate m.origin m.newest
-  pub peak_size : m.peak.size ≡ m.parameters.peak_burst
+  pub peak_within : m.peak_level ≤ m.parameters.peak_burst
   pub peak_given : m.peak_given ≡ given m.parameters.peak_rate m.origin m.newest
+
+-- a state has just one meter that stands for it
+abbrev pub fields_of : State TrTcmParameters Levels → Inside
+fields_of s = record {
+  parameters = s.parameters;
+  mode = s.mode;
+  origin = s.origin;
+  newest = s.newest;
+  committed_level = s.levels.committed;
+  committed_given = given s.parameters.committed_rate s.origin s.newest;
+  peak_level = s.levels.peak;
+  peak_given = given s.parameters.peak_rate s.origin s.newest;
+}
+
+pub fields_of-state_of : (m : Inside) → IsKept m → fields_of (state_of m) ≡ m
+fields_of-state_of m kept = rw (← kept.committed_given, ← kept.peak_given) refl

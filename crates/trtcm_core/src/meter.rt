@@ -7,15 +7,15 @@ use moment_core::{Bucket, Colour, Mode, Moment, PacketSize};
 use std::marker::Model;
 
 /// A two-rate three-colour meter at work (RFC 2698): a committed and a peak bucket, full at the meter's origin.
-#[derive(Clone, Debug, Drop)]
+#[derive(Clone, Copy, Debug, PartialEq, Eq, Hash)]
 pub struct TrTcm {
     parameters: TrTcmParameters,
     mode: Mode,
     origin: Moment,
     newest: Moment,
-    committed: Bucket,
+    committed_level: u32,
     committed_given: u128,
-    peak: Bucket,
+    peak_level: u32,
     peak_given: u128,
 }
 
@@ -26,11 +26,15 @@ impl Model for TrTcm {
 
     ghost Value = { State TrTcmParameters Levels };
 
-    ghost use Rattle.trtcm_core.specs.Kept.{state_of, IsKept};
+    ghost use Rattle.trtcm_core.specs.Kept.{state_of, IsKept, fields_of, fields_of-state_of};
 
     ghost view = { state_of };
 
     ghost invariant = { IsKept };
+
+    ghost inverse = { fields_of };
+
+    ghost inverse_ok = { fields_of-state_of };
 }
 
 impl TrTcm {
@@ -50,9 +54,9 @@ impl TrTcm {
                 mode,
                 origin,
                 newest: origin,
-                committed: Bucket::full(parameters.committed_burst),
+                committed_level: parameters.committed_burst,
                 committed_given: 0,
-                peak: Bucket::full(parameters.peak_burst),
+                peak_level: parameters.peak_burst,
                 peak_given: 0,
             }),
         }
@@ -73,14 +77,31 @@ impl TrTcm {
     {
         let used = self.newest.used_for(moment);
         let parameters = self.parameters;
-        let (committed, peak) = (&mut self.committed_given, &mut self.peak_given);
-        self.committed
-            .fill_to(committed, parameters.committed_rate, self.origin, used);
-        self.peak
-            .fill_to(peak, parameters.peak_rate, self.origin, used);
+        let mut committed = Bucket {
+            level: self.committed_level,
+            size: parameters.committed_burst,
+        };
+        committed.fill_to(
+            &mut self.committed_given,
+            parameters.committed_rate,
+            self.origin,
+            used,
+        );
+        let mut peak = Bucket {
+            level: self.peak_level,
+            size: parameters.peak_burst,
+        };
+        peak.fill_to(
+            &mut self.peak_given,
+            parameters.peak_rate,
+            self.origin,
+            used,
+        );
+        let left = take(&mut committed, &mut peak, size, self.mode.seen(colour));
         self.newest = used;
-        let seen = self.mode.seen(colour);
-        take(&mut self.committed, &mut self.peak, size, seen)
+        self.committed_level = committed.level;
+        self.peak_level = peak.level;
+        left
     }
 }
 

@@ -1,4 +1,4 @@
-use Rattle.std.proofs.Common.{◌∙◌}
+use Rattle.std.proofs.Common.{arith, refl}
 use Rattle.moment_core.proofs.MeteringLaws.{admitted-after, admitted-colour, counted_le-given, filled-used, origin_le-now}
 use Rattle.trtcm_core.specs.Kept.{state_of}
 use Rattle.trtcm_core.specs.TwoRate.{two_rate}
@@ -24,9 +24,9 @@ fill_to-requires-2-clause-counted c =
 pub invariant_of-self : goal.invariant_of-self
 invariant_of-self c = record {
   begun = origin_le-now c.self.inside.origin c.self.inside.newest c.args.moment c.used_for-used.result c.self.invariant.begun c.used_for-used.ensures;
-  committed_size = c.take.ensures.committed_size ∙ c.fill_to.ensures.size ∙ c.self.invariant.committed_size;
+  committed_within = omega arith;
   committed_given = c.fill_to.ensures.counted;
-  peak_size = c.take.ensures.peak_size ∙ c.fill_to-2.ensures.size ∙ c.self.invariant.peak_size;
+  peak_within = omega arith;
   peak_given = c.fill_to-2.ensures.counted;
 }
 
@@ -35,13 +35,13 @@ unfolding two_rate
 returns-clause-colour c =
     let i = c.self.inside in
     rw (← c.self.view_is) (admitted-colour two_rate (state_of i) (record { moment = c.args.moment; size = c.args.size; came = c.args.colour })
-    (record { committed = c.fill_to.new.self.level; peak = c.fill_to-2.new.self.level }) c.take.result
+    (record { committed = c.fill_to.new.self.level; peak = c.fill_to-2.new.self.level }) c.take-left.result
     (levels_at-two_rate (state_of i) c.args.moment c.fill_to.new.self.level c.fill_to-2.new.self.level
-    (filled-used i.parameters.committed_rate i.origin i.newest c.args.moment c.used_for-used.result i.committed_given i.committed.size i.parameters.committed_burst i.committed.level c.fill_to.new.self.level
-    c.self.invariant.committed_given c.used_for-used.ensures c.self.invariant.committed_size c.fill_to.ensures.level)
-    (filled-used i.parameters.peak_rate i.origin i.newest c.args.moment c.used_for-used.result i.peak_given i.peak.size i.parameters.peak_burst i.peak.level c.fill_to-2.new.self.level
-    c.self.invariant.peak_given c.used_for-used.ensures c.self.invariant.peak_size c.fill_to-2.ensures.level))
-    (rw (← c.seen-seen.ensures) c.take.ensures.colour))
+    (filled-used i.parameters.committed_rate i.origin i.newest c.args.moment c.used_for-used.result i.committed_given i.parameters.committed_burst i.parameters.committed_burst i.committed_level c.fill_to.new.self.level
+    c.self.invariant.committed_given c.used_for-used.ensures refl c.fill_to.ensures.level)
+    (filled-used i.parameters.peak_rate i.origin i.newest c.args.moment c.used_for-used.result i.peak_given i.parameters.peak_burst i.parameters.peak_burst i.peak_level c.fill_to-2.new.self.level
+    c.self.invariant.peak_given c.used_for-used.ensures refl c.fill_to-2.ensures.level))
+    (rw (← c.seen.ensures) c.take-left.ensures.colour))
 
 pub returns-clause-after : goal.returns-clause-after
 unfolding two_rate
@@ -49,10 +49,10 @@ returns-clause-after c =
     let i = c.self.inside in
     rw (← c.self.view_is) (admitted-after two_rate (state_of i) (record { moment = c.args.moment; size = c.args.size; came = c.args.colour })
     (record { committed = c.fill_to.new.self.level; peak = c.fill_to-2.new.self.level })
-    (record { committed = c.take.new.committed.level; peak = c.take.new.peak.level }) c.used_for-used.result c.take.result
+    (record { committed = c.take-left.new.committed.level; peak = c.take-left.new.peak.level }) c.used_for-used.result c.take-left.result
     (levels_at-two_rate (state_of i) c.args.moment c.fill_to.new.self.level c.fill_to-2.new.self.level
-    (filled-used i.parameters.committed_rate i.origin i.newest c.args.moment c.used_for-used.result i.committed_given i.committed.size i.parameters.committed_burst i.committed.level c.fill_to.new.self.level
-    c.self.invariant.committed_given c.used_for-used.ensures c.self.invariant.committed_size c.fill_to.ensures.level)
-    (filled-used i.parameters.peak_rate i.origin i.newest c.args.moment c.used_for-used.result i.peak_given i.peak.size i.parameters.peak_burst i.peak.level c.fill_to-2.new.self.level
-    c.self.invariant.peak_given c.used_for-used.ensures c.self.invariant.peak_size c.fill_to-2.ensures.level))
-    (rw (← c.seen-seen.ensures) c.take.ensures.colour) c.take.ensures.levels c.used_for-used.ensures)
+    (filled-used i.parameters.committed_rate i.origin i.newest c.args.moment c.used_for-used.result i.committed_given i.parameters.committed_burst i.parameters.committed_burst i.committed_level c.fill_to.new.self.level
+    c.self.invariant.committed_given c.used_for-used.ensures refl c.fill_to.ensures.level)
+    (filled-used i.parameters.peak_rate i.origin i.newest c.args.moment c.used_for-used.result i.peak_given i.parameters.peak_burst i.parameters.peak_burst i.peak_level c.fill_to-2.new.self.level
+    c.self.invariant.peak_given c.used_for-used.ensures refl c.fill_to-2.ensures.level))
+    (rw (← c.seen.ensures) c.take-left.ensures.colour) c.take-left.ensures.levels c.used_for-used.ensures)

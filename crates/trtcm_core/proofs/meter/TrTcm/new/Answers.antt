@@ -7,12 +7,12 @@ use Rattle.trtcm_core.proofs.meter.TrTcm.new.Goals as goal
 pub invariant_of-result : goal.invariant_of-result
 invariant_of-result c = record {
   begun = omega arith;
-  committed_size = c.full.ensures.size;
+  committed_within = omega arith;
   committed_given = sym (given-origin c.args.parameters.committed_rate c.args.origin);
-  peak_size = c.full-in-None.ensures.size;
+  peak_within = omega arith;
   peak_given = sym (given-origin c.args.parameters.peak_rate c.args.origin);
 }
 
 pub returns-in-None : goal.returns-in-None
 unfolding opening two_rate full
-returns-in-None c = (sym c.in-None.ensures, rw (c.full.ensures.level, c.full-in-None.ensures.level) refl)
+returns-in-None c = (sym c.in-None.ensures, refl)

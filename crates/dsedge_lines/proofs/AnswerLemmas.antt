@@ -1,0 +1,69 @@
+-- An answer that is written a part at a time.
+use Rattle.std.proofs.Common.{◌≡◌, ℕ, ◌+◌, suc, List, [], ◌∷◌, ◌++◌, take, drop, Bool, true, false, cond, ◌<◌, ◌≤◌, arith, Result, Ok, Err, MatchResult, OnErr, refl, sym, ap, ◌∙◌, append_assoc, append-nil, add-one, take-append-drop}
+use Rattle.pcap_capture.specs.Counts.{next_count, count_after}
+use Rattle.dsedge_lines.specs.declared.command.Ending.{Ending}
+use Rattle.dsedge_lines.specs.declared.fault.PumpFault.{PumpFault}
+use Rattle.dsedge_lines.specs.Answers.{Answer, behind, BeginsWith}
+
+-- no event more
+pub count_after-none : (count : ℕ) → count_after 0 count ≡ count
+unfolding count_after
+count_after-none count = refl
+
+-- one event more
+pub count_after-more : (events count : ℕ) → count_after (events + 1) count ≡ next_count (count_after events count)
+unfolding count_after
+count_after-more events count = rw add-one refl
+
+-- behind two texts, one after the other
+pub behind-append : (front back : List ℕ) (answer : Answer) → behind (front ++ back) answer ≡ behind front (behind back answer)
+behind-append front back answer = ap (λ text. record { text = text; ending = answer.ending }) (append_assoc front back answer.text)
+
+-- what was collected is handed over
+pub behind-handed : (written out left : List ℕ) (answer all : Answer) → behind written (behind out answer) ≡ all → left ≡ [] → behind (written ++ out) (behind left answer) ≡ all
+behind-handed written out left answer all e emptied = rw emptied (behind-append written out answer ∙ e)
+
+-- an answer behind a text begins with it
+pub BeginsWith-behind : (front : List ℕ) (answer all : Answer) → behind front answer ≡ all → BeginsWith all front
+BeginsWith-behind front answer all e = record { more = answer.text; whole = ap (λ a. a.text) (sym e) }
+
+-- a whole answer begins with its text
+pub BeginsWith-whole : (text : List ℕ) (ending : Ending) (all : Answer) → record { text = text; ending = ending } ≡ all → BeginsWith all text
+BeginsWith-whole text ending all e = record { more = []; whole = ap (λ a. a.text) (sym e) ∙ sym (append-nil text) }
+
+-- a front of a front, behind what was written before
+pub BeginsWith-given : (written out : List ℕ) (whole all : Answer) (given : ℕ) → BeginsWith whole out → behind written whole ≡ all → BeginsWith all (written ++ take given out)
+BeginsWith-given written out whole all given begins e = record {
+  more = drop given out ++ begins.more;
+  whole =
+      let joined = sym (append_assoc (take given out) (drop given out) begins.more) ∙ ap (λ text. text ++ begins.more) (take-append-drop given out) in
+      ap (λ a. a.text) (sym e) ∙ ap (λ text. written ++ text) (begins.whole ∙ sym joined) ∙ sym (append_assoc written (take given out) (drop given out ++ begins.more));
+}
+
+-- what an outlet holds after a text and another
+pub held-append : (first held last written more : List ℕ) → held ≡ first ++ written → last ≡ held ++ more → last ≡ first ++ (written ++ more)
+held-append first held last written more h l = l ∙ ap (λ text. text ++ more) h ∙ append_assoc first written more
+
+-- where a call that hands over what is left fails, a front of the answer is written
+pub front-settled : (result : Result Ending PumpFault) (first held last written out : List ℕ) (whole all : Answer)
+    → MatchResult result (λ _. last ≡ held ++ out) (λ _. (given : ℕ) × (last ≡ held ++ take given out)) → held ≡ first ++ written → BeginsWith whole out → behind written whole ≡ all
+    → OnErr result ((front : List ℕ) × BeginsWith all front × (last ≡ first ++ front))
+front-settled (Ok ending) first held last written out whole all m h begins e = tt
+front-settled (Err fault) first held last written out whole all m h begins e =
+    (written ++ take m.0 out, BeginsWith-given written out whole all m.0 begins e, held-append first held last written (take m.0 out) h m.1)
+
+-- a turn before the last
+pub turn-le : (turn turns : ℕ) → turn < turns → turn + 1 ≤ turns
+turn-le turn turns h = omega arith
+
+-- a count that one test moves, where the test passed
+pub next_count-true : {test : Bool} (new old : ℕ) → test ≡ true → new ≡ cond test (next_count old) old → new ≡ next_count old
+next_count-true {test} new old passed e = rw passed at e
+
+-- and where it failed
+pub next_count-false : {test : Bool} (new old : ℕ) → test ≡ false → new ≡ cond test (next_count old) old → new ≡ old
+next_count-false {test} new old failed e = rw failed at e
+
+-- where a test failed, the count stayed
+pub stays-false : {test : Bool} (new old : ℕ) → test ≡ false → new ≡ old → new ≡ cond test (next_count old) old
+stays-false {test} new old failed e = rw failed e

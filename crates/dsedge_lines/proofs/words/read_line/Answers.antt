@@ -1,0 +1,78 @@
+use Rattle.std.proofs.Common.{◌≡◌, ◌≢◌, ◌+◌, ◌≤◌, [], ◌∷◌, ◌++◌, length, refl, sym, ap, ◌∙◌, arith, append-nil, append_assoc}
+use Rattle.std.proofs.lemmas.List.{length_push}
+use Rattle.line_text.proofs.LineLemmas.{has_byte-nil}
+use Rattle.pcap_capture.specs.Counts.{next_count}
+use Rattle.dsedge_lines.specs.FirstLine.{first_line_of, after_first_line}
+use Rattle.dsedge_lines.proofs.AnswerLemmas.{count_after-none, count_after-more, turn-le}
+use Rattle.dsedge_lines.proofs.FirstLineLemmas.{first_line_of-cut, after_first_line-cut, first_line_of-uncut, after_first_line-uncut, first_line_of-long, has_byte-push, most_bytes, too_many_bytes}
+use Rattle.dsedge_lines.proofs.words.read_line.Goals as goal
+
+pub loop-turn-init : goal.loop-turn-init
+loop-turn-init g c = record {
+  told = λ tells. tells;
+  failed = refl;
+  asked = sym (count_after-none _);
+  unbroken = rw c.new-line.ensures.items (has_byte-nil 10);
+  size = rw c.new-line.ensures.items refl;
+  left = λ tells. rw c.new-line.ensures.items refl;
+}
+
+pub returns-in-Ok-None-clause-line : goal.returns-in-Ok-None-clause-line
+returns-in-Ok-None-clause-line g c = λ tells.
+    let was = c.loop-turn.invariant in
+    let line = c.loop-turn.line.items in
+    let ends = rw c.in-Ok-None.field-0-is at (c.in-Ok-None.ensures.byte (was.told tells)) in
+    let whole : g.I.Intake.left c.args.intake.now ≡ line = was.left tells ∙ ap (λ bytes. line ++ bytes) ends.0 ∙ append-nil line in
+    let size : length line ≤ 65536 = most_bytes _ _ was.size c.loop-turn-test.true in
+    (sym (ap first_line_of whole ∙ first_line_of-uncut line was.unbroken), ends.1 ∙ sym (ap after_first_line whole ∙ after_first_line-uncut line was.unbroken), size)
+
+pub returns-in-Ok-None-clause-asked : goal.returns-in-Ok-None-clause-asked
+returns-in-Ok-None-clause-asked g c =
+    (c.loop-turn._turn + 1, turn-le _ _ c.loop-turn-test.true, c.in-Ok-None.ensures.asked ∙ ap next_count c.loop-turn.invariant.asked ∙ sym (count_after-more c.loop-turn._turn _))
+
+pub returns-then-byte-eq10-clause-line : goal.returns-then-byte-eq10-clause-line
+returns-then-byte-eq10-clause-line g c = λ tells.
+    let was = c.loop-turn.invariant in
+    let line = c.loop-turn.line.items in
+    let rest = g.I.Intake.left c.next_byte.new.intake in
+    let next = rw c.in-Ok-Some.field-0-is at (c.in-Ok-Some.ensures.byte (was.told tells)) in
+    let whole : g.I.Intake.left c.args.intake.now ≡ line ++ 10 ∷ rest = was.left tells ∙ ap (λ bytes. line ++ bytes) (next ∙ ap (λ byte. byte ∷ rest) c.if-byte-eq10.true) in
+    let size : length line ≤ 65536 = most_bytes _ _ was.size c.loop-turn-test.true in
+    (sym (ap first_line_of whole ∙ first_line_of-cut line rest was.unbroken), sym (ap after_first_line whole ∙ after_first_line-cut line rest was.unbroken), size)
+
+pub returns-then-byte-eq10-clause-asked : goal.returns-then-byte-eq10-clause-asked
+returns-then-byte-eq10-clause-asked g c =
+    (c.loop-turn._turn + 1, turn-le _ _ c.loop-turn-test.true, c.next_byte.ensures.asked ∙ ap next_count c.loop-turn.invariant.asked ∙ sym (count_after-more c.loop-turn._turn _))
+
+pub returns-in_default-clause-asked : goal.returns-in_default-clause-asked
+returns-in_default-clause-asked g c =
+    (c.loop-turn._turn + 1, turn-le _ _ c.loop-turn-test.true, c.next_byte.ensures.asked ∙ ap next_count c.loop-turn.invariant.asked ∙ sym (count_after-more c.loop-turn._turn _))
+
+pub returns-in-Err-clause-asked : goal.returns-in-Err-clause-asked
+returns-in-Err-clause-asked g c =
+    (c.loop-turn._turn + 1, turn-le _ _ c.loop-turn-test.true, c.next_byte.ensures.asked ∙ ap next_count c.loop-turn.invariant.asked ∙ sym (count_after-more c.loop-turn._turn _))
+
+pub loop-turn-preserved : goal.loop-turn-preserved
+loop-turn-preserved g c =
+    let was = c.loop-turn.invariant in
+    let line = c.loop-turn.line.items in
+    let byte = c.in-Ok-Some.byte in
+    let rest = g.I.Intake.left c.next_byte.new.intake in
+    let next = c.in-Ok-Some.ensures in
+    record {
+      told = λ tells. next.told (was.told tells);
+      failed = next.failures ∙ was.failed;
+      asked = next.asked ∙ ap next_count was.asked ∙ sym (count_after-more c.loop-turn._turn _);
+      unbroken = rw c.in-Ok.ensures.items (has_byte-push line byte was.unbroken c.if-byte-eq10.false);
+      size = ap length c.in-Ok.ensures.items ∙ length_push line byte ∙ ap (λ size. size + 1) was.size;
+      left = λ tells.
+        let more = rw c.in-Ok-Some.field-0-is at (next.byte (was.told tells)) in
+        was.left tells ∙ ap (λ bytes. line ++ bytes) more ∙ sym (append_assoc line (byte ∷ []) rest) ∙ ap (λ bytes. bytes ++ rest) (sym c.in-Ok.ensures.items);
+    }
+
+pub returns-clause-long : goal.returns-clause-long
+returns-clause-long g c = λ tells is_usage.
+    let was = c.loop-turn.invariant in
+    let line = c.loop-turn.line.items in
+    let rest = g.I.Intake.left c.loop-turn.intake in
+    rw (was.left tells) (too_many_bytes _ _ _ was.size c.loop-turn-test.false (first_line_of-long line rest was.unbroken))

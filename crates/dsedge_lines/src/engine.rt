@@ -1,0 +1,138 @@
+ghost use Rattle.std.specs.Prelude.{◌≡◌, ◌≢◌, ℕ, ◌+◌, ◌^◌, ◌<◌, ◌≤◌, ◌⊎◌, true, false, List, [], ◌++◌, take, vec_len, Err, MatchResult, IfOk, IfNone, OnErr, if◌then◌else◌};
+ghost use Rattle.line_text.specs.Lines.{lines_of, has_byte};
+ghost use Rattle.pcap_capture.specs.Counts.{next_count, count_after};
+ghost use Rattle.dsedge_lines.specs.Answers.{Answers, BeginsWith};
+ghost use Rattle.dsedge_lines.specs.Desks.{answer_with};
+ghost use Rattle.dsedge_lines.specs.Faults.{is_read_fault, is_write_fault};
+
+use super::command::{Command, Ending};
+use super::desk::{Desk, answer_end, answer_piece};
+use super::fault::PumpFault;
+use super::hand_over::hand_over;
+use pcap_capture::{Intake, Outlet};
+use std::alloc::{AllocError, Global};
+
+/// The size of a piece of input, in bytes.
+const PIECE: usize = 65536;
+
+/// So many bytes of room.
+fn room(alloc: Global, size: usize) -> Result<Vec<u8>, AllocError>
+    ensures { IfOk result (λ bytes. vec_len bytes ≡ size) }
+{
+    vec![in alloc; 0u8; size]
+}
+
+/// Takes a piece of the input, and answers the lines that end in it, or the end of the input.
+fn answer_next<C: Command, I: Intake>(
+    command: &mut C,
+    desk: &mut Desk,
+    intake: &mut I,
+    piece: &mut Vec<u8>,
+) -> Result<Option<Ending>, PumpFault>
+    requires room { 0 < vec_len piece.old }
+    requires number { desk.old.number + vec_len piece.old < 2 ^ 64 }
+    requires carried { has_byte 10 desk.old.carry.items ≡ false }
+    ensures room { vec_len piece.new ≡ vec_len piece.old }
+    ensures number { IfOk result (λ ended. IfNone ended
+        (desk.new.number ≤ desk.old.number + vec_len piece.old)) }
+    ensures carried { IfOk result (λ ended. IfNone ended (has_byte 10 desk.new.carry.items ≡ false)) }
+    ensures told { I.tells intake.old → I.tells intake.new }
+    ensures answer { I.tells intake.old →
+        Answers (answer_with (C.answer command.old) desk.old (I.left intake.old))
+        (answer_with (C.answer command.new) desk.new (I.left intake.new)) desk.new.out.items result }
+    ensures asked { I.turns intake.new ≡ next_count (I.turns intake.old) }
+    ensures failures { I.failed intake.new
+        ≡ (if is_read_fault result then next_count (I.failed intake.old) else I.failed intake.old) }
+    ensures input { is_write_fault result ≡ false }
+{
+    let Ok(taken) = intake.take(piece.as_mut_slice()) else {
+        return Err(PumpFault::Read);
+    };
+    if taken == 0 {
+        return match answer_end(command, desk) {
+            Ok(ending) => Ok(Some(ending)),
+            Err(_) => Err(PumpFault::NoMemory),
+        };
+    }
+    match answer_piece(command, desk, &piece.as_slice()[..taken]) {
+        Ok(ended) => Ok(ended),
+        Err(_) => Err(PumpFault::NoMemory),
+    }
+}
+
+/// Hands over what is answered, and answers what was found, or that it could not be written.
+fn settle<O: Outlet>(
+    outlet: &mut O,
+    out: &mut Vec<u8>,
+    found: Result<Ending, PumpFault>,
+) -> Result<Ending, PumpFault>
+    requires { is_write_fault found ≡ false }
+    ensures outcome { (is_write_fault result ≡ true) ⊎ (result ≡ found) }
+    ensures bytes { O.tells outlet.old → MatchResult result
+        (λ _. O.held outlet.new ≡ O.held outlet.old ++ out.old.items)
+        (λ _. (given : ℕ) × (O.held outlet.new ≡ O.held outlet.old ++ take given out.old.items)) }
+    ensures failures { O.failed outlet.new
+        ≡ (if is_write_fault result then next_count (O.failed outlet.old) else O.failed outlet.old) }
+{
+    match hand_over(outlet, out) {
+        Ok(()) => found,
+        Err(_) => Err(PumpFault::Write),
+    }
+}
+
+/// Answers the whole input of a command: takes it by at most `turns` calls, a piece at a time, and
+/// hands over what is answered so far before each.
+///
+/// The input is not read beyond the piece with the line that ends the answer. A fault leaves a front
+/// of the answer written, and where writing fails beside another fault, `Write` is the answer.
+pub fn pump<C: Command, I: Intake, O: Outlet>(
+    alloc: Global,
+    command: &mut C,
+    intake: &mut I,
+    outlet: &mut O,
+    turns: u64,
+) -> Result<Ending, PumpFault>
+    requires { turns ≤ 2 ^ 32 }
+    // What is written is the answer to the lines of all bytes that the intake still gives.
+    ensures whole { I.tells intake.old → O.tells outlet.old → IfOk result (λ ending.
+        let whole = C.answer command.old 1 (lines_of (I.left intake.old)) in
+        (O.held outlet.new ≡ O.held outlet.old ++ whole.text) × (ending ≡ whole.ending)) }
+    // Or a front of it.
+    ensures front { I.tells intake.old → O.tells outlet.old → OnErr result (
+        let whole = C.answer command.old 1 (lines_of (I.left intake.old)) in
+        (front : List ℕ) × BeginsWith whole front × (O.held outlet.new ≡ O.held outlet.old ++ front)) }
+    // A fault of a device is answered only where it came, and then no other.
+    ensures write { O.failed outlet.new
+        ≡ (if is_write_fault result then next_count (O.failed outlet.old) else O.failed outlet.old) }
+    ensures read { is_read_fault result ≡ true → (I.failed intake.new ≡ next_count (I.failed intake.old))
+        ⊎ ((I.failed intake.new ≡ I.failed intake.old)
+        × (I.turns intake.new ≡ count_after turns (I.turns intake.old))) }
+    ensures no_read { is_read_fault result ≡ false → I.failed intake.new ≡ I.failed intake.old }
+    ensures asked { (asked : ℕ) × (asked ≤ turns)
+        × (I.turns intake.new ≡ count_after asked (I.turns intake.old)) }
+{
+    let Ok(mut piece) = room(alloc, PIECE) else {
+        return Err(PumpFault::NoMemory);
+    };
+    let mut desk = Desk {
+        carry: Vec::new(alloc),
+        number: 1,
+        out: Vec::new(alloc),
+    };
+    for _turn in 0..turns {
+        let Ok(()) = hand_over(outlet, &mut desk.out) else {
+            return Err(PumpFault::Write);
+        };
+        match answer_next(command, &mut desk, intake, &mut piece) {
+            Ok(None) => {}
+            Ok(Some(ending)) => return settle(outlet, &mut desk.out, Ok(ending)),
+            Err(PumpFault::NoMemory) => return settle(
+                outlet,
+                &mut desk.out,
+                Err(PumpFault::NoMemory),
+            ),
+            Err(fault) => return Err(fault),
+        }
+    }
+    settle(outlet, &mut desk.out, Err(PumpFault::Read))
+}

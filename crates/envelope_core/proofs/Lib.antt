@@ -1,0 +1,5 @@
+pub mod Grants
+pub mod LinearPass
+pub mod Merging
+pub mod Quotients
+pub mod Windows

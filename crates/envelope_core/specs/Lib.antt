@@ -1,0 +1,3 @@
+pub mod Curve
+pub mod Laws
+pub mod Order

@@ -1,0 +1,4 @@
+pub mod AnyMeter
+pub mod Kept
+pub mod Replay
+pub mod Tallies

@@ -1,0 +1,118 @@
+ghost use Rattle.std.specs.Prelude.{◌≡◌, MatchResult, Option, None, Some};
+ghost use Rattle.moment_core.specs.Metering.{How};
+
+use crate::row::{Arrival, Row};
+use moment_core::{Colour, Mode, Moment, PacketSize};
+use thiserror::Error;
+use trtcm_core::{TrTcm, TrTcmFault, TrTcmParameters};
+
+/// The parameters of a meter of any kind.
+#[derive(Clone, Copy, Debug, PartialEq, Eq, Hash)]
+pub enum Parameters {
+    /// Those of a two-rate three-colour meter (RFC 2698).
+    TrTcm(TrTcmParameters),
+}
+
+/// Why parameters are not those of a meter.
+#[derive(Clone, Copy, Debug, PartialEq, Eq, Hash, Drop, Error)]
+pub enum MeterFault {
+    /// A burst size is 0 that must not be.
+    #[error("a burst size is 0")]
+    SizeZero,
+    /// The peak rate is below the committed rate.
+    #[error("the peak rate is below the committed rate")]
+    PeakBelowCommitted,
+}
+
+impl MeterFault {
+    /// The fault's number: 1 for a burst size of 0, 2 for a peak rate below the committed rate.
+    pub fn code(&self) -> u8
+        ensures size { self.now ≡ MeterFault.SizeZero → result ≡ 1 }
+        ensures peak { self.now ≡ MeterFault.PeakBelowCommitted → result ≡ 2 }
+    {
+        match self {
+            MeterFault::SizeZero => 1,
+            MeterFault::PeakBelowCommitted => 2,
+        }
+    }
+}
+
+/// A meter of any kind, at work.
+#[derive(Clone, Copy, Debug, PartialEq, Eq, Hash)]
+pub enum AnyMeter {
+    /// A two-rate three-colour meter (RFC 2698).
+    TrTcm(TrTcm),
+}
+
+impl Parameters {
+    ghost use Rattle.meter_book.specs.AnyMeter.{fault_of};
+
+    /// What is wrong with the parameters, if anything.
+    pub fn fault(&self) -> Option<MeterFault>
+        ensures { result ≡ fault_of self.now }
+    {
+        let Parameters::TrTcm(parameters) = self;
+        match parameters.fault() {
+            None => None,
+            Some(TrTcmFault::SizeZero) => Some(MeterFault::SizeZero),
+            Some(TrTcmFault::PeakBelowCommitted) => Some(MeterFault::PeakBelowCommitted),
+        }
+    }
+}
+
+impl AnyMeter {
+    ghost use Rattle.meter_book.specs.AnyMeter.{after_any, fault_of, left_of, newest_of, opening_of};
+    ghost use Rattle.meter_book.specs.Replay.{offer_of, row_of};
+
+    /// A meter with full buckets at its origin; refused where the parameters are not those of a meter.
+    pub fn new(parameters: Parameters, mode: Mode, origin: Moment) -> Result<Self, MeterFault>
+        ensures { MatchResult result
+            (λ meter. (fault_of parameters ≡ None) × (meter ≡ opening_of parameters mode origin))
+            (λ fault. fault_of parameters ≡ Some fault) }
+    {
+        let Parameters::TrTcm(parameters) = parameters;
+        match TrTcm::new(parameters, mode, origin) {
+            Ok(meter) => Ok(AnyMeter::TrTcm(meter)),
+            Err(TrTcmFault::SizeZero) => Err(MeterFault::SizeZero),
+            Err(TrTcmFault::PeakBelowCommitted) => Err(MeterFault::PeakBelowCommitted),
+        }
+    }
+
+    /// The newest moment that it metered at: its origin at first.
+    pub fn newest(&self) -> Moment
+        ensures { result ≡ newest_of self.now }
+    {
+        let AnyMeter::TrTcm(meter) = self;
+        meter.newest()
+    }
+
+    /// Meters a packet by the rules of its kind, and answers the colour that it leaves with.
+    pub fn admit(&mut self, moment: Moment, size: PacketSize, colour: Colour) -> Colour
+        ensures colour { result ≡ left_of self.old (record { moment = moment; size = size; came = colour }) }
+        ensures after { self.new ≡ after_any self.old (record { moment = moment; size = size; came = colour }) }
+    {
+        let AnyMeter::TrTcm(meter) = self;
+        meter.admit(moment, size, colour)
+    }
+
+    /// Meters an arrival, and answers its row, at a place.
+    pub(crate) fn row(&mut self, place: u64, arrival: Arrival) -> Row
+        ensures row { result ≡ row_of self.old place arrival }
+        ensures after { self.new ≡ after_any self.old (offer_of arrival) }
+    {
+        let used = self.newest().used_for(arrival.moment);
+        let left = self.admit(arrival.moment, arrival.size, arrival.came);
+        Row {
+            flow: arrival.flow,
+            packet: arrival.packet,
+            hop: arrival.hop,
+            arrival: arrival.moment,
+            used,
+            late: used.since(arrival.moment),
+            size: arrival.size,
+            came: arrival.came,
+            left,
+            place,
+        }
+    }
+}

@@ -1,0 +1,215 @@
+ghost use Rattle.std.specs.Prelude.{◌≡◌, ◌≤◌, ◌<◌, ◌↔◌, ◌^◌, [], length, IfOk, OnOk, OnErr, IsErrOf};
+ghost use Rattle.meter_book.specs.Replay.{accounts_of, next_row, noted, rows_of};
+
+use crate::accounts::Accounts;
+use crate::any_meter::AnyMeter;
+use crate::journal::Journal;
+use crate::row::{Arrival, Row};
+use crate::tally::Tallies;
+use moment_core::Gap;
+use std::alloc::Global;
+use std::marker::Model;
+use thiserror::Error;
+
+/// Why a book did not note an arrival.
+#[derive(Clone, Copy, Debug, PartialEq, Eq, Hash, Drop, Error)]
+pub enum NoteFault {
+    /// It has as many rows as it can take.
+    #[error("the journal is full")]
+    JournalFull,
+    /// Memory ran out.
+    #[error("out of memory")]
+    NoMemory,
+}
+
+impl NoteFault {
+    /// The fault's number: 1 for a full journal, 2 for want of memory.
+    pub fn code(&self) -> u8
+        ensures full { self.now ≡ NoteFault.JournalFull → result ≡ 1 }
+        ensures memory { self.now ≡ NoteFault.NoMemory → result ≡ 2 }
+    {
+        match self {
+            NoteFault::JournalFull => 1,
+            NoteFault::NoMemory => 2,
+        }
+    }
+}
+
+/// The book of a meter: it meters each arrival, keeps a row for it, and sums up what left with each colour.
+///
+/// At all times its rows are the replay of what arrived, its meter is where the replay left it, and its accounts are
+/// the sums of its rows.
+#[derive(Debug, Drop)]
+pub struct MeterBook {
+    opening: AnyMeter,
+    meter: AnyMeter,
+    skew: Gap,
+    capacity: u32,
+    rows: Vec<Row>,
+    tallies: Tallies,
+}
+
+impl Model for MeterBook {
+    ghost use Rattle.meter_book.specs.Replay.{Book};
+
+    ghost Value = { Book };
+
+    ghost use Rattle.meter_book.specs.Kept.{IsBook, book_of};
+
+    ghost view = { book_of };
+
+    ghost invariant = { IsBook };
+}
+
+impl MeterBook {
+    /// The greatest capacity of a book, in rows.
+    pub const MOST_ROWS: u32 = 1 << 20;
+
+    /// The book of a meter from now on, with room for `capacity` rows. It takes no memory before the first arrival.
+    pub fn new(alloc: Global, meter: AnyMeter, skew: Gap, capacity: u32) -> Self
+        requires least { 1 ≤ capacity }
+        requires most { capacity ≤ 2 ^ 20 }
+        ensures { result ≡ record { opening = meter; skew = skew; capacity = capacity; arrivals = [] } }
+    {
+        let opening = meter;
+        MeterBook {
+            opening,
+            meter,
+            skew,
+            capacity,
+            rows: Vec::new(alloc),
+            tallies: Tallies::none(),
+        }
+    }
+
+    /// Meters an arrival, and answers its row.
+    ///
+    /// Refused: `JournalFull` exactly when the rows are as many as the capacity, else `NoMemory` where memory runs
+    /// out. The book is then unchanged.
+    pub fn note(&mut self, arrival: Arrival) -> Result<Row, NoteFault>
+        ensures row { IfOk result (λ row. row ≡ next_row self.old arrival) }
+        ensures noted { OnOk result (self.new ≡ noted self.old arrival) }
+        ensures full { IsErrOf result NoteFault.JournalFull ↔ (length self.old.arrivals ≡ self.old.capacity) }
+        ensures refused { OnErr result (self.new ≡ self.old) }
+    {
+        if self.rows.len() == self.capacity as usize {
+            return Err(NoteFault::JournalFull);
+        }
+        self.rows.reserve(1).map_err(|_| NoteFault::NoMemory)?;
+        let place = self.rows.len() as u64;
+        let row = self.meter.row(place, arrival);
+        self.tallies.add(row.left, row.size);
+        let stored = row;
+        self.rows.push(stored).unwrap();
+        Ok(row)
+    }
+
+    /// How many packets and bytes left with each colour.
+    pub fn accounts(&self) -> Accounts
+        ensures { result ≡ accounts_of (rows_of self.now) }
+    {
+        self.tallies.accounts()
+    }
+
+    /// Its rows so far, in order.
+    pub fn rows(&self) -> &[Row]
+        ensures { result.now ≡ rows_of self.now }
+    {
+        self.rows.as_slice()
+    }
+
+    /// Hands its rows over, as the journal of site 0 until `Journal::at` names another.
+    pub fn into_journal(self) -> Journal
+        ensures { result ≡ record { site = 0; opening = self.opening; skew = self.skew; arrivals = self.arrivals } }
+    {
+        let MeterBook {
+            opening,
+            meter: _,
+            skew,
+            capacity: _,
+            rows,
+            tallies: _,
+        } = self;
+        Journal::new(opening, skew, rows)
+    }
+}
+
+#[cfg(test)]
+mod tests {
+    use super::*;
+    use crate::any_meter::Parameters;
+    use moment_core::{Colour, Mode, Moment, PacketSize, Rate};
+    use std::test::Fail;
+    use trtcm_core::TrTcmParameters;
+
+    fn book(alloc: Global, mode: Mode, capacity: u32) -> Result<MeterBook, Fail>
+        requires least { 1 ≤ capacity }
+        requires most { capacity ≤ 2 ^ 20 }
+    {
+        let parameters = Parameters::TrTcm(TrTcmParameters {
+            committed_rate: Rate::new(8_000)?,
+            committed_burst: 1_500,
+            peak_rate: Rate::new(16_000)?,
+            peak_burst: 3_000,
+        });
+        let meter = AnyMeter::new(parameters, mode, Moment::new(0)?)?;
+        Ok(MeterBook::new(alloc, meter, Gap::new(0)?, capacity))
+    }
+
+    fn arrival(packet: u64, moment: u64, size: u64, came: Colour) -> Result<Arrival, Fail> {
+        Ok(Arrival {
+            flow: 0,
+            packet,
+            hop: 1,
+            moment: Moment::new(moment)?,
+            size: PacketSize::new(size)?,
+            came,
+        })
+    }
+
+    #[test]
+    fn committed_burst_of_one_packet_and_peak_burst_of_two(rt: HostRuntime) -> Result<(), Fail> {
+        let mut book = book(rt.alloc(), Mode::Blind, 5)?;
+        for (packet, moment, size, left) in [
+            (0, 0, 1_500, Colour::Green),
+            (1, 0, 1_500, Colour::Yellow),
+            (2, 0, 100, Colour::Red),
+            (3, 500_000_000, 500, Colour::Green),
+            (4, 1_000_000_000, 1_000, Colour::Yellow),
+        ] {
+            let row = book.note(arrival(packet, moment, size, Colour::Green)?)?;
+            assert_eq!(rt; row.left, left, "packet {packet}");
+            assert_eq!(rt; row.place, packet);
+        }
+        let accounts = book.accounts();
+        assert_eq!(rt; accounts.packets, [2, 2, 1]);
+        assert_eq!(rt; accounts.bytes, [2_000, 2_500, 100]);
+        let journal = book.into_journal().at(7);
+        assert_eq!(rt; journal.site(), 7);
+        assert_eq!(rt; journal.rows().len(), 5);
+        Ok(())
+    }
+
+    #[test]
+    fn a_full_book_refuses_and_stays_as_it_was(rt: HostRuntime) -> Result<(), Fail> {
+        let mut book = book(rt.alloc(), Mode::Aware, 2)?;
+        for packet in 0..2 {
+            book.note(arrival(packet, 10, 100, Colour::Yellow)?)?;
+        }
+        let refused = book.note(arrival(2, 10, 100, Colour::Green)?);
+        assert_eq!(rt; refused.err().map_or(0, |fault| fault.code()), 1);
+        assert_eq!(rt; book.rows().len(), 2);
+        assert_eq!(rt; book.accounts().packets, [0, 2, 0]);
+        assert_eq!(rt; book.accounts().bytes, [0, 200, 0]);
+        Ok(())
+    }
+
+    #[test]
+    fn an_arrival_from_the_past_is_metered_late(rt: HostRuntime) -> Result<(), Fail> {
+        let mut book = book(rt.alloc(), Mode::Blind, 2)?;
+        book.note(arrival(0, 100, 100, Colour::Green)?)?;
+        let row = book.note(arrival(1, 40, 100, Colour::Green)?)?;
+        assert_eq!(rt; (row.used.get(), row.late.get()), (100, 60));
+        Ok(())
+    }
+}

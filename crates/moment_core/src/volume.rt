@@ -1,0 +1,43 @@
+ghost use Rattle.std.specs.Prelude.{◌≡◌, ◌≤◌};
+ghost use Rattle.moment_core.specs.Volume.{bytes_over, nanoseconds_for};
+
+use crate::quantity::Gap;
+use crate::tokens::TOKEN;
+
+/// The bytes that a rate in bits per second gives over a gap, a begun byte counted whole: it is 0 where either is 0, and
+/// below 2^95 (Cruz 1991, section II).
+pub fn bytes_over_ceil(rate: u64, gap: Gap) -> u128
+    ensures { result ≡ bytes_over rate gap }
+{
+    (u128::from(rate) * u128::from(gap.get())).div_ceil(TOKEN)
+}
+
+/// The least whole number of nanoseconds in which a rate in bits per second, at least 1, gives so many bytes: below 2^97
+/// (Cruz 1991, section II).
+pub fn drain_gap(rate: u64, bytes: u64) -> u128
+    requires { 1 ≤ rate }
+    ensures { result ≡ nanoseconds_for rate bytes }
+{
+    (u128::from(bytes) * TOKEN).div_ceil(u128::from(rate))
+}
+
+#[cfg(test)]
+mod tests {
+    use super::*;
+    use crate::OutOfRange;
+
+    #[test]
+    fn a_begun_byte_is_counted_whole(rt: HostRuntime) -> Result<(), OutOfRange> {
+        assert_eq!(rt; bytes_over_ceil(8_000_000, Gap::new(1_000_000)?), 1000);
+        assert_eq!(rt; bytes_over_ceil(8_000_000, Gap::new(1)?), 1);
+        assert_eq!(rt; bytes_over_ceil(8_000_000, Gap::new(0)?), 0);
+        Ok(())
+    }
+
+    #[test]
+    fn a_byte_at_one_bit_per_second_takes_eight_seconds(rt: HostRuntime) {
+        assert_eq!(rt; drain_gap(1, 1), 8_000_000_000);
+        assert_eq!(rt; drain_gap(3, 1), 2_666_666_667);
+        assert_eq!(rt; drain_gap(3, 0), 0);
+    }
+}
