@@ -5,7 +5,7 @@
 #     bench/run.sh [ARRIVALS] [REPEATS]
 set -eu
 
-bench=$(CDPATH= cd -- "$(dirname -- "$0")" && pwd)
+bench=$(CDPATH='' cd -- "$(dirname -- "$0")" && pwd)
 proved=$bench/../crates/dsedge/out/dsedge
 count=${1:-1000000}
 repeats=${2:-7}

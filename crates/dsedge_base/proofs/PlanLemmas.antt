@@ -2,10 +2,7 @@
 use Rattle.std.proofs.Common.{◌≡◌, ◌≢◌, ◌⊎◌, inl, inr, refl, ap, sym, subst, ◌∙◌, Bool, true, false, if◌then◌else◌, List, [], Option, None, Some, option_and_then, String, IfOk, IfErr}
 use Rattle.std.specs.declared.alloc.Global.{Global}
 use Rattle.std.specs.Option.{ok_or}
-use Rattle.std.specs.Str.{bytes_eq}
-use Rattle.moment_core.specs.Metering.{State}
-use Rattle.trtcm_core.specs.TwoRate.{Levels}
-use Rattle.trtcm_core.specs.declared.parameters.TrTcmParameters.{TrTcmParameters}
+use Rattle.meter_book.specs.declared.any_meter.AnyMeter.{AnyMeter}
 use Rattle.clap.specs.Words.{App, HasKind, HasMatchesOf, IsAmong, Row, Text, fault_of, is_simple, is_simple_and_free, kind_of, subcommand_of, subcommand_rows_of}
 use Rattle.clap.specs.declared.error.Error.{Error}
 use Rattle.clap.specs.declared.parser.matches.ArgMatches.{ArgMatches}
@@ -13,8 +10,8 @@ use Rattle.clap.specs.declared.error.kind.ErrorKind.{ErrorKind}
 use Rattle.clap.specs.declared.error.kind.ErrorKind.TheVariants.{DisplayHelp, OutOfMemory}
 use Rattle.clap.proofs.OnLiterals.{clap_on_literals}
 use Rattle.dsedge_base.specs.CommandLine.{dsedge}
-use Rattle.dsedge_base.specs.Options.{meter_given, ◌>>=◌}
-use Rattle.dsedge_base.specs.Plans.{IsHelp, IsPlanOf, IsRefusalOf, IsWellFormed, asked_by, given_by, plan_of}
+use Rattle.dsedge_base.specs.Options.{◌>>=◌}
+use Rattle.dsedge_base.specs.Plans.{IsHelp, IsPlanOf, IsRefusalOf, IsWellFormed, asked_by, plan_of}
 use Rattle.dsedge_base.specs.declared.fault.UsageFault.{UsageFault}
 use Rattle.dsedge_base.specs.declared.fault.UsageFault.TheVariants.{Usage, NoMemory}
 use Rattle.dsedge_base.specs.declared.work.Plan.{Plan}
@@ -29,7 +26,7 @@ pub dsedge-simple_and_free : is_simple_and_free dsedge ≡ true
 unfolding clap_on_literals
 dsedge-simple_and_free = refl
 
-meter-no_help : (named : Bool) (meter : Option (State TrTcmParameters Levels)) (text : String Global)
+meter-no_help : (named : Bool) (meter : Option AnyMeter) (text : String Global)
     → (if named then meter >>= (λ m. Some (Meter m)) else None) ≡ Some (Help text) → ⊥
 meter-no_help false meter text e = cc
 meter-no_help true None text e = cc

@@ -1,6 +1,6 @@
 -- The command line of the program, as the parser of command lines reads it.
-use Rattle.std.specs.Prelude.{Bool, true, false, codes, List, [], ◌∷◌, ◌++◌, Some}
-use Rattle.clap.specs.Words.{App, Rule, Shape, Text, new_app, new_rule, with_rule, with_subcommand}
+use Rattle.std.specs.Prelude.{true, codes, Some}
+use Rattle.clap.specs.Words.{App, Rule, Text, new_app, new_rule, with_rule, with_subcommand}
 
 -- an option with one value, `--name VALUE`
 abbrev pub optional : Text → Rule

@@ -2,10 +2,12 @@
 use Rattle.std.specs.Prelude.{ℕ, ◌-◌, ◌^◌, ◌&&◌, nat_le, List, codes, Option, None, Some, is_some, if◌then◌else◌}
 use Rattle.std.specs.Str.{bytes_eq}
 use Rattle.line_text.specs.Numbers.{number_of}
-use Rattle.moment_core.specs.Metering.{State, opening}
 use Rattle.moment_core.specs.declared.colour.Mode.{Mode}
 use Rattle.moment_core.specs.declared.colour.Mode.TheVariants.{Blind, Aware}
-use Rattle.trtcm_core.specs.TwoRate.{Levels, fault_of, two_rate}
+use Rattle.meter_book.specs.AnyMeter.{fault_of, opening_of}
+use Rattle.meter_book.specs.declared.any_meter.AnyMeter.{AnyMeter}
+use Rattle.meter_book.specs.declared.any_meter.Parameters.{Parameters}
+use Rattle.meter_book.specs.declared.any_meter.Parameters.TheVariants as parameters
 use Rattle.trtcm_core.specs.declared.parameters.TrTcmParameters.{TrTcmParameters}
 
 -- the text that an option was given, by the option's name
@@ -57,14 +59,20 @@ two_rate_given given = do
   pbs ← given (codes "pbs") >>= burst_said
   Some (record { committed_rate = cir; committed_burst = cbs; peak_rate = pir; peak_burst = pbs })
 
--- the meter of parameters that are those of one (RFC 2698 sections 2 and 3)
-unfoldable pub opened : TrTcmParameters → Mode → ℕ → Option (State TrTcmParameters Levels)
-opened p mode origin = if is_some (fault_of p) then None else Some (opening two_rate p mode origin)
+-- the parameters of a meter of the kind that is named
+abbrev pub parameters_given : List ℕ → Given → Option Parameters
+parameters_given kind given =
+    if bytes_eq kind (codes "trtcm") then two_rate_given given >>= (λ p. Some (parameters.TrTcm p)) else None
+
+-- the meter of parameters that are those of one
+unfoldable pub opened : Parameters → Mode → ℕ → Option AnyMeter
+opened p mode origin = if is_some (fault_of p) then None else Some (opening_of p mode origin)
 
 -- the meter that the options of `meter` ask for
-unfoldable pub meter_given : Given → Option (State TrTcmParameters Levels)
+unfoldable pub meter_given : Given → Option AnyMeter
 meter_given given = do
   kind ← given (codes "kind")
   mode ← given (codes "mode") >>= mode_said
   origin ← origin_said (given (codes "origin"))
-  if bytes_eq kind (codes "trtcm") then two_rate_given given >>= (λ p. opened p mode origin) else None
+  p ← parameters_given kind given
+  opened p mode origin

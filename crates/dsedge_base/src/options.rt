@@ -1,33 +1,41 @@
 ghost use Rattle.std.specs.Prelude.{◌≡◌, option_map};
 ghost use Rattle.clap.specs.Words.{first_of, found_of, rows_of};
-ghost use Rattle.dsedge_base.specs.Options.{burst_said, meter_given, mode_said, moment_said, opened, origin_said, rate_said, two_rate_given};
+ghost use Rattle.dsedge_base.specs.Options.{burst_said, meter_given, mode_said, moment_said, opened, origin_said, parameters_given, rate_said, two_rate_given};
 ghost use Rattle.dsedge_base.specs.Plans.{given_by};
 
 use clap::ArgMatches;
 use line_text::number;
+use meter_book::{AnyMeter, Parameters};
 use moment_core::{Mode, Moment, Rate};
-use trtcm_core::{TrTcm, TrTcmParameters};
+use trtcm_core::TrTcmParameters;
 
 /// The meter that the options of `meter` ask for, if they ask for one.
 #[tactic(auto, unfolding(crate::specs::Options::meter_given))]
-pub(crate) fn meter_in(options: &ArgMatches<'_>) -> Option<TrTcm>
+pub(crate) fn meter_in(options: &ArgMatches<'_>) -> Option<AnyMeter>
     ensures { result ≡ meter_given (given_by (rows_of (found_of options.now))) }
 {
     let kind = text_in(options, "kind")?;
     let mode = mode_said_by(text_in(options, "mode")?)?;
     let origin = origin_said_by(text_in(options, "origin"))?;
-    match kind {
-        "trtcm" => two_rate_meter(two_rate_in(options)?, mode, origin),
-        _ => None,
-    }
+    meter_opened(parameters_in(kind, options)?, mode, origin)
 }
 
-/// The two-rate meter of parameters that are those of one (RFC 2698 section 2).
+/// The meter of parameters that are those of one.
 #[tactic(auto, unfolding(crate::specs::Options::opened))]
-fn two_rate_meter(parameters: TrTcmParameters, mode: Mode, origin: Moment) -> Option<TrTcm>
+fn meter_opened(parameters: Parameters, mode: Mode, origin: Moment) -> Option<AnyMeter>
     ensures { result ≡ opened parameters mode origin }
 {
-    TrTcm::new(parameters, mode, origin).ok()
+    AnyMeter::new(parameters, mode, origin).ok()
+}
+
+/// The parameters of a meter of the kind that is named.
+fn parameters_in(kind: &str, options: &ArgMatches<'_>) -> Option<Parameters>
+    ensures { result ≡ parameters_given kind.now (given_by (rows_of (found_of options.now))) }
+{
+    match kind {
+        "trtcm" => Some(Parameters::TrTcm(two_rate_in(options)?)),
+        _ => None,
+    }
 }
 
 /// The parameters of a two-rate meter (RFC 2698 section 2).

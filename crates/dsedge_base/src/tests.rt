@@ -1,8 +1,9 @@
 use crate::{Plan, UsageFault, plan};
+use meter_book::{AnyMeter, Parameters};
 use moment_core::{Mode, Moment, Rate};
 use std::alloc::Global;
 use std::test::Fail;
-use trtcm_core::{TrTcm, TrTcmParameters};
+use trtcm_core::TrTcmParameters;
 
 /// The plan for a line of words that stand one space apart.
 fn plan_for(alloc: Global, line: &str) -> Result<Result<Plan, UsageFault>, Fail> {
@@ -53,7 +54,7 @@ fn meters_of_two_rates(rt: HostRuntime) -> Result<(), Fail> {
             peak_rate: Rate::new(pir)?,
             peak_burst: pbs,
         };
-        let expected = TrTcm::new(parameters, mode, Moment::new(origin)?)?;
+        let expected = AnyMeter::new(Parameters::TrTcm(parameters), mode, Moment::new(origin)?)?;
         let expected = format!(in alloc; "Meter({expected:?})")?;
         let made = format!(in alloc; "{:?}", plan_for(alloc, line)??)?;
         assert_eq!(rt; made.as_str(), expected.as_str(), "{line}");

@@ -1,4 +1,4 @@
-use trtcm_core::TrTcm;
+use meter_book::AnyMeter;
 
 /// What the words of a command line ask for.
 #[derive(Debug, Drop)]
@@ -6,5 +6,5 @@ pub enum Plan {
     /// Show this text on standard output.
     Help(String),
     /// Meter the arrivals of standard input with this meter.
-    Meter(TrTcm),
+    Meter(AnyMeter),
 }

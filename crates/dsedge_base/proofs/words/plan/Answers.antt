@@ -1,4 +1,4 @@
-use Rattle.std.proofs.Common.{◌≡◌, sym, subst, map, IfOk, IfErr, Result}
+use Rattle.std.proofs.Common.{sym, subst, map, IfOk, IfErr, Result}
 use Rattle.std.proofs.lemmas.Result.{IfErr-weaker, IfOk-weaker}
 use Rattle.clap.specs.Words.{kind_of}
 use Rattle.dsedge_base.specs.Plans.{IsPlanOf, IsRefusalOf}
