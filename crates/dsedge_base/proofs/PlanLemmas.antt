@@ -1,0 +1,79 @@
+-- What words are answered with, from what the parser of command lines says of them.
+use Rattle.std.proofs.Common.{◌≡◌, ◌≢◌, ◌⊎◌, inl, inr, refl, ap, sym, subst, ◌∙◌, Bool, true, false, if◌then◌else◌, List, [], Option, None, Some, option_and_then, String, IfOk, IfErr}
+use Rattle.std.specs.declared.alloc.Global.{Global}
+use Rattle.std.specs.Option.{ok_or}
+use Rattle.meter_book.specs.declared.any_meter.AnyMeter.{AnyMeter}
+use Rattle.clap.specs.Words.{App, HasKind, HasMatchesOf, IsAmong, Row, Text, fault_of, is_simple, is_simple_and_free, kind_of, subcommand_of, subcommand_rows_of}
+use Rattle.clap.specs.declared.error.Error.{Error}
+use Rattle.clap.specs.declared.parser.matches.ArgMatches.{ArgMatches}
+use Rattle.clap.specs.declared.error.kind.ErrorKind.{ErrorKind}
+use Rattle.clap.specs.declared.error.kind.ErrorKind.TheVariants.{DisplayHelp, OutOfMemory}
+use Rattle.clap.proofs.OnLiterals.{clap_on_literals}
+use Rattle.dsedge_base.specs.CommandLine.{dsedge}
+use Rattle.dsedge_base.specs.Options.{◌>>=◌}
+use Rattle.dsedge_base.specs.Plans.{IsHelp, IsPlanOf, IsRefusalOf, IsWellFormed, asked_by, plan_of}
+use Rattle.dsedge_base.specs.declared.fault.UsageFault.{UsageFault}
+use Rattle.dsedge_base.specs.declared.fault.UsageFault.TheVariants.{Usage, NoMemory}
+use Rattle.dsedge_base.specs.declared.work.Plan.{Plan}
+use Rattle.dsedge_base.specs.declared.work.Plan.TheVariants.{Help, Meter}
+
+-- the parser says exactly what it makes of a command line such as the program's
+pub dsedge-simple : is_simple dsedge ≡ true
+unfolding clap_on_literals
+dsedge-simple = refl
+
+pub dsedge-simple_and_free : is_simple_and_free dsedge ≡ true
+unfolding clap_on_literals
+dsedge-simple_and_free = refl
+
+meter-no_help : (named : Bool) (meter : Option AnyMeter) (text : String Global)
+    → (if named then meter >>= (λ m. Some (Meter m)) else None) ≡ Some (Help text) → ⊥
+meter-no_help false meter text e = cc
+meter-no_help true None text e = cc
+meter-no_help true (Some m) text e = cc
+
+plan_of-no_help : (command : Option (Text × List Row)) (text : String Global) → option_and_then plan_of command ≡ Some (Help text) → ⊥
+plan_of-no_help None text e = cc
+plan_of-no_help (Some c) text e = meter-no_help _ _ text e
+
+-- well formed words are answered with what they ask for, or refused where they ask for nothing
+pub asked_by-answers : (words : List Text) (asked : Option Plan) → IsWellFormed words → asked ≡ asked_by words
+    → IfOk (ok_or asked Usage) (IsPlanOf words) × IfErr (ok_or asked Usage) (IsRefusalOf words)
+asked_by-answers words None formed e = (tt, inr (formed, sym e))
+asked_by-answers words (Some (Meter m)) formed e = ((formed, sym e), tt)
+asked_by-answers words (Some (Help text)) formed e = absurd (plan_of-no_help (subcommand_of dsedge words) text (sym e))
+
+-- the same of a command line that is the program's and was parsed
+pub parsed-answers : (app : App) (words : List Text) (matches : ArgMatches) (asked : Option Plan) → app ≡ dsedge
+    → (is_simple_and_free app ≡ true → fault_of app words ≡ []) → HasMatchesOf app words matches
+    → asked ≡ option_and_then plan_of (subcommand_rows_of matches)
+    → IfOk (ok_or asked Usage) (IsPlanOf words) × IfErr (ok_or asked Usage) (IsRefusalOf words)
+parsed-answers app words matches asked is_dsedge formed has is_asked = asked_by-answers words asked
+    (ap (λ a. fault_of a words) (sym is_dsedge) ∙ formed (ap is_simple_and_free is_dsedge ∙ dsedge-simple_and_free))
+    (is_asked ∙ ap (option_and_then plan_of) ((has (ap is_simple is_dsedge ∙ dsedge-simple)).1
+    ∙ ap (λ (a : App). subcommand_of a words) is_dsedge))
+
+-- the parser may fail in this way
+abbrev pub MayFail : List Text → ErrorKind → Type 0
+MayFail words kind = (kind ≡ OutOfMemory) ⊎ IsAmong kind (fault_of dsedge words)
+
+-- the parser fails so at a command line that is the program's
+pub parse-may_fail : (app : App) (words : List Text) (error : Error) → app ≡ dsedge
+    → (is_simple_and_free app ≡ true → HasKind (fault_of app words) error) → MayFail words (kind_of error)
+parse-may_fail app words error is_dsedge fails =
+    let P : App → Type 0 = λ a. HasKind (fault_of a words) error in
+    subst P is_dsedge (fails (ap is_simple_and_free is_dsedge ∙ dsedge-simple_and_free))
+
+-- a wish for help is answered with help
+pub help-answers : (words : List Text) (kind : ErrorKind) (plan : Plan) → MayFail words kind → (kind ≡ DisplayHelp) × IsHelp plan
+    → IsPlanOf words plan
+help-answers words kind (Meter m) fails help = absurd help.1
+help-answers words kind (Help text) (inl memory) help = let apart : DisplayHelp ≡ OutOfMemory → ⊥ = λ e. cc in absurd (apart (sym help.0 ∙ memory))
+help-answers words kind (Help text) (inr among) help = let P : ErrorKind → Type 0 = λ k. IsAmong k (fault_of dsedge words) in subst P help.0 among
+
+-- other faults of form are refused
+pub fault-answers : (words : List Text) (kind : ErrorKind) (fault : UsageFault) → MayFail words kind
+    → (fault ≡ Usage → (kind ≢ DisplayHelp) × (kind ≢ OutOfMemory)) → IsRefusalOf words fault
+fault-answers words kind NoMemory fails is = tt
+fault-answers words kind Usage (inl memory) is = absurd ((is refl).1 memory)
+fault-answers words kind Usage (inr among) is = inl (kind, among, (is refl).0)

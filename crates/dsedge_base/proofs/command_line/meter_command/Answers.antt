@@ -1,0 +1,38 @@
+use Rattle.std.proofs.Common.{◌≡◌, ◌||◌, false, ap, ap₂, ◌∙◌, codes}
+use Rattle.std.proofs.lemmas.Result.{IfOk-weaker}
+use Rattle.clap.specs.Simple.{app_of_fields}
+use Rattle.clap.specs.Words.{AddsArg, App, Rule, app_of, new_app, rule_of, with_rule}
+use Rattle.clap.specs.declared.builder.arg.Arg.{Arg}
+use Rattle.clap.specs.declared.builder.command.Command.{Command}
+use Rattle.clap.specs.declared.builder.command.Command.TheViews.{out-Command as fields_of}
+use Rattle.dsedge_base.specs.CommandLine.{meter}
+use Rattle.dsedge_base.proofs.command_line.meter_command.Goals as goal
+
+-- the command is this one, and no argument of it is global
+abbrev IsApp : App → Command → Type 0
+IsApp app command = (app_of command ≡ app) × ((fields_of command).has_globals ≡ false)
+
+-- with one more option
+with_option : (app : App) (rule : Rule) (old : Command) (option : Arg) (new : Command) → IsApp app old → rule_of option ≡ rule
+    → option.global ≡ false → AddsArg old option new → IsApp (with_rule app rule) new
+with_option app rule old option new is_app is_rule local adds =
+    (adds.shape local ∙ ap₂ with_rule is_app.0 is_rule, adds.globals ∙ ap₂ ◌||◌ is_app.1 local)
+
+-- with all of its options
+whole : (c : goal.After-arg-7) (command : Command) → AddsArg c.in_ok-arg-6.field-0 c.choice-3.result command → IsApp meter command
+whole c command adds =
+    let named : app_of c.about.result ≡ new_app (codes "meter") = ap app_of_fields c.about.ensures ∙ c.new.ensures.app in
+    let local : (fields_of c.about.result).has_globals ≡ false = rw c.about.ensures c.new.ensures.local in
+    let kind = with_option _ _ _ _ _ (named, local) c.needed.ensures.rule c.needed.ensures.local c.in_ok-arg.ensures in
+    let mode = with_option _ _ _ _ _ kind c.needed-2.ensures.rule c.needed-2.ensures.local c.in_ok-arg-2.ensures in
+    let cir = with_option _ _ _ _ _ mode c.needed-3.ensures.rule c.needed-3.ensures.local c.in_ok-arg-3.ensures in
+    let cbs = with_option _ _ _ _ _ cir c.needed-4.ensures.rule c.needed-4.ensures.local c.in_ok-arg-4.ensures in
+    let pir = with_option _ _ _ _ _ cbs c.choice.ensures.rule c.choice.ensures.local c.in_ok-arg-5.ensures in
+    let pbs = with_option _ _ _ _ _ pir c.choice-2.ensures.rule c.choice-2.ensures.local c.in_ok-arg-6.ensures in
+    with_option _ _ _ _ _ pbs c.choice-3.ensures.rule c.choice-3.ensures.local adds
+
+pub returns-clause-shape : goal.returns-clause-shape
+returns-clause-shape c = IfOk-weaker c.arg-7.result _ _ (λ command adds. (whole c command adds).0) c.arg-7.ensures
+
+pub returns-clause-local : goal.returns-clause-local
+returns-clause-local c = IfOk-weaker c.arg-7.result _ _ (λ command adds. (whole c command adds).1) c.arg-7.ensures

@@ -1,0 +1,30 @@
+-- The command line of the program, as the parser of command lines reads it.
+use Rattle.std.specs.Prelude.{true, codes, Some}
+use Rattle.clap.specs.Words.{App, Rule, Text, new_app, new_rule, with_rule, with_subcommand}
+
+-- an option with one value, `--name VALUE`
+abbrev pub optional : Text → Rule
+optional name = record (new_rule name) { long = Some name; value_names = 1 }
+
+-- an option that has to be given
+abbrev pub required : Text → Rule
+required name = record (optional name) { required = true }
+
+-- the parameters of a meter, of which each kind has its own, and what every meter has
+abbrev pub meter : App
+meter = with_rule (with_rule (with_rule (with_rule (with_rule (with_rule (with_rule (new_app (codes "meter"))
+    (required (codes "kind")))
+    (required (codes "mode")))
+    (required (codes "cir")))
+    (required (codes "cbs")))
+    (optional (codes "pir")))
+    (optional (codes "pbs")))
+    (optional (codes "origin"))
+
+-- the words stand alone, with no name of the program before them, and name a command
+abbrev pub program : App
+program = let a = new_app (codes "dsedge") in
+    record a { top = record a.top { no_binary_name = true; subcommand_required = true } }
+
+abbrev pub dsedge : App
+dsedge = with_subcommand program meter.top

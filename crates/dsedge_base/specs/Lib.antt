@@ -1,0 +1,4 @@
+-- What the words of a command line ask for.
+pub mod CommandLine
+pub mod Options
+pub mod Plans

@@ -1,0 +1,78 @@
+-- What the options of a command say, by the texts that they were given.
+use Rattle.std.specs.Prelude.{ℕ, ◌-◌, ◌^◌, ◌&&◌, nat_le, List, codes, Option, None, Some, is_some, if◌then◌else◌}
+use Rattle.std.specs.Str.{bytes_eq}
+use Rattle.line_text.specs.Numbers.{number_of}
+use Rattle.moment_core.specs.declared.colour.Mode.{Mode}
+use Rattle.moment_core.specs.declared.colour.Mode.TheVariants.{Blind, Aware}
+use Rattle.meter_book.specs.AnyMeter.{fault_of, opening_of}
+use Rattle.meter_book.specs.declared.any_meter.AnyMeter.{AnyMeter}
+use Rattle.meter_book.specs.declared.any_meter.Parameters.{Parameters}
+use Rattle.meter_book.specs.declared.any_meter.Parameters.TheVariants as parameters
+use Rattle.trtcm_core.specs.declared.parameters.TrTcmParameters.{TrTcmParameters}
+
+-- the text that an option was given, by the option's name
+abbrev pub Given : Type 0
+Given = List ℕ → Option (List ℕ)
+
+infixl 10 ◌>>=◌
+abbrev pub ◌>>=◌ : {A B : Type 0} → Option A → (A → Option B) → Option B
+None >>= f = None
+(Some a) >>= f = f a
+
+-- a number from `least` to `most`
+abbrev pub within : ℕ → ℕ → ℕ → Option ℕ
+within least most n = if nat_le least n && nat_le n most then Some n else None
+
+-- the number from `least` to `most` that 1 to 20 decimal digits say
+unfoldable pub number_within : ℕ → ℕ → List ℕ → Option ℕ
+number_within least most text = number_of (2 ^ 64 - 1) text >>= within least most
+
+-- bits per second, 1 to 10^13
+abbrev pub rate_said : List ℕ → Option ℕ
+rate_said = number_within 1 (10 ^ 13)
+
+-- bytes, below 2^32
+abbrev pub burst_said : List ℕ → Option ℕ
+burst_said = number_within 0 (2 ^ 32 - 1)
+
+-- nanoseconds, below 2^63
+abbrev pub moment_said : List ℕ → Option ℕ
+moment_said = number_within 0 (2 ^ 63 - 1)
+
+abbrev pub mode_said : List ℕ → Option Mode
+mode_said text =
+    if bytes_eq text (codes "blind") then Some Blind
+    else if bytes_eq text (codes "aware") then Some Aware
+    else None
+
+-- the moment at which a meter begins: 0 where none is given
+abbrev pub origin_said : Option (List ℕ) → Option ℕ
+origin_said None = Some 0
+origin_said (Some text) = moment_said text
+
+-- the parameters of a two-rate meter (RFC 2698 section 2)
+unfoldable pub two_rate_given : Given → Option TrTcmParameters
+two_rate_given given = do
+  cir ← given (codes "cir") >>= rate_said
+  cbs ← given (codes "cbs") >>= burst_said
+  pir ← given (codes "pir") >>= rate_said
+  pbs ← given (codes "pbs") >>= burst_said
+  Some (record { committed_rate = cir; committed_burst = cbs; peak_rate = pir; peak_burst = pbs })
+
+-- the parameters of a meter of the kind that is named
+abbrev pub parameters_given : List ℕ → Given → Option Parameters
+parameters_given kind given =
+    if bytes_eq kind (codes "trtcm") then two_rate_given given >>= (λ p. Some (parameters.TrTcm p)) else None
+
+-- the meter of parameters that are those of one
+unfoldable pub opened : Parameters → Mode → ℕ → Option AnyMeter
+opened p mode origin = if is_some (fault_of p) then None else Some (opening_of p mode origin)
+
+-- the meter that the options of `meter` ask for
+unfoldable pub meter_given : Given → Option AnyMeter
+meter_given given = do
+  kind ← given (codes "kind")
+  mode ← given (codes "mode") >>= mode_said
+  origin ← origin_said (given (codes "origin"))
+  p ← parameters_given kind given
+  opened p mode origin

@@ -1,0 +1,48 @@
+-- What words ask for.
+use Rattle.std.specs.Prelude.{◌≡◌, ◌≢◌, ◌⊎◌, List, [], codes, Option, None, Some, option_and_then, if◌then◌else◌}
+use Rattle.std.specs.Str.{bytes_eq}
+use Rattle.clap.specs.Words.{IsAmong, Row, Text, fault_of, first_of, subcommand_of}
+use Rattle.clap.specs.declared.error.kind.ErrorKind.{ErrorKind}
+use Rattle.clap.specs.declared.error.kind.ErrorKind.TheVariants.{DisplayHelp}
+use Rattle.dsedge_base.specs.CommandLine.{dsedge}
+use Rattle.dsedge_base.specs.Options.{Given, meter_given, ◌>>=◌}
+use Rattle.dsedge_base.specs.declared.fault.UsageFault.{UsageFault}
+use Rattle.dsedge_base.specs.declared.fault.UsageFault.TheVariants.{Usage, NoMemory}
+use Rattle.dsedge_base.specs.declared.work.Plan.{Plan}
+use Rattle.dsedge_base.specs.declared.work.Plan.TheVariants.{Help, Meter}
+
+-- the texts that the options of a command were given
+abbrev pub given_by : List Row → Given
+given_by rows name = first_of name rows
+
+-- what a command and its options ask for
+abbrev pub plan_of : Text × List Row → Option Plan
+plan_of c = if bytes_eq c.0 (codes "meter") then meter_given (given_by c.1) >>= (λ m. Some (Meter m)) else None
+
+-- the words are a command line of the program, with nothing wrong in its form
+abbrev pub IsWellFormed : List Text → Type 0
+IsWellFormed words = fault_of dsedge words ≡ []
+
+-- what words that are well formed ask for
+abbrev pub asked_by : List Text → Option Plan
+asked_by words = option_and_then plan_of (subcommand_of dsedge words)
+
+-- Help is shown where the words ask for it before anything is found wrong in their form; every other plan is what
+-- well formed words ask for.
+abbrev pub IsPlanOf : List Text → Plan → Type 0
+IsPlanOf words (Help text) = IsAmong DisplayHelp (fault_of dsedge words)
+IsPlanOf words (Meter m) = IsWellFormed words × (asked_by words ≡ Some (Meter m))
+
+-- something other than a wish for help stands against the form of the words
+abbrev pub IsMalformed : List Text → Type 0
+IsMalformed words = (kind : ErrorKind) × IsAmong kind (fault_of dsedge words) × (kind ≢ DisplayHelp)
+
+-- Words are refused only where their form is wrong, or where they are well formed and ask for nothing that there is;
+-- memory may run out at any words.
+abbrev pub IsRefusalOf : List Text → UsageFault → Type 0
+IsRefusalOf words Usage = IsMalformed words ⊎ (IsWellFormed words × (asked_by words ≡ None))
+IsRefusalOf words NoMemory = Unit {0}
+
+abbrev pub IsHelp : Plan → Type 0
+IsHelp (Help text) = Unit {0}
+IsHelp (Meter m) = ⊥

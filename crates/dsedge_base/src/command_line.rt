@@ -1,0 +1,66 @@
+ghost use Rattle.std.specs.Prelude.{◌≡◌, IfOk, true, false};
+ghost use Rattle.clap.specs.Words.{app_of, rule_of};
+ghost use Rattle.clap.specs.declared.builder.command.Command.TheViews.{out-Command as fields_of};
+ghost use Rattle.dsedge_base.specs.CommandLine.{dsedge, meter, optional, required};
+
+use clap::{Arg, Command};
+use std::alloc::{AllocError, Global};
+
+/// The command line of `dsedge`.
+pub(crate) fn command_line<'a>(alloc: Global) -> Result<Command<'a>, AllocError>
+    ensures { IfOk result (λ command. app_of command ≡ dsedge) }
+{
+    Command::new(alloc, "dsedge")
+        .bin_name("dsedge")?
+        .about("A DiffServ traffic conditioner: three-colour meters for streams of packets.")
+        .no_binary_name(true)
+        .subcommand_required(true)
+        .subcommand(meter_command(alloc)?)
+}
+
+/// `dsedge meter`.
+fn meter_command<'a>(alloc: Global) -> Result<Command<'a>, AllocError>
+    ensures shape { IfOk result (λ command. app_of command ≡ meter) }
+    ensures local { IfOk result (λ command. (fields_of command).has_globals ≡ false) }
+{
+    let mode = "whether it heeds the colour that a packet comes in with: blind or aware";
+    let origin = "when the meter begins with full buckets, in nanoseconds [default: 0]";
+    Command::new(alloc, "meter")
+        .about("Meters the arrivals on standard input: lines MOMENT SIZE COLOUR, colour g, y or r.")
+        .arg(needed(alloc, "kind", "KIND", "the meter: trtcm (RFC 2698)"))?
+        .arg(needed(alloc, "mode", "MODE", mode))?
+        .arg(needed(
+            alloc,
+            "cir",
+            "RATE",
+            "committed information rate, in bits per second",
+        ))?
+        .arg(needed(alloc, "cbs", "BYTES", "committed burst size"))?
+        .arg(choice(
+            alloc,
+            "pir",
+            "RATE",
+            "peak information rate, in bits per second",
+        ))?
+        .arg(choice(alloc, "pbs", "BYTES", "peak burst size"))?
+        .arg(choice(alloc, "origin", "MOMENT", origin))
+}
+
+/// An option that may be left out.
+fn choice<'a>(alloc: Global, name: &'a str, value: &'a str, help: &'a str) -> Arg<'a>
+    ensures rule { rule_of result ≡ optional name.entry.now }
+    ensures local { result.global ≡ false }
+{
+    Arg::new(alloc, name)
+        .long(name)
+        .value_name(value)
+        .help(help)
+}
+
+/// An option that has to be given.
+fn needed<'a>(alloc: Global, name: &'a str, value: &'a str, help: &'a str) -> Arg<'a>
+    ensures rule { rule_of result ≡ required name.entry.now }
+    ensures local { result.global ≡ false }
+{
+    choice(alloc, name, value, help).required(true)
+}

@@ -1,0 +1,15 @@
+//! The words of a command line of `dsedge`, read to a plan of what is to be done.
+#![tactic(auto)]
+
+mod command_line;
+mod fault;
+mod options;
+mod words;
+mod work;
+
+pub use fault::UsageFault;
+pub use words::plan;
+pub use work::Plan;
+
+#[cfg(test)]
+mod tests;

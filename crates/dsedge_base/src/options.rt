@@ -1,0 +1,104 @@
+ghost use Rattle.std.specs.Prelude.{◌≡◌, option_map};
+ghost use Rattle.clap.specs.Words.{first_of, found_of, rows_of};
+ghost use Rattle.dsedge_base.specs.Options.{burst_said, meter_given, mode_said, moment_said, opened, origin_said, parameters_given, rate_said, two_rate_given};
+ghost use Rattle.dsedge_base.specs.Plans.{given_by};
+
+use clap::ArgMatches;
+use line_text::number;
+use meter_book::{AnyMeter, Parameters};
+use moment_core::{Mode, Moment, Rate};
+use trtcm_core::TrTcmParameters;
+
+/// The meter that the options of `meter` ask for, if they ask for one.
+#[tactic(auto, unfolding(crate::specs::Options::meter_given))]
+pub(crate) fn meter_in(options: &ArgMatches<'_>) -> Option<AnyMeter>
+    ensures { result ≡ meter_given (given_by (rows_of (found_of options.now))) }
+{
+    let kind = text_in(options, "kind")?;
+    let mode = mode_said_by(text_in(options, "mode")?)?;
+    let origin = origin_said_by(text_in(options, "origin"))?;
+    meter_opened(parameters_in(kind, options)?, mode, origin)
+}
+
+/// The meter of parameters that are those of one.
+#[tactic(auto, unfolding(crate::specs::Options::opened))]
+fn meter_opened(parameters: Parameters, mode: Mode, origin: Moment) -> Option<AnyMeter>
+    ensures { result ≡ opened parameters mode origin }
+{
+    AnyMeter::new(parameters, mode, origin).ok()
+}
+
+/// The parameters of a meter of the kind that is named.
+fn parameters_in(kind: &str, options: &ArgMatches<'_>) -> Option<Parameters>
+    ensures { result ≡ parameters_given kind.now (given_by (rows_of (found_of options.now))) }
+{
+    match kind {
+        "trtcm" => Some(Parameters::TrTcm(two_rate_in(options)?)),
+        _ => None,
+    }
+}
+
+/// The parameters of a two-rate meter (RFC 2698 section 2).
+#[tactic(auto, unfolding(crate::specs::Options::two_rate_given))]
+fn two_rate_in(options: &ArgMatches<'_>) -> Option<TrTcmParameters>
+    ensures { result ≡ two_rate_given (given_by (rows_of (found_of options.now))) }
+{
+    Some(TrTcmParameters {
+        committed_rate: rate_said_by(text_in(options, "cir")?)?,
+        committed_burst: burst_said_by(text_in(options, "cbs")?)?,
+        peak_rate: rate_said_by(text_in(options, "pir")?)?,
+        peak_burst: burst_said_by(text_in(options, "pbs")?)?,
+    })
+}
+
+/// The text that an option was given.
+fn text_in<'a>(options: &ArgMatches<'a>, name: &str) -> Option<&'a str>
+    ensures { option_map (λ text. text.now) result ≡ first_of name.now (rows_of (found_of options.now)) }
+{
+    options.get_str(name)
+}
+
+/// The mode that a text says.
+fn mode_said_by(text: &str) -> Option<Mode>
+    ensures { result ≡ mode_said text.now }
+{
+    match text {
+        "blind" => Some(Mode::Blind),
+        "aware" => Some(Mode::Aware),
+        _ => None,
+    }
+}
+
+/// The moment at which a meter begins, 0 where none is given.
+fn origin_said_by(text: Option<&str>) -> Option<Moment>
+    ensures { result ≡ origin_said (option_map (λ text. text.now) text.entry) }
+{
+    match text {
+        Some(text) => moment_said_by(text),
+        None => Moment::new(0).ok(),
+    }
+}
+
+/// The moment that a text says, in nanoseconds.
+#[tactic(auto, unfolding(crate::specs::Options::number_within))]
+fn moment_said_by(text: &str) -> Option<Moment>
+    ensures { result ≡ moment_said text.now }
+{
+    Moment::new(number(text.as_bytes(), u64::MAX)?).ok()
+}
+
+/// The rate that a text says, in bits per second.
+#[tactic(auto, unfolding(crate::specs::Options::number_within))]
+fn rate_said_by(text: &str) -> Option<Rate>
+    ensures { result ≡ rate_said text.now }
+{
+    Rate::new(number(text.as_bytes(), u64::MAX)?).ok()
+}
+
+/// The burst size that a text says, in bytes.
+#[tactic(auto, unfolding(crate::specs::Options::number_within))]
+fn burst_said_by(text: &str) -> Option<u32>
+    ensures { result ≡ burst_said text.now }
+{
+    u32::try_from(number(text.as_bytes(), u64::MAX)?).ok()
+}

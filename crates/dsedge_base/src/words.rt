@@ -1,0 +1,58 @@
+ghost use Rattle.std.specs.Prelude.{◌≡◌, ◌≢◌, IfErr, IfOk, map, option_and_then};
+ghost use Rattle.clap.specs.Words.{found_of, kind_of, rows_of, subcommand_rows_of};
+ghost use Rattle.dsedge_base.specs.Plans.{IsHelp, IsPlanOf, IsRefusalOf, plan_of};
+
+use crate::command_line::command_line;
+use crate::fault::UsageFault;
+use crate::options::meter_in;
+use crate::work::Plan;
+use clap::error::ErrorKind;
+use clap::{ArgMatches, Error};
+use std::alloc::Global;
+use std::convert::AsStr;
+
+/// What the words of a command line ask for, the name of the program left out.
+///
+/// Refused: `Usage` for words that are not those of a command with options of its own, each given once and in its
+/// range, and for parameters that a meter refuses; `NoMemory` where memory runs out.
+pub fn plan<'a, S: AsStr>(alloc: Global, words: &'a [S]) -> Result<Plan, UsageFault>
+    ensures ok { IfOk result (IsPlanOf (map S.text words.entry.now)) }
+    ensures err { IfErr result (IsRefusalOf (map S.text words.entry.now)) }
+{
+    let command = command_line(alloc)?;
+    match command.try_get_matches_from(words) {
+        Ok(matches) => asked_by(&matches).ok_or(UsageFault::Usage),
+        Err(error) => answer_to(alloc, &error),
+    }
+}
+
+/// What a command line that is well formed asks for.
+fn asked_by(matches: &ArgMatches<'_>) -> Option<Plan>
+    ensures { result ≡ option_and_then plan_of (subcommand_rows_of matches.now) }
+{
+    let (name, options) = matches.subcommand()?;
+    asked_of(name, options)
+}
+
+/// What a command asks for with its options.
+fn asked_of(name: &str, options: &ArgMatches<'_>) -> Option<Plan>
+    ensures { result ≡ plan_of (name.now, rows_of (found_of options.now)) }
+{
+    match name {
+        "meter" => Some(Plan::Meter(meter_in(options)?)),
+        _ => None,
+    }
+}
+
+/// The help that was asked for, or why words are refused.
+fn answer_to(alloc: Global, error: &Error) -> Result<Plan, UsageFault>
+    ensures help { IfOk result (λ plan. (kind_of error.now ≡ ErrorKind.DisplayHelp) × IsHelp plan) }
+    ensures usage { IfErr result (λ fault. fault ≡ UsageFault.Usage
+        → (kind_of error.now ≢ ErrorKind.DisplayHelp) × (kind_of error.now ≢ ErrorKind.OutOfMemory)) }
+{
+    match error.kind() {
+        ErrorKind::DisplayHelp => Ok(Plan::Help(format!(in alloc; "{error}")?)),
+        ErrorKind::OutOfMemory => Err(UsageFault::NoMemory),
+        _ => Err(UsageFault::Usage),
+    }
+}
