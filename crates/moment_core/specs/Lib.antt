@@ -1,4 +1,5 @@
 pub mod Colours
 pub mod Conformance
+pub mod Excess
 pub mod Metering
 pub mod Tokens
