@@ -10,7 +10,10 @@ use Rattle.moment_core.specs.Metering.{Departure, How, Offer, Rules, State, afte
 use Rattle.moment_core.specs.declared.colour.Colour.{Colour}
 use Rattle.moment_core.specs.declared.colour.Mode.{Mode}
 use Rattle.moment_core.specs.declared.colour.Mode.TheVariants.{Aware}
+use Rattle.moment_core.specs.Tokens.{given}
+use Rattle.moment_core.proofs.FillingLaws.{given-window, given-window_of_two}
 use Rattle.moment_core.proofs.MeteringLaws.{newest_le-used}
+use Rattle.moment_core.proofs.TokenLaws.{given-mono}
 
 -- a meter whose rules never improve a colour never does so where it heeds the colour
 pub never_improves : {P L : Type 0} (rules : Rules P L) → ((l : L) (size : ℕ) (came : Colour) → IsNoBetter came (rules.coloured l size came))
@@ -134,6 +137,39 @@ funded rules fits picked level size given gains within pays stays m ok (o ∷ os
        within = omega (arith, paid, within m o.moment ok);
      },
      funded rules fits picked level size given gains within pays stays (after rules m o) (stays m o ok) os)
+
+-- so where the fund is filled at one rate, the output keeps that rate, and a byte more than its size as a burst
+pub Keeps-one_rate : {P L : Type 0} (rules : Rules P L) (fits : State P L → Type 0) (picked : Colour → Bool) (level : L → ℕ) (size rate : P → ℕ)
+    → ((m : State P L) (moment : ℕ) → level (levels_at rules m (used m.newest moment)) ≤ level m.levels + (given (rate m.parameters) m.origin (used m.newest moment) - given (rate m.parameters) m.origin m.newest))
+    → ((m : State P L) (moment : ℕ) → fits m → level (levels_at rules m (used m.newest moment)) ≤ size m.parameters)
+    → ((l : L) (bytes : ℕ) (came : Colour) → level (rules.without l bytes (rules.coloured l bytes came)) + cond (picked (rules.coloured l bytes came)) bytes 0 ≤ level l)
+    → ((m : State P L) (o : Offer) → fits m → fits (after rules m o))
+    → (m : State P L) → fits m → (offers : List Offer)
+    → Keeps (rate m.parameters) (size m.parameters + 1) (output picked (departures (how rules) m offers))
+Keeps-one_rate rules fits picked level size rate gains within pays stays m ok offers =
+    let r = rate m.parameters in
+    let b = size m.parameters in
+    Keeps-Funded (given r m.origin) (given-mono r m.origin) b r (b + 1) (λ s e h. omega (arith, given-window r m.origin s e h)) picked m.newest (level m.levels)
+    (departures (how rules) m offers) (funded rules fits picked level size (λ p. given (rate p)) gains within pays stays m ok offers)
+
+-- and where it is filled at two, both rates, and two bytes more
+pub Keeps-two_rates : {P L : Type 0} (rules : Rules P L) (fits : State P L → Type 0) (picked : Colour → Bool) (level : L → ℕ) (size rate other : P → ℕ)
+    → ((m : State P L) (moment : ℕ) → level (levels_at rules m (used m.newest moment))
+    ≤ level m.levels
+    + ((given (rate m.parameters) m.origin (used m.newest moment) + given (other m.parameters) m.origin (used m.newest moment))
+    - (given (rate m.parameters) m.origin m.newest + given (other m.parameters) m.origin m.newest)))
+    → ((m : State P L) (moment : ℕ) → fits m → level (levels_at rules m (used m.newest moment)) ≤ size m.parameters)
+    → ((l : L) (bytes : ℕ) (came : Colour) → level (rules.without l bytes (rules.coloured l bytes came)) + cond (picked (rules.coloured l bytes came)) bytes 0 ≤ level l)
+    → ((m : State P L) (o : Offer) → fits m → fits (after rules m o))
+    → (m : State P L) → fits m → (offers : List Offer)
+    → Keeps (rate m.parameters + other m.parameters) (size m.parameters + 2) (output picked (departures (how rules) m offers))
+Keeps-two_rates rules fits picked level size rate other gains within pays stays m ok offers =
+    let r = rate m.parameters in
+    let q = other m.parameters in
+    let b = size m.parameters in
+    Keeps-Funded (λ t. given r m.origin t + given q m.origin t) (λ s e h. omega (arith, given-mono r m.origin s e h, given-mono q m.origin s e h)) b (r + q) (b + 2)
+    (λ s e h. omega (arith, given-window_of_two r q m.origin s e h)) picked m.newest (level m.levels) (departures (how rules) m offers)
+    (funded rules fits picked level size (λ p o t. given (rate p) o t + given (other p) o t) gains within pays stays m ok offers)
 
 -- no packet is metered before the meter's newest moment
 pub departures_later : {S : Type 0} (h : How S) → ((m : S) (o : Offer) → h.newest (h.after m o) ≡ used (h.newest m) o.moment)
