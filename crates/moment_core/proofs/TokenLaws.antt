@@ -32,7 +32,7 @@ pub with_token-at : (size level : ℕ) → size ≤ level → with_token size le
 unfolding with_token
 with_token-at size level full = grind (arith, nat_tests)
 
-with_tokens-none : (size level : ℕ) → with_tokens size 0 level ≡ level
+pub with_tokens-none : (size level : ℕ) → with_tokens size 0 level ≡ level
 unfolding with_tokens
 with_tokens-none size level = refl
 
