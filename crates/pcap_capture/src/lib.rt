@@ -4,6 +4,8 @@
 mod adaptor;
 mod device;
 mod memory;
+#[cfg(test)]
+mod tests;
 
 pub use adaptor::{ReadIntake, WriteOutlet};
 pub use device::{DeviceFault, Intake, Outlet};
