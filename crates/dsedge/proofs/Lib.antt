@@ -1,2 +1,3 @@
 pub mod ArrivalLemmas
+pub mod FrontLemmas
 pub mod MeteredLaws

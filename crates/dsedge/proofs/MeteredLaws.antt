@@ -61,12 +61,12 @@ ending_of-more number room arrivals lines h =
     elim (cases_lt room (suc arrivals)) [
       | inl over ↦ ending_of-full number room (suc arrivals) (suc lines) over ∙ sym (ending_of-full (number + 1) (room - 1) arrivals lines (omega arith))
       | inr fits ↦ elim (cases_lt arrivals lines) [
-          | inl short ↦
+        | inl short ↦
             let place : number + suc arrivals ≡ number + 1 + arrivals = omega arith in
             ending_of-short number room (suc arrivals) (suc lines) fits (omega arith)
             ∙ (ap (λ n. BadLine n) place ∙ sym (ending_of-short (number + 1) (room - 1) arrivals lines (omega arith) short))
-          | inr all ↦ ending_of-whole number room (suc arrivals) (suc lines) fits (omega arith) ∙ sym (ending_of-whole (number + 1) (room - 1) arrivals lines (omega arith) all)
-        ]
+        | inr all ↦ ending_of-whole number room (suc arrivals) (suc lines) fits (omega arith) ∙ sym (ending_of-whole (number + 1) (room - 1) arrivals lines (omega arith) all)
+      ]
     ]
 
 answer_to-none : (book : Book) (number lines : ℕ) → 0 < lines → answer_to book number lines [] ≡ record { text = []; ending = BadLine number }
@@ -92,7 +92,7 @@ answer_to-more book number lines a more room =
     let less : book.capacity - length (book.arrivals ++ a ∷ []) ≡ book.capacity - length book.arrivals - 1 = omega (arith, length-append {A = Arrival}) in
     let place : length (book.arrivals ++ a ∷ []) ≡ length book.arrivals + 1 = omega (arith, length-append {A = Arrival}) in
     rw (take-suc (book.capacity - length book.arrivals) a more some, ending_of-more number (book.capacity - length book.arrivals) (length more) lines some, less, place, meter_after-push book.opening book.arrivals a)
-      (simp append_assoc)
+    (simp append_assoc)
 
 pub answer_of-bad : (book : Book) (number : ℕ) (line : List ℕ) (later : List (List ℕ)) → arrival_in number line ≡ None
     → answer_of book number (line ∷ later) ≡ record { text = []; ending = BadLine number }

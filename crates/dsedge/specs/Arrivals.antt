@@ -9,7 +9,7 @@ use Rattle.moment_core.specs.declared.colour.Colour.TheVariants.{Green, Yellow, 
 -- the colour of a letter: g is 103, y is 121, r is 114
 abbrev pub colour_of_letter : ℕ → Option Colour
 colour_of_letter letter =
-  if letter == 103 then Some Green else if letter == 121 then Some Yellow else if letter == 114 then Some Red else None
+    if letter == 103 then Some Green else if letter == 121 then Some Yellow else if letter == 114 then Some Red else None
 
 -- a field that is one letter names a colour
 abbrev pub colour_named : List ℕ → Option Colour
@@ -25,7 +25,7 @@ arrival_of_fields number (at ∷ bytes ∷ letter ∷ []) =
     option_and_then (λ moment.
     option_and_then (λ size.
     option_and_then (λ came. Some (record { flow = 0; packet = number; hop = 0; moment = moment; size = size; came = came }))
-      (colour_named letter)) (size_in bytes)) (number_of (2 ^ 63 - 1) at)
+    (colour_named letter)) (size_in bytes)) (number_of (2 ^ 63 - 1) at)
 arrival_of_fields number _ = None
 
 -- the arrival that a line says: moment, size and colour, one space apart; the number of the line is the packet's

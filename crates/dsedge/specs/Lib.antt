@@ -1,2 +1,5 @@
 pub mod Arrivals
+pub mod Books
+pub mod Faults
 pub mod Metered
+pub mod Served

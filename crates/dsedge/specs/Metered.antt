@@ -36,7 +36,7 @@ accounts_text_of a =
 -- and there is room for so many
 unfoldable pub ending_of : ℕ → ℕ → ℕ → ℕ → Ending
 ending_of number room arrivals lines =
-  if nat_lt room arrivals then Full else if nat_lt arrivals lines then BadLine (number + arrivals) else Whole
+    if nat_lt room arrivals then Full else if nat_lt arrivals lines then BadLine (number + arrivals) else Whole
 
 -- the accounts, where the whole input was answered
 abbrev pub closing : Ending → List Row → List ℕ

@@ -2,6 +2,28 @@
 #![tactic(auto)]
 
 mod arrivals;
+mod fault;
 mod meter;
+mod serve;
+mod start;
 
-fn main() {}
+use crate::start::start;
+use pcap_capture::{ReadIntake, WriteOutlet};
+use std::process::ExitCode;
+use std::{env, io};
+
+fn main(rt: HostRuntime) -> io::Result<ExitCode> {
+    let alloc = rt.alloc();
+    let mut words = Vec::new(alloc);
+    for word in env::args(&rt)?.skip(1) {
+        words.push(word)?;
+    }
+    let status = start(
+        alloc,
+        words,
+        &mut ReadIntake::new(rt.stdin()),
+        &mut WriteOutlet::new(rt.stdout()),
+        &mut WriteOutlet::new(rt.stderr()),
+    );
+    Ok(ExitCode::from(status))
+}

@@ -28,12 +28,7 @@ fn colour_line(colour: Colour) -> &'static [u8]
 }
 
 /// Writes a line of the accounts: a colour's name, its packets and its bytes.
-fn push_account(
-    text: &mut Vec<u8>,
-    name: &str,
-    packets: u64,
-    bytes: u64,
-) -> Result<(), AllocError>
+fn push_account(text: &mut Vec<u8>, name: &str, packets: u64, bytes: u64) -> Result<(), AllocError>
     ensures { OnOk result (text.new.items ≡ text.old.items ++ account_line name.now packets bytes) }
 {
     text.extend_from_slice(name.as_bytes())?;
@@ -57,8 +52,12 @@ fn accounts_text(alloc: Global, accounts: &Accounts) -> Result<Vec<u8>, AllocErr
 }
 
 impl MeterCommand {
+    ghost use Rattle.dsedge.specs.Books.{fresh_book};
+
     /// The command over a fresh book of a meter.
-    pub fn new(alloc: Global, meter: AnyMeter) -> Self {
+    pub fn new(alloc: Global, meter: AnyMeter) -> Self
+        ensures { result.book ≡ fresh_book meter }
+    {
         MeterCommand {
             alloc,
             book: MeterBook::new(alloc, meter, Gap::NONE, MeterBook::MOST_ROWS),

@@ -6,7 +6,7 @@ use pcap_capture::{DeviceFault, Outlet};
 /// Gives an outlet a whole text.
 ///
 /// A fault leaves a front of the text given.
-fn give_all<O: Outlet>(outlet: &mut O, text: &[u8]) -> Result<(), DeviceFault>
+pub fn give_all<O: Outlet>(outlet: &mut O, text: &[u8]) -> Result<(), DeviceFault>
     ensures told { O.tells outlet.old → O.tells outlet.new }
     ensures bytes { O.tells outlet.old → MatchResult result
         (λ _. O.held outlet.new ≡ O.held outlet.old ++ text.now)

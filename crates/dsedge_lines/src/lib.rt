@@ -13,4 +13,5 @@ mod words;
 pub use command::{Command, Ending};
 pub use engine::pump;
 pub use fault::PumpFault;
+pub use hand_over::give_all;
 pub use words::{FirstLineFault, Words, first_line};
