@@ -115,7 +115,8 @@ impl Gap {
         ensures value { result ≡ self }
         ensures range { result < 2 ^ 63 }
     {
-        self.nanoseconds
+        let Gap { nanoseconds } = self;
+        nanoseconds
     }
 }
 

@@ -16,7 +16,7 @@ pub struct Rfc4115Parameters {
     pub excess_burst: u32,
 }
 
-/// Why parameters are not those of a meter with excess rates: a meter that never admits is no meter.
+/// Why parameters are not those of a meter: with bursts of 0 alone it would admit nothing.
 #[derive(Clone, Copy, Debug, PartialEq, Eq, Hash, Drop, Error)]
 pub enum Rfc4115Fault {
     /// Both burst sizes are 0.
