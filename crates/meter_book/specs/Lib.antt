@@ -1,4 +1,6 @@
 pub mod AnyMeter
+pub mod Envelopes
 pub mod Kept
+pub mod OutputLaws
 pub mod Replay
 pub mod Tallies

@@ -5,6 +5,7 @@ pub mod accounts;
 pub mod any_meter;
 pub mod book;
 pub mod journal;
+pub mod meter;
 pub mod row;
 mod tally;
 
@@ -12,4 +13,5 @@ pub use accounts::Accounts;
 pub use any_meter::{AnyMeter, MeterFault, Parameters};
 pub use book::{MeterBook, NoteFault};
 pub use journal::Journal;
+pub use meter::Meter;
 pub use row::{Arrival, Row};
