@@ -3,14 +3,20 @@ ghost use Rattle.moment_core.specs.Metering.{How};
 
 use crate::row::{Arrival, Row};
 use moment_core::{Colour, Mode, Moment, PacketSize};
+use rfc4115_core::{Rfc4115, Rfc4115Fault, Rfc4115Parameters};
+use srtcm_core::{SrTcm, SrTcmFault, SrTcmParameters};
 use thiserror::Error;
 use trtcm_core::{TrTcm, TrTcmFault, TrTcmParameters};
 
 /// The parameters of a meter of any kind.
 #[derive(Clone, Copy, Debug, PartialEq, Eq, Hash)]
 pub enum Parameters {
+    /// Those of a single-rate three-colour meter (RFC 2697).
+    SrTcm(SrTcmParameters),
     /// Those of a two-rate three-colour meter (RFC 2698).
     TrTcm(TrTcmParameters),
+    /// Those of a two-rate three-colour meter with a committed and an excess rate (RFC 4115).
+    Rfc4115(Rfc4115Parameters),
 }
 
 /// Why parameters are not those of a meter.
@@ -40,8 +46,49 @@ impl MeterFault {
 /// A meter of any kind, at work.
 #[derive(Clone, Copy, Debug, PartialEq, Eq, Hash)]
 pub enum AnyMeter {
+    /// A single-rate three-colour meter (RFC 2697).
+    SrTcm(SrTcm),
     /// A two-rate three-colour meter (RFC 2698).
     TrTcm(TrTcm),
+    /// A two-rate three-colour meter with a committed and an excess rate (RFC 4115).
+    Rfc4115(Rfc4115),
+}
+
+impl From<SrTcmFault> for MeterFault {
+    ghost use Rattle.meter_book.specs.AnyMeter.{fault_of_single_rate};
+
+    ghost from_gives = { λ fault own. fault_of_single_rate (Some fault) ≡ Some own };
+
+    fn from(fault: SrTcmFault) -> Self {
+        match fault {
+            SrTcmFault::SizeZero => MeterFault::SizeZero,
+        }
+    }
+}
+
+impl From<TrTcmFault> for MeterFault {
+    ghost use Rattle.meter_book.specs.AnyMeter.{fault_of_two_rate};
+
+    ghost from_gives = { λ fault own. fault_of_two_rate (Some fault) ≡ Some own };
+
+    fn from(fault: TrTcmFault) -> Self {
+        match fault {
+            TrTcmFault::SizeZero => MeterFault::SizeZero,
+            TrTcmFault::PeakBelowCommitted => MeterFault::PeakBelowCommitted,
+        }
+    }
+}
+
+impl From<Rfc4115Fault> for MeterFault {
+    ghost use Rattle.meter_book.specs.AnyMeter.{fault_of_separate_rates};
+
+    ghost from_gives = { λ fault own. fault_of_separate_rates (Some fault) ≡ Some own };
+
+    fn from(fault: Rfc4115Fault) -> Self {
+        match fault {
+            Rfc4115Fault::SizeZero => MeterFault::SizeZero,
+        }
+    }
 }
 
 impl Parameters {
@@ -51,11 +98,10 @@ impl Parameters {
     pub fn fault(&self) -> Option<MeterFault>
         ensures { result ≡ fault_of self.now }
     {
-        let Parameters::TrTcm(parameters) = self;
-        match parameters.fault() {
-            None => None,
-            Some(TrTcmFault::SizeZero) => Some(MeterFault::SizeZero),
-            Some(TrTcmFault::PeakBelowCommitted) => Some(MeterFault::PeakBelowCommitted),
+        match self {
+            Parameters::SrTcm(parameters) => parameters.fault().map(MeterFault::from),
+            Parameters::TrTcm(parameters) => parameters.fault().map(MeterFault::from),
+            Parameters::Rfc4115(parameters) => parameters.fault().map(MeterFault::from),
         }
     }
 }
@@ -70,20 +116,22 @@ impl AnyMeter {
             (λ meter. (fault_of parameters ≡ None) × (meter ≡ opening_of parameters mode origin))
             (λ fault. fault_of parameters ≡ Some fault) }
     {
-        let Parameters::TrTcm(parameters) = parameters;
-        match TrTcm::new(parameters, mode, origin) {
-            Ok(meter) => Ok(AnyMeter::TrTcm(meter)),
-            Err(TrTcmFault::SizeZero) => Err(MeterFault::SizeZero),
-            Err(TrTcmFault::PeakBelowCommitted) => Err(MeterFault::PeakBelowCommitted),
-        }
+        Ok(match parameters {
+            Parameters::SrTcm(own) => AnyMeter::SrTcm(SrTcm::new(own, mode, origin)?),
+            Parameters::TrTcm(own) => AnyMeter::TrTcm(TrTcm::new(own, mode, origin)?),
+            Parameters::Rfc4115(own) => AnyMeter::Rfc4115(Rfc4115::new(own, mode, origin)?),
+        })
     }
 
     /// The newest moment that it metered at: its origin at first.
     pub fn newest(&self) -> Moment
         ensures { result ≡ newest_of self.now }
     {
-        let AnyMeter::TrTcm(meter) = self;
-        meter.newest()
+        match self {
+            AnyMeter::SrTcm(meter) => meter.newest(),
+            AnyMeter::TrTcm(meter) => meter.newest(),
+            AnyMeter::Rfc4115(meter) => meter.newest(),
+        }
     }
 
     /// Meters a packet by the rules of its kind, and answers the colour that it leaves with.
@@ -91,8 +139,11 @@ impl AnyMeter {
         ensures colour { result ≡ left_of self.old (record { moment = moment; size = size; came = colour }) }
         ensures after { self.new ≡ after_any self.old (record { moment = moment; size = size; came = colour }) }
     {
-        let AnyMeter::TrTcm(meter) = self;
-        meter.admit(moment, size, colour)
+        match self {
+            AnyMeter::SrTcm(meter) => meter.admit(moment, size, colour),
+            AnyMeter::TrTcm(meter) => meter.admit(moment, size, colour),
+            AnyMeter::Rfc4115(meter) => meter.admit(moment, size, colour),
+        }
     }
 
     /// Meters an arrival, and answers its row, at a place.

@@ -5,6 +5,9 @@ pub mod accounts;
 pub mod any_meter;
 pub mod book;
 pub mod journal;
+pub mod laws;
+pub mod meter;
+pub mod metering;
 pub mod row;
 mod tally;
 
@@ -12,4 +15,6 @@ pub use accounts::Accounts;
 pub use any_meter::{AnyMeter, MeterFault, Parameters};
 pub use book::{MeterBook, NoteFault};
 pub use journal::Journal;
+pub use meter::Meter;
+pub use metering::meter_all;
 pub use row::{Arrival, Row};

@@ -40,6 +40,8 @@ impl Model for Rfc4115 {
 }
 
 impl Rfc4115 {
+    ghost use Rattle.rfc4115_core.specs.Sizes.{IsWithinSizes};
+
     /// A meter with full buckets at its origin.
     ///
     /// Refused: `SizeZero` where both burst sizes are 0.
@@ -65,6 +67,21 @@ impl Rfc4115 {
                 excess_given: 0,
             }),
         }
+    }
+
+    /// The parameters that it was made with. Its buckets are within their sizes at all times.
+    pub fn parameters(&self) -> Rfc4115Parameters
+        ensures value { result ≡ self.now.parameters }
+        ensures within { IsWithinSizes self.now }
+    {
+        self.parameters
+    }
+
+    /// Whether it heeds the colour that a packet comes in with.
+    pub fn mode(&self) -> Mode
+        ensures { result ≡ self.now.mode }
+    {
+        self.mode
     }
 
     /// The newest moment that it metered at: its origin at first.

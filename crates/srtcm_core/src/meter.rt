@@ -39,6 +39,8 @@ impl Model for SrTcm {
 }
 
 impl SrTcm {
+    ghost use Rattle.srtcm_core.specs.Sizes.{IsWithinSizes};
+
     /// A meter with full buckets at its origin.
     ///
     /// Refused: `SizeZero` where both burst sizes are 0 (RFC 2697 section 2).
@@ -59,6 +61,21 @@ impl SrTcm {
                 committed_given: 0,
             }),
         }
+    }
+
+    /// The parameters that it was made with. Its buckets are within their sizes at all times.
+    pub fn parameters(&self) -> SrTcmParameters
+        ensures value { result ≡ self.now.parameters }
+        ensures within { IsWithinSizes self.now }
+    {
+        self.parameters
+    }
+
+    /// Whether it heeds the colour that a packet comes in with.
+    pub fn mode(&self) -> Mode
+        ensures { result ≡ self.now.mode }
+    {
+        self.mode
     }
 
     /// The newest moment that it metered at: its origin at first.

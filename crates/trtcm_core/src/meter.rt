@@ -38,6 +38,8 @@ impl Model for TrTcm {
 }
 
 impl TrTcm {
+    ghost use Rattle.trtcm_core.specs.Sizes.{IsWithinSizes};
+
     /// A meter with full buckets at its origin.
     ///
     /// Refused: `SizeZero` where a burst size is 0, else `PeakBelowCommitted` where the peak rate is below the
@@ -60,6 +62,21 @@ impl TrTcm {
                 peak_given: 0,
             }),
         }
+    }
+
+    /// The parameters that it was made with. Its buckets are within their sizes at all times.
+    pub fn parameters(&self) -> TrTcmParameters
+        ensures value { result ≡ self.now.parameters }
+        ensures within { IsWithinSizes self.now }
+    {
+        self.parameters
+    }
+
+    /// Whether it heeds the colour that a packet comes in with.
+    pub fn mode(&self) -> Mode
+        ensures { result ≡ self.now.mode }
+    {
+        self.mode
     }
 
     /// The newest moment that it metered at: its origin at first.

@@ -1,0 +1,292 @@
+ghost use Rattle.std.specs.Prelude.{◌≡◌, ◌≤◌, ◌^◌, List};
+ghost use Rattle.moment_core.specs.Colours.{IsNoBetter, is_green, is_in_profile, output};
+ghost use Rattle.moment_core.specs.Metering.{How, Offer, departures, used};
+ghost use Rattle.envelope_core.specs.Curve.{Curve, KeepsCurve};
+
+use crate::any_meter::AnyMeter;
+use envelope_core::Envelope;
+use moment_core::{Colour, Mode, Moment, PacketSize};
+use rfc4115_core::Rfc4115;
+use srtcm_core::SrTcm;
+use trtcm_core::TrTcm;
+
+/// A three-colour meter: how it meters, and what its output keeps.
+///
+/// Two laws hold of every meter: one that is aware never improves a colour, and what leaves it keeps its envelopes by
+/// the moments that it metered at, blind or aware, whatever arrives.
+pub trait Meter {
+    ghost use Rattle.moment_core.specs.declared.colour.Mode.{Mode};
+    ghost use Rattle.moment_core.specs.declared.colour.Mode.TheVariants.{Aware};
+
+    ghost how: { How Self };
+
+    ghost mode_of: { Self → Mode };
+
+    ghost green_curve: { Self → Curve };
+
+    ghost all_curve: { Self → Curve };
+
+    ghost fits: { Self → Type 0 };
+
+    /// Meters a packet that comes in with a colour, and answers the colour that it leaves with. A moment before the
+    /// newest one counts as the newest.
+    fn admit(&mut self, moment: Moment, size: PacketSize, colour: Colour) -> Colour
+        ensures colour { result ≡ how.left self.old (record { moment = moment; size = size; came = colour }) }
+        ensures after { self.new ≡ how.after self.old (record { moment = moment; size = size; came = colour }) };
+
+    /// The newest moment that it metered at: its origin at first.
+    fn newest(&self) -> Moment
+        ensures { result ≡ how.newest self.now };
+
+    /// Whether it heeds the colour that a packet comes in with.
+    fn mode(&self) -> Mode
+        ensures { result ≡ mode_of self.now };
+
+    /// The envelope of what leaves it green.
+    fn green_envelope(&self) -> Envelope
+        ensures curve { result ≡ green_curve self.now }
+        ensures fits { fits self.now };
+
+    /// The envelope of what leaves it green or yellow.
+    fn all_envelope(&self) -> Envelope
+        ensures curve { result ≡ all_curve self.now }
+        ensures fits { fits self.now };
+
+    ghost never_improves: { (m : Self) (o : Offer) → mode_of m ≡ Aware → IsNoBetter o.came (how.left m o) };
+
+    ghost output_keeps: { (m : Self) → fits m → (offers : List Offer)
+        → KeepsCurve (green_curve m) (output is_green (departures how m offers)) × KeepsCurve (all_curve m) (output is_in_profile (departures how m offers)) };
+
+    ghost stays_fit: { (m : Self) (o : Offer) → fits m → fits (how.after m o) };
+
+    ghost goes_on: { (m : Self) (o : Offer) → how.newest (how.after m o) ≡ used (how.newest m) o.moment };
+
+    ghost stays_itself: { (m : Self) (o : Offer)
+        → (mode_of (how.after m o) ≡ mode_of m) × (green_curve (how.after m o) ≡ green_curve m) × (all_curve (how.after m o) ≡ all_curve m) };
+}
+
+/// The envelope of a rate in bits per second and a burst in bytes that are in its range.
+fn envelope(rate: u64, burst: u64) -> Envelope
+    requires rate { rate ≤ 10 ^ 17 }
+    requires burst { burst ≤ 10 ^ 19 }
+    ensures { result ≡ record { rate = rate; burst = burst } }
+{
+    Envelope::new(rate, burst).unwrap()
+}
+
+impl Meter for SrTcm {
+    ghost use Rattle.moment_core.specs.Metering as metering;
+    ghost use Rattle.srtcm_core.specs.SingleRate.{single_rate};
+    ghost use Rattle.srtcm_core.specs.Sizes.{IsWithinSizes};
+    ghost use Rattle.srtcm_core.proofs.OutputLaws.{IsWithinSizes-after, green_keeps, in_profile_keeps};
+    ghost use Rattle.srtcm_core.proofs.OutputLaws as laws;
+    ghost use Rattle.meter_book.specs.Envelopes.{single_rate_all, single_rate_green};
+    ghost use Rattle.meter_book.specs.OutputLaws.{goes_on_by, stays_itself_by};
+
+    ghost how = { metering.how single_rate };
+
+    ghost mode_of = { λ m. m.mode };
+
+    ghost green_curve = { λ m. single_rate_green m.parameters };
+
+    ghost all_curve = { λ m. single_rate_all m.parameters };
+
+    ghost fits = { IsWithinSizes };
+
+    fn admit(&mut self, moment: Moment, size: PacketSize, colour: Colour) -> Colour {
+        SrTcm::admit(self, moment, size, colour)
+    }
+
+    fn newest(&self) -> Moment {
+        SrTcm::newest(self)
+    }
+
+    fn mode(&self) -> Mode {
+        SrTcm::mode(self)
+    }
+
+    fn green_envelope(&self) -> Envelope {
+        let own = self.parameters();
+        envelope(own.committed_rate.get(), u64::from(own.committed_burst) + 1)
+    }
+
+    fn all_envelope(&self) -> Envelope {
+        let own = self.parameters();
+        let bursts = u64::from(own.committed_burst) + u64::from(own.excess_burst);
+        envelope(own.committed_rate.get(), bursts + 1)
+    }
+
+    ghost never_improves = { laws.never_improves };
+
+    ghost output_keeps = { λ m fit offers. (green_keeps m fit offers, in_profile_keeps m fit offers) };
+
+    ghost stays_fit = { IsWithinSizes-after };
+
+    ghost goes_on = { goes_on_by single_rate };
+
+    ghost stays_itself = { stays_itself_by single_rate single_rate_green single_rate_all };
+}
+
+impl Meter for TrTcm {
+    ghost use Rattle.moment_core.specs.Metering as metering;
+    ghost use Rattle.trtcm_core.specs.TwoRate.{two_rate};
+    ghost use Rattle.trtcm_core.specs.Sizes.{IsWithinSizes};
+    ghost use Rattle.trtcm_core.proofs.OutputLaws.{IsWithinSizes-after, green_keeps, in_profile_keeps};
+    ghost use Rattle.trtcm_core.proofs.OutputLaws as laws;
+    ghost use Rattle.meter_book.specs.Envelopes.{two_rate_all, two_rate_green};
+    ghost use Rattle.meter_book.specs.OutputLaws.{goes_on_by, stays_itself_by};
+
+    ghost how = { metering.how two_rate };
+
+    ghost mode_of = { λ m. m.mode };
+
+    ghost green_curve = { λ m. two_rate_green m.parameters };
+
+    ghost all_curve = { λ m. two_rate_all m.parameters };
+
+    ghost fits = { IsWithinSizes };
+
+    fn admit(&mut self, moment: Moment, size: PacketSize, colour: Colour) -> Colour {
+        TrTcm::admit(self, moment, size, colour)
+    }
+
+    fn newest(&self) -> Moment {
+        TrTcm::newest(self)
+    }
+
+    fn mode(&self) -> Mode {
+        TrTcm::mode(self)
+    }
+
+    fn green_envelope(&self) -> Envelope {
+        let own = self.parameters();
+        envelope(own.committed_rate.get(), u64::from(own.committed_burst) + 1)
+    }
+
+    fn all_envelope(&self) -> Envelope {
+        let own = self.parameters();
+        envelope(own.peak_rate.get(), u64::from(own.peak_burst) + 1)
+    }
+
+    ghost never_improves = { laws.never_improves };
+
+    ghost output_keeps = { λ m fit offers. (green_keeps m fit offers, in_profile_keeps m fit offers) };
+
+    ghost stays_fit = { IsWithinSizes-after };
+
+    ghost goes_on = { goes_on_by two_rate };
+
+    ghost stays_itself = { stays_itself_by two_rate two_rate_green two_rate_all };
+}
+
+impl Meter for Rfc4115 {
+    ghost use Rattle.moment_core.specs.Metering as metering;
+    ghost use Rattle.rfc4115_core.specs.SeparateRates.{separate_rates};
+    ghost use Rattle.rfc4115_core.specs.Sizes.{IsWithinSizes};
+    ghost use Rattle.rfc4115_core.proofs.OutputLaws.{IsWithinSizes-after, green_keeps, in_profile_keeps};
+    ghost use Rattle.rfc4115_core.proofs.OutputLaws as laws;
+    ghost use Rattle.meter_book.specs.Envelopes.{excess_rate_all, excess_rate_green};
+    ghost use Rattle.meter_book.specs.OutputLaws.{goes_on_by, stays_itself_by};
+
+    ghost how = { metering.how separate_rates };
+
+    ghost mode_of = { λ m. m.mode };
+
+    ghost green_curve = { λ m. excess_rate_green m.parameters };
+
+    ghost all_curve = { λ m. excess_rate_all m.parameters };
+
+    ghost fits = { IsWithinSizes };
+
+    fn admit(&mut self, moment: Moment, size: PacketSize, colour: Colour) -> Colour {
+        Rfc4115::admit(self, moment, size, colour)
+    }
+
+    fn newest(&self) -> Moment {
+        Rfc4115::newest(self)
+    }
+
+    fn mode(&self) -> Mode {
+        Rfc4115::mode(self)
+    }
+
+    fn green_envelope(&self) -> Envelope {
+        let own = self.parameters();
+        envelope(own.committed_rate.get(), u64::from(own.committed_burst) + 1)
+    }
+
+    fn all_envelope(&self) -> Envelope {
+        let own = self.parameters();
+        let bursts = u64::from(own.committed_burst) + u64::from(own.excess_burst);
+        envelope(own.committed_rate.get() + own.excess_rate.get(), bursts + 2)
+    }
+
+    ghost never_improves = { laws.never_improves };
+
+    ghost output_keeps = { λ m fit offers. (green_keeps m fit offers, in_profile_keeps m fit offers) };
+
+    ghost stays_fit = { IsWithinSizes-after };
+
+    ghost goes_on = { goes_on_by separate_rates };
+
+    ghost stays_itself = { stays_itself_by separate_rates excess_rate_green excess_rate_all };
+}
+
+impl Meter for AnyMeter {
+    ghost use Rattle.meter_book.specs.AnyMeter.{how_any};
+    ghost use Rattle.meter_book.specs.Envelopes.{IsFit, all_of, green_of};
+    ghost use Rattle.meter_book.specs.Envelopes as envelopes;
+    ghost use Rattle.meter_book.specs.OutputLaws.{IsFit-after, all_keeps-any, goes_on-any, green_keeps-any, never_improves-any, stays_itself-any};
+
+    ghost how = { how_any };
+
+    ghost mode_of = { envelopes.mode_of };
+
+    ghost green_curve = { green_of };
+
+    ghost all_curve = { all_of };
+
+    ghost fits = { IsFit };
+
+    fn admit(&mut self, moment: Moment, size: PacketSize, colour: Colour) -> Colour {
+        AnyMeter::admit(self, moment, size, colour)
+    }
+
+    fn newest(&self) -> Moment {
+        AnyMeter::newest(self)
+    }
+
+    fn mode(&self) -> Mode {
+        match self {
+            AnyMeter::SrTcm(meter) => meter.mode(),
+            AnyMeter::TrTcm(meter) => meter.mode(),
+            AnyMeter::Rfc4115(meter) => meter.mode(),
+        }
+    }
+
+    fn green_envelope(&self) -> Envelope {
+        match self {
+            AnyMeter::SrTcm(meter) => meter.green_envelope(),
+            AnyMeter::TrTcm(meter) => meter.green_envelope(),
+            AnyMeter::Rfc4115(meter) => meter.green_envelope(),
+        }
+    }
+
+    fn all_envelope(&self) -> Envelope {
+        match self {
+            AnyMeter::SrTcm(meter) => meter.all_envelope(),
+            AnyMeter::TrTcm(meter) => meter.all_envelope(),
+            AnyMeter::Rfc4115(meter) => meter.all_envelope(),
+        }
+    }
+
+    ghost never_improves = { never_improves-any };
+
+    ghost output_keeps = { λ m fit offers. (green_keeps-any m fit offers, all_keeps-any m fit offers) };
+
+    ghost stays_fit = { IsFit-after };
+
+    ghost goes_on = { goes_on-any };
+
+    ghost stays_itself = { stays_itself-any };
+}
