@@ -1,10 +1,10 @@
 -- What the tokens of a span can do to a bucket, and how many a window can have.
-use Rattle.std.proofs.Common.{◌≡◌, ℕ, ◌+◌, ◌-◌, ◌*◌, ◌/◌, ◌<◌, ◌≤◌, zero, suc, refl, sym, ◌∙◌, ap, arith, add-zero, inl, inr}
+use Rattle.std.proofs.Common.{◌≡◌, ℕ, ◌+◌, ◌-◌, ◌*◌, ◌/◌, ◌≤◌, zero, suc, refl, sym, ◌∙◌, ap, arith, add-zero, inl, inr}
 use Rattle.std.specs.Fn.{iterate}
 use Rattle.std.proofs.Math.Nat.{mul-add, add-mul, mul-le-mul_left}
 use Rattle.std.proofs.lemmas.Bool.{cases_lt}
 use Rattle.moment_core.specs.Tokens.{given, tokens_at, each_nanosecond, with_token, with_tokens}
-use Rattle.moment_core.proofs.TokenLaws.{div-mono, given-mono, with_token-at, with_token-below}
+use Rattle.moment_core.proofs.TokenLaws.{given-mono, with_token-at, with_token-below}
 
 -- a bucket that is full stays as it is
 pub with_tokens_over : (size count level : ℕ) → size ≤ level → with_tokens size count level ≡ level

@@ -1,14 +1,13 @@
 -- What every meter's output keeps: colours, the order of time, and envelopes.
-use Rattle.std.proofs.Common.{◌≡◌, ℕ, ◌+◌, ◌-◌, ◌*◌, ◌/◌, ◌<◌, ◌≤◌, zero, suc, Bool, true, false, cond, leb, ◌&&◌, List, [], ◌∷◌, map, sum_by, length, get_or, refl, sym, ◌∙◌, ap, arith, zero-add, inl, inr}
+use Rattle.std.proofs.Common.{◌≡◌, ℕ, ◌+◌, ◌-◌, ◌*◌, ◌/◌, ◌<◌, ◌≤◌, zero, suc, Bool, true, false, cond, List, [], ◌∷◌, map, sum_by, refl, sym, arith, zero-add, inl, inr}
 use Rattle.std.specs.List.{All, AllPairs, filter}
 use Rattle.std.proofs.lemmas.Bool.{cases_lt}
 use Rattle.std.proofs.lemmas.Bool.Decides.{nat_tests}
 use Rattle.std.proofs.lemmas.List.Sums.{sum_by-cons}
 use Rattle.moment_core.specs.Colours.{IsNoBetter, output}
 use Rattle.moment_core.specs.Conformance.{Keeps, size_within}
-use Rattle.moment_core.specs.Metering.{Departure, How, Offer, Rules, State, after, colour_of, departure, departures, how, levels_at, seen, used}
+use Rattle.moment_core.specs.Metering.{Departure, How, Offer, Rules, State, after, colour_of, departures, how, levels_at, seen, used}
 use Rattle.moment_core.specs.declared.colour.Colour.{Colour}
-use Rattle.moment_core.specs.declared.colour.Mode.{Mode}
 use Rattle.moment_core.specs.declared.colour.Mode.TheVariants.{Aware}
 use Rattle.moment_core.specs.Tokens.{given}
 use Rattle.moment_core.proofs.FillingLaws.{given-window, given-window_of_two}
@@ -129,14 +128,15 @@ unfolding after colour_of
 funded rules fits picked level size given gains within pays stays m ok [] = tt
 funded rules fits picked level size given gains within pays stays m ok (o ∷ os) =
     let before = levels_at rules m (used m.newest o.moment) in
-    let paid = pays before o.size (seen m.mode o.came) in
-    (level (after rules m o).levels,
-     record {
-       later = newest_le-used m.newest o.moment;
-       gained = omega (arith, paid, gains m o.moment);
-       within = omega (arith, paid, within m o.moment ok);
-     },
-     funded rules fits picked level size given gains within pays stays (after rules m o) (stays m o ok) os)
+    let paid = pays before o.size (seen m.mode o.came) in (
+      level (after rules m o).levels,
+      record {
+        later = newest_le-used m.newest o.moment;
+        gained = omega (arith, paid, gains m o.moment);
+        within = omega (arith, paid, within m o.moment ok);
+      },
+      funded rules fits picked level size given gains within pays stays (after rules m o) (stays m o ok) os,
+    )
 
 -- so where the fund is filled at one rate, the output keeps that rate, and a byte more than its size as a burst
 pub Keeps-one_rate : {P L : Type 0} (rules : Rules P L) (fits : State P L → Type 0) (picked : Colour → Bool) (level : L → ℕ) (size rate : P → ℕ)
