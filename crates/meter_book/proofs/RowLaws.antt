@@ -42,9 +42,10 @@ row_output-replay picked m arrivals =
 
 pub rows_keep : (m : AnyMeter) (arrivals : List Arrival) → IsFit m
     → KeepsCurve (green_of m) (row_output is_green (replay m arrivals)) × KeepsCurve (all_of m) (row_output is_in_profile (replay m arrivals))
-rows_keep m arrivals fit =
-    (rw (row_output-replay is_green m arrivals) (green_keeps-any m fit (map offer_of arrivals)),
-     rw (row_output-replay is_in_profile m arrivals) (all_keeps-any m fit (map offer_of arrivals)))
+rows_keep m arrivals fit = (
+  rw (row_output-replay is_green m arrivals) (green_keeps-any m fit (map offer_of arrivals)),
+  rw (row_output-replay is_in_profile m arrivals) (all_keeps-any m fit (map offer_of arrivals)),
+)
 
 pub opened_rows_keep : (p : Parameters) (mode : Mode) (origin : ℕ) (arrivals : List Arrival)
     → KeepsCurve (green_of (opening_of p mode origin)) (row_output is_green (replay (opening_of p mode origin) arrivals))
