@@ -1,5 +1,5 @@
 -- What each step of a meter keeps, over every list of packets.
-use Rattle.std.proofs.Common.{◌≡◌, ℕ, zero, suc, List, [], ◌∷◌, arith}
+use Rattle.std.proofs.Common.{zero, suc, List, [], ◌∷◌, arith}
 use Rattle.std.specs.List.{All}
 use Rattle.moment_core.specs.Colours.{IsNoBetter}
 use Rattle.moment_core.specs.Metering.{Departure, How, Offer, departures}

@@ -1,13 +1,13 @@
 -- The rows of a replay as the departures of its meter.
-use Rattle.std.proofs.Common.{◌≡◌, ℕ, ◌+◌, ◌≤◌, zero, suc, Bool, true, false, cond, List, [], ◌∷◌, map, refl, sym, ◌∙◌, ap, arith}
-use Rattle.std.specs.List.{All, AllPairs, filter}
+use Rattle.std.proofs.Common.{◌≡◌, ℕ, ◌+◌, ◌≤◌, zero, suc, Bool, true, false, List, [], ◌∷◌, map, refl, sym, ◌∙◌, ap, arith}
+use Rattle.std.specs.List.{All, AllPairs}
 use Rattle.moment_core.specs.declared.colour.Colour.{Colour}
 use Rattle.moment_core.specs.declared.colour.Mode.{Mode}
 use Rattle.moment_core.specs.declared.colour.Mode.TheVariants.{Aware}
 use Rattle.moment_core.specs.Colours.{IsNoBetter, is_green, is_in_profile, output}
-use Rattle.moment_core.specs.Metering.{Offer, departures, used}
+use Rattle.moment_core.specs.Metering.{departures}
 use Rattle.moment_core.proofs.MeteringLaws.{newest_le-used}
-use Rattle.envelope_core.specs.Curve.{Curve, KeepsCurve}
+use Rattle.envelope_core.specs.Curve.{KeepsCurve}
 use Rattle.meter_book.specs.declared.any_meter.AnyMeter.{AnyMeter}
 use Rattle.meter_book.specs.declared.any_meter.Parameters.{Parameters}
 use Rattle.meter_book.specs.declared.row.Arrival.{Arrival}
