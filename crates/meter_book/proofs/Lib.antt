@@ -1,2 +1,3 @@
+pub mod MeterLaws
 pub mod ReplayLaws
 pub mod RowLaws

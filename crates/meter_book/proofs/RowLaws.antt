@@ -1,13 +1,13 @@
 -- The rows of a replay as the departures of its meter.
-use Rattle.std.proofs.Common.{◌≡◌, ℕ, ◌+◌, ◌≤◌, zero, suc, Bool, true, false, cond, List, [], ◌∷◌, map, refl, sym, ◌∙◌, ap, arith}
-use Rattle.std.specs.List.{All, AllPairs, filter}
+use Rattle.std.proofs.Common.{◌≡◌, ℕ, ◌+◌, ◌≤◌, zero, suc, Bool, true, false, List, [], ◌∷◌, map, refl, sym, ◌∙◌, ap, arith}
+use Rattle.std.specs.List.{All, AllPairs}
 use Rattle.moment_core.specs.declared.colour.Colour.{Colour}
 use Rattle.moment_core.specs.declared.colour.Mode.{Mode}
 use Rattle.moment_core.specs.declared.colour.Mode.TheVariants.{Aware}
 use Rattle.moment_core.specs.Colours.{IsNoBetter, is_green, is_in_profile, output}
-use Rattle.moment_core.specs.Metering.{Offer, departures, used}
+use Rattle.moment_core.specs.Metering.{departures}
 use Rattle.moment_core.proofs.MeteringLaws.{newest_le-used}
-use Rattle.envelope_core.specs.Curve.{Curve, KeepsCurve}
+use Rattle.envelope_core.specs.Curve.{KeepsCurve}
 use Rattle.meter_book.specs.declared.any_meter.AnyMeter.{AnyMeter}
 use Rattle.meter_book.specs.declared.any_meter.Parameters.{Parameters}
 use Rattle.meter_book.specs.declared.row.Arrival.{Arrival}
@@ -42,9 +42,10 @@ row_output-replay picked m arrivals =
 
 pub rows_keep : (m : AnyMeter) (arrivals : List Arrival) → IsFit m
     → KeepsCurve (green_of m) (row_output is_green (replay m arrivals)) × KeepsCurve (all_of m) (row_output is_in_profile (replay m arrivals))
-rows_keep m arrivals fit =
-    (rw (row_output-replay is_green m arrivals) (green_keeps-any m fit (map offer_of arrivals)),
-     rw (row_output-replay is_in_profile m arrivals) (all_keeps-any m fit (map offer_of arrivals)))
+rows_keep m arrivals fit = (
+  rw (row_output-replay is_green m arrivals) (green_keeps-any m fit (map offer_of arrivals)),
+  rw (row_output-replay is_in_profile m arrivals) (all_keeps-any m fit (map offer_of arrivals)),
+)
 
 pub opened_rows_keep : (p : Parameters) (mode : Mode) (origin : ℕ) (arrivals : List Arrival)
     → KeepsCurve (green_of (opening_of p mode origin)) (row_output is_green (replay (opening_of p mode origin) arrivals))

@@ -1,8 +1,6 @@
 -- The envelopes that what leaves a meter keeps (Cruz 1991, section II), and the states that a meter can be in.
-use Rattle.std.specs.Prelude.{ℕ, ◌+◌}
+use Rattle.std.specs.Prelude.{◌+◌}
 use Rattle.moment_core.specs.declared.colour.Mode.{Mode}
-use Rattle.moment_core.specs.Excess.{Levels}
-use Rattle.moment_core.specs.Metering.{State}
 use Rattle.envelope_core.specs.Curve.{Curve}
 use Rattle.srtcm_core.specs.Sizes as single_rates
 use Rattle.srtcm_core.specs.declared.parameters.SrTcmParameters.{SrTcmParameters}

@@ -1,4 +1,9 @@
-//! The laws of replays, each proved as the contract of a function that does nothing.
+//! The laws of meters and of replays, each proved as the contract of a function that does nothing.
+ghost use Rattle.std.specs.Prelude.{◌≡◌, List, All};
+ghost use Rattle.moment_core.specs.declared.colour.Mode.TheVariants.{Aware};
+ghost use Rattle.moment_core.specs.Colours.{IsNoBetter, is_green, is_in_profile, output};
+ghost use Rattle.moment_core.specs.Metering.{Offer, departures};
+ghost use Rattle.envelope_core.specs.Curve.{KeepsCurve};
 ghost use Rattle.meter_book.specs.Laws.{
   AwareRowsNeverImprove,
   MetersStayFit,
@@ -7,7 +12,28 @@ ghost use Rattle.meter_book.specs.Laws.{
   RowsAreDepartures,
   RowsKeepEnvelopes,
   RowsStandInOrder,
+  after_all,
 };
+
+use crate::meter::Meter;
+
+/// Whatever arrives at an aware meter of whatever kind, no packet leaves with a better colour than it came with
+/// (RFC 2697 section 3).
+pub fn aware_meters_never_improve<M: Meter>()
+    ensures { (m : M) (offers : List Offer) → M.mode_of m ≡ Aware → All (λ d. IsNoBetter d.came d.left) (departures M.how m offers) }
+{}
+
+/// Whatever arrives at a meter of whatever kind, what leaves it green keeps its envelope of green, and what leaves it
+/// green or yellow that of all (Cruz 1991, section II).
+pub fn meters_keep_envelopes<M: Meter>()
+    ensures { (m : M) (offers : List Offer) → M.fits m
+        → KeepsCurve (M.green_curve m) (output is_green (departures M.how m offers)) × KeepsCurve (M.all_curve m) (output is_in_profile (departures M.how m offers)) }
+{}
+
+/// A meter of whatever kind that fits does so after whatever arrives.
+pub fn meters_go_on_fit<M: Meter>()
+    ensures { (m : M) (offers : List Offer) → M.fits m → M.fits (after_all M.how m offers) }
+{}
 
 /// The rows of a replay are the departures of the meter.
 pub fn rows_are_departures()

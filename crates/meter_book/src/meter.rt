@@ -290,3 +290,189 @@ impl Meter for AnyMeter {
 
     ghost stays_itself = { stays_itself-any };
 }
+
+#[cfg(test)]
+mod tests {
+    use super::*;
+    use crate::any_meter::Parameters;
+    use crate::metering::meter_all;
+    use crate::row::Arrival;
+    use moment_core::Rate;
+    use rfc4115_core::Rfc4115Parameters;
+    use srtcm_core::SrTcmParameters;
+    use std::test::Fail;
+    use trtcm_core::TrTcmParameters;
+
+    fn single_rate(cir: u64, cbs: u32, ebs: u32) -> Result<Parameters, Fail> {
+        Ok(Parameters::SrTcm(SrTcmParameters {
+            committed_rate: Rate::new(cir)?,
+            committed_burst: cbs,
+            excess_burst: ebs,
+        }))
+    }
+
+    fn two_rate(cir: u64, cbs: u32, pir: u64, pbs: u32) -> Result<Parameters, Fail> {
+        Ok(Parameters::TrTcm(TrTcmParameters {
+            committed_rate: Rate::new(cir)?,
+            committed_burst: cbs,
+            peak_rate: Rate::new(pir)?,
+            peak_burst: pbs,
+        }))
+    }
+
+    fn separate_rates(cir: u64, cbs: u32, eir: u64, ebs: u32) -> Result<Parameters, Fail> {
+        Ok(Parameters::Rfc4115(Rfc4115Parameters {
+            committed_rate: Rate::new(cir)?,
+            committed_burst: cbs,
+            excess_rate: Rate::new(eir)?,
+            excess_burst: ebs,
+        }))
+    }
+
+    fn opened(parameters: Parameters, mode: Mode) -> Result<AnyMeter, Fail> {
+        Ok(AnyMeter::new(parameters, mode, Moment::new(0)?)?)
+    }
+
+    fn leaves<M: Meter>(
+        meter: &mut M,
+        moment: u64,
+        size: u64,
+        came: Colour,
+    ) -> Result<Colour, Fail> {
+        Ok(meter.admit(Moment::new(moment)?, PacketSize::new(size)?, came))
+    }
+
+    #[test]
+    fn a_single_rate_meter_gives_tokens_to_the_committed_bucket_first(
+        rt: HostRuntime,
+    ) -> Result<(), Fail> {
+        let mut aware = opened(single_rate(8_000, 1_000, 500)?, Mode::Aware)?;
+        for (moment, size, came, left) in [
+            (0, 1_000, Colour::Green, Colour::Green),
+            (0, 500, Colour::Green, Colour::Yellow),
+            (1_250_000_000, 250, Colour::Yellow, Colour::Yellow),
+            (1_250_000_000, 1, Colour::Yellow, Colour::Red),
+            (1_250_000_000, 1_000, Colour::Green, Colour::Green),
+        ] {
+            assert_eq!(rt;
+                leaves(&mut aware, moment, size, came)?,
+                left,
+                "{size} bytes at {moment}"
+            );
+        }
+        let mut blind = opened(single_rate(8_000, 0, 10)?, Mode::Blind)?;
+        for (moment, size, left) in [
+            (0, 10, Colour::Yellow),
+            (1_000_000, 1, Colour::Yellow),
+            (1_000_000, 1, Colour::Red),
+        ] {
+            assert_eq!(rt; leaves(&mut blind, moment, size, Colour::Green)?, left);
+        }
+        Ok(())
+    }
+
+    #[test]
+    fn a_meter_of_two_separate_rates_fills_each_bucket_at_its_own(
+        rt: HostRuntime,
+    ) -> Result<(), Fail> {
+        let mut slow = opened(separate_rates(8_000, 1_000, 8_000, 500)?, Mode::Aware)?;
+        for (moment, size, came, left) in [
+            (0, 100, Colour::Red, Colour::Red),
+            (0, 1_000, Colour::Green, Colour::Green),
+            (0, 500, Colour::Green, Colour::Yellow),
+            (0, 1, Colour::Yellow, Colour::Red),
+            (8_000_000, 8, Colour::Yellow, Colour::Yellow),
+            (8_000_000, 1, Colour::Yellow, Colour::Red),
+            (8_000_000, 8, Colour::Green, Colour::Green),
+        ] {
+            assert_eq!(rt;
+                leaves(&mut slow, moment, size, came)?,
+                left,
+                "{size} bytes at {moment}"
+            );
+        }
+        let mut fast = opened(
+            separate_rates(800_000_000, 20, 800_000_000, 20)?,
+            Mode::Aware,
+        )?;
+        for (moment, size, both) in [
+            (9, 20, Colour::Green),
+            (9, 20, Colour::Yellow),
+            (10, 1, Colour::Green),
+            (10, 1, Colour::Yellow),
+        ] {
+            assert_eq!(rt; leaves(&mut fast, moment, size, both)?, both);
+        }
+        Ok(())
+    }
+
+    #[test]
+    fn envelopes_and_modes_of_each_kind(rt: HostRuntime) -> Result<(), Fail> {
+        for (parameters, mode, green, all) in [
+            (
+                single_rate(8_000, 1_000, 500)?,
+                Mode::Aware,
+                (8_000, 1_001),
+                (8_000, 1_501),
+            ),
+            (
+                two_rate(8_000, 1_500, 16_000, 3_000)?,
+                Mode::Blind,
+                (8_000, 1_501),
+                (16_000, 3_001),
+            ),
+            (
+                separate_rates(8_000, 1_000, 4_000, 500)?,
+                Mode::Aware,
+                (8_000, 1_001),
+                (12_000, 1_502),
+            ),
+        ] {
+            let meter = opened(parameters, mode)?;
+            assert_eq!(rt; Meter::mode(&meter), mode);
+            let (first, second) = (meter.green_envelope(), meter.all_envelope());
+            assert_eq!(rt; (first.rate(), first.burst()), green);
+            assert_eq!(rt; (second.rate(), second.burst()), all);
+        }
+        Ok(())
+    }
+
+    #[test]
+    fn parameters_that_are_not_those_of_a_meter(rt: HostRuntime) -> Result<(), Fail> {
+        for (parameters, code) in [
+            (single_rate(8_000, 0, 0)?, 1),
+            (single_rate(8_000, 0, 1)?, 0),
+            (two_rate(8_000, 1, 7_000, 1)?, 2),
+            (two_rate(8_000, 1, 7_000, 0)?, 1),
+            (separate_rates(8_000, 0, 8_000, 0)?, 1),
+            (separate_rates(8_000, 1, 8_000, 0)?, 0),
+        ] {
+            let made = AnyMeter::new(parameters, Mode::Blind, Moment::new(0)?);
+            assert_eq!(rt; made.err().map_or(0, |fault| fault.code()), code);
+            assert_eq!(rt; parameters.fault().map_or(0, |fault| fault.code()), code);
+        }
+        Ok(())
+    }
+
+    #[test]
+    fn arrivals_metered_one_after_the_other(rt: HostRuntime) -> Result<(), Fail> {
+        let mut meter = opened(single_rate(8_000, 1_000, 500)?, Mode::Blind)?;
+        let arrival = Arrival {
+            flow: 0,
+            packet: 0,
+            hop: 0,
+            moment: Moment::new(7)?,
+            size: PacketSize::new(500)?,
+            came: Colour::Red,
+        };
+        let left = meter_all(
+            rt.alloc(),
+            &mut meter,
+            &[arrival, arrival, arrival, arrival],
+        )?;
+        let expected = [Colour::Green, Colour::Green, Colour::Yellow, Colour::Red];
+        assert_eq!(rt; *left.as_slice(), *expected.as_slice());
+        assert_eq!(rt; meter.newest().get(), 7);
+        Ok(())
+    }
+}

@@ -10,7 +10,11 @@ use std::alloc::{AllocError, Global};
 /// Meters arrivals, one after the other, and answers the colours that they leave with.
 ///
 /// Refused where memory runs out; the meter is then unchanged.
-pub fn meter_all<M: Meter>(alloc: Global, meter: &mut M, arrivals: &[Arrival]) -> Result<Vec<Colour>, AllocError>
+pub fn meter_all<M: Meter>(
+    alloc: Global,
+    meter: &mut M,
+    arrivals: &[Arrival],
+) -> Result<Vec<Colour>, AllocError>
     ensures colours { IfOk result (λ colours. colours.items ≡ colours_left M.how meter.old (map offer_of arrivals.now)) }
     ensures after { OnOk result (meter.new ≡ after_all M.how meter.old (map offer_of arrivals.now)) }
     ensures refused { OnErr result (meter.new ≡ meter.old) }

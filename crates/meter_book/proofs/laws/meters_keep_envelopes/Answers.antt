@@ -1,0 +1,4 @@
+use Rattle.meter_book.proofs.laws.meters_keep_envelopes.Goals as goal
+
+pub returns : goal.returns
+returns g c = λ m offers fit. g.met.M.Meter.output_keeps m fit offers
