@@ -26,5 +26,11 @@ abbrev pub program : App
 program = let a = new_app (codes "dsedge") in
     record a { top = record a.top { no_binary_name = true; subcommand_required = true } }
 
+-- an envelope has a rate and a burst
+abbrev pub envelope : App
+envelope = with_rule (with_rule (new_app (codes "envelope"))
+    (required (codes "rate")))
+    (required (codes "burst"))
+
 abbrev pub dsedge : App
-dsedge = with_subcommand program meter.top
+dsedge = with_subcommand (with_subcommand program meter.top) envelope.top

@@ -35,6 +35,10 @@ rate_said = number_within 1 (10 ^ 13)
 abbrev pub burst_said : List ℕ → Option ℕ
 burst_said = number_within 0 (2 ^ 32 - 1)
 
+-- bytes that an envelope may hold at once, at most 10^15
+abbrev pub envelope_burst_said : List ℕ → Option ℕ
+envelope_burst_said = number_within 0 (10 ^ 15)
+
 -- nanoseconds, below 2^63
 abbrev pub moment_said : List ℕ → Option ℕ
 moment_said = number_within 0 (2 ^ 63 - 1)
@@ -76,3 +80,10 @@ meter_given given = do
   origin ← origin_said (given (codes "origin"))
   p ← parameters_given kind given
   opened p mode origin
+
+-- the rate and the burst that the options of `envelope` ask for
+unfoldable pub envelope_given : Given → Option (ℕ × ℕ)
+envelope_given given = do
+  rate ← given (codes "rate") >>= rate_said
+  burst ← given (codes "burst") >>= envelope_burst_said
+  Some (rate, burst)

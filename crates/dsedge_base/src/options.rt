@@ -1,6 +1,6 @@
 ghost use Rattle.std.specs.Prelude.{◌≡◌, option_map};
 ghost use Rattle.clap.specs.Words.{first_of, found_of, rows_of};
-ghost use Rattle.dsedge_base.specs.Options.{burst_said, meter_given, mode_said, moment_said, opened, origin_said, parameters_given, rate_said, two_rate_given};
+ghost use Rattle.dsedge_base.specs.Options.{burst_said, envelope_burst_said, envelope_given, meter_given, mode_said, moment_said, opened, origin_said, parameters_given, rate_said, two_rate_given};
 ghost use Rattle.dsedge_base.specs.Plans.{given_by};
 
 use clap::ArgMatches;
@@ -8,6 +8,9 @@ use line_text::number;
 use meter_book::{AnyMeter, Parameters};
 use moment_core::{Mode, Moment, Rate};
 use trtcm_core::TrTcmParameters;
+
+/// The greatest burst of an envelope, in bytes.
+const MOST_ENVELOPE_BURST: u64 = 1_000_000_000_000_000;
 
 /// The meter that the options of `meter` ask for, if they ask for one.
 #[tactic(auto, unfolding(crate::specs::Options::meter_given))]
@@ -18,6 +21,16 @@ pub(crate) fn meter_in(options: &ArgMatches<'_>) -> Option<AnyMeter>
     let mode = mode_said_by(text_in(options, "mode")?)?;
     let origin = origin_said_by(text_in(options, "origin"))?;
     meter_opened(parameters_in(kind, options)?, mode, origin)
+}
+
+/// The rate and the burst that the options of `envelope` ask for, if they ask for any.
+#[tactic(auto, unfolding(crate::specs::Options::envelope_given))]
+pub(crate) fn envelope_in(options: &ArgMatches<'_>) -> Option<(Rate, u64)>
+    ensures { result ≡ envelope_given (given_by (rows_of (found_of options.now))) }
+{
+    let rate = rate_said_by(text_in(options, "rate")?)?;
+    let burst = envelope_burst_said_by(text_in(options, "burst")?)?;
+    Some((rate, burst))
 }
 
 /// The meter of parameters that are those of one.
@@ -101,4 +114,17 @@ fn burst_said_by(text: &str) -> Option<u32>
     ensures { result ≡ burst_said text.now }
 {
     u32::try_from(number(text.as_bytes(), u64::MAX)?).ok()
+}
+
+/// The burst of an envelope that a text says, in bytes.
+#[tactic(auto, unfolding(crate::specs::Options::number_within))]
+fn envelope_burst_said_by(text: &str) -> Option<u64>
+    ensures { result ≡ envelope_burst_said text.now }
+{
+    let burst = number(text.as_bytes(), u64::MAX)?;
+    if burst <= MOST_ENVELOPE_BURST {
+        Some(burst)
+    } else {
+        None
+    }
 }

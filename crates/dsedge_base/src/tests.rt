@@ -15,7 +15,7 @@ fn plan_for(alloc: Global, line: &str) -> Result<Result<Plan, UsageFault>, Fail>
 fn help_for(alloc: Global, line: &str) -> Result<String, Fail> {
     match plan_for(alloc, line)?? {
         Plan::Help(text) => Ok(text),
-        Plan::Meter(_meter) => Err(Fail::from("a meter")),
+        _ => Err(Fail::from("no help")),
     }
 }
 
@@ -63,6 +63,26 @@ fn meters_of_two_rates(rt: HostRuntime) -> Result<(), Fail> {
 }
 
 #[test]
+fn envelopes(rt: HostRuntime) -> Result<(), Fail> {
+    let alloc = rt.alloc();
+    for (line, rate, burst) in [
+        ("envelope --rate 800000000 --burst 21", 800_000_000, 21),
+        ("envelope --burst=0 --rate=01", 1, 0),
+        (
+            "envelope --rate 10000000000000 --burst 1000000000000000",
+            10_000_000_000_000,
+            1_000_000_000_000_000,
+        ),
+    ] {
+        let rate = Rate::new(rate)?;
+        let expected = format!(in alloc; "{:?}", Plan::Envelope { rate, burst })?;
+        let made = format!(in alloc; "{:?}", plan_for(alloc, line)??)?;
+        assert_eq!(rt; made.as_str(), expected.as_str(), "{line}");
+    }
+    Ok(())
+}
+
+#[test]
 fn words_that_are_no_command(rt: HostRuntime) -> Result<(), Fail> {
     let alloc = rt.alloc();
     assert_eq!(rt; plan::<&str>(alloc, &[]).err(), Some(UsageFault::Usage));
@@ -77,7 +97,17 @@ fn words_that_are_no_command(rt: HostRuntime) -> Result<(), Fail> {
         "--kind trtcm",
         "help metre",
         "meter --version",
-        "envelope --rate 1 --burst 1",
+        "envelope",
+        "envelope --rate 1",
+        "envelope --burst 1",
+        "envelope --rate 1 --burst 1 --burst 1",
+        "envelope --rate 1 --burst 1 --origin 0",
+        "envelope --rate 1 --burst 1 more",
+        "envelope --rate 0 --burst 1",
+        "envelope --rate 10000000000001 --burst 1",
+        "envelope --rate 1 --burst 1000000000000001",
+        "envelope --rate 1 --burst +1",
+        "envelope --rate 1 --burst -1",
         "certify domain.toml",
         "check domain.toml domain.cert",
         "mark domain.toml domain.cert --port p --workers 1 --red keep",
@@ -168,6 +198,12 @@ fn help_for_the_program_and_its_command(rt: HostRuntime) -> Result<(), Fail> {
         let help = help_for(alloc, line)?;
         assert!(rt; help.as_str().contains("Usage: dsedge <COMMAND>"), "{line}");
         assert!(rt; help.as_str().contains("meter"), "{line}");
+    }
+    for line in ["envelope --help", "help envelope"] {
+        let help = help_for(alloc, line)?;
+        assert!(rt; help.as_str().contains("Usage: dsedge envelope "), "{line}");
+        assert!(rt; help.as_str().contains("--rate <RATE>"), "{line}");
+        assert!(rt; help.as_str().contains("--burst <BYTES>"), "{line}");
     }
     for line in [
         "meter --help",

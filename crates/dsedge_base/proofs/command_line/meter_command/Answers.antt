@@ -1,22 +1,12 @@
-use Rattle.std.proofs.Common.{◌≡◌, ◌||◌, false, ap, ap₂, ◌∙◌, codes}
+use Rattle.std.proofs.Common.{◌≡◌, false, ap, ◌∙◌, codes}
 use Rattle.std.proofs.lemmas.Result.{IfOk-weaker}
 use Rattle.clap.specs.Simple.{app_of_fields}
-use Rattle.clap.specs.Words.{AddsArg, App, Rule, app_of, new_app, rule_of, with_rule}
-use Rattle.clap.specs.declared.builder.arg.Arg.{Arg}
+use Rattle.clap.specs.Words.{AddsArg, app_of, new_app}
 use Rattle.clap.specs.declared.builder.command.Command.{Command}
 use Rattle.clap.specs.declared.builder.command.Command.TheViews.{out-Command as fields_of}
 use Rattle.dsedge_base.specs.CommandLine.{meter}
+use Rattle.dsedge_base.proofs.CommandLemmas.{IsApp, with_option}
 use Rattle.dsedge_base.proofs.command_line.meter_command.Goals as goal
-
--- the command is this one, and no argument of it is global
-abbrev IsApp : App → Command → Type 0
-IsApp app command = (app_of command ≡ app) × ((fields_of command).has_globals ≡ false)
-
--- with one more option
-with_option : (app : App) (rule : Rule) (old : Command) (option : Arg) (new : Command) → IsApp app old → rule_of option ≡ rule
-    → option.global ≡ false → AddsArg old option new → IsApp (with_rule app rule) new
-with_option app rule old option new is_app is_rule local adds =
-    (adds.shape local ∙ ap₂ with_rule is_app.0 is_rule, adds.globals ∙ ap₂ ◌||◌ is_app.1 local)
 
 -- with all of its options
 whole : (c : goal.After-arg-7) (command : Command) → AddsArg c.in_ok-arg-6.field-0 c.choice-3.result command → IsApp meter command
