@@ -76,8 +76,8 @@ fn read_line<I: Intake>(alloc: Global, intake: &mut I) -> Result<Vec<u8>, FirstL
     ensures told { I.tells intake.old → I.tells intake.new }
     ensures line { I.tells intake.old → IfOk result (λ line.
         (line.items ≡ first_line_of (I.left intake.old))
-            × (I.left intake.new ≡ after_first_line (I.left intake.old))
-            × (length line.items ≤ 65536)) }
+        × (I.left intake.new ≡ after_first_line (I.left intake.old))
+        × (length line.items ≤ 65536)) }
     ensures long { I.tells intake.old → result ≡ Err FirstLineFault.Usage →
         65536 < length (first_line_of (I.left intake.old)) }
     ensures failures { I.failed intake.new

@@ -89,6 +89,7 @@ impl MeterBook {
     pub fn note(&mut self, arrival: Arrival) -> Result<Row, NoteFault>
         ensures row { IfOk result (λ row. row ≡ next_row self.old arrival) }
         ensures noted { OnOk result (self.new ≡ noted self.old arrival) }
+        ensures room { OnOk result (length self.old.arrivals < self.old.capacity) }
         ensures full { IsErrOf result NoteFault.JournalFull ↔ (length self.old.arrivals ≡ self.old.capacity) }
         ensures refused { OnErr result (self.new ≡ self.old) }
     {

@@ -1,2 +1,5 @@
+pub mod ExcessLaws
+pub mod FillingLaws
 pub mod MeteringLaws
+pub mod OutputLaws
 pub mod TokenLaws

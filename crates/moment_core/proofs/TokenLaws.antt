@@ -24,15 +24,15 @@ given-origin rate origin =
     let none : origin - origin ≡ 0 = omega arith in
     rw (none, mul-zero) refl
 
-with_token-below : (size level : ℕ) → level < size → with_token size level ≡ level + 1
+pub with_token-below : (size level : ℕ) → level < size → with_token size level ≡ level + 1
 unfolding with_token
 with_token-below size level room = grind (arith, nat_tests)
 
-with_token-at : (size level : ℕ) → size ≤ level → with_token size level ≡ level
+pub with_token-at : (size level : ℕ) → size ≤ level → with_token size level ≡ level
 unfolding with_token
 with_token-at size level full = grind (arith, nat_tests)
 
-with_tokens-none : (size level : ℕ) → with_tokens size 0 level ≡ level
+pub with_tokens-none : (size level : ℕ) → with_tokens size 0 level ≡ level
 unfolding with_tokens
 with_tokens-none size level = refl
 

@@ -1,5 +1,6 @@
 pub mod Colours
 pub mod Conformance
+pub mod Excess
 pub mod Metering
 pub mod Tokens
 pub mod Volume

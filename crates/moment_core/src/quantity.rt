@@ -96,6 +96,9 @@ impl Model for Gap {
 }
 
 impl Gap {
+    /// No time at all.
+    pub const NONE: Gap = Gap { nanoseconds: 0 };
+
     /// The span of so many nanoseconds; `OutOfRange` from 2^63 on.
     pub fn new(nanoseconds: u64) -> Result<Self, OutOfRange>
         ensures { OkIff result (nanoseconds < 2 ^ 63) nanoseconds }

@@ -1,1 +1,2 @@
+pub mod OutputLaws
 pub mod TwoRateLaws

@@ -6,7 +6,7 @@ use Rattle.moment_core.proofs.MeteringLaws.{bucket_filled_to, newest_le-used}
 use Rattle.trtcm_core.specs.declared.parameters.TrTcmParameters.{TrTcmParameters}
 use Rattle.trtcm_core.specs.TwoRate.{Levels, gain, two_rate}
 
-committed_level : (m : State TrTcmParameters Levels) (moment : ℕ)
+pub committed_level : (m : State TrTcmParameters Levels) (moment : ℕ)
     → (levels_at two_rate m (used m.newest moment)).committed
     ≡ with_tokens m.parameters.committed_burst (given m.parameters.committed_rate m.origin (used m.newest moment) - given m.parameters.committed_rate m.origin m.newest) m.levels.committed
 unfolding levels_at two_rate gain
@@ -14,7 +14,7 @@ committed_level m moment =
     bucket_filled_to (λ (l : Levels). l.committed) (gain m.parameters m.origin) m.parameters.committed_burst m.parameters.committed_rate m.origin (λ _ _. refl)
     m.newest (used m.newest moment) m.levels (newest_le-used m.newest moment)
 
-peak_level : (m : State TrTcmParameters Levels) (moment : ℕ)
+pub peak_level : (m : State TrTcmParameters Levels) (moment : ℕ)
     → (levels_at two_rate m (used m.newest moment)).peak
     ≡ with_tokens m.parameters.peak_burst (given m.parameters.peak_rate m.origin (used m.newest moment) - given m.parameters.peak_rate m.origin m.newest) m.levels.peak
 unfolding levels_at two_rate gain

@@ -1,2 +1,3 @@
 pub mod TwoRate
 pub mod Kept
+pub mod Sizes

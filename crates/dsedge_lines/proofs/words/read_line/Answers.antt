@@ -66,8 +66,8 @@ loop-turn-preserved g c =
       unbroken = rw c.in-Ok.ensures.items (has_byte-push line byte was.unbroken c.if-byte-eq10.false);
       size = ap length c.in-Ok.ensures.items ∙ length_push line byte ∙ ap (λ size. size + 1) was.size;
       left = λ tells.
-        let more = rw c.in-Ok-Some.field-0-is at (next.byte (was.told tells)) in
-        was.left tells ∙ ap (λ bytes. line ++ bytes) more ∙ sym (append_assoc line (byte ∷ []) rest) ∙ ap (λ bytes. bytes ++ rest) (sym c.in-Ok.ensures.items);
+          let more = rw c.in-Ok-Some.field-0-is at (next.byte (was.told tells)) in
+          was.left tells ∙ ap (λ bytes. line ++ bytes) more ∙ sym (append_assoc line (byte ∷ []) rest) ∙ ap (λ bytes. bytes ++ rest) (sym c.in-Ok.ensures.items);
     }
 
 pub returns-clause-long : goal.returns-clause-long

@@ -11,5 +11,5 @@ invariant-loop-turn g l = record {
   asked : g.I.Intake.turns l.intake ≡ count_after l._turn (g.I.Intake.turns l.initial.intake);
   unbroken : has_byte 10 l.line.items ≡ false;
   size : length l.line.items ≡ l._turn;
-  left : g.I.Intake.tells l.initial.intake → g.I.Intake.left l.initial.intake ≡ l.line.items ++ g.I.Intake.left l.intake
+  left : g.I.Intake.tells l.initial.intake → g.I.Intake.left l.initial.intake ≡ l.line.items ++ g.I.Intake.left l.intake;
 }

@@ -1,0 +1,42 @@
+-- The lines that say an arrival.
+use Rattle.std.specs.Prelude.{ℕ, ◌==◌, ◌+◌, ◌-◌, ◌^◌, List, [], ◌∷◌, Option, None, Some, option_and_then, if◌then◌else◌}
+use Rattle.line_text.specs.Lines.{fields_of}
+use Rattle.line_text.specs.Numbers.{number_of}
+use Rattle.meter_book.specs.declared.row.Arrival.{Arrival}
+use Rattle.moment_core.specs.declared.colour.Colour.{Colour}
+use Rattle.moment_core.specs.declared.colour.Colour.TheVariants.{Green, Yellow, Red}
+
+-- the colour of a letter: g is 103, y is 121, r is 114
+abbrev pub colour_of_letter : ℕ → Option Colour
+colour_of_letter letter =
+  if letter == 103 then Some Green else if letter == 121 then Some Yellow else if letter == 114 then Some Red else None
+
+-- a field that is one letter names a colour
+abbrev pub colour_named : List ℕ → Option Colour
+colour_named (letter ∷ []) = colour_of_letter letter
+colour_named _ = None
+
+-- a size is a number from 1 to 65,535
+abbrev pub size_in : List ℕ → Option ℕ
+size_in field = option_and_then (λ size. if size == 0 then None else Some size) (number_of 65535 field)
+
+abbrev pub arrival_of_fields : ℕ → List (List ℕ) → Option Arrival
+arrival_of_fields number (at ∷ bytes ∷ letter ∷ []) =
+    option_and_then (λ moment.
+    option_and_then (λ size.
+    option_and_then (λ came. Some (record { flow = 0; packet = number; hop = 0; moment = moment; size = size; came = came }))
+      (colour_named letter)) (size_in bytes)) (number_of (2 ^ 63 - 1) at)
+arrival_of_fields number _ = None
+
+-- the arrival that a line says: moment, size and colour, one space apart; the number of the line is the packet's
+unfoldable pub arrival_in : ℕ → List ℕ → Option Arrival
+arrival_in number line = arrival_of_fields number (fields_of line)
+
+abbrev pub onto : Option Arrival → List Arrival → List Arrival
+onto None later = []
+onto (Some arrival) later = arrival ∷ later
+
+-- the arrivals of lines, up to the first line that says none; the first line has this number
+unfoldable pub arrivals_from : ℕ → List (List ℕ) → List Arrival
+arrivals_from number [] = []
+arrivals_from number (line ∷ lines) = onto (arrival_in number line) (arrivals_from (number + 1) lines)

@@ -1,0 +1,60 @@
+ghost use Rattle.std.specs.Prelude.{◌≡◌, ◌-◌, ◌^◌};
+ghost use Rattle.line_text.specs.Numbers.{number_of};
+ghost use Rattle.dsedge.specs.Arrivals.{arrival_in, colour_named, size_in};
+
+use line_text::{number, three_fields};
+use meter_book::Arrival;
+use moment_core::{Colour, Moment, PacketSize};
+
+/// The greatest moment, in nanoseconds.
+const LAST_MOMENT: u64 = (1 << 63) - 1;
+
+/// The greatest size of a packet, in bytes.
+const LARGEST_SIZE: u64 = 65_535;
+
+/// The moment that a field says: 0 to 2^63 - 1 nanoseconds.
+pub fn moment(field: &[u8]) -> Option<Moment>
+    ensures { result ≡ number_of (2 ^ 63 - 1) field.now }
+{
+    match number(field, LAST_MOMENT) {
+        Some(nanoseconds) => Moment::new(nanoseconds).ok(),
+        None => None,
+    }
+}
+
+/// The size that a field says: 1 to 65,535 bytes.
+pub fn size(field: &[u8]) -> Option<PacketSize>
+    ensures { result ≡ size_in field.now }
+{
+    match number(field, LARGEST_SIZE) {
+        Some(bytes) => PacketSize::new(bytes).ok(),
+        None => None,
+    }
+}
+
+/// The colour that a field says: `g`, `y` or `r`.
+pub fn colour(field: &[u8]) -> Option<Colour>
+    ensures { result ≡ colour_named field.now }
+{
+    match field {
+        [b'g'] => Some(Colour::Green),
+        [b'y'] => Some(Colour::Yellow),
+        [b'r'] => Some(Colour::Red),
+        _ => None,
+    }
+}
+
+/// The arrival that a line says, `MOMENT SIZE COLOUR`: the line's number is the packet's.
+pub fn arrival(line_number: u64, line: &[u8]) -> Option<Arrival>
+    ensures { result ≡ arrival_in line_number line.now }
+{
+    let (at, bytes, letter) = three_fields(line)?;
+    Some(Arrival {
+        flow: 0,
+        packet: line_number,
+        hop: 0,
+        moment: moment(at)?,
+        size: size(bytes)?,
+        came: colour(letter)?,
+    })
+}

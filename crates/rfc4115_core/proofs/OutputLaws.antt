@@ -1,0 +1,91 @@
+-- What leaves a meter with two separate rates: colours that are no better than those that came, and envelopes that are kept.
+use Rattle.std.proofs.Common.{◌≡◌, ℕ, ◌+◌, ◌-◌, ◌≤◌, cond, List, arith}
+use Rattle.moment_core.specs.Colours.{IsNoBetter, is_green, is_in_profile, output}
+use Rattle.moment_core.specs.Conformance.{Keeps}
+use Rattle.moment_core.specs.Excess.{Levels, without}
+use Rattle.moment_core.specs.Metering.{Offer, State, after, colour_of, departures, how, levels_at, opening, used}
+use Rattle.moment_core.specs.Tokens.{given}
+use Rattle.moment_core.specs.declared.colour.Mode.{Mode}
+use Rattle.moment_core.specs.declared.colour.Mode.TheVariants.{Aware}
+use Rattle.moment_core.proofs.ExcessLaws.{both_pay, committed_falls, excess_falls, green_pays, no_better}
+use Rattle.moment_core.proofs.FillingLaws.{with_tokens_le, with_tokens_within}
+use Rattle.moment_core.proofs.MeteringLaws.{newest_le-used}
+use Rattle.moment_core.proofs.OutputLaws as output_laws
+use Rattle.moment_core.proofs.TokenLaws.{given-mono}
+use Rattle.rfc4115_core.specs.declared.parameters.Rfc4115Parameters.{Rfc4115Parameters}
+use Rattle.rfc4115_core.specs.SeparateRates.{full, separate_rates}
+use Rattle.rfc4115_core.specs.Sizes.{IsWithinSizes}
+use Rattle.rfc4115_core.proofs.SeparateRatesLaws.{committed_level, excess_level}
+
+-- an aware meter never improves a colour
+pub never_improves : (m : State Rfc4115Parameters Levels) (o : Offer) → m.mode ≡ Aware → IsNoBetter o.came (colour_of separate_rates m o)
+unfolding separate_rates
+never_improves m o aware = output_laws.never_improves separate_rates no_better m o aware
+
+-- what the buckets hold before a packet
+committed_gains : (m : State Rfc4115Parameters Levels) (moment : ℕ)
+    → (levels_at separate_rates m (used m.newest moment)).committed
+    ≤ m.levels.committed + (given m.parameters.committed_rate m.origin (used m.newest moment) - given m.parameters.committed_rate m.origin m.newest)
+committed_gains m moment = rw (committed_level m moment) (with_tokens_le m.parameters.committed_burst _ m.levels.committed)
+
+excess_gains : (m : State Rfc4115Parameters Levels) (moment : ℕ)
+    → (levels_at separate_rates m (used m.newest moment)).excess
+    ≤ m.levels.excess + (given m.parameters.excess_rate m.origin (used m.newest moment) - given m.parameters.excess_rate m.origin m.newest)
+excess_gains m moment = rw (excess_level m moment) (with_tokens_le m.parameters.excess_burst _ m.levels.excess)
+
+both_gain : (m : State Rfc4115Parameters Levels) (moment : ℕ)
+    → (levels_at separate_rates m (used m.newest moment)).committed + (levels_at separate_rates m (used m.newest moment)).excess
+    ≤ m.levels.committed + m.levels.excess
+    + ((given m.parameters.committed_rate m.origin (used m.newest moment) + given m.parameters.excess_rate m.origin (used m.newest moment))
+    - (given m.parameters.committed_rate m.origin m.newest + given m.parameters.excess_rate m.origin m.newest))
+both_gain m moment =
+    let later = newest_le-used m.newest moment in
+    let committed_more = given-mono m.parameters.committed_rate m.origin m.newest (used m.newest moment) later in
+    let excess_more = given-mono m.parameters.excess_rate m.origin m.newest (used m.newest moment) later in
+    omega (arith, committed_gains m moment, excess_gains m moment, committed_more, excess_more)
+
+committed_fits : (m : State Rfc4115Parameters Levels) (moment : ℕ) → IsWithinSizes m → (levels_at separate_rates m (used m.newest moment)).committed ≤ m.parameters.committed_burst
+committed_fits m moment ok = rw (committed_level m moment) (with_tokens_within m.parameters.committed_burst _ m.levels.committed ok.committed)
+
+excess_fits : (m : State Rfc4115Parameters Levels) (moment : ℕ) → IsWithinSizes m → (levels_at separate_rates m (used m.newest moment)).excess ≤ m.parameters.excess_burst
+excess_fits m moment ok = rw (excess_level m moment) (with_tokens_within m.parameters.excess_burst _ m.levels.excess ok.excess)
+
+both_fit : (m : State Rfc4115Parameters Levels) (moment : ℕ) → IsWithinSizes m
+    → (levels_at separate_rates m (used m.newest moment)).committed + (levels_at separate_rates m (used m.newest moment)).excess ≤ m.parameters.committed_burst + m.parameters.excess_burst
+both_fit m moment ok = omega (arith, committed_fits m moment ok, excess_fits m moment ok)
+
+-- the buckets of a meter are within their sizes at first
+pub IsWithinSizes-opening : (p : Rfc4115Parameters) (mode : Mode) (origin : ℕ) → IsWithinSizes (opening separate_rates p mode origin)
+unfolding opening separate_rates full
+IsWithinSizes-opening p mode origin = record { committed = omega arith; excess = omega arith }
+
+through : (a b c : ℕ) → a ≤ b → b ≤ c → a ≤ c
+through a b c h k = omega arith
+
+-- and stay within them
+pub IsWithinSizes-after : (m : State Rfc4115Parameters Levels) (o : Offer) → IsWithinSizes m → IsWithinSizes (after separate_rates m o)
+unfolding after separate_rates
+IsWithinSizes-after m o ok =
+    let before = levels_at separate_rates m (used m.newest o.moment) in
+    let left = colour_of separate_rates m o in
+    record {
+      committed = through (without before o.size left).committed before.committed m.parameters.committed_burst (committed_falls before o.size left) (committed_fits m o.moment ok);
+      excess = through (without before o.size left).excess before.excess m.parameters.excess_burst (excess_falls before o.size left) (excess_fits m o.moment ok);
+    }
+
+-- what leaves green keeps the committed rate, and a byte more than the committed burst
+pub green_keeps : (m : State Rfc4115Parameters Levels) → IsWithinSizes m → (offers : List Offer)
+    → Keeps m.parameters.committed_rate (m.parameters.committed_burst + 1) (output is_green (departures (how separate_rates) m offers))
+unfolding separate_rates
+green_keeps m ok offers =
+    output_laws.Keeps-one_rate separate_rates IsWithinSizes is_green (λ (l : Levels). l.committed) (λ (p : Rfc4115Parameters). p.committed_burst) (λ (p : Rfc4115Parameters). p.committed_rate)
+    committed_gains committed_fits green_pays IsWithinSizes-after m ok offers
+
+-- what leaves green or yellow keeps both rates, and two bytes more than both bursts
+pub in_profile_keeps : (m : State Rfc4115Parameters Levels) → IsWithinSizes m → (offers : List Offer)
+    → Keeps (m.parameters.committed_rate + m.parameters.excess_rate) (m.parameters.committed_burst + m.parameters.excess_burst + 2)
+    (output is_in_profile (departures (how separate_rates) m offers))
+unfolding separate_rates
+in_profile_keeps m ok offers =
+    output_laws.Keeps-two_rates separate_rates IsWithinSizes is_in_profile (λ (l : Levels). l.committed + l.excess) (λ (p : Rfc4115Parameters). p.committed_burst + p.excess_burst) (λ (p : Rfc4115Parameters). p.committed_rate)
+    (λ (p : Rfc4115Parameters). p.excess_rate) both_gain both_fit both_pay IsWithinSizes-after m ok offers

@@ -1,0 +1,3 @@
+pub mod SeparateRates
+pub mod Kept
+pub mod Sizes

@@ -1,0 +1,51 @@
+ghost use Rattle.std.specs.Prelude.{◌≡◌};
+
+use moment_core::Rate;
+use thiserror::Error;
+
+/// The parameters of a two-rate three-colour meter (RFC 4115 section 2).
+#[derive(Clone, Copy, Debug, PartialEq, Eq, Hash)]
+pub struct Rfc4115Parameters {
+    /// The committed information rate, CIR, in bits per second.
+    pub committed_rate: Rate,
+    /// The committed burst size, CBS, in bytes.
+    pub committed_burst: u32,
+    /// The excess information rate, EIR, in bits per second.
+    pub excess_rate: Rate,
+    /// The excess burst size, EBS, in bytes.
+    pub excess_burst: u32,
+}
+
+/// Why parameters are not those of a meter with excess rates: a meter that never admits is no meter.
+#[derive(Clone, Copy, Debug, PartialEq, Eq, Hash, Drop, Error)]
+pub enum Rfc4115Fault {
+    /// Both burst sizes are 0.
+    #[error("both burst sizes are 0")]
+    SizeZero,
+}
+
+impl Rfc4115Fault {
+    /// The fault's number: 1 for burst sizes that are both 0.
+    pub fn code(&self) -> u8
+        ensures { result ≡ 1 }
+    {
+        match self {
+            Rfc4115Fault::SizeZero => 1,
+        }
+    }
+}
+
+impl Rfc4115Parameters {
+    ghost use Rattle.rfc4115_core.specs.SeparateRates.{fault_of};
+
+    /// What is wrong with the parameters, if anything: that both burst sizes are 0.
+    pub fn fault(&self) -> Option<Rfc4115Fault>
+        ensures { result ≡ fault_of self.now }
+    {
+        if self.committed_burst == 0 && self.excess_burst == 0 {
+            Some(Rfc4115Fault::SizeZero)
+        } else {
+            None
+        }
+    }
+}

@@ -1,0 +1,100 @@
+-- The levels of a single-rate meter in closed form.
+use Rattle.std.proofs.Common.{◌≡◌, ℕ, ◌+◌, ◌-◌, ◌<◌, ◌≤◌, zero, suc, true, false, cond, ltb, refl, sym, ◌∙◌, ap, arith, inl, inr}
+use Rattle.std.specs.Fn.{iterate}
+use Rattle.std.proofs.lemmas.Bool.{cases_lt}
+use Rattle.std.proofs.lemmas.Bool.Decides.{nat_tests}
+use Rattle.moment_core.specs.Excess.{Levels}
+use Rattle.moment_core.specs.Metering.{State, levels_at, used}
+use Rattle.moment_core.specs.Tokens as tokens
+use Rattle.moment_core.specs.Tokens.{given, with_tokens}
+use Rattle.moment_core.proofs.FillingLaws.{iterated_to, with_tokens_over}
+use Rattle.moment_core.proofs.MeteringLaws.{newest_le-used}
+use Rattle.moment_core.proofs.TokenLaws.{with_token-at, with_token-below, with_tokens-none}
+use Rattle.srtcm_core.specs.declared.parameters.SrTcmParameters.{SrTcmParameters}
+use Rattle.srtcm_core.specs.SingleRate.{gain, single_rate, with_token}
+
+below : (level size : ℕ) → level < size → ltb level size ≡ true
+below level size h = grind (arith, nat_tests)
+
+at : (level size : ℕ) → size ≤ level → ltb level size ≡ false
+at level size h = grind (arith, nat_tests)
+
+to_committed : (p : SrTcmParameters) (l : Levels) → l.committed < p.committed_burst → with_token p l ≡ record { committed = l.committed + 1; excess = l.excess }
+unfolding with_token
+to_committed p l h = rw (below l.committed p.committed_burst h) refl
+
+to_excess : (p : SrTcmParameters) (l : Levels) → p.committed_burst ≤ l.committed → l.excess < p.excess_burst → with_token p l ≡ record { committed = l.committed; excess = l.excess + 1 }
+unfolding with_token
+to_excess p l full h = rw (at l.committed p.committed_burst full, below l.excess p.excess_burst h) refl
+
+to_none : (p : SrTcmParameters) (l : Levels) → p.committed_burst ≤ l.committed → p.excess_burst ≤ l.excess → with_token p l ≡ l
+unfolding with_token
+to_none p l full h = rw (at l.committed p.committed_burst full, at l.excess p.excess_burst h) refl
+
+-- some tokens at once: the committed bucket takes what it has room for, and the excess bucket is given the surplus
+unfoldable pub closed : SrTcmParameters → ℕ → ℕ → ℕ → Levels
+closed p count committed excess = record {
+  committed = with_tokens p.committed_burst count committed;
+  excess = with_tokens p.excess_burst (committed + count - with_tokens p.committed_burst count committed) excess;
+}
+
+one_more : (size count level next : ℕ) → tokens.with_token size level ≡ next → with_tokens size (suc count) level ≡ with_tokens size count next
+unfolding with_tokens
+one_more size count level next h = rw h refl
+
+-- Tokens one by one into the two buckets come to that.
+with_token-closed : (p : SrTcmParameters) (count committed excess : ℕ) → iterate (with_token p) count (record { committed = committed; excess = excess }) ≡ closed p count committed excess
+unfolding closed
+with_token-closed p zero committed excess =
+    let none : committed + 0 - committed ≡ 0 = omega arith in
+    rw (with_tokens-none p.committed_burst committed, none, with_tokens-none p.excess_burst excess) refl
+with_token-closed p (suc count) committed excess =
+    let l : Levels = record { committed = committed; excess = excess } in
+    elim (cases_lt committed p.committed_burst) [
+      | inl room ↦
+          let more = one_more p.committed_burst count committed (committed + 1) (with_token-below p.committed_burst committed room) in
+          let all : committed + suc count ≡ committed + 1 + count = omega arith in
+          rw (to_committed p l room, more, all) (with_token-closed p count (committed + 1) excess)
+      | inr full ↦
+          let same = with_tokens_over p.committed_burst count committed full in
+          let still = with_tokens_over p.committed_burst (suc count) committed full in
+          let surplus : committed + count - committed ≡ count = omega arith in
+          let surplus_more : committed + suc count - committed ≡ suc count = omega arith in
+          elim (cases_lt excess p.excess_burst) [
+            | inl room ↦
+                let more = one_more p.excess_burst count excess (excess + 1) (with_token-below p.excess_burst excess room) in
+                rw (to_excess p l full room, still, surplus_more, more)
+                (with_token-closed p count committed (excess + 1) ∙ rw (same, surplus) refl)
+            | inr no_room ↦
+                let more = one_more p.excess_burst count excess excess (with_token-at p.excess_burst excess no_room) in
+                rw (to_none p l full no_room, still, surplus_more, more)
+                (with_token-closed p count committed excess ∙ rw (same, surplus) refl)
+          ]
+    ]
+
+-- both levels before a packet
+pub levels_at-single_rate : (m : State SrTcmParameters Levels) (moment : ℕ)
+    → levels_at single_rate m (used m.newest moment)
+    ≡ closed m.parameters (given m.parameters.committed_rate m.origin (used m.newest moment) - given m.parameters.committed_rate m.origin m.newest) m.levels.committed m.levels.excess
+unfolding levels_at single_rate gain
+levels_at-single_rate m moment =
+    let l = m.levels in
+    iterated_to (with_token m.parameters) m.parameters.committed_rate m.origin m.newest (used m.newest moment) l (newest_le-used m.newest moment)
+    ∙ with_token-closed m.parameters (given m.parameters.committed_rate m.origin (used m.newest moment) - given m.parameters.committed_rate m.origin m.newest) l.committed l.excess
+
+-- and as a committed bucket that was filled and an excess bucket that was given its surplus
+pub levels_at-filled : (m : State SrTcmParameters Levels) (moment committed surplus excess : ℕ)
+    → committed ≡ with_tokens m.parameters.committed_burst (given m.parameters.committed_rate m.origin (used m.newest moment) - given m.parameters.committed_rate m.origin m.newest) m.levels.committed
+    → committed + surplus ≡ m.levels.committed + (given m.parameters.committed_rate m.origin (used m.newest moment) - given m.parameters.committed_rate m.origin m.newest)
+    → excess ≡ with_tokens m.parameters.excess_burst surplus m.levels.excess
+    → levels_at single_rate m (used m.newest moment) ≡ record { committed = committed; excess = excess }
+unfolding closed
+levels_at-filled m moment committed surplus excess c s e =
+    let rest : m.levels.committed + (given m.parameters.committed_rate m.origin (used m.newest moment) - given m.parameters.committed_rate m.origin m.newest) - committed ≡ surplus = omega arith in
+    levels_at-single_rate m moment ∙ rw (← c, rest, ← e) refl
+
+-- the surplus of a bucket that was filled up to the moment that is metered at, in the terms of its meter
+pub surplus-used : (rate origin newest moment now counted old new surplus : ℕ)
+    → counted ≡ given rate origin newest → now ≡ used newest moment → new + surplus ≡ old + (given rate origin now - counted)
+    → new + surplus ≡ old + (given rate origin (used newest moment) - given rate origin newest)
+surplus-used rate origin newest moment now counted old new surplus c n e = rw (← c, ← n) e

@@ -1,0 +1,17 @@
+use Rattle.std.proofs.Common.{arith, refl, sym}
+use Rattle.moment_core.proofs.TokenLaws.{given-origin}
+use Rattle.moment_core.specs.Metering.{opening}
+use Rattle.srtcm_core.specs.SingleRate.{full, single_rate}
+use Rattle.srtcm_core.proofs.meter.SrTcm.new.Goals as goal
+
+pub invariant_of-result : goal.invariant_of-result
+invariant_of-result c = record {
+  begun = omega arith;
+  committed_within = omega arith;
+  excess_within = omega arith;
+  committed_given = sym (given-origin c.args.parameters.committed_rate c.args.origin);
+}
+
+pub returns-in-None : goal.returns-in-None
+unfolding opening single_rate full
+returns-in-None c = (sym c.in-None.ensures, refl)

@@ -1,0 +1,3 @@
+pub mod SingleRate
+pub mod Kept
+pub mod Sizes

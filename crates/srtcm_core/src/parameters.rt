@@ -1,0 +1,49 @@
+ghost use Rattle.std.specs.Prelude.{◌≡◌};
+
+use moment_core::Rate;
+use thiserror::Error;
+
+/// The parameters of a single-rate three-colour meter (RFC 2697 section 2).
+#[derive(Clone, Copy, Debug, PartialEq, Eq, Hash)]
+pub struct SrTcmParameters {
+    /// The committed information rate, CIR, in bits per second.
+    pub committed_rate: Rate,
+    /// The committed burst size, CBS, in bytes.
+    pub committed_burst: u32,
+    /// The excess burst size, EBS, in bytes.
+    pub excess_burst: u32,
+}
+
+/// Why parameters are not those of a single-rate meter (RFC 2697 section 2).
+#[derive(Clone, Copy, Debug, PartialEq, Eq, Hash, Drop, Error)]
+pub enum SrTcmFault {
+    /// Both burst sizes are 0.
+    #[error("both burst sizes are 0")]
+    SizeZero,
+}
+
+impl SrTcmFault {
+    /// The fault's number: 1 for burst sizes that are both 0.
+    pub fn code(&self) -> u8
+        ensures { result ≡ 1 }
+    {
+        match self {
+            SrTcmFault::SizeZero => 1,
+        }
+    }
+}
+
+impl SrTcmParameters {
+    ghost use Rattle.srtcm_core.specs.SingleRate.{fault_of};
+
+    /// What is wrong with the parameters, if anything: that both burst sizes are 0 (RFC 2697 section 2).
+    pub fn fault(&self) -> Option<SrTcmFault>
+        ensures { result ≡ fault_of self.now }
+    {
+        if self.committed_burst == 0 && self.excess_burst == 0 {
+            Some(SrTcmFault::SizeZero)
+        } else {
+            None
+        }
+    }
+}
