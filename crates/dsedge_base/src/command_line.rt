@@ -24,11 +24,12 @@ fn meter_command<'a>(alloc: Global) -> Result<Command<'a>, AllocError>
     ensures shape { IfOk result (λ command. app_of command ≡ meter) }
     ensures local { IfOk result (λ command. (fields_of command).has_globals ≡ false) }
 {
+    let kind = "the meter: srtcm (RFC 2697), trtcm (RFC 2698) or rfc4115 (RFC 4115)";
     let mode = "whether it heeds the colour that a packet comes in with: blind or aware";
     let origin = "when the meter begins with full buckets, in nanoseconds [default: 0]";
     Command::new(alloc, "meter")
         .about("Meters the arrivals on standard input: lines MOMENT SIZE COLOUR, colour g, y or r.")
-        .arg(needed(alloc, "kind", "KIND", "the meter: trtcm (RFC 2698)"))?
+        .arg(needed(alloc, "kind", "KIND", kind))?
         .arg(needed(alloc, "mode", "MODE", mode))?
         .arg(needed(
             alloc,
@@ -41,9 +42,16 @@ fn meter_command<'a>(alloc: Global) -> Result<Command<'a>, AllocError>
             alloc,
             "pir",
             "RATE",
-            "peak information rate, in bits per second",
+            "peak information rate, in bits per second (trtcm)",
         ))?
-        .arg(choice(alloc, "pbs", "BYTES", "peak burst size"))?
+        .arg(choice(alloc, "pbs", "BYTES", "peak burst size (trtcm)"))?
+        .arg(choice(
+            alloc,
+            "eir",
+            "RATE",
+            "excess information rate, in bits per second (rfc4115)",
+        ))?
+        .arg(choice(alloc, "ebs", "BYTES", "excess burst size (srtcm, rfc4115)"))?
         .arg(choice(alloc, "origin", "MOMENT", origin))
 }
 

@@ -1,6 +1,8 @@
 use crate::{Plan, UsageFault, plan};
 use meter_book::{AnyMeter, Parameters};
 use moment_core::{Mode, Moment, Rate};
+use rfc4115_core::Rfc4115Parameters;
+use srtcm_core::SrTcmParameters;
 use std::alloc::Global;
 use std::test::Fail;
 use trtcm_core::TrTcmParameters;
@@ -55,6 +57,42 @@ fn meters_of_two_rates(rt: HostRuntime) -> Result<(), Fail> {
             peak_burst: pbs,
         };
         let expected = AnyMeter::new(Parameters::TrTcm(parameters), mode, Moment::new(origin)?)?;
+        let expected = format!(in alloc; "Meter({expected:?})")?;
+        let made = format!(in alloc; "{:?}", plan_for(alloc, line)??)?;
+        assert_eq!(rt; made.as_str(), expected.as_str(), "{line}");
+    }
+    Ok(())
+}
+
+#[test]
+fn meters_of_the_other_kinds(rt: HostRuntime) -> Result<(), Fail> {
+    let alloc = rt.alloc();
+    let single_rate = Parameters::SrTcm(SrTcmParameters {
+        committed_rate: Rate::new(8_000)?,
+        committed_burst: 1_000,
+        excess_burst: 500,
+    });
+    let separate_rates = Parameters::Rfc4115(Rfc4115Parameters {
+        committed_rate: Rate::new(8_000)?,
+        committed_burst: 0,
+        excess_rate: Rate::new(9_000)?,
+        excess_burst: 500,
+    });
+    for (line, parameters, mode, origin) in [
+        (
+            "meter --kind srtcm --mode aware --cir 8000 --cbs 1000 --ebs 500",
+            single_rate,
+            Mode::Aware,
+            0,
+        ),
+        (
+            "meter --ebs=500 --origin=7 --eir=9000 --cbs=0 --cir=8000 --mode=blind --kind=rfc4115",
+            separate_rates,
+            Mode::Blind,
+            7,
+        ),
+    ] {
+        let expected = AnyMeter::new(parameters, mode, Moment::new(origin)?)?;
         let expected = format!(in alloc; "Meter({expected:?})")?;
         let made = format!(in alloc; "{:?}", plan_for(alloc, line)??)?;
         assert_eq!(rt; made.as_str(), expected.as_str(), "{line}");
@@ -135,8 +173,17 @@ fn options_that_are_not_those_of_a_meter(rt: HostRuntime) -> Result<(), Fail> {
         "--kind trtcm --mode blind --cbs 1500 --pir 16000 --pbs 3000",
         "--kind trtcm --cir 8000 --cbs 1500 --pir 16000 --pbs 3000",
         "--mode blind --cir 8000 --cbs 1500 --pir 16000 --pbs 3000",
-        "--kind srtcm --mode blind --cir 8000 --cbs 1500 --ebs 1500",
-        "--kind rfc4115 --mode blind --cir 8000 --cbs 1500 --eir 8000 --ebs 1500",
+        "--kind srtcm --mode blind --cir 8000 --cbs 1500",
+        "--kind srtcm --mode blind --cir 8000 --cbs 0 --ebs 0",
+        "--kind srtcm --mode blind --cir 8000 --cbs 1500 --ebs 1500 --pir 16000",
+        "--kind srtcm --mode blind --cir 8000 --cbs 1500 --ebs 1500 --pbs 1500",
+        "--kind srtcm --mode blind --cir 8000 --cbs 1500 --ebs 1500 --eir 16000",
+        "--kind trtcm --mode blind --cir 8000 --cbs 1500 --pir 16000 --pbs 3000 --eir 8000",
+        "--kind rfc4115 --mode blind --cir 8000 --cbs 1500 --ebs 1500",
+        "--kind rfc4115 --mode blind --cir 8000 --cbs 1500 --eir 8000",
+        "--kind rfc4115 --mode blind --cir 8000 --cbs 0 --eir 8000 --ebs 0",
+        "--kind rfc4115 --mode blind --cir 8000 --cbs 1500 --eir 8000 --ebs 1500 --pir 16000",
+        "--kind rfc4115 --mode blind --cir 8000 --cbs 1500 --eir 8000 --ebs 1500 --pbs 1500",
         "--kind TRTCM --mode blind --cir 8000 --cbs 1500 --pir 16000 --pbs 3000",
         "--kind trtcm --mode Aware --cir 8000 --cbs 1500 --pir 16000 --pbs 3000",
         "--kind trtcm --mode blind --cir 8000 --cbs 1500 --pir 16000 --pbs 3000 --ebs 1",
@@ -220,6 +267,8 @@ fn help_for_the_program_and_its_command(rt: HostRuntime) -> Result<(), Fail> {
             "--cbs <BYTES>",
             "--pir <RATE>",
             "--pbs <BYTES>",
+            "--eir <RATE>",
+            "--ebs <BYTES>",
             "--origin <MOMENT>",
         ] {
             assert!(rt; help.as_str().contains(option), "{option} at {line}");
