@@ -82,10 +82,11 @@ impl Command for EnvelopeCommand {
         line: &[u8],
         _out: &mut Vec<u8>,
     ) -> Result<Option<Ending>, AllocError> {
-        let Some((moment, size)) = sized_moment(self.newest, line) else {
+        let Some(item) = sized_moment(self.newest, line) else {
             return Ok(Some(Ending::BadLine(number)));
         };
-        self.items.push((moment, size))?;
+        let moment = item.0;
+        self.items.push(item)?;
         self.newest = moment;
         Ok(None)
     }

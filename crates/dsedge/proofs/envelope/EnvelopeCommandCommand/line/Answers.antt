@@ -11,15 +11,15 @@ returns-in_default c later =
 
 pub returns : goal.returns
 returns c later =
-    rw (verdict_behind-good c.args.self.now.envelope c.args.self.now.items.items c.args.self.now.newest c.args.number c.args.line.now later (c.in-Some.moment, c.in-Some.size) (sym c.in-Some.ensures), c.in_ok-push.ensures.items) refl
+    rw (verdict_behind-good c.args.self.now.envelope c.args.self.now.items.items c.args.self.now.newest c.args.number c.args.line.now later c.in-Some.item (sym c.in-Some.ensures), c.in_ok-push.ensures.items) refl
 
 pub invariant_of-self-2-clause-in_order : goal.invariant_of-self-2-clause-in_order
 invariant_of-self-2-clause-in_order c =
-    let later : c.args.self.now.newest ≤ c.in-Some.moment = sized_since_not_before c.args.self.now.newest c.args.line.now (c.in-Some.moment, c.in-Some.size) (sym c.in-Some.ensures) in
+    let later : c.args.self.now.newest ≤ c.in-Some.item.0 = sized_since_not_before c.args.self.now.newest c.args.line.now c.in-Some.item (sym c.in-Some.ensures) in
     rw c.in_ok-push.ensures.items
-    (in_order_push c.args.self.now.newest c.args.self.now.items.items (c.in-Some.moment, c.in-Some.size) c.args.self.now.in_order c.args.self.now.past later)
+    (in_order_push c.args.self.now.newest c.args.self.now.items.items c.in-Some.item c.args.self.now.in_order c.args.self.now.past later)
 
 pub invariant_of-self-2-clause-past : goal.invariant_of-self-2-clause-past
 invariant_of-self-2-clause-past c =
-    let later : c.args.self.now.newest ≤ c.in-Some.moment = sized_since_not_before c.args.self.now.newest c.args.line.now (c.in-Some.moment, c.in-Some.size) (sym c.in-Some.ensures) in
-    rw c.in_ok-push.ensures.items (past_push c.args.self.now.newest c.args.self.now.items.items (c.in-Some.moment, c.in-Some.size) c.args.self.now.past later)
+    let later : c.args.self.now.newest ≤ c.in-Some.item.0 = sized_since_not_before c.args.self.now.newest c.args.line.now c.in-Some.item (sym c.in-Some.ensures) in
+    rw c.in_ok-push.ensures.items (past_push c.args.self.now.newest c.args.self.now.items.items c.in-Some.item c.args.self.now.past later)
