@@ -4,7 +4,7 @@ use Rattle.std.specs.Result.{OkIff, result_ok}
 use Rattle.std.proofs.lemmas.Bool.{and_parts, cases_eq, eq-eqb, leb-true, ne_eqb}
 use Rattle.std.proofs.lemmas.Option.{cond_some}
 use Rattle.line_text.specs.Numbers.{is_number, number_of, value_of}
-use Rattle.dsedge.specs.Arrivals.{arrival_of_fields}
+use Rattle.dsedge.specs.Arrivals.{arrival_of_fields, sized_of_fields}
 
 -- a number that is read is at most the most
 pub number_of_at_most : (most n : ℕ) (text : List ℕ) → number_of most text ≡ Some n → n ≤ most
@@ -39,3 +39,10 @@ result_ok_of_size (Err e) n h most =
       | inl none ↦ rw (eq-eqb n 0 none) refl
       | inr some ↦ absurd (h (omega arith, omega arith))
     ]
+
+-- other than two fields say no sized moment
+pub sized_of_other_fields : (fields : List (List ℕ)) → (length fields ≡ 2 → ⊥) → sized_of_fields fields ≡ None
+sized_of_other_fields [] other = refl
+sized_of_other_fields (a ∷ []) other = refl
+sized_of_other_fields (a ∷ b ∷ []) other = absurd (other refl)
+sized_of_other_fields (a ∷ b ∷ c ∷ more) other = refl

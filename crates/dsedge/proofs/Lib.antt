@@ -1,3 +1,4 @@
 pub mod ArrivalLemmas
 pub mod FrontLemmas
 pub mod MeteredLaws
+pub mod VerdictLaws

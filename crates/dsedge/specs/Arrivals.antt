@@ -1,5 +1,5 @@
--- The lines that say an arrival.
-use Rattle.std.specs.Prelude.{ℕ, ◌==◌, ◌+◌, ◌-◌, ◌^◌, List, [], ◌∷◌, Option, None, Some, option_and_then, if◌then◌else◌}
+-- The lines that say an arrival, and those that say a sized moment.
+use Rattle.std.specs.Prelude.{ℕ, ◌==◌, ◌+◌, ◌-◌, ◌^◌, nat_lt, List, [], ◌∷◌, Option, None, Some, option_and_then, if◌then◌else◌}
 use Rattle.line_text.specs.Lines.{fields_of}
 use Rattle.line_text.specs.Numbers.{number_of}
 use Rattle.meter_book.specs.declared.row.Arrival.{Arrival}
@@ -40,3 +40,25 @@ onto (Some arrival) later = arrival ∷ later
 unfoldable pub arrivals_from : ℕ → List (List ℕ) → List Arrival
 arrivals_from number [] = []
 arrivals_from number (line ∷ lines) = onto (arrival_in number line) (arrivals_from (number + 1) lines)
+
+abbrev pub sized_of_fields : List (List ℕ) → Option (ℕ × ℕ)
+sized_of_fields (at ∷ bytes ∷ []) =
+    option_and_then (λ moment. option_and_then (λ size. Some (moment, size)) (size_in bytes)) (number_of (2 ^ 63 - 1) at)
+sized_of_fields _ = None
+
+-- the sized moment that a line says: moment and size, one space apart
+unfoldable pub sized_in : List ℕ → Option (ℕ × ℕ)
+sized_in line = sized_of_fields (fields_of line)
+
+-- the sized moment that a line says, where it is not below a moment
+unfoldable pub sized_since : ℕ → List ℕ → Option (ℕ × ℕ)
+sized_since newest line = option_and_then (λ item. if nat_lt item.0 newest then None else Some item) (sized_in line)
+
+abbrev pub onward : Option (ℕ × ℕ) → (ℕ → List (ℕ × ℕ)) → List (ℕ × ℕ)
+onward None later = []
+onward (Some item) later = item ∷ later item.0
+
+-- the sized moments of lines, up to the first line that says none or falls below the moment before it
+unfoldable pub sized_from : ℕ → List (List ℕ) → List (ℕ × ℕ)
+sized_from newest [] = []
+sized_from newest (line ∷ lines) = onward (sized_since newest line) (λ moment. sized_from moment lines)

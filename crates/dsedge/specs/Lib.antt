@@ -3,3 +3,4 @@ pub mod Books
 pub mod Faults
 pub mod Metered
 pub mod Served
+pub mod Verdicts

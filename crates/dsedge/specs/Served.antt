@@ -5,7 +5,7 @@ use Rattle.line_text.specs.Lines.{lines_of}
 use Rattle.dsedge.specs.Books.{fresh_book}
 use Rattle.pcap_capture.specs.Counts.{count_after, next_count}
 use Rattle.dsedge_base.specs.declared.work.Plan.{Plan}
-use Rattle.dsedge_base.specs.declared.work.Plan.TheVariants.{Help, Meter}
+use Rattle.dsedge_base.specs.declared.work.Plan.TheVariants.{Envelope, Help, Meter}
 use Rattle.dsedge_lines.specs.Answers.{Answer, BeginsWith}
 use Rattle.dsedge_lines.specs.declared.command.Ending.{Ending}
 use Rattle.dsedge_lines.specs.declared.command.Ending.TheVariants as endings
@@ -15,11 +15,13 @@ use Rattle.dsedge.specs.declared.fault.Fault.{Fault}
 use Rattle.dsedge.specs.declared.fault.Fault.TheVariants as faults
 use Rattle.dsedge.specs.Faults.{IsFrontOf, fault_text, status_of}
 use Rattle.dsedge.specs.Metered.{answer_of}
+use Rattle.dsedge.specs.Verdicts.{envelope_for, verdict_on}
 
 -- the answer that a plan asks for, to the bytes of an input
 abbrev pub answer_for : Plan → List ℕ → Answer
 answer_for (Help text) bytes = record { text = string_bytes text; ending = endings.Whole }
 answer_for (Meter meter) bytes = answer_of (fresh_book meter) 1 (lines_of bytes)
+answer_for (Envelope rate burst) bytes = verdict_on (envelope_for rate burst) (lines_of bytes)
 
 -- an answer was written behind what stood, to its end; or a front of it, where a device failed or memory ran out
 pub record IsServed (answer : Answer) (outcome : Result Ending PumpFault) (before after : List ℕ) : Type 0 where

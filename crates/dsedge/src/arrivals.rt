@@ -1,8 +1,8 @@
 ghost use Rattle.std.specs.Prelude.{◌≡◌, ◌-◌, ◌^◌};
 ghost use Rattle.line_text.specs.Numbers.{number_of};
-ghost use Rattle.dsedge.specs.Arrivals.{arrival_in, colour_named, size_in};
+ghost use Rattle.dsedge.specs.Arrivals.{arrival_in, colour_named, size_in, sized_in, sized_since};
 
-use line_text::{number, three_fields};
+use line_text::{number, three_fields, two_fields};
 use meter_book::Arrival;
 use moment_core::{Colour, Moment, PacketSize};
 
@@ -57,4 +57,24 @@ pub fn arrival(line_number: u64, line: &[u8]) -> Option<Arrival>
         size: size(bytes)?,
         came: colour(letter)?,
     })
+}
+
+/// The sized moment that a line says, `MOMENT SIZE`, with the size in bytes.
+fn sized(line: &[u8]) -> Option<(Moment, u32)>
+    ensures { result ≡ sized_in line.now }
+{
+    let (at, bytes) = two_fields(line)?;
+    Some((moment(at)?, u32::from(size(bytes)?.get())))
+}
+
+/// The sized moment that a line says, `MOMENT SIZE`, where it is not before the newest moment.
+pub fn sized_moment(newest: Moment, line: &[u8]) -> Option<(Moment, u32)>
+    ensures { result ≡ sized_since newest line.now }
+{
+    let item = sized(line)?;
+    if item.0.get() < newest.get() {
+        None
+    } else {
+        Some(item)
+    }
 }

@@ -2,10 +2,13 @@
 #![tactic(auto)]
 
 mod arrivals;
+mod envelope;
 mod fault;
 mod meter;
 mod serve;
 mod start;
+#[cfg(test)]
+mod tests;
 
 use crate::start::start;
 use pcap_capture::{ReadIntake, WriteOutlet};

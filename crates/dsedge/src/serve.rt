@@ -4,6 +4,7 @@ ghost use Rattle.dsedge_lines.specs.declared.fault.PumpFault.{PumpFault};
 ghost use Rattle.dsedge_lines.specs.Faults.{is_read_fault, is_write_fault};
 ghost use Rattle.dsedge.specs.Served.{IsOfReads, IsOfWrites, IsServed, IsTold, answer_for, fault_of, status_for, told_of};
 
+use crate::envelope::EnvelopeCommand;
 use crate::fault::Fault;
 use crate::meter::MeterCommand;
 use dsedge_base::Plan;
@@ -34,6 +35,10 @@ pub fn answer<I: Intake, O: Outlet>(
         },
         Plan::Meter(meter) => {
             let mut command = MeterCommand::new(alloc, meter);
+            pump(alloc, &mut command, intake, output, TURNS)
+        }
+        Plan::Envelope { rate, burst } => {
+            let mut command = EnvelopeCommand::new(alloc, rate, burst);
             pump(alloc, &mut command, intake, output, TURNS)
         }
     }
@@ -80,7 +85,7 @@ fn tell<F: Outlet>(outcome: &Result<Ending, PumpFault>, faults: &mut F)
 
 /// Does what a plan asks for: answers on the output, tells a fault on `faults`, and gives the exit status.
 ///
-/// `texts` are the contents of the files that the plan names, in the order of its words; `meter` names none.
+/// `texts` are the contents of the files that the plan names, in the order of its words; `meter` and `envelope` name none.
 pub fn serve<I: Intake, O: Outlet, F: Outlet>(
     alloc: Global,
     plan: Plan,

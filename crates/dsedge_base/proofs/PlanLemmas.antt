@@ -1,7 +1,8 @@
 -- What words are answered with, from what the parser of command lines says of them.
-use Rattle.std.proofs.Common.{◌≡◌, ◌≢◌, ◌⊎◌, inl, inr, refl, ap, sym, subst, ◌∙◌, Bool, true, false, if◌then◌else◌, List, [], Option, None, Some, option_and_then, String, IfOk, IfErr}
+use Rattle.std.proofs.Common.{◌≡◌, ◌≢◌, ◌⊎◌, ℕ, codes, inl, inr, refl, ap, sym, subst, ◌∙◌, Bool, true, false, if◌then◌else◌, List, [], Option, None, Some, option_and_then, String, IfOk, IfErr}
 use Rattle.std.specs.declared.alloc.Global.{Global}
 use Rattle.std.specs.Option.{ok_or}
+use Rattle.std.specs.Str.{bytes_eq}
 use Rattle.meter_book.specs.declared.any_meter.AnyMeter.{AnyMeter}
 use Rattle.clap.specs.Words.{App, HasKind, HasMatchesOf, IsAmong, Row, Text, fault_of, is_simple, is_simple_and_free, kind_of, subcommand_of, subcommand_rows_of}
 use Rattle.clap.specs.declared.error.Error.{Error}
@@ -10,12 +11,12 @@ use Rattle.clap.specs.declared.error.kind.ErrorKind.{ErrorKind}
 use Rattle.clap.specs.declared.error.kind.ErrorKind.TheVariants.{DisplayHelp, OutOfMemory}
 use Rattle.clap.proofs.OnLiterals.{clap_on_literals}
 use Rattle.dsedge_base.specs.CommandLine.{dsedge}
-use Rattle.dsedge_base.specs.Options.{◌>>=◌}
-use Rattle.dsedge_base.specs.Plans.{IsHelp, IsPlanOf, IsRefusalOf, IsWellFormed, asked_by, plan_of}
+use Rattle.dsedge_base.specs.Options.{envelope_given, meter_given, ◌>>=◌}
+use Rattle.dsedge_base.specs.Plans.{IsHelp, IsPlanOf, IsRefusalOf, IsWellFormed, asked_by, given_by, plan_of}
 use Rattle.dsedge_base.specs.declared.fault.UsageFault.{UsageFault}
 use Rattle.dsedge_base.specs.declared.fault.UsageFault.TheVariants.{Usage, NoMemory}
 use Rattle.dsedge_base.specs.declared.work.Plan.{Plan}
-use Rattle.dsedge_base.specs.declared.work.Plan.TheVariants.{Help, Meter}
+use Rattle.dsedge_base.specs.declared.work.Plan.TheVariants.{Envelope, Help, Meter}
 
 -- the parser says exactly what it makes of a command line such as the program's
 pub dsedge-simple : is_simple dsedge ≡ true
@@ -26,21 +27,34 @@ pub dsedge-simple_and_free : is_simple_and_free dsedge ≡ true
 unfolding clap_on_literals
 dsedge-simple_and_free = refl
 
-meter-no_help : (named : Bool) (meter : Option AnyMeter) (text : String Global)
-    → (if named then meter >>= (λ m. Some (Meter m)) else None) ≡ Some (Help text) → ⊥
-meter-no_help false meter text e = cc
-meter-no_help true None text e = cc
-meter-no_help true (Some m) text e = cc
+meter-no_help : (meter : Option AnyMeter) (text : String Global) → (meter >>= (λ m. Some (Meter m))) ≡ Some (Help text) → ⊥
+meter-no_help None text e = cc
+meter-no_help (Some m) text e = cc
+
+envelope-no_help : (envelope : Option (ℕ × ℕ)) (text : String Global)
+    → (envelope >>= (λ e. Some (Envelope e.0 e.1))) ≡ Some (Help text) → ⊥
+envelope-no_help None text e = cc
+envelope-no_help (Some c) text e = cc
+
+-- what a command asks for is no help
+commands-no_help : (is_meter is_envelope : Bool) (meter : Option AnyMeter) (envelope : Option (ℕ × ℕ)) (text : String Global)
+    → (if is_meter then meter >>= (λ m. Some (Meter m))
+    else if is_envelope then envelope >>= (λ e. Some (Envelope e.0 e.1)) else None) ≡ Some (Help text) → ⊥
+commands-no_help true is_envelope meter envelope text e = meter-no_help meter text e
+commands-no_help false true meter envelope text e = envelope-no_help envelope text e
+commands-no_help false false meter envelope text e = cc
 
 plan_of-no_help : (command : Option (Text × List Row)) (text : String Global) → option_and_then plan_of command ≡ Some (Help text) → ⊥
 plan_of-no_help None text e = cc
-plan_of-no_help (Some c) text e = meter-no_help _ _ text e
+plan_of-no_help (Some c) text e = commands-no_help (bytes_eq c.0 (codes "meter")) (bytes_eq c.0 (codes "envelope"))
+    (meter_given (given_by c.1)) (envelope_given (given_by c.1)) text e
 
 -- well formed words are answered with what they ask for, or refused where they ask for nothing
 pub asked_by-answers : (words : List Text) (asked : Option Plan) → IsWellFormed words → asked ≡ asked_by words
     → IfOk (ok_or asked Usage) (IsPlanOf words) × IfErr (ok_or asked Usage) (IsRefusalOf words)
 asked_by-answers words None formed e = (tt, inr (formed, sym e))
 asked_by-answers words (Some (Meter m)) formed e = ((formed, sym e), tt)
+asked_by-answers words (Some (Envelope rate burst)) formed e = ((formed, sym e), tt)
 asked_by-answers words (Some (Help text)) formed e = absurd (plan_of-no_help (subcommand_of dsedge words) text (sym e))
 
 -- the same of a command line that is the program's and was parsed
@@ -68,6 +82,7 @@ parse-may_fail app words error is_dsedge fails =
 pub help-answers : (words : List Text) (kind : ErrorKind) (plan : Plan) → MayFail words kind → (kind ≡ DisplayHelp) × IsHelp plan
     → IsPlanOf words plan
 help-answers words kind (Meter m) fails help = absurd help.1
+help-answers words kind (Envelope rate burst) fails help = absurd help.1
 help-answers words kind (Help text) (inl memory) help = let apart : DisplayHelp ≡ OutOfMemory → ⊥ = λ e. cc in absurd (apart (sym help.0 ∙ memory))
 help-answers words kind (Help text) (inr among) help = let P : ErrorKind → Type 0 = λ k. IsAmong k (fault_of dsedge words) in subst P help.0 among
 

@@ -12,13 +12,15 @@ required name = record (optional name) { required = true }
 
 -- the parameters of a meter, of which each kind has its own, and what every meter has
 abbrev pub meter : App
-meter = with_rule (with_rule (with_rule (with_rule (with_rule (with_rule (with_rule (new_app (codes "meter"))
+meter = with_rule (with_rule (with_rule (with_rule (with_rule (with_rule (with_rule (with_rule (with_rule (new_app (codes "meter"))
     (required (codes "kind")))
     (required (codes "mode")))
     (required (codes "cir")))
     (required (codes "cbs")))
     (optional (codes "pir")))
     (optional (codes "pbs")))
+    (optional (codes "eir")))
+    (optional (codes "ebs")))
     (optional (codes "origin"))
 
 -- the words stand alone, with no name of the program before them, and name a command
@@ -26,5 +28,11 @@ abbrev pub program : App
 program = let a = new_app (codes "dsedge") in
     record a { top = record a.top { no_binary_name = true; subcommand_required = true } }
 
+-- an envelope has a rate and a burst
+abbrev pub envelope : App
+envelope = with_rule (with_rule (new_app (codes "envelope"))
+    (required (codes "rate")))
+    (required (codes "burst"))
+
 abbrev pub dsedge : App
-dsedge = with_subcommand program meter.top
+dsedge = with_subcommand (with_subcommand program meter.top) envelope.top

@@ -1,5 +1,5 @@
 -- What the options of a command say, by the texts that they were given.
-use Rattle.std.specs.Prelude.{ℕ, ◌-◌, ◌^◌, ◌&&◌, nat_le, List, codes, Option, None, Some, is_some, if◌then◌else◌}
+use Rattle.std.specs.Prelude.{ℕ, ◌-◌, ◌^◌, Bool, ◌&&◌, ◌||◌, nat_le, List, codes, Option, None, Some, is_some, if◌then◌else◌}
 use Rattle.std.specs.Str.{bytes_eq}
 use Rattle.line_text.specs.Numbers.{number_of}
 use Rattle.moment_core.specs.declared.colour.Mode.{Mode}
@@ -8,6 +8,8 @@ use Rattle.meter_book.specs.AnyMeter.{fault_of, opening_of}
 use Rattle.meter_book.specs.declared.any_meter.AnyMeter.{AnyMeter}
 use Rattle.meter_book.specs.declared.any_meter.Parameters.{Parameters}
 use Rattle.meter_book.specs.declared.any_meter.Parameters.TheVariants as parameters
+use Rattle.rfc4115_core.specs.declared.parameters.Rfc4115Parameters.{Rfc4115Parameters}
+use Rattle.srtcm_core.specs.declared.parameters.SrTcmParameters.{SrTcmParameters}
 use Rattle.trtcm_core.specs.declared.parameters.TrTcmParameters.{TrTcmParameters}
 
 -- the text that an option was given, by the option's name
@@ -35,6 +37,10 @@ rate_said = number_within 1 (10 ^ 13)
 abbrev pub burst_said : List ℕ → Option ℕ
 burst_said = number_within 0 (2 ^ 32 - 1)
 
+-- bytes that an envelope may hold at once, at most 10^15
+abbrev pub envelope_burst_said : List ℕ → Option ℕ
+envelope_burst_said = number_within 0 (10 ^ 15)
+
 -- nanoseconds, below 2^63
 abbrev pub moment_said : List ℕ → Option ℕ
 moment_said = number_within 0 (2 ^ 63 - 1)
@@ -50,19 +56,42 @@ abbrev pub origin_said : Option (List ℕ) → Option ℕ
 origin_said None = Some 0
 origin_said (Some text) = moment_said text
 
--- the parameters of a two-rate meter (RFC 2698 section 2)
+abbrev pub is_given : Given → List ℕ → Bool
+is_given given name = is_some (given name)
+
+-- the parameters of a single-rate meter (RFC 2697 section 2), with no option of another kind beside them
+unfoldable pub single_rate_given : Given → Option SrTcmParameters
+single_rate_given given = if is_given given (codes "pir") || (is_given given (codes "pbs") || is_given given (codes "eir")) then None else do
+  cir ← given (codes "cir") >>= rate_said
+  cbs ← given (codes "cbs") >>= burst_said
+  ebs ← given (codes "ebs") >>= burst_said
+  Some (record { committed_rate = cir; committed_burst = cbs; excess_burst = ebs })
+
+-- the parameters of a two-rate meter (RFC 2698 section 2), likewise
 unfoldable pub two_rate_given : Given → Option TrTcmParameters
-two_rate_given given = do
+two_rate_given given = if is_given given (codes "eir") || is_given given (codes "ebs") then None else do
   cir ← given (codes "cir") >>= rate_said
   cbs ← given (codes "cbs") >>= burst_said
   pir ← given (codes "pir") >>= rate_said
   pbs ← given (codes "pbs") >>= burst_said
   Some (record { committed_rate = cir; committed_burst = cbs; peak_rate = pir; peak_burst = pbs })
 
+-- the parameters of a meter of two separate rates (RFC 4115 section 2), likewise
+unfoldable pub separate_rates_given : Given → Option Rfc4115Parameters
+separate_rates_given given = if is_given given (codes "pir") || is_given given (codes "pbs") then None else do
+  cir ← given (codes "cir") >>= rate_said
+  cbs ← given (codes "cbs") >>= burst_said
+  eir ← given (codes "eir") >>= rate_said
+  ebs ← given (codes "ebs") >>= burst_said
+  Some (record { committed_rate = cir; committed_burst = cbs; excess_rate = eir; excess_burst = ebs })
+
 -- the parameters of a meter of the kind that is named
 abbrev pub parameters_given : List ℕ → Given → Option Parameters
 parameters_given kind given =
-    if bytes_eq kind (codes "trtcm") then two_rate_given given >>= (λ p. Some (parameters.TrTcm p)) else None
+    if bytes_eq kind (codes "srtcm") then single_rate_given given >>= (λ p. Some (parameters.SrTcm p))
+    else if bytes_eq kind (codes "trtcm") then two_rate_given given >>= (λ p. Some (parameters.TrTcm p))
+    else if bytes_eq kind (codes "rfc4115") then separate_rates_given given >>= (λ p. Some (parameters.Rfc4115 p))
+    else None
 
 -- the meter of parameters that are those of one
 unfoldable pub opened : Parameters → Mode → ℕ → Option AnyMeter
@@ -76,3 +105,10 @@ meter_given given = do
   origin ← origin_said (given (codes "origin"))
   p ← parameters_given kind given
   opened p mode origin
+
+-- the rate and the burst that the options of `envelope` ask for
+unfoldable pub envelope_given : Given → Option (ℕ × ℕ)
+envelope_given given = do
+  rate ← given (codes "rate") >>= rate_said
+  burst ← given (codes "burst") >>= envelope_burst_said
+  Some (rate, burst)

@@ -5,11 +5,11 @@ use Rattle.clap.specs.Words.{IsAmong, Row, Text, fault_of, first_of, subcommand_
 use Rattle.clap.specs.declared.error.kind.ErrorKind.{ErrorKind}
 use Rattle.clap.specs.declared.error.kind.ErrorKind.TheVariants.{DisplayHelp}
 use Rattle.dsedge_base.specs.CommandLine.{dsedge}
-use Rattle.dsedge_base.specs.Options.{Given, meter_given, ◌>>=◌}
+use Rattle.dsedge_base.specs.Options.{Given, envelope_given, meter_given, ◌>>=◌}
 use Rattle.dsedge_base.specs.declared.fault.UsageFault.{UsageFault}
 use Rattle.dsedge_base.specs.declared.fault.UsageFault.TheVariants.{Usage, NoMemory}
 use Rattle.dsedge_base.specs.declared.work.Plan.{Plan}
-use Rattle.dsedge_base.specs.declared.work.Plan.TheVariants.{Help, Meter}
+use Rattle.dsedge_base.specs.declared.work.Plan.TheVariants.{Envelope, Help, Meter}
 
 -- the texts that the options of a command were given
 abbrev pub given_by : List Row → Given
@@ -17,7 +17,10 @@ given_by rows name = first_of name rows
 
 -- what a command and its options ask for
 abbrev pub plan_of : Text × List Row → Option Plan
-plan_of c = if bytes_eq c.0 (codes "meter") then meter_given (given_by c.1) >>= (λ m. Some (Meter m)) else None
+plan_of c =
+    if bytes_eq c.0 (codes "meter") then meter_given (given_by c.1) >>= (λ m. Some (Meter m))
+    else if bytes_eq c.0 (codes "envelope") then envelope_given (given_by c.1) >>= (λ e. Some (Envelope e.0 e.1))
+    else None
 
 -- the words are a command line of the program, with nothing wrong in its form
 abbrev pub IsWellFormed : List Text → Type 0
@@ -32,6 +35,7 @@ asked_by words = option_and_then plan_of (subcommand_of dsedge words)
 abbrev pub IsPlanOf : List Text → Plan → Type 0
 IsPlanOf words (Help text) = IsAmong DisplayHelp (fault_of dsedge words)
 IsPlanOf words (Meter m) = IsWellFormed words × (asked_by words ≡ Some (Meter m))
+IsPlanOf words (Envelope rate burst) = IsWellFormed words × (asked_by words ≡ Some (Envelope rate burst))
 
 -- something other than a wish for help stands against the form of the words
 abbrev pub IsMalformed : List Text → Type 0
@@ -46,3 +50,4 @@ IsRefusalOf words NoMemory = Unit {0}
 abbrev pub IsHelp : Plan → Type 0
 IsHelp (Help text) = Unit {0}
 IsHelp (Meter m) = ⊥
+IsHelp (Envelope rate burst) = ⊥

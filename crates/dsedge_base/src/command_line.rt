@@ -1,7 +1,7 @@
 ghost use Rattle.std.specs.Prelude.{◌≡◌, IfOk, true, false};
 ghost use Rattle.clap.specs.Words.{app_of, rule_of};
 ghost use Rattle.clap.specs.declared.builder.command.Command.TheViews.{out-Command as fields_of};
-ghost use Rattle.dsedge_base.specs.CommandLine.{dsedge, meter, optional, required};
+ghost use Rattle.dsedge_base.specs.CommandLine.{dsedge, envelope, meter, optional, required};
 
 use clap::{Arg, Command};
 use std::alloc::{AllocError, Global};
@@ -15,7 +15,8 @@ pub(crate) fn command_line<'a>(alloc: Global) -> Result<Command<'a>, AllocError>
         .about("A DiffServ traffic conditioner: three-colour meters for streams of packets.")
         .no_binary_name(true)
         .subcommand_required(true)
-        .subcommand(meter_command(alloc)?)
+        .subcommand(meter_command(alloc)?)?
+        .subcommand(envelope_command(alloc)?)
 }
 
 /// `dsedge meter`.
@@ -23,11 +24,12 @@ fn meter_command<'a>(alloc: Global) -> Result<Command<'a>, AllocError>
     ensures shape { IfOk result (λ command. app_of command ≡ meter) }
     ensures local { IfOk result (λ command. (fields_of command).has_globals ≡ false) }
 {
+    let kind = "the meter: srtcm (RFC 2697), trtcm (RFC 2698) or rfc4115 (RFC 4115)";
     let mode = "whether it heeds the colour that a packet comes in with: blind or aware";
     let origin = "when the meter begins with full buckets, in nanoseconds [default: 0]";
     Command::new(alloc, "meter")
         .about("Meters the arrivals on standard input: lines MOMENT SIZE COLOUR, colour g, y or r.")
-        .arg(needed(alloc, "kind", "KIND", "the meter: trtcm (RFC 2698)"))?
+        .arg(needed(alloc, "kind", "KIND", kind))?
         .arg(needed(alloc, "mode", "MODE", mode))?
         .arg(needed(
             alloc,
@@ -40,10 +42,30 @@ fn meter_command<'a>(alloc: Global) -> Result<Command<'a>, AllocError>
             alloc,
             "pir",
             "RATE",
-            "peak information rate, in bits per second",
+            "peak information rate, in bits per second (trtcm)",
         ))?
-        .arg(choice(alloc, "pbs", "BYTES", "peak burst size"))?
+        .arg(choice(alloc, "pbs", "BYTES", "peak burst size (trtcm)"))?
+        .arg(choice(
+            alloc,
+            "eir",
+            "RATE",
+            "excess information rate, in bits per second (rfc4115)",
+        ))?
+        .arg(choice(alloc, "ebs", "BYTES", "excess burst size (srtcm, rfc4115)"))?
         .arg(choice(alloc, "origin", "MOMENT", origin))
+}
+
+/// `dsedge envelope`.
+fn envelope_command<'a>(alloc: Global) -> Result<Command<'a>, AllocError>
+    ensures shape { IfOk result (λ command. app_of command ≡ envelope) }
+    ensures local { IfOk result (λ command. (fields_of command).has_globals ≡ false) }
+{
+    let rate = "the rate that the packets may keep up, in bits per second";
+    let burst = "the bytes that they may send beyond it, at any time";
+    Command::new(alloc, "envelope")
+        .about("Tests whether the packets on standard input, lines MOMENT SIZE, keep an envelope.")
+        .arg(needed(alloc, "rate", "RATE", rate))?
+        .arg(needed(alloc, "burst", "BYTES", burst))
 }
 
 /// An option that may be left out.

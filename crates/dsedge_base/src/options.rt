@@ -1,13 +1,19 @@
 ghost use Rattle.std.specs.Prelude.{◌≡◌, option_map};
 ghost use Rattle.clap.specs.Words.{first_of, found_of, rows_of};
-ghost use Rattle.dsedge_base.specs.Options.{burst_said, meter_given, mode_said, moment_said, opened, origin_said, parameters_given, rate_said, two_rate_given};
+ghost use Rattle.dsedge_base.specs.Options.{burst_said, envelope_burst_said, envelope_given, is_given, meter_given, mode_said, moment_said, opened};
+ghost use Rattle.dsedge_base.specs.Options.{origin_said, parameters_given, rate_said, separate_rates_given, single_rate_given, two_rate_given};
 ghost use Rattle.dsedge_base.specs.Plans.{given_by};
 
 use clap::ArgMatches;
 use line_text::number;
 use meter_book::{AnyMeter, Parameters};
 use moment_core::{Mode, Moment, Rate};
+use rfc4115_core::Rfc4115Parameters;
+use srtcm_core::SrTcmParameters;
 use trtcm_core::TrTcmParameters;
+
+/// The greatest burst of an envelope, in bytes.
+const MOST_ENVELOPE_BURST: u64 = 1_000_000_000_000_000;
 
 /// The meter that the options of `meter` ask for, if they ask for one.
 #[tactic(auto, unfolding(crate::specs::Options::meter_given))]
@@ -18,6 +24,16 @@ pub(crate) fn meter_in(options: &ArgMatches<'_>) -> Option<AnyMeter>
     let mode = mode_said_by(text_in(options, "mode")?)?;
     let origin = origin_said_by(text_in(options, "origin"))?;
     meter_opened(parameters_in(kind, options)?, mode, origin)
+}
+
+/// The rate and the burst that the options of `envelope` ask for, if they ask for any.
+#[tactic(auto, unfolding(crate::specs::Options::envelope_given))]
+pub(crate) fn envelope_in(options: &ArgMatches<'_>) -> Option<(Rate, u64)>
+    ensures { result ≡ envelope_given (given_by (rows_of (found_of options.now))) }
+{
+    let rate = rate_said_by(text_in(options, "rate")?)?;
+    let burst = envelope_burst_said_by(text_in(options, "burst")?)?;
+    Some((rate, burst))
 }
 
 /// The meter of parameters that are those of one.
@@ -33,22 +49,65 @@ fn parameters_in(kind: &str, options: &ArgMatches<'_>) -> Option<Parameters>
     ensures { result ≡ parameters_given kind.now (given_by (rows_of (found_of options.now))) }
 {
     match kind {
+        "srtcm" => Some(Parameters::SrTcm(single_rate_in(options)?)),
         "trtcm" => Some(Parameters::TrTcm(two_rate_in(options)?)),
+        "rfc4115" => Some(Parameters::Rfc4115(separate_rates_in(options)?)),
         _ => None,
     }
 }
 
-/// The parameters of a two-rate meter (RFC 2698 section 2).
+/// The parameters of a single-rate meter (RFC 2697 section 2), with no option of another kind beside them.
+#[tactic(auto, unfolding(crate::specs::Options::single_rate_given))]
+fn single_rate_in(options: &ArgMatches<'_>) -> Option<SrTcmParameters>
+    ensures { result ≡ single_rate_given (given_by (rows_of (found_of options.now))) }
+{
+    if is_given(options, "pir") || is_given(options, "pbs") || is_given(options, "eir") {
+        return None;
+    }
+    Some(SrTcmParameters {
+        committed_rate: rate_said_by(text_in(options, "cir")?)?,
+        committed_burst: burst_said_by(text_in(options, "cbs")?)?,
+        excess_burst: burst_said_by(text_in(options, "ebs")?)?,
+    })
+}
+
+/// The parameters of a two-rate meter (RFC 2698 section 2), with no option of another kind beside them.
 #[tactic(auto, unfolding(crate::specs::Options::two_rate_given))]
 fn two_rate_in(options: &ArgMatches<'_>) -> Option<TrTcmParameters>
     ensures { result ≡ two_rate_given (given_by (rows_of (found_of options.now))) }
 {
+    if is_given(options, "eir") || is_given(options, "ebs") {
+        return None;
+    }
     Some(TrTcmParameters {
         committed_rate: rate_said_by(text_in(options, "cir")?)?,
         committed_burst: burst_said_by(text_in(options, "cbs")?)?,
         peak_rate: rate_said_by(text_in(options, "pir")?)?,
         peak_burst: burst_said_by(text_in(options, "pbs")?)?,
     })
+}
+
+/// The parameters of a meter of two separate rates (RFC 4115 section 2), with no option of another kind beside them.
+#[tactic(auto, unfolding(crate::specs::Options::separate_rates_given))]
+fn separate_rates_in(options: &ArgMatches<'_>) -> Option<Rfc4115Parameters>
+    ensures { result ≡ separate_rates_given (given_by (rows_of (found_of options.now))) }
+{
+    if is_given(options, "pir") || is_given(options, "pbs") {
+        return None;
+    }
+    Some(Rfc4115Parameters {
+        committed_rate: rate_said_by(text_in(options, "cir")?)?,
+        committed_burst: burst_said_by(text_in(options, "cbs")?)?,
+        excess_rate: rate_said_by(text_in(options, "eir")?)?,
+        excess_burst: burst_said_by(text_in(options, "ebs")?)?,
+    })
+}
+
+/// Whether an option is given.
+fn is_given(options: &ArgMatches<'_>, name: &str) -> bool
+    ensures { result ≡ is_given (given_by (rows_of (found_of options.now))) name.now }
+{
+    text_in(options, name).is_some()
 }
 
 /// The text that an option was given.
@@ -101,4 +160,17 @@ fn burst_said_by(text: &str) -> Option<u32>
     ensures { result ≡ burst_said text.now }
 {
     u32::try_from(number(text.as_bytes(), u64::MAX)?).ok()
+}
+
+/// The burst of an envelope that a text says, in bytes.
+#[tactic(auto, unfolding(crate::specs::Options::number_within))]
+fn envelope_burst_said_by(text: &str) -> Option<u64>
+    ensures { result ≡ envelope_burst_said text.now }
+{
+    let burst = number(text.as_bytes(), u64::MAX)?;
+    if burst <= MOST_ENVELOPE_BURST {
+        Some(burst)
+    } else {
+        None
+    }
 }

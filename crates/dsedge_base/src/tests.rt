@@ -1,6 +1,8 @@
 use crate::{Plan, UsageFault, plan};
 use meter_book::{AnyMeter, Parameters};
 use moment_core::{Mode, Moment, Rate};
+use rfc4115_core::Rfc4115Parameters;
+use srtcm_core::SrTcmParameters;
 use std::alloc::Global;
 use std::test::Fail;
 use trtcm_core::TrTcmParameters;
@@ -15,7 +17,7 @@ fn plan_for(alloc: Global, line: &str) -> Result<Result<Plan, UsageFault>, Fail>
 fn help_for(alloc: Global, line: &str) -> Result<String, Fail> {
     match plan_for(alloc, line)?? {
         Plan::Help(text) => Ok(text),
-        Plan::Meter(_meter) => Err(Fail::from("a meter")),
+        _ => Err(Fail::from("no help")),
     }
 }
 
@@ -63,6 +65,62 @@ fn meters_of_two_rates(rt: HostRuntime) -> Result<(), Fail> {
 }
 
 #[test]
+fn meters_of_the_other_kinds(rt: HostRuntime) -> Result<(), Fail> {
+    let alloc = rt.alloc();
+    let single_rate = Parameters::SrTcm(SrTcmParameters {
+        committed_rate: Rate::new(8_000)?,
+        committed_burst: 1_000,
+        excess_burst: 500,
+    });
+    let separate_rates = Parameters::Rfc4115(Rfc4115Parameters {
+        committed_rate: Rate::new(8_000)?,
+        committed_burst: 0,
+        excess_rate: Rate::new(9_000)?,
+        excess_burst: 500,
+    });
+    for (line, parameters, mode, origin) in [
+        (
+            "meter --kind srtcm --mode aware --cir 8000 --cbs 1000 --ebs 500",
+            single_rate,
+            Mode::Aware,
+            0,
+        ),
+        (
+            "meter --ebs=500 --origin=7 --eir=9000 --cbs=0 --cir=8000 --mode=blind --kind=rfc4115",
+            separate_rates,
+            Mode::Blind,
+            7,
+        ),
+    ] {
+        let expected = AnyMeter::new(parameters, mode, Moment::new(origin)?)?;
+        let expected = format!(in alloc; "Meter({expected:?})")?;
+        let made = format!(in alloc; "{:?}", plan_for(alloc, line)??)?;
+        assert_eq!(rt; made.as_str(), expected.as_str(), "{line}");
+    }
+    Ok(())
+}
+
+#[test]
+fn envelopes(rt: HostRuntime) -> Result<(), Fail> {
+    let alloc = rt.alloc();
+    for (line, rate, burst) in [
+        ("envelope --rate 800000000 --burst 21", 800_000_000, 21),
+        ("envelope --burst=0 --rate=01", 1, 0),
+        (
+            "envelope --rate 10000000000000 --burst 1000000000000000",
+            10_000_000_000_000,
+            1_000_000_000_000_000,
+        ),
+    ] {
+        let rate = Rate::new(rate)?;
+        let expected = format!(in alloc; "{:?}", Plan::Envelope { rate, burst })?;
+        let made = format!(in alloc; "{:?}", plan_for(alloc, line)??)?;
+        assert_eq!(rt; made.as_str(), expected.as_str(), "{line}");
+    }
+    Ok(())
+}
+
+#[test]
 fn words_that_are_no_command(rt: HostRuntime) -> Result<(), Fail> {
     let alloc = rt.alloc();
     assert_eq!(rt; plan::<&str>(alloc, &[]).err(), Some(UsageFault::Usage));
@@ -77,7 +135,17 @@ fn words_that_are_no_command(rt: HostRuntime) -> Result<(), Fail> {
         "--kind trtcm",
         "help metre",
         "meter --version",
-        "envelope --rate 1 --burst 1",
+        "envelope",
+        "envelope --rate 1",
+        "envelope --burst 1",
+        "envelope --rate 1 --burst 1 --burst 1",
+        "envelope --rate 1 --burst 1 --origin 0",
+        "envelope --rate 1 --burst 1 more",
+        "envelope --rate 0 --burst 1",
+        "envelope --rate 10000000000001 --burst 1",
+        "envelope --rate 1 --burst 1000000000000001",
+        "envelope --rate 1 --burst +1",
+        "envelope --rate 1 --burst -1",
         "certify domain.toml",
         "check domain.toml domain.cert",
         "mark domain.toml domain.cert --port p --workers 1 --red keep",
@@ -105,8 +173,17 @@ fn options_that_are_not_those_of_a_meter(rt: HostRuntime) -> Result<(), Fail> {
         "--kind trtcm --mode blind --cbs 1500 --pir 16000 --pbs 3000",
         "--kind trtcm --cir 8000 --cbs 1500 --pir 16000 --pbs 3000",
         "--mode blind --cir 8000 --cbs 1500 --pir 16000 --pbs 3000",
-        "--kind srtcm --mode blind --cir 8000 --cbs 1500 --ebs 1500",
-        "--kind rfc4115 --mode blind --cir 8000 --cbs 1500 --eir 8000 --ebs 1500",
+        "--kind srtcm --mode blind --cir 8000 --cbs 1500",
+        "--kind srtcm --mode blind --cir 8000 --cbs 0 --ebs 0",
+        "--kind srtcm --mode blind --cir 8000 --cbs 1500 --ebs 1500 --pir 16000",
+        "--kind srtcm --mode blind --cir 8000 --cbs 1500 --ebs 1500 --pbs 1500",
+        "--kind srtcm --mode blind --cir 8000 --cbs 1500 --ebs 1500 --eir 16000",
+        "--kind trtcm --mode blind --cir 8000 --cbs 1500 --pir 16000 --pbs 3000 --eir 8000",
+        "--kind rfc4115 --mode blind --cir 8000 --cbs 1500 --ebs 1500",
+        "--kind rfc4115 --mode blind --cir 8000 --cbs 1500 --eir 8000",
+        "--kind rfc4115 --mode blind --cir 8000 --cbs 0 --eir 8000 --ebs 0",
+        "--kind rfc4115 --mode blind --cir 8000 --cbs 1500 --eir 8000 --ebs 1500 --pir 16000",
+        "--kind rfc4115 --mode blind --cir 8000 --cbs 1500 --eir 8000 --ebs 1500 --pbs 1500",
         "--kind TRTCM --mode blind --cir 8000 --cbs 1500 --pir 16000 --pbs 3000",
         "--kind trtcm --mode Aware --cir 8000 --cbs 1500 --pir 16000 --pbs 3000",
         "--kind trtcm --mode blind --cir 8000 --cbs 1500 --pir 16000 --pbs 3000 --ebs 1",
@@ -169,6 +246,12 @@ fn help_for_the_program_and_its_command(rt: HostRuntime) -> Result<(), Fail> {
         assert!(rt; help.as_str().contains("Usage: dsedge <COMMAND>"), "{line}");
         assert!(rt; help.as_str().contains("meter"), "{line}");
     }
+    for line in ["envelope --help", "help envelope"] {
+        let help = help_for(alloc, line)?;
+        assert!(rt; help.as_str().contains("Usage: dsedge envelope "), "{line}");
+        assert!(rt; help.as_str().contains("--rate <RATE>"), "{line}");
+        assert!(rt; help.as_str().contains("--burst <BYTES>"), "{line}");
+    }
     for line in [
         "meter --help",
         "meter -h",
@@ -184,6 +267,8 @@ fn help_for_the_program_and_its_command(rt: HostRuntime) -> Result<(), Fail> {
             "--cbs <BYTES>",
             "--pir <RATE>",
             "--pbs <BYTES>",
+            "--eir <RATE>",
+            "--ebs <BYTES>",
             "--origin <MOMENT>",
         ] {
             assert!(rt; help.as_str().contains(option), "{option} at {line}");

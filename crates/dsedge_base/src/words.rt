@@ -4,7 +4,7 @@ ghost use Rattle.dsedge_base.specs.Plans.{IsHelp, IsPlanOf, IsRefusalOf, plan_of
 
 use crate::command_line::command_line;
 use crate::fault::UsageFault;
-use crate::options::meter_in;
+use crate::options::{envelope_in, meter_in};
 use crate::work::Plan;
 use clap::error::ErrorKind;
 use clap::{ArgMatches, Error};
@@ -40,6 +40,10 @@ fn asked_of(name: &str, options: &ArgMatches<'_>) -> Option<Plan>
 {
     match name {
         "meter" => Some(Plan::Meter(meter_in(options)?)),
+        "envelope" => {
+            let (rate, burst) = envelope_in(options)?;
+            Some(Plan::Envelope { rate, burst })
+        }
         _ => None,
     }
 }

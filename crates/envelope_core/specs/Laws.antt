@@ -1,9 +1,11 @@
 -- What holds of envelopes whatever the order of the sized moments (Cruz 1991, section II).
-use Rattle.std.specs.Prelude.{ℕ, ◌+◌, ◌≤◌, List, ◌++◌, All, map, filter, Bool}
+use Rattle.std.specs.Prelude.{◌≡◌, ℕ, ◌+◌, ◌<◌, ◌≤◌, ◌↔◌, List, ◌++◌, All, length, map, filter, take, Bool, Option, None, Some}
 use Rattle.std.specs.List.{flat_map}
 use Rattle.std.specs.List.Sorted.{IsPermutation}
 use Rattle.moment_core.specs.Conformance.{Keeps}
 use Rattle.envelope_core.specs.Curve.{Curve, KeepsCurve, widened, total}
+use Rattle.envelope_core.specs.LeakyBucket.{overflow_of}
+use Rattle.envelope_core.specs.Order.{IsInOrder}
 
 -- a flow: its envelope and its sized moments
 pub record Flow : Type 0 where
@@ -67,3 +69,17 @@ LooserEnvelopesAreKept =
     → burst ≤ more_burst
     → Keeps rate burst items
     → Keeps more_rate more_burst items
+
+-- An index is the first at which sized moments leave an envelope: those before it keep it, and with its own they do not.
+abbrev pub IsFirstBeyond : ℕ → ℕ → List (ℕ × ℕ) → ℕ → Type 0
+IsFirstBeyond rate burst items index =
+    (index < length items) × Keeps rate burst (take index items) × ¬ Keeps rate burst (take (index + 1) items)
+
+-- Over sized moments in order a leaky bucket takes all in exactly where they keep its rate and its depth, and overflows only
+-- at the first at which they do not.
+abbrev pub BucketsTell : Type 0
+BucketsTell =
+    (rate burst : ℕ) (items : List (ℕ × ℕ))
+    → IsInOrder items
+    → ((overflow_of rate burst items ≡ None) ↔ Keeps rate burst items)
+    × ((index : ℕ) → overflow_of rate burst items ≡ Some index → IsFirstBeyond rate burst items index)

@@ -1,3 +1,4 @@
 pub mod Curve
 pub mod Laws
+pub mod LeakyBucket
 pub mod Order

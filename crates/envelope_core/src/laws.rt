@@ -1,5 +1,6 @@
 //! The laws of envelopes, each proved as the contract of a function that does nothing.
 ghost use Rattle.envelope_core.specs.Laws.{
+  BucketsTell,
   TwoFlowsAdd,
   FlowsAdd,
   DelaysWiden,
@@ -43,4 +44,10 @@ pub fn selections_keep()
 /// An envelope with no less rate and no less burst is kept too.
 pub fn looser_envelopes_are_kept()
     ensures { LooserEnvelopesAreKept }
+{}
+
+/// Over sized moments in order, a leaky bucket overflows exactly where they leave the envelope of its rate and its depth,
+/// and first at the packet at which they do (Turner 1986; Cruz 1991, section II).
+pub fn buckets_tell()
+    ensures { BucketsTell }
 {}

@@ -1,25 +1,15 @@
-use Rattle.std.proofs.Common.{◌≡◌, ◌||◌, false, ap, ap₂, ◌∙◌, codes}
+use Rattle.std.proofs.Common.{◌≡◌, false, ap, ◌∙◌, codes}
 use Rattle.std.proofs.lemmas.Result.{IfOk-weaker}
 use Rattle.clap.specs.Simple.{app_of_fields}
-use Rattle.clap.specs.Words.{AddsArg, App, Rule, app_of, new_app, rule_of, with_rule}
-use Rattle.clap.specs.declared.builder.arg.Arg.{Arg}
+use Rattle.clap.specs.Words.{AddsArg, app_of, new_app}
 use Rattle.clap.specs.declared.builder.command.Command.{Command}
 use Rattle.clap.specs.declared.builder.command.Command.TheViews.{out-Command as fields_of}
 use Rattle.dsedge_base.specs.CommandLine.{meter}
+use Rattle.dsedge_base.proofs.CommandLemmas.{IsApp, with_option}
 use Rattle.dsedge_base.proofs.command_line.meter_command.Goals as goal
 
--- the command is this one, and no argument of it is global
-abbrev IsApp : App → Command → Type 0
-IsApp app command = (app_of command ≡ app) × ((fields_of command).has_globals ≡ false)
-
--- with one more option
-with_option : (app : App) (rule : Rule) (old : Command) (option : Arg) (new : Command) → IsApp app old → rule_of option ≡ rule
-    → option.global ≡ false → AddsArg old option new → IsApp (with_rule app rule) new
-with_option app rule old option new is_app is_rule local adds =
-    (adds.shape local ∙ ap₂ with_rule is_app.0 is_rule, adds.globals ∙ ap₂ ◌||◌ is_app.1 local)
-
 -- with all of its options
-whole : (c : goal.After-arg-7) (command : Command) → AddsArg c.in_ok-arg-6.field-0 c.choice-3.result command → IsApp meter command
+whole : (c : goal.After-arg-9) (command : Command) → AddsArg c.in_ok-arg-8.field-0 c.choice-5.result command → IsApp meter command
 whole c command adds =
     let named : app_of c.about.result ≡ new_app (codes "meter") = ap app_of_fields c.about.ensures ∙ c.new.ensures.app in
     let local : (fields_of c.about.result).has_globals ≡ false = rw c.about.ensures c.new.ensures.local in
@@ -29,10 +19,12 @@ whole c command adds =
     let cbs = with_option _ _ _ _ _ cir c.needed-4.ensures.rule c.needed-4.ensures.local c.in_ok-arg-4.ensures in
     let pir = with_option _ _ _ _ _ cbs c.choice.ensures.rule c.choice.ensures.local c.in_ok-arg-5.ensures in
     let pbs = with_option _ _ _ _ _ pir c.choice-2.ensures.rule c.choice-2.ensures.local c.in_ok-arg-6.ensures in
-    with_option _ _ _ _ _ pbs c.choice-3.ensures.rule c.choice-3.ensures.local adds
+    let eir = with_option _ _ _ _ _ pbs c.choice-3.ensures.rule c.choice-3.ensures.local c.in_ok-arg-7.ensures in
+    let ebs = with_option _ _ _ _ _ eir c.choice-4.ensures.rule c.choice-4.ensures.local c.in_ok-arg-8.ensures in
+    with_option _ _ _ _ _ ebs c.choice-5.ensures.rule c.choice-5.ensures.local adds
 
 pub returns-clause-shape : goal.returns-clause-shape
-returns-clause-shape c = IfOk-weaker c.arg-7.result _ _ (λ command adds. (whole c command adds).0) c.arg-7.ensures
+returns-clause-shape c = IfOk-weaker c.arg-9.result _ _ (λ command adds. (whole c command adds).0) c.arg-9.ensures
 
 pub returns-clause-local : goal.returns-clause-local
-returns-clause-local c = IfOk-weaker c.arg-7.result _ _ (λ command adds. (whole c command adds).1) c.arg-7.ensures
+returns-clause-local c = IfOk-weaker c.arg-9.result _ _ (λ command adds. (whole c command adds).1) c.arg-9.ensures
