@@ -1,3 +1,7 @@
+ghost use Rattle.std.specs.Prelude.{◌≡◌};
+ghost use Rattle.dsedge.specs.Faults.{fault_text, status_of};
+ghost use Rattle.dsedge.specs.Served.{IsTold};
+
 use crate::fault::Fault;
 use crate::serve::serve;
 use dsedge_base::{UsageFault, plan};
@@ -6,7 +10,11 @@ use pcap_capture::{Intake, Outlet};
 use std::alloc::Global;
 
 /// Tells a fault, and gives its exit status. A failure to write it is passed over.
-fn refuse<F: Outlet>(fault: Fault, faults: &mut F) -> u8 {
+fn refuse<F: Outlet>(fault: Fault, faults: &mut F) -> u8
+    ensures status { result ≡ status_of fault }
+    ensures told { F.tells faults.old →
+        IsTold (fault_text fault) (F.held faults.old) (F.held faults.new) (F.failed faults.old) (F.failed faults.new) }
+{
     let _told = fault.tell(faults);
     fault.status()
 }
@@ -19,7 +27,10 @@ pub fn start<I: Intake, O: Outlet, F: Outlet>(
     intake: &mut I,
     output: &mut O,
     faults: &mut F,
-) -> u8 {
+) -> u8
+    // Words that are refused leave the output as it was.
+    ensures usage { result ≡ 2 → O.held output.new ≡ O.held output.old }
+{
     let words = if given.is_empty() {
         match first_line(alloc, intake) {
             Ok(words) => words,
