@@ -41,7 +41,11 @@ fn expect(
 ) -> Result<(), Fail> {
     let intake = SliceIntake::new(input.as_bytes());
     let done = run(alloc, words, intake, VecOutlet::new(Vec::new(alloc)))?;
-    assert_eq!(rt; done.output.as_slice(), output.as_bytes(), "{words}: {input}");
+    assert_eq!(rt;
+        done.output.as_slice(),
+        output.as_bytes(),
+        "{words}: {input}"
+    );
     assert_eq!(rt; done.told.as_slice(), told.as_bytes(), "{words}: {input}");
     assert_eq!(rt; done.status, status, "{words}: {input}");
     Ok(())
@@ -74,13 +78,37 @@ fn colours_and_accounts(rt: HostRuntime) -> Result<(), Fail> {
 #[test]
 fn lines_that_are_no_arrival(rt: HostRuntime) -> Result<(), Fail> {
     for line in [
-        "", "0 0 g", "0 1 g\r", "0  1 g", " 0 1 g", "0 1 g ", "0 1", "0 1 g 2", "0 1 b", "0 1 green",
-        "0 65536 g", "9223372036854775808 1 g", "000000000000000000000 1 g", "-1 1 g", "+1 1 g", "x 1 g",
+        "",
+        "0 0 g",
+        "0 1 g\r",
+        "0  1 g",
+        " 0 1 g",
+        "0 1 g ",
+        "0 1",
+        "0 1 g 2",
+        "0 1 b",
+        "0 1 green",
+        "0 65536 g",
+        "9223372036854775808 1 g",
+        "000000000000000000000 1 g",
+        "-1 1 g",
+        "+1 1 g",
+        "x 1 g",
     ] {
         let first = format!(in rt.alloc(); "{line}\n0 1 g\n")?;
-        expect(&rt, rt.alloc(), (BLIND, first.as_str()), ("", "dsedge: line 1\n", 3))?;
+        expect(
+            &rt,
+            rt.alloc(),
+            (BLIND, first.as_str()),
+            ("", "dsedge: line 1\n", 3),
+        )?;
         let second = format!(in rt.alloc(); "0 1 g\n{line}\n")?;
-        expect(&rt, rt.alloc(), (BLIND, second.as_str()), ("green\n", "dsedge: line 2\n", 3))?;
+        expect(
+            &rt,
+            rt.alloc(),
+            (BLIND, second.as_str()),
+            ("green\n", "dsedge: line 2\n", 3),
+        )?;
     }
     Ok(())
 }
@@ -89,11 +117,36 @@ fn lines_that_are_no_arrival(rt: HostRuntime) -> Result<(), Fail> {
 fn envelopes_kept_and_left(rt: HostRuntime) -> Result<(), Fail> {
     for (words, input, output, status) in [
         ("envelope --rate 1 --burst 0", "", "kept\n", 0),
-        ("envelope --rate 8000000000 --burst 10", "0 10\n5 5\n6 2\n", "over 3\n", 1),
-        ("envelope --rate 1 --burst 1", "0 1\n7999999999 1\n", "over 2\n", 1),
-        ("envelope --rate 1 --burst 1", "0 1\n8000000000 1", "kept\n", 0),
-        ("envelope --rate 800000000 --burst 21", "9 20\n10 1\n", "kept\n", 0),
-        ("envelope --rate 800000000 --burst 20", "9 20\n10 1\n", "over 2\n", 1),
+        (
+            "envelope --rate 8000000000 --burst 10",
+            "0 10\n5 5\n6 2\n",
+            "over 3\n",
+            1,
+        ),
+        (
+            "envelope --rate 1 --burst 1",
+            "0 1\n7999999999 1\n",
+            "over 2\n",
+            1,
+        ),
+        (
+            "envelope --rate 1 --burst 1",
+            "0 1\n8000000000 1",
+            "kept\n",
+            0,
+        ),
+        (
+            "envelope --rate 800000000 --burst 21",
+            "9 20\n10 1\n",
+            "kept\n",
+            0,
+        ),
+        (
+            "envelope --rate 800000000 --burst 20",
+            "9 20\n10 1\n",
+            "over 2\n",
+            1,
+        ),
         ("envelope --rate 1 --burst 1", "0 2\n0 2\n", "over 1\n", 1),
     ] {
         expect(&rt, rt.alloc(), (words, input), (output, "", status))?;
@@ -104,9 +157,24 @@ fn envelopes_kept_and_left(rt: HostRuntime) -> Result<(), Fail> {
 #[test]
 fn lines_that_are_no_sized_moment(rt: HostRuntime) -> Result<(), Fail> {
     let words = "envelope --rate 1 --burst 10";
-    for line in ["", "4 1", "5 0", "5 1\r", "5  1", "5", "5 1 g", "5 65536", "9223372036854775808 1"] {
+    for line in [
+        "",
+        "4 1",
+        "5 0",
+        "5 1\r",
+        "5  1",
+        "5",
+        "5 1 g",
+        "5 65536",
+        "9223372036854775808 1",
+    ] {
         let input = format!(in rt.alloc(); "5 1\n{line}\n")?;
-        expect(&rt, rt.alloc(), (words, input.as_str()), ("", "dsedge: line 2\n", 3))?;
+        expect(
+            &rt,
+            rt.alloc(),
+            (words, input.as_str()),
+            ("", "dsedge: line 2\n", 3),
+        )?;
     }
     Ok(())
 }
@@ -118,7 +186,12 @@ fn words_that_are_refused(rt: HostRuntime) -> Result<(), Fail> {
         "meter --kind trtcm --mode aware --cir 8000 --cbs 0 --pir 16000 --pbs 2000",
         "envelope --rate 0 --burst 1",
     ] {
-        expect(&rt, rt.alloc(), (words, "0 1\n"), ("", "dsedge: usage\n", 2))?;
+        expect(
+            &rt,
+            rt.alloc(),
+            (words, "0 1\n"),
+            ("", "dsedge: usage\n", 2),
+        )?;
     }
     Ok(())
 }
@@ -129,7 +202,13 @@ fn words_on_the_first_line(rt: HostRuntime) -> Result<(), Fail> {
     let mut intake = SliceIntake::new(b"envelope --rate 1 --burst 1\n0 1\n7999999999 1\n");
     let mut output = VecOutlet::new(Vec::new(alloc));
     let mut faults = VecOutlet::new(Vec::new(alloc));
-    let status = start(alloc, Vec::new(alloc), &mut intake, &mut output, &mut faults);
+    let status = start(
+        alloc,
+        Vec::new(alloc),
+        &mut intake,
+        &mut output,
+        &mut faults,
+    );
     assert_eq!(rt; status, 1);
     assert_eq!(rt; output.bytes.as_slice(), b"over 2\n".as_slice());
     assert!(rt; faults.bytes.is_empty());
@@ -143,7 +222,12 @@ fn a_read_that_fails(rt: HostRuntime) -> Result<(), Fail> {
         fails_at: Some(3),
         ..SliceIntake::new(b"0 1500 g\n0 1500 g\n0 1500 g\n")
     };
-    let done = run(rt.alloc(), BLIND, intake, VecOutlet::new(Vec::new(rt.alloc())))?;
+    let done = run(
+        rt.alloc(),
+        BLIND,
+        intake,
+        VecOutlet::new(Vec::new(rt.alloc())),
+    )?;
     assert_eq!(rt; done.output.as_slice(), b"green\nyellow\n".as_slice());
     assert_eq!(rt; done.told.as_slice(), b"dsedge: read\n".as_slice());
     assert_eq!(rt; done.status, 4);
@@ -161,7 +245,12 @@ fn a_write_that_fails(rt: HostRuntime) -> Result<(), Fail> {
             fails_at: Some(2),
             ..VecOutlet::new(Vec::new(rt.alloc()))
         };
-        let done = run(rt.alloc(), words, SliceIntake::new(input.as_bytes()), output)?;
+        let done = run(
+            rt.alloc(),
+            words,
+            SliceIntake::new(input.as_bytes()),
+            output,
+        )?;
         assert_eq!(rt; done.output.as_slice(), front.as_bytes());
         assert_eq!(rt; done.told.as_slice(), b"dsedge: write\n".as_slice());
         assert_eq!(rt; done.status, 4);

@@ -1,5 +1,5 @@
 -- Leaky buckets: the level is the backlog of a link, so a bucket overflows first where its envelope is left.
-use Rattle.std.proofs.Common.{◌≡◌, ℕ, ◌+◌, ◌-◌, ◌*◌, ◌<◌, ◌≤◌, ◌↔◌, suc, inl, inr, List, [], ◌∷◌, ◌++◌, Option, None, Some, arith, length, take, get_or, refl, sym, ap, ◌∙◌, append_assoc, length-append}
+use Rattle.std.proofs.Common.{◌≡◌, ℕ, ◌+◌, ◌-◌, ◌*◌, ◌<◌, ◌≤◌, ◌↔◌, suc, inl, inr, List, [], ◌∷◌, ◌++◌, Option, None, Some, arith, length, take, get_or, refl, ap, append_assoc, length-append}
 use Rattle.std.proofs.lemmas.Bool.{cases_lt, lt-ltb, le-ltb}
 use Rattle.std.proofs.lemmas.List.{append-nil, take-append-le, take_all, take-take}
 use Rattle.moment_core.specs.Conformance.{Keeps}
@@ -55,12 +55,11 @@ verdict_from rate burst level since index front [] at b kept rises =
 verdict_from rate burst level since index front (item ∷ items) at b kept rises =
     elim (cases_lt (8000000000 * burst) now) [
       | inl over ↦
-          rw (overflow_from-over rate burst level since index item items over)
-          (
+          rw (overflow_from-over rate burst level since index item items over) (
             omega (arith, length-append front (item ∷ items)),
             rw (take_front front (item ∷ items) index at) kept,
             rw (← append_assoc front (item ∷ []) items, take_front (front ++ item ∷ []) items (index + 1) further)
-            (Keeps-over rate now burst item.0 (front ++ item ∷ []) over more),
+                (Keeps-over rate now burst item.0 (front ++ item ∷ []) over more),
           )
       | inr within ↦
           rw (overflow_from-within rate burst level since index item items within, ← append_assoc front (item ∷ []) items)

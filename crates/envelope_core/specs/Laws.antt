@@ -1,5 +1,5 @@
 -- What holds of envelopes whatever the order of the sized moments (Cruz 1991, section II).
-use Rattle.std.specs.Prelude.{◌≡◌, ℕ, ◌+◌, ◌<◌, ◌≤◌, ◌↔◌, List, ◌++◌, All, length, map, filter, take, Bool, Option, None, Some}
+use Rattle.std.specs.Prelude.{◌≡◌, ℕ, ◌+◌, ◌<◌, ◌≤◌, ◌↔◌, List, ◌++◌, All, length, map, filter, take, Bool, None, Some}
 use Rattle.std.specs.List.{flat_map}
 use Rattle.std.specs.List.Sorted.{IsPermutation}
 use Rattle.moment_core.specs.Conformance.{Keeps}

@@ -1,4 +1,4 @@
-use Rattle.std.proofs.Common.{◌≡◌, ◌≤◌, ◌∷◌, [], ◌++◌, refl, sym, ◌∙◌}
+use Rattle.std.proofs.Common.{◌≤◌, refl, sym, ◌∙◌}
 use Rattle.dsedge_lines.specs.declared.command.Ending.TheVariants.{BadLine}
 use Rattle.dsedge.proofs.MeteredLaws.{behind-nothing}
 use Rattle.dsedge.proofs.VerdictLaws.{in_order_push, past_push, sized_since_not_before, verdict_behind-bad, verdict_behind-good}
