@@ -32,17 +32,10 @@ impl Bucket {
         ensures surplus { self.new.level + result ≡ self.old.level + tokens }
         ensures size { self.new.size ≡ self.old.size }
     {
-        let room = self.size - self.level;
-        match u32::try_from(tokens) {
-            Ok(few) if few <= room => {
-                self.level += few;
-                0
-            }
-            _ => {
-                self.level = self.size;
-                tokens - u128::from(room)
-            }
-        }
+        let room = u128::from(self.size - self.level);
+        let taken = tokens.min(room);
+        self.level += taken as u32;
+        tokens - taken
     }
 
     /// Takes in the tokens that a rate gives over a gap beside the part of a token that it gave before, `carry`, and
