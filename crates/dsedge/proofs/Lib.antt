@@ -1,4 +1,5 @@
 pub mod ArrivalLemmas
 pub mod FrontLemmas
 pub mod MeteredLaws
+pub mod StartLemmas
 pub mod VerdictLaws

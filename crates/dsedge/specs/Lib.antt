@@ -3,4 +3,5 @@ pub mod Books
 pub mod Faults
 pub mod Metered
 pub mod Served
+pub mod Started
 pub mod Verdicts

@@ -1,10 +1,14 @@
-ghost use Rattle.std.specs.Prelude.{◌≡◌};
+ghost use Rattle.std.specs.Prelude.{◌≡◌, ℕ, ◌≤◌, IfErr, IfOk, MatchResult, OnOk, map, string_bytes};
+ghost use Rattle.dsedge_base.specs.Plans.{IsPlanOf};
+ghost use Rattle.pcap_capture.specs.Counts.{count_after};
 ghost use Rattle.dsedge.specs.Faults.{fault_text, status_of};
-ghost use Rattle.dsedge.specs.Served.{IsTold};
+ghost use Rattle.dsedge.specs.Served.{IsOfWrites, IsTold};
+ghost use Rattle.dsedge.specs.Started.{AreKnown, Course, HasWords, IsCourseFrom, IsOfInput, IsRefused, IsWordless, IsWritten};
+ghost use Rattle.dsedge.specs.Started.{failures_with, input_from, is_unwritten, most_asked, status_in, told_in, words_from};
 
 use crate::fault::Fault;
 use crate::serve::serve;
-use dsedge_base::{UsageFault, plan};
+use dsedge_base::{Plan, UsageFault, plan};
 use dsedge_lines::{FirstLineFault, Words, first_line};
 use pcap_capture::{Intake, Outlet};
 use std::alloc::Global;
@@ -19,6 +23,47 @@ fn refuse<F: Outlet>(fault: Fault, faults: &mut F) -> u8
     fault.status()
 }
 
+/// The words of a command: those given, or where there are none, those of the input's first line.
+///
+/// Refused: `Usage` for a first line of more than 65,536 bytes or one that is not UTF-8, `Read` where it could not be
+/// read, `Memory` where memory ran out.
+fn words_for<I: Intake>(alloc: Global, given: Words, intake: &mut I) -> Result<Words, Fault>
+    ensures told { I.tells intake.old → I.tells intake.new }
+    ensures words { let texts = map string_bytes given.items in
+        AreKnown texts (I.tells intake.old) → IfOk result (λ words. HasWords texts (I.left intake.old)
+        × (map string_bytes words.items ≡ words_from texts (I.left intake.old))) }
+    ensures refused { let texts = map string_bytes given.items in
+        AreKnown texts (I.tells intake.old) → IfErr result (IsWordless texts (I.left intake.old)) }
+    ensures input { I.tells intake.old → OnOk result
+        (I.left intake.new ≡ input_from (map string_bytes given.items) (I.left intake.old)) }
+    ensures failures { MatchResult result (λ _. I.failed intake.new ≡ I.failed intake.old)
+        (λ fault. I.failed intake.new ≡ failures_with fault (I.failed intake.old)) }
+    ensures asked { (asked : ℕ) × (asked ≤ most_asked (map string_bytes given.items))
+        × (I.turns intake.new ≡ count_after asked (I.turns intake.old)) }
+{
+    if !given.is_empty() {
+        return Ok(given);
+    }
+    match first_line(alloc, intake) {
+        Ok(words) => Ok(words),
+        Err(FirstLineFault::Usage) => Err(Fault::Usage),
+        Err(FirstLineFault::Read) => Err(Fault::Read),
+        Err(FirstLineFault::NoMemory) => Err(Fault::Memory),
+    }
+}
+
+/// What words ask for, or the fault that refuses them.
+fn plan_for(alloc: Global, words: &[String]) -> Result<Plan, Fault>
+    ensures plan { IfOk result (IsPlanOf (map string_bytes words.now)) }
+    ensures refused { IfErr result (IsRefused (map string_bytes words.now)) }
+{
+    match plan(alloc, words) {
+        Ok(plan) => Ok(plan),
+        Err(UsageFault::Usage) => Err(Fault::Usage),
+        Err(UsageFault::NoMemory) => Err(Fault::Memory),
+    }
+}
+
 /// Runs the program on its words, the name of the program left out; where there are none, the first line of the input
 /// gives them, and the rest is the input. Gives the exit status.
 pub fn start<I: Intake, O: Outlet, F: Outlet>(
@@ -30,20 +75,24 @@ pub fn start<I: Intake, O: Outlet, F: Outlet>(
 ) -> u8
     // Words that are refused leave the output as it was.
     ensures usage { result ≡ 2 → O.held output.new ≡ O.held output.old }
+    // One course of things stands behind what is written, what is told and the status.
+    ensures course { let texts = map string_bytes given.items in
+        (course : Course) × (result ≡ status_in course)
+        × (AreKnown texts (I.tells intake.old) → IsCourseFrom texts (I.left intake.old) course)
+        × IsWritten course (I.tells intake.old × O.tells output.old) (input_from texts (I.left intake.old))
+        (O.held output.old) (O.held output.new)
+        × (F.tells faults.old →
+        IsTold (told_in course) (F.held faults.old) (F.held faults.new) (F.failed faults.old) (F.failed faults.new))
+        × IsOfWrites (is_unwritten course) (O.failed output.old) (O.failed output.new)
+        × ((asked : ℕ) × (asked ≤ most_asked texts) × IsOfInput course (I.failed intake.old) (I.failed intake.new)
+        (count_after asked (I.turns intake.old)) (I.turns intake.new)) }
 {
-    let words = if given.is_empty() {
-        match first_line(alloc, intake) {
-            Ok(words) => words,
-            Err(FirstLineFault::Usage) => return refuse(Fault::Usage, faults),
-            Err(FirstLineFault::Read) => return refuse(Fault::Read, faults),
-            Err(FirstLineFault::NoMemory) => return refuse(Fault::Memory, faults),
-        }
-    } else {
-        given
+    let words = match words_for(alloc, given, intake) {
+        Ok(words) => words,
+        Err(fault) => return refuse(fault, faults),
     };
-    match plan(alloc, words.as_slice()) {
+    match plan_for(alloc, words.as_slice()) {
         Ok(plan) => serve(alloc, plan, &[], intake, output, faults),
-        Err(UsageFault::Usage) => refuse(Fault::Usage, faults),
-        Err(UsageFault::NoMemory) => refuse(Fault::Memory, faults),
+        Err(fault) => refuse(fault, faults),
     }
 }

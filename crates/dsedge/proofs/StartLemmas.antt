@@ -1,0 +1,26 @@
+-- What becomes of a start.
+use Rattle.std.proofs.Common.{◌≡◌, ◌≤◌, ℕ, Bool, List, refl, arith}
+use Rattle.pcap_capture.specs.Counts.{count_after}
+use Rattle.dsedge.specs.declared.fault.Fault.{Fault}
+use Rattle.dsedge.specs.declared.fault.Fault.TheVariants.{Usage, Line, Read, Write, Memory, Full}
+use Rattle.dsedge.specs.Served.{IsOfReads}
+use Rattle.dsedge.specs.Started.{IsRefused, failures_with}
+
+-- nothing is asked
+pub unasked : (most turns : ℕ) → (asked : ℕ) × (asked ≤ most) × (turns ≡ count_after asked turns)
+unfolding count_after
+unasked most turns = (0, omega arith, refl)
+
+-- the fault of words that are refused is no failure of the input
+pub refused_unread : (words : List (List ℕ)) (fault : Fault) (failed : ℕ) → IsRefused words fault → failed ≡ failures_with fault failed
+refused_unread words Usage failed is = refl
+refused_unread words Memory failed is = refl
+refused_unread words Read failed is = absurd is
+refused_unread words (Line number) failed is = absurd is
+refused_unread words Write failed is = absurd is
+refused_unread words Full failed is = absurd is
+
+-- the counts that stand before a plan is served are those that the words left
+pub reads_behind : (fault : Bool) (failed first now before behind asked : ℕ) → first ≡ failed → behind ≡ before
+    → IsOfReads fault first now behind asked → IsOfReads fault failed now before asked
+reads_behind fault failed first now before behind asked e f h = rw (← e, ← f) h

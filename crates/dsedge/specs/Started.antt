@@ -1,0 +1,120 @@
+-- How the program starts: the words of its command, its input, and what becomes of them.
+use Rattle.std.specs.Prelude.{◌≡◌, ℕ, ◌<◌, ◌≤◌, ◌⊎◌, Bool, true, false, List, [], ◌∷◌, length, Result, if◌then◌else◌}
+use Rattle.std.specs.Str.{IsUtf8}
+use Rattle.line_text.specs.Lines.{fields_of}
+use Rattle.pcap_capture.specs.Counts.{next_count}
+use Rattle.dsedge_base.specs.Plans.{IsPlanOf, IsRefusalOf}
+use Rattle.dsedge_base.specs.declared.fault.UsageFault.TheVariants as usage_faults
+use Rattle.dsedge_base.specs.declared.work.Plan.{Plan}
+use Rattle.dsedge_lines.specs.declared.command.Ending.{Ending}
+use Rattle.dsedge_lines.specs.declared.fault.PumpFault.{PumpFault}
+use Rattle.dsedge_lines.specs.Faults.{is_write_fault, is_read_fault}
+use Rattle.dsedge_lines.specs.FirstLine.{after_first_line, first_line_of}
+use Rattle.dsedge.specs.declared.fault.Fault.{Fault}
+use Rattle.dsedge.specs.declared.fault.Fault.TheVariants.{Usage, Line, Read, Write, Memory, Full}
+use Rattle.dsedge.specs.Faults.{fault_text, status_of}
+use Rattle.dsedge.specs.Served.{IsOfReads, IsServed, answer_for, status_for, told_of}
+
+-- the words of a command: those given, or where there are none, those of the first line of the input
+abbrev pub words_from : List (List ℕ) → List ℕ → List (List ℕ)
+words_from [] bytes = fields_of (first_line_of bytes)
+words_from (word ∷ words) bytes = word ∷ words
+
+-- the input of a command: what stands behind the first line where that gave the words, else all
+abbrev pub input_from : List (List ℕ) → List ℕ → List ℕ
+input_from [] bytes = after_first_line bytes
+input_from (word ∷ words) bytes = bytes
+
+-- how often the input is asked for words at most: once for each byte of the longest first line and its LF
+abbrev pub most_asked : List (List ℕ) → ℕ
+most_asked [] = 65537
+most_asked (word ∷ words) = 0
+
+-- Which words a command has is known where they are given, or where the device tells its bytes.
+abbrev pub AreKnown : List (List ℕ) → Type 0 → Type 0
+AreKnown [] tells = tells
+AreKnown (word ∷ words) tells = Unit {0}
+
+-- Words are given, or the first line is UTF-8 of at most 65,536 bytes.
+abbrev pub HasWords : List (List ℕ) → List ℕ → Type 0
+HasWords [] bytes = (length (first_line_of bytes) ≤ 65536) × IsUtf8 (first_line_of bytes)
+HasWords (word ∷ words) bytes = Unit {0}
+
+-- No words are given, and the first line is longer or not UTF-8.
+abbrev pub LacksWords : List (List ℕ) → List ℕ → Type 0
+LacksWords [] bytes = (65536 < length (first_line_of bytes)) ⊎ (¬ IsUtf8 (first_line_of bytes))
+LacksWords (word ∷ words) bytes = ⊥
+
+-- A plan is what the words of the command ask for.
+abbrev pub IsPlanFrom : List (List ℕ) → List ℕ → Plan → Type 0
+IsPlanFrom given bytes plan = HasWords given bytes × IsPlanOf (words_from given bytes) plan
+
+-- Why there are no words: the first line gives none, or where it is wanted, it could not be read; memory may run out.
+abbrev pub IsWordless : List (List ℕ) → List ℕ → Fault → Type 0
+IsWordless given bytes Usage = LacksWords given bytes
+IsWordless given bytes Read = given ≡ []
+IsWordless given bytes Memory = Unit {0}
+IsWordless given bytes (Line number) = ⊥
+IsWordless given bytes Write = ⊥
+IsWordless given bytes Full = ⊥
+
+-- Why words have no plan: they ask for nothing that there is; memory may run out.
+abbrev pub IsRefused : List (List ℕ) → Fault → Type 0
+IsRefused words Usage = IsRefusalOf words usage_faults.Usage
+IsRefused words Memory = Unit {0}
+IsRefused words Read = ⊥
+IsRefused words (Line number) = ⊥
+IsRefused words Write = ⊥
+IsRefused words Full = ⊥
+
+-- Why there is no plan: there are no words, or those that there are have none.
+abbrev pub IsRefusalFrom : List (List ℕ) → List ℕ → Fault → Type 0
+IsRefusalFrom given bytes fault = IsWordless given bytes fault ⊎ (HasWords given bytes × IsRefused (words_from given bytes) fault)
+
+-- whether a fault says that the input could not be read
+abbrev pub is_read : Fault → Bool
+is_read Usage = false
+is_read (Line number) = false
+is_read Read = true
+is_read Write = false
+is_read Memory = false
+is_read Full = false
+
+-- the failures of an input behind a fault
+abbrev pub failures_with : Fault → ℕ → ℕ
+failures_with fault failed = if is_read fault then next_count failed else failed
+
+-- how a start went: refused with a fault before anything was answered, or a plan was served with an outcome
+pub data Course : Type 0 where
+  Refused : Fault → Course
+  Served : Plan → Result Ending PumpFault → Course
+
+-- the exit status of a start
+abbrev pub status_in : Course → ℕ
+status_in (Refused fault) = status_of fault
+status_in (Served plan outcome) = status_for outcome
+
+-- what is told of a start on standard error
+abbrev pub told_in : Course → List ℕ
+told_in (Refused fault) = fault_text fault
+told_in (Served plan outcome) = told_of outcome
+
+-- A start goes as the words and the input have it.
+abbrev pub IsCourseFrom : List (List ℕ) → List ℕ → Course → Type 0
+IsCourseFrom given bytes (Refused fault) = IsRefusalFrom given bytes fault
+IsCourseFrom given bytes (Served plan outcome) = IsPlanFrom given bytes plan
+
+-- What was written, where the devices tell their bytes: the answer to the input, or a front of it; a refusal writes nothing.
+abbrev pub IsWritten : Course → Type 0 → List ℕ → List ℕ → List ℕ → Type 0
+IsWritten (Refused fault) tells input before after = after ≡ before
+IsWritten (Served plan outcome) tells input before after = tells → IsServed (answer_for plan input) outcome before after
+
+-- whether a start went so that the output could not be written
+abbrev pub is_unwritten : Course → Bool
+is_unwritten (Refused fault) = false
+is_unwritten (Served plan outcome) = is_write_fault outcome
+
+-- A read fault comes only where the input failed once, or behind the words was asked 2^32 times; nothing else lets it fail.
+abbrev pub IsOfInput : Course → ℕ → ℕ → ℕ → ℕ → Type 0
+IsOfInput (Refused fault) failed now asked_before asked = (now ≡ failures_with fault failed) × (asked ≡ asked_before)
+IsOfInput (Served plan outcome) failed now asked_before asked = IsOfReads (is_read_fault outcome) failed now asked_before asked
