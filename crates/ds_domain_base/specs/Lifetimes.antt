@@ -1,5 +1,6 @@
 -- When a contract may send.
-use Rattle.std.specs.Prelude.{ℕ, ◌≤◌, Option, ForSome}
+use Rattle.std.specs.Prelude.{ℕ, ◌≤◌, Option}
+use Rattle.std.specs.Option.{ForSome}
 
 -- from a moment on, until another that is not included, if there is one
 pub record Span : Type 0 where

@@ -1,5 +1,5 @@
 ghost use Rattle.std.specs.Prelude.{◌≡◌, IfOk, IfErr};
-ghost use Rattle.ds_domain_base.specs.Contracts.{came, edge_of, shown};
+ghost use Rattle.ds_domain_base.specs.Sent.{came, edge_of, shown};
 ghost use Rattle.ds_domain_base.specs.Faults.{no_memory};
 
 use crate::fault::DomainFault;
@@ -35,7 +35,7 @@ pub struct Contract {
 impl Contract {
     /// The colour that a packet with a code point comes in with: the one that the code point shows in the contract's class,
     /// any other code point being red. Yellow is red for a trusted contract without a peak.
-    #[tactic(auto, unfolding(crate::specs::Contracts::came))]
+    #[tactic(auto, unfolding(crate::specs::Sent::came))]
     pub fn came(&self, dscp: Dscp) -> Colour
         ensures { result ≡ came self.now dscp }
     {

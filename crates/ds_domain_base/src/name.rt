@@ -1,28 +1,57 @@
-ghost use Rattle.std.specs.Prelude.{◌≡◌, ℕ, List, true, length, IsTrue, nat_eq};
+ghost use Rattle.std.specs.Prelude.{◌≡◌, ℕ, List, ◌-◌, ◌++◌, length, take, replicate, IsTrue, bytes_eq};
+ghost use Rattle.std.specs.Cmp.{partial_equiv_from_equiv};
+ghost use Rattle.std.specs.Cmp.Lexicographic.{bytes_decides, nat_list_eq_equiv};
+ghost use Rattle.std.specs.Hash as fed;
 ghost use Rattle.std.specs.Result.{OkIff};
-ghost use Rattle.std.specs.Str.{bytes_eq};
 ghost use Rattle.ds_domain_base.specs.Names.{is_name, is_name_character};
 
 use moment_core::OutOfRange;
+use std::hash::{Hash, Hasher};
 use std::marker::Model;
 
 /// A name: 1 to 32 characters of a to z, 0 to 9, - and _.
-#[derive(Clone, Copy, Debug, PartialEq, Eq, Hash)]
+#[derive(Clone, Copy, Debug)]
 pub struct Name {
     characters: [u8; 32],
     length: u8,
 }
 
 impl Model for Name {
-    ghost use Rattle.std.specs.Prelude.{◌-◌, ◌≤◌, ◌++◌, take, drop, replicate};
+    ghost use Rattle.ds_domain_base.specs.Names.{IsPadded};
 
     ghost Value = { List ℕ };
 
     ghost view = { λ n. take n.length n.characters };
 
-    ghost invariant = { λ n. IsTrue (is_name (take n.length n.characters)) × (drop n.length n.characters ≡ replicate (32 - n.length) 0) };
+    ghost invariant = { λ n. IsPadded n.length n.characters };
 
     ghost inverse = { λ text. record { characters = text ++ replicate (32 - length text) 0; length = length text } };
+
+    ghost inverse_ok = { λ n kept i. record { characters = kept.padded i; length = kept.counted i } };
+}
+
+impl PartialEq for Name {
+    ghost eq = { bytes_eq };
+
+    ghost laws = { partial_equiv_from_equiv nat_list_eq_equiv };
+
+    fn eq(&self, other: &Name) -> bool {
+        self.bytes() == other.bytes()
+    }
+}
+
+impl Eq for Name {
+    ghost laws = { nat_list_eq_equiv };
+}
+
+impl Hash for Name {
+    ghost hash_input = { fed.slice fed.u8 };
+
+    ghost respects_eq = { λ a b same. ap (fed.slice fed.u8) ((bytes_decides a b).0 same) };
+
+    fn hash<H: Hasher>(&self, state: &mut H) {
+        self.bytes().hash(state);
+    }
 }
 
 /// Whether a name may have the character.

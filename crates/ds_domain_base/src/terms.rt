@@ -1,6 +1,6 @@
 ghost use Rattle.std.specs.Prelude.{◌≡◌, None, Some, MatchResult};
 ghost use Rattle.meter_book.specs.AnyMeter.{fault_of, opening_of};
-ghost use Rattle.ds_domain_base.specs.Contracts.{edge_of, has_peak};
+ghost use Rattle.ds_domain_base.specs.Sent.{edge_of, has_peak};
 
 use meter_book::{AnyMeter, MeterFault, Parameters};
 use moment_core::{Mode, Moment, Rate};
@@ -13,6 +13,7 @@ pub struct SoundParameters {
 }
 
 impl Model for SoundParameters {
+    ghost use Rattle.std.specs.Prelude.{◌≡◌, None};
     ghost use Rattle.meter_book.specs.declared.any_meter.Parameters.{Parameters};
     ghost use Rattle.meter_book.specs.AnyMeter.{fault_of};
 
