@@ -1,8 +1,10 @@
-ghost use Rattle.std.specs.Prelude.{◌≡◌, ℕ, List, ◌-◌, ◌++◌, length, take, replicate, IsTrue, bytes_eq};
+ghost use Rattle.std.specs.Prelude.{◌≡◌, IsTrue, bytes_eq};
+ghost use Rattle.std.specs.List.{list_all};
 ghost use Rattle.std.specs.Cmp.{partial_equiv_from_equiv};
 ghost use Rattle.std.specs.Cmp.Lexicographic.{bytes_decides, nat_list_eq_equiv};
 ghost use Rattle.std.specs.Hash as fed;
 ghost use Rattle.std.specs.Result.{OkIff};
+ghost use Rattle.std.proofs.Common.{ap};
 ghost use Rattle.ds_domain_base.specs.Names.{is_name, is_name_character};
 
 use moment_core::OutOfRange;
@@ -13,21 +15,22 @@ use std::marker::Model;
 #[derive(Clone, Copy, Debug)]
 pub struct Name {
     characters: [u8; 32],
-    length: u8,
+    count: u8,
 }
 
 impl Model for Name {
+    ghost use Rattle.std.specs.Prelude.{ℕ, List, ◌-◌, ◌++◌, length, take, replicate};
     ghost use Rattle.ds_domain_base.specs.Names.{IsPadded};
 
     ghost Value = { List ℕ };
 
-    ghost view = { λ n. take n.length n.characters };
+    ghost view = { λ n. take n.count n.characters };
 
-    ghost invariant = { λ n. IsPadded n.length n.characters };
+    ghost invariant = { λ n. IsPadded n.count n.characters };
 
-    ghost inverse = { λ text. record { characters = text ++ replicate (32 - length text) 0; length = length text } };
+    ghost inverse = { λ text. record { characters = text ++ replicate (32 - length text) 0; count = length text } };
 
-    ghost inverse_ok = { λ n kept i. record { characters = kept.padded i; length = kept.counted i } };
+    ghost inverse_ok = { λ n kept i. record { characters = kept.padded i; count = kept.counted i } };
 }
 
 impl PartialEq for Name {
@@ -77,7 +80,7 @@ impl Name {
         characters[..text.len()].copy_from_slice(text);
         Ok(Name {
             characters,
-            length: text.len() as u8,
+            count: text.len() as u8,
         })
     }
 
@@ -86,13 +89,21 @@ impl Name {
         ensures value { result.now ≡ self.now }
         ensures named { IsTrue (is_name result.now) }
     {
-        &self.characters[..self.length as usize]
+        &self.characters[..self.count as usize]
     }
 }
 
 /// Whether a text is a name.
+#[tactic(auto, unfolding(crate::specs::Names::is_name))]
 fn is_name(text: &[u8]) -> bool
     ensures { result ≡ is_name text.now }
 {
-    !text.is_empty() && text.len() <= Name::MOST && text.iter().all(|character| is_name_character(*character))
+    (1..=Name::MOST).contains(&text.len()) && has_name_characters(text)
+}
+
+/// Whether a text has no other characters than a name may have.
+fn has_name_characters(text: &[u8]) -> bool
+    ensures { result ≡ list_all is_name_character text.now }
+{
+    text.iter().all(|character| is_name_character(*character))
 }
