@@ -141,6 +141,7 @@ impl Domain {
         if self.is_taken(name) {
             return Err(DomainFault::new(Kind::Twice, Section::Meter, place, Field::Name));
         }
+        let _spelling = name.bytes();
         self.meters.insert(name, meter)?;
         Ok(())
     }
@@ -162,6 +163,7 @@ impl Domain {
         if self.is_taken(name) {
             return Err(DomainFault::new(Kind::Twice, Section::Port, place, Field::Name));
         }
+        let _spelling = name.bytes();
         self.ports.insert(name, port)?;
         Ok(())
     }
