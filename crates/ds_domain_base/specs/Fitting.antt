@@ -3,10 +3,8 @@ use Rattle.std.specs.Prelude.{ℕ, Bool, false, ◌||◌, List, [], ◌∷◌, l
 use Rattle.std.specs.List.{list_any}
 use Rattle.std.specs.Str.{bytes_eq}
 use Rattle.ds_domain_base.specs.declared.fault.DomainFault.{DomainFault}
-use Rattle.ds_domain_base.specs.declared.fault.Kind.{Kind}
 use Rattle.ds_domain_base.specs.declared.fault.Kind.TheVariants as kinds
 use Rattle.ds_domain_base.specs.declared.fault.Section.TheVariants as sections
-use Rattle.ds_domain_base.specs.declared.fault.Field.{Field}
 use Rattle.ds_domain_base.specs.declared.fault.Field.TheVariants as fields
 use Rattle.ds_domain_base.specs.Domains.{Domain, meter_of, is_port, link_of}
 use Rattle.ds_domain_base.specs.Faults.{fault_at}

@@ -1,9 +1,9 @@
 -- What the types of names and of domains keep.
-use Rattle.std.specs.Prelude.{◌≡◌, ℕ, ◌-◌, ◌≤◌, List, ◌++◌, length, take, drop, replicate, IsTrue, IsSome, None}
+use Rattle.std.specs.Prelude.{◌≡◌, ℕ, ◌≤◌, List, length, IsTrue, IsSome, None}
 use Rattle.std.specs.List.{IsDistinct}
 use Rattle.std.specs.Map.{keys_of}
 use Rattle.std.specs.Str.{bytes_eq}
-use Rattle.ds_domain_base.specs.Domains.{Domain, is_meter, is_port, is_taken, link_of, port_of, same_ends}
+use Rattle.ds_domain_base.specs.Domains.{Domain, is_meter, is_taken, link_of, port_of, same_ends}
 use Rattle.ds_domain_base.specs.Names.{is_name}
 
 -- Names are names, and differ; none is that of a meter and of a port; a link goes from a meter or a port to a meter,
