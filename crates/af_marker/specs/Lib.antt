@@ -1,1 +1,3 @@
+pub mod Checksums
 pub mod CodePoints
+pub mod Headers
