@@ -1,2 +1,3 @@
 pub mod ChecksumLaws
 pub mod CodePointLaws
+pub mod HeaderLaws

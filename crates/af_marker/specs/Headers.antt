@@ -67,6 +67,11 @@ fields_of bytes = record {
   verified = is_verified bytes;
 }
 
+-- a header, unless a test failed
+abbrev pub unless : Option HeaderFault → Header → Result Header HeaderFault
+unless None header = Ok header
+unless (Some fault) header = Err fault
+
 -- the header of a packet, or the first test that it fails
 unfoldable pub header_of : List ℕ → Result Header HeaderFault
-header_of bytes = elim (fault_of bytes) [ None ↦ Ok (fields_of bytes) | Some fault ↦ Err fault ]
+header_of bytes = unless (fault_of bytes) (fields_of bytes)
