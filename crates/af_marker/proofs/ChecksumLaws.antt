@@ -1,5 +1,5 @@
 -- The ones' complement sum in closed form.
-use Rattle.std.proofs.Common.{◌≡◌, ℕ, ◌+◌, ◌-◌, ◌*◌, ◌/◌, ◌%◌, ◌<◌, ◌≤◌, zero, suc, Bool, true, false, nat_lt, ltb, cond, List, [], ◌∷◌, ◌++◌, length, take, drop, slice_index, refl, sym, inl, inr, add-zero, add-suc, ◌∙◌, ap, arith}
+use Rattle.std.proofs.Common.{◌≡◌, ℕ, ◌+◌, ◌-◌, ◌*◌, ◌/◌, ◌%◌, ◌<◌, ◌≤◌, zero, suc, List, [], ◌∷◌, length, take, drop, slice_index, refl, sym, inl, inr, add-zero, add-suc, ◌∙◌, ap, arith}
 use Rattle.std.proofs.lemmas.Bool.Decides.{nat_tests}
 use Rattle.std.proofs.lemmas.Bool.{cases_lt}
 use Rattle.std.proofs.lemmas.Nat.{mod-mul-add}
@@ -42,7 +42,7 @@ ones_sum_folded (w ∷ ws) h = rw (ones_sum_folded ws h.1) (ones_add_folded w (t
 abbrev pub AreBytes : List ℕ → Type 0
 AreBytes bytes = (k : ℕ) → slice_index bytes k < 256
 
-AreBytes-rest : (a : ℕ) (xs : List ℕ) → AreBytes (a ∷ xs) → AreBytes xs
+pub AreBytes-rest : (a : ℕ) (xs : List ℕ) → AreBytes (a ∷ xs) → AreBytes xs
 AreBytes-rest a xs h k = h (suc k)
 
 -- the words of bytes are words

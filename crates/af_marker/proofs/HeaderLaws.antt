@@ -1,5 +1,5 @@
 -- What is known of bytes that begin with a header.
-use Rattle.std.proofs.Common.{◌≡◌, ℕ, ◌≤◌, List, Option, None, Some, Result, Ok, Err, refl, sym, ap}
+use Rattle.std.proofs.Common.{◌≡◌, ℕ, List, Option, None, Some, Ok, refl, ap}
 use Rattle.af_marker.specs.Headers.{fault_of, fields_of, header_length, header_of, is_verified, unless}
 use Rattle.af_marker.specs.declared.ipv4.Header.{Header}
 use Rattle.af_marker.specs.declared.ipv4.HeaderFault.{HeaderFault}

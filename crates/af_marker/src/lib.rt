@@ -1,12 +1,14 @@
 //! Assured forwarding: classes, code points, and the IPv4 header that carries them.
 #![tactic(auto)]
 
-pub mod checksum;
+mod checksum;
 pub mod code_point;
 pub mod drop_precedence;
 pub mod ipv4;
 pub mod marking;
 pub mod reading;
+#[cfg(test)]
+mod tests;
 
 pub use code_point::{Class, Dscp};
 pub use drop_precedence::{colour_of, dscp};

@@ -1,4 +1,4 @@
-ghost use Rattle.std.specs.Prelude.{◌≡◌, ◌≤◌, None, length};
+ghost use Rattle.std.specs.Prelude.{◌≡◌, ◌≤◌, None, length, IfOk};
 ghost use Rattle.af_marker.specs.Headers.{fault_of, fields_of, header_length, header_of, ports_of, total_length};
 
 use crate::checksum::ones_complement_sum;
@@ -77,9 +77,10 @@ fn fields_of_header(bytes: &[u8]) -> Header
 /// Refused, in this order: `ShortHeader` where there is no byte, `NotIpv4` where the version is not 4, `ShortHeader`
 /// below 20 bytes, `BadLength` where the header's length is below that, `ShortHeader` where the header is not there
 /// whole, and `BadLength` where the packet's length is below its header's.
-#[tactic(auto, unfolding(crate::specs::Headers::header_of))]
+#[tactic(auto, unfolding(crate::specs::Headers::header_of, crate::specs::Headers::fields_of, crate::specs::Headers::fault_of))]
 pub fn header(bytes: &[u8]) -> Result<Header, HeaderFault>
-    ensures { result ≡ header_of bytes.now }
+    ensures value { result ≡ header_of bytes.now }
+    ensures lengths { IfOk result (λ read. (20 ≤ read.length) × (read.length ≤ length bytes.now) × (read.length ≤ read.total)) }
 {
     match fault_of_header(bytes) {
         Some(fault) => Err(fault),
