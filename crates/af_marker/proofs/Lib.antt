@@ -1,1 +1,5 @@
+pub mod ByteLaws
+pub mod ChecksumLaws
 pub mod CodePointLaws
+pub mod HeaderLaws
+pub mod MarkLaws

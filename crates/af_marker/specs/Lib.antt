@@ -1,1 +1,4 @@
+pub mod Checksums
 pub mod CodePoints
+pub mod Headers
+pub mod Marks

@@ -1,4 +1,4 @@
-ghost use Rattle.std.specs.Prelude.{◌≡◌, ℕ, ◌+◌, ◌*◌, ◌<◌, ◌≤◌};
+ghost use Rattle.std.specs.Prelude.{◌≡◌, ℕ, ◌+◌, ◌*◌, ◌/◌, ◌%◌, ◌<◌, ◌≤◌};
 ghost use Rattle.std.specs.Result.{OkIff};
 
 use moment_core::OutOfRange;
@@ -76,6 +76,20 @@ impl Dscp {
         ensures range { result < 64 }
     {
         self.value
+    }
+
+    /// The code point in a byte of the field: its upper six bits (RFC 2474 section 3).
+    pub(crate) fn of_byte(byte: u8) -> Self
+        ensures { result ≡ byte / 4 }
+    {
+        Dscp { value: byte / 4 }
+    }
+
+    /// A byte of the field with this code point, and with its lower two bits as they were (RFC 2474 section 3).
+    pub(crate) fn in_byte(self, byte: u8) -> u8
+        ensures { result ≡ 4 * self + byte % 4 }
+    {
+        4 * self.value + byte % 4
     }
 
     /// The code point of a class and a drop precedence of 1 to 3: 8 times the class and 2 times the precedence

@@ -38,28 +38,3 @@ pub fn colour_of(class: Class, dscp: Dscp) -> Option<Colour>
         _ => None,
     }
 }
-
-#[cfg(test)]
-mod tests {
-    use super::*;
-    use std::test::Fail;
-
-    #[test]
-    fn the_twelve_code_points_of_the_standard(rt: HostRuntime) -> Result<(), Fail> {
-        for (class, green, yellow, red) in [
-            (1, 10, 12, 14),
-            (2, 18, 20, 22),
-            (3, 26, 28, 30),
-            (4, 34, 36, 38),
-        ] {
-            let class = Class::new(class)?;
-            assert_eq!(rt; dscp(class, Colour::Green).get(), green);
-            assert_eq!(rt; dscp(class, Colour::Yellow).get(), yellow);
-            assert_eq!(rt; dscp(class, Colour::Red).get(), red);
-            assert_eq!(rt; colour_of(class, Dscp::new(yellow)?), Some(Colour::Yellow));
-        }
-        let best_effort = Dscp::new(0)?;
-        assert_eq!(rt; colour_of(Class::new(1)?, best_effort), None);
-        Ok(())
-    }
-}

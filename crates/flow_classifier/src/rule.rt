@@ -117,16 +117,3 @@ pub struct Rule {
     /// Its code point (RFC 2474 section 3).
     pub dscp: Option<Dscp>,
 }
-
-#[cfg(test)]
-mod tests {
-    use super::*;
-
-    #[test]
-    fn parts_out_of_range_are_refused(rt: HostRuntime) {
-        assert!(rt; Prefix::new(0x0a00_0000, 32).is_ok());
-        assert_eq!(rt; Prefix::new(0x0a00_0000, 33).err(), Some(OutOfRange));
-        assert!(rt; PortRange::new(80, 80).is_ok());
-        assert_eq!(rt; PortRange::new(81, 80).err(), Some(OutOfRange));
-    }
-}

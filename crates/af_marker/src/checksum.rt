@@ -1,0 +1,32 @@
+ghost use Rattle.std.specs.Prelude.{◌≡◌, ℕ, ◌≤◌, ◌<◌, ◌^◌, ◌*◌, ◌%◌, length};
+ghost use Rattle.af_marker.specs.Checksums.{folded, ones_sum, words};
+
+use byteorder::{BigEndian, ByteOrder};
+
+/// A plain sum of words with each carry out of 16 bits brought in at the lowest bit (RFC 1071 section 2).
+fn fold_carries(sum: u32) -> u16
+    ensures { result ≡ folded sum }
+{
+    if sum == 0 {
+        0
+    } else {
+        (1 + (sum - 1) % 65_535) as u16
+    }
+}
+
+/// The ones' complement sum of the 16-bit words of a header of at most 60 bytes, an even number of them
+/// (RFC 1071 section 1).
+pub fn ones_complement_sum(bytes: &[u8]) -> u16
+    requires even { length bytes.now % 2 ≡ 0 }
+    requires most { length bytes.now ≤ 60 }
+    ensures { result ≡ ones_sum (words bytes.now) }
+{
+    let mut sum: u32 = 0;
+    let mut rest = bytes;
+    while rest.len() >= 2 {
+        let (word, tail) = rest.split_at(2);
+        sum += u32::from(BigEndian::read_u16(word));
+        rest = tail;
+    }
+    fold_carries(sum)
+}
