@@ -1,19 +1,18 @@
--- A domain with one more meter, port or link is still one.
-use Rattle.std.proofs.Common.{rules, ◌≡◌, ℕ, ◌<◌, ◌≤◌, Bool, true, false, ◌&&◌, List, [], ◌∷◌, ◌++◌, length, Option, None, Some, is_some, ◌⊎◌, inl, inr, IsTrue, IsSome, if◌then◌else◌, refl, sym, subst, ◌∙◌, ap, arith}
+-- A domain with one more meter, port or link.
+use Rattle.std.proofs.Common.{rules, ◌≡◌, ℕ, ◌<◌, ◌≤◌, Bool, true, false, ◌&&◌, List, [], ◌∷◌, ◌++◌, length, Option, None, Some, is_some, IsTrue, IsSome, if◌then◌else◌, refl, sym, subst, ◌∙◌, ap, arith}
 use Rattle.std.specs.Cmp.{IsEquivalence}
 use Rattle.std.specs.Cmp.Lexicographic.{bytes_decides, nat_list_eq_equiv}
 use Rattle.std.specs.Map.{lookup}
 use Rattle.std.specs.Str.{bytes_eq}
-use Rattle.std.proofs.lemmas.Bool.{and_from, and_parts, false≢true, or_cases, or_left, or_parts, or_right}
+use Rattle.std.proofs.lemmas.Bool.{and_from, and_parts, or_parts}
 use Rattle.std.proofs.lemmas.List.{length-append}
 use Rattle.ds_domain_base.specs.declared.parts.Meter.{Meter}
 use Rattle.ds_domain_base.specs.declared.parts.Port.{Port}
 use Rattle.ds_domain_base.specs.declared.parts.Link.{Link}
 use Rattle.ds_domain_base.specs.Domains.{Domain, is_meter, is_port, is_taken, link_of, meter_of, port_of, same_ends, with_link, with_meter, with_port}
 use Rattle.ds_domain_base.specs.Kept.{IsDomain}
-use Rattle.ds_domain_base.specs.Names.{is_name}
 use Rattle.indexmap.specs.IndexMap.{insert_entry}
-use Rattle.ds_domain_base.proofs.EntryLaws.{keys_differ, new_entry, other_key, still_found}
+use Rattle.ds_domain_base.proofs.EntryLaws.{keys_differ, new_entry, other_key}
 
 none_of : {A : Type 0} (o : Option A) → is_some o ≡ false → o ≡ None
 none_of None p = refl
@@ -21,41 +20,6 @@ none_of (Some x) p = search (rules, p)
 
 length-push : {A : Type 0} (xs : List A) (x : A) (most : ℕ) → length xs < most → length (xs ++ x ∷ []) ≤ most
 length-push xs x most few = rw (length-append xs (x ∷ [])) (omega (arith, few))
-
--- what a look-up by a name finds among entries with one more is the new one or was there
-found_or_new : {V : Type 0} (es : List (List ℕ × V)) (name other : List ℕ) (v : V) (b : Bool) → bytes_eq other name ≡ b
-    → is_some (lookup (bytes_eq other) (es ++ (name, v) ∷ [])) ≡ true → (other ≡ name) ⊎ (is_some (lookup (bytes_eq other) es) ≡ true)
-found_or_new es name other v true p found = inl ((bytes_decides other name).0 p)
-found_or_new es name other v false p found = inr (ap is_some (sym (other_key (bytes_eq other) es name v p)) ∙ found)
-
-pub IsDomain-with_meter : (d : Domain) (name : List ℕ) (meter : Meter) → IsDomain d → length d.meters < 1024 → IsTrue (is_name name) → is_taken d name ≡ false
-    → IsDomain (with_meter d name meter)
-IsDomain-with_meter d name meter kept few good free = record {
-  few_meters = length-push d.meters (name, meter) 1024 few;
-  few_ports = kept.few_ports;
-  few_links = kept.few_links;
-  named = λ other found. elim (or_cases _ _ found) [
-    | inl there ↦ elim (found_or_new d.meters name other meter (bytes_eq other name) refl there) [
-      | inl same ↦ subst (λ n. IsTrue (is_name n)) (sym same) good
-      | inr old ↦ kept.named other (or_left _ _ old)
-    ]
-    | inr there ↦ kept.named other (or_right (is_meter d other) _ there)
-  ];
-  meters_differ = keys_differ nat_list_eq_equiv d.meters name meter kept.meters_differ (or_parts _ _ free).0;
-  ports_differ = kept.ports_differ;
-  apart = λ other found. elim (found_or_new d.meters name other meter (bytes_eq other name) refl found) [
-    | inl same ↦ subst (λ n. port_of d n ≡ None) (sym same) (none_of (port_of d name) (or_parts (is_meter d name) _ free).1)
-    | inr old ↦ kept.apart other old
-  ];
-  links_differ = kept.links_differ;
-  linked = λ from to found. let old = kept.linked from to found in (
-    elim (or_cases _ _ old.0) [
-      | inl there ↦ or_left _ _ (still_found (bytes_eq from) d.meters ((name, meter) ∷ []) there)
-      | inr there ↦ or_right (is_meter (with_meter d name meter) from) _ there
-    ],
-    still_found (bytes_eq to) d.meters ((name, meter) ∷ []) old.1,
-  );
-}
 
 -- the entries after the insertion of a name that is not taken are those of the domain with one more
 pub meter_added : (now d : Domain) (es : List (List ℕ × Meter)) (name : List ℕ) (meter : Meter) → now ≡ d → is_taken d name ≡ false
@@ -66,37 +30,6 @@ meter_added now d es name meter same free put =
   where
     absent : lookup (bytes_eq name) now.meters ≡ None
     absent = none_of (meter_of now name) (ap (λ x. is_meter x name) same ∙ (or_parts (is_meter d name) (is_port d name) free).0)
-
-pub IsDomain-with_port : (d : Domain) (name : List ℕ) (port : Port) → IsDomain d → length d.ports < 1024 → IsTrue (is_name name) → is_taken d name ≡ false
-    → IsDomain (with_port d name port)
-IsDomain-with_port d name port kept few good free = record {
-  few_meters = kept.few_meters;
-  few_ports = length-push d.ports (name, port) 1024 few;
-  few_links = kept.few_links;
-  named = λ other found. elim (or_cases _ _ found) [
-    | inl there ↦ kept.named other (or_left _ _ there)
-    | inr there ↦ elim (found_or_new d.ports name other port (bytes_eq other name) refl there) [
-      | inl same ↦ subst (λ n. IsTrue (is_name n)) (sym same) good
-      | inr old ↦ kept.named other (or_right (is_meter d other) _ old)
-    ]
-  ];
-  meters_differ = kept.meters_differ;
-  ports_differ = keys_differ nat_list_eq_equiv d.ports name port kept.ports_differ (or_parts (is_meter d name) _ free).1;
-  apart = λ other found. apart_by other found (bytes_eq other name) refl;
-  links_differ = kept.links_differ;
-  linked = λ from to found. let old = kept.linked from to found in (
-    elim (or_cases _ _ old.0) [
-      | inl there ↦ or_left _ _ there
-      | inr there ↦ or_right (is_meter d from) _ (still_found (bytes_eq from) d.ports ((name, port) ∷ []) there)
-    ],
-    old.1,
-  );
-}
-  where
-    apart_by : (other : List ℕ) → IsTrue (is_meter d other) → (b : Bool) → bytes_eq other name ≡ b → port_of (with_port d name port) other ≡ None
-    apart_by other found true p =
-        elim (false≢true (sym (subst (λ n. is_meter d n ≡ false) (sym ((bytes_decides other name).0 p)) (or_parts (is_meter d name) (is_port d name) free).0) ∙ found)) [ ]
-    apart_by other found false p = other_key (bytes_eq other) d.ports name port p ∙ kept.apart other found
 
 pub port_added : (now d : Domain) (es : List (List ℕ × Port)) (name : List ℕ) (port : Port) → now ≡ d → is_taken d name ≡ false
     → es ≡ insert_entry bytes_eq now.ports name port → record { meters = now.meters; ports = es; links = now.links } ≡ with_port d name port
@@ -125,7 +58,7 @@ linked_by d from to link start end true p kept taken meter found =
 linked_by d from to link start end false p kept taken meter found =
     kept.linked start end (ap is_some (sym (other_key (same_ends (start, end)) d.links (from, to) link p)) ∙ found)
 
-pub IsDomain-with_link : (d : Domain) (from to : List ℕ) (link : Link) → IsDomain d → length d.links < 65536 → IsTrue (is_taken d from) → IsTrue (is_meter d to)
+IsDomain-with_link : (d : Domain) (from to : List ℕ) (link : Link) → IsDomain d → length d.links < 65536 → IsTrue (is_taken d from) → IsTrue (is_meter d to)
     → is_some (link_of d from to) ≡ false → IsDomain (with_link d from to link)
 IsDomain-with_link d from to link kept few taken meter free = record {
   few_meters = kept.few_meters;
@@ -139,7 +72,7 @@ IsDomain-with_link d from to link kept few taken meter free = record {
   linked = λ start end found. linked_by d from to link start end (same_ends (start, end) (from, to)) refl kept taken meter found;
 }
 
-pub link_added : (now d : Domain) (es : List ((List ℕ × List ℕ) × Link)) (from to : List ℕ) (link : Link) → now ≡ d → is_some (link_of d from to) ≡ false
+link_added : (now d : Domain) (es : List ((List ℕ × List ℕ) × Link)) (from to : List ℕ) (link : Link) → now ≡ d → is_some (link_of d from to) ≡ false
     → es ≡ insert_entry same_ends now.links (from, to) link → record { meters = now.meters; ports = now.ports; links = es } ≡ with_link d from to link
 link_added now d es from to link same free put =
     ap (λ ls. record { meters = now.meters; ports = now.ports; links = ls }) (put ∙ new_entry same_ends now.links (from, to) link absent)

@@ -141,8 +141,6 @@ impl Domain {
         if self.is_taken(name) {
             return Err(DomainFault::new(Kind::Twice, Section::Meter, place, Field::Name));
         }
-        // so that what a name keeps is known of this one
-        let _characters = name.bytes();
         self.meters.insert(name, meter)?;
         Ok(())
     }
@@ -164,8 +162,6 @@ impl Domain {
         if self.is_taken(name) {
             return Err(DomainFault::new(Kind::Twice, Section::Port, place, Field::Name));
         }
-        // so that what a name keeps is known of this one
-        let _characters = name.bytes();
         self.ports.insert(name, port)?;
         Ok(())
     }
