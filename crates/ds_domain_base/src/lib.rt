@@ -1,0 +1,23 @@
+//! The values of a domain: names, meters, ports, links and contracts that cannot be wrong, the faults that refuse others,
+//! and which contract fits a domain.
+#![tactic(auto)]
+
+pub mod contract;
+pub mod domain;
+pub mod fault;
+pub mod fit;
+pub mod name;
+pub mod parts;
+pub mod path;
+pub mod quantity;
+pub mod terms;
+
+pub use contract::Contract;
+pub use domain::Domain;
+pub use fault::{DomainFault, Field, Kind, Section};
+pub use fit::{MOST_HOPS, fits};
+pub use name::Name;
+pub use parts::{Link, Meter, Port};
+pub use path::Path;
+pub use quantity::{Delay, Lifetime};
+pub use terms::{Profile, SoundParameters, Terms};

@@ -1,0 +1,109 @@
+ghost use Rattle.std.specs.Prelude.{◌≡◌, IsTrue, bytes_eq};
+ghost use Rattle.std.specs.List.{list_all};
+ghost use Rattle.std.specs.Cmp.{partial_equiv_from_equiv};
+ghost use Rattle.std.specs.Cmp.Lexicographic.{bytes_decides, nat_list_eq_equiv};
+ghost use Rattle.std.specs.Hash as fed;
+ghost use Rattle.std.specs.Result.{OkIff};
+ghost use Rattle.std.proofs.Common.{ap};
+ghost use Rattle.ds_domain_base.specs.Names.{is_name, is_name_character};
+
+use moment_core::OutOfRange;
+use std::hash::{Hash, Hasher};
+use std::marker::Model;
+
+/// A name: 1 to 32 characters of a to z, 0 to 9, - and _.
+#[derive(Clone, Copy, Debug)]
+pub struct Name {
+    characters: [u8; 32],
+    count: u8,
+}
+
+impl Model for Name {
+    ghost use Rattle.std.specs.Prelude.{ℕ, List, ◌-◌, ◌++◌, length, take, replicate};
+    ghost use Rattle.ds_domain_base.specs.Names.{IsPadded};
+
+    ghost Value = { List ℕ };
+
+    ghost view = { λ n. take n.count n.characters };
+
+    ghost invariant = { λ n. IsPadded n.count n.characters };
+
+    ghost inverse = { λ text. record { characters = text ++ replicate (32 - length text) 0; count = length text } };
+
+    ghost inverse_ok = { λ n kept i. record { characters = kept.padded i; count = kept.counted i } };
+}
+
+impl PartialEq for Name {
+    ghost eq = { bytes_eq };
+
+    ghost laws = { partial_equiv_from_equiv nat_list_eq_equiv };
+
+    fn eq(&self, other: &Name) -> bool {
+        self.bytes() == other.bytes()
+    }
+}
+
+impl Eq for Name {
+    ghost laws = { nat_list_eq_equiv };
+}
+
+impl Hash for Name {
+    ghost hash_input = { fed.slice fed.u8 };
+
+    ghost respects_eq = { λ a b same. ap (fed.slice fed.u8) ((bytes_decides a b).0 same) };
+
+    fn hash<H: Hasher>(&self, state: &mut H) {
+        self.bytes().hash(state);
+    }
+}
+
+/// Whether a name may have the character.
+fn is_name_character(character: u8) -> bool
+    ensures { result ≡ is_name_character character }
+{
+    matches!(character, b'a'..=b'z' | b'0'..=b'9' | b'-' | b'_')
+}
+
+impl Name {
+    /// The greatest number of characters of a name.
+    pub const MOST: usize = 32;
+
+    /// The name of a text; `OutOfRange` where the text is no name.
+    pub fn new(text: &str) -> Result<Self, OutOfRange>
+        ensures { OkIff result (IsTrue (is_name text.now)) text.now }
+    {
+        let text = text.as_bytes();
+        if !is_name(text) {
+            return Err(OutOfRange);
+        }
+        let mut characters = [0; 32];
+        characters[..text.len()].copy_from_slice(text);
+        Ok(Name {
+            characters,
+            count: text.len() as u8,
+        })
+    }
+
+    /// Its characters, in ASCII.
+    pub fn bytes(&self) -> &[u8]
+        ensures value { result.now ≡ self.now }
+        ensures named { IsTrue (is_name result.now) }
+    {
+        &self.characters[..self.count as usize]
+    }
+}
+
+/// Whether a text is a name.
+#[tactic(auto, unfolding(crate::specs::Names::is_name))]
+fn is_name(text: &[u8]) -> bool
+    ensures { result ≡ is_name text.now }
+{
+    (1..=Name::MOST).contains(&text.len()) && has_name_characters(text)
+}
+
+/// Whether a text has no other characters than a name may have.
+fn has_name_characters(text: &[u8]) -> bool
+    ensures { result ≡ list_all is_name_character text.now }
+{
+    text.iter().all(|character| is_name_character(*character))
+}

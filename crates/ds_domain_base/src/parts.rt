@@ -1,0 +1,44 @@
+ghost use Rattle.std.specs.Prelude.{◌≡◌};
+ghost use Rattle.moment_core.specs.declared.colour.Mode.TheVariants.{Aware};
+ghost use Rattle.meter_book.specs.AnyMeter.{opening_of};
+
+use crate::quantity::Delay;
+use crate::terms::SoundParameters;
+use meter_book::AnyMeter;
+use moment_core::{Mode, Moment};
+
+/// A meter inside the domain. It heeds the colours that packets come in with.
+#[derive(Clone, Copy, Debug, PartialEq, Eq, Hash)]
+pub struct Meter {
+    /// Its parameters.
+    pub parameters: SoundParameters,
+    /// By how much packets may arrive there out of order.
+    pub skew: Delay,
+    /// The moment at which its buckets are full.
+    pub origin: Moment,
+}
+
+impl Meter {
+    /// The meter as it is at its origin: aware, with full buckets.
+    pub fn opened(&self) -> AnyMeter
+        ensures { result ≡ opening_of self.now.parameters Aware self.now.origin }
+    {
+        self.parameters.opened(Mode::Aware, self.origin)
+    }
+}
+
+/// A port, at which packets enter the domain.
+#[derive(Clone, Copy, Debug, PartialEq, Eq, Hash)]
+pub struct Port {
+    /// By how much packets may arrive there out of order.
+    pub skew: Delay,
+}
+
+/// A link to a meter. A packet is on it for the floor at least, and for the floor and the jitter at most.
+#[derive(Clone, Copy, Debug, PartialEq, Eq, Hash)]
+pub struct Link {
+    /// The least delay.
+    pub floor: Delay,
+    /// By how much delays differ at most.
+    pub jitter: Delay,
+}

@@ -1,0 +1,107 @@
+ghost use Rattle.std.specs.Prelude.{◌≡◌, None, Some, MatchResult};
+ghost use Rattle.meter_book.specs.AnyMeter.{fault_of, opening_of};
+ghost use Rattle.ds_domain_base.specs.Sent.{edge_of, has_peak};
+
+use meter_book::{AnyMeter, MeterFault, Parameters};
+use moment_core::{Mode, Moment, Rate};
+use std::marker::Model;
+
+/// The parameters of a meter of any kind, with nothing wrong with them.
+#[derive(Clone, Copy, Debug, PartialEq, Eq, Hash)]
+pub struct SoundParameters {
+    parameters: Parameters,
+}
+
+impl Model for SoundParameters {
+    ghost use Rattle.std.specs.Prelude.{◌≡◌, None};
+    ghost use Rattle.meter_book.specs.declared.any_meter.Parameters.{Parameters};
+    ghost use Rattle.meter_book.specs.AnyMeter.{fault_of};
+
+    ghost Value = { Parameters };
+
+    ghost view = { λ s. s.parameters };
+
+    ghost invariant = { λ s. fault_of s.parameters ≡ None };
+
+    ghost inverse = { λ p. record { parameters = p } };
+}
+
+impl SoundParameters {
+    /// Parameters, if nothing is wrong with them; else what their meter's standard refuses.
+    pub fn new(parameters: Parameters) -> Result<Self, MeterFault>
+        ensures { MatchResult result
+            (λ sound. (fault_of parameters ≡ None) × (sound ≡ parameters))
+            (λ fault. fault_of parameters ≡ Some fault) }
+    {
+        match parameters.fault() {
+            None => Ok(SoundParameters { parameters }),
+            Some(fault) => Err(fault),
+        }
+    }
+
+    /// The parameters.
+    pub fn get(self) -> Parameters
+        ensures value { result ≡ self }
+        ensures sound { fault_of result ≡ None }
+    {
+        self.parameters
+    }
+
+    /// A meter with these parameters and full buckets at its origin.
+    pub fn opened(self, mode: Mode, origin: Moment) -> AnyMeter
+        ensures { result ≡ opening_of self mode origin }
+    {
+        AnyMeter::new(self.parameters, mode, origin).unwrap()
+    }
+}
+
+/// A rate and a burst that a contract's traffic keeps: any window of time has at most the burst and what the rate gives
+/// over the window (Cruz 1991, section II).
+#[derive(Clone, Copy, Debug, PartialEq, Eq, Hash)]
+pub struct Profile {
+    /// The rate.
+    pub rate: Rate,
+    /// The burst, in bytes.
+    pub burst: u32,
+}
+
+/// What a contract is trusted with, or held to.
+#[derive(Clone, Copy, Debug, PartialEq, Eq, Hash)]
+pub enum Terms {
+    /// Its traffic is coloured and shaped before it comes in.
+    Trusted {
+        /// What its green packets keep.
+        committed: Profile,
+        /// What its green and yellow packets keep, if it may send yellow ones.
+        peak: Option<Profile>,
+    },
+    /// A meter of its own at the edge colours its traffic.
+    Policed {
+        /// The parameters of that meter.
+        parameters: SoundParameters,
+        /// Whether that meter heeds the colours that packets come in with.
+        mode: Mode,
+    },
+}
+
+impl Terms {
+    /// Whether yellow packets may be sent; of a policed contract always.
+    pub fn has_peak(&self) -> bool
+        ensures { result ≡ has_peak self.now }
+    {
+        match self {
+            Terms::Trusted { peak, .. } => peak.is_some(),
+            Terms::Policed { .. } => true,
+        }
+    }
+
+    /// The meter at the edge, with full buckets at a moment; None for a trusted contract.
+    pub fn edge(&self, since: Moment) -> Option<AnyMeter>
+        ensures { result ≡ edge_of self.now since }
+    {
+        match self {
+            Terms::Trusted { .. } => None,
+            Terms::Policed { parameters, mode } => Some(parameters.opened(*mode, since)),
+        }
+    }
+}
