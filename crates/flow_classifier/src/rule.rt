@@ -1,0 +1,132 @@
+ghost use Rattle.std.specs.Prelude.{◌≡◌, ◌≤◌};
+ghost use Rattle.std.specs.Result.{OkIff};
+ghost use Rattle.flow_classifier.specs.Parts.{PrefixValue, PortRangeValue};
+
+use af_marker::{Dscp, OutOfRange};
+use std::marker::Model;
+
+/// The IPv4 addresses that agree in their first bits (RFC 791 section 3.2; written `a.b.c.d/n`).
+#[derive(Clone, Copy, Debug, PartialEq, Eq, Hash)]
+pub struct Prefix {
+    address: u32,
+    length: u8,
+}
+
+impl Model for Prefix {
+    ghost Value = { PrefixValue };
+
+    ghost view = { λ p. record { address = p.address; length = p.length } };
+
+    ghost invariant = { λ p. p.length ≤ 32 };
+
+    ghost inverse = { λ v. record { address = v.address; length = v.length } };
+}
+
+impl Prefix {
+    /// The addresses that agree with this one, the first byte in its highest bits, in so many bits; `OutOfRange` above
+    /// 32. The address's bits past the length say nothing.
+    pub fn new(address: u32, length: u8) -> Result<Self, OutOfRange>
+        ensures { OkIff result (length ≤ 32) (record { address = address; length = length }) }
+    {
+        if length <= 32 {
+            Ok(Prefix { address, length })
+        } else {
+            Err(OutOfRange)
+        }
+    }
+
+    /// Its address, with the bits past the length as they were given.
+    pub fn address(self) -> u32
+        ensures { result ≡ self.address }
+    {
+        let Prefix { address, length: _ } = self;
+        address
+    }
+
+    /// How many bits count: 0 to 32.
+    pub fn length(self) -> u8
+        ensures value { result ≡ self.length }
+        ensures range { result ≤ 32 }
+    {
+        let Prefix { address: _, length } = self;
+        length
+    }
+}
+
+/// The ports from a low to a high one, both included: 0 to 65,535 (RFC 768; RFC 9293 section 3.1).
+#[derive(Clone, Copy, Debug, PartialEq, Eq, Hash)]
+pub struct PortRange {
+    low: u16,
+    high: u16,
+}
+
+impl Model for PortRange {
+    ghost Value = { PortRangeValue };
+
+    ghost view = { λ r. record { low = r.low; high = r.high } };
+
+    ghost invariant = { λ r. r.low ≤ r.high };
+
+    ghost inverse = { λ v. record { low = v.low; high = v.high } };
+}
+
+impl PortRange {
+    /// The ports from `low` to `high`; `OutOfRange` where `low` is above `high`.
+    pub fn new(low: u16, high: u16) -> Result<Self, OutOfRange>
+        ensures { OkIff result (low ≤ high) (record { low = low; high = high }) }
+    {
+        if low <= high {
+            Ok(PortRange { low, high })
+        } else {
+            Err(OutOfRange)
+        }
+    }
+
+    /// The lowest port.
+    pub fn low(self) -> u16
+        ensures value { result ≡ self.low }
+        ensures order { result ≤ self.high }
+    {
+        let PortRange { low, high: _ } = self;
+        low
+    }
+
+    /// The highest port, not below the lowest.
+    pub fn high(self) -> u16
+        ensures value { result ≡ self.high }
+        ensures order { self.low ≤ result }
+    {
+        let PortRange { low: _, high } = self;
+        high
+    }
+}
+
+/// What a packet's header must show for a rule to hold; a part that is not given holds of every packet.
+#[derive(Clone, Copy, Debug, PartialEq, Eq, Hash)]
+pub struct Rule {
+    /// Where the packet comes from.
+    pub source: Option<Prefix>,
+    /// Where it goes to.
+    pub target: Option<Prefix>,
+    /// The number of the protocol above IPv4 (RFC 791 section 3.1).
+    pub protocol: Option<u8>,
+    /// The port that it comes from.
+    pub source_ports: Option<PortRange>,
+    /// The port that it goes to.
+    pub target_ports: Option<PortRange>,
+    /// Its code point (RFC 2474 section 3).
+    pub dscp: Option<Dscp>,
+}
+
+#[cfg(test)]
+mod tests {
+    use super::*;
+
+    #[test]
+    fn parts_out_of_range_are_refused(rt: HostRuntime) {
+        assert!(rt; Prefix::new(0x0a00_0000, 32).is_ok());
+        assert_eq!(rt; Prefix::new(0x0a00_0000, 33).err(), Some(OutOfRange));
+        assert!(rt; PortRange::new(80, 80).is_ok());
+        assert_eq!(rt; PortRange::new(81, 80).err(), Some(OutOfRange));
+    }
+}
