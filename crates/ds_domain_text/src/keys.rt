@@ -1,4 +1,4 @@
-ghost use Rattle.std.specs.Prelude.{◌≡◌, ◌⊎◌, map, option_map, IfErr, IfOk};
+ghost use Rattle.std.specs.Prelude.{◌≡◌, ◌≤◌, ◌⊎◌, map, option_map, IfErr, IfOk, IfSome};
 ghost use Rattle.toml.specs.Data.{get_member};
 ghost use Rattle.toml.specs.View.{table_view, view};
 ghost use Rattle.ds_domain_text.specs.Steps.{lent, lent_if_there};
@@ -19,7 +19,8 @@ pub fn value_at<'a>(table: &'a Table, key: &str) -> Option<&'a Value>
 /// A whole number from `least` to `most`, which must be there.
 #[tactic(auto, unfolding(crate::specs::Values::required))]
 pub fn required_number(table: &Table, key: &str, least: u64, most: u64) -> Result<u64, Flaw>
-    ensures { result ≡ required (number_in least most) key.now (table_view table.now) }
+    ensures value { result ≡ required (number_in least most) key.now (table_view table.now) }
+    ensures range { IfOk result (λ n. (least ≤ n) × (n ≤ most)) }
 {
     match value_at(table, key) {
         Some(value) => number(value, least, most),
@@ -35,7 +36,8 @@ pub fn optional_number(
     least: u64,
     most: u64,
 ) -> Result<Option<u64>, Flaw>
-    ensures { result ≡ optional (number_in least most) key.now (table_view table.now) }
+    ensures value { result ≡ optional (number_in least most) key.now (table_view table.now) }
+    ensures range { IfOk result (λ told. IfSome told (λ n. (least ≤ n) × (n ≤ most))) }
 {
     match value_at(table, key) {
         Some(value) => Ok(Some(number(value, least, most)?)),

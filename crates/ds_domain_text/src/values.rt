@@ -1,4 +1,4 @@
-ghost use Rattle.std.specs.Prelude.{◌≡◌, ◌⊎◌, map, IfErr, IfOk};
+ghost use Rattle.std.specs.Prelude.{◌≡◌, ◌≤◌, ◌⊎◌, map, IfErr, IfOk};
 ghost use Rattle.toml.specs.View.{items_view, table_view, view};
 ghost use Rattle.ds_domain_text.specs.Steps.{lent};
 ghost use Rattle.ds_domain_text.specs.Values.{number_in, port_range_in, prefix_in, tables_in, text_in, texts_in, two_numbers, within};
@@ -11,7 +11,8 @@ use toml::{Table, Value};
 /// A whole number from `least` to `most`.
 #[tactic(auto, unfolding(crate::specs::Values::number_in))]
 pub fn number(value: &Value, least: u64, most: u64) -> Result<u64, Flaw>
-    ensures { result ≡ number_in least most (view value.now) }
+    ensures value { result ≡ number_in least most (view value.now) }
+    ensures range { IfOk result (λ n. (least ≤ n) × (n ≤ most)) }
 {
     let whole = value.as_integer().ok_or(Flaw::Misfit)?;
     within(whole, least, most)
@@ -19,7 +20,8 @@ pub fn number(value: &Value, least: u64, most: u64) -> Result<u64, Flaw>
 
 /// A whole number, where it is in a range.
 fn within(whole: i64, least: u64, most: u64) -> Result<u64, Flaw>
-    ensures { result ≡ within least most whole }
+    ensures value { result ≡ within least most whole }
+    ensures range { IfOk result (λ n. (least ≤ n) × (n ≤ most)) }
 {
     if whole < 0 {
         return Err(Flaw::OutOfRange);

@@ -1,0 +1,3 @@
+-- What a domain text says, or its first fault.
+pub mod Keys
+pub mod Kinds

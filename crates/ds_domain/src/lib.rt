@@ -1,0 +1,7 @@
+//! Domain texts: a TOML text of meters, ports, links and contracts is read into values that cannot be wrong, or its
+//! first fault is named.
+#![tactic(auto)]
+
+mod keys;
+mod kinds;
+mod place;
