@@ -8,12 +8,12 @@ use Rattle.ds_domain_base.specs.declared.fault.Kind.TheVariants as kinds
 use Rattle.ds_domain_base.specs.declared.fault.Section.TheVariants as sections
 use Rattle.ds_domain_base.specs.declared.fault.Field.{Field}
 use Rattle.ds_domain_base.specs.declared.fault.Field.TheVariants as fields
-use Rattle.ds_domain_base.specs.Domains.{Domain, is_meter, is_port, link_of}
+use Rattle.ds_domain_base.specs.Domains.{Domain, meter_of, is_port, link_of}
 use Rattle.ds_domain_base.specs.Faults.{fault_at}
 
 -- a name of a path that is not a meter's
 unfoldable pub names_unknown : Domain → List (List ℕ) → Bool
-names_unknown d path = list_any (λ name. not (is_meter d name)) path
+names_unknown d path = list_any (λ name. is_none (meter_of d name)) path
 
 -- a name that stands twice
 unfoldable pub repeats : List (List ℕ) → Bool

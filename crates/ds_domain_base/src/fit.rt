@@ -40,6 +40,7 @@ fn refusal(kind: Kind, field: Field) -> DomainFault
 }
 
 /// Whether a path has a name that is not a meter's.
+#[tactic(auto, unfolding(crate::specs::Fitting::names_unknown))]
 fn names_unknown(domain: &Domain, path: &[Name]) -> bool
     ensures { result ≡ names_unknown domain.now path.now }
 {
@@ -47,22 +48,23 @@ fn names_unknown(domain: &Domain, path: &[Name]) -> bool
 }
 
 /// Whether a name stands twice.
+#[tactic(auto, unfolding(crate::specs::Fitting::repeats))]
 fn repeats(path: &[Name]) -> bool
     ensures { result ≡ repeats path.now }
 {
-    path.iter().enumerate().any(|(place, name)| path[place + 1..].contains(name))
+    match path.split_first() {
+        None => false,
+        Some((name, rest)) => rest.contains(name) || repeats(rest),
+    }
 }
 
 /// Whether, from a name on, two names of a path in turn have no link from the one to the other.
-fn lacks_link(domain: &Domain, first: Name, path: &[Name]) -> bool
-    ensures { result ≡ lacks_link domain.now first path.now }
+#[tactic(auto, unfolding(crate::specs::Fitting::lacks_link))]
+fn lacks_link(domain: &Domain, from: Name, path: &[Name]) -> bool
+    ensures { result ≡ lacks_link domain.now from path.now }
 {
-    let mut from = first;
-    for to in path.iter() {
-        if domain.link(from, *to).is_none() {
-            return true;
-        }
-        from = *to;
+    match path.split_first() {
+        None => false,
+        Some((to, rest)) => domain.link(from, *to).is_none() || lacks_link(domain, *to, rest),
     }
-    false
 }

@@ -1,4 +1,4 @@
-ghost use Rattle.std.specs.Prelude.{◌≡◌, IsTrue, bytes_eq};
+ghost use Rattle.std.specs.Prelude.{◌≡◌, ◌-◌, ◌≤◌, ◌++◌, length, replicate, IsTrue, bytes_eq};
 ghost use Rattle.std.specs.List.{list_all};
 ghost use Rattle.std.specs.Cmp.{partial_equiv_from_equiv};
 ghost use Rattle.std.specs.Cmp.Lexicographic.{bytes_decides, nat_list_eq_equiv};
@@ -69,6 +69,7 @@ impl Name {
     pub const MOST: usize = 32;
 
     /// The name of a text; `OutOfRange` where the text is no name.
+    #[tactic(auto, using(crate::proofs::NameLaws::name_fits, crate::proofs::NameLaws::padded_name))]
     pub fn new(text: &str) -> Result<Self, OutOfRange>
         ensures { OkIff result (IsTrue (is_name text.now)) text.now }
     {
@@ -76,10 +77,8 @@ impl Name {
         if !is_name(text) {
             return Err(OutOfRange);
         }
-        let mut characters = [0; 32];
-        characters[..text.len()].copy_from_slice(text);
         Ok(Name {
-            characters,
+            characters: padded(text),
             count: text.len() as u8,
         })
     }
@@ -106,4 +105,14 @@ fn has_name_characters(text: &[u8]) -> bool
     ensures { result ≡ list_all is_name_character text.now }
 {
     text.iter().all(|character| is_name_character(*character))
+}
+
+/// A text, filled up with 0 to 32 places.
+fn padded(text: &[u8]) -> [u8; 32]
+    requires { length text.now ≤ 32 }
+    ensures { result ≡ text.now ++ replicate (32 - length text.now) 0 }
+{
+    let mut places = [0; 32];
+    places[..text.len()].copy_from_slice(text);
+    places
 }

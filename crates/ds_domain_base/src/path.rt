@@ -1,4 +1,5 @@
-ghost use Rattle.std.specs.Prelude.{◌≡◌, List, ℕ, IfOk};
+ghost use Rattle.std.specs.Prelude.{◌≡◌, List, ℕ, IfOk, IfErr};
+ghost use Rattle.ds_domain_base.specs.Faults.{no_memory};
 
 use crate::fault::DomainFault;
 use crate::name::Name;
@@ -35,11 +36,9 @@ impl Path {
     /// The same path again; `NoMemory` where memory runs out.
     pub fn copy(&self, alloc: Global) -> Result<Path, DomainFault>
         ensures copied { IfOk result (λ path. path ≡ self.now) }
+        ensures refused { IfErr result (λ fault. fault ≡ no_memory) }
     {
-        let mut meters = Vec::with_capacity(alloc, self.meters.len())?;
-        for name in self.meters.iter() {
-            meters.push(*name)?;
-        }
+        let meters = self.meters.as_slice().to_vec(alloc)?;
         Ok(Path { meters })
     }
 }
