@@ -1,0 +1,2 @@
+-- Lemmas on domain texts.
+pub mod KeyLemmas
