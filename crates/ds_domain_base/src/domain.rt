@@ -1,7 +1,7 @@
-ghost use Rattle.std.specs.Prelude.{◌≡◌, ◌⊎◌, ◌++◌, List, ℕ, None, Some, position, is_some, IfOk, IfErr, OnOk, OnErr, MatchOption};
+ghost use Rattle.std.specs.Prelude.{◌≡◌, ◌⊎◌, ◌++◌, List, ℕ, None, Some, position, IfOk, IfErr, OnOk, OnErr, if◌then◌else◌};
 ghost use Rattle.std.specs.Map.{keys_of};
 ghost use Rattle.std.specs.Str.{bytes_eq};
-ghost use Rattle.ds_domain_base.specs.Domains.{bare, is_taken, link_fault, link_of, meter_fault, meter_of, port_fault, port_of, with_link, with_meter, with_port};
+ghost use Rattle.ds_domain_base.specs.Domains.{bare, is_meter, is_port, is_taken, link_fault, link_of, meter_fault, meter_of, port_fault, port_of, with_link, with_meter, with_port};
 ghost use Rattle.ds_domain_base.specs.Faults.{no_memory};
 ghost use Rattle.ds_domain_base.specs.Kept.{IsDomain};
 
@@ -10,6 +10,7 @@ use crate::name::Name;
 use crate::parts::{Link, Meter, Port};
 use indexmap::IndexMap;
 use std::alloc::Global;
+use std::hash::Hash;
 use std::marker::Model;
 
 /// A domain: its meters, ports and links.
@@ -91,6 +92,38 @@ impl Domain {
         self.meter(name).is_some() || self.port(name).is_some()
     }
 
+    /// The name of a meter that is written so, if there is one. A text that is no name is that of none.
+    pub fn meter_named(&self, text: &str) -> Option<Name>
+        ensures { result ≡ (if is_meter self.now text.now then Some text.now else None) }
+    {
+        let own = &self.meters;
+        let Ok(name) = Name::new(text) else {
+            return None;
+        };
+        own.contains_key(&name).then_some(name)
+    }
+
+    /// The name of a port that is written so, if there is one. A text that is no name is that of none.
+    pub fn port_named(&self, text: &str) -> Option<Name>
+        ensures { result ≡ (if is_port self.now text.now then Some text.now else None) }
+    {
+        let own = &self.ports;
+        let Ok(name) = Name::new(text) else {
+            return None;
+        };
+        own.contains_key(&name).then_some(name)
+    }
+
+    /// The name of a meter or a port that is written so, if there is one. A text that is no name is that of none.
+    pub fn place_named(&self, text: &str) -> Option<Name>
+        ensures { result ≡ (if is_taken self.now text.now then Some text.now else None) }
+    {
+        match self.meter_named(text) {
+            Some(name) => Some(name),
+            None => self.port_named(text),
+        }
+    }
+
     /// Adds a meter behind the others.
     ///
     /// Refused, and unchanged: `Range` where there are as many as there may be, `Twice` where the name is taken, `NoMemory`
@@ -101,13 +134,115 @@ impl Domain {
         ensures refused { IfErr result (λ fault. (fault ≡ no_memory) ⊎ (meter_fault self.old name ≡ Some fault)) }
         ensures unchanged { OnErr result (self.new ≡ self.old) }
     {
-        if self.meters.len() >= Self::MOST_METERS {
+        let place = self.meters.len();
+        if place >= Self::MOST_METERS {
             return Err(DomainFault::new(Kind::Range, Section::Top, 0, Field::Meter));
         }
         if self.is_taken(name) {
-            return Err(DomainFault::new(Kind::Twice, Section::Meter, self.meters.len(), Field::Name));
+            return Err(DomainFault::new(Kind::Twice, Section::Meter, place, Field::Name));
         }
+        let _spelling = name.bytes();
         self.meters.insert(name, meter)?;
         Ok(())
     }
+
+    /// Adds a port behind the others.
+    ///
+    /// Refused, and unchanged: `Range` where there are as many as there may be, `Twice` where the name is taken, `NoMemory`
+    /// where memory runs out.
+    pub fn add_port(&mut self, name: Name, port: Port) -> Result<(), DomainFault>
+        ensures added { OnOk result (self.new ≡ with_port self.old name port) }
+        ensures good { OnOk result (port_fault self.old name ≡ None) }
+        ensures refused { IfErr result (λ fault. (fault ≡ no_memory) ⊎ (port_fault self.old name ≡ Some fault)) }
+        ensures unchanged { OnErr result (self.new ≡ self.old) }
+    {
+        let place = self.ports.len();
+        if place >= Self::MOST_PORTS {
+            return Err(DomainFault::new(Kind::Range, Section::Top, 0, Field::Port));
+        }
+        if self.is_taken(name) {
+            return Err(DomainFault::new(Kind::Twice, Section::Port, place, Field::Name));
+        }
+        let _spelling = name.bytes();
+        self.ports.insert(name, port)?;
+        Ok(())
+    }
+
+    /// Adds a link behind the others, from the meter or port of a text to the meter of a text.
+    ///
+    /// Refused, and unchanged: `Range` where there are as many as there may be, `Twice` where there is one from the same to
+    /// the same, `UnknownName` where `from` names no meter and no port, and then where `to` names no meter, `NoMemory` where
+    /// memory runs out.
+    pub fn add_link(&mut self, from: &str, to: &str, link: Link) -> Result<(), DomainFault>
+        ensures added { OnOk result (self.new ≡ with_link self.old from.now to.now link) }
+        ensures good { OnOk result (link_fault self.old from.now to.now ≡ None) }
+        ensures refused { IfErr result (λ fault. (fault ≡ no_memory) ⊎ (link_fault self.old from.now to.now ≡ Some fault)) }
+        ensures unchanged { OnErr result (self.new ≡ self.old) }
+    {
+        let place = self.links.len();
+        if place >= Self::MOST_LINKS {
+            return Err(DomainFault::new(Kind::Range, Section::Top, 0, Field::Link));
+        }
+        let Some(from) = self.place_named(from) else {
+            return Err(DomainFault::new(Kind::UnknownName, Section::Link, place, Field::From));
+        };
+        let Some(to) = self.meter_named(to) else {
+            return Err(DomainFault::new(Kind::UnknownName, Section::Link, place, Field::To));
+        };
+        if self.link(from, to).is_some() {
+            return Err(DomainFault::new(Kind::Twice, Section::Link, place, Field::From));
+        }
+        self.links.insert((from, to), link)?;
+        Ok(())
+    }
+
+    /// Its meters by name, in the order in which they were added.
+    pub fn meters(&self) -> &IndexMap<Name, Meter>
+        ensures entries { result.now.entries ≡ self.now.meters }
+        ensures kept { IsDomain self.now }
+    {
+        &self.meters
+    }
+
+    /// Its ports by name, in the order in which they were added.
+    pub fn ports(&self) -> &IndexMap<Name, Port>
+        ensures entries { result.now.entries ≡ self.now.ports }
+        ensures kept { IsDomain self.now }
+    {
+        &self.ports
+    }
+
+    /// Its links by where they come from and go to, in the order in which they were added.
+    pub fn links(&self) -> &IndexMap<(Name, Name), Link>
+        ensures entries { result.now.entries ≡ self.now.links }
+        ensures kept { IsDomain self.now }
+    {
+        &self.links
+    }
+
+    /// The same domain again; `NoMemory` where memory runs out.
+    pub fn copy(&self, alloc: Global) -> Result<Domain, DomainFault>
+        ensures copied { IfOk result (λ domain. domain ≡ self.now) }
+        ensures refused { IfErr result (λ fault. fault ≡ no_memory) }
+    {
+        let meters = copied(alloc, &self.meters)?;
+        let ports = copied(alloc, &self.ports)?;
+        let links = copied(alloc, &self.links)?;
+        Ok(Domain { meters, ports, links })
+    }
+}
+
+/// The same entries again.
+fn copied<K: Eq + Hash + Copy + Drop, V: Copy + Drop>(
+    alloc: Global,
+    map: &IndexMap<K, V>,
+) -> Result<IndexMap<K, V>, DomainFault>
+    ensures copied { IfOk result (λ copy. copy.entries ≡ map.now.entries) }
+    ensures refused { IfErr result (λ fault. fault ≡ no_memory) }
+{
+    let mut copy = IndexMap::with_capacity(alloc, map.len())?;
+    for (key, value) in map.iter() {
+        copy.insert(*key, *value)?;
+    }
+    Ok(copy)
 }
