@@ -5,3 +5,5 @@
 mod keys;
 mod kinds;
 mod place;
+mod rules;
+mod terms;

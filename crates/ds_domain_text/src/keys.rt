@@ -98,7 +98,8 @@ pub fn tables_at<'a>(alloc: Global, table: &'a Table, key: &str) -> Result<Vec<&
 /// A prefix of IPv4 addresses, which may be absent: its address, and how many of its first bits count.
 #[tactic(auto, unfolding(crate::specs::Values::optional))]
 pub fn optional_prefix(table: &Table, key: &str) -> Result<Option<(u32, u8)>, Flaw>
-    ensures { result ≡ optional prefix_in key.now (table_view table.now) }
+    ensures value { result ≡ optional prefix_in key.now (table_view table.now) }
+    ensures range { IfOk result (λ told. IfSome told (λ parts. parts.1 ≤ 32)) }
 {
     match value_at(table, key) {
         Some(value) => Ok(Some(prefix(value)?)),
@@ -109,7 +110,8 @@ pub fn optional_prefix(table: &Table, key: &str) -> Result<Option<(u32, u8)>, Fl
 /// A range of ports, which may be absent.
 #[tactic(auto, unfolding(crate::specs::Values::optional))]
 pub fn optional_port_range(table: &Table, key: &str) -> Result<Option<(u16, u16)>, Flaw>
-    ensures { result ≡ optional port_range_in key.now (table_view table.now) }
+    ensures value { result ≡ optional port_range_in key.now (table_view table.now) }
+    ensures range { IfOk result (λ told. IfSome told (λ ends. ends.0 ≤ ends.1)) }
 {
     match value_at(table, key) {
         Some(value) => Ok(Some(port_range(value)?)),

@@ -1,4 +1,4 @@
-ghost use Rattle.std.specs.Prelude.{◌≡◌, option_map};
+ghost use Rattle.std.specs.Prelude.{◌≡◌, ◌≤◌, option_map, IfSome};
 ghost use Rattle.ds_domain_text.specs.Prefixes.{address_of, cut_at, plain_number, prefix_of};
 
 use line_text::{cut, number};
@@ -8,7 +8,8 @@ use line_text::{cut, number};
 /// they are written. `None` for any other text.
 #[tactic(auto, unfolding(crate::specs::Prefixes::prefix_of))]
 pub fn prefix_of(text: &[u8]) -> Option<(u32, u8)>
-    ensures { result ≡ prefix_of text.now }
+    ensures value { result ≡ prefix_of text.now }
+    ensures range { IfSome result (λ parts. parts.1 ≤ 32) }
 {
     let (front, behind) = cut_at(text, b'/')?;
     let address = address_of(front)?;
@@ -41,7 +42,8 @@ fn cut_at(text: &[u8], mark: u8) -> Option<(&[u8], &[u8])>
 /// A whole number of at most `most`, in decimal digits without a leading zero.
 #[tactic(auto, unfolding(crate::specs::Prefixes::plain_number))]
 fn plain_number(text: &[u8], most: u8) -> Option<u8>
-    ensures { result ≡ plain_number most text.now }
+    ensures value { result ≡ plain_number most text.now }
+    ensures range { IfSome result (λ number. number ≤ most) }
 {
     if text.len() > 1 && text[0] == b'0' {
         return None;

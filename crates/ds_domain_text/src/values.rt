@@ -87,7 +87,8 @@ pub fn tables(alloc: Global, value: &Value) -> Result<Vec<&Table>, Flaw>
 /// A prefix of IPv4 addresses, as `10.0.1.0/24`: its address, and how many of its first bits count, from 0 to 32.
 #[tactic(auto, unfolding(crate::specs::Values::prefix_in))]
 pub fn prefix(value: &Value) -> Result<(u32, u8), Flaw>
-    ensures { result ≡ prefix_in (view value.now) }
+    ensures value { result ≡ prefix_in (view value.now) }
+    ensures range { IfOk result (λ parts. parts.1 ≤ 32) }
 {
     let text = text(value)?;
     prefix_of(text.as_bytes()).ok_or(Flaw::OutOfRange)
@@ -96,7 +97,8 @@ pub fn prefix(value: &Value) -> Result<(u32, u8), Flaw>
 /// A range of ports: `[low, high]`, each from 0 to 65535, `low` at most `high`.
 #[tactic(auto, unfolding(crate::specs::Values::port_range_in))]
 pub fn port_range(value: &Value) -> Result<(u16, u16), Flaw>
-    ensures { result ≡ port_range_in (view value.now) }
+    ensures value { result ≡ port_range_in (view value.now) }
+    ensures range { IfOk result (λ ends. ends.0 ≤ ends.1) }
 {
     let array = value.as_array().ok_or(Flaw::Misfit)?;
     let (low, high) = two_numbers(array).ok_or(Flaw::Misfit)?;
