@@ -1,9 +1,10 @@
 -- A domain with one more meter, port or link is still one.
-use Rattle.std.proofs.Common.{rules, ◌≡◌, ℕ, ◌+◌, ◌<◌, ◌≤◌, Bool, true, false, ◌&&◌, ◌||◌, List, [], ◌∷◌, ◌++◌, length, Option, None, Some, is_some, ◌⊎◌, inl, inr, IsTrue, IsSome, refl, sym, subst, ◌∙◌, ap, arith}
+use Rattle.std.proofs.Common.{rules, ◌≡◌, ℕ, ◌+◌, ◌<◌, ◌≤◌, Bool, true, false, ◌&&◌, ◌||◌, List, [], ◌∷◌, ◌++◌, length, Option, None, Some, is_some, ◌⊎◌, inl, inr, IsTrue, IsSome, if◌then◌else◌, refl, sym, subst, ◌∙◌, ap, arith}
+use Rattle.std.specs.Cmp.{IsEquivalence}
 use Rattle.std.specs.Cmp.Lexicographic.{bytes_decides, nat_list_eq_equiv}
 use Rattle.std.specs.Map.{lookup}
 use Rattle.std.specs.Str.{bytes_eq}
-use Rattle.std.proofs.lemmas.Bool.{or_cases, or_left, or_parts, or_right}
+use Rattle.std.proofs.lemmas.Bool.{and_from, and_parts, false≢true, or_cases, or_left, or_parts, or_right}
 use Rattle.std.proofs.lemmas.List.{length-append}
 use Rattle.ds_domain_base.specs.declared.parts.Meter.{Meter}
 use Rattle.ds_domain_base.specs.declared.parts.Port.{Port}
@@ -34,21 +35,26 @@ IsDomain-with_meter d name meter kept few good free = record {
   few_ports = kept.few_ports;
   few_links = kept.few_links;
   named = λ other found. elim (or_cases _ _ found) [
-      inl there ↦ elim (found_or_new d.meters name other meter (bytes_eq other name) refl there) [
-          inl same ↦ subst (λ n. IsTrue (is_name n)) (sym same) good
-        | inr old ↦ kept.named other (or_left _ _ old) ]
-    | inr there ↦ kept.named other (or_right (is_meter d other) _ there) ];
+    | inl there ↦ elim (found_or_new d.meters name other meter (bytes_eq other name) refl there) [
+      | inl same ↦ subst (λ n. IsTrue (is_name n)) (sym same) good
+      | inr old ↦ kept.named other (or_left _ _ old)
+    ]
+    | inr there ↦ kept.named other (or_right (is_meter d other) _ there)
+  ];
   meters_differ = keys_differ nat_list_eq_equiv d.meters name meter kept.meters_differ (or_parts _ _ free).0;
   ports_differ = kept.ports_differ;
   apart = λ other found. elim (found_or_new d.meters name other meter (bytes_eq other name) refl found) [
-      inl same ↦ subst (λ n. port_of d n ≡ None) (sym same) (none_of (port_of d name) (or_parts (is_meter d name) _ free).1)
-    | inr old ↦ kept.apart other old ];
+    | inl same ↦ subst (λ n. port_of d n ≡ None) (sym same) (none_of (port_of d name) (or_parts (is_meter d name) _ free).1)
+    | inr old ↦ kept.apart other old
+  ];
   links_differ = kept.links_differ;
-  linked = λ from to found. let old = kept.linked from to found in
-      (elim (or_cases _ _ old.0) [
-          inl there ↦ or_left _ _ (still_found (bytes_eq from) d.meters ((name, meter) ∷ []) there)
-        | inr there ↦ or_right (is_meter (with_meter d name meter) from) _ there ],
-       still_found (bytes_eq to) d.meters ((name, meter) ∷ []) old.1);
+  linked = λ from to found. let old = kept.linked from to found in (
+    elim (or_cases _ _ old.0) [
+      | inl there ↦ or_left _ _ (still_found (bytes_eq from) d.meters ((name, meter) ∷ []) there)
+      | inr there ↦ or_right (is_meter (with_meter d name meter) from) _ there
+    ],
+    still_found (bytes_eq to) d.meters ((name, meter) ∷ []) old.1,
+  );
 }
 
 -- the entries after the insertion of a name that is not taken are those of the domain with one more
@@ -60,3 +66,112 @@ meter_added now d es name meter same free put =
   where
     absent : lookup (bytes_eq name) now.meters ≡ None
     absent = none_of (meter_of now name) (ap (λ x. is_meter x name) same ∙ (or_parts (is_meter d name) (is_port d name) free).0)
+
+pub IsDomain-with_port : (d : Domain) (name : List ℕ) (port : Port) → IsDomain d → length d.ports < 1024 → IsTrue (is_name name) → is_taken d name ≡ false
+    → IsDomain (with_port d name port)
+IsDomain-with_port d name port kept few good free = record {
+  few_meters = kept.few_meters;
+  few_ports = length-push d.ports (name, port) 1024 few;
+  few_links = kept.few_links;
+  named = λ other found. elim (or_cases _ _ found) [
+    | inl there ↦ kept.named other (or_left _ _ there)
+    | inr there ↦ elim (found_or_new d.ports name other port (bytes_eq other name) refl there) [
+      | inl same ↦ subst (λ n. IsTrue (is_name n)) (sym same) good
+      | inr old ↦ kept.named other (or_right (is_meter d other) _ old)
+    ]
+  ];
+  meters_differ = kept.meters_differ;
+  ports_differ = keys_differ nat_list_eq_equiv d.ports name port kept.ports_differ (or_parts (is_meter d name) _ free).1;
+  apart = λ other found. apart_by other found (bytes_eq other name) refl;
+  links_differ = kept.links_differ;
+  linked = λ from to found. let old = kept.linked from to found in (
+    elim (or_cases _ _ old.0) [
+      | inl there ↦ or_left _ _ there
+      | inr there ↦ or_right (is_meter d from) _ (still_found (bytes_eq from) d.ports ((name, port) ∷ []) there)
+    ],
+    old.1,
+  );
+}
+  where
+    apart_by : (other : List ℕ) → IsTrue (is_meter d other) → (b : Bool) → bytes_eq other name ≡ b → port_of (with_port d name port) other ≡ None
+    apart_by other found true p =
+        elim (false≢true (sym (subst (λ n. is_meter d n ≡ false) (sym ((bytes_decides other name).0 p)) (or_parts (is_meter d name) (is_port d name) free).0) ∙ found)) [ ]
+    apart_by other found false p = other_key (bytes_eq other) d.ports name port p ∙ kept.apart other found
+
+pub port_added : (now d : Domain) (es : List (List ℕ × Port)) (name : List ℕ) (port : Port) → now ≡ d → is_taken d name ≡ false
+    → es ≡ insert_entry bytes_eq now.ports name port → record { meters = now.meters; ports = es; links = now.links } ≡ with_port d name port
+port_added now d es name port same free put =
+    ap (λ ps. record { meters = now.meters; ports = ps; links = now.links }) (put ∙ new_entry bytes_eq now.ports name port absent)
+    ∙ ap (λ x. with_port x name port) same
+  where
+    absent : lookup (bytes_eq name) now.ports ≡ None
+    absent = none_of (port_of now name) (ap (λ x. is_port x name) same ∙ (or_parts (is_meter d name) (is_port d name) free).1)
+
+same_ends_is : (a b : List ℕ × List ℕ) → same_ends a b ≡ true → a ≡ b
+same_ends_is a b p = search (rules, (bytes_decides a.0 b.0).0 (and_parts _ _ p).0, (bytes_decides a.1 b.1).0 (and_parts (bytes_eq a.0 b.0) _ p).1)
+
+ends_equiv : IsEquivalence same_ends
+ends_equiv = record {
+  refl = λ a. and_from _ _ (nat_list_eq_equiv.refl a.0) (nat_list_eq_equiv.refl a.1);
+  symm = λ a b. ap (λ x. x && bytes_eq a.1 b.1) (nat_list_eq_equiv.symm a.0 b.0) ∙ ap (λ x. bytes_eq b.0 a.0 && x) (nat_list_eq_equiv.symm a.1 b.1);
+  congr = λ a b c same. ap (λ ends. same_ends ends c) (same_ends_is a b same);
+}
+
+-- a link that is found is the new one or was there
+linked_by : (d : Domain) (from to : List ℕ) (link : Link) (start end : List ℕ) (b : Bool) → same_ends (start, end) (from, to) ≡ b → IsDomain d
+    → IsTrue (is_taken d from) → IsTrue (is_meter d to) → IsSome (link_of (with_link d from to link) start end) → IsTrue (is_taken d start) × IsTrue (is_meter d end)
+linked_by d from to link start end true p kept taken meter found =
+    subst (λ ends. IsTrue (is_taken d ends.0) × IsTrue (is_meter d ends.1)) (sym (same_ends_is (start, end) (from, to) p)) (taken, meter)
+linked_by d from to link start end false p kept taken meter found =
+    kept.linked start end (ap is_some (sym (other_key (same_ends (start, end)) d.links (from, to) link p)) ∙ found)
+
+pub IsDomain-with_link : (d : Domain) (from to : List ℕ) (link : Link) → IsDomain d → length d.links < 65536 → IsTrue (is_taken d from) → IsTrue (is_meter d to)
+    → is_some (link_of d from to) ≡ false → IsDomain (with_link d from to link)
+IsDomain-with_link d from to link kept few taken meter free = record {
+  few_meters = kept.few_meters;
+  few_ports = kept.few_ports;
+  few_links = length-push d.links ((from, to), link) 65536 few;
+  named = kept.named;
+  meters_differ = kept.meters_differ;
+  ports_differ = kept.ports_differ;
+  apart = kept.apart;
+  links_differ = keys_differ ends_equiv d.links (from, to) link kept.links_differ free;
+  linked = λ start end found. linked_by d from to link start end (same_ends (start, end) (from, to)) refl kept taken meter found;
+}
+
+pub link_added : (now d : Domain) (es : List ((List ℕ × List ℕ) × Link)) (from to : List ℕ) (link : Link) → now ≡ d → is_some (link_of d from to) ≡ false
+    → es ≡ insert_entry same_ends now.links (from, to) link → record { meters = now.meters; ports = now.ports; links = es } ≡ with_link d from to link
+link_added now d es from to link same free put =
+    ap (λ ls. record { meters = now.meters; ports = now.ports; links = ls }) (put ∙ new_entry same_ends now.links (from, to) link absent)
+    ∙ ap (λ x. with_link x from to link) same
+  where
+    absent : lookup (same_ends (from, to)) now.links ≡ None
+    absent = none_of (link_of now from to) (ap (λ x. is_some (link_of x from to)) same ∙ free)
+
+some_named : (b : Bool) (text name : List ℕ) → (if b then Some text else None) ≡ Some name → (b ≡ true) × (name ≡ text)
+some_named true text name p = (refl, search (rules, p))
+some_named false text name p = search (rules, p)
+
+-- a link between names that are written so
+pub link_put : (now d : Domain) (es : List ((List ℕ × List ℕ) × Link)) (from to start end : List ℕ) (link : Link) → now ≡ d → IsDomain now
+    → length now.links < 65536 → (if is_taken d from then Some from else None) ≡ Some start → (if is_meter d to then Some to else None) ≡ Some end
+    → is_some (link_of d start end) ≡ false → es ≡ insert_entry same_ends now.links (start, end) link
+    → IsDomain (record { meters = now.meters; ports = now.ports; links = es })
+    × (record { meters = now.meters; ports = now.ports; links = es } ≡ with_link d from to link)
+link_put now d es from to start end link same kept few left right free put = (subst IsDomain (sym added) whole, added)
+  where
+    first : (is_taken d from ≡ true) × (start ≡ from)
+    first = some_named (is_taken d from) from start left
+
+    second : (is_meter d to ≡ true) × (end ≡ to)
+    second = some_named (is_meter d to) to end right
+
+    plain : is_some (link_of d from to) ≡ false
+    plain = ap (λ a. is_some (link_of d a to)) (sym first.1) ∙ ap (λ b. is_some (link_of d start b)) (sym second.1) ∙ free
+
+    added : record { meters = now.meters; ports = now.ports; links = es } ≡ with_link d from to link
+    added = link_added now d es from to link same plain
+        (put ∙ ap (λ a. insert_entry same_ends now.links (a, end) link) first.1 ∙ ap (λ b. insert_entry same_ends now.links (from, b) link) second.1)
+
+    whole : IsDomain (with_link d from to link)
+    whole = IsDomain-with_link d from to link (subst IsDomain same kept) (subst (λ x. length x.links < 65536) same few) first.0 second.0 plain
