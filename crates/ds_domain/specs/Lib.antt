@@ -3,3 +3,4 @@ pub mod Keys
 pub mod Kinds
 pub mod Terms
 pub mod Rules
+pub mod Parts

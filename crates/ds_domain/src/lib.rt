@@ -4,6 +4,7 @@
 
 mod keys;
 mod kinds;
+mod parts;
 mod place;
 mod rules;
 mod terms;
