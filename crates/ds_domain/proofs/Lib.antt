@@ -1,2 +1,3 @@
 -- Lemmas on domain texts.
 pub mod KeyLemmas
+pub mod TurnLemmas

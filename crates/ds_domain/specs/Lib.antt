@@ -1,6 +1,8 @@
 -- What a domain text says, or its first fault.
+pub mod ContractViews
+pub mod ContractEntries
 pub mod Keys
 pub mod Kinds
-pub mod Terms
-pub mod Rules
 pub mod Parts
+pub mod Rules
+pub mod Terms

@@ -2,6 +2,7 @@
 //! first fault is named.
 #![tactic(auto)]
 
+mod contract_keys;
 mod keys;
 mod kinds;
 mod parts;

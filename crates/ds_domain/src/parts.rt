@@ -113,7 +113,10 @@ fn add_link(domain: &mut Domain, table: &Table) -> Result<(), DomainFault>
     let to = text_at(place, table, Field::To)?;
     let floor = delay_at(place, table, Field::Floor)?;
     let jitter = delay_at(place, table, Field::Jitter)?;
-    domain.add_link(from, to, Link { floor, jitter })
+    match domain.add_link(from, to, Link { floor, jitter }) {
+        Ok(()) => Ok(()),
+        Err(fault) => Err(fault),
+    }
 }
 
 /// Adds meters behind the others, one after the other.
@@ -123,7 +126,10 @@ pub(crate) fn add_meters(domain: &mut Domain, tables: &[&Table]) -> Result<(), D
     ensures refused { IfErr result (λ fault. (fault ≡ no_memory) ⊎ (in_turn with_meter_of domain.old (map (λ table. table_view table.now) tables.now) ≡ Err fault)) }
 {
     for table in tables {
-        add_meter(domain, table)?;
+        match add_meter(domain, table) {
+            Ok(()) => {}
+            Err(fault) => return Err(fault),
+        }
     }
     Ok(())
 }
@@ -135,7 +141,10 @@ pub(crate) fn add_ports(domain: &mut Domain, tables: &[&Table]) -> Result<(), Do
     ensures refused { IfErr result (λ fault. (fault ≡ no_memory) ⊎ (in_turn with_port_of domain.old (map (λ table. table_view table.now) tables.now) ≡ Err fault)) }
 {
     for table in tables {
-        add_port(domain, table)?;
+        match add_port(domain, table) {
+            Ok(()) => {}
+            Err(fault) => return Err(fault),
+        }
     }
     Ok(())
 }
@@ -147,7 +156,10 @@ pub(crate) fn add_links(domain: &mut Domain, tables: &[&Table]) -> Result<(), Do
     ensures refused { IfErr result (λ fault. (fault ≡ no_memory) ⊎ (in_turn with_link_of domain.old (map (λ table. table_view table.now) tables.now) ≡ Err fault)) }
 {
     for table in tables {
-        add_link(domain, table)?;
+        match add_link(domain, table) {
+            Ok(()) => {}
+            Err(fault) => return Err(fault),
+        }
     }
     Ok(())
 }

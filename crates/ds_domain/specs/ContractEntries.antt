@@ -1,0 +1,83 @@
+-- The entries of contracts, one after the other.
+use Rattle.std.specs.Prelude.{ℕ, Bool, false, List, [], ◌∷◌, ◌++◌, length, nat_lt, Option, None, Some, Result, Ok, Err}
+use Rattle.std.specs.List.{list_any}
+use Rattle.std.specs.Str.{bytes_eq}
+use Rattle.toml.specs.Data.{Members}
+use Rattle.flow_classifier.specs.declared.rule.Rule.{Rule}
+use Rattle.ds_domain_base.specs.Domains.{Domain}
+use Rattle.ds_domain_base.specs.Faults.{field_text}
+use Rattle.ds_domain_base.specs.Fitting.{way_fault}
+use Rattle.ds_domain_base.specs.declared.contract.Contract.{Contract}
+use Rattle.ds_domain_base.specs.declared.fault.DomainFault.{DomainFault}
+use Rattle.ds_domain_base.specs.declared.fault.Field.TheVariants as fields
+use Rattle.ds_domain_base.specs.declared.fault.Kind.TheVariants as kinds
+use Rattle.ds_domain_base.specs.declared.fault.Section.TheVariants as sections
+use Rattle.ds_domain_text.specs.Steps.{◌>>=◌}
+use Rattle.ds_domain_text.specs.Values.{required, texts_in}
+use Rattle.ds_domain.specs.Keys.{fault_here, moment_at, name_at, number_at, only, optional_moment_at, refused_if, text_at, told}
+use Rattle.ds_domain.specs.Kinds.{contract_fields, contract_kind_at, terms_fields}
+use Rattle.ds_domain.specs.Parts.{refused_by}
+use Rattle.ds_domain.specs.Rules.{rule_at}
+use Rattle.ds_domain.specs.Terms.{claim_at, terms_of}
+use Rattle.ds_domain.specs.declared.place.Place.{Place}
+use Rattle.ds_domain.specs.declared.terms.Claim.{Claim}
+
+-- what the keys of a contract say; the port and the path may be any texts
+pub record ContractText : Type 0 where
+  pub name : List ℕ
+  pub port : List ℕ
+  pub path : List (List ℕ)
+  pub class : ℕ
+  pub since : ℕ
+  pub until : Option ℕ
+  pub claim : Claim
+  pub rule : Rule
+
+-- the names of a path, any texts
+unfoldable pub path_at : Place → Members → Result (List (List ℕ)) DomainFault
+path_at place members = told place fields.Path (required texts_in (field_text fields.Path) members)
+
+-- what the keys of a contract say: the kind first, then unknown keys, then key by key
+unfoldable pub contract_text : Place → Members → Result ContractText DomainFault
+contract_text place members = do
+  kind ← contract_kind_at place members
+  _ ← only place (contract_fields ++ terms_fields kind) members
+  name ← name_at place members
+  port ← text_at place fields.Port members
+  path ← path_at place members
+  class ← number_at place fields.Class 1 4 members
+  since ← moment_at place fields.Since members
+  until ← optional_moment_at place fields.Until members
+  claim ← claim_at place kind members
+  rule ← rule_at place members
+  Ok (record { name = name; port = port; path = path; class = class; since = since; until = until; claim = claim; rule = rule })
+
+-- where the next contract stands, behind those before it
+abbrev pub next_contract : List Contract → Place
+next_contract done = record { section = sections.Contract; index = length done }
+
+-- a contract before has the name
+abbrev pub has_name : List Contract → List ℕ → Bool
+has_name done name = list_any (λ c. bytes_eq name c.name) done
+
+-- the end is below the beginning
+abbrev pub ends_early : ℕ → Option ℕ → Bool
+ends_early since None = false
+ends_early since (Some until) = nat_lt until since
+
+-- the next contract, whose keys are good before the rest is judged
+unfoldable pub contract_of : Domain → List Contract → ContractText → Result Contract DomainFault
+contract_of d done text = do
+  _ ← refused_if (has_name done text.name) (fault_here (next_contract done) kinds.Twice fields.Name)
+  terms ← terms_of (next_contract done) text.claim
+  _ ← refused_if (ends_early text.since text.until) (fault_here (next_contract done) kinds.Range fields.Until)
+  _ ← refused_by (way_fault (length done) d text.port text.path)
+  Ok (record { name = text.name; terms = terms; port = text.port; path = text.path; class = text.class; lifetime = record { since = text.since; until = text.until }; rule = text.rule })
+
+-- the contracts of a section behind those before them, one after the other
+unfoldable pub contracts_of : Domain → List Contract → List Members → Result (List Contract) DomainFault
+contracts_of d done [] = Ok done
+contracts_of d done (members ∷ more) = do
+  text ← contract_text (next_contract done) members
+  contract ← contract_of d done text
+  contracts_of d (done ++ contract ∷ []) more
