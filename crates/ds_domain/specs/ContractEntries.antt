@@ -3,7 +3,6 @@ use Rattle.std.specs.Prelude.{ℕ, Bool, false, List, [], ◌∷◌, ◌++◌, l
 use Rattle.std.specs.List.{list_any}
 use Rattle.std.specs.Str.{bytes_eq}
 use Rattle.toml.specs.Data.{Members}
-use Rattle.flow_classifier.specs.declared.rule.Rule.{Rule}
 use Rattle.ds_domain_base.specs.Domains.{Domain}
 use Rattle.ds_domain_base.specs.Faults.{field_text}
 use Rattle.ds_domain_base.specs.Fitting.{way_fault}
@@ -19,38 +18,47 @@ use Rattle.ds_domain.specs.Kinds.{contract_fields, contract_kind_at, terms_field
 use Rattle.ds_domain.specs.Parts.{refused_by}
 use Rattle.ds_domain.specs.Rules.{rule_at}
 use Rattle.ds_domain.specs.Terms.{claim_at, terms_of}
+use Rattle.ds_domain.specs.declared.contract_keys.ContractRest.{ContractRest}
+use Rattle.ds_domain.specs.declared.kinds.ContractKind.{ContractKind}
 use Rattle.ds_domain.specs.declared.place.Place.{Place}
-use Rattle.ds_domain.specs.declared.terms.Claim.{Claim}
 
 -- what the keys of a contract say; the port and the path may be any texts
 pub record ContractText : Type 0 where
   pub name : List ℕ
   pub port : List ℕ
   pub path : List (List ℕ)
-  pub class : ℕ
-  pub since : ℕ
-  pub until : Option ℕ
-  pub claim : Claim
-  pub rule : Rule
+  pub rest : ContractRest
 
 -- the names of a path, any texts
 unfoldable pub path_at : Place → Members → Result (List (List ℕ)) DomainFault
 path_at place members = told place fields.Path (required texts_in (field_text fields.Path) members)
 
--- what the keys of a contract say: the kind first, then unknown keys, then key by key
-unfoldable pub contract_text : Place → Members → Result ContractText DomainFault
-contract_text place members = do
+-- the kind first, then unknown keys, then the name
+unfoldable pub contract_head : Place → Members → Result (ContractKind × List ℕ) DomainFault
+contract_head place members = do
   kind ← contract_kind_at place members
   _ ← only place (contract_fields ++ terms_fields kind) members
   name ← name_at place members
-  port ← text_at place fields.Port members
-  path ← path_at place members
+  Ok (kind, name)
+
+-- the keys behind the path
+unfoldable pub contract_rest : Place → ContractKind → Members → Result ContractRest DomainFault
+contract_rest place kind members = do
   class ← number_at place fields.Class 1 4 members
   since ← moment_at place fields.Since members
   until ← optional_moment_at place fields.Until members
   claim ← claim_at place kind members
   rule ← rule_at place members
-  Ok (record { name = name; port = port; path = path; class = class; since = since; until = until; claim = claim; rule = rule })
+  Ok (record { class = class; since = since; until = until; claim = claim; rule = rule })
+
+-- what the keys of a contract say, key by key
+unfoldable pub contract_text : Place → Members → Result ContractText DomainFault
+contract_text place members = do
+  head ← contract_head place members
+  port ← text_at place fields.Port members
+  path ← path_at place members
+  rest ← contract_rest place head.0 members
+  Ok (record { name = head.1; port = port; path = path; rest = rest })
 
 -- where the next contract stands, behind those before it
 abbrev pub next_contract : List Contract → Place
@@ -69,10 +77,18 @@ ends_early since (Some until) = nat_lt until since
 unfoldable pub contract_of : Domain → List Contract → ContractText → Result Contract DomainFault
 contract_of d done text = do
   _ ← refused_if (has_name done text.name) (fault_here (next_contract done) kinds.Twice fields.Name)
-  terms ← terms_of (next_contract done) text.claim
-  _ ← refused_if (ends_early text.since text.until) (fault_here (next_contract done) kinds.Range fields.Until)
+  terms ← terms_of (next_contract done) text.rest.claim
+  _ ← refused_if (ends_early text.rest.since text.rest.until) (fault_here (next_contract done) kinds.Range fields.Until)
   _ ← refused_by (way_fault (length done) d text.port text.path)
-  Ok (record { name = text.name; terms = terms; port = text.port; path = text.path; class = text.class; lifetime = record { since = text.since; until = text.until }; rule = text.rule })
+  Ok (record {
+    name = text.name;
+    terms = terms;
+    port = text.port;
+    path = text.path;
+    class = text.rest.class;
+    lifetime = record { since = text.rest.since; until = text.rest.until };
+    rule = text.rest.rule;
+  })
 
 -- the contracts of a section behind those before them, one after the other
 unfoldable pub contracts_of : Domain → List Contract → List Members → Result (List Contract) DomainFault

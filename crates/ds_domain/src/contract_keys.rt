@@ -2,11 +2,11 @@ ghost use Rattle.std.specs.Prelude.{◌≡◌, ◌⊎◌, map, Err, IfErr, IfOk,
 ghost use Rattle.toml.specs.View.{table_view};
 ghost use Rattle.ds_domain_base.specs.Faults.{no_memory};
 ghost use Rattle.ds_domain.specs.Keys.{number_at};
-ghost use Rattle.ds_domain.specs.ContractEntries.{contract_text, path_at};
+ghost use Rattle.ds_domain.specs.ContractEntries.{contract_head, contract_rest, contract_text, path_at};
 ghost use Rattle.ds_domain.specs.ContractViews.{text_of};
 
 use crate::keys::{moment_at, name_at, number_at, only, optional_moment_at, text_at};
-use crate::kinds::contract_kind_at;
+use crate::kinds::{ContractKind, contract_kind_at};
 use crate::place::Place;
 use crate::rules::rule_at;
 use crate::terms::Claim;
@@ -44,6 +44,13 @@ pub(crate) struct ContractKeys<'a> {
     pub(crate) port: &'a str,
     /// What it names as the meters of its path: any texts.
     pub(crate) path: Vec<&'a str>,
+    /// What the keys behind the path say.
+    pub(crate) rest: ContractRest,
+}
+
+/// What the keys of a contract behind its path say.
+#[derive(Clone, Copy)]
+pub(crate) struct ContractRest {
     /// The assured forwarding class of its packets.
     pub(crate) class: Class,
     /// The first moment at which it may send.
@@ -56,7 +63,7 @@ pub(crate) struct ContractKeys<'a> {
     pub(crate) rule: Rule,
 }
 
-/// What the keys of a contract say.
+/// What the keys of a contract say, key by key.
 #[tactic(auto, unfolding(crate::specs::ContractEntries::contract_text))]
 pub(crate) fn contract_keys<'a>(
     alloc: Global,
@@ -66,20 +73,40 @@ pub(crate) fn contract_keys<'a>(
     ensures ok { IfOk result (λ keys. contract_text place (table_view table.now) ≡ Ok (text_of keys)) }
     ensures refused { IfErr result (λ fault. (fault ≡ no_memory) ⊎ (contract_text place (table_view table.now) ≡ Err fault)) }
 {
+    let (kind, name) = contract_head(place, table)?;
+    let port = text_at(place, table, Field::Port)?;
+    let path = path_at(alloc, place, table)?;
+    let rest = contract_rest(place, kind, table)?;
+    Ok(ContractKeys {
+        name,
+        port,
+        path,
+        rest,
+    })
+}
+
+/// The kind first, then unknown keys, then the name.
+#[tactic(auto, unfolding(crate::specs::ContractEntries::contract_head))]
+fn contract_head(place: Place, table: &Table) -> Result<(ContractKind, Name), DomainFault>
+    ensures { result ≡ contract_head place (table_view table.now) }
+{
     let kind = contract_kind_at(place, table)?;
     only(place, table, &CONTRACT_FIELDS, kind.terms_fields())?;
     let name = name_at(place, table)?;
-    let port = text_at(place, table, Field::Port)?;
-    let path = path_at(alloc, place, table)?;
+    Ok((kind, name))
+}
+
+/// The keys behind the path.
+#[tactic(auto, unfolding(crate::specs::ContractEntries::contract_rest))]
+fn contract_rest(place: Place, kind: ContractKind, table: &Table) -> Result<ContractRest, DomainFault>
+    ensures { result ≡ contract_rest place kind (table_view table.now) }
+{
     let class = class_at(place, table)?;
     let since = moment_at(place, table, Field::Since)?;
     let until = optional_moment_at(place, table, Field::Until)?;
     let claim = kind.claim_at(place, table)?;
     let rule = rule_at(place, table)?;
-    Ok(ContractKeys {
-        name,
-        port,
-        path,
+    Ok(ContractRest {
         class,
         since,
         until,
