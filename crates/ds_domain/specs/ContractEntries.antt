@@ -90,10 +90,9 @@ contract_of d done text = do
     rule = text.rest.rule;
   })
 
--- the contracts of a section behind those before them, one after the other
-unfoldable pub contracts_of : Domain → List Contract → List Members → Result (List Contract) DomainFault
-contracts_of d done [] = Ok done
-contracts_of d done (members ∷ more) = do
+-- the contracts with one more
+unfoldable pub with_contract_of : Domain → List Contract → Members → Result (List Contract) DomainFault
+with_contract_of d done members = do
   text ← contract_text (next_contract done) members
   contract ← contract_of d done text
-  contracts_of d (done ++ contract ∷ []) more
+  Ok (done ++ contract ∷ [])

@@ -1,8 +1,9 @@
 -- What a domain text says, or its first fault.
-pub mod ContractViews
 pub mod ContractEntries
+pub mod ContractViews
 pub mod Keys
 pub mod Kinds
 pub mod Parts
 pub mod Rules
+pub mod Sections
 pub mod Terms

@@ -75,8 +75,3 @@ with_link_of d members = do
   jitter ← delay_at (next_link d) fields.Jitter members
   _ ← refused_by (link_fault d from to)
   Ok (with_link d from to (record { floor = floor; jitter = jitter }))
-
--- the domain with the entries of a section, one after the other
-unfoldable pub in_turn : (Domain → Members → Result Domain DomainFault) → Domain → List Members → Result Domain DomainFault
-in_turn with_entry d [] = Ok d
-in_turn with_entry d (members ∷ more) = with_entry d members >>= (λ next. in_turn with_entry next more)

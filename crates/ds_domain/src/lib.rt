@@ -3,9 +3,12 @@
 #![tactic(auto)]
 
 mod contract_keys;
+mod contract_list;
+mod contracts;
 mod keys;
 mod kinds;
 mod parts;
 mod place;
 mod rules;
+mod sections;
 mod terms;

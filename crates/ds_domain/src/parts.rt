@@ -1,11 +1,13 @@
 ghost use Rattle.std.specs.Prelude.{◌≡◌, ◌⊎◌, map, Err, IfErr, Ok, OnOk};
 ghost use Rattle.toml.specs.View.{table_view};
 ghost use Rattle.ds_domain_base.specs.Faults.{no_memory};
-ghost use Rattle.ds_domain.specs.Parts.{in_turn, meter_keys, with_link_of, with_meter_of, with_port_of};
+ghost use Rattle.ds_domain.specs.Parts.{meter_keys, with_link_of, with_meter_of, with_port_of};
+ghost use Rattle.ds_domain.specs.Sections.{in_turn, section_in};
 
 use crate::keys::{delay_at, moment_at, name_at, only, text_at};
 use crate::kinds::{meter_kind_at, optional_mode_at};
 use crate::place::Place;
+use crate::sections::few;
 use crate::terms::sound;
 use ds_domain_base::{Delay, Domain, DomainFault, Field, Kind, Link, Meter, Name, Port, Section};
 use meter_book::Parameters;
@@ -119,9 +121,18 @@ fn add_link(domain: &mut Domain, table: &Table) -> Result<(), DomainFault>
     }
 }
 
-/// Adds meters behind the others, one after the other.
-#[tactic(auto, unfolding(crate::specs::Parts::in_turn))]
+/// Adds the meters of a section behind the others; `Range` where there are too many, before any is looked at.
+#[tactic(auto, unfolding(crate::specs::Sections::section_in))]
 pub(crate) fn add_meters(domain: &mut Domain, tables: &[&Table]) -> Result<(), DomainFault>
+    ensures added { OnOk result (section_in Field.Meter 1024 with_meter_of domain.old (map (λ table. table_view table.now) tables.now) ≡ Ok domain.new) }
+    ensures refused { IfErr result (λ fault. (fault ≡ no_memory) ⊎ (section_in Field.Meter 1024 with_meter_of domain.old (map (λ table. table_view table.now) tables.now) ≡ Err fault)) }
+{
+    few(Field::Meter, Domain::MOST_METERS, tables)?;
+    add_each_meter(domain, tables)
+}
+
+/// Adds meters behind the others, one after the other.
+fn add_each_meter(domain: &mut Domain, tables: &[&Table]) -> Result<(), DomainFault>
     ensures added { OnOk result (in_turn with_meter_of domain.old (map (λ table. table_view table.now) tables.now) ≡ Ok domain.new) }
     ensures refused { IfErr result (λ fault. (fault ≡ no_memory) ⊎ (in_turn with_meter_of domain.old (map (λ table. table_view table.now) tables.now) ≡ Err fault)) }
 {
@@ -134,9 +145,18 @@ pub(crate) fn add_meters(domain: &mut Domain, tables: &[&Table]) -> Result<(), D
     Ok(())
 }
 
-/// Adds ports behind the others, one after the other.
-#[tactic(auto, unfolding(crate::specs::Parts::in_turn))]
+/// Adds the ports of a section behind the others; `Range` where there are too many, before any is looked at.
+#[tactic(auto, unfolding(crate::specs::Sections::section_in))]
 pub(crate) fn add_ports(domain: &mut Domain, tables: &[&Table]) -> Result<(), DomainFault>
+    ensures added { OnOk result (section_in Field.Port 1024 with_port_of domain.old (map (λ table. table_view table.now) tables.now) ≡ Ok domain.new) }
+    ensures refused { IfErr result (λ fault. (fault ≡ no_memory) ⊎ (section_in Field.Port 1024 with_port_of domain.old (map (λ table. table_view table.now) tables.now) ≡ Err fault)) }
+{
+    few(Field::Port, Domain::MOST_PORTS, tables)?;
+    add_each_port(domain, tables)
+}
+
+/// Adds ports behind the others, one after the other.
+fn add_each_port(domain: &mut Domain, tables: &[&Table]) -> Result<(), DomainFault>
     ensures added { OnOk result (in_turn with_port_of domain.old (map (λ table. table_view table.now) tables.now) ≡ Ok domain.new) }
     ensures refused { IfErr result (λ fault. (fault ≡ no_memory) ⊎ (in_turn with_port_of domain.old (map (λ table. table_view table.now) tables.now) ≡ Err fault)) }
 {
@@ -149,9 +169,18 @@ pub(crate) fn add_ports(domain: &mut Domain, tables: &[&Table]) -> Result<(), Do
     Ok(())
 }
 
-/// Adds links behind the others, one after the other.
-#[tactic(auto, unfolding(crate::specs::Parts::in_turn))]
+/// Adds the links of a section behind the others; `Range` where there are too many, before any is looked at.
+#[tactic(auto, unfolding(crate::specs::Sections::section_in))]
 pub(crate) fn add_links(domain: &mut Domain, tables: &[&Table]) -> Result<(), DomainFault>
+    ensures added { OnOk result (section_in Field.Link 65536 with_link_of domain.old (map (λ table. table_view table.now) tables.now) ≡ Ok domain.new) }
+    ensures refused { IfErr result (λ fault. (fault ≡ no_memory) ⊎ (section_in Field.Link 65536 with_link_of domain.old (map (λ table. table_view table.now) tables.now) ≡ Err fault)) }
+{
+    few(Field::Link, Domain::MOST_LINKS, tables)?;
+    add_each_link(domain, tables)
+}
+
+/// Adds links behind the others, one after the other.
+fn add_each_link(domain: &mut Domain, tables: &[&Table]) -> Result<(), DomainFault>
     ensures added { OnOk result (in_turn with_link_of domain.old (map (λ table. table_view table.now) tables.now) ≡ Ok domain.new) }
     ensures refused { IfErr result (λ fault. (fault ≡ no_memory) ⊎ (in_turn with_link_of domain.old (map (λ table. table_view table.now) tables.now) ≡ Err fault)) }
 {

@@ -1,7 +1,8 @@
 use Rattle.std.proofs.Common.{◌≡◌, drop, map}
 use Rattle.toml.specs.View.{table_view}
-use Rattle.ds_domain.specs.Parts.{in_turn, with_link_of}
-use Rattle.ds_domain.proofs.parts.add_links.Given as goal
+use Rattle.ds_domain.specs.Parts.{with_link_of}
+use Rattle.ds_domain.specs.Sections.{in_turn}
+use Rattle.ds_domain.proofs.parts.add_each_link.Given as goal
 
 abbrev pub invariant-loop-table : goal.invariant-loop-table
 invariant-loop-table l =

@@ -1,7 +1,7 @@
 use Rattle.toml.specs.View.{table_view}
 use Rattle.ds_domain.specs.Parts.{with_link_of}
 use Rattle.ds_domain.proofs.TurnLemmas.{in_turn-taken, in_turn-refused, in_turn-done}
-use Rattle.ds_domain.proofs.parts.add_links.Goals as goal
+use Rattle.ds_domain.proofs.parts.add_each_link.Goals as goal
 
 pub loop-table-preserved : goal.loop-table-preserved
 loop-table-preserved c =

@@ -1,7 +1,8 @@
 use Rattle.std.proofs.Common.{◌≡◌, drop, map}
 use Rattle.toml.specs.View.{table_view}
-use Rattle.ds_domain.specs.Parts.{in_turn, with_port_of}
-use Rattle.ds_domain.proofs.parts.add_ports.Given as goal
+use Rattle.ds_domain.specs.Parts.{with_port_of}
+use Rattle.ds_domain.specs.Sections.{in_turn}
+use Rattle.ds_domain.proofs.parts.add_each_port.Given as goal
 
 abbrev pub invariant-loop-table : goal.invariant-loop-table
 invariant-loop-table l =
