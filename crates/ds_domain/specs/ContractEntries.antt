@@ -6,11 +6,13 @@ use Rattle.toml.specs.Data.{Members}
 use Rattle.ds_domain_base.specs.Domains.{Domain}
 use Rattle.ds_domain_base.specs.Faults.{field_text}
 use Rattle.ds_domain_base.specs.Fitting.{way_fault}
+use Rattle.ds_domain_base.specs.Lifetimes.{Span}
 use Rattle.ds_domain_base.specs.declared.contract.Contract.{Contract}
 use Rattle.ds_domain_base.specs.declared.fault.DomainFault.{DomainFault}
 use Rattle.ds_domain_base.specs.declared.fault.Field.TheVariants as fields
 use Rattle.ds_domain_base.specs.declared.fault.Kind.TheVariants as kinds
 use Rattle.ds_domain_base.specs.declared.fault.Section.TheVariants as sections
+use Rattle.ds_domain_base.specs.declared.terms.Terms.{Terms}
 use Rattle.ds_domain_text.specs.Steps.{◌>>=◌}
 use Rattle.ds_domain_text.specs.Values.{required, texts_in}
 use Rattle.ds_domain.specs.Keys.{fault_here, moment_at, name_at, number_at, only, optional_moment_at, refused_if, text_at, told}
@@ -73,20 +75,26 @@ abbrev pub ends_early : ℕ → Option ℕ → Bool
 ends_early since None = false
 ends_early since (Some until) = nat_lt until since
 
--- the next contract, whose keys are good before the rest is judged
+-- what the keys of the next contract say is judged: its name, its parameters, its end
+unfoldable pub contract_terms : List Contract → List ℕ → ContractRest → Result (Terms × Span) DomainFault
+contract_terms done name rest = do
+  _ ← refused_if (has_name done name) (fault_here (next_contract done) kinds.Twice fields.Name)
+  terms ← terms_of (next_contract done) rest.claim
+  _ ← refused_if (ends_early rest.since rest.until) (fault_here (next_contract done) kinds.Range fields.Until)
+  Ok (terms, record { since = rest.since; until = rest.until })
+
+-- and then its port and its path
 unfoldable pub contract_of : Domain → List Contract → ContractText → Result Contract DomainFault
 contract_of d done text = do
-  _ ← refused_if (has_name done text.name) (fault_here (next_contract done) kinds.Twice fields.Name)
-  terms ← terms_of (next_contract done) text.rest.claim
-  _ ← refused_if (ends_early text.rest.since text.rest.until) (fault_here (next_contract done) kinds.Range fields.Until)
+  judged ← contract_terms done text.name text.rest
   _ ← refused_by (way_fault (length done) d text.port text.path)
   Ok (record {
     name = text.name;
-    terms = terms;
+    terms = judged.0;
     port = text.port;
     path = text.path;
     class = text.rest.class;
-    lifetime = record { since = text.rest.since; until = text.rest.until };
+    lifetime = judged.1;
     rule = text.rest.rule;
   })
 

@@ -15,7 +15,7 @@ pub(crate) struct ContractList {
 }
 
 impl Model for ContractList {
-    ghost use Rattle.std.specs.Prelude.{List, map};
+    ghost use Rattle.std.specs.Prelude.{◌≡◌, List, map};
     ghost use Rattle.ds_domain_base.specs.declared.contract.Contract.{Contract};
 
     ghost Value = { List Contract };
@@ -56,8 +56,12 @@ impl ContractList {
         ensures added { OnOk result (self.new ≡ self.old ++ contract ∷ []) }
         ensures refused { IfErr result (λ fault. fault ≡ no_memory) }
     {
-        self.contracts.reserve(1).map_err(|_| DomainFault::no_memory())?;
-        self.names.insert(contract.name).map_err(|_| DomainFault::no_memory())?;
+        let Ok(()) = self.contracts.reserve(1) else {
+            return Err(DomainFault::no_memory());
+        };
+        let Ok(_) = self.names.insert(contract.name) else {
+            return Err(DomainFault::no_memory());
+        };
         self.contracts.push(contract).unwrap();
         Ok(())
     }

@@ -2,15 +2,15 @@ ghost use Rattle.std.specs.Prelude.{◌≡◌, ◌⊎◌, [], false, map, true, 
 ghost use Rattle.toml.specs.View.{table_view};
 ghost use Rattle.ds_domain_base.specs.Faults.{no_memory};
 ghost use Rattle.ds_domain_base.specs.Fitting.{names_unknown, way_fault};
-ghost use Rattle.ds_domain.specs.ContractEntries.{contract_of, has_name, next_contract, with_contract_of};
-ghost use Rattle.ds_domain.specs.ContractViews.{text_of};
+ghost use Rattle.ds_domain.specs.ContractEntries.{contract_of, contract_terms, has_name, next_contract, with_contract_of};
+ghost use Rattle.ds_domain.specs.ContractViews.{text_parts};
 ghost use Rattle.ds_domain.specs.Sections.{in_turn, section_in};
 
-use crate::contract_keys::{ContractKeys, contract_keys};
+use crate::contract_keys::{ContractRest, contract_keys};
 use crate::contract_list::ContractList;
 use crate::place::Place;
 use crate::sections::few;
-use ds_domain_base::{Contract, Domain, DomainFault, Field, Kind, Lifetime, MOST_HOPS, Name, Path, Section, fits};
+use ds_domain_base::{Contract, Domain, DomainFault, Field, Kind, Lifetime, MOST_HOPS, Name, Path, Section, Terms, fits};
 use std::alloc::Global;
 use toml::Table;
 
@@ -39,7 +39,9 @@ fn meters_named(alloc: Global, domain: &Domain, texts: &[&str]) -> Result<Option
         let Some(name) = domain.meter_named(text) else {
             return Ok(None);
         };
-        names.push(name).map_err(|_| DomainFault::no_memory())?;
+        let Ok(()) = names.push(name) else {
+            return Err(DomainFault::no_memory());
+        };
     }
     Ok(Some(names))
 }
@@ -84,29 +86,31 @@ fn fitting(domain: &Domain, place: Place, contract: Contract) -> Result<Contract
     }
 }
 
-/// The next contract, judged by the domain and by the contracts before it.
-#[tactic(auto, unfolding(crate::specs::ContractEntries::contract_of))]
-fn contract_of(
-    alloc: Global,
-    domain: &Domain,
-    done: &ContractList,
-    keys: ContractKeys<'_>,
-) -> Result<Contract, DomainFault>
-    ensures ok { IfOk result (λ contract. contract_of domain.now done.now (text_of keys.entry) ≡ Ok contract) }
-    ensures apart { IfOk result (λ contract. has_name done.now contract.name ≡ false) }
-    ensures refused { IfErr result (λ fault. (fault ≡ no_memory) ⊎ (contract_of domain.now done.now (text_of keys.entry) ≡ Err fault)) }
+/// The terms and the lifetime of the next contract; refused are a name that a contract before has, parameters that are not
+/// those of a meter, and an end below the beginning.
+#[tactic(auto, unfolding(crate::specs::ContractEntries::contract_terms))]
+fn contract_terms(done: &ContractList, name: Name, rest: &ContractRest) -> Result<(Terms, Lifetime), DomainFault>
+    ensures value { result ≡ contract_terms done.now name rest.now }
+    ensures apart { OnOk result (has_name done.now name ≡ false) }
 {
     let place = next_contract(done);
-    let ContractKeys { name, port, path, rest } = keys;
     if done.has_name(name) {
         return Err(place.fault(Kind::Twice, Field::Name));
     }
     let terms = rest.claim.terms(place)?;
-    let Ok(lifetime) = Lifetime::new(rest.since, rest.until) else {
-        return Err(place.fault(Kind::Range, Field::Until));
-    };
-    let (port, path) = way_named(alloc, domain, place, port, path.as_slice())?;
-    let contract = Contract {
+    match Lifetime::new(rest.since, rest.until) {
+        Ok(lifetime) => Ok((terms, lifetime)),
+        Err(_) => Err(place.fault(Kind::Range, Field::Until)),
+    }
+}
+
+/// The contract of these parts: its terms and lifetime, its port and path, and the rest of what its keys say.
+fn assembled(name: Name, judged: (Terms, Lifetime), way: (Name, Path), rest: &ContractRest) -> Contract
+    ensures { result ≡ record { name = name; terms = judged.0; port = way.0; path = way.1; class = rest.now.class; lifetime = judged.1; rule = rest.now.rule } }
+{
+    let (terms, lifetime) = judged;
+    let (port, path) = way;
+    Contract {
         name,
         terms,
         port,
@@ -114,8 +118,31 @@ fn contract_of(
         class: rest.class,
         lifetime,
         rule: rest.rule,
-    };
-    fitting(domain, place, contract)
+    }
+}
+
+/// The next contract, judged by the domain and by the contracts before it.
+#[tactic(auto, unfolding(crate::specs::ContractEntries::contract_of))]
+fn contract_of(
+    alloc: Global,
+    domain: &Domain,
+    done: &ContractList,
+    name: Name,
+    port: &str,
+    path: &[&str],
+    rest: &ContractRest,
+) -> Result<Contract, DomainFault>
+    ensures ok { IfOk result (λ contract. contract_of domain.now done.now (text_parts name port.now path.now rest.now) ≡ Ok contract) }
+    ensures apart { IfOk result (λ contract. has_name done.now contract.name ≡ false) }
+    ensures refused { IfErr result (λ fault. (fault ≡ no_memory) ⊎ (contract_of domain.now done.now (text_parts name port.now path.now rest.now) ≡ Err fault)) }
+{
+    match contract_terms(done, name, rest) {
+        Ok(judged) => match way_named(alloc, domain, next_contract(done), port, path) {
+            Ok(way) => fitting(domain, next_contract(done), assembled(name, judged, way, rest)),
+            Err(fault) => Err(fault),
+        },
+        Err(fault) => Err(fault),
+    }
 }
 
 /// Adds a contract behind the others.
@@ -129,9 +156,16 @@ fn add_contract(
     ensures added { OnOk result (with_contract_of domain.now done.old (table_view table.now) ≡ Ok done.new) }
     ensures refused { IfErr result (λ fault. (fault ≡ no_memory) ⊎ (with_contract_of domain.now done.old (table_view table.now) ≡ Err fault)) }
 {
-    let keys = contract_keys(alloc, next_contract(done), table)?;
-    let contract = contract_of(alloc, domain, done, keys)?;
-    done.push(contract)
+    match contract_keys(alloc, next_contract(done), table) {
+        Ok(keys) => {
+            let path = keys.path.as_slice();
+            match contract_of(alloc, domain, done, keys.name, keys.port, path, &keys.rest) {
+                Ok(contract) => done.push(contract),
+                Err(fault) => Err(fault),
+            }
+        }
+        Err(fault) => Err(fault),
+    }
 }
 
 /// Adds contracts behind the others, one after the other.
