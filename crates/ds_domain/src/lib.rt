@@ -7,8 +7,15 @@ mod contract_list;
 mod contracts;
 mod keys;
 mod kinds;
+mod parsing;
 mod parts;
 mod place;
 mod rules;
 mod sections;
 mod terms;
+
+pub use ds_domain_base::{
+    Contract, Delay, Domain, DomainFault, Field, Kind, Lifetime, Link, MOST_HOPS, Meter, Name, Path, Port, Profile, Section,
+    SoundParameters, Terms, fits,
+};
+pub use parsing::parse;
