@@ -98,7 +98,11 @@ fn contract_head(place: Place, table: &Table) -> Result<(ContractKind, Name), Do
 
 /// The keys behind the path.
 #[tactic(auto, unfolding(crate::specs::ContractEntries::contract_rest))]
-fn contract_rest(place: Place, kind: ContractKind, table: &Table) -> Result<ContractRest, DomainFault>
+fn contract_rest(
+    place: Place,
+    kind: ContractKind,
+    table: &Table,
+) -> Result<ContractRest, DomainFault>
     ensures { result ≡ contract_rest place kind (table_view table.now) }
 {
     let class = class_at(place, table)?;

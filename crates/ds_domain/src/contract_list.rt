@@ -70,7 +70,10 @@ impl ContractList {
     pub(crate) fn into_contracts(self) -> Vec<Contract>
         ensures { result.items ≡ self }
     {
-        let ContractList { names: _, contracts } = self;
+        let ContractList {
+            names: _,
+            contracts,
+        } = self;
         contracts
     }
 }

@@ -10,7 +10,10 @@ use crate::contract_keys::{ContractRest, contract_keys};
 use crate::contract_list::ContractList;
 use crate::place::Place;
 use crate::sections::few;
-use ds_domain_base::{Contract, Domain, DomainFault, Field, Kind, Lifetime, MOST_HOPS, Name, Path, Section, Terms, fits};
+use ds_domain_base::{
+    Contract, Domain, DomainFault, Field, Kind, Lifetime, MOST_HOPS, Name, Path, Section, Terms,
+    fits,
+};
 use std::alloc::Global;
 use toml::Table;
 
@@ -28,7 +31,11 @@ fn next_contract(done: &ContractList) -> Place
 }
 
 /// The names of meters, `None` where a text is not the name of one.
-fn meters_named(alloc: Global, domain: &Domain, texts: &[&str]) -> Result<Option<Vec<Name>>, DomainFault>
+fn meters_named(
+    alloc: Global,
+    domain: &Domain,
+    texts: &[&str],
+) -> Result<Option<Vec<Name>>, DomainFault>
     ensures named { IfOk result (λ named. MatchOption named
         (names_unknown domain.now (map (λ text. text.now) texts.now) ≡ true)
         (λ names. names.items ≡ map (λ text. text.now) texts.now)) }
@@ -89,7 +96,11 @@ fn fitting(domain: &Domain, place: Place, contract: Contract) -> Result<Contract
 /// The terms and the lifetime of the next contract; refused are a name that a contract before has, parameters that are not
 /// those of a meter, and an end below the beginning.
 #[tactic(auto, unfolding(crate::specs::ContractEntries::contract_terms))]
-fn contract_terms(done: &ContractList, name: Name, rest: &ContractRest) -> Result<(Terms, Lifetime), DomainFault>
+fn contract_terms(
+    done: &ContractList,
+    name: Name,
+    rest: &ContractRest,
+) -> Result<(Terms, Lifetime), DomainFault>
     ensures value { result ≡ contract_terms done.now name rest.now }
     ensures apart { OnOk result (has_name done.now name ≡ false) }
 {
@@ -105,7 +116,12 @@ fn contract_terms(done: &ContractList, name: Name, rest: &ContractRest) -> Resul
 }
 
 /// The contract of these parts: its terms and lifetime, its port and path, and the rest of what its keys say.
-fn assembled(name: Name, judged: (Terms, Lifetime), way: (Name, Path), rest: &ContractRest) -> Contract
+fn assembled(
+    name: Name,
+    judged: (Terms, Lifetime),
+    way: (Name, Path),
+    rest: &ContractRest,
+) -> Contract
     ensures { result ≡ record { name = name; terms = judged.0; port = way.0; path = way.1; class = rest.now.class; lifetime = judged.1; rule = rest.now.rule } }
 {
     let (terms, lifetime) = judged;
@@ -138,7 +154,11 @@ fn contract_of(
 {
     match contract_terms(done, name, rest) {
         Ok(judged) => match way_named(alloc, domain, next_contract(done), port, path) {
-            Ok(way) => fitting(domain, next_contract(done), assembled(name, judged, way, rest)),
+            Ok(way) => fitting(
+                domain,
+                next_contract(done),
+                assembled(name, judged, way, rest),
+            ),
             Err(fault) => Err(fault),
         },
         Err(fault) => Err(fault),
@@ -189,7 +209,11 @@ fn add_each_contract(
 
 /// The contracts of a section; `Range` where there are too many, before any is looked at.
 #[tactic(auto, unfolding(crate::specs::Sections::section_in))]
-pub(crate) fn contracts_of(alloc: Global, domain: &Domain, tables: &[&Table]) -> Result<Vec<Contract>, DomainFault>
+pub(crate) fn contracts_of(
+    alloc: Global,
+    domain: &Domain,
+    tables: &[&Table],
+) -> Result<Vec<Contract>, DomainFault>
     ensures ok { IfOk result (λ contracts. section_in Field.Contract 4096 (with_contract_of domain.now) [] (map (λ table. table_view table.now) tables.now) ≡ Ok contracts.items) }
     ensures refused { IfErr result (λ fault. (fault ≡ no_memory)
         ⊎ (section_in Field.Contract 4096 (with_contract_of domain.now) [] (map (λ table. table_view table.now) tables.now) ≡ Err fault)) }

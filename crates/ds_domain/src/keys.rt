@@ -29,7 +29,12 @@ fn has_only(table: &Table, common: &[Field], own: &[Field]) -> bool
 
 /// Refuses a table with another key than those of the fields.
 #[tactic(auto, unfolding(crate::specs::Keys::only))]
-pub(crate) fn only(place: Place, table: &Table, common: &[Field], own: &[Field]) -> Result<(), DomainFault>
+pub(crate) fn only(
+    place: Place,
+    table: &Table,
+    common: &[Field],
+    own: &[Field],
+) -> Result<(), DomainFault>
     ensures { result ≡ only place (common.now ++ own.now) (table_view table.now) }
 {
     if has_only(table, common, own) {
@@ -124,7 +129,11 @@ pub(crate) fn moment_at(place: Place, table: &Table, field: Field) -> Result<Mom
 
 /// Any text.
 #[tactic(auto, unfolding(crate::specs::Keys::text_at))]
-pub(crate) fn text_at<'a>(place: Place, table: &'a Table, field: Field) -> Result<&'a str, DomainFault>
+pub(crate) fn text_at<'a>(
+    place: Place,
+    table: &'a Table,
+    field: Field,
+) -> Result<&'a str, DomainFault>
     ensures { lent result ≡ text_at place field (table_view table.now) }
 {
     required_text(table, field.text()).map_err(|flaw| place.flaw(flaw, field))

@@ -130,9 +130,26 @@ impl ContractKind {
     {
         match self {
             ContractKind::Trusted => &[Field::Cir, Field::Cbs, Field::Pir, Field::Pbs],
-            ContractKind::Policed(MeterKind::SrTcm) => &[Field::Mode, Field::Cir, Field::Cbs, Field::Ebs],
-            ContractKind::Policed(MeterKind::TrTcm) => &[Field::Mode, Field::Cir, Field::Cbs, Field::Pir, Field::Pbs],
-            ContractKind::Policed(MeterKind::Rfc4115) => &[Field::Mode, Field::Cir, Field::Cbs, Field::Eir, Field::Ebs],
+            ContractKind::Policed(MeterKind::SrTcm) => &[
+                Field::Mode,
+                Field::Cir,
+                Field::Cbs,
+                Field::Ebs,
+            ],
+            ContractKind::Policed(MeterKind::TrTcm) => &[
+                Field::Mode,
+                Field::Cir,
+                Field::Cbs,
+                Field::Pir,
+                Field::Pbs,
+            ],
+            ContractKind::Policed(MeterKind::Rfc4115) => &[
+                Field::Mode,
+                Field::Cir,
+                Field::Cbs,
+                Field::Eir,
+                Field::Ebs,
+            ],
         }
     }
 }

@@ -15,7 +15,10 @@ mod sections;
 mod terms;
 
 pub use ds_domain_base::{
-    Contract, Delay, Domain, DomainFault, Field, Kind, Lifetime, Link, MOST_HOPS, Meter, Name, Path, Port, Profile, Section,
-    SoundParameters, Terms, fits,
+    Contract, Delay, Domain, DomainFault, Field, Kind, Lifetime, Link, MOST_HOPS, Meter, Name,
+    Path, Port, Profile, Section, SoundParameters, Terms, fits,
 };
 pub use parsing::parse;
+
+#[cfg(test)]
+mod tests;

@@ -14,7 +14,13 @@ use std::alloc::Global;
 use toml::Table;
 
 /// The keys at the top.
-const TOP_FIELDS: [Field; 5] = [Field::Version, Field::Meter, Field::Port, Field::Link, Field::Contract];
+const TOP_FIELDS: [Field; 5] = [
+    Field::Version,
+    Field::Meter,
+    Field::Port,
+    Field::Link,
+    Field::Contract,
+];
 
 /// The tables of the sections.
 #[derive(Drop)]
@@ -91,7 +97,11 @@ fn top_of(table: &Table) -> Result<(), DomainFault>
 
 /// The tables of a section, none where it is absent.
 #[tactic(auto, unfolding(crate::specs::DomainTexts::section_of))]
-fn section_of<'a>(alloc: Global, table: &'a Table, field: Field) -> Result<Vec<&'a Table>, DomainFault>
+fn section_of<'a>(
+    alloc: Global,
+    table: &'a Table,
+    field: Field,
+) -> Result<Vec<&'a Table>, DomainFault>
     ensures ok { IfOk result (λ tables. section_of field (table_view table.now) ≡ Ok (map (λ table. table_view table.now) tables.items)) }
     ensures refused { IfErr result (λ fault. (fault ≡ no_memory) ⊎ (section_of field (table_view table.now) ≡ Err fault)) }
 {

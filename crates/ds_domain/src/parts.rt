@@ -15,7 +15,13 @@ use moment_core::{Mode, Moment};
 use toml::Table;
 
 /// The keys that meters of all kinds have.
-const METER_FIELDS: [Field; 5] = [Field::Name, Field::Kind, Field::Mode, Field::Skew, Field::Origin];
+const METER_FIELDS: [Field; 5] = [
+    Field::Name,
+    Field::Kind,
+    Field::Mode,
+    Field::Skew,
+    Field::Origin,
+];
 
 /// The keys of a port.
 const PORT_FIELDS: [Field; 2] = [Field::Name, Field::Skew];

@@ -46,7 +46,11 @@ fn prefix_at(place: Place, table: &Table, field: Field) -> Result<Option<Prefix>
 
 /// A range of ports.
 #[tactic(auto, unfolding(crate::specs::Rules::port_range_at))]
-fn port_range_at(place: Place, table: &Table, field: Field) -> Result<Option<PortRange>, DomainFault>
+fn port_range_at(
+    place: Place,
+    table: &Table,
+    field: Field,
+) -> Result<Option<PortRange>, DomainFault>
     ensures { result ≡ port_range_at place field (table_view table.now) }
 {
     match optional_port_range(table, field.text()) {

@@ -37,7 +37,11 @@ impl MeterKind {
 
     /// The parameters of a meter of the kind, key by key.
     #[tactic(auto, unfolding(crate::specs::Terms::parameters_at))]
-    pub(crate) fn parameters_at(self, place: Place, table: &Table) -> Result<Parameters, DomainFault>
+    pub(crate) fn parameters_at(
+        self,
+        place: Place,
+        table: &Table,
+    ) -> Result<Parameters, DomainFault>
         ensures { result ≡ parameters_at place self (table_view table.now) }
     {
         let committed_rate = rate_at(place, table, Field::Cir)?;
