@@ -1,0 +1,27 @@
+-- Which bytes are a domain text.
+use Rattle.std.proofs.Common.{◌≡◌, ℕ, Bool, true, false, List, Option, Some, None, Result, Ok, Err, IsUtf8, refl, inl, inr}
+use Rattle.std.proofs.lemmas.Bool.{cases_Bool}
+use Rattle.std.proofs.lemmas.Str.{IsUtf8-from_is_utf8, is_utf8-from_IsUtf8}
+use Rattle.std.specs.Str.{is_utf8}
+use Rattle.toml.specs.Data.{Members}
+use Rattle.toml.specs.Parse.{parse_document}
+use Rattle.ds_domain.specs.DomainTexts.{document_of, no_text, parse_of}
+
+-- bytes that are not UTF-8
+pub parse_of-other : (bytes : List ℕ) → ¬ IsUtf8 bytes → parse_of bytes ≡ Err no_text
+unfolding parse_of
+parse_of-other bytes other =
+    elim (cases_Bool (is_utf8 bytes)) [
+      | inl same ↦ absurd (other (IsUtf8-from_is_utf8 bytes same))
+      | inr differs ↦ rw differs refl
+    ]
+
+-- a text that is not TOML
+pub parse_of-refused : (bytes : List ℕ) → IsUtf8 bytes → parse_document bytes ≡ None → parse_of bytes ≡ Err no_text
+unfolding parse_of
+parse_of-refused bytes utf8 none = rw (is_utf8-from_IsUtf8 bytes utf8, none) refl
+
+-- a text that is TOML
+pub parse_of-document : (bytes : List ℕ) (members : Members) → IsUtf8 bytes → parse_document bytes ≡ Some members → parse_of bytes ≡ document_of members
+unfolding parse_of
+parse_of-document bytes members utf8 some = rw (is_utf8-from_IsUtf8 bytes utf8, some) refl

@@ -1,0 +1,15 @@
+use Rattle.std.proofs.Common.{◌≡◌, ◌⊎◌, Some, Err, inl, inr, rules}
+use Rattle.toml.specs.View.{table_view}
+use Rattle.ds_domain_base.specs.Domains.{link_fault}
+use Rattle.ds_domain_base.specs.Faults.{no_memory}
+use Rattle.ds_domain.specs.Keys.{has_only, only, text_at}
+use Rattle.ds_domain.specs.Parts.{with_link_of}
+use Rattle.ds_domain.proofs.parts.add_link.Goals as goal
+
+pub returns-in-Err-clause-refused : goal.returns-in-Err-clause-refused
+unfolding with_link_of only has_only text_at
+returns-in-Err-clause-refused c =
+    elim c.in-Err.ensures.refused as (λ _. (c.in-Err.fault ≡ no_memory) ⊎ (with_link_of c.args.domain.now (table_view c.args.table.now) ≡ Err c.in-Err.fault)) [
+      | inl memory ↦ inl memory
+      | inr told ↦ inr (let stood : link_fault c.args.domain.now c.in_ok-from.from.now c.in_ok-to.to.now ≡ Some c.in-Err.fault = told in search rules)
+    ]

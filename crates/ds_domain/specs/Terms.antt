@@ -1,0 +1,93 @@
+-- The parameters of meters, and the terms of contracts.
+use Rattle.std.specs.Prelude.{ℕ, Bool, ◌||◌, is_some, Option, None, Some, Result, Ok, Err, if◌then◌else◌}
+use Rattle.toml.specs.Data.{Members, get_member}
+use Rattle.srtcm_core.specs.declared.parameters.SrTcmParameters.{SrTcmParameters}
+use Rattle.trtcm_core.specs.declared.parameters.TrTcmParameters.{TrTcmParameters}
+use Rattle.rfc4115_core.specs.declared.parameters.Rfc4115Parameters.{Rfc4115Parameters}
+use Rattle.meter_book.specs.declared.any_meter.MeterFault.{MeterFault}
+use Rattle.meter_book.specs.declared.any_meter.MeterFault.TheVariants as refusals
+use Rattle.meter_book.specs.declared.any_meter.Parameters.{Parameters}
+use Rattle.meter_book.specs.declared.any_meter.Parameters.TheVariants as parameters
+use Rattle.meter_book.specs.AnyMeter.{fault_of}
+use Rattle.ds_domain_base.specs.Faults.{field_text}
+use Rattle.ds_domain_base.specs.declared.fault.DomainFault.{DomainFault}
+use Rattle.ds_domain_base.specs.declared.fault.Field.{Field}
+use Rattle.ds_domain_base.specs.declared.fault.Field.TheVariants as fields
+use Rattle.ds_domain_base.specs.declared.fault.Kind.TheVariants as kinds
+use Rattle.ds_domain_base.specs.declared.terms.Profile.{Profile}
+use Rattle.ds_domain_base.specs.declared.terms.Terms.{Terms}
+use Rattle.ds_domain_base.specs.declared.terms.Terms.TheVariants as terms
+use Rattle.ds_domain_text.specs.Steps.{◌>>=◌}
+use Rattle.ds_domain.specs.Keys.{burst_at, fault_here, rate_at}
+use Rattle.ds_domain.specs.Kinds.{mode_at}
+use Rattle.ds_domain.specs.declared.kinds.ContractKind.{ContractKind}
+use Rattle.ds_domain.specs.declared.kinds.ContractKind.TheVariants.{Trusted, Policed}
+use Rattle.ds_domain.specs.declared.kinds.MeterKind.{MeterKind}
+use Rattle.ds_domain.specs.declared.kinds.MeterKind.TheVariants.{SrTcm, TrTcm, Rfc4115}
+use Rattle.ds_domain.specs.declared.place.Place.{Place}
+use Rattle.ds_domain.specs.declared.terms.Claim.{Claim}
+use Rattle.ds_domain.specs.declared.terms.Claim.TheVariants as claims
+
+-- the parameters of a meter of a kind, key by key
+unfoldable pub parameters_at : Place → MeterKind → Members → Result Parameters DomainFault
+parameters_at place SrTcm members = do
+  cir ← rate_at place fields.Cir members
+  cbs ← burst_at place fields.Cbs members
+  ebs ← burst_at place fields.Ebs members
+  Ok (parameters.SrTcm (record { committed_rate = cir; committed_burst = cbs; excess_burst = ebs }))
+parameters_at place TrTcm members = do
+  cir ← rate_at place fields.Cir members
+  cbs ← burst_at place fields.Cbs members
+  pir ← rate_at place fields.Pir members
+  pbs ← burst_at place fields.Pbs members
+  Ok (parameters.TrTcm (record { committed_rate = cir; committed_burst = cbs; peak_rate = pir; peak_burst = pbs }))
+parameters_at place Rfc4115 members = do
+  cir ← rate_at place fields.Cir members
+  cbs ← burst_at place fields.Cbs members
+  eir ← rate_at place fields.Eir members
+  ebs ← burst_at place fields.Ebs members
+  Ok (parameters.Rfc4115 (record { committed_rate = cir; committed_burst = cbs; excess_rate = eir; excess_burst = ebs }))
+
+-- the field that is named where the meter's standard refuses parameters
+abbrev pub refused_field : MeterFault → Field
+refused_field refusals.SizeZero = fields.Cbs
+refused_field refusals.PeakBelowCommitted = fields.Pir
+
+-- parameters that the meter's standard does not refuse
+abbrev pub unless_refused : Place → Parameters → Option MeterFault → Result Parameters DomainFault
+unless_refused place p None = Ok p
+unless_refused place p (Some refusal) = Err (fault_here place kinds.Range (refused_field refusal))
+
+unfoldable pub sound : Place → Parameters → Result Parameters DomainFault
+sound place p = unless_refused place p (fault_of p)
+
+-- an entry has a key
+abbrev pub has_key : Field → Members → Bool
+has_key field members = is_some (get_member (field_text field) members)
+
+-- the peak rate and burst of a trusted contract: both or neither
+unfoldable pub peak_at : Place → Members → Result (Option Profile) DomainFault
+peak_at place members =
+    if has_key fields.Pir members || has_key fields.Pbs members then (do
+      pir ← rate_at place fields.Pir members
+      pbs ← burst_at place fields.Pbs members
+      Ok (Some (record { rate = pir; burst = pbs })))
+    else
+    Ok None
+
+-- what a contract says of its rates and bursts, before its parameters are judged
+unfoldable pub claim_at : Place → ContractKind → Members → Result Claim DomainFault
+claim_at place Trusted members = do
+  cir ← rate_at place fields.Cir members
+  cbs ← burst_at place fields.Cbs members
+  peak ← peak_at place members
+  Ok (claims.Trusted (record { rate = cir; burst = cbs }) peak)
+claim_at place (Policed kind) members = do
+  mode ← mode_at place members
+  p ← parameters_at place kind members
+  Ok (claims.Policed p mode)
+
+-- the parameters of a policed contract are judged as those of a meter; a trusted contract has none
+unfoldable pub terms_of : Place → Claim → Result Terms DomainFault
+terms_of place (claims.Trusted committed peak) = Ok (terms.Trusted committed peak)
+terms_of place (claims.Policed p mode) = sound place p >>= (λ s. Ok (terms.Policed s mode))

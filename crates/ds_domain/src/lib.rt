@@ -1,0 +1,24 @@
+//! Domain texts: a TOML text of meters, ports, links and contracts is read into values that cannot be wrong, or its
+//! first fault is named.
+#![tactic(auto)]
+
+mod contract_keys;
+mod contract_list;
+mod contracts;
+mod keys;
+mod kinds;
+mod parsing;
+mod parts;
+mod place;
+mod rules;
+mod sections;
+mod terms;
+
+pub use ds_domain_base::{
+    Contract, Delay, Domain, DomainFault, Field, Kind, Lifetime, Link, MOST_HOPS, Meter, Name,
+    Path, Port, Profile, Section, SoundParameters, Terms, fits,
+};
+pub use parsing::parse;
+
+#[cfg(test)]
+mod tests;

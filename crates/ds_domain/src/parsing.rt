@@ -1,0 +1,161 @@
+ghost use Rattle.std.specs.Prelude.{◌≡◌, ◌⊎◌, map, Err, IfErr, IfOk, Ok};
+ghost use Rattle.toml.specs.View.{table_view};
+ghost use Rattle.ds_domain_base.specs.Faults.{no_memory};
+ghost use Rattle.ds_domain.specs.DomainTexts.{document_of, domain_of, no_text, parse_of, section_of, sections_of, top_of};
+ghost use Rattle.ds_domain.specs.SectionViews.{tables_of};
+
+use crate::contracts::contracts_of;
+use crate::keys::{only, optional_number_at};
+use crate::parts::{add_links, add_meters, add_ports};
+use crate::sections::top;
+use ds_domain_base::{Contract, Domain, DomainFault, Field, Kind, Section};
+use ds_domain_text::keys::tables_at;
+use std::alloc::Global;
+use toml::Table;
+
+/// The keys at the top.
+const TOP_FIELDS: [Field; 5] = [
+    Field::Version,
+    Field::Meter,
+    Field::Port,
+    Field::Link,
+    Field::Contract,
+];
+
+/// The tables of the sections.
+#[derive(Drop)]
+pub(crate) struct Sections<'a> {
+    /// The meters.
+    pub(crate) meters: Vec<&'a Table>,
+    /// The ports.
+    pub(crate) ports: Vec<&'a Table>,
+    /// The links.
+    pub(crate) links: Vec<&'a Table>,
+    /// The contracts.
+    pub(crate) contracts: Vec<&'a Table>,
+}
+
+/// The domain and the contracts that a domain text says.
+///
+/// The text is TOML of at most four arrays of tables, `meter`, `port`, `link` and `contract`, and of a `version` that is 1.
+/// Refused is a text that is not so, with its first fault: first the text as a whole, then its top, then the meters, ports,
+/// links and contracts, each in the order of the text. `NoMemory` where memory runs out.
+#[tactic(auto, unfolding(crate::specs::DomainTexts::parse_of))]
+pub fn parse(alloc: Global, bytes: &[u8]) -> Result<(Domain, Vec<Contract>), DomainFault>
+    ensures ok { IfOk result (λ parsed. parse_of bytes.now ≡ Ok (parsed.0, parsed.1.items)) }
+    ensures refused { IfErr result (λ fault. (fault ≡ no_memory) ⊎ (parse_of bytes.now ≡ Err fault)) }
+{
+    let Ok(text) = std::str::from_utf8(bytes) else {
+        return Err(no_text());
+    };
+    match toml::table_from_str(alloc, text) {
+        Ok(table) => document_of(alloc, &table),
+        Err(error) if error.is_memory() => Err(DomainFault::no_memory()),
+        Err(_) => Err(no_text()),
+    }
+}
+
+/// The fault of a text that is not UTF-8, or not TOML.
+fn no_text() -> DomainFault
+    ensures { result ≡ no_text }
+{
+    DomainFault::new(Kind::Text, Section::Text, 0, Field::Empty)
+}
+
+/// The domain and the contracts of a document.
+#[tactic(auto, unfolding(crate::specs::DomainTexts::document_of))]
+fn document_of(alloc: Global, table: &Table) -> Result<(Domain, Vec<Contract>), DomainFault>
+    ensures ok { IfOk result (λ parsed. document_of (table_view table.now) ≡ Ok (parsed.0, parsed.1.items)) }
+    ensures refused { IfErr result (λ fault. (fault ≡ no_memory) ⊎ (document_of (table_view table.now) ≡ Err fault)) }
+{
+    if let Err(fault) = top_of(table) {
+        return Err(fault);
+    }
+    let sections = match sections_of(alloc, table) {
+        Ok(sections) => sections,
+        Err(fault) => return Err(fault),
+    };
+    let domain = match domain_of(alloc, &sections) {
+        Ok(domain) => domain,
+        Err(fault) => return Err(fault),
+    };
+    match contracts_of(alloc, &domain, sections.contracts.as_slice()) {
+        Ok(contracts) => Ok((domain, contracts)),
+        Err(fault) => Err(fault),
+    }
+}
+
+/// Refuses an unknown key at the top, and another version than 1.
+#[tactic(auto, unfolding(crate::specs::DomainTexts::top_of))]
+fn top_of(table: &Table) -> Result<(), DomainFault>
+    ensures { result ≡ top_of (table_view table.now) }
+{
+    only(top(), table, &TOP_FIELDS, &[])?;
+    optional_number_at(top(), table, Field::Version, 1, 1)?;
+    Ok(())
+}
+
+/// The tables of a section, none where it is absent.
+#[tactic(auto, unfolding(crate::specs::DomainTexts::section_of))]
+fn section_of<'a>(
+    alloc: Global,
+    table: &'a Table,
+    field: Field,
+) -> Result<Vec<&'a Table>, DomainFault>
+    ensures ok { IfOk result (λ tables. section_of field (table_view table.now) ≡ Ok (map (λ table. table_view table.now) tables.items)) }
+    ensures refused { IfErr result (λ fault. (fault ≡ no_memory) ⊎ (section_of field (table_view table.now) ≡ Err fault)) }
+{
+    match tables_at(alloc, table, field.text()) {
+        Ok(tables) => Ok(tables),
+        Err(flaw) => Err(top().flaw(flaw, field)),
+    }
+}
+
+/// The tables of all sections.
+#[tactic(auto, unfolding(crate::specs::DomainTexts::sections_of))]
+fn sections_of<'a>(alloc: Global, table: &'a Table) -> Result<Sections<'a>, DomainFault>
+    ensures ok { IfOk result (λ sections. sections_of (table_view table.now) ≡ Ok (tables_of sections)) }
+    ensures refused { IfErr result (λ fault. (fault ≡ no_memory) ⊎ (sections_of (table_view table.now) ≡ Err fault)) }
+{
+    let meters = match section_of(alloc, table, Field::Meter) {
+        Ok(meters) => meters,
+        Err(fault) => return Err(fault),
+    };
+    let ports = match section_of(alloc, table, Field::Port) {
+        Ok(ports) => ports,
+        Err(fault) => return Err(fault),
+    };
+    let links = match section_of(alloc, table, Field::Link) {
+        Ok(links) => links,
+        Err(fault) => return Err(fault),
+    };
+    let contracts = match section_of(alloc, table, Field::Contract) {
+        Ok(contracts) => contracts,
+        Err(fault) => return Err(fault),
+    };
+    Ok(Sections {
+        meters,
+        ports,
+        links,
+        contracts,
+    })
+}
+
+/// The domain: its meters, then its ports, then its links.
+#[tactic(auto, unfolding(crate::specs::DomainTexts::domain_of))]
+fn domain_of(alloc: Global, sections: &Sections<'_>) -> Result<Domain, DomainFault>
+    ensures ok { IfOk result (λ domain. domain_of (tables_of sections.now) ≡ Ok domain) }
+    ensures refused { IfErr result (λ fault. (fault ≡ no_memory) ⊎ (domain_of (tables_of sections.now) ≡ Err fault)) }
+{
+    let mut domain = Domain::new(alloc);
+    if let Err(fault) = add_meters(&mut domain, sections.meters.as_slice()) {
+        return Err(fault);
+    }
+    if let Err(fault) = add_ports(&mut domain, sections.ports.as_slice()) {
+        return Err(fault);
+    }
+    if let Err(fault) = add_links(&mut domain, sections.links.as_slice()) {
+        return Err(fault);
+    }
+    Ok(domain)
+}

@@ -1,0 +1,200 @@
+ghost use Rattle.std.specs.Prelude.{◌≡◌, ◌⊎◌, map, Err, IfErr, Ok, OnOk};
+ghost use Rattle.toml.specs.View.{table_view};
+ghost use Rattle.ds_domain_base.specs.Faults.{no_memory};
+ghost use Rattle.ds_domain.specs.Parts.{meter_keys, with_link_of, with_meter_of, with_port_of};
+ghost use Rattle.ds_domain.specs.Sections.{in_turn, section_in};
+
+use crate::keys::{delay_at, moment_at, name_at, only, text_at};
+use crate::kinds::{meter_kind_at, optional_mode_at};
+use crate::place::Place;
+use crate::sections::few;
+use crate::terms::sound;
+use ds_domain_base::{Delay, Domain, DomainFault, Field, Kind, Link, Meter, Name, Port, Section};
+use meter_book::Parameters;
+use moment_core::{Mode, Moment};
+use toml::Table;
+
+/// The keys that meters of all kinds have.
+const METER_FIELDS: [Field; 5] = [
+    Field::Name,
+    Field::Kind,
+    Field::Mode,
+    Field::Skew,
+    Field::Origin,
+];
+
+/// The keys of a port.
+const PORT_FIELDS: [Field; 2] = [Field::Name, Field::Skew];
+
+/// The keys of a link.
+const LINK_FIELDS: [Field; 4] = [Field::From, Field::To, Field::Floor, Field::Jitter];
+
+/// What the keys of a meter say, before it is judged.
+#[derive(Clone, Copy)]
+pub(crate) struct MeterKeys {
+    /// Its name.
+    pub(crate) name: Name,
+    /// Its mode.
+    pub(crate) mode: Mode,
+    /// Its parameters.
+    pub(crate) parameters: Parameters,
+    /// By how much packets may arrive there out of order.
+    pub(crate) skew: Delay,
+    /// The moment at which its buckets are full.
+    pub(crate) origin: Moment,
+}
+
+/// What the keys of a meter say.
+#[tactic(auto, unfolding(crate::specs::Parts::meter_keys))]
+fn meter_keys(place: Place, table: &Table) -> Result<MeterKeys, DomainFault>
+    ensures { result ≡ meter_keys place (table_view table.now) }
+{
+    let kind = meter_kind_at(place, table)?;
+    only(place, table, &METER_FIELDS, kind.parameter_fields())?;
+    let name = name_at(place, table)?;
+    let mode = optional_mode_at(place, table)?;
+    let parameters = kind.parameters_at(place, table)?;
+    let skew = delay_at(place, table, Field::Skew)?;
+    let origin = moment_at(place, table, Field::Origin)?;
+    Ok(MeterKeys {
+        name,
+        mode,
+        parameters,
+        skew,
+        origin,
+    })
+}
+
+/// Adds a meter behind the others.
+#[tactic(auto, unfolding(crate::specs::Parts::with_meter_of))]
+fn add_meter(domain: &mut Domain, table: &Table) -> Result<(), DomainFault>
+    ensures added { OnOk result (with_meter_of domain.old (table_view table.now) ≡ Ok domain.new) }
+    ensures refused { IfErr result (λ fault. (fault ≡ no_memory) ⊎ (with_meter_of domain.old (table_view table.now) ≡ Err fault)) }
+{
+    let place = Place {
+        section: Section::Meter,
+        index: domain.meters().len(),
+    };
+    let keys = meter_keys(place, table)?;
+    if domain.is_taken(keys.name) {
+        return Err(place.fault(Kind::Twice, Field::Name));
+    }
+    if keys.mode == Mode::Blind {
+        return Err(place.fault(Kind::BlindInside, Field::Mode));
+    }
+    let meter = Meter {
+        parameters: sound(place, keys.parameters)?,
+        skew: keys.skew,
+        origin: keys.origin,
+    };
+    domain.add_meter(keys.name, meter)
+}
+
+/// Adds a port behind the others.
+#[tactic(auto, unfolding(crate::specs::Parts::with_port_of))]
+fn add_port(domain: &mut Domain, table: &Table) -> Result<(), DomainFault>
+    ensures added { OnOk result (with_port_of domain.old (table_view table.now) ≡ Ok domain.new) }
+    ensures refused { IfErr result (λ fault. (fault ≡ no_memory) ⊎ (with_port_of domain.old (table_view table.now) ≡ Err fault)) }
+{
+    let place = Place {
+        section: Section::Port,
+        index: domain.ports().len(),
+    };
+    only(place, table, &PORT_FIELDS, &[])?;
+    let name = name_at(place, table)?;
+    let skew = delay_at(place, table, Field::Skew)?;
+    domain.add_port(name, Port { skew })
+}
+
+/// Adds a link behind the others.
+#[tactic(auto, unfolding(crate::specs::Parts::with_link_of))]
+fn add_link(domain: &mut Domain, table: &Table) -> Result<(), DomainFault>
+    ensures added { OnOk result (with_link_of domain.old (table_view table.now) ≡ Ok domain.new) }
+    ensures refused { IfErr result (λ fault. (fault ≡ no_memory) ⊎ (with_link_of domain.old (table_view table.now) ≡ Err fault)) }
+{
+    let place = Place {
+        section: Section::Link,
+        index: domain.links().len(),
+    };
+    only(place, table, &LINK_FIELDS, &[])?;
+    let from = text_at(place, table, Field::From)?;
+    let to = text_at(place, table, Field::To)?;
+    let floor = delay_at(place, table, Field::Floor)?;
+    let jitter = delay_at(place, table, Field::Jitter)?;
+    match domain.add_link(from, to, Link { floor, jitter }) {
+        Ok(()) => Ok(()),
+        Err(fault) => Err(fault),
+    }
+}
+
+/// Adds the meters of a section behind the others; `Range` where there are too many, before any is looked at.
+#[tactic(auto, unfolding(crate::specs::Sections::section_in))]
+pub(crate) fn add_meters(domain: &mut Domain, tables: &[&Table]) -> Result<(), DomainFault>
+    ensures added { OnOk result (section_in Field.Meter 1024 with_meter_of domain.old (map (λ table. table_view table.now) tables.now) ≡ Ok domain.new) }
+    ensures refused { IfErr result (λ fault. (fault ≡ no_memory) ⊎ (section_in Field.Meter 1024 with_meter_of domain.old (map (λ table. table_view table.now) tables.now) ≡ Err fault)) }
+{
+    few(Field::Meter, Domain::MOST_METERS, tables)?;
+    add_each_meter(domain, tables)
+}
+
+/// Adds meters behind the others, one after the other.
+fn add_each_meter(domain: &mut Domain, tables: &[&Table]) -> Result<(), DomainFault>
+    ensures added { OnOk result (in_turn with_meter_of domain.old (map (λ table. table_view table.now) tables.now) ≡ Ok domain.new) }
+    ensures refused { IfErr result (λ fault. (fault ≡ no_memory) ⊎ (in_turn with_meter_of domain.old (map (λ table. table_view table.now) tables.now) ≡ Err fault)) }
+{
+    for table in tables {
+        match add_meter(domain, table) {
+            Ok(()) => {}
+            Err(fault) => return Err(fault),
+        }
+    }
+    Ok(())
+}
+
+/// Adds the ports of a section behind the others; `Range` where there are too many, before any is looked at.
+#[tactic(auto, unfolding(crate::specs::Sections::section_in))]
+pub(crate) fn add_ports(domain: &mut Domain, tables: &[&Table]) -> Result<(), DomainFault>
+    ensures added { OnOk result (section_in Field.Port 1024 with_port_of domain.old (map (λ table. table_view table.now) tables.now) ≡ Ok domain.new) }
+    ensures refused { IfErr result (λ fault. (fault ≡ no_memory) ⊎ (section_in Field.Port 1024 with_port_of domain.old (map (λ table. table_view table.now) tables.now) ≡ Err fault)) }
+{
+    few(Field::Port, Domain::MOST_PORTS, tables)?;
+    add_each_port(domain, tables)
+}
+
+/// Adds ports behind the others, one after the other.
+fn add_each_port(domain: &mut Domain, tables: &[&Table]) -> Result<(), DomainFault>
+    ensures added { OnOk result (in_turn with_port_of domain.old (map (λ table. table_view table.now) tables.now) ≡ Ok domain.new) }
+    ensures refused { IfErr result (λ fault. (fault ≡ no_memory) ⊎ (in_turn with_port_of domain.old (map (λ table. table_view table.now) tables.now) ≡ Err fault)) }
+{
+    for table in tables {
+        match add_port(domain, table) {
+            Ok(()) => {}
+            Err(fault) => return Err(fault),
+        }
+    }
+    Ok(())
+}
+
+/// Adds the links of a section behind the others; `Range` where there are too many, before any is looked at.
+#[tactic(auto, unfolding(crate::specs::Sections::section_in))]
+pub(crate) fn add_links(domain: &mut Domain, tables: &[&Table]) -> Result<(), DomainFault>
+    ensures added { OnOk result (section_in Field.Link 65536 with_link_of domain.old (map (λ table. table_view table.now) tables.now) ≡ Ok domain.new) }
+    ensures refused { IfErr result (λ fault. (fault ≡ no_memory) ⊎ (section_in Field.Link 65536 with_link_of domain.old (map (λ table. table_view table.now) tables.now) ≡ Err fault)) }
+{
+    few(Field::Link, Domain::MOST_LINKS, tables)?;
+    add_each_link(domain, tables)
+}
+
+/// Adds links behind the others, one after the other.
+fn add_each_link(domain: &mut Domain, tables: &[&Table]) -> Result<(), DomainFault>
+    ensures added { OnOk result (in_turn with_link_of domain.old (map (λ table. table_view table.now) tables.now) ≡ Ok domain.new) }
+    ensures refused { IfErr result (λ fault. (fault ≡ no_memory) ⊎ (in_turn with_link_of domain.old (map (λ table. table_view table.now) tables.now) ≡ Err fault)) }
+{
+    for table in tables {
+        match add_link(domain, table) {
+            Ok(()) => {}
+            Err(fault) => return Err(fault),
+        }
+    }
+    Ok(())
+}

@@ -1,0 +1,3 @@
+-- Lemmas on prefixes and on arrays.
+pub mod ArrayLemmas
+pub mod PrefixLemmas

@@ -1,0 +1,10 @@
+use Rattle.std.proofs.Common.{◌≡◌, drop, map}
+use Rattle.toml.specs.Data.{as_str}
+use Rattle.toml.specs.View.{items_view}
+use Rattle.ds_domain_text.specs.Values.{each_of}
+use Rattle.ds_domain_text.proofs.ArrayLemmas.{with_rest}
+use Rattle.ds_domain_text.proofs.values.texts.Given as goal
+
+abbrev pub invariant-loop-item : goal.invariant-loop-item
+invariant-loop-item l =
+    with_rest (map (λ text. text.now) l.texts.items) (each_of as_str (items_view (drop l.item-index l.item-items))) ≡ each_of as_str (items_view l.item-items)
