@@ -1,9 +1,9 @@
 -- The classic capture format: which frames stand in a list of bytes, and the first fault, if any.
-use Rattle.std.specs.Prelude.{ℕ, zero, suc, ◌+◌, ◌*◌, ◌%◌, Bool, not, nat_eq, nat_lt, ◌&&◌, if◌then◌else◌, List, [], ◌∷◌, ◌++◌, length, take, drop, Option, None, Some, Result, Ok, Err}
+use Rattle.std.specs.Prelude.{◌≡◌, ◌⊎◌, ℕ, zero, suc, ◌+◌, ◌-◌, ◌*◌, ◌%◌, min, Bool, not, nat_eq, nat_lt, ◌&&◌, if◌then◌else◌, List, [], ◌∷◌, ◌++◌, length, take, drop, Option, None, Some, Result, Ok, Err}
 use Rattle.byteorder.specs.Endian.{big_number, little_number}
 use Rattle.pcap_capture.specs.Frames.{FrameValue}
 use Rattle.pcap_capture.specs.declared.fault.PcapFault.{PcapFault}
-use Rattle.pcap_capture.specs.declared.fault.PcapFault.TheVariants.{NotPcap, IsPcapng, BadVersion, LinkType, RecordTooLong, Truncated, Failed}
+use Rattle.pcap_capture.specs.declared.fault.PcapFault.TheVariants.{NotPcap, IsPcapng, BadVersion, LinkType, RecordTooLong, Truncated, NoMemory, Failed}
 use Rattle.pcap_capture.specs.declared.heading.Endianness.{Endianness}
 use Rattle.pcap_capture.specs.declared.heading.Endianness.TheVariants.{Big, Little}
 use Rattle.pcap_capture.specs.declared.heading.Heading.{Heading}
@@ -123,14 +123,16 @@ waiting stage rest = record { frames = []; fault = None; state = record { stage 
 abbrev pub prepend : List FrameValue → Reading → Reading
 prepend frames reading = record reading { frames = frames ++ reading.frames }
 
+-- what stands in a list of bytes, by what stands at its front, once it is known how to read on
+abbrev pub from_next : Heading → List ℕ → (List ℕ → Reading) → Next → Reading
+from_next heading bytes read Partial = waiting (Records heading) bytes
+from_next heading bytes read (TooLong count) = stopped (RecordTooLong count)
+from_next heading bytes read (Whole frame after) = prepend (frame ∷ []) (read after)
+
 -- the records of a list of bytes, at most so many
 abbrev pub records_within : ℕ → Heading → List ℕ → Reading
 records_within zero heading bytes = waiting (Records heading) bytes
-records_within (suc most) heading bytes = elim (next_of heading bytes) [
-  | Partial ↦ waiting (Records heading) bytes
-  | TooLong count ↦ stopped (RecordTooLong count)
-  | Whole frame after ↦ prepend (frame ∷ []) (records_within most heading after)
-]
+records_within (suc most) heading bytes = from_next heading bytes (records_within most heading) (next_of heading bytes)
 
 -- all records of a list of bytes: there are no more than bytes
 unfoldable pub records : Heading → List ℕ → Reading
@@ -162,3 +164,26 @@ ending state = elim (state.stage) [
   | Records heading ↦ if nat_eq (length state.rest) 0 then None else Some Truncated
   | Broken ↦ Some Failed
 ]
+
+-- what more bytes make of a reading: a fault stands
+abbrev pub continued : Reading → List ℕ → Reading
+continued read more = elim (read.fault) [
+  | None ↦ prepend read.frames (reading read.state more)
+  | Some fault ↦ read
+]
+
+-- a fault that ends a reading: its own, with all its frames, or want of memory, with some of its first frames
+abbrev pub Stops : Reading → List FrameValue → PcapFault → Type 0
+Stops wanted frames fault =
+    (record { frames = frames; fault = Some fault; state = broken } ≡ wanted)
+    ⊎ ((fault ≡ NoMemory) × ((others : List FrameValue) × (frames ++ others ≡ wanted.frames)))
+
+-- how many bytes of a piece bring what is left over to a size, as far as the piece goes
+abbrev pub drawn : ℕ → List ℕ → List ℕ → ℕ
+drawn size rest piece = min (size - length rest) (length piece)
+
+-- what is left over is less than what would come next
+abbrev pub IsSettled : Stage → List ℕ → Type 0
+IsSettled Opening rest = heading_of rest ≡ None
+IsSettled (Records heading) rest = next_of heading rest ≡ Partial
+IsSettled Broken rest = rest ≡ []
