@@ -34,10 +34,10 @@ not_less a b h = grind (arith, nat_tests)
 not_more : (a : ℕ) → nat_lt 262144 a ≡ false → a ≤ 262144
 not_more a h = grind (arith, nat_tests)
 
-is_less : (a b : ℕ) → a < b → nat_lt a b ≡ true
+pub is_less : (a b : ℕ) → a < b → nat_lt a b ≡ true
 is_less a b h = grind (arith, nat_tests)
 
-is_not_less : (a b : ℕ) → b ≤ a → nat_lt a b ≡ false
+pub is_not_less : (a b : ℕ) → b ≤ a → nat_lt a b ≡ false
 is_not_less a b h = grind (arith, nat_tests)
 
 -- what the tests of a record say where it is whole
@@ -111,7 +111,7 @@ pub number-append : (order : Endianness) (n : ℕ) (xs ys : List ℕ) → n ≤ 
 number-append Big n xs ys h = big_from-append n xs ys h
 number-append Little n xs ys h = little_from-append n xs ys h
 
-number-append_at : (order : Endianness) (n at : ℕ) (xs ys : List ℕ) → at + n ≤ length xs → number order n (drop at (xs ++ ys)) ≡ number order n (drop at xs)
+pub number-append_at : (order : Endianness) (n at : ℕ) (xs ys : List ℕ) → at + n ≤ length xs → number order n (drop at (xs ++ ys)) ≡ number order n (drop at xs)
 number-append_at order n at xs ys h =
     ap (number order n) (drop-append-le at xs ys (omega arith)) ∙ number-append order n (drop at xs) ys (omega (arith, length-drop at xs))
 

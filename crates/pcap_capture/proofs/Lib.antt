@@ -1,2 +1,3 @@
 pub mod GrammarLaws
+pub mod HeadingLaws
 pub mod RecordLaws
