@@ -73,7 +73,7 @@ pub next-short : (heading : Heading) (bytes : List ℕ) → length bytes < 16 �
 unfolding next_of
 next-short heading bytes h = rw (is_less (length bytes) 16 h) refl
 
-after_shorter : (heading : Heading) (bytes : List ℕ) (frame : FrameValue) (after : List ℕ) → next_of heading bytes ≡ Whole frame after → length after + 16 ≤ length bytes
+pub after_shorter : (heading : Heading) (bytes : List ℕ) (frame : FrameValue) (after : List ℕ) → next_of heading bytes ≡ Whole frame after → length after + 16 ≤ length bytes
 after_shorter heading bytes frame after h =
     let next = whole_is heading bytes frame after h in
     omega (arith, ap length next.after_is, length-drop (16 + captured heading bytes) bytes, next.size)

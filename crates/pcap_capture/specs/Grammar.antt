@@ -166,11 +166,16 @@ ending state = elim (state.stage) [
 ]
 
 -- what more bytes make of a reading: a fault stands
+abbrev pub continued_from : Option PcapFault → Reading → List ℕ → Reading
+continued_from None read more = prepend read.frames (reading read.state more)
+continued_from (Some fault) read more = read
+
 abbrev pub continued : Reading → List ℕ → Reading
-continued read more = elim (read.fault) [
-  | None ↦ prepend read.frames (reading read.state more)
-  | Some fault ↦ read
-]
+continued read more = continued_from read.fault read more
+
+-- Frames and a state are what the grammar makes of the bytes so far, behind frames that were there before.
+abbrev pub IsSoFar : List ℕ → List FrameValue → CaptureState → List FrameValue → Type 0
+IsSoFar bytes before state frames = record { frames = frames; fault = None; state = state } ≡ prepend before (capture bytes)
 
 -- a fault that ends a reading: its own, with all its frames, or want of memory, with some of its first frames
 abbrev pub Stops : Reading → List FrameValue → PcapFault → Type 0

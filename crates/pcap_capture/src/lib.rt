@@ -20,5 +20,5 @@ pub use fault::PcapFault;
 pub use frame::Frame;
 pub use heading::{Endianness, Heading, Link, TimeUnit};
 pub use memory::{SliceIntake, VecOutlet};
-pub use reading::Capture;
+pub use reading::{Capture, wherever_it_is_cut};
 pub use stage::Stage;

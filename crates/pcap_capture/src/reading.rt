@@ -1,6 +1,6 @@
-ghost use Rattle.std.specs.Prelude.{◌≡◌, ◌++◌, [], None, Some, IfErr, IfOk, OnOk, MatchResult};
+ghost use Rattle.std.specs.Prelude.{◌≡◌, ℕ, List, ◌++◌, [], None, Some, IfErr, IfOk, OnOk, MatchResult};
 ghost use Rattle.pcap_capture.specs.Frames.{FrameValue};
-ghost use Rattle.pcap_capture.specs.Grammar.{CaptureState, IsSettled, Reading, Stops, broken, capture, ending, heading_of, prepend, reading};
+ghost use Rattle.pcap_capture.specs.Grammar.{CaptureState, IsSettled, IsSoFar, Reading, continued, Stops, broken, capture, ending, heading_of, prepend, reading};
 
 use crate::fault::PcapFault;
 use crate::frame::Frame;
@@ -29,7 +29,8 @@ impl Capture {
     /// A capture of which no byte was read. It takes no memory yet.
     #[tactic(auto, unfolding(crate::specs::Grammar::heading_of))]
     pub fn begin(alloc: Global) -> Self
-        ensures { result ≡ record { stage = Stage.Opening; rest = [] } }
+        ensures value { result ≡ record { stage = Stage.Opening; rest = [] } }
+        ensures so_far { (before : List FrameValue) → IsSoFar [] before result before }
     {
         Capture {
             stage: Stage::Opening,
@@ -44,6 +45,25 @@ impl Capture {
     /// record's own bytes are there; `NoMemory`. The frames before the fault were added. After any fault each later
     /// call answers `Failed`.
     pub fn feed(
+        &mut self,
+        alloc: Global,
+        piece: &[u8],
+        out: &mut Vec<Frame>,
+    ) -> Result<(), PcapFault>
+        ensures ok { OnOk result (record { frames = out.new.items; fault = None; state = self.new }
+            ≡ prepend out.old.items (reading self.old piece.now)) }
+        ensures err { IfErr result (λ fault. (self.new ≡ broken) × Stops (prepend out.old.items (reading self.old piece.now)) out.new.items fault) }
+        ensures so_far { (bytes : List ℕ) (before : List FrameValue) → IsSoFar bytes before self.old out.old.items → MatchResult result
+            (λ _. IsSoFar (bytes ++ piece.now) before self.new out.new.items)
+            (λ fault. Stops (prepend before (capture (bytes ++ piece.now))) out.new.items fault) }
+    {
+        match self.advance(alloc, piece, out) {
+            Ok(()) => Ok(()),
+            Err(fault) => Err(fault),
+        }
+    }
+
+    fn advance(
         &mut self,
         alloc: Global,
         piece: &[u8],
@@ -130,3 +150,9 @@ fn read_heading(
         }
     }
 }
+
+/// A law of captures: the frames, the fault and how it goes on are the same wherever the bytes are cut.
+#[tactic(auto, using(crate::proofs::CutLaws::reading_cut))]
+pub fn wherever_it_is_cut()
+    ensures { (state : CaptureState) (front back : List ℕ) → reading state (front ++ back) ≡ continued (reading state front) back }
+{}
