@@ -1,12 +1,11 @@
 -- The heading of a capture, and what comes behind it.
-use Rattle.std.proofs.Common.{◌≡◌, ◌⊎◌, ℕ, ◌+◌, ◌%◌, ◌<◌, ◌≤◌, Bool, true, false, cond, nat_lt, List, [], ◌∷◌, ◌++◌, length, take, drop, Option, None, Some, Result, Ok, Err, append_assoc, append-nil, length-append, refl, subst, sym, ◌∙◌, ap, inl, inr, arith}
+use Rattle.std.proofs.Common.{◌≡◌, ℕ, ◌%◌, ◌<◌, ◌≤◌, cond, List, ◌++◌, length, take, drop, Option, None, Some, Result, Ok, Err, append_assoc, append-nil, length-append, refl, sym, ◌∙◌, ap, inl, inr, arith}
 use Rattle.std.proofs.lemmas.Bool.{cases_lt}
-use Rattle.std.proofs.lemmas.Bool.Decides.{nat_tests}
-use Rattle.std.proofs.lemmas.List.{drop-append-le, take-append-drop, take-append-le}
+use Rattle.std.proofs.lemmas.List.{take-append-drop, take-append-le}
 use Rattle.std.proofs.Math.Seq.{drop-append_seam}
 use Rattle.byteorder.specs.Numbers.{big_from-append, little_from-append}
 use Rattle.pcap_capture.specs.Frames.{FrameValue}
-use Rattle.pcap_capture.specs.Grammar.{Partial, Reading, Stops, after_heading, after_magic, capture, drawn, has_version, heading_of, link_number, link_of, linked, magic_of, next_of, prepend, records, stopped, versioned, waiting}
+use Rattle.pcap_capture.specs.Grammar.{Reading, Stops, after_heading, after_magic, capture, drawn, has_version, heading_of, link_number, link_of, linked, magic_of, prepend, records, stopped, versioned, waiting}
 use Rattle.pcap_capture.specs.declared.fault.PcapFault.{PcapFault}
 use Rattle.pcap_capture.specs.declared.fault.PcapFault.TheVariants.{BadVersion, LinkType}
 use Rattle.pcap_capture.specs.declared.heading.Endianness.{Endianness}
@@ -14,8 +13,8 @@ use Rattle.pcap_capture.specs.declared.heading.Heading.{Heading}
 use Rattle.pcap_capture.specs.declared.heading.Link.{Link}
 use Rattle.pcap_capture.specs.declared.heading.TimeUnit.{TimeUnit}
 use Rattle.pcap_capture.specs.declared.stage.Stage.{Stage}
-use Rattle.pcap_capture.specs.declared.stage.Stage.TheVariants.{Opening, Records, Broken}
-use Rattle.pcap_capture.proofs.GrammarLaws.{is_less, is_not_less, number-append, number-append_at, records_partial}
+use Rattle.pcap_capture.specs.declared.stage.Stage.TheVariants.{Opening}
+use Rattle.pcap_capture.proofs.GrammarLaws.{is_less, is_not_less, number-append_at}
 use Rattle.pcap_capture.proofs.RecordLaws.{drawn_full, drawn_short}
 
 -- a reading that waits for more, with all its frames

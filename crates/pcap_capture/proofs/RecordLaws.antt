@@ -1,10 +1,10 @@
 -- What reading records comes to, in the words of the functions that do it.
-use Rattle.std.proofs.Common.{◌≡◌, ◌⊎◌, ℕ, ◌+◌, ◌-◌, ◌<◌, ◌≤◌, min, List, [], ◌∷◌, ◌++◌, length, take, drop, Option, None, Some, Result, Ok, Err, append_assoc, append-nil, length-append, refl, subst, sym, ◌∙◌, ap, inl, inr, arith}
+use Rattle.std.proofs.Common.{◌≡◌, ℕ, ◌+◌, ◌-◌, ◌<◌, ◌≤◌, min, List, [], ◌∷◌, ◌++◌, length, take, drop, Result, Ok, Err, append_assoc, append-nil, length-append, refl, subst, sym, ◌∙◌, ap, inl, inr, arith}
 use Rattle.std.proofs.lemmas.Bool.{cases_lt}
 use Rattle.std.proofs.lemmas.List.{length-take, take-append-drop}
 use Rattle.std.proofs.Math.ListN.{drop_of_length-le}
 use Rattle.pcap_capture.specs.Frames.{FrameValue}
-use Rattle.pcap_capture.specs.Grammar.{Next, Partial, Whole, Reading, Stops, drawn, frame_of, next_of, prepend, record_size, records, stopped}
+use Rattle.pcap_capture.specs.Grammar.{Partial, Reading, Stops, drawn, frame_of, next_of, prepend, record_size, records, stopped}
 use Rattle.pcap_capture.specs.declared.fault.PcapFault.{PcapFault}
 use Rattle.pcap_capture.specs.declared.heading.Heading.{Heading}
 use Rattle.pcap_capture.proofs.GrammarLaws.{partial_below, records_whole, size-append, size_least, size_partial, size_stops, size_take}

@@ -1,5 +1,5 @@
-use Rattle.std.proofs.Common.{◌≡◌, ◌++◌, [], List, ap, refl, subst, sym, ◌∙◌}
-use Rattle.pcap_capture.specs.Grammar.{Reading, Stops, capture, heading_of, prepend, records}
+use Rattle.std.proofs.Common.{◌++◌, ap, refl, subst, sym, ◌∙◌}
+use Rattle.pcap_capture.specs.Grammar.{Reading, Stops, capture, heading_of, prepend}
 use Rattle.pcap_capture.specs.declared.stage.Stage.TheVariants.{Opening}
 use Rattle.pcap_capture.proofs.HeadingLaws.{capture_read, capture_stops, capture_waits, kept_stopped, kept_waiting}
 use Rattle.pcap_capture.proofs.reading.read_heading.Goals as goal

@@ -1,4 +1,4 @@
-use Rattle.std.proofs.Common.{◌≡◌, ◌≤◌, ◌<◌, Ok, inr, length, ap, arith, sym, ◌∙◌}
+use Rattle.std.proofs.Common.{◌<◌, inr, length, ap, arith, sym, ◌∙◌}
 use Rattle.pcap_capture.specs.Grammar.{record_size}
 use Rattle.pcap_capture.proofs.GrammarLaws.{next-short}
 use Rattle.pcap_capture.proofs.RecordLaws.{drawn_short, head_room}

@@ -1,4 +1,4 @@
-use Rattle.std.proofs.Common.{◌≡◌, ◌++◌, ◌∷◌, [], inr, ap, arith, sym, ◌∙◌}
+use Rattle.std.proofs.Common.{◌++◌, ◌∷◌, [], inr, ap, arith, sym, ◌∙◌}
 use Rattle.pcap_capture.specs.Grammar.{drawn, frame_of, record_size}
 use Rattle.pcap_capture.proofs.RecordLaws.{full_size, record_completed, short_settled, stops_long}
 use Rattle.pcap_capture.proofs.record.complete_body.Goals as goal

@@ -1,4 +1,4 @@
-use Rattle.std.proofs.Common.{◌≡◌, ◌++◌, ap, sym, ◌∙◌}
+use Rattle.std.proofs.Common.{◌≡◌, ◌++◌, ap, ◌∙◌}
 use Rattle.pcap_capture.specs.Grammar.{prepend, records}
 use Rattle.pcap_capture.specs.declared.stage.Stage.TheVariants.{Records}
 use Rattle.pcap_capture.proofs.GrammarLaws.{records_partial}

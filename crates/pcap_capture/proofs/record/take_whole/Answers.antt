@@ -1,5 +1,5 @@
-use Rattle.std.proofs.Common.{◌≡◌, ◌++◌, [], ◌∷◌, ap, arith, refl, sym, ◌∙◌, inr}
-use Rattle.pcap_capture.specs.Grammar.{prepend, record_size, records}
+use Rattle.std.proofs.Common.{arith, sym}
+use Rattle.pcap_capture.specs.Grammar.{prepend, records}
 use Rattle.pcap_capture.proofs.GrammarLaws.{size_least, size_partial}
 use Rattle.pcap_capture.proofs.RecordLaws.{frame_taken, front_size, stops_long_here}
 use Rattle.pcap_capture.proofs.record.take_whole.Goals as goal

@@ -1,4 +1,4 @@
-use Rattle.std.proofs.Common.{◌≡◌, [], ap, refl}
+use Rattle.std.proofs.Common.{[], refl}
 use Rattle.pcap_capture.specs.Grammar.{capture, prepend}
 use Rattle.pcap_capture.specs.declared.stage.Stage.TheVariants.{Opening}
 use Rattle.pcap_capture.proofs.CutLaws.{capture_empty}

@@ -1,4 +1,4 @@
-use Rattle.std.proofs.Common.{◌≡◌, List, subst, sym, ◌∙◌}
+use Rattle.std.proofs.Common.{subst, sym, ◌∙◌}
 use Rattle.pcap_capture.specs.Grammar.{Reading, Stops}
 use Rattle.pcap_capture.proofs.CutLaws.{so_far}
 use Rattle.pcap_capture.proofs.reading.Capture.feed.Goals as goal
