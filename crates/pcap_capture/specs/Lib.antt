@@ -1,2 +1,6 @@
 -- What the devices and the captures of this crate do.
+pub mod Codes
 pub mod Counts
+pub mod Frames
+pub mod Grammar
+pub mod Packets

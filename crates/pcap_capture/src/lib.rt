@@ -3,10 +3,22 @@
 
 mod adaptor;
 mod device;
+mod fault;
+mod frame;
+mod heading;
 mod memory;
+mod packet;
+mod reading;
+mod record;
+mod stage;
 #[cfg(test)]
 mod tests;
 
 pub use adaptor::{ReadIntake, WriteOutlet};
 pub use device::{DeviceFault, Intake, Outlet};
+pub use fault::PcapFault;
+pub use frame::Frame;
+pub use heading::{Endianness, Heading, Link, TimeUnit};
 pub use memory::{SliceIntake, VecOutlet};
+pub use reading::{Capture, wherever_it_is_cut};
+pub use stage::Stage;

@@ -1,0 +1,4 @@
+pub mod CutLaws
+pub mod GrammarLaws
+pub mod HeadingLaws
+pub mod RecordLaws

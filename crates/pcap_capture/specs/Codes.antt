@@ -1,0 +1,16 @@
+-- The numbers of the faults.
+use Rattle.std.specs.Prelude.{ℕ}
+use Rattle.pcap_capture.specs.declared.fault.PcapFault.{PcapFault}
+use Rattle.pcap_capture.specs.declared.fault.PcapFault.TheVariants.{NotPcap, IsPcapng, BadVersion, LinkType, RecordTooLong, Truncated, ReadFault, WriteFault, NoMemory, Failed}
+
+abbrev pub code_of : PcapFault → ℕ
+code_of NotPcap = 1
+code_of IsPcapng = 2
+code_of BadVersion = 3
+code_of (LinkType number) = 4
+code_of (RecordTooLong count) = 5
+code_of Truncated = 6
+code_of ReadFault = 7
+code_of WriteFault = 8
+code_of NoMemory = 9
+code_of Failed = 10

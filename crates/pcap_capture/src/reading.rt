@@ -1,0 +1,158 @@
+ghost use Rattle.std.specs.Prelude.{◌≡◌, ℕ, List, ◌++◌, [], None, Some, IfErr, IfOk, OnOk, MatchResult};
+ghost use Rattle.pcap_capture.specs.Frames.{FrameValue};
+ghost use Rattle.pcap_capture.specs.Grammar.{CaptureState, IsSettled, IsSoFar, Reading, continued, Stops, broken, capture, ending, heading_of, prepend, reading};
+
+use crate::fault::PcapFault;
+use crate::frame::Frame;
+use crate::heading::{Heading, heading_at_front};
+use crate::record::{draw, read_records, read_whole};
+use crate::stage::Stage;
+use std::alloc::Global;
+use std::marker::Model;
+
+/// A capture in the classic format that is read in pieces, whose frames come out as soon as they are whole.
+#[derive(Debug, Drop)]
+pub struct Capture {
+    stage: Stage,
+    rest: Vec<u8>,
+}
+
+impl Model for Capture {
+    ghost Value = { CaptureState };
+
+    ghost view = { λ c. record { stage = c.stage; rest = c.rest.items } };
+
+    ghost invariant = { λ c. IsSettled c.stage c.rest.items };
+}
+
+impl Capture {
+    /// A capture of which no byte was read. It takes no memory yet.
+    #[tactic(auto, unfolding(crate::specs::Grammar::heading_of))]
+    pub fn begin(alloc: Global) -> Self
+        ensures value { result ≡ record { stage = Stage.Opening; rest = [] } }
+        ensures so_far { (before : List FrameValue) → IsSoFar [] before result before }
+    {
+        Capture {
+            stage: Stage::Opening,
+            rest: Vec::new(alloc),
+        }
+    }
+
+    /// Reads the next piece of the capture, and adds the frames that are whole now.
+    ///
+    /// The frames and the fault do not depend on how the capture was cut into pieces. Faults: `NotPcap` or `IsPcapng`
+    /// by the first four bytes; `BadVersion`, then `LinkType`, once the heading is there; `RecordTooLong` once a
+    /// record's own bytes are there; `NoMemory`. The frames before the fault were added. After any fault each later
+    /// call answers `Failed`.
+    pub fn feed(
+        &mut self,
+        alloc: Global,
+        piece: &[u8],
+        out: &mut Vec<Frame>,
+    ) -> Result<(), PcapFault>
+        ensures ok { OnOk result (record { frames = out.new.items; fault = None; state = self.new }
+            ≡ prepend out.old.items (reading self.old piece.now)) }
+        ensures err { IfErr result (λ fault. (self.new ≡ broken) × Stops (prepend out.old.items (reading self.old piece.now)) out.new.items fault) }
+        ensures so_far { (bytes : List ℕ) (before : List FrameValue) → IsSoFar bytes before self.old out.old.items → MatchResult result
+            (λ _. IsSoFar (bytes ++ piece.now) before self.new out.new.items)
+            (λ fault. Stops (prepend before (capture (bytes ++ piece.now))) out.new.items fault) }
+    {
+        match self.advance(alloc, piece, out) {
+            Ok(()) => Ok(()),
+            Err(fault) => Err(fault),
+        }
+    }
+
+    fn advance(
+        &mut self,
+        alloc: Global,
+        piece: &[u8],
+        out: &mut Vec<Frame>,
+    ) -> Result<(), PcapFault>
+        ensures ok { OnOk result (record { frames = out.new.items; fault = None; state = self.new }
+            ≡ prepend out.old.items (reading self.old piece.now)) }
+        ensures err { IfErr result (λ fault. (self.new ≡ broken) × Stops (prepend out.old.items (reading self.old piece.now)) out.new.items fault) }
+    {
+        let read = match self.stage {
+            Stage::Opening => read_heading(alloc, &mut self.rest, piece, out),
+            Stage::Records(heading) => {
+                match read_records(alloc, &heading, &mut self.rest, piece, out) {
+                    Ok(()) => Ok(Stage::Records(heading)),
+                    Err(fault) => Err(fault),
+                }
+            }
+            Stage::Broken => Err(PcapFault::Failed),
+        };
+        match read {
+            Ok(stage) => {
+                self.stage = stage;
+                Ok(())
+            }
+            Err(fault) => {
+                self.stage = Stage::Broken;
+                self.rest.clear();
+                Err(fault)
+            }
+        }
+    }
+
+    /// Ends the capture. `Ok` changes nothing.
+    ///
+    /// Refused: `Truncated` in the middle of the heading or of a record, and `Failed` after any fault.
+    pub fn finish(&mut self) -> Result<(), PcapFault>
+        ensures { MatchResult result
+            (λ _. (ending self.old ≡ None) × (self.new ≡ self.old))
+            (λ fault. (ending self.old ≡ Some fault) × (self.new ≡ broken)) }
+    {
+        let fault = match self.stage {
+            Stage::Records(_) if self.rest.is_empty() => return Ok(()),
+            Stage::Opening | Stage::Records(_) => PcapFault::Truncated,
+            Stage::Broken => PcapFault::Failed,
+        };
+        self.stage = Stage::Broken;
+        self.rest.clear();
+        Err(fault)
+    }
+
+    /// How far it was read, and with which heading.
+    pub fn stage(&self) -> Stage
+        ensures { result ≡ self.now.stage }
+    {
+        self.stage
+    }
+}
+
+/// Reads a piece of a capture whose heading is not yet there whole, and answers how far it came.
+fn read_heading(
+    alloc: Global,
+    rest: &mut Vec<u8>,
+    piece: &[u8],
+    out: &mut Vec<Frame>,
+) -> Result<Stage, PcapFault>
+    requires { heading_of rest.old.items ≡ None }
+    ensures ok { IfOk result (λ stage. record { frames = out.new.items; fault = None; state = record { stage = stage; rest = rest.new.items } }
+        ≡ prepend out.old.items (capture (rest.old.items ++ piece.now))) }
+    ensures settled { IfOk result (λ stage. IsSettled stage rest.new.items) }
+    ensures err { IfErr result (λ fault. Stops (prepend out.old.items (capture (rest.old.items ++ piece.now))) out.new.items fault) }
+{
+    let Ok(left) = draw(rest, piece, 24) else {
+        return Err(PcapFault::NoMemory);
+    };
+    match heading_at_front(rest) {
+        None => Ok(Stage::Opening),
+        Some(Err(fault)) => Err(fault),
+        Some(Ok(heading)) => {
+            rest.clear();
+            match read_whole(alloc, &heading, rest, left, out) {
+                Ok(()) => Ok(Stage::Records(heading)),
+                Err(fault) => Err(fault),
+            }
+        }
+    }
+}
+
+/// A law of captures: the frames, the fault and how it goes on are the same wherever the bytes are cut.
+#[tactic(auto, using(crate::proofs::CutLaws::reading_cut))]
+pub fn wherever_it_is_cut()
+    ensures { (state : CaptureState) (front back : List ℕ) → reading state (front ++ back) ≡ continued (reading state front) back }
+{}

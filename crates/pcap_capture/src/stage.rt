@@ -1,0 +1,12 @@
+use crate::heading::Heading;
+
+/// How far a capture has been read.
+#[derive(Clone, Copy, Debug, PartialEq, Eq, Hash)]
+pub enum Stage {
+    /// Its heading is not yet there whole.
+    Opening,
+    /// It has this heading, and records come.
+    Records(Heading),
+    /// A fault was answered.
+    Broken,
+}
