@@ -9,7 +9,7 @@ use std::io::{self, Read, Write};
 use std::process::ExitCode;
 
 /// The bit-nanoseconds of one token.
-const TOKEN: u128 = 8_000_000_000;
+const TOKEN: u64 = 8_000_000_000;
 
 /// The most arrivals that one run answers.
 const MOST_ARRIVALS: u64 = 1 << 20;
@@ -75,7 +75,8 @@ struct Bucket {
     rate: u64,
     size: u64,
     level: u64,
-    given: u128,
+    /// The part of the next token that was given, in bit-nanoseconds.
+    begun: u64,
 }
 
 impl Bucket {
@@ -84,17 +85,22 @@ impl Bucket {
             rate,
             size,
             level: size,
-            given: 0,
+            begun: 0,
         }
     }
 
-    /// Takes in the tokens of the time since the origin that it has not got yet.
-    fn fill(&mut self, elapsed: u64) {
-        let given = u128::from(self.rate) * u128::from(elapsed) / TOKEN;
-        let gained = given - self.given;
-        self.given = given;
+    /// Takes in the tokens of a gap: in 64 bits where the bit-nanoseconds fit them.
+    fn fill(&mut self, gap: u64) {
         let room = self.size - self.level;
-        self.level += u64::try_from(gained).map_or(room, |gained| gained.min(room));
+        let bits = self.rate.checked_mul(gap).and_then(|bits| bits.checked_add(self.begun));
+        if let Some(bits) = bits {
+            self.level += room.min(bits / TOKEN);
+            self.begun = bits % TOKEN;
+        } else {
+            let bits = u128::from(self.rate) * u128::from(gap) + u128::from(self.begun);
+            self.level += u64::try_from(bits / u128::from(TOKEN)).map_or(room, |tokens| tokens.min(room));
+            self.begun = (bits % u128::from(TOKEN)) as u64;
+        }
     }
 
     /// Takes the tokens for so many bytes out, or none.
@@ -110,7 +116,6 @@ impl Bucket {
 /// A two-rate three-colour meter (RFC 2698).
 struct Meter {
     aware: bool,
-    origin: u64,
     newest: u64,
     committed: Bucket,
     peak: Bucket,
@@ -118,10 +123,11 @@ struct Meter {
 
 impl Meter {
     fn admit(&mut self, moment: u64, bytes: u64, came: Colour) -> Colour {
-        self.newest = self.newest.max(moment);
-        let elapsed = self.newest - self.origin;
-        self.committed.fill(elapsed);
-        self.peak.fill(elapsed);
+        let used = self.newest.max(moment);
+        let gap = used - self.newest;
+        self.newest = used;
+        self.committed.fill(gap);
+        self.peak.fill(gap);
         let seen = if self.aware { came } else { Colour::Green };
         if seen == Colour::Red || !self.peak.take(bytes) {
             Colour::Red
@@ -310,7 +316,6 @@ fn meter(words: &[String]) -> Option<Meter> {
     );
     (committed.rate <= peak.rate).then_some(Meter {
         aware,
-        origin,
         newest: origin,
         committed,
         peak,

@@ -1,30 +1,13 @@
--- A window of time gets what the rate gives over it, and at most one token more, wherever the tokens are counted from.
+-- What a meter's tokens, counted from its origin, say of every window of time.
 use Rattle.std.proofs.Common.{◌≡◌, ℕ, ◌+◌, ◌-◌, ◌*◌, ◌/◌, ◌<◌, ◌≤◌, inl, inr, List, refl, arith, get_or}
-use Rattle.std.proofs.Math.Nat.{mul-add, mul-le-mul_left}
+use Rattle.std.proofs.Math.Nat.{mul-le-mul_left}
 use Rattle.std.proofs.lemmas.Bool.{cases_lt}
 use Rattle.std.specs.List.{sum_by, All}
 use Rattle.moment_core.specs.Conformance.{size_within, Keeps}
 use Rattle.moment_core.specs.Tokens.{given}
+use Rattle.moment_core.proofs.FillingLaws.{given-window}
 use Rattle.envelope_core.proofs.Quotients.{bytes_mono}
 use Rattle.envelope_core.proofs.Windows.{sum_by-mono, sum_by-none, size_within_cases, size_within_inside, size_within_after}
-
--- what a rate gives over a span is what it gives over its parts
-split : (rate origin start end : ℕ) → origin ≤ start → start ≤ end → rate * (end - origin) ≡ rate * (start - origin) + rate * (end - start)
-split rate origin start end a b =
-    let whole : end - origin ≡ (start - origin) + (end - start) = omega arith in
-    rw (whole, mul-add) refl
-
--- a window gets at least what the rate gives over it, a begun byte left out
-pub given_least : (rate origin start end : ℕ) → origin ≤ start → start ≤ end
-    → given rate origin start + rate * (end - start) / 8000000000 ≤ given rate origin end
-unfolding given
-given_least rate origin start end a b = rw (split rate origin start end a b) (omega arith)
-
--- and at most one token more
-pub given_most : (rate origin start end : ℕ) → origin ≤ start → start ≤ end
-    → given rate origin end ≤ given rate origin start + rate * (end - start) / 8000000000 + 1
-unfolding given
-given_most rate origin start end a b = rw (split rate origin start end a b) (omega arith)
 
 -- Items of a meter, none before its origin, of which no window from the origin on holds more than a burst and the tokens
 -- given over it, keep the rate and that burst with one byte more.
@@ -34,7 +17,7 @@ pub Keeps-from_given : (rate burst origin : ℕ) (items : List (ℕ × ℕ))
     → Keeps rate (burst + 1) items
 Keeps-from_given rate burst origin items born within start end ordered =
     elim (cases_lt start origin) [
-      | inr begun ↦ omega (arith, within start end begun ordered, given_most rate origin start end begun ordered)
+      | inr begun ↦ omega (arith, within start end begun ordered, given-window rate origin start end ordered)
       | inl early ↦
           elim (cases_lt end origin) [
             | inl unborn ↦ omega (arith, sum_by-none (size_within start end) items (λ k d h. let by = born k d h in size_within_after start end (get_or items k d) (omega (arith, by))))
@@ -42,7 +25,7 @@ Keeps-from_given rate burst origin items born within start end ordered =
                 let less = sum_by-mono (size_within start end) (size_within origin end) items (λ k d h. narrow (get_or items k d) (born k d h)) in
                 let longer : end - origin ≤ end - start = omega arith in
                 let product = mul-le-mul_left rate longer in
-                omega (arith, less, within origin end (omega arith) ended, given_most rate origin origin end (omega arith) ended, bytes_mono (rate * (end - origin)) (rate * (end - start)) product)
+                omega (arith, less, within origin end (omega arith) ended, given-window rate origin origin end ended, bytes_mono (rate * (end - origin)) (rate * (end - start)) product)
           ]
     ]
   where

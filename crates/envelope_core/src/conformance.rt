@@ -6,6 +6,9 @@ use crate::envelope::Envelope;
 use moment_core::Moment;
 use moment_core::tokens::TOKEN;
 
+/// The bit-nanoseconds of one byte.
+const BYTE: u128 = TOKEN as u128;
+
 /// Whether no moment is before the one that stands ahead of it.
 pub fn in_order(items: &[(Moment, u32)]) -> bool
     ensures { IsTrue result ↔ IsInOrder items.now }
@@ -27,12 +30,12 @@ pub fn keeps(items: &[(Moment, u32)], envelope: Envelope) -> Result<(), usize>
     ensures over { IfErr result (λ j. ¬ KeepsCurve envelope (take (j + 1) items.now)) }
 {
     let rate = u128::from(envelope.rate());
-    let limit = TOKEN * u128::from(envelope.burst());
+    let limit = BYTE * u128::from(envelope.burst());
     let mut backlog = 0u128;
     let mut newest = 0;
     for (index, (moment, size)) in items.iter().enumerate() {
         let drained = rate * u128::from(moment.get() - newest);
-        backlog = backlog.saturating_sub(drained) + TOKEN * u128::from(*size);
+        backlog = backlog.saturating_sub(drained) + BYTE * u128::from(*size);
         if backlog > limit {
             return Err(index);
         }

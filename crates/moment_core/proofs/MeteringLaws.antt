@@ -1,10 +1,10 @@
 -- How the parts of a metering step compute, over any rules.
-use Rattle.std.proofs.Common.{◌≡◌, ℕ, ◌+◌, ◌-◌, ◌<◌, ◌≤◌, zero, suc, refl, sym, ◌∙◌, ap, arith}
+use Rattle.std.proofs.Common.{◌≡◌, ℕ, ◌+◌, ◌-◌, ◌*◌, ◌/◌, ◌%◌, ◌<◌, ◌≤◌, zero, suc, refl, sym, ◌∙◌, ap, arith}
 use Rattle.std.proofs.lemmas.Bool.Decides.{nat_tests}
-use Rattle.moment_core.specs.Tokens.{each_nanosecond, given, tokens_at, with_tokens}
+use Rattle.moment_core.specs.Tokens.{each_nanosecond, given, begun_token, tokens_at, with_tokens}
 use Rattle.moment_core.specs.Metering.{Offer, Rules, State, after, colour_of, levels_at, seen, used}
 use Rattle.moment_core.specs.declared.colour.Colour.{Colour}
-use Rattle.moment_core.proofs.TokenLaws.{each_nanosecond-with_tokens, given-mono}
+use Rattle.moment_core.proofs.TokenLaws.{begun_token-since, each_nanosecond-with_tokens, given-since}
 
 -- the moment that is metered at is the later one
 pub used-later : (newest moment : ℕ) → newest < moment → used newest moment ≡ moment
@@ -66,17 +66,34 @@ unfolding after
 admitted-after rules m o before now newest left filled colour taken moved =
     rw (moved, taken, ← filled, admitted-colour rules m o before left filled colour) refl
 
--- what was counted up to the newest moment is no more than what has been given at a later one
-pub counted_le-given : (rate origin newest moment now counted : ℕ) → counted ≡ given rate origin newest → now ≡ used newest moment
-    → counted ≤ given rate origin now
-counted_le-given rate origin newest moment now counted c n = rw (c, n) (given-mono rate origin newest (used newest moment) (newest_le-used newest moment))
-
 -- the origin is not after the moment that is metered at
 pub origin_le-now : (origin newest moment now : ℕ) → origin ≤ newest → now ≡ used newest moment → origin ≤ now
 origin_le-now origin newest moment now begun n = rw n (omega (arith, newest_le-used newest moment))
 
+-- nor is the newest moment
+pub newest_le-now : (newest moment now : ℕ) → now ≡ used newest moment → newest ≤ now
+newest_le-now newest moment now n = rw n (newest_le-used newest moment)
+
+-- The tokens that a meter draws with the part of a token that it kept are those that the token law gives from its newest
+-- moment to the one that is metered at.
+pub drawn-used : (rate origin newest moment now gap carry : ℕ)
+    → origin ≤ newest → now ≡ used newest moment → gap ≡ now - newest → carry ≡ begun_token rate origin newest
+    → (rate * gap + carry) / 8000000000 ≡ given rate origin (used newest moment) - given rate origin newest
+drawn-used rate origin newest moment now gap carry begun n g c =
+    rw (c, g, n) (given-since rate origin newest (used newest moment) begun (newest_le-used newest moment))
+
+-- and what it keeps then is the part that is begun at that moment
+pub kept-used : (rate origin newest moment now gap carry over : ℕ)
+    → origin ≤ newest → now ≡ used newest moment → gap ≡ now - newest → carry ≡ begun_token rate origin newest
+    → over ≡ (rate * gap + carry) % 8000000000
+    → over ≡ begun_token rate origin now
+kept-used rate origin newest moment now gap carry over begun n g c o =
+    rw (o, c, g) (begun_token-since rate origin newest now begun (newest_le-now newest moment now n))
+
 -- a bucket that was filled up to the moment that is metered at, in the terms of its meter
-pub filled-used : (rate origin newest moment now counted size burst old new : ℕ)
-    → counted ≡ given rate origin newest → now ≡ used newest moment → size ≡ burst → new ≡ with_tokens size (given rate origin now - counted) old
-    → new ≡ with_tokens burst (given rate origin (used newest moment) - given rate origin newest) old
-filled-used rate origin newest moment now counted size burst old new c n s e = rw (← c, ← n, ← s) e
+pub filled-used : (rate origin newest moment now gap carry size old new : ℕ)
+    → origin ≤ newest → now ≡ used newest moment → gap ≡ now - newest → carry ≡ begun_token rate origin newest
+    → new ≡ with_tokens size ((rate * gap + carry) / 8000000000) old
+    → new ≡ with_tokens size (given rate origin (used newest moment) - given rate origin newest) old
+filled-used rate origin newest moment now gap carry size old new begun n g c e =
+    rw (← drawn-used rate origin newest moment now gap carry begun n g c) e

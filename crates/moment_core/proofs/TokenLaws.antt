@@ -1,10 +1,10 @@
 -- What the token law and a bucket's one-by-one filling come to in closed form.
-use Rattle.std.proofs.Common.{◌≡◌, ℕ, ◌+◌, ◌-◌, ◌*◌, ◌/◌, ◌<◌, ◌≤◌, zero, suc, refl, sym, ◌∙◌, ap, arith, add-zero, mul-zero, inl, inr}
-use Rattle.std.proofs.Math.Nat.{div-mul-le_self, mul-le-mul_left}
+use Rattle.std.proofs.Common.{◌≡◌, ℕ, ◌+◌, ◌-◌, ◌*◌, ◌/◌, ◌%◌, ◌<◌, ◌≤◌, zero, suc, refl, sym, ◌∙◌, ap, arith, add-zero, mul-zero, inl, inr}
+use Rattle.std.proofs.Math.Nat.{div-mul-le_self, mul-add, mul-le-mul_left}
 use Rattle.std.proofs.lemmas.Nat.{le-div}
 use Rattle.std.proofs.lemmas.Bool.{cases_lt}
 use Rattle.std.proofs.lemmas.Bool.Decides.{nat_tests}
-use Rattle.moment_core.specs.Tokens.{given, tokens_at, each_nanosecond, with_token, with_tokens}
+use Rattle.moment_core.specs.Tokens.{given, begun_token, tokens_at, each_nanosecond, with_token, with_tokens}
 
 -- a quotient does not fall where what is divided does not
 pub div-mono : (a b : ℕ) → a ≤ b → a / 8000000000 ≤ b / 8000000000
@@ -17,12 +17,37 @@ given-mono rate origin begin end h =
     let later : begin - origin ≤ end - origin = omega arith in
     div-mono (rate * (begin - origin)) (rate * (end - origin)) (mul-le-mul_left rate later)
 
--- nothing has been given at the origin
-pub given-origin : (rate origin : ℕ) → given rate origin origin ≡ 0
-unfolding given
-given-origin rate origin =
+-- no token has been begun at the origin
+pub begun_token-origin : (rate origin : ℕ) → begun_token rate origin origin ≡ 0
+unfolding begun_token
+begun_token-origin rate origin =
     let none : origin - origin ≡ 0 = omega arith in
     rw (none, mul-zero) refl
+
+div-carry : (first more : ℕ) → (more + first % 8000000000) / 8000000000 ≡ (first + more) / 8000000000 - first / 8000000000
+div-carry first more = omega arith
+
+mod-carry : (first more : ℕ) → (more + first % 8000000000) % 8000000000 ≡ (first + more) % 8000000000
+mod-carry first more = omega arith
+
+product-since : (rate origin newest now : ℕ) → origin ≤ newest → newest ≤ now → rate * (newest - origin) + rate * (now - newest) ≡ rate * (now - origin)
+product-since rate origin newest now begun later =
+    let parts : now - origin ≡ (newest - origin) + (now - newest) = omega arith in
+    rw parts (sym (mul-add rate (newest - origin) (now - newest)))
+
+-- the tokens of a span are those of its length beside the part of a token that was begun before it
+pub given-since : (rate origin newest now : ℕ) → origin ≤ newest → newest ≤ now
+    → (rate * (now - newest) + begun_token rate origin newest) / 8000000000 ≡ given rate origin now - given rate origin newest
+unfolding given begun_token
+given-since rate origin newest now begun later =
+    rw (← product-since rate origin newest now begun later) (div-carry (rate * (newest - origin)) (rate * (now - newest)))
+
+-- and what is over is the part of the next one
+pub begun_token-since : (rate origin newest now : ℕ) → origin ≤ newest → newest ≤ now
+    → (rate * (now - newest) + begun_token rate origin newest) % 8000000000 ≡ begun_token rate origin now
+unfolding begun_token
+begun_token-since rate origin newest now begun later =
+    rw (← product-since rate origin newest now begun later) (mod-carry (rate * (newest - origin)) (rate * (now - newest)))
 
 pub with_token-below : (size level : ℕ) → level < size → with_token size level ≡ level + 1
 unfolding with_token

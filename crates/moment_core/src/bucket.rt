@@ -1,8 +1,10 @@
-ghost use Rattle.std.specs.Prelude.{◌≡◌, ◌+◌, ◌-◌, ◌≤◌, ◌↔◌, IsTrue, if◌then◌else◌};
-ghost use Rattle.moment_core.specs.Tokens.{given, with_tokens};
+ghost use Rattle.std.specs.Prelude.{◌≡◌, ◌+◌, ◌*◌, ◌/◌, ◌%◌, ◌≤◌, ◌↔◌, IsTrue, if◌then◌else◌};
+ghost use Rattle.moment_core.specs.Excess.{coloured, without};
+ghost use Rattle.moment_core.specs.Tokens.{with_tokens};
 
-use crate::quantity::{Moment, PacketSize, Rate};
-use crate::tokens::tokens_given;
+use crate::colour::Colour;
+use crate::quantity::{Gap, PacketSize, Rate};
+use crate::tokens::tokens_over;
 
 /// A token bucket: its level and its size, in bytes (RFC 2697 section 3, RFC 2698 section 3).
 #[derive(Clone, Copy, Debug, PartialEq, Eq, Hash)]
@@ -30,39 +32,22 @@ impl Bucket {
         ensures surplus { self.new.level + result ≡ self.old.level + tokens }
         ensures size { self.new.size ≡ self.old.size }
     {
-        let room = self.size - self.level;
-        match u32::try_from(tokens) {
-            Ok(few) if few <= room => {
-                self.level += few;
-                0
-            }
-            _ => {
-                self.level = self.size;
-                tokens - u128::from(room)
-            }
-        }
+        let room = u128::from(self.size - self.level);
+        let taken = tokens.min(room);
+        self.level += taken as u32;
+        tokens - taken
     }
 
-    /// Takes in what a rate has given since `counted` tokens were given, up to a moment, and answers how many tokens
-    /// found it full; `counted` is brought up to the moment too. One division.
-    pub fn fill_to(
-        &mut self,
-        counted: &mut u128,
-        rate: Rate,
-        origin: Moment,
-        moment: Moment,
-    ) -> u128
-        requires begun { origin ≤ moment }
-        requires counted { counted.old ≤ given rate origin moment }
-        ensures counted { counted.new ≡ given rate origin moment }
-        ensures level { self.new.level ≡ with_tokens self.old.size (given rate origin moment - counted.old) self.old.level }
-        ensures surplus { self.new.level + result ≡ self.old.level + (given rate origin moment - counted.old) }
+    /// Takes in the tokens that a rate gives over a gap beside the part of a token that it gave before, `carry`, and
+    /// answers how many of them found it full; from then on `carry` is the part that is over, in bit-nanoseconds.
+    pub fn fill_over(&mut self, rate: Rate, gap: Gap, carry: &mut u64) -> u128
+        ensures carry { carry.new ≡ (rate * gap + carry.old) % 8000000000 }
+        ensures level { self.new.level ≡ with_tokens self.old.size ((rate * gap + carry.old) / 8000000000) self.old.level }
+        ensures surplus { self.new.level + result ≡ self.old.level + (rate * gap + carry.old) / 8000000000 }
         ensures size { self.new.size ≡ self.old.size }
     {
-        let before = *counted;
-        let now = tokens_given(rate, origin, moment);
-        *counted = now;
-        self.refill(now - before)
+        let tokens = tokens_over(rate, gap, carry);
+        self.refill(tokens)
     }
 
     /// Whether it holds the tokens for so many bytes.
@@ -83,5 +68,30 @@ impl Bucket {
             self.level -= u32::from(bytes.get());
         }
         taken
+    }
+}
+
+/// Takes a packet's bytes out of the bucket that its colour names, and answers that colour: green where it is seen green
+/// and the committed bucket has enough, else yellow where it is not seen red and the excess bucket has enough, else red
+/// (RFC 2697 section 3, RFC 4115 section 2).
+#[tactic(auto, unfolding(crate::specs::Excess::coloured, crate::specs::Excess::without))]
+pub fn take_committed_or_excess(
+    committed: &mut Bucket,
+    excess: &mut Bucket,
+    size: PacketSize,
+    seen: Colour,
+) -> Colour
+    ensures colour { result ≡ coloured (record { committed = committed.old.level; excess = excess.old.level }) size seen }
+    ensures levels { record { committed = committed.new.level; excess = excess.new.level }
+        ≡ without (record { committed = committed.old.level; excess = excess.old.level }) size result }
+    ensures committed_size { committed.new.size ≡ committed.old.size }
+    ensures excess_size { excess.new.size ≡ excess.old.size }
+{
+    if seen == Colour::Green && committed.take(size) {
+        Colour::Green
+    } else if seen != Colour::Red && excess.take(size) {
+        Colour::Yellow
+    } else {
+        Colour::Red
     }
 }

@@ -7,8 +7,8 @@ pub mod quantity;
 pub mod tokens;
 pub mod volume;
 
-pub use bucket::Bucket;
+pub use bucket::{Bucket, take_committed_or_excess};
 pub use colour::{Colour, Mode};
 pub use quantity::{Gap, Moment, OutOfRange, PacketSize, Rate};
-pub use tokens::{tokens_between, tokens_given};
+pub use tokens::{tokens_between, tokens_given, tokens_over};
 pub use volume::{bytes_over_ceil, drain_gap};

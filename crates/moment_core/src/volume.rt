@@ -9,7 +9,7 @@ use crate::tokens::TOKEN;
 pub fn bytes_over_ceil(rate: u64, gap: Gap) -> u128
     ensures { result ≡ bytes_over rate gap }
 {
-    (u128::from(rate) * u128::from(gap.get())).div_ceil(TOKEN)
+    (u128::from(rate) * u128::from(gap.get())).div_ceil(u128::from(TOKEN))
 }
 
 /// The least whole number of nanoseconds in which a rate in bits per second, at least 1, gives so many bytes: below 2^97
@@ -18,7 +18,7 @@ pub fn drain_gap(rate: u64, bytes: u64) -> u128
     requires { 1 ≤ rate }
     ensures { result ≡ nanoseconds_for rate bytes }
 {
-    (u128::from(bytes) * TOKEN).div_ceil(u128::from(rate))
+    (u128::from(bytes) * u128::from(TOKEN)).div_ceil(u128::from(rate))
 }
 
 #[cfg(test)]

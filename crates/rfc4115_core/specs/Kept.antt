@@ -2,7 +2,7 @@
 use Rattle.std.specs.Prelude.{◌≡◌, ◌≤◌, refl}
 use Rattle.moment_core.specs.Excess.{Levels}
 use Rattle.moment_core.specs.Metering.{State}
-use Rattle.moment_core.specs.Tokens.{given}
+use Rattle.moment_core.specs.Tokens.{begun_token}
 use Rattle.rfc4115_core.specs.declared.meter.Rfc4115.TheInside.{Inside}
 use Rattle.rfc4115_core.specs.declared.parameters.Rfc4115Parameters.{Rfc4115Parameters}
 
@@ -15,13 +15,13 @@ state_of m = record {
   levels = record { committed = m.committed_level; excess = m.excess_level };
 }
 
--- the buckets are within their sizes, and what they were given is counted from the origin
+-- the buckets are within their sizes, and the part of a token that is begun is counted from the origin
 pub record IsKept (m : Inside) : Type 0 where
   pub begun : m.origin ≤ m.newest
   pub committed_within : m.committed_level ≤ m.parameters.committed_burst
-  pub committed_given : m.committed_given ≡ given m.parameters.committed_rate m.origin m.newest
+  pub committed_begun : m.committed_begun ≡ begun_token m.parameters.committed_rate m.origin m.newest
   pub excess_within : m.excess_level ≤ m.parameters.excess_burst
-  pub excess_given : m.excess_given ≡ given m.parameters.excess_rate m.origin m.newest
+  pub excess_begun : m.excess_begun ≡ begun_token m.parameters.excess_rate m.origin m.newest
 
 -- a state has just one meter that stands for it
 abbrev pub fields_of : State Rfc4115Parameters Levels → Inside
@@ -31,10 +31,10 @@ fields_of s = record {
   origin = s.origin;
   newest = s.newest;
   committed_level = s.levels.committed;
-  committed_given = given s.parameters.committed_rate s.origin s.newest;
+  committed_begun = begun_token s.parameters.committed_rate s.origin s.newest;
   excess_level = s.levels.excess;
-  excess_given = given s.parameters.excess_rate s.origin s.newest;
+  excess_begun = begun_token s.parameters.excess_rate s.origin s.newest;
 }
 
 pub fields_of-state_of : (m : Inside) → IsKept m → fields_of (state_of m) ≡ m
-fields_of-state_of m kept = rw (← kept.committed_given, ← kept.excess_given) refl
+fields_of-state_of m kept = rw (← kept.committed_begun, ← kept.excess_begun) refl

@@ -1,10 +1,9 @@
 ghost use Rattle.std.specs.Prelude.{◌≡◌, ◌<◌, ◌^◌, Option, None, Some, IfOk, IfErr, MatchResult};
-ghost use Rattle.moment_core.specs.Excess.{coloured, without};
 ghost use Rattle.moment_core.specs.Metering.{after, colour_of, opening};
 ghost use Rattle.rfc4115_core.specs.SeparateRates.{fault_of, separate_rates};
 
 use crate::parameters::{Rfc4115Fault, Rfc4115Parameters};
-use moment_core::{Bucket, Colour, Mode, Moment, PacketSize};
+use moment_core::{Bucket, Colour, Mode, Moment, PacketSize, take_committed_or_excess};
 use std::marker::Model;
 
 /// A three-colour meter at work (RFC 4115): a committed and an excess bucket, full at the meter's origin, each filled
@@ -16,9 +15,9 @@ pub struct Rfc4115 {
     origin: Moment,
     newest: Moment,
     committed_level: u32,
-    committed_given: u128,
+    committed_begun: u64,
     excess_level: u32,
-    excess_given: u128,
+    excess_begun: u64,
 }
 
 impl Model for Rfc4115 {
@@ -62,9 +61,9 @@ impl Rfc4115 {
                 origin,
                 newest: origin,
                 committed_level: parameters.committed_burst,
-                committed_given: 0,
+                committed_begun: 0,
                 excess_level: parameters.excess_burst,
-                excess_given: 0,
+                excess_begun: 0,
             }),
         }
     }
@@ -98,50 +97,24 @@ impl Rfc4115 {
         ensures after { self.new ≡ after separate_rates self.old (record { moment = moment; size = size; came = colour }) }
     {
         let used = self.newest.used_for(moment);
+        let gap = used.since(self.newest);
         let parameters = self.parameters;
         let mut committed = Bucket {
             level: self.committed_level,
             size: parameters.committed_burst,
         };
-        committed.fill_to(
-            &mut self.committed_given,
-            parameters.committed_rate,
-            self.origin,
-            used,
-        );
+        committed.fill_over(parameters.committed_rate, gap, &mut self.committed_begun);
         let mut excess = Bucket {
             level: self.excess_level,
             size: parameters.excess_burst,
         };
-        excess.fill_to(
-            &mut self.excess_given,
-            parameters.excess_rate,
-            self.origin,
-            used,
-        );
-        let left = take(&mut committed, &mut excess, size, self.mode.seen(colour));
+        excess.fill_over(parameters.excess_rate, gap, &mut self.excess_begun);
+        let seen = self.mode.seen(colour);
+        let left = take_committed_or_excess(&mut committed, &mut excess, size, seen);
         self.newest = used;
         self.committed_level = committed.level;
         self.excess_level = excess.level;
         left
-    }
-}
-
-/// Takes a packet's bytes out of the bucket that its colour names, and answers that colour (RFC 4115 section 2).
-#[tactic(auto, unfolding(moment_core::specs::Excess::coloured, moment_core::specs::Excess::without))]
-fn take(committed: &mut Bucket, excess: &mut Bucket, size: PacketSize, seen: Colour) -> Colour
-    ensures colour { result ≡ coloured (record { committed = committed.old.level; excess = excess.old.level }) size seen }
-    ensures levels { record { committed = committed.new.level; excess = excess.new.level }
-        ≡ without (record { committed = committed.old.level; excess = excess.old.level }) size result }
-    ensures committed_size { committed.new.size ≡ committed.old.size }
-    ensures excess_size { excess.new.size ≡ excess.old.size }
-{
-    if seen == Colour::Green && committed.take(size) {
-        Colour::Green
-    } else if seen != Colour::Red && excess.take(size) {
-        Colour::Yellow
-    } else {
-        Colour::Red
     }
 }
 

@@ -2,7 +2,7 @@
 use Rattle.std.specs.Prelude.{◌≡◌, ◌≤◌, refl}
 use Rattle.moment_core.specs.Excess.{Levels}
 use Rattle.moment_core.specs.Metering.{State}
-use Rattle.moment_core.specs.Tokens.{given}
+use Rattle.moment_core.specs.Tokens.{begun_token}
 use Rattle.srtcm_core.specs.declared.meter.SrTcm.TheInside.{Inside}
 use Rattle.srtcm_core.specs.declared.parameters.SrTcmParameters.{SrTcmParameters}
 
@@ -15,12 +15,12 @@ state_of m = record {
   levels = record { committed = m.committed_level; excess = m.excess_level };
 }
 
--- the buckets are within their sizes, and what they were given is counted from the origin
+-- the buckets are within their sizes, and the part of a token that is begun is counted from the origin
 pub record IsKept (m : Inside) : Type 0 where
   pub begun : m.origin ≤ m.newest
   pub committed_within : m.committed_level ≤ m.parameters.committed_burst
   pub excess_within : m.excess_level ≤ m.parameters.excess_burst
-  pub committed_given : m.committed_given ≡ given m.parameters.committed_rate m.origin m.newest
+  pub committed_begun : m.committed_begun ≡ begun_token m.parameters.committed_rate m.origin m.newest
 
 -- a state has just one meter that stands for it
 abbrev pub fields_of : State SrTcmParameters Levels → Inside
@@ -31,8 +31,8 @@ fields_of s = record {
   newest = s.newest;
   committed_level = s.levels.committed;
   excess_level = s.levels.excess;
-  committed_given = given s.parameters.committed_rate s.origin s.newest;
+  committed_begun = begun_token s.parameters.committed_rate s.origin s.newest;
 }
 
 pub fields_of-state_of : (m : Inside) → IsKept m → fields_of (state_of m) ≡ m
-fields_of-state_of m kept = rw (← kept.committed_given) refl
+fields_of-state_of m kept = rw (← kept.committed_begun) refl

@@ -1,10 +1,9 @@
 ghost use Rattle.std.specs.Prelude.{◌≡◌, ◌<◌, ◌^◌, Option, None, Some, IfOk, IfErr, MatchResult};
-ghost use Rattle.moment_core.specs.Excess.{coloured, without};
 ghost use Rattle.moment_core.specs.Metering.{after, colour_of, opening};
 ghost use Rattle.srtcm_core.specs.SingleRate.{fault_of, single_rate};
 
 use crate::parameters::{SrTcmFault, SrTcmParameters};
-use moment_core::{Bucket, Colour, Mode, Moment, PacketSize};
+use moment_core::{Bucket, Colour, Mode, Moment, PacketSize, take_committed_or_excess};
 use std::marker::Model;
 
 /// A single-rate three-colour meter at work (RFC 2697): a committed and an excess bucket, full at the meter's origin,
@@ -17,7 +16,7 @@ pub struct SrTcm {
     newest: Moment,
     committed_level: u32,
     excess_level: u32,
-    committed_given: u128,
+    committed_begun: u64,
 }
 
 impl Model for SrTcm {
@@ -58,7 +57,7 @@ impl SrTcm {
                 newest: origin,
                 committed_level: parameters.committed_burst,
                 excess_level: parameters.excess_burst,
-                committed_given: 0,
+                committed_begun: 0,
             }),
         }
     }
@@ -92,41 +91,25 @@ impl SrTcm {
         ensures after { self.new ≡ after single_rate self.old (record { moment = moment; size = size; came = colour }) }
     {
         let used = self.newest.used_for(moment);
+        let gap = used.since(self.newest);
         let parameters = self.parameters;
         let mut committed = Bucket {
             level: self.committed_level,
             size: parameters.committed_burst,
         };
-        let (given, rate) = (&mut self.committed_given, parameters.committed_rate);
-        let surplus = committed.fill_to(given, rate, self.origin, used);
+        let surplus =
+            committed.fill_over(parameters.committed_rate, gap, &mut self.committed_begun);
         let mut excess = Bucket {
             level: self.excess_level,
             size: parameters.excess_burst,
         };
         excess.refill(surplus);
-        let left = take(&mut committed, &mut excess, size, self.mode.seen(colour));
+        let seen = self.mode.seen(colour);
+        let left = take_committed_or_excess(&mut committed, &mut excess, size, seen);
         self.newest = used;
         self.committed_level = committed.level;
         self.excess_level = excess.level;
         left
-    }
-}
-
-/// Takes a packet's bytes out of the bucket that its colour names, and answers that colour (RFC 2697 section 3).
-#[tactic(auto, unfolding(moment_core::specs::Excess::coloured, moment_core::specs::Excess::without))]
-fn take(committed: &mut Bucket, excess: &mut Bucket, size: PacketSize, seen: Colour) -> Colour
-    ensures colour { result ≡ coloured (record { committed = committed.old.level; excess = excess.old.level }) size seen }
-    ensures levels { record { committed = committed.new.level; excess = excess.new.level }
-        ≡ without (record { committed = committed.old.level; excess = excess.old.level }) size result }
-    ensures committed_size { committed.new.size ≡ committed.old.size }
-    ensures excess_size { excess.new.size ≡ excess.old.size }
-{
-    if seen == Colour::Green && committed.take(size) {
-        Colour::Green
-    } else if seen != Colour::Red && excess.take(size) {
-        Colour::Yellow
-    } else {
-        Colour::Red
     }
 }
 

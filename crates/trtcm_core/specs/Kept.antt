@@ -1,7 +1,7 @@
 -- What the fields of a meter stand for, and what they keep.
 use Rattle.std.specs.Prelude.{◌≡◌, ◌≤◌, refl}
 use Rattle.moment_core.specs.Metering.{State}
-use Rattle.moment_core.specs.Tokens.{given}
+use Rattle.moment_core.specs.Tokens.{begun_token}
 use Rattle.trtcm_core.specs.declared.meter.TrTcm.TheInside.{Inside}
 use Rattle.trtcm_core.specs.declared.parameters.TrTcmParameters.{TrTcmParameters}
 use Rattle.trtcm_core.specs.TwoRate.{Levels}
@@ -15,13 +15,13 @@ state_of m = record {
   levels = record { committed = m.committed_level; peak = m.peak_level };
 }
 
--- the buckets are within their sizes, and what they were given is counted from the origin
+-- the buckets are within their sizes, and the part of a token that is begun is counted from the origin
 pub record IsKept (m : Inside) : Type 0 where
   pub begun : m.origin ≤ m.newest
   pub committed_within : m.committed_level ≤ m.parameters.committed_burst
-  pub committed_given : m.committed_given ≡ given m.parameters.committed_rate m.origin m.newest
+  pub committed_begun : m.committed_begun ≡ begun_token m.parameters.committed_rate m.origin m.newest
   pub peak_within : m.peak_level ≤ m.parameters.peak_burst
-  pub peak_given : m.peak_given ≡ given m.parameters.peak_rate m.origin m.newest
+  pub peak_begun : m.peak_begun ≡ begun_token m.parameters.peak_rate m.origin m.newest
 
 -- a state has just one meter that stands for it
 abbrev pub fields_of : State TrTcmParameters Levels → Inside
@@ -31,10 +31,10 @@ fields_of s = record {
   origin = s.origin;
   newest = s.newest;
   committed_level = s.levels.committed;
-  committed_given = given s.parameters.committed_rate s.origin s.newest;
+  committed_begun = begun_token s.parameters.committed_rate s.origin s.newest;
   peak_level = s.levels.peak;
-  peak_given = given s.parameters.peak_rate s.origin s.newest;
+  peak_begun = begun_token s.parameters.peak_rate s.origin s.newest;
 }
 
 pub fields_of-state_of : (m : Inside) → IsKept m → fields_of (state_of m) ≡ m
-fields_of-state_of m kept = rw (← kept.committed_given, ← kept.peak_given) refl
+fields_of-state_of m kept = rw (← kept.committed_begun, ← kept.peak_begun) refl

@@ -14,9 +14,9 @@ pub struct TrTcm {
     origin: Moment,
     newest: Moment,
     committed_level: u32,
-    committed_given: u128,
+    committed_begun: u64,
     peak_level: u32,
-    peak_given: u128,
+    peak_begun: u64,
 }
 
 impl Model for TrTcm {
@@ -57,9 +57,9 @@ impl TrTcm {
                 origin,
                 newest: origin,
                 committed_level: parameters.committed_burst,
-                committed_given: 0,
+                committed_begun: 0,
                 peak_level: parameters.peak_burst,
-                peak_given: 0,
+                peak_begun: 0,
             }),
         }
     }
@@ -93,27 +93,18 @@ impl TrTcm {
         ensures after { self.new ≡ after two_rate self.old (record { moment = moment; size = size; came = colour }) }
     {
         let used = self.newest.used_for(moment);
+        let gap = used.since(self.newest);
         let parameters = self.parameters;
         let mut committed = Bucket {
             level: self.committed_level,
             size: parameters.committed_burst,
         };
-        committed.fill_to(
-            &mut self.committed_given,
-            parameters.committed_rate,
-            self.origin,
-            used,
-        );
+        committed.fill_over(parameters.committed_rate, gap, &mut self.committed_begun);
         let mut peak = Bucket {
             level: self.peak_level,
             size: parameters.peak_burst,
         };
-        peak.fill_to(
-            &mut self.peak_given,
-            parameters.peak_rate,
-            self.origin,
-            used,
-        );
+        peak.fill_over(parameters.peak_rate, gap, &mut self.peak_begun);
         let left = take(&mut committed, &mut peak, size, self.mode.seen(colour));
         self.newest = used;
         self.committed_level = committed.level;

@@ -1,5 +1,5 @@
 use Rattle.std.proofs.Common.{arith, refl, sym}
-use Rattle.moment_core.proofs.TokenLaws.{given-origin}
+use Rattle.moment_core.proofs.TokenLaws.{begun_token-origin}
 use Rattle.moment_core.specs.Metering.{opening}
 use Rattle.rfc4115_core.specs.SeparateRates.{full, separate_rates}
 use Rattle.rfc4115_core.proofs.meter.Rfc4115.new.Goals as goal
@@ -8,9 +8,9 @@ pub invariant_of-result : goal.invariant_of-result
 invariant_of-result c = record {
   begun = omega arith;
   committed_within = omega arith;
-  committed_given = sym (given-origin c.args.parameters.committed_rate c.args.origin);
+  committed_begun = sym (begun_token-origin c.args.parameters.committed_rate c.args.origin);
   excess_within = omega arith;
-  excess_given = sym (given-origin c.args.parameters.excess_rate c.args.origin);
+  excess_begun = sym (begun_token-origin c.args.parameters.excess_rate c.args.origin);
 }
 
 pub returns-in-None : goal.returns-in-None

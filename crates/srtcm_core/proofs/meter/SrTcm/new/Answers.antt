@@ -1,5 +1,5 @@
 use Rattle.std.proofs.Common.{arith, refl, sym}
-use Rattle.moment_core.proofs.TokenLaws.{given-origin}
+use Rattle.moment_core.proofs.TokenLaws.{begun_token-origin}
 use Rattle.moment_core.specs.Metering.{opening}
 use Rattle.srtcm_core.specs.SingleRate.{full, single_rate}
 use Rattle.srtcm_core.proofs.meter.SrTcm.new.Goals as goal
@@ -9,7 +9,7 @@ invariant_of-result c = record {
   begun = omega arith;
   committed_within = omega arith;
   excess_within = omega arith;
-  committed_given = sym (given-origin c.args.parameters.committed_rate c.args.origin);
+  committed_begun = sym (begun_token-origin c.args.parameters.committed_rate c.args.origin);
 }
 
 pub returns-in-None : goal.returns-in-None
