@@ -1,5 +1,5 @@
 -- A domain with one more meter, port or link is still one.
-use Rattle.std.proofs.Common.{rules, ◌≡◌, ℕ, ◌+◌, ◌<◌, ◌≤◌, Bool, true, false, ◌&&◌, ◌||◌, List, [], ◌∷◌, ◌++◌, length, Option, None, Some, is_some, ◌⊎◌, inl, inr, IsTrue, IsSome, refl, sym, subst, ◌∙◌, ap, arith}
+use Rattle.std.proofs.Common.{rules, ◌≡◌, ℕ, ◌+◌, ◌<◌, ◌≤◌, Bool, true, false, ◌&&◌, ◌||◌, List, [], ◌∷◌, ◌++◌, length, Option, None, Some, is_some, ◌⊎◌, inl, inr, IsTrue, IsSome, if◌then◌else◌, refl, sym, subst, ◌∙◌, ap, arith}
 use Rattle.std.specs.Cmp.{IsEquivalence}
 use Rattle.std.specs.Cmp.Lexicographic.{bytes_decides, nat_list_eq_equiv}
 use Rattle.std.specs.Map.{lookup}
@@ -138,3 +138,31 @@ link_added now d es from to link same free put =
   where
     absent : lookup (same_ends (from, to)) now.links ≡ None
     absent = none_of (link_of now from to) (ap (λ x. is_some (link_of x from to)) same ∙ free)
+
+some_named : (b : Bool) (text name : List ℕ) → (if b then Some text else None) ≡ Some name → (b ≡ true) × (name ≡ text)
+some_named true text name p = (refl, search (rules, p))
+some_named false text name p = search (rules, p)
+
+-- a link between names that are written so
+pub link_put : (now d : Domain) (es : List ((List ℕ × List ℕ) × Link)) (from to start end : List ℕ) (link : Link) → now ≡ d → IsDomain now
+    → length now.links < 65536 → (if is_taken d from then Some from else None) ≡ Some start → (if is_meter d to then Some to else None) ≡ Some end
+    → is_some (link_of d start end) ≡ false → es ≡ insert_entry same_ends now.links (start, end) link
+    → IsDomain (record { meters = now.meters; ports = now.ports; links = es })
+        × (record { meters = now.meters; ports = now.ports; links = es } ≡ with_link d from to link)
+link_put now d es from to start end link same kept few left right free put = (subst IsDomain (sym added) whole, added)
+  where
+    first : (is_taken d from ≡ true) × (start ≡ from)
+    first = some_named (is_taken d from) from start left
+
+    second : (is_meter d to ≡ true) × (end ≡ to)
+    second = some_named (is_meter d to) to end right
+
+    plain : is_some (link_of d from to) ≡ false
+    plain = ap (λ a. is_some (link_of d a to)) (sym first.1) ∙ ap (λ b. is_some (link_of d start b)) (sym second.1) ∙ free
+
+    added : record { meters = now.meters; ports = now.ports; links = es } ≡ with_link d from to link
+    added = link_added now d es from to link same plain
+        (put ∙ ap (λ a. insert_entry same_ends now.links (a, end) link) first.1 ∙ ap (λ b. insert_entry same_ends now.links (from, b) link) second.1)
+
+    whole : IsDomain (with_link d from to link)
+    whole = IsDomain-with_link d from to link (subst IsDomain same kept) (subst (λ x. length x.links < 65536) same few) first.0 second.0 plain
