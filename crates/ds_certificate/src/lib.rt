@@ -1,0 +1,12 @@
+//! Certificates of a domain: bounds on the bursts of each contract at each hop of its path, the least ones, and their text.
+#![tactic(auto)]
+
+pub mod bound;
+pub mod certificate;
+pub mod fault;
+pub mod source;
+
+pub use bound::Bound;
+pub use certificate::{Bounds, Certificate};
+pub use fault::CertificateFault;
+pub use source::{Source, jitter};
