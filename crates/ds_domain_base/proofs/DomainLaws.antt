@@ -35,21 +35,26 @@ IsDomain-with_meter d name meter kept few good free = record {
   few_ports = kept.few_ports;
   few_links = kept.few_links;
   named = λ other found. elim (or_cases _ _ found) [
-      inl there ↦ elim (found_or_new d.meters name other meter (bytes_eq other name) refl there) [
-          inl same ↦ subst (λ n. IsTrue (is_name n)) (sym same) good
-        | inr old ↦ kept.named other (or_left _ _ old) ]
-    | inr there ↦ kept.named other (or_right (is_meter d other) _ there) ];
+    | inl there ↦ elim (found_or_new d.meters name other meter (bytes_eq other name) refl there) [
+      | inl same ↦ subst (λ n. IsTrue (is_name n)) (sym same) good
+      | inr old ↦ kept.named other (or_left _ _ old)
+    ]
+    | inr there ↦ kept.named other (or_right (is_meter d other) _ there)
+  ];
   meters_differ = keys_differ nat_list_eq_equiv d.meters name meter kept.meters_differ (or_parts _ _ free).0;
   ports_differ = kept.ports_differ;
   apart = λ other found. elim (found_or_new d.meters name other meter (bytes_eq other name) refl found) [
-      inl same ↦ subst (λ n. port_of d n ≡ None) (sym same) (none_of (port_of d name) (or_parts (is_meter d name) _ free).1)
-    | inr old ↦ kept.apart other old ];
+    | inl same ↦ subst (λ n. port_of d n ≡ None) (sym same) (none_of (port_of d name) (or_parts (is_meter d name) _ free).1)
+    | inr old ↦ kept.apart other old
+  ];
   links_differ = kept.links_differ;
-  linked = λ from to found. let old = kept.linked from to found in
-      (elim (or_cases _ _ old.0) [
-          inl there ↦ or_left _ _ (still_found (bytes_eq from) d.meters ((name, meter) ∷ []) there)
-        | inr there ↦ or_right (is_meter (with_meter d name meter) from) _ there ],
-       still_found (bytes_eq to) d.meters ((name, meter) ∷ []) old.1);
+  linked = λ from to found. let old = kept.linked from to found in (
+    elim (or_cases _ _ old.0) [
+      | inl there ↦ or_left _ _ (still_found (bytes_eq from) d.meters ((name, meter) ∷ []) there)
+      | inr there ↦ or_right (is_meter (with_meter d name meter) from) _ there
+    ],
+    still_found (bytes_eq to) d.meters ((name, meter) ∷ []) old.1,
+  );
 }
 
 -- the entries after the insertion of a name that is not taken are those of the domain with one more
@@ -69,19 +74,23 @@ IsDomain-with_port d name port kept few good free = record {
   few_ports = length-push d.ports (name, port) 1024 few;
   few_links = kept.few_links;
   named = λ other found. elim (or_cases _ _ found) [
-      inl there ↦ kept.named other (or_left _ _ there)
+    | inl there ↦ kept.named other (or_left _ _ there)
     | inr there ↦ elim (found_or_new d.ports name other port (bytes_eq other name) refl there) [
-          inl same ↦ subst (λ n. IsTrue (is_name n)) (sym same) good
-        | inr old ↦ kept.named other (or_right (is_meter d other) _ old) ] ];
+      | inl same ↦ subst (λ n. IsTrue (is_name n)) (sym same) good
+      | inr old ↦ kept.named other (or_right (is_meter d other) _ old)
+    ]
+  ];
   meters_differ = kept.meters_differ;
   ports_differ = keys_differ nat_list_eq_equiv d.ports name port kept.ports_differ (or_parts (is_meter d name) _ free).1;
   apart = λ other found. apart_by other found (bytes_eq other name) refl;
   links_differ = kept.links_differ;
-  linked = λ from to found. let old = kept.linked from to found in
-      (elim (or_cases _ _ old.0) [
-          inl there ↦ or_left _ _ there
-        | inr there ↦ or_right (is_meter d from) _ (still_found (bytes_eq from) d.ports ((name, port) ∷ []) there) ],
-       old.1);
+  linked = λ from to found. let old = kept.linked from to found in (
+    elim (or_cases _ _ old.0) [
+      | inl there ↦ or_left _ _ there
+      | inr there ↦ or_right (is_meter d from) _ (still_found (bytes_eq from) d.ports ((name, port) ∷ []) there)
+    ],
+    old.1,
+  );
 }
   where
     apart_by : (other : List ℕ) → IsTrue (is_meter d other) → (b : Bool) → bytes_eq other name ≡ b → port_of (with_port d name port) other ≡ None
@@ -148,7 +157,7 @@ pub link_put : (now d : Domain) (es : List ((List ℕ × List ℕ) × Link)) (fr
     → length now.links < 65536 → (if is_taken d from then Some from else None) ≡ Some start → (if is_meter d to then Some to else None) ≡ Some end
     → is_some (link_of d start end) ≡ false → es ≡ insert_entry same_ends now.links (start, end) link
     → IsDomain (record { meters = now.meters; ports = now.ports; links = es })
-        × (record { meters = now.meters; ports = now.ports; links = es } ≡ with_link d from to link)
+    × (record { meters = now.meters; ports = now.ports; links = es } ≡ with_link d from to link)
 link_put now d es from to start end link same kept few left right free put = (subst IsDomain (sym added) whole, added)
   where
     first : (is_taken d from ≡ true) × (start ≡ from)

@@ -1,10 +1,11 @@
 -- Entries of a map: one more behind the others, and what a look-up then finds.
-use Rattle.std.proofs.Common.{rules, ◌≡◌, ℕ, Bool, true, false, ◌&&◌, List, [], ◌∷◌, ◌++◌, length, map, Option, None, Some, is_some, IsTrue, refl, sym, ◌∙◌, ap}
+use Rattle.std.proofs.Common.{rules, ◌≡◌, ℕ, Bool, true, false, ◌&&◌, List, [], ◌∷◌, ◌++◌, length, map, Option, None, Some, is_some, refl, sym, subst, ◌∙◌, ap}
 use Rattle.std.specs.Cmp.{IsEquivalence}
 use Rattle.std.specs.List.{AllByRecursion, IsDistinct, list_any}
 use Rattle.std.specs.Map.{keys_of, lookup}
 use Rattle.std.proofs.lemmas.Map.Keys.{IsDistinct-head, IsDistinct-tail, IsDistinct-push}
 use Rattle.std.proofs.lemmas.Map.Made.{is_some-lookup}
+use Rattle.std.proofs.lemmas.List.{append_assoc}
 use Rattle.indexmap.specs.IndexMap.{insert_entry}
 
 module _ {K V : Type 0} where
@@ -52,3 +53,25 @@ module _ {K V : Type 0} where
       → IsDistinct eq (keys_of es) → is_some (lookup (eq k) es) ≡ false → IsDistinct eq (keys_of (es ++ (k, v) ∷ []))
   keys_differ {eq = eq} laws es k v apart absent =
       rw (keys_of-push es k v) (IsDistinct-push laws (keys_of es) k apart (sym (is_some-lookup (eq k) es) ∙ absent))
+
+  at_middle : (P : K → Type 0) (es rest : List (K × V)) (k : K) (v : V) → AllByRecursion P (keys_of (es ++ (k, v) ∷ rest)) → P k
+  at_middle P [] rest k v all = all.0
+  at_middle P (e ∷ es) rest k v all = at_middle P es rest k v all.1
+
+  -- a key that differs from all others is not among those before it
+  absent_before : {eq : K → K → Bool} → IsEquivalence eq → (es rest : List (K × V)) (k : K) (v : V)
+      → IsDistinct eq (keys_of (es ++ (k, v) ∷ rest)) → lookup (eq k) es ≡ None
+  absent_before laws [] rest k v apart = refl
+  absent_before {eq = eq} laws (e ∷ es) rest k v apart =
+      rw (laws.symm k e.0 ∙ at_middle (λ y. eq e.0 y ≡ false) es rest k v (IsDistinct-head eq e.0 (keys_of (es ++ (k, v) ∷ rest)) apart))
+      (absent_before laws es rest k v (IsDistinct-tail eq e.0 (keys_of (es ++ (k, v) ∷ rest)) apart))
+
+  -- one more entry is copied
+  pub one_copied : {eq : K → K → Bool} → IsEquivalence eq → (all done left rest new : List (K × V)) (k : K) (v : V) → IsDistinct eq (keys_of all)
+      → done ++ left ≡ all → left ≡ (k, v) ∷ rest → new ≡ insert_entry eq done k v → new ++ rest ≡ all
+  one_copied {eq = eq} laws all done left rest new k v apart whole next put =
+      ap (λ es. es ++ rest) (put ∙ new_entry eq done k v (absent_before laws done rest k v (subst (λ es. IsDistinct eq (keys_of es)) (sym split) apart)))
+      ∙ append_assoc done ((k, v) ∷ []) rest ∙ split
+    where
+      split : done ++ (k, v) ∷ rest ≡ all
+      split = ap (λ es. done ++ es) (sym next) ∙ whole

@@ -141,7 +141,8 @@ impl Domain {
         if self.is_taken(name) {
             return Err(DomainFault::new(Kind::Twice, Section::Meter, place, Field::Name));
         }
-        let _spelling = name.bytes();
+        // so that what a name keeps is known of this one
+        let _characters = name.bytes();
         self.meters.insert(name, meter)?;
         Ok(())
     }
@@ -163,7 +164,8 @@ impl Domain {
         if self.is_taken(name) {
             return Err(DomainFault::new(Kind::Twice, Section::Port, place, Field::Name));
         }
-        let _spelling = name.bytes();
+        // so that what a name keeps is known of this one
+        let _characters = name.bytes();
         self.ports.insert(name, port)?;
         Ok(())
     }
@@ -228,7 +230,11 @@ impl Domain {
         let meters = copied(alloc, &self.meters)?;
         let ports = copied(alloc, &self.ports)?;
         let links = copied(alloc, &self.links)?;
-        Ok(Domain { meters, ports, links })
+        Ok(Domain {
+            meters,
+            ports,
+            links,
+        })
     }
 }
 

@@ -226,7 +226,12 @@ impl DomainFault {
     pub fn new(kind: Kind, section: Section, index: usize, field: Field) -> Self
         ensures { result ≡ fault_at kind section index field }
     {
-        DomainFault { kind, section, index, field }
+        DomainFault {
+            kind,
+            section,
+            index,
+            field,
+        }
     }
 
     /// Want of memory.

@@ -21,3 +21,6 @@ pub use parts::{Link, Meter, Port};
 pub use path::Path;
 pub use quantity::{Delay, Lifetime};
 pub use terms::{Profile, SoundParameters, Terms};
+
+#[cfg(test)]
+mod tests;
