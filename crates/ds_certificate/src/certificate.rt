@@ -1,5 +1,4 @@
-ghost use Rattle.std.specs.Prelude.{◌≡◌, List};
-ghost use Rattle.ds_certificate.specs.Columns as columns;
+ghost use Rattle.std.specs.Prelude.{◌≡◌};
 
 use crate::bound::Bound;
 use std::marker::Model;
@@ -11,6 +10,7 @@ pub struct Bounds {
 }
 
 impl Model for Bounds {
+    ghost use Rattle.std.specs.Prelude.{List};
     ghost use Rattle.ds_certificate.specs.Columns as columns;
 
     ghost Value = { List columns.Bound };
@@ -41,6 +41,7 @@ pub struct Certificate {
 }
 
 impl Model for Certificate {
+    ghost use Rattle.std.specs.Prelude.{List};
     ghost use Rattle.ds_certificate.specs.Columns as columns;
 
     ghost Value = { List (List columns.Bound) };

@@ -36,7 +36,9 @@ impl CertificateFault {
 }
 
 impl From<AllocError> for CertificateFault {
-    ghost from_gives = { λ _ fault. fault ≡ CertificateFault.NoMemory };
+    ghost use Rattle.ds_certificate.specs.declared.fault.CertificateFault.TheVariants.{NoMemory};
+
+    ghost from_gives = { λ _ fault. fault ≡ NoMemory };
 
     fn from(_error: AllocError) -> Self {
         CertificateFault::NoMemory
@@ -44,7 +46,9 @@ impl From<AllocError> for CertificateFault {
 }
 
 impl<T: Drop> From<AllocFailed<T>> for CertificateFault {
-    ghost from_gives = { λ _ fault. fault ≡ CertificateFault.NoMemory };
+    ghost use Rattle.ds_certificate.specs.declared.fault.CertificateFault.TheVariants.{NoMemory};
+
+    ghost from_gives = { λ _ fault. fault ≡ NoMemory };
 
     fn from(_error: AllocFailed<T>) -> Self {
         CertificateFault::NoMemory

@@ -28,20 +28,30 @@ impl Source {
         ensures moderate { IsModerate result }
     {
         let skew = skew(domain, contract.port);
-        source_by(skew, contract.terms)
+        source_by(skew, &contract.terms)
     }
 }
 
 /// What traffic keeps that enters on these terms, at a port with a skew.
-fn source_by(skew: Gap, terms: Terms) -> Source
+fn source_by(skew: Gap, terms: &Terms) -> Source
     requires { skew ≤ 10 ^ 10 }
-    ensures value { result ≡ source_by skew terms }
+    ensures value { result ≡ source_by skew terms.now }
     ensures moderate { IsModerate result }
 {
     match terms {
-        Terms::Trusted { committed, peak } => Source {
-            green: profile(committed),
-            all: profile(peak.unwrap_or(committed)),
+        Terms::Trusted {
+            committed,
+            peak: None,
+        } => {
+            let green = profile(*committed);
+            Source { green, all: green }
+        }
+        Terms::Trusted {
+            committed,
+            peak: Some(peak),
+        } => Source {
+            green: profile(*committed),
+            all: profile(*peak),
         },
         Terms::Policed { parameters, .. } => Source {
             green: widened(green_output(parameters.get()), skew),
