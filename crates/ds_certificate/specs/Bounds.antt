@@ -1,6 +1,6 @@
 -- What the bounds of a certificate must meet, and the least ones that do (Cruz 1991, section II).
-use Rattle.std.specs.Prelude.{◌≡◌, ℕ, suc, ◌+◌, ◌≤◌, ⊤, List, [], ◌∷◌, length, map, None}
-use Rattle.std.specs.List.{All, AllZip}
+use Rattle.std.specs.Prelude.{◌≡◌, ℕ, suc, ◌+◌, ◌≤◌, Bool, IsTrue, ⊤, List, [], ◌∷◌, length, map, is_none}
+use Rattle.std.specs.List.{AllZip}
 use Rattle.moment_core.specs.Volume.{bytes_over}
 use Rattle.ds_domain_base.specs.Domains.{Domain}
 use Rattle.ds_domain_base.specs.Fitting.{way_fault}
@@ -9,12 +9,13 @@ use Rattle.ds_certificate.specs.Columns.{Bound, Column, InEach, in_each}
 use Rattle.ds_certificate.specs.Sources.{jitters_of, source_of}
 use Rattle.ds_certificate.specs.declared.source.Source.{Source}
 
-abbrev pub Fits : Domain → Contract → Type 0
-Fits d c = way_fault 0 d c.port c.path ≡ None
+-- nothing stands against a contract's port and path
+abbrev pub fits : Domain → Contract → Bool
+fits d c = is_none (way_fault 0 d c.port c.path)
 
 -- the shape: a contract that fits the domain has one bound more than its path has meters
 abbrev pub HasShape : Domain → Contract → List Bound → Type 0
-HasShape d c bounds = Fits d c × (length bounds ≡ suc (length c.path))
+HasShape d c bounds = IsTrue (fits d c) × (length bounds ≡ suc (length c.path))
 
 -- the first bound is no less than the burst that the traffic enters with
 abbrev pub IsFirst : Column → Source → Bound → Type 0

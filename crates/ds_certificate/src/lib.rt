@@ -4,9 +4,11 @@
 pub mod bound;
 pub mod certificate;
 pub mod fault;
+pub mod least;
 pub mod source;
 
 pub use bound::Bound;
 pub use certificate::{Bounds, Certificate};
 pub use fault::CertificateFault;
+pub use least::make;
 pub use source::{Source, jitter};
