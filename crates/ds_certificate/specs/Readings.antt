@@ -1,5 +1,5 @@
 -- What a certificate's text says of contracts, or its first fault.
-use Rattle.std.specs.Prelude.{ℕ, zero, suc, ◌^◌, Bool, ◌&&◌, nat_eq, nat_le, is_some, List, [], ◌∷◌, length, Option, None, Some, Result, Ok, Err, if◌then◌else◌}
+use Rattle.std.specs.Prelude.{ℕ, zero, suc, ◌+◌, ◌^◌, Bool, ◌&&◌, nat_eq, nat_le, is_some, List, [], ◌∷◌, length, Option, None, Some, Result, Ok, Err, if◌then◌else◌}
 use Rattle.std.specs.Str.{bytes_eq}
 use Rattle.line_text.specs.Lines.{fields_of, lines_of}
 use Rattle.line_text.specs.Numbers.{is_number, number_of, value_of}
@@ -74,7 +74,7 @@ and_then (Ok read) later = row_onto read.0 (later read.1)
 -- the bounds of contracts in order
 unfoldable pub rows_in : List Contract → List (List ℕ) → Result (List (List Bound)) CertificateFault
 rows_in [] lines = ending_in lines
-rows_in (c ∷ contracts) lines = and_then (bounds_in c.name 0 (suc (length c.path)) lines) (λ left. rows_in contracts left)
+rows_in (c ∷ contracts) lines = and_then (bounds_in c.name 0 (length c.path + 1) lines) (λ left. rows_in contracts left)
 
 abbrev pub headed : List Contract → List (List ℕ) → Result (List (List Bound)) CertificateFault
 headed contracts [] = Err Shape

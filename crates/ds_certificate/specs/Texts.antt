@@ -1,5 +1,5 @@
 -- The text of a certificate.
-use Rattle.std.specs.Prelude.{ℕ, suc, List, [], ◌∷◌, ◌++◌, codes, decimal}
+use Rattle.std.specs.Prelude.{ℕ, suc, Bool, true, false, ◌&&◌, nat_eq, List, [], ◌∷◌, ◌++◌, length, codes, decimal}
 use Rattle.ds_domain_base.specs.declared.contract.Contract.{Contract}
 use Rattle.ds_certificate.specs.Columns.{Bound}
 
@@ -28,3 +28,10 @@ heading = codes "dscert 1"
 -- the canonical text
 abbrev pub text_of : List Contract → List (List Bound) → List ℕ
 text_of contracts rows = ended (heading ∷ lines_for contracts rows)
+
+-- whether bounds are those of contracts: of each contract one more than its path has meters
+unfoldable pub is_shaped : List Contract → List (List Bound) → Bool
+is_shaped [] [] = true
+is_shaped [] (bounds ∷ rows) = false
+is_shaped (c ∷ contracts) [] = false
+is_shaped (c ∷ contracts) (bounds ∷ rows) = nat_eq (length bounds) (suc (length c.path)) && is_shaped contracts rows

@@ -5,10 +5,14 @@ pub mod bound;
 pub mod certificate;
 pub mod fault;
 pub mod least;
+pub mod reading;
 pub mod source;
+pub mod writing;
 
 pub use bound::Bound;
 pub use certificate::{Bounds, Certificate};
 pub use fault::CertificateFault;
 pub use least::make;
+pub use reading::read;
 pub use source::{Source, jitter};
+pub use writing::write;
