@@ -1,6 +1,8 @@
-ghost use Rattle.std.specs.Prelude.{◌≡◌, ◌∷◌, [], ◌+◌, ◌⊎◌, ⊤, List, length, nat_eq, None, Some, Ok, Err, IsTrue, IfOk, IfErr, MatchOption, MatchResult};
+ghost use Rattle.std.specs.Prelude.{◌≡◌, ◌∷◌, [], ◌+◌, ◌≤◌, ◌^◌, ◌&&◌, ◌⊎◌, ⊤, length, nat_eq, nat_le, None, Some, Ok, Err, IsTrue, IfOk, IfErr, MatchOption, MatchResult};
+ghost use Rattle.std.specs.List.{list_all};
+ghost use Rattle.std.specs.Char.{is_ascii_digit};
 ghost use Rattle.line_text.specs.Lines.{lines_of};
-ghost use Rattle.line_text.specs.Numbers.{is_number, value_of};
+ghost use Rattle.line_text.specs.Numbers.{is_number, number_of, value_of};
 ghost use Rattle.ds_certificate.specs.Readings.{bound_in, bounds_in, certificate_in, ending_in, entry_in, rows_in};
 
 use crate::bound::Bound;
@@ -51,9 +53,13 @@ fn rows_in(
     let mut rows = Vec::with_capacity(alloc, contracts.len())?;
     let mut rest = text;
     for contract in contracts {
-        let (bounds, later) = bounds_in(alloc, rest, contract)?;
-        rows.push(bounds)?;
-        rest = later;
+        match bounds_in(alloc, rest, contract) {
+            Ok((bounds, later)) => {
+                rows.push(bounds)?;
+                rest = later;
+            }
+            Err(fault) => return Err(fault),
+        }
     }
     match excess_in(rest) {
         None => Ok(Certificate::new(rows)),
@@ -92,7 +98,10 @@ fn bounds_in<'a>(
         let Some((line, later)) = next_line(rest) else {
             return Err(CertificateFault::Shape);
         };
-        hops.push(bound_in(contract.name, hop as u64, line)?)?;
+        match bound_in(contract.name, hop as u64, line) {
+            Ok(bound) => hops.push(bound)?,
+            Err(fault) => return Err(fault),
+        }
         rest = later;
     }
     Ok((Bounds::new(hops), rest))
@@ -109,13 +118,21 @@ fn bound_in(name: Name, hop: u64, line: &[u8]) -> Result<Bound, CertificateFault
     if entry.name != name.bytes() || !says(entry.hop, hop) {
         return Err(CertificateFault::Shape);
     }
-    let Some(green) = number(entry.green, Bound::MOST) else {
+    let Some(green) = bytes(entry.green) else {
         return Err(CertificateFault::Range);
     };
-    let Some(all) = number(entry.all, Bound::MOST) else {
+    let Some(all) = bytes(entry.all) else {
         return Err(CertificateFault::Range);
     };
     Ok(Bound::new(green, all).unwrap())
+}
+
+/// The bytes of a bound that a text says, in its range.
+fn bytes(text: &[u8]) -> Option<u64>
+    ensures value { result ≡ number_of (10 ^ 15) text.now }
+    ensures range { MatchOption result ⊤ (λ bytes. bytes ≤ 10 ^ 15) }
+{
+    number(text, Bound::MOST)
 }
 
 /// The fields of a line of a bound.
@@ -139,16 +156,24 @@ fn entry_in<'a>(line: &'a [u8]) -> Option<Entry<'a>>
 {
     let (name, rest) = split_field(line);
     let (hop, green, all) = three_fields(rest?)?;
-    if !name.is_empty() && is_number(hop) && is_number(green) && is_number(all) {
-        Some(Entry {
-            name,
-            hop,
-            green,
-            all,
-        })
-    } else {
-        None
-    }
+    let entry = Entry {
+        name,
+        hop,
+        green,
+        all,
+    };
+    if has_form(&entry) { Some(entry) } else { None }
+}
+
+/// Whether fields are a name of at least one byte, and three numbers.
+fn has_form(entry: &Entry<'_>) -> bool
+    ensures { result ≡ (nat_le 1 (length entry.now.name.now) && is_number entry.now.hop.now && is_number entry.now.green.now
+        && is_number entry.now.all.now) }
+{
+    !entry.name.is_empty()
+        && is_number(entry.hop)
+        && is_number(entry.green)
+        && is_number(entry.all)
 }
 
 /// Whether a text is 1 to 20 decimal digits.
@@ -156,7 +181,14 @@ fn entry_in<'a>(line: &'a [u8]) -> Option<Entry<'a>>
 fn is_number(text: &[u8]) -> bool
     ensures { result ≡ is_number text.now }
 {
-    (1..=MOST_DIGITS).contains(&text.len()) && text.iter().all(u8::is_ascii_digit)
+    (1..=MOST_DIGITS).contains(&text.len()) && has_digits_alone(text)
+}
+
+/// Whether a text has no other bytes than decimal digits.
+fn has_digits_alone(text: &[u8]) -> bool
+    ensures { result ≡ list_all is_ascii_digit text.now }
+{
+    text.iter().all(u8::is_ascii_digit)
 }
 
 /// Whether a number is this one.
@@ -177,7 +209,7 @@ fn next_line(text: &[u8]) -> Option<(&[u8], &[u8])>
         return None;
     }
     match cut(text, b'\n') {
-        Some(parts) => Some(parts),
+        Some((line, rest)) => Some((line, rest)),
         None => Some((text, &text[text.len()..])),
     }
 }
