@@ -238,15 +238,19 @@ pub shape-other : (contracts : List Contract) (i : ℕ) (c : Contract) (rows : L
 unfolding is_shaped
 shape-other contracts i c rows bounds later inside is_c are long = rw (left_is contracts i c inside is_c, are, long) refl
 
-pub shape-missing : (contracts : List Contract) (i : ℕ) (c : Contract) (rows : List (List Bound)) → i < length contracts → c ≡ get_or contracts i c → rows ≡ []
+pub shape-missing : (contracts : List Contract) (i : ℕ) (c : Contract) (rows : List (List Bound)) → i < length contracts → c ≡ get_or contracts i c → length rows ≡ 0
     → is_shaped (drop i contracts) rows ≡ false
 unfolding is_shaped
-shape-missing contracts i c rows inside is_c are = rw (left_is contracts i c inside is_c, are) refl
+shape-missing contracts i c [] inside is_c none = rw (left_is contracts i c inside is_c) refl
+shape-missing contracts i c (bounds ∷ rows) inside is_c none = absurd (omega (arith, none))
+
+not_empty : (n : ℕ) → eqb (suc n) 0 ≡ false
+not_empty n = grind (arith, nat_tests)
 
 pub shape-ended : (contracts : List Contract) (i : ℕ) (rows : List (List Bound)) → length contracts ≤ i → is_shaped (drop i contracts) rows ≡ eqb (length rows) 0
 unfolding is_shaped
 shape-ended contracts i [] all = rw (drop_all i contracts all) refl
-shape-ended contracts i (bounds ∷ rows) all = rw (drop_all i contracts all) refl
+shape-ended contracts i (bounds ∷ rows) all = rw (drop_all i contracts all) (sym (not_empty (length rows)))
 
 pub back-more : (contracts : List Contract) (i : ℕ) (c : Contract) (rows : List (List Bound)) (bounds : List Bound) (later whole : List (List Bound))
     → i < length contracts → c ≡ get_or contracts i c → rows ≡ bounds ∷ later → eqb (length bounds) (suc (length c.path)) ≡ true → ReadBack c.name 0 bounds
