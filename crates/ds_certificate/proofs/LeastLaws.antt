@@ -81,8 +81,8 @@ least_below : (d : Domain) (c : Contract) (bounds : List Bound) → HasShape d c
 least_below d c bounds shape met =
     let long : length bounds ≡ suc (length (jitters_of d c)) = shape.1 ∙ ap suc (sym (length-jitters_along d c.port c.path)) in
     AllZip-both (λ a b. a.green ≤ b.green) (λ a b. a.all ≤ b.all) (least_of d c) bounds
-      (below_along green_column green_is_column (source_of d c) (jitters_of d c) bounds long met.0)
-      (below_along all_column all_is_column (source_of d c) (jitters_of d c) bounds long met.1)
+    (below_along green_column green_is_column (source_of d c) (jitters_of d c) bounds long met.0)
+    (below_along all_column all_is_column (source_of d c) (jitters_of d c) bounds long met.1)
 
 -- the least certificate is one, where all contracts fit
 pub IsCertificate-least : (d : Domain) (contracts : List Contract) → list_all (fits d) contracts ≡ true → IsCertificate d contracts (least d contracts)
@@ -101,7 +101,7 @@ least-below d (c ∷ contracts) (bounds ∷ rows) met = (least_below d c bounds 
 -- one link more
 pub least_behind-link : (done : List Bound) (s : Source) (d : Domain) (from to : List ℕ) (rest : List (List ℕ)) (last : Bound)
     → done ++ least_behind s (jitters_along d from (to ∷ rest)) last
-      ≡ (done ++ delayed s (jitter_of (link_of d from to)) last ∷ []) ++ least_behind s (jitters_along d to rest) (delayed s (jitter_of (link_of d from to)) last)
+    ≡ (done ++ delayed s (jitter_of (link_of d from to)) last ∷ []) ++ least_behind s (jitters_along d to rest) (delayed s (jitter_of (link_of d from to)) last)
 unfolding least_behind jitters_along
 least_behind-link done s d from to rest last = simp append_assoc
 

@@ -131,7 +131,7 @@ unfolding bound_in
 bound_in-line name hop b w =
     ap (said_of name hop) (entry_in-line name hop b w)
     ∙ said_made _ _ _ _ b (nat_list_eq_equiv.refl name) (eqb_same _ _ (value_of-decimal hop w.at_hop))
-        (number_of-decimal (10 ^ 15) b.green w.green (omega (arith, w.green))) (number_of-decimal (10 ^ 15) b.all w.all (omega (arith, w.all)))
+    (number_of-decimal (10 ^ 15) b.green w.green (omega (arith, w.green))) (number_of-decimal (10 ^ 15) b.all w.all (omega (arith, w.all)))
 
 -- the lines of bounds read as these bounds, whatever stands behind them
 abbrev pub ReadBack : List ℕ → ℕ → List Bound → Type 0
@@ -146,8 +146,8 @@ pub ReadBack-more : (name : List ℕ) (hop : ℕ) (b : Bound) (bounds : List Bou
 unfolding bounds_in lines_from ended
 ReadBack-more name hop b bounds whole said front later =
     let first : lines_of ((line_of name hop b ++ 10 ∷ ended (lines_from name (suc hop) bounds)) ++ later)
-          ≡ line_of name hop b ∷ lines_of (ended (lines_from name (suc hop) bounds) ++ later) =
-        ap lines_of (append_assoc (line_of name hop b) _ later) ∙ lines_of-cut (line_of name hop b) _ whole in
+    ≡ line_of name hop b ∷ lines_of (ended (lines_from name (suc hop) bounds) ++ later) =
+    ap lines_of (append_assoc (line_of name hop b) _ later) ∙ lines_of-cut (line_of name hop b) _ whole in
     rw (first, said, front later) refl
 
 ended-append : (xs ys : List (List ℕ)) → ended (xs ++ ys) ≡ ended xs ++ ended ys
@@ -168,7 +168,7 @@ pub RowsBack-more : (c : Contract) (contracts : List Contract) (bounds : List Bo
 unfolding rows_in lines_for
 RowsBack-more c contracts bounds rows long front back =
     let first : bounds_in c.name 0 (length c.path + 1) (lines_of (ended (lines_from c.name 0 bounds ++ lines_for contracts rows))) ≡ Ok (bounds, lines_of (ended (lines_for contracts rows))) =
-        rw (← long) (ap (λ text. bounds_in c.name 0 (length bounds) (lines_of text)) (ended-append (lines_from c.name 0 bounds) (lines_for contracts rows)) ∙ front (ended (lines_for contracts rows))) in
+    rw (← long) (ap (λ text. bounds_in c.name 0 (length bounds) (lines_of text)) (ended-append (lines_from c.name 0 bounds) (lines_for contracts rows)) ∙ front (ended (lines_for contracts rows))) in
     rw (first, back) refl
 
 no_feed : has_byte 10 heading ≡ false
@@ -190,7 +190,7 @@ lines-more front more name hop i b bounds whole inside is_b is_more kept =
     let before = ap (λ left. front ++ ended (lines_from name hop left)) here in
     let moved = ap (λ h. front ++ (line_of name hop b ++ 10 ∷ ended (lines_from name h (drop (i + 1) bounds)))) next in
     let apart : (front ++ line_of name hop b ++ 10 ∷ []) ++ ended (lines_from name (hop + 1) (drop (i + 1) bounds))
-          ≡ front ++ (line_of name hop b ++ 10 ∷ ended (lines_from name (hop + 1) (drop (i + 1) bounds))) = simp append_assoc in
+    ≡ front ++ (line_of name hop b ++ 10 ∷ ended (lines_from name (hop + 1) (drop (i + 1) bounds))) = simp append_assoc in
     ap (λ text. text ++ ended (lines_from name (hop + 1) (drop (i + 1) bounds))) is_more ∙ apart ∙ sym moved ∙ sym before ∙ kept
 
 pub reads-more : (name : List ℕ) (hop i : ℕ) (b : Bound) (bounds : List Bound) → i < length bounds → b ≡ get_or bounds i b
@@ -223,7 +223,7 @@ pub rows-more : (front more : List ℕ) (contracts : List Contract) (i : ℕ) (c
 unfolding lines_for
 rows-more front more contracts i c rows bounds later whole inside is_c are is_more kept =
     let before : ended (lines_for (drop i contracts) rows) ≡ ended (lines_from c.name 0 bounds) ++ ended (lines_for (drop (i + 1) contracts) later) =
-        rw (left_is contracts i c inside is_c, are) (ended-append (lines_from c.name 0 bounds) (lines_for (drop (i + 1) contracts) later)) in
+    rw (left_is contracts i c inside is_c, are) (ended-append (lines_from c.name 0 bounds) (lines_for (drop (i + 1) contracts) later)) in
     rw is_more (append_assoc front (ended (lines_from c.name 0 bounds)) (ended (lines_for (drop (i + 1) contracts) later)) ∙ ap (λ text. front ++ text) (sym before) ∙ kept)
 
 pub shape-more : (contracts : List Contract) (i : ℕ) (c : Contract) (rows : List (List Bound)) (bounds : List Bound) (later : List (List Bound))

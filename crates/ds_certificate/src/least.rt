@@ -48,11 +48,7 @@ fn is_fit(domain: &Domain, contract: &Contract) -> bool
 }
 
 /// The least bounds of a contract that fits a domain.
-fn least_bounds(
-    alloc: Global,
-    domain: &Domain,
-    contract: &Contract,
-) -> Result<Bounds, AllocError>
+fn least_bounds(alloc: Global, domain: &Domain, contract: &Contract) -> Result<Bounds, AllocError>
     requires { IsTrue (fits domain.now contract.now) }
     ensures { IfOk result (λ bounds. bounds ≡ least_of domain.now contract.now) }
 {

@@ -7,6 +7,8 @@ pub mod fault;
 pub mod least;
 pub mod reading;
 pub mod source;
+#[cfg(test)]
+mod tests;
 pub mod writing;
 
 pub use bound::Bound;

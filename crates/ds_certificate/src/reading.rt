@@ -170,10 +170,7 @@ fn has_form(entry: &Entry<'_>) -> bool
     ensures { result ≡ (nat_le 1 (length entry.now.name.now) && is_number entry.now.hop.now && is_number entry.now.green.now
         && is_number entry.now.all.now) }
 {
-    !entry.name.is_empty()
-        && is_number(entry.hop)
-        && is_number(entry.green)
-        && is_number(entry.all)
+    !entry.name.is_empty() && is_number(entry.hop) && is_number(entry.green) && is_number(entry.all)
 }
 
 /// Whether a text is 1 to 20 decimal digits.

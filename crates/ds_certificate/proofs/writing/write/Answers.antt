@@ -20,14 +20,14 @@ loop-contract-init c =
 pub returns-in_default-clause-refused : goal.returns-in_default-clause-refused
 returns-in_default-clause-refused c =
     let missing = shape-missing c.args.contracts.now c.loop-contract.contract-index c.contract-item.result c.loop-contract.rows.now c.loop-contract-test.true c.contract-item.is
-          c.in_default.ensures.cases in
+    c.in_default.ensures.cases in
     inr (refl, sym c.loop-contract.invariant.shape ∙ missing)
 
 pub returns-then-not-is_long-clause-refused : goal.returns-then-not-is_long-clause-refused
 returns-then-not-is_long-clause-refused c =
     let short : eqb (length c.in-Some.bounds.now) (suc (length c.contract-item.result.path)) ≡ false = sym c.is_long.ensures ∙ c.if-not-is_long.true in
     let other = shape-other c.args.contracts.now c.loop-contract.contract-index c.contract-item.result c.loop-contract.rows.now c.in-Some.bounds.now c.in-Some.later.now
-          c.loop-contract-test.true c.contract-item.is c.in-Some.ensures.cases.0 short in
+    c.loop-contract-test.true c.contract-item.is c.in-Some.ensures.cases.0 short in
     inr (refl, sym c.loop-contract.invariant.shape ∙ other)
 
 pub loop-contract-preserved : goal.loop-contract-preserved
