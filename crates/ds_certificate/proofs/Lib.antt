@@ -1,0 +1,4 @@
+pub mod LeastLaws
+pub mod ReadingLaws
+pub mod TextLaws
+pub mod Volumes

@@ -1,0 +1,121 @@
+-- What a reader of a certificate's lines needs.
+use Rattle.std.proofs.Common.{rules, append_assoc, append-nil, get_or, take, ◌≡◌, ◌≢◌, ℕ, zero, suc, ◌+◌, ◌-◌, ◌≤◌, ◌<◌, Bool, true, false, ◌&&◌, leb, List, [], ◌∷◌, ◌++◌, drop, length, Option, None, Some, Result, Ok, Err, refl, sym, ap, ◌∙◌, arith, if◌then◌else◌}
+use Rattle.std.proofs.lemmas.Bool.Decides.{nat_tests}
+use Rattle.std.proofs.lemmas.List.{drop_all, drop_more}
+use Rattle.line_text.specs.Lines.{fields_of, has_byte, lines_of}
+use Rattle.line_text.specs.Numbers.{is_number, number_of}
+use Rattle.line_text.proofs.LineLemmas.{lines_of-cut, lines_of-nil, lines_of-uncut}
+use Rattle.ds_domain_base.specs.declared.contract.Contract.{Contract}
+use Rattle.ds_certificate.specs.Columns.{Bound}
+use Rattle.ds_certificate.specs.Readings.{Entry, Read, and_then, bound_in, bounds_in, ending_in, entry_in, entry_of, onto, row_onto, rows_in}
+use Rattle.ds_certificate.specs.declared.fault.CertificateFault.{CertificateFault}
+use Rattle.ds_certificate.specs.declared.fault.CertificateFault.TheVariants.{Shape}
+
+pub number_of_most : (most : ℕ) (text : List ℕ) (value : ℕ) → number_of most text ≡ Some value → value ≤ most
+unfolding number_of
+number_of_most most text value is = grind (arith, nat_tests)
+
+-- a text without LF is one line
+pub one_line_left : (text : List ℕ) → 0 < length text → has_byte 10 text ≡ false → lines_of text ≡ text ∷ lines_of []
+one_line_left [] some whole = absurd (omega (arith, some))
+one_line_left (byte ∷ text) some whole = lines_of-uncut byte text whole ∙ ap (λ lines. (byte ∷ text) ∷ lines) (sym lines_of-nil)
+
+pub lines_of-empty : (text : List ℕ) → length text ≡ 0 → lines_of text ≡ []
+lines_of-empty [] none = lines_of-nil
+lines_of-empty (byte ∷ text) none = absurd (omega (arith, none))
+
+-- four fields are an entry, where they have its form
+pub entry_of-other : (name : List ℕ) (fields : List (List ℕ)) → length fields ≢ 3 → entry_of (name ∷ fields) ≡ None
+entry_of-other name [] other = refl
+entry_of-other name (a ∷ []) other = refl
+entry_of-other name (a ∷ b ∷ []) other = refl
+entry_of-other name (a ∷ b ∷ c ∷ []) other = absurd (other refl)
+entry_of-other name (a ∷ b ∷ c ∷ d ∷ fields) other = refl
+
+pub no_entry : (line name : List ℕ) (fields : List (List ℕ)) → fields_of line ≡ name ∷ fields → length fields ≢ 3 → entry_in line ≡ None
+unfolding entry_in
+no_entry line name fields is other = ap entry_of is ∙ entry_of-other name fields other
+
+pub entry_by : (line name : List ℕ) (fields : List (List ℕ)) (hop green all : List ℕ) (form : Bool) → fields_of line ≡ name ∷ fields → fields ≡ hop ∷ green ∷ all ∷ []
+    → form ≡ (leb 1 (length name) && is_number hop && is_number green && is_number all)
+    → entry_in line ≡ (if form then Some (record { name = name; hop = hop; green = green; all = all }) else None)
+unfolding entry_in
+entry_by line name fields hop green all form is are test =
+    ap entry_of (is ∙ ap (λ fs. name ∷ fs) are) ∙ ap (λ (b : Bool). if b then Some (record { name = name; hop = hop; green = green; all = all }) else None) (sym test)
+
+-- bounds behind others
+abbrev pub ahead : List Bound → Result Read CertificateFault → Result Read CertificateFault
+ahead done (Err fault) = Err fault
+ahead done (Ok read) = Ok (done ++ read.0, read.1)
+
+ahead-onto : (done : List Bound) (b : Bound) (later : Result Read CertificateFault) → ahead done (onto (Ok b) later) ≡ ahead (done ++ b ∷ []) later
+ahead-onto done b (Err fault) = refl
+ahead-onto done b (Ok read) = ap (λ bounds. Ok (bounds, read.1)) (sym (append_assoc done (b ∷ []) read.0))
+
+pub bounds_in-ended : (done : List Bound) (name : List ℕ) (hop count : ℕ) (lines : List (List ℕ)) → count ≤ hop → ahead done (bounds_in name hop (count - hop) lines) ≡ Ok (done, lines)
+unfolding bounds_in
+bounds_in-ended done name hop count lines all =
+    let none : count - hop ≡ 0 = omega arith in
+    rw none (ap (λ bounds. Ok (bounds, lines)) (search rules))
+
+pub bounds_in-missing : (done : List Bound) (name : List ℕ) (hop count : ℕ) (lines : List (List ℕ)) → hop < count → lines ≡ []
+    → ahead done (bounds_in name hop (count - hop) lines) ≡ Err Shape
+unfolding bounds_in
+bounds_in-missing done name hop count lines more none =
+    let left : count - hop ≡ suc (count - (hop + 1)) = omega arith in
+    rw (left, none) refl
+
+pub bounds_in-bad : (done : List Bound) (name : List ℕ) (hop count : ℕ) (lines : List (List ℕ)) (line : List ℕ) (rest : List (List ℕ)) (fault : CertificateFault) → hop < count
+    → lines ≡ line ∷ rest → bound_in name hop line ≡ Err fault → ahead done (bounds_in name hop (count - hop) lines) ≡ Err fault
+unfolding bounds_in
+bounds_in-bad done name hop count lines line rest fault more are said =
+    let left : count - hop ≡ suc (count - (hop + 1)) = omega arith in
+    rw (left, are, said) refl
+
+pub bounds_in-line : (done front : List Bound) (name : List ℕ) (hop count : ℕ) (lines : List (List ℕ)) (line : List ℕ) (rest : List (List ℕ)) (b : Bound) → hop < count
+    → lines ≡ line ∷ rest → bound_in name hop line ≡ Ok b → front ≡ done ++ b ∷ []
+    → ahead done (bounds_in name hop (count - hop) lines) ≡ ahead front (bounds_in name (hop + 1) (count - (hop + 1)) rest)
+unfolding bounds_in
+bounds_in-line done front name hop count lines line rest b more are said is_front =
+    let left : count - hop ≡ suc (count - (hop + 1)) = omega arith in
+    let next : suc hop ≡ hop + 1 = omega arith in
+    rw (left, are, said, next, is_front) (ahead-onto done b (bounds_in name (hop + 1) (count - (hop + 1)) rest))
+
+-- rows behind others
+abbrev pub rows_ahead : List (List Bound) → Result (List (List Bound)) CertificateFault → Result (List (List Bound)) CertificateFault
+rows_ahead done (Err fault) = Err fault
+rows_ahead done (Ok rows) = Ok (done ++ rows)
+
+rows_ahead-onto : (done : List (List Bound)) (bounds : List Bound) (later : Result (List (List Bound)) CertificateFault)
+    → rows_ahead done (row_onto bounds later) ≡ rows_ahead (done ++ bounds ∷ []) later
+rows_ahead-onto done bounds (Err fault) = refl
+rows_ahead-onto done bounds (Ok rows) = ap Ok (sym (append_assoc done (bounds ∷ []) rows))
+
+here : (contracts : List Contract) (i : ℕ) (c : Contract) → i < length contracts → c ≡ get_or contracts i c → drop i contracts ≡ c ∷ drop (i + 1) contracts
+here contracts i c inside is_c = drop_more contracts i c inside ∙ ap (λ x. x ∷ drop (i + 1) contracts) (sym is_c)
+
+pub rows_in-contract : (done front : List (List Bound)) (contracts : List Contract) (i : ℕ) (c : Contract) (lines left : List (List ℕ)) (bounds : List Bound)
+    → i < length contracts → c ≡ get_or contracts i c → bounds_in c.name 0 (length c.path + 1) lines ≡ Ok (bounds, left) → front ≡ done ++ bounds ∷ []
+    → rows_ahead done (rows_in (drop i contracts) lines) ≡ rows_ahead front (rows_in (drop (i + 1) contracts) left)
+unfolding rows_in
+rows_in-contract done front contracts i c lines left bounds inside is_c read is_front =
+    rw (here contracts i c inside is_c, read, is_front) (rows_ahead-onto done bounds (rows_in (drop (i + 1) contracts) left))
+
+pub rows_in-bad : (done : List (List Bound)) (contracts : List Contract) (i : ℕ) (c : Contract) (lines : List (List ℕ)) (fault : CertificateFault)
+    → i < length contracts → c ≡ get_or contracts i c → bounds_in c.name 0 (length c.path + 1) lines ≡ Err fault
+    → rows_ahead done (rows_in (drop i contracts) lines) ≡ Err fault
+unfolding rows_in
+rows_in-bad done contracts i c lines fault inside is_c read = rw (here contracts i c inside is_c, read) refl
+
+pub rows_in-ended : (done : List (List Bound)) (contracts : List Contract) (i : ℕ) (lines : List (List ℕ)) → length contracts ≤ i → ending_in lines ≡ Ok []
+    → rows_ahead done (rows_in (drop i contracts) lines) ≡ Ok done
+unfolding rows_in
+rows_in-ended done contracts i lines all end = rw (drop_all i contracts all, end) (ap Ok (append-nil done))
+
+pub rows_in-excess : (done : List (List Bound)) (contracts : List Contract) (i : ℕ) (lines : List (List ℕ)) (fault : CertificateFault) → length contracts ≤ i → ending_in lines ≡ Err fault
+    → rows_ahead done (rows_in (drop i contracts) lines) ≡ Err fault
+unfolding rows_in
+rows_in-excess done contracts i lines fault all end = rw (drop_all i contracts all, end) refl
+
+pub empty_end : (text : List ℕ) → take (length text - length text) (drop (length text) text) ≡ []
+empty_end text = rw (drop_all (length text) text (omega arith)) (search rules)

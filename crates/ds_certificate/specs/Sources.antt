@@ -1,0 +1,58 @@
+-- What a contract's traffic keeps where it enters a domain, and by how much delays differ on its way.
+use Rattle.std.specs.Prelude.{ℕ, List, [], ◌∷◌, Option, None, Some}
+use Rattle.envelope_core.specs.Curve.{Curve, widened}
+use Rattle.meter_book.specs.Envelopes.{single_rate_green, single_rate_all, two_rate_green, two_rate_all, excess_rate_green, excess_rate_all}
+use Rattle.meter_book.specs.declared.any_meter.Parameters.{Parameters}
+use Rattle.meter_book.specs.declared.any_meter.Parameters.TheVariants.{SrTcm, TrTcm, Rfc4115}
+use Rattle.ds_domain_base.specs.Domains.{Domain, port_of, link_of}
+use Rattle.ds_domain_base.specs.declared.contract.Contract.{Contract}
+use Rattle.ds_domain_base.specs.declared.parts.Link.{Link}
+use Rattle.ds_domain_base.specs.declared.parts.Port.{Port}
+use Rattle.ds_domain_base.specs.declared.terms.Profile.{Profile}
+use Rattle.ds_domain_base.specs.declared.terms.Terms.{Terms}
+use Rattle.ds_domain_base.specs.declared.terms.Terms.TheVariants.{Trusted, Policed}
+use Rattle.ds_certificate.specs.declared.source.Source.{Source}
+
+abbrev pub curve_of : Profile → Curve
+curve_of p = record { rate = p.rate; burst = p.burst }
+
+-- what leaves a meter with these parameters green, and what leaves it green or yellow
+abbrev pub green_output : Parameters → Curve
+green_output (SrTcm p) = single_rate_green p
+green_output (TrTcm p) = two_rate_green p
+green_output (Rfc4115 p) = excess_rate_green p
+
+abbrev pub all_output : Parameters → Curve
+all_output (SrTcm p) = single_rate_all p
+all_output (TrTcm p) = two_rate_all p
+all_output (Rfc4115 p) = excess_rate_all p
+
+-- What traffic keeps where it enters at a port with a skew. Trusted traffic keeps what it is trusted with: green and
+-- yellow packets together the peak, or without a peak what green ones keep. Policed traffic keeps what leaves the meter at
+-- the edge, widened by the skew.
+abbrev pub source_by : ℕ → Terms → Source
+source_by skew (Trusted committed None) = record { green = curve_of committed; all = curve_of committed }
+source_by skew (Trusted committed (Some peak)) = record { green = curve_of committed; all = curve_of peak }
+source_by skew (Policed parameters mode) = record { green = widened skew (green_output parameters); all = widened skew (all_output parameters) }
+
+-- the skew of a port, and the jitter of a link; 0 where there is none
+abbrev pub skew_of : Option Port → ℕ
+skew_of None = 0
+skew_of (Some port) = port.skew
+
+abbrev pub jitter_of : Option Link → ℕ
+jitter_of None = 0
+jitter_of (Some link) = link.jitter
+
+-- what a contract's traffic keeps where it enters a domain
+unfoldable pub source_of : Domain → Contract → Source
+source_of d c = source_by (skew_of (port_of d c.port)) c.terms
+
+-- the jitters of the links from a name on along a path
+unfoldable pub jitters_along : Domain → List ℕ → List (List ℕ) → List ℕ
+jitters_along d from [] = []
+jitters_along d from (to ∷ rest) = jitter_of (link_of d from to) ∷ jitters_along d to rest
+
+-- the jitters of a contract's links, of which the first goes from its port to its first meter
+abbrev pub jitters_of : Domain → Contract → List ℕ
+jitters_of d c = jitters_along d c.port c.path

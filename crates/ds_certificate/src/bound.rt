@@ -1,0 +1,56 @@
+ghost use Rattle.std.specs.Prelude.{◌≡◌, ◌≤◌, ◌^◌};
+ghost use Rattle.std.specs.Result.{OkIff};
+
+use moment_core::OutOfRange;
+use std::marker::Model;
+
+/// A bound on the burst of a contract's green packets, and on that of its green and yellow ones, in bytes: each 0 to 10^15.
+#[derive(Clone, Copy, Debug, PartialEq, Eq, Hash)]
+pub struct Bound {
+    green: u64,
+    all: u64,
+}
+
+impl Model for Bound {
+    ghost use Rattle.ds_certificate.specs.Columns.{Bound, IsInRange};
+
+    ghost Value = { Bound };
+
+    ghost view = { λ b. record { green = b.green; all = b.all } };
+
+    ghost invariant = { λ b. IsInRange (record { green = b.green; all = b.all }) };
+
+    ghost inverse = { λ b. record { green = b.green; all = b.all } };
+}
+
+impl Bound {
+    /// The greatest bound, 10^15 bytes.
+    pub const MOST: u64 = 1_000_000_000_000_000;
+
+    /// The bound of so many green bytes, and of so many green and yellow ones; `OutOfRange` where one is above 10^15.
+    pub fn new(green: u64, all: u64) -> Result<Self, OutOfRange>
+        ensures { OkIff result ((green ≤ 10 ^ 15) × (all ≤ 10 ^ 15)) (record { green = green; all = all }) }
+    {
+        if green <= Self::MOST && all <= Self::MOST {
+            Ok(Bound { green, all })
+        } else {
+            Err(OutOfRange)
+        }
+    }
+
+    /// The bound on green packets, in bytes.
+    pub fn green(self) -> u64
+        ensures value { result ≡ self.green }
+        ensures range { result ≤ 10 ^ 15 }
+    {
+        self.green
+    }
+
+    /// The bound on green and yellow packets together, in bytes.
+    pub fn all(self) -> u64
+        ensures value { result ≡ self.all }
+        ensures range { result ≤ 10 ^ 15 }
+    {
+        self.all
+    }
+}

@@ -1,0 +1,91 @@
+ghost use Rattle.std.specs.Prelude.{◌≡◌, ◌+◌, ◌*◌, ◌≤◌, ◌^◌, ◌⊎◌, false, List, IsTrue, IfOk, IfErr};
+ghost use Rattle.std.specs.List.{list_all};
+ghost use Rattle.ds_certificate.specs.Bounds.{AreAtMost, IsCertificate, delayed, entering, fits, least, least_of};
+ghost use Rattle.ds_certificate.specs.Columns as columns;
+ghost use Rattle.ds_certificate.specs.Ranges.{IsModerate, IsWithin};
+
+use crate::bound::Bound;
+use crate::certificate::{Bounds, Certificate};
+use crate::fault::CertificateFault;
+use crate::source::{Source, jitter};
+use ds_domain_base::{Contract, Domain, fits};
+use moment_core::{Gap, bytes_over_ceil};
+use std::alloc::{AllocError, Global};
+
+/// The least certificate of some contracts in a domain: no certificate of theirs has a bound below its own.
+///
+/// Each contract's first bound is the burst that its traffic enters with, and each next one is larger by what its rate gives
+/// over the jitter of the link between, a begun byte counted whole (Cruz 1991, section II). No bound leaves its range.
+///
+/// Refused: `Shape` where a contract does not fit the domain, `NoMemory` where memory runs out.
+pub fn make(
+    alloc: Global,
+    domain: &Domain,
+    contracts: &[Contract],
+) -> Result<Certificate, CertificateFault>
+    ensures value { IfOk result (λ certificate. certificate ≡ least domain.now contracts.now) }
+    ensures meets { IfOk result (λ certificate. IsCertificate domain.now contracts.now certificate) }
+    ensures least { IfOk result (λ certificate. (other : List (List columns.Bound)) →
+        IsCertificate domain.now contracts.now other → AreAtMost certificate other) }
+    ensures refused { IfErr result (λ fault. (fault ≡ CertificateFault.NoMemory)
+        ⊎ ((fault ≡ CertificateFault.Shape) × (list_all (fits domain.now) contracts.now ≡ false))) }
+{
+    let mut bounds = Vec::with_capacity(alloc, contracts.len())?;
+    for contract in contracts {
+        if !is_fit(domain, contract) {
+            return Err(CertificateFault::Shape);
+        }
+        bounds.push(least_bounds(alloc, domain, contract)?)?;
+    }
+    Ok(Certificate::new(bounds))
+}
+
+/// Whether a contract fits a domain.
+fn is_fit(domain: &Domain, contract: &Contract) -> bool
+    ensures { result ≡ fits domain.now contract.now }
+{
+    fits(domain, contract).is_ok()
+}
+
+/// The least bounds of a contract that fits a domain.
+fn least_bounds(alloc: Global, domain: &Domain, contract: &Contract) -> Result<Bounds, AllocError>
+    requires { IsTrue (fits domain.now contract.now) }
+    ensures { IfOk result (λ bounds. bounds ≡ least_of domain.now contract.now) }
+{
+    let source = Source::of(domain, contract);
+    let path = contract.path.meters();
+    let mut hops = Vec::with_capacity(alloc, path.len() + 1)?;
+    let mut last = entering(&source);
+    hops.push(last)?;
+    let mut from = &contract.port;
+    for to in path {
+        let next = delayed(&source, jitter(domain, *from, *to), last);
+        hops.push(next)?;
+        last = next;
+        from = to;
+    }
+    Ok(Bounds::new(hops))
+}
+
+/// The least first bound of traffic: the bursts that it enters with.
+fn entering(source: &Source) -> Bound
+    requires { IsModerate source.now }
+    ensures value { result ≡ entering source.now }
+    ensures range { IsWithin (5 * 10 ^ 13) result }
+{
+    Bound::new(source.green.burst(), source.all.burst()).unwrap()
+}
+
+/// The least bound behind a link of a jitter.
+#[tactic(auto, using(crate::proofs::Volumes::bytes_over_most))]
+fn delayed(source: &Source, jitter: Gap, before: Bound) -> Bound
+    requires moderate { IsModerate source.now }
+    requires jitter { jitter ≤ 10 ^ 10 }
+    requires before { IsWithin (9 * 10 ^ 14) before }
+    ensures value { result ≡ delayed source.now jitter before }
+    ensures range { (result.green ≤ before.green + 25 * 10 ^ 12) × (result.all ≤ before.all + 25 * 10 ^ 12) }
+{
+    let green = u128::from(before.green()) + bytes_over_ceil(source.green.rate(), jitter);
+    let all = u128::from(before.all()) + bytes_over_ceil(source.all.rate(), jitter);
+    Bound::new(green as u64, all as u64).unwrap()
+}

@@ -1,0 +1,20 @@
+//! Certificates of a domain: bounds on the bursts of each contract at each hop of its path, the least ones, and their text.
+#![tactic(auto)]
+
+pub mod bound;
+pub mod certificate;
+pub mod fault;
+pub mod least;
+pub mod reading;
+pub mod source;
+#[cfg(test)]
+mod tests;
+pub mod writing;
+
+pub use bound::Bound;
+pub use certificate::{Bounds, Certificate};
+pub use fault::CertificateFault;
+pub use least::make;
+pub use reading::read;
+pub use source::{Source, jitter};
+pub use writing::write;

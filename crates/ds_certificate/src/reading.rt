@@ -1,0 +1,212 @@
+ghost use Rattle.std.specs.Prelude.{◌≡◌, ◌∷◌, [], ◌+◌, ◌≤◌, ◌^◌, ◌&&◌, ◌⊎◌, ⊤, length, nat_eq, nat_le, None, Some, Ok, Err, IsTrue, IfOk, IfErr, MatchOption, MatchResult};
+ghost use Rattle.std.specs.List.{list_all};
+ghost use Rattle.std.specs.Char.{is_ascii_digit};
+ghost use Rattle.line_text.specs.Lines.{lines_of};
+ghost use Rattle.line_text.specs.Numbers.{is_number, number_of, value_of};
+ghost use Rattle.ds_certificate.specs.Readings.{bound_in, bounds_in, certificate_in, ending_in, entry_in, rows_in};
+
+use crate::bound::Bound;
+use crate::certificate::{Bounds, Certificate};
+use crate::fault::CertificateFault;
+use ds_domain_base::{Contract, Name};
+use line_text::{cut, number, split_field, three_fields};
+use std::alloc::Global;
+
+/// The most digits that a number may have.
+const MOST_DIGITS: usize = 20;
+
+/// The certificate of some contracts that a text says: the heading `dscert 1`, and then for each contract and hop in turn a
+/// line `NAME HOP GREEN ALL`. LF ends a line, and the last may lack it.
+///
+/// Lines are judged in order. Refused: `Text` at a line that is not of that form, `Shape` at one that is not of the contract
+/// or the hop whose turn it is, or where lines are missing, `Range` at a bound above 10^15, and `NoMemory` where memory runs
+/// out.
+#[tactic(auto, unfolding(crate::specs::Readings::certificate_in))]
+pub fn read(
+    alloc: Global,
+    text: &[u8],
+    contracts: &[Contract],
+) -> Result<Certificate, CertificateFault>
+    ensures certificate { IfOk result (λ certificate. certificate_in contracts.now text.now ≡ Ok certificate) }
+    ensures refused { IfErr result (λ fault. (fault ≡ CertificateFault.NoMemory)
+        ⊎ (certificate_in contracts.now text.now ≡ Err fault)) }
+{
+    let Some((heading, rest)) = next_line(text) else {
+        return Err(CertificateFault::Shape);
+    };
+    if heading != b"dscert 1".as_slice() {
+        return Err(CertificateFault::Text);
+    }
+    rows_in(alloc, rest, contracts)
+}
+
+/// The certificate of some contracts that the lines behind the heading say.
+fn rows_in(
+    alloc: Global,
+    text: &[u8],
+    contracts: &[Contract],
+) -> Result<Certificate, CertificateFault>
+    ensures certificate { IfOk result (λ certificate. rows_in contracts.now (lines_of text.now) ≡ Ok certificate) }
+    ensures refused { IfErr result (λ fault. (fault ≡ CertificateFault.NoMemory)
+        ⊎ (rows_in contracts.now (lines_of text.now) ≡ Err fault)) }
+{
+    let mut rows = Vec::with_capacity(alloc, contracts.len())?;
+    let mut rest = text;
+    for contract in contracts {
+        match bounds_in(alloc, rest, contract) {
+            Ok((bounds, later)) => {
+                rows.push(bounds)?;
+                rest = later;
+            }
+            Err(fault) => return Err(fault),
+        }
+    }
+    match excess_in(rest) {
+        None => Ok(Certificate::new(rows)),
+        Some(fault) => Err(fault),
+    }
+}
+
+/// What is wrong with a text that stands behind the last bound, if it is not empty.
+fn excess_in(text: &[u8]) -> Option<CertificateFault>
+    ensures { MatchOption result (ending_in (lines_of text.now) ≡ Ok [])
+        (λ fault. ending_in (lines_of text.now) ≡ Err fault) }
+{
+    let (line, _later) = next_line(text)?;
+    if entry_in(line).is_some() {
+        Some(CertificateFault::Shape)
+    } else {
+        Some(CertificateFault::Text)
+    }
+}
+
+/// The bounds of a contract, with which a text begins, and what stands behind them.
+fn bounds_in<'a>(
+    alloc: Global,
+    text: &'a [u8],
+    contract: &Contract,
+) -> Result<(Bounds, &'a [u8]), CertificateFault>
+    ensures bounds { IfOk result (λ read.
+        bounds_in contract.now.name 0 (length contract.now.path + 1) (lines_of text.now) ≡ Ok (read.0, lines_of read.1.now)) }
+    ensures refused { IfErr result (λ fault. (fault ≡ CertificateFault.NoMemory)
+        ⊎ (bounds_in contract.now.name 0 (length contract.now.path + 1) (lines_of text.now) ≡ Err fault)) }
+{
+    let count = contract.path.meters().len() + 1;
+    let mut hops = Vec::with_capacity(alloc, count)?;
+    let mut rest = text;
+    for hop in 0..count {
+        let Some((line, later)) = next_line(rest) else {
+            return Err(CertificateFault::Shape);
+        };
+        match bound_in(contract.name, hop as u64, line) {
+            Ok(bound) => hops.push(bound)?,
+            Err(fault) => return Err(fault),
+        }
+        rest = later;
+    }
+    Ok((Bounds::new(hops), rest))
+}
+
+/// The bound that a line says, where it is that of a name at a hop.
+#[tactic(auto, unfolding(crate::specs::Readings::bound_in))]
+fn bound_in(name: Name, hop: u64, line: &[u8]) -> Result<Bound, CertificateFault>
+    ensures { result ≡ bound_in name hop line.now }
+{
+    let Some(entry) = entry_in(line) else {
+        return Err(CertificateFault::Text);
+    };
+    if entry.name != name.bytes() || !says(entry.hop, hop) {
+        return Err(CertificateFault::Shape);
+    }
+    let Some(green) = bytes(entry.green) else {
+        return Err(CertificateFault::Range);
+    };
+    let Some(all) = bytes(entry.all) else {
+        return Err(CertificateFault::Range);
+    };
+    Ok(Bound::new(green, all).unwrap())
+}
+
+/// The bytes of a bound that a text says, in its range.
+fn bytes(text: &[u8]) -> Option<u64>
+    ensures value { result ≡ number_of (10 ^ 15) text.now }
+    ensures range { MatchOption result ⊤ (λ bytes. bytes ≤ 10 ^ 15) }
+{
+    number(text, Bound::MOST)
+}
+
+/// The fields of a line of a bound.
+#[derive(Clone, Copy)]
+struct Entry<'a> {
+    /// The contract's name: at least one byte.
+    name: &'a [u8],
+    /// The number of the hop.
+    hop: &'a [u8],
+    /// The number of the bound on green packets.
+    green: &'a [u8],
+    /// The number of the bound on green and yellow packets.
+    all: &'a [u8],
+}
+
+/// The fields of a line, where it has the form of one of a bound.
+fn entry_in<'a>(line: &'a [u8]) -> Option<Entry<'a>>
+    ensures fields { MatchOption result (entry_in line.now ≡ None)
+        (λ e. entry_in line.now ≡ Some (record { name = e.name.now; hop = e.hop.now; green = e.green.now; all = e.all.now })) }
+    ensures hop { MatchOption result ⊤ (λ e. IsTrue (is_number e.hop.now)) }
+{
+    let (name, rest) = split_field(line);
+    let (hop, green, all) = three_fields(rest?)?;
+    let entry = Entry {
+        name,
+        hop,
+        green,
+        all,
+    };
+    if has_form(&entry) { Some(entry) } else { None }
+}
+
+/// Whether fields are a name of at least one byte, and three numbers.
+fn has_form(entry: &Entry<'_>) -> bool
+    ensures { result ≡ (nat_le 1 (length entry.now.name.now) && is_number entry.now.hop.now && is_number entry.now.green.now
+        && is_number entry.now.all.now) }
+{
+    !entry.name.is_empty() && is_number(entry.hop) && is_number(entry.green) && is_number(entry.all)
+}
+
+/// Whether a text is 1 to 20 decimal digits.
+#[tactic(auto, unfolding(line_text::specs::Numbers::is_number))]
+fn is_number(text: &[u8]) -> bool
+    ensures { result ≡ is_number text.now }
+{
+    (1..=MOST_DIGITS).contains(&text.len()) && has_digits_alone(text)
+}
+
+/// Whether a text has no other bytes than decimal digits.
+fn has_digits_alone(text: &[u8]) -> bool
+    ensures { result ≡ list_all is_ascii_digit text.now }
+{
+    text.iter().all(u8::is_ascii_digit)
+}
+
+/// Whether a number is this one.
+#[tactic(auto, unfolding(line_text::specs::Numbers::number_of))]
+fn says(digits: &[u8], value: u64) -> bool
+    requires { IsTrue (is_number digits.now) }
+    ensures { result ≡ nat_eq (value_of digits.now) value }
+{
+    number(digits, value) == Some(value)
+}
+
+/// The first line of a text, and what stands behind it; None for a text of no bytes.
+fn next_line(text: &[u8]) -> Option<(&[u8], &[u8])>
+    ensures { MatchOption result (lines_of text.now ≡ [])
+        (λ parts. lines_of text.now ≡ parts.0.now ∷ lines_of parts.1.now) }
+{
+    if text.is_empty() {
+        return None;
+    }
+    match cut(text, b'\n') {
+        Some((line, rest)) => Some((line, rest)),
+        None => Some((text, &text[text.len()..])),
+    }
+}

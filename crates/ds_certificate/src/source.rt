@@ -1,0 +1,137 @@
+ghost use Rattle.std.specs.Prelude.{◌≡◌, ◌+◌, ◌*◌, ◌≤◌, ◌^◌};
+ghost use Rattle.envelope_core.specs.Curve.{widened};
+ghost use Rattle.ds_domain_base.specs.Domains.{link_of, port_of};
+ghost use Rattle.ds_certificate.specs.Ranges.{IsModerate, IsModest};
+ghost use Rattle.ds_certificate.specs.Sources.{all_output, curve_of, green_output, jitter_of, skew_of, source_by, source_of};
+
+use ds_domain_base::{Contract, Domain, Name, Profile, Terms};
+use envelope_core::{Envelope, widen};
+use meter_book::Parameters;
+use moment_core::Gap;
+
+/// What a contract's traffic keeps where it enters a domain.
+#[derive(Clone, Copy, Debug, PartialEq, Eq, Hash)]
+pub struct Source {
+    /// What its green packets keep.
+    pub green: Envelope,
+    /// What its green and yellow packets keep.
+    pub all: Envelope,
+}
+
+impl Source {
+    /// What a contract's traffic keeps where it enters a domain (Cruz 1991, section II): for a trusted contract what it is
+    /// trusted with, for a policed one what leaves the meter at its edge, widened by the port's skew. A port that the domain
+    /// lacks counts as one without skew.
+    #[tactic(auto, unfolding(crate::specs::Sources::source_of))]
+    pub fn of(domain: &Domain, contract: &Contract) -> Self
+        ensures value { result ≡ source_of domain.now contract.now }
+        ensures moderate { IsModerate result }
+    {
+        let skew = skew(domain, contract.port);
+        source_by(skew, &contract.terms)
+    }
+}
+
+/// What traffic keeps that enters on these terms, at a port with a skew.
+fn source_by(skew: Gap, terms: &Terms) -> Source
+    requires { skew ≤ 10 ^ 10 }
+    ensures value { result ≡ source_by skew terms.now }
+    ensures moderate { IsModerate result }
+{
+    match terms {
+        Terms::Trusted {
+            committed,
+            peak: None,
+        } => {
+            let green = profile(*committed);
+            Source { green, all: green }
+        }
+        Terms::Trusted {
+            committed,
+            peak: Some(peak),
+        } => Source {
+            green: profile(*committed),
+            all: profile(*peak),
+        },
+        Terms::Policed { parameters, .. } => Source {
+            green: widened(green_output(parameters.get()), skew),
+            all: widened(all_output(parameters.get()), skew),
+        },
+    }
+}
+
+/// The envelope of a profile.
+fn profile(profile: Profile) -> Envelope
+    ensures value { result ≡ curve_of profile }
+    ensures modest { IsModest result }
+{
+    let Profile { rate, burst } = profile;
+    Envelope::new(rate.get(), u64::from(burst)).unwrap()
+}
+
+/// What leaves a meter with these parameters green.
+fn green_output(parameters: Parameters) -> Envelope
+    ensures value { result ≡ green_output parameters }
+    ensures modest { IsModest result }
+{
+    let (rate, burst) = match parameters {
+        Parameters::SrTcm(own) => (own.committed_rate, own.committed_burst),
+        Parameters::TrTcm(own) => (own.committed_rate, own.committed_burst),
+        Parameters::Rfc4115(own) => (own.committed_rate, own.committed_burst),
+    };
+    Envelope::new(rate.get(), u64::from(burst) + 1).unwrap()
+}
+
+/// What leaves a meter with these parameters green or yellow.
+fn all_output(parameters: Parameters) -> Envelope
+    ensures value { result ≡ all_output parameters }
+    ensures modest { IsModest result }
+{
+    match parameters {
+        Parameters::SrTcm(own) => {
+            let bursts = u64::from(own.committed_burst) + u64::from(own.excess_burst);
+            Envelope::new(own.committed_rate.get(), bursts + 1).unwrap()
+        }
+        Parameters::TrTcm(own) => {
+            Envelope::new(own.peak_rate.get(), u64::from(own.peak_burst) + 1).unwrap()
+        }
+        Parameters::Rfc4115(own) => {
+            let rates = own.committed_rate.get() + own.excess_rate.get();
+            let bursts = u64::from(own.committed_burst) + u64::from(own.excess_burst);
+            Envelope::new(rates, bursts + 2).unwrap()
+        }
+    }
+}
+
+/// The envelope of traffic that kept `envelope` and was delayed by delays that differ by at most a gap.
+#[tactic(auto, using(crate::proofs::Volumes::bytes_over_most))]
+fn widened(envelope: Envelope, gap: Gap) -> Envelope
+    requires gap { gap ≤ 10 ^ 10 }
+    requires modest { IsModest envelope }
+    ensures value { result ≡ widened gap envelope }
+    ensures moderate { (result.rate ≤ 2 * 10 ^ 13) × (result.burst ≤ 5 * 10 ^ 13) }
+{
+    widen(envelope, gap).unwrap()
+}
+
+/// The skew of the port of a name; none where the domain has no such port.
+fn skew(domain: &Domain, name: Name) -> Gap
+    ensures value { result ≡ skew_of (port_of domain.now name) }
+    ensures range { result ≤ 10 ^ 10 }
+{
+    match domain.port(name) {
+        Some(port) => port.skew.gap(),
+        None => Gap::NONE,
+    }
+}
+
+/// The jitter of the link from a name to a name; none where the domain has no such link.
+pub fn jitter(domain: &Domain, from: Name, to: Name) -> Gap
+    ensures value { result ≡ jitter_of (link_of domain.now from to) }
+    ensures range { result ≤ 10 ^ 10 }
+{
+    match domain.link(from, to) {
+        Some(link) => link.jitter.gap(),
+        None => Gap::NONE,
+    }
+}

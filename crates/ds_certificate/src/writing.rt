@@ -1,0 +1,85 @@
+ghost use Rattle.std.specs.Prelude.{◌≡◌, ℕ, ◌++◌, ◌∷◌, [], ◌⊎◌, ◌<◌, ◌^◌, suc, false, IsTrue, List, length, nat_eq, Ok, IfOk, IfErr, OnOk};
+ghost use Rattle.line_text.specs.Lines.{has_byte, lines_of};
+ghost use Rattle.ds_certificate.specs.Readings.{bound_in, bounds_in, certificate_in};
+ghost use Rattle.ds_certificate.specs.Texts.{ended, is_shaped, line_of, lines_from, text_of};
+
+use crate::bound::Bound;
+use crate::certificate::{Bounds, Certificate};
+use crate::fault::CertificateFault;
+use ds_domain_base::{Contract, Name};
+use line_text::push_number;
+use std::alloc::{AllocError, Global};
+
+/// The text of a certificate of some contracts: a heading, and for each contract and hop in turn a line `NAME HOP GREEN ALL`,
+/// each ended by LF. What is written so reads as the same certificate.
+///
+/// Refused: `Shape` where the bounds are not one more for each contract than its path has meters, `NoMemory` where memory
+/// runs out.
+pub fn write(
+    alloc: Global,
+    certificate: &Certificate,
+    contracts: &[Contract],
+) -> Result<Vec<u8>, CertificateFault>
+    ensures text { IfOk result (λ text. text.items ≡ text_of contracts.now certificate.now) }
+    ensures shape { IfOk result (λ _. IsTrue (is_shaped contracts.now certificate.now)) }
+    ensures reads { IfOk result (λ text. certificate_in contracts.now text.items ≡ Ok certificate.now) }
+    ensures refused { IfErr result (λ fault. (fault ≡ CertificateFault.NoMemory)
+        ⊎ ((fault ≡ CertificateFault.Shape) × (is_shaped contracts.now certificate.now ≡ false))) }
+{
+    let mut text = Vec::new(alloc);
+    text.extend_from_slice(b"dscert 1\n")?;
+    let mut rows = certificate.bounds();
+    for contract in contracts {
+        let Some((bounds, later)) = rows.split_first() else {
+            return Err(CertificateFault::Shape);
+        };
+        if !is_long(bounds, contract) {
+            return Err(CertificateFault::Shape);
+        }
+        push_bounds(&mut text, contract.name, bounds)?;
+        rows = later;
+    }
+    if rows.is_empty() {
+        Ok(text)
+    } else {
+        Err(CertificateFault::Shape)
+    }
+}
+
+/// Whether there is one bound more than a contract's path has meters.
+fn is_long(bounds: &Bounds, contract: &Contract) -> bool
+    ensures { result ≡ nat_eq (length bounds.now) (suc (length contract.now.path)) }
+{
+    bounds.hops().len() == contract.path.meters().len() + 1
+}
+
+/// Appends the lines of a contract's bounds, from hop 0 on.
+fn push_bounds(text: &mut Vec<u8>, name: Name, bounds: &Bounds) -> Result<(), AllocError>
+    ensures lines { OnOk result (text.new.items ≡ text.old.items ++ ended (lines_from name 0 bounds.now)) }
+    ensures reads { OnOk result ((later : List ℕ) →
+        bounds_in name 0 (length bounds.now) (lines_of (ended (lines_from name 0 bounds.now) ++ later)) ≡ Ok (bounds.now, lines_of later)) }
+{
+    let mut hop = 0;
+    for bound in bounds.hops() {
+        push_bound(text, name, hop, *bound)?;
+        hop += 1;
+    }
+    Ok(())
+}
+
+/// Appends the line of a bound.
+fn push_bound(text: &mut Vec<u8>, name: Name, hop: u64, bound: Bound) -> Result<(), AllocError>
+    ensures line { OnOk result (text.new.items ≡ text.old.items ++ line_of name hop bound ++ 10 ∷ []) }
+    ensures one_line { OnOk result (has_byte 10 (line_of name hop bound) ≡ false) }
+    ensures reads { OnOk result (bound_in name hop (line_of name hop bound) ≡ Ok bound) }
+{
+    text.extend_from_slice(name.bytes())?;
+    text.push(b' ')?;
+    push_number(text, hop)?;
+    text.push(b' ')?;
+    push_number(text, bound.green())?;
+    text.push(b' ')?;
+    push_number(text, bound.all())?;
+    text.push(b'\n')?;
+    Ok(())
+}
