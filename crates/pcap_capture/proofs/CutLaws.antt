@@ -2,7 +2,7 @@
 use Rattle.std.proofs.Common.{◌≡◌, ℕ, ◌≤◌, zero, suc, List, [], ◌∷◌, ◌++◌, length, drop, Option, None, Some, Result, Ok, Err, append_assoc, refl, sym, ◌∙◌, ap, arith}
 use Rattle.std.proofs.lemmas.List.{drop-append-le}
 use Rattle.pcap_capture.specs.Frames.{FrameValue}
-use Rattle.pcap_capture.specs.Grammar.{CaptureState, IsSoFar, Next, Partial, TooLong, Whole, Reading, after_heading, capture, continued, continued_from, from_next, heading_of, next_of, prepend, read_on, reading, records, waiting}
+use Rattle.pcap_capture.specs.Grammar.{CaptureState, IsSoFar, Next, Partial, TooLong, Whole, Reading, after_heading, capture, continued, continued_from, ending, fault_after, fault_in, from_next, heading_of, next_of, prepend, read_on, reading, records, waiting}
 use Rattle.pcap_capture.specs.declared.fault.PcapFault.{PcapFault}
 use Rattle.pcap_capture.specs.declared.heading.Heading.{Heading}
 use Rattle.pcap_capture.specs.declared.stage.Stage.{Stage}
@@ -82,3 +82,10 @@ so_far bytes piece before frames state h =
 pub capture_empty : capture [] ≡ waiting Opening []
 unfolding capture heading_of
 capture_empty = refl
+
+-- where the bytes so far have no fault, it is their end that may have one
+pub fault_so_far : (bytes : List ℕ) (before frames : List FrameValue) (state : CaptureState) → IsSoFar bytes before state frames → fault_in bytes ≡ ending state
+fault_so_far bytes before frames state h =
+    let fault : (capture bytes).fault ≡ None = sym (ap (λ (r : Reading). r.fault) h) in
+    let was : (capture bytes).state ≡ state = sym (ap (λ (r : Reading). r.state) h) in
+    ap (λ f. fault_after f (capture bytes).state) fault ∙ ap ending was

@@ -165,6 +165,15 @@ ending state = elim (state.stage) [
   | Broken ↦ Some Failed
 ]
 
+-- the fault that was found in a reading, or else at its end
+abbrev pub fault_after : Option PcapFault → CaptureState → Option PcapFault
+fault_after None state = ending state
+fault_after (Some fault) state = Some fault
+
+-- the first fault that stands in the bytes of a capture, if any
+abbrev pub fault_in : List ℕ → Option PcapFault
+fault_in bytes = fault_after (capture bytes).fault (capture bytes).state
+
 -- what more bytes make of a reading: a fault stands
 abbrev pub continued_from : Option PcapFault → Reading → List ℕ → Reading
 continued_from None read more = prepend read.frames (reading read.state more)

@@ -1,6 +1,6 @@
 ghost use Rattle.std.specs.Prelude.{◌≡◌, ℕ, List, ◌++◌, [], None, Some, IfErr, IfOk, OnOk, MatchResult};
 ghost use Rattle.pcap_capture.specs.Frames.{FrameValue};
-ghost use Rattle.pcap_capture.specs.Grammar.{CaptureState, IsSettled, IsSoFar, Reading, continued, Stops, broken, capture, ending, heading_of, prepend, reading};
+ghost use Rattle.pcap_capture.specs.Grammar.{CaptureState, IsSettled, IsSoFar, Reading, continued, Stops, broken, capture, ending, fault_in, heading_of, prepend, reading};
 
 use crate::fault::PcapFault;
 use crate::frame::Frame;
@@ -100,6 +100,20 @@ impl Capture {
     ///
     /// Refused: `Truncated` in the middle of the heading or of a record, and `Failed` after any fault.
     pub fn finish(&mut self) -> Result<(), PcapFault>
+        ensures state { MatchResult result
+            (λ _. (ending self.old ≡ None) × (self.new ≡ self.old))
+            (λ fault. (ending self.old ≡ Some fault) × (self.new ≡ broken)) }
+        ensures so_far { (bytes : List ℕ) (before frames : List FrameValue) → IsSoFar bytes before self.old frames → MatchResult result
+            (λ _. fault_in bytes ≡ None)
+            (λ fault. fault_in bytes ≡ Some fault) }
+    {
+        match self.end() {
+            Ok(()) => Ok(()),
+            Err(fault) => Err(fault),
+        }
+    }
+
+    fn end(&mut self) -> Result<(), PcapFault>
         ensures { MatchResult result
             (λ _. (ending self.old ≡ None) × (self.new ≡ self.old))
             (λ fault. (ending self.old ≡ Some fault) × (self.new ≡ broken)) }
