@@ -1,4 +1,5 @@
 pub mod LeastLaws
 pub mod ReadingLaws
+pub mod ShapeLaws
 pub mod TextLaws
 pub mod Volumes

@@ -107,10 +107,14 @@ pub rows_in-bad : (done : List (List Bound)) (contracts : List Contract) (i : �
 unfolding rows_in
 rows_in-bad done contracts i c lines fault inside is_c read = rw (here contracts i c inside is_c, read) refl
 
-pub rows_in-ended : (done : List (List Bound)) (contracts : List Contract) (i : ℕ) (lines : List (List ℕ)) → length contracts ≤ i → ending_in lines ≡ Ok []
+rows_in-ended : (done : List (List Bound)) (contracts : List Contract) (i : ℕ) (lines : List (List ℕ)) → length contracts ≤ i → ending_in lines ≡ Ok []
     → rows_ahead done (rows_in (drop i contracts) lines) ≡ Ok done
 unfolding rows_in
 rows_in-ended done contracts i lines all end = rw (drop_all i contracts all, end) (ap Ok (append-nil done))
+
+pub read_whole : (contracts : List Contract) (lines : List (List ℕ)) (done result : List (List Bound)) (i : ℕ) (rest : List (List ℕ)) → length contracts ≤ i → ending_in rest ≡ Ok []
+    → rows_ahead done (rows_in (drop i contracts) rest) ≡ rows_in contracts lines → result ≡ done → rows_in contracts lines ≡ Ok result
+read_whole contracts lines done result i rest all end kept is = sym kept ∙ rows_in-ended done contracts i rest all end ∙ ap Ok (sym is)
 
 pub rows_in-excess : (done : List (List Bound)) (contracts : List Contract) (i : ℕ) (lines : List (List ℕ)) (fault : CertificateFault) → length contracts ≤ i → ending_in lines ≡ Err fault
     → rows_ahead done (rows_in (drop i contracts) lines) ≡ Err fault

@@ -4,6 +4,7 @@ ghost use Rattle.std.specs.Char.{is_ascii_digit};
 ghost use Rattle.line_text.specs.Lines.{lines_of};
 ghost use Rattle.line_text.specs.Numbers.{is_number, number_of, value_of};
 ghost use Rattle.ds_certificate.specs.Readings.{bound_in, bounds_in, certificate_in, ending_in, entry_in, rows_in};
+ghost use Rattle.ds_certificate.specs.Texts.{is_shaped};
 
 use crate::bound::Bound;
 use crate::certificate::{Bounds, Certificate};
@@ -28,6 +29,7 @@ pub fn read(
     contracts: &[Contract],
 ) -> Result<Certificate, CertificateFault>
     ensures certificate { IfOk result (λ certificate. certificate_in contracts.now text.now ≡ Ok certificate) }
+    ensures shape { IfOk result (λ certificate. IsTrue (is_shaped contracts.now certificate)) }
     ensures refused { IfErr result (λ fault. (fault ≡ CertificateFault.NoMemory)
         ⊎ (certificate_in contracts.now text.now ≡ Err fault)) }
 {
@@ -47,6 +49,7 @@ fn rows_in(
     contracts: &[Contract],
 ) -> Result<Certificate, CertificateFault>
     ensures certificate { IfOk result (λ certificate. rows_in contracts.now (lines_of text.now) ≡ Ok certificate) }
+    ensures shape { IfOk result (λ certificate. IsTrue (is_shaped contracts.now certificate)) }
     ensures refused { IfErr result (λ fault. (fault ≡ CertificateFault.NoMemory)
         ⊎ (rows_in contracts.now (lines_of text.now) ≡ Err fault)) }
 {

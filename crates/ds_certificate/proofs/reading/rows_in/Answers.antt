@@ -1,6 +1,7 @@
 use Rattle.std.proofs.Common.{◌≡◌, Ok, inl, inr, ap, sym, ◌∙◌, arith}
 use Rattle.line_text.specs.Lines.{lines_of}
-use Rattle.ds_certificate.proofs.ReadingLaws.{rows_in-bad, rows_in-contract, rows_in-ended, rows_in-excess}
+use Rattle.ds_certificate.proofs.ReadingLaws.{rows_in-bad, rows_in-contract, read_whole, rows_in-excess}
+use Rattle.ds_certificate.proofs.ShapeLaws.{rows_in-shape}
 use Rattle.ds_certificate.proofs.reading.rows_in.Goals as goal
 
 pub returns-in-Err-clause-refused : goal.returns-in-Err-clause-refused
@@ -19,9 +20,14 @@ loop-contract-preserved c =
 
 pub returns-in-None-clause-certificate : goal.returns-in-None-clause-certificate
 returns-in-None-clause-certificate c =
-    sym c.loop-contract.invariant
-    ∙ rows_in-ended c.loop-contract.rows.items c.args.contracts.now c.loop-contract.contract-index (lines_of c.loop-contract.rest.now) (omega arith) c.in-None.ensures
-    ∙ ap Ok (sym c.new.ensures)
+    read_whole c.args.contracts.now (lines_of c.args.text.now) c.loop-contract.rows.items c.new.result c.loop-contract.contract-index (lines_of c.loop-contract.rest.now)
+      (omega arith) c.in-None.ensures c.loop-contract.invariant c.new.ensures
+
+pub returns-in-None-clause-shape : goal.returns-in-None-clause-shape
+returns-in-None-clause-shape c =
+    rows_in-shape c.args.contracts.now (lines_of c.args.text.now) c.new.result
+      (read_whole c.args.contracts.now (lines_of c.args.text.now) c.loop-contract.rows.items c.new.result c.loop-contract.contract-index (lines_of c.loop-contract.rest.now)
+        (omega arith) c.in-None.ensures c.loop-contract.invariant c.new.ensures)
 
 pub returns-in-Some-clause-refused : goal.returns-in-Some-clause-refused
 returns-in-Some-clause-refused c =
