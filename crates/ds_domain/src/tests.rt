@@ -1,33 +1,49 @@
 use crate::{
-    Contract, Delay, Domain, DomainFault, Link, Meter, Name, Port, Profile, SoundParameters, Terms,
+    Contract, Domain, DomainFault, Name, Profile, SoundParameters, Terms,
     parse,
 };
 use flow_classifier::Prefix;
 use meter_book::Parameters;
-use moment_core::{Mode, Moment, Rate};
+use moment_core::{Mode, Rate};
 use std::alloc::Global;
 use std::process::Abort;
 use std::test::Fail;
 use trtcm_core::TrTcmParameters;
 
-const METER: &str =
-    "[[meter]]\nname = \"m\"\nkind = \"trtcm\"\ncir = 24000000\ncbs = 13500\npir = 24000000\npbs = 13500\nskew = 500000\n";
+/// The meter of the example domains.
+fn a_meter() -> &'static str {
+    "[[meter]]\nname = \"m\"\nkind = \"trtcm\"\ncir = 24000000\ncbs = 13500\npir = 24000000\npbs = 13500\nskew = 500000\n"
+}
 
-const PORT: &str = "[[port]]\nname = \"p\"\nskew = 0\n";
+/// Their port.
+fn a_port() -> &'static str {
+    "[[port]]\nname = \"p\"\nskew = 0\n"
+}
 
-const LINK: &str = "[[link]]\nfrom = \"p\"\nto = \"m\"\nfloor = 0\njitter = 1000000\n";
+/// Their link.
+fn a_link() -> &'static str {
+    "[[link]]\nfrom = \"p\"\nto = \"m\"\nfloor = 0\njitter = 1000000\n"
+}
 
-const FIRST: &str =
-    "[[contract]]\nname = \"a\"\nkind = \"trusted\"\nport = \"p\"\npath = [\"m\"]\nclass = 1\ncir = 8000000\ncbs = 3000\nsrc = \"10.0.0.0/24\"\n";
+/// The first of three trusted contracts.
+fn first_trusted() -> &'static str {
+    "[[contract]]\nname = \"a\"\nkind = \"trusted\"\nport = \"p\"\npath = [\"m\"]\nclass = 1\ncir = 8000000\ncbs = 3000\nsrc = \"10.0.0.0/24\"\n"
+}
 
-const SECOND: &str =
-    "[[contract]]\nname = \"b\"\nkind = \"trusted\"\nport = \"p\"\npath = [\"m\"]\nclass = 2\ncir = 8000000\ncbs = 3000\nsrc = \"10.0.1.0/24\"\n";
+/// The second.
+fn second_trusted() -> &'static str {
+    "[[contract]]\nname = \"b\"\nkind = \"trusted\"\nport = \"p\"\npath = [\"m\"]\nclass = 2\ncir = 8000000\ncbs = 3000\nsrc = \"10.0.1.0/24\"\n"
+}
 
-const THIRD: &str =
-    "[[contract]]\nname = \"c\"\nkind = \"trusted\"\nport = \"p\"\npath = [\"m\"]\nclass = 3\ncir = 8000000\ncbs = 3000\nsrc = \"10.0.2.0/24\"\n";
+/// The third.
+fn third_trusted() -> &'static str {
+    "[[contract]]\nname = \"c\"\nkind = \"trusted\"\nport = \"p\"\npath = [\"m\"]\nclass = 3\ncir = 8000000\ncbs = 3000\nsrc = \"10.0.2.0/24\"\n"
+}
 
-const POLICED: &str =
-    "[[contract]]\nname = \"u\"\nkind = \"trtcm\"\nport = \"p\"\npath = [\"m\"]\nclass = 1\nmode = \"blind\"\ncir = 8000000\ncbs = 1500\npir = 16000000\npbs = 3000\nprotocol = 17\n";
+/// A policed contract.
+fn a_policed() -> &'static str {
+    "[[contract]]\nname = \"u\"\nkind = \"trtcm\"\nport = \"p\"\npath = [\"m\"]\nclass = 1\nmode = \"blind\"\ncir = 8000000\ncbs = 1500\npir = 16000000\npbs = 3000\nprotocol = 17\n"
+}
 
 /// The text of these parts, one behind the other.
 fn text_of(alloc: Global, parts: &[&str]) -> Result<String, Fail> {
@@ -66,51 +82,31 @@ fn fault_of(alloc: Global, parts: &[&str]) -> Result<Option<Found>, Fail> {
 /// Asserts that the first fault of the text of these parts is this one.
 fn refused(rt: &impl Abort, alloc: Global, parts: &[&str], wanted: Found) -> Result<(), Fail> {
     let found = fault_of(alloc, parts)?;
-    assert!(rt; found == Some(wanted), "{parts:?} gave {found:?}");
+    assert!(rt; found == Some(wanted), "gave {found:?}");
     Ok(())
 }
 
-/// The meter of the example domains.
-fn example_meter() -> Result<Meter, Fail> {
-    let rate = Rate::new(24_000_000)?;
-    let parameters = SoundParameters::new(Parameters::TrTcm(TrTcmParameters {
-        committed_rate: rate,
-        committed_burst: 13_500,
-        peak_rate: rate,
-        peak_burst: 13_500,
-    }))?;
-    Ok(Meter {
-        parameters,
-        skew: Delay::new(500_000)?,
-        origin: Moment::new(0)?,
-    })
+/// How many meters, ports and links a domain has.
+fn sizes_of(domain: &Domain) -> (usize, usize, usize) {
+    (
+        domain.meters().len(),
+        domain.ports().len(),
+        domain.links().len(),
+    )
 }
 
 #[test]
 fn the_domain_of_three_trusted_contracts(rt: HostRuntime) -> Result<(), Fail> {
-    let (domain, contracts) = parsed(rt.alloc(), &[METER, PORT, LINK, FIRST, SECOND, THIRD])??;
-    let (m, p) = (Name::new("m")?, Name::new("p")?);
-    assert!(rt; domain.meter(m) == Some(example_meter()?));
-    assert!(rt;
-        domain.port(p)
-            == Some(Port {
-                skew: Delay::new(0)?
-            })
-    );
-    assert!(rt;
-        domain.link(p, m)
-            == Some(Link {
-                floor: Delay::new(0)?,
-                jitter: Delay::new(1_000_000)?
-            })
-    );
+    let (domain, contracts) =
+        parsed(rt.alloc(), &[a_meter(), a_port(), a_link(), first_trusted(), second_trusted(), third_trusted()])??;
     assert!(rt; contracts.len() == 3);
+    assert!(rt; sizes_of(&domain) == (1, 1, 1));
     Ok(())
 }
 
 #[test]
 fn the_second_of_three_trusted_contracts(rt: HostRuntime) -> Result<(), Fail> {
-    let (_, contracts) = parsed(rt.alloc(), &[METER, PORT, LINK, FIRST, SECOND, THIRD])??;
+    let (_, contracts) = parsed(rt.alloc(), &[a_meter(), a_port(), a_link(), first_trusted(), second_trusted(), third_trusted()])??;
     assert!(rt; contracts.len() == 3);
     let second = &contracts[1];
     let committed = Profile {
@@ -132,7 +128,7 @@ fn the_second_of_three_trusted_contracts(rt: HostRuntime) -> Result<(), Fail> {
 
 #[test]
 fn one_policed_contract(rt: HostRuntime) -> Result<(), Fail> {
-    let (_, contracts) = parsed(rt.alloc(), &[METER, PORT, LINK, POLICED])??;
+    let (_, contracts) = parsed(rt.alloc(), &[a_meter(), a_port(), a_link(), a_policed()])??;
     assert!(rt; contracts.len() == 1);
     let parameters = SoundParameters::new(Parameters::TrTcm(TrTcmParameters {
         committed_rate: Rate::new(8_000_000)?,
@@ -185,30 +181,30 @@ fn meters_that_are_refused(rt: HostRuntime) -> Result<(), Fail> {
     refused(
         &rt,
         rt.alloc(),
-        &[METER, "depth = 1\n"],
+        &[a_meter(), "depth = 1\n"],
         (2, "meter", 0, ""),
     )?;
     refused(
         &rt,
         rt.alloc(),
-        &[METER, "mode = \"blind\"\n"],
+        &[a_meter(), "mode = \"blind\"\n"],
         (9, "meter", 0, "mode"),
     )?;
     refused(
         &rt,
         rt.alloc(),
-        &[METER, PORT, METER],
+        &[a_meter(), a_port(), a_meter()],
         (4, "meter", 1, "name"),
     )
 }
 
 #[test]
 fn links_that_are_refused(rt: HostRuntime) -> Result<(), Fail> {
-    refused(&rt, rt.alloc(), &[METER, LINK], (5, "link", 0, "from"))?;
+    refused(&rt, rt.alloc(), &[a_meter(), a_link()], (5, "link", 0, "from"))?;
     refused(
         &rt,
         rt.alloc(),
-        &[METER, PORT, LINK, LINK],
+        &[a_meter(), a_port(), a_link(), a_link()],
         (4, "link", 1, "from"),
     )
 }
@@ -229,25 +225,25 @@ fn ways_that_are_refused(rt: HostRuntime) -> Result<(), Fail> {
     refused(
         &rt,
         rt.alloc(),
-        &[METER, PORT, LINK, unknown.as_str()],
+        &[a_meter(), a_port(), a_link(), unknown.as_str()],
         (5, "contract", 0, "port"),
     )?;
     refused(
         &rt,
         rt.alloc(),
-        &[METER, PORT, LINK, empty.as_str()],
+        &[a_meter(), a_port(), a_link(), empty.as_str()],
         (8, "contract", 0, "path"),
     )?;
     refused(
         &rt,
         rt.alloc(),
-        &[METER, PORT, LINK, twice.as_str()],
+        &[a_meter(), a_port(), a_link(), twice.as_str()],
         (7, "contract", 0, "path"),
     )?;
     refused(
         &rt,
         rt.alloc(),
-        &[METER, PORT, FIRST],
+        &[a_meter(), a_port(), first_trusted()],
         (6, "contract", 0, "path"),
     )
 }
@@ -263,13 +259,13 @@ fn the_first_of_two_faults(rt: HostRuntime) -> Result<(), Fail> {
     refused(
         &rt,
         rt.alloc(),
-        &[METER, PORT, FIRST, "since = 2\nuntil = 1\n"],
+        &[a_meter(), a_port(), first_trusted(), "since = 2\nuntil = 1\n"],
         (3, "contract", 0, "until"),
     )?;
     refused(
         &rt,
         rt.alloc(),
-        &["port = 1\n", METER, METER],
+        &["port = 1\n", a_meter(), a_meter()],
         (2, "top", 0, "port"),
     )
 }
