@@ -1,4 +1,4 @@
-use Rattle.std.proofs.Common.{◌≡◌, Ok, inl, inr, ap, sym, ◌∙◌, arith}
+use Rattle.std.proofs.Common.{inl, inr, sym, ◌∙◌, arith}
 use Rattle.line_text.specs.Lines.{lines_of}
 use Rattle.ds_certificate.proofs.ReadingLaws.{rows_in-bad, rows_in-contract, read_whole, rows_in-excess}
 use Rattle.ds_certificate.proofs.ShapeLaws.{rows_in-shape}
