@@ -1,12 +1,11 @@
 -- The least bounds meet what bounds must, and no others that do are below them.
-use Rattle.std.proofs.Common.{rules, append_assoc, append-nil, drop, get_or, ◌++◌, ◌≡◌, ℕ, suc, ◌+◌, ◌≤◌, ◌<◌, Bool, true, false, ◌&&◌, ◌||◌, List, [], ◌∷◌, length, map, Option, None, Some, is_none, nat_lt, IsTrue, refl, sym, ap, ◌∙◌, arith, if◌then◌else◌}
+use Rattle.std.proofs.Common.{rules, append_assoc, append-nil, drop, get_or, ◌++◌, ◌≡◌, ℕ, suc, ◌+◌, ◌≤◌, ◌<◌, true, List, [], ◌∷◌, length, IsTrue, refl, sym, ap, ◌∙◌, arith}
 use Rattle.std.specs.List.{AllZip, list_all}
 use Rattle.std.proofs.lemmas.Bool.{and_parts}
 use Rattle.std.proofs.lemmas.List.{drop_all, drop_more}
 use Rattle.std.proofs.lemmas.Bool.Decides.{nat_tests}
 use Rattle.moment_core.specs.Volume.{bytes_over}
 use Rattle.ds_domain_base.specs.Domains.{Domain, link_of}
-use Rattle.ds_domain_base.specs.Fitting.{way_fault}
 use Rattle.ds_domain_base.specs.declared.contract.Contract.{Contract}
 use Rattle.ds_certificate.specs.Bounds.{AreAtMost, Grows, HasShape, IsAtMost, IsCertificate, Meets, MeetsIn, delayed, entering, fits, least, least_along, least_behind, least_of}
 use Rattle.ds_certificate.specs.Columns.{Bound, Column, green_column, all_column}

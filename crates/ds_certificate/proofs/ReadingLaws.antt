@@ -1,13 +1,13 @@
 -- What a reader of a certificate's lines needs.
-use Rattle.std.proofs.Common.{rules, append_assoc, append-nil, get_or, take, ◌≡◌, ◌≢◌, ℕ, zero, suc, ◌+◌, ◌-◌, ◌≤◌, ◌<◌, Bool, true, false, ◌&&◌, leb, List, [], ◌∷◌, ◌++◌, drop, length, Option, None, Some, Result, Ok, Err, refl, sym, ap, ◌∙◌, arith, if◌then◌else◌}
+use Rattle.std.proofs.Common.{rules, append_assoc, append-nil, get_or, take, ◌≡◌, ◌≢◌, ℕ, suc, ◌+◌, ◌-◌, ◌≤◌, ◌<◌, Bool, false, ◌&&◌, leb, List, [], ◌∷◌, ◌++◌, drop, length, None, Some, Result, Ok, Err, refl, sym, ap, ◌∙◌, arith, if◌then◌else◌}
 use Rattle.std.proofs.lemmas.Bool.Decides.{nat_tests}
 use Rattle.std.proofs.lemmas.List.{drop_all, drop_more}
 use Rattle.line_text.specs.Lines.{fields_of, has_byte, lines_of}
 use Rattle.line_text.specs.Numbers.{is_number, number_of}
-use Rattle.line_text.proofs.LineLemmas.{lines_of-cut, lines_of-nil, lines_of-uncut}
+use Rattle.line_text.proofs.LineLemmas.{lines_of-nil, lines_of-uncut}
 use Rattle.ds_domain_base.specs.declared.contract.Contract.{Contract}
 use Rattle.ds_certificate.specs.Columns.{Bound}
-use Rattle.ds_certificate.specs.Readings.{Entry, Read, and_then, bound_in, bounds_in, ending_in, entry_in, entry_of, onto, row_onto, rows_in}
+use Rattle.ds_certificate.specs.Readings.{Read, bound_in, bounds_in, ending_in, entry_in, entry_of, onto, row_onto, rows_in}
 use Rattle.ds_certificate.specs.declared.fault.CertificateFault.{CertificateFault}
 use Rattle.ds_certificate.specs.declared.fault.CertificateFault.TheVariants.{Shape}
 

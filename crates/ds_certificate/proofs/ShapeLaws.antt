@@ -1,5 +1,5 @@
 -- A certificate that is read has the shape of its contracts.
-use Rattle.std.proofs.Common.{rules, ◌≡◌, ℕ, zero, suc, ◌+◌, Bool, true, false, ◌&&◌, eqb, List, [], ◌∷◌, length, Result, Ok, Err, refl, sym, ap, subst, ◌∙◌, arith}
+use Rattle.std.proofs.Common.{◌≡◌, ℕ, zero, suc, ◌+◌, true, eqb, List, [], ◌∷◌, length, Result, Ok, Err, refl, sym, ap, subst, ◌∙◌, arith}
 use Rattle.std.proofs.lemmas.Bool.Decides.{nat_tests}
 use Rattle.ds_domain_base.specs.declared.contract.Contract.{Contract}
 use Rattle.ds_certificate.specs.Columns.{Bound}
@@ -34,7 +34,7 @@ unfolding is_shaped
 row_shape c contracts bounds (Err fault) rows long behind is = absurd cc
 row_shape c contracts bounds (Ok rest) rows long behind is =
     subst (λ (all : List (List Bound)). is_shaped (c ∷ contracts) all ≡ true) (ok_is (Ok (bounds ∷ rest)) refl is)
-      (rw (long_test (length bounds) (length c.path) long) (behind rest refl))
+    (rw (long_test (length bounds) (length c.path) long) (behind rest refl))
 
 rows_shape : (c : Contract) (contracts : List Contract) (read : Result Read CertificateFault) (rows : List (List Bound))
     → ((r : Read) → read ≡ Ok r → length r.0 ≡ length c.path + 1) → ((left : List (List ℕ)) (rest : List (List Bound)) → rows_in contracts left ≡ Ok rest → is_shaped contracts rest ≡ true)

@@ -1,8 +1,7 @@
 -- What is written of a certificate, and that it reads as the same.
-use Rattle.std.proofs.Common.{rules, append_assoc, append-nil, length-append, drop, get_or, ◌≡◌, ℕ, zero, suc, ◌+◌, ◌*◌, ◌-◌, ◌/◌, ◌%◌, ◌≤◌, ◌<◌, ◌^◌, Bool, true, false, ◌&&◌, ◌||◌, eqb, leb, List, [], ◌∷◌, ◌++◌, length, fold, Option, None, Some, Result, Ok, Err, codes, decimal, IsTrue, refl, sym, ap, subst, ◌∙◌, arith, if◌then◌else◌}
+use Rattle.std.proofs.Common.{rules, append_assoc, append-nil, length-append, drop, get_or, ◌≡◌, ℕ, suc, ◌+◌, ◌/◌, ◌%◌, ◌≤◌, ◌<◌, ◌^◌, Bool, true, false, ◌&&◌, ◌||◌, eqb, leb, List, [], ◌∷◌, ◌++◌, length, fold, Option, None, Some, Ok, Err, codes, decimal, IsTrue, refl, sym, ap, subst, ◌∙◌, arith, if◌then◌else◌}
 use Rattle.std.specs.List.{list_all}
 use Rattle.std.specs.Char.{is_ascii_digit}
-use Rattle.std.specs.Str.{bytes_eq}
 use Rattle.std.specs.Cmp.Lexicographic.{nat_list_eq_equiv}
 use Rattle.std.proofs.lemmas.Bool.{and_parts, eqb-true, false≢true}
 use Rattle.std.proofs.lemmas.Bool.Decides.{nat_tests}
@@ -19,7 +18,6 @@ use Rattle.ds_domain_base.specs.declared.contract.Contract.{Contract}
 use Rattle.ds_certificate.specs.Columns.{Bound}
 use Rattle.ds_certificate.specs.Readings.{Entry, bound_in, bound_of, bounds_in, certificate_in, entry_in, entry_of, rows_in, said_of}
 use Rattle.ds_certificate.specs.Texts.{ended, heading, is_shaped, line_of, lines_for, lines_from, text_of}
-use Rattle.ds_certificate.specs.declared.fault.CertificateFault.{CertificateFault}
 use Rattle.ds_certificate.specs.declared.fault.CertificateFault.TheVariants.{Shape}
 
 -- the decimal digits of a number

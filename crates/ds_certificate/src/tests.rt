@@ -90,18 +90,22 @@ fn alone(alloc: Global) -> Result<Vec<Contract>, Fail> {
     Ok(contracts)
 }
 
-/// The text of the least certificate of a contract over meter `m`.
+/// The policed contract `u` over meter `m`, alone.
+fn policed_alone(alloc: Global) -> Result<Vec<Contract>, Fail> {
+    let mut contracts = Vec::new(alloc);
+    contracts.push(contract(alloc, "u", policed()?, "m")?)?;
+    Ok(contracts)
+}
+
+/// The text of the least certificate of contracts.
 fn least_text(
     alloc: Global,
-    name: &str,
-    terms: Terms,
+    contracts: &[Contract],
     skew: u64,
     jitter: u64,
 ) -> Result<Vec<u8>, Fail> {
-    let mut contracts = Vec::new(alloc);
-    contracts.push(contract(alloc, name, terms, "m")?)?;
-    let least = make(alloc, &domain(alloc, skew, jitter)?, contracts.as_slice())?;
-    Ok(write(alloc, &least, contracts.as_slice())?)
+    let least = make(alloc, &domain(alloc, skew, jitter)?, contracts)?;
+    Ok(write(alloc, &least, contracts)?)
 }
 
 /// Why a text is no certificate of `a` alone; None where it is one.
@@ -112,12 +116,13 @@ fn refusal(alloc: Global, text: &str) -> Result<Option<CertificateFault>, Fail> 
 
 #[test]
 fn the_jitter_of_a_link_adds_what_the_rate_gives(rt: HostRuntime) -> Result<(), Fail> {
-    let text = least_text(rt.alloc(), "a", trusted()?, 0, 1_000_000)?;
+    let contracts = alone(rt.alloc())?;
+    let text = least_text(rt.alloc(), contracts.as_slice(), 0, 1_000_000)?;
     assert_eq!(rt;
         text.as_slice(),
         b"dscert 1\na 0 3000 3000\na 1 4000 4000\n".as_slice()
     );
-    let begun = least_text(rt.alloc(), "a", trusted()?, 0, 1)?;
+    let begun = least_text(rt.alloc(), contracts.as_slice(), 0, 1)?;
     assert_eq!(rt;
         begun.as_slice(),
         b"dscert 1\na 0 3000 3000\na 1 3001 3001\n".as_slice()
@@ -127,12 +132,13 @@ fn the_jitter_of_a_link_adds_what_the_rate_gives(rt: HostRuntime) -> Result<(), 
 
 #[test]
 fn a_policed_contract_enters_with_what_leaves_its_edge(rt: HostRuntime) -> Result<(), Fail> {
-    let text = least_text(rt.alloc(), "u", policed()?, 0, 1_000_000)?;
+    let contracts = policed_alone(rt.alloc())?;
+    let text = least_text(rt.alloc(), contracts.as_slice(), 0, 1_000_000)?;
     assert_eq!(rt;
         text.as_slice(),
         b"dscert 1\nu 0 1501 3001\nu 1 2501 5001\n".as_slice()
     );
-    let skewed = least_text(rt.alloc(), "u", policed()?, 1000, 1_000_000)?;
+    let skewed = least_text(rt.alloc(), contracts.as_slice(), 1000, 1_000_000)?;
     assert_eq!(rt;
         skewed.as_slice(),
         b"dscert 1\nu 0 1502 3003\nu 1 2502 5003\n".as_slice()
@@ -164,9 +170,9 @@ fn leading_zeros_and_a_last_line_without_its_end(rt: HostRuntime) -> Result<(), 
     let contracts = alone(rt.alloc())?;
     let text = b"dscert 1\na 00 3000 03000\na 1 4000 1000000000000000";
     let certificate = read(rt.alloc(), text, contracts.as_slice())?;
-    let hops = certificate.bounds()[0].hops();
-    assert_eq!(rt; hops[0], Bound::new(3000, 3000)?);
-    assert_eq!(rt; hops[1], Bound::new(4000, Bound::MOST)?);
+    let again = write(rt.alloc(), &certificate, contracts.as_slice())?;
+    let canonical = b"dscert 1\na 0 3000 3000\na 1 4000 1000000000000000\n";
+    assert_eq!(rt; again.as_slice(), canonical.as_slice());
     Ok(())
 }
 

@@ -1,5 +1,5 @@
-use Rattle.std.proofs.Common.{rules, ◌≡◌, ◌+◌, ◌∷◌, ◌++◌, drop, get_or, arith, sym, ap, ◌∙◌}
-use Rattle.std.proofs.lemmas.List.{drop_all, drop_more}
+use Rattle.std.proofs.Common.{◌++◌, arith, sym, ap, ◌∙◌}
+use Rattle.std.proofs.lemmas.List.{drop_all}
 use Rattle.ds_certificate.specs.Bounds.{least_behind}
 use Rattle.ds_certificate.specs.Sources.{jitters_along}
 use Rattle.ds_certificate.proofs.LeastLaws.{least_behind-ended, link_kept}

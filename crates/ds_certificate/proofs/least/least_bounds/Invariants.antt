@@ -1,6 +1,6 @@
-use Rattle.std.proofs.Common.{◌≡◌, ◌≤◌, ◌+◌, ◌*◌, ◌^◌, ◌++◌, ◌∷◌, drop, length}
-use Rattle.ds_certificate.specs.Bounds.{entering, least_behind, least_of}
-use Rattle.ds_certificate.specs.Ranges.{IsModerate, IsWithin}
+use Rattle.std.proofs.Common.{◌≡◌, ◌+◌, ◌*◌, ◌^◌, ◌++◌, drop}
+use Rattle.ds_certificate.specs.Bounds.{least_behind, least_of}
+use Rattle.ds_certificate.specs.Ranges.{IsWithin}
 use Rattle.ds_certificate.specs.Sources.{jitters_along}
 use Rattle.ds_certificate.proofs.least.least_bounds.Given as goal
 

@@ -1,6 +1,6 @@
-use Rattle.std.proofs.Common.{◌≡◌, ◌++◌, drop, map}
+use Rattle.std.proofs.Common.{◌≡◌, ◌++◌, drop}
 use Rattle.std.specs.List.{list_all}
-use Rattle.ds_certificate.specs.Bounds.{fits, least, least_of}
+use Rattle.ds_certificate.specs.Bounds.{fits, least}
 use Rattle.ds_certificate.proofs.least.make.Given as goal
 
 -- the least bounds so far, and those of the contracts that are left

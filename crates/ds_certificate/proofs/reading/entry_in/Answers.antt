@@ -1,7 +1,6 @@
-use Rattle.std.proofs.Common.{rules, ◌≡◌, ◌≢◌, ◌∷◌, [], Some, None, length, true, false, ap, arith, sym, ◌∙◌, if◌then◌else◌}
+use Rattle.std.proofs.Common.{◌≡◌, ◌∷◌, [], true, false, ap, arith, sym, ◌∙◌}
 use Rattle.std.specs.Option.{option_copied}
 use Rattle.line_text.specs.Lines.{fields_left, fields_of}
-use Rattle.ds_certificate.specs.Readings.{Entry, entry_in}
 use Rattle.ds_certificate.proofs.ReadingLaws.{entry_by, no_entry}
 use Rattle.ds_certificate.proofs.reading.entry_in.Goals as goal
 

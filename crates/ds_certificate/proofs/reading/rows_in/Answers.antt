@@ -1,4 +1,4 @@
-use Rattle.std.proofs.Common.{◌≡◌, Ok, inl, inr, ap, sym, ◌∙◌, arith}
+use Rattle.std.proofs.Common.{inl, inr, sym, ◌∙◌, arith}
 use Rattle.line_text.specs.Lines.{lines_of}
 use Rattle.ds_certificate.proofs.ReadingLaws.{rows_in-bad, rows_in-contract, read_whole, rows_in-excess}
 use Rattle.ds_certificate.proofs.ShapeLaws.{rows_in-shape}
@@ -21,13 +21,13 @@ loop-contract-preserved c =
 pub returns-in-None-clause-certificate : goal.returns-in-None-clause-certificate
 returns-in-None-clause-certificate c =
     read_whole c.args.contracts.now (lines_of c.args.text.now) c.loop-contract.rows.items c.new.result c.loop-contract.contract-index (lines_of c.loop-contract.rest.now)
-      (omega arith) c.in-None.ensures c.loop-contract.invariant c.new.ensures
+    (omega arith) c.in-None.ensures c.loop-contract.invariant c.new.ensures
 
 pub returns-in-None-clause-shape : goal.returns-in-None-clause-shape
 returns-in-None-clause-shape c =
     rows_in-shape c.args.contracts.now (lines_of c.args.text.now) c.new.result
-      (read_whole c.args.contracts.now (lines_of c.args.text.now) c.loop-contract.rows.items c.new.result c.loop-contract.contract-index (lines_of c.loop-contract.rest.now)
-        (omega arith) c.in-None.ensures c.loop-contract.invariant c.new.ensures)
+    (read_whole c.args.contracts.now (lines_of c.args.text.now) c.loop-contract.rows.items c.new.result c.loop-contract.contract-index (lines_of c.loop-contract.rest.now)
+    (omega arith) c.in-None.ensures c.loop-contract.invariant c.new.ensures)
 
 pub returns-in-Some-clause-refused : goal.returns-in-Some-clause-refused
 returns-in-Some-clause-refused c =

@@ -1,6 +1,6 @@
-use Rattle.std.proofs.Common.{rules, ◌≡◌, IsTrue, subst, arith}
+use Rattle.std.proofs.Common.{IsTrue, subst, arith}
 use Rattle.ds_domain_base.specs.Names.{is_name}
-use Rattle.ds_certificate.proofs.TextLaws.{IsWritten, bound_in-line, one_line}
+use Rattle.ds_certificate.proofs.TextLaws.{bound_in-line, one_line}
 use Rattle.ds_certificate.proofs.writing.push_bound.Goals as goal
 
 pub returns-clause-one_line : goal.returns-clause-one_line

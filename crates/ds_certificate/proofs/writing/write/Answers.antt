@@ -1,6 +1,5 @@
-use Rattle.std.proofs.Common.{◌≡◌, ◌++◌, ◌≤◌, List, ℕ, suc, true, false, eqb, codes, length, inr, ap, sym, refl, subst, ◌∙◌, arith, rules}
+use Rattle.std.proofs.Common.{◌≡◌, ◌++◌, suc, true, false, eqb, codes, length, inr, ap, sym, refl, subst, ◌∙◌, arith}
 use Rattle.std.proofs.lemmas.Bool.Decides.{nat_tests}
-use Rattle.ds_certificate.specs.Columns.{Bound}
 use Rattle.ds_certificate.specs.Readings.{certificate_in}
 use Rattle.ds_certificate.specs.Texts.{ended, is_shaped, lines_for, text_of}
 use Rattle.ds_certificate.proofs.TextLaws.{RowsBack, back-ended, back-more, certificate_in-text, rows-more, shape-ended, shape-missing, shape-more, shape-other, text-ended, text_of-headed}
