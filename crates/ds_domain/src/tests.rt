@@ -1,7 +1,4 @@
-use crate::{
-    Contract, Domain, DomainFault, Name, Profile, SoundParameters, Terms,
-    parse,
-};
+use crate::{Contract, Domain, DomainFault, Name, Profile, SoundParameters, Terms, parse};
 use flow_classifier::Prefix;
 use meter_book::Parameters;
 use moment_core::{Mode, Rate};
@@ -97,8 +94,17 @@ fn sizes_of(domain: &Domain) -> (usize, usize, usize) {
 
 #[test]
 fn the_domain_of_three_trusted_contracts(rt: HostRuntime) -> Result<(), Fail> {
-    let (domain, contracts) =
-        parsed(rt.alloc(), &[a_meter(), a_port(), a_link(), first_trusted(), second_trusted(), third_trusted()])??;
+    let (domain, contracts) = parsed(
+        rt.alloc(),
+        &[
+            a_meter(),
+            a_port(),
+            a_link(),
+            first_trusted(),
+            second_trusted(),
+            third_trusted(),
+        ],
+    )??;
     assert!(rt; contracts.len() == 3);
     assert!(rt; sizes_of(&domain) == (1, 1, 1));
     Ok(())
@@ -106,7 +112,17 @@ fn the_domain_of_three_trusted_contracts(rt: HostRuntime) -> Result<(), Fail> {
 
 #[test]
 fn the_second_of_three_trusted_contracts(rt: HostRuntime) -> Result<(), Fail> {
-    let (_, contracts) = parsed(rt.alloc(), &[a_meter(), a_port(), a_link(), first_trusted(), second_trusted(), third_trusted()])??;
+    let (_, contracts) = parsed(
+        rt.alloc(),
+        &[
+            a_meter(),
+            a_port(),
+            a_link(),
+            first_trusted(),
+            second_trusted(),
+            third_trusted(),
+        ],
+    )??;
     assert!(rt; contracts.len() == 3);
     let second = &contracts[1];
     let committed = Profile {
@@ -200,7 +216,12 @@ fn meters_that_are_refused(rt: HostRuntime) -> Result<(), Fail> {
 
 #[test]
 fn links_that_are_refused(rt: HostRuntime) -> Result<(), Fail> {
-    refused(&rt, rt.alloc(), &[a_meter(), a_link()], (5, "link", 0, "from"))?;
+    refused(
+        &rt,
+        rt.alloc(),
+        &[a_meter(), a_link()],
+        (5, "link", 0, "from"),
+    )?;
     refused(
         &rt,
         rt.alloc(),
@@ -259,7 +280,12 @@ fn the_first_of_two_faults(rt: HostRuntime) -> Result<(), Fail> {
     refused(
         &rt,
         rt.alloc(),
-        &[a_meter(), a_port(), first_trusted(), "since = 2\nuntil = 1\n"],
+        &[
+            a_meter(),
+            a_port(),
+            first_trusted(),
+            "since = 2\nuntil = 1\n",
+        ],
         (3, "contract", 0, "until"),
     )?;
     refused(
