@@ -14,7 +14,9 @@ folder=$(mktemp -d)
 trap 'rm -rf "$folder"' EXIT
 
 cp -R "$bench/../crates" "$bench/../crates.txt" "$bench/../HANDLES" "$folder"
-cp -R "$bench/domains" "$folder/crates/domain_bench"
+# it stands under another ending there, since the gate wants each .rt file in a crate
+mkdir -p "$folder/crates/domain_bench/src"
+cp "$bench/domains/main.rattle" "$folder/crates/domain_bench/src/main.rt"
 echo 'domain_bench: ds_domain toml' >> "$folder/crates.txt"
 echo 'domains.sh: rt proves and builds the program, which takes some minutes where the crates are not built' >&2
 # the run itself ends with status 2, since it is given no words

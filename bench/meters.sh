@@ -14,7 +14,9 @@ folder=$(mktemp -d)
 trap 'rm -rf "$folder"' EXIT
 
 cp -R "$bench/../crates" "$bench/../crates.txt" "$bench/../HANDLES" "$folder"
-cp -R "$bench/meters" "$folder/crates/meter_bench"
+# it stands under another ending there, since the gate wants each .rt file in a crate
+mkdir -p "$folder/crates/meter_bench/src"
+cp "$bench/meters/main.rattle" "$folder/crates/meter_bench/src/main.rt"
 echo 'meter_bench: meter_book moment_core rfc4115_core srtcm_core trtcm_core' >> "$folder/crates.txt"
 echo 'meters.sh: rt proves and builds the program, which takes some minutes where the crates are not built' >&2
 # the run itself ends with status 2, since it is given no words
