@@ -210,16 +210,20 @@ fn source(rate: u64) -> Source {
     Source { rate, begun: 0 }
 }
 
-fn run(mut meter: impl Meter, packets: &[Packet], passes: u16) -> [u64; 3] {
+fn run(mut meter: impl Meter, packets: &[Packet], passes: u16) -> Option<[u64; 3]> {
     let mut counts = [0; 3];
     for pass in 0..passes {
         let begin = u64::from(pass) * SPAN;
         for packet in packets {
-            let left = meter.admit(packet.moment + begin, packet.size, packet.came);
+            let moment = packet.moment + begin;
+            if moment >= 1 << 63 {
+                return None;
+            }
+            let left = meter.admit(moment, packet.size, packet.came);
             counts[left as usize] += 1;
         }
     }
-    counts
+    Some(counts)
 }
 
 fn counts_of(words: &[String]) -> Option<[u64; 3]> {
@@ -242,7 +246,7 @@ fn counts_of(words: &[String]) -> Option<[u64; 3]> {
                 committed: Bucket::full(150_000),
                 excess: Bucket::full(300_000),
             };
-            run(meter, &packets, passes)
+            run(meter, &packets, passes)?
         }
         "trtcm" => {
             let meter = TrTcm {
@@ -253,7 +257,7 @@ fn counts_of(words: &[String]) -> Option<[u64; 3]> {
                 peak_source: source(1_600_000_000),
                 peak: Bucket::full(300_000),
             };
-            run(meter, &packets, passes)
+            run(meter, &packets, passes)?
         }
         "rfc4115" => {
             let meter = Rfc4115 {
@@ -264,7 +268,7 @@ fn counts_of(words: &[String]) -> Option<[u64; 3]> {
                 excess_source: source(800_000_000),
                 excess: Bucket::full(150_000),
             };
-            run(meter, &packets, passes)
+            run(meter, &packets, passes)?
         }
         _ => return None,
     };
