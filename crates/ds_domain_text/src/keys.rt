@@ -30,12 +30,7 @@ pub fn required_number(table: &Table, key: &str, least: u64, most: u64) -> Resul
 
 /// A whole number from `least` to `most`, which may be absent.
 #[tactic(auto, unfolding(crate::specs::Values::optional))]
-pub fn optional_number(
-    table: &Table,
-    key: &str,
-    least: u64,
-    most: u64,
-) -> Result<Option<u64>, Flaw>
+pub fn optional_number(table: &Table, key: &str, least: u64, most: u64) -> Result<Option<u64>, Flaw>
     ensures value { result ≡ optional (number_in least most) key.now (table_view table.now) }
     ensures range { IfOk result (λ told. IfSome told (λ n. (least ≤ n) × (n ≤ most))) }
 {
@@ -69,11 +64,7 @@ pub fn optional_text<'a>(table: &'a Table, key: &str) -> Result<Option<&'a str>,
 
 /// An array of texts, which must be there.
 #[tactic(auto, unfolding(crate::specs::Values::required))]
-pub fn required_texts<'a>(
-    alloc: Global,
-    table: &'a Table,
-    key: &str,
-) -> Result<Vec<&'a str>, Flaw>
+pub fn required_texts<'a>(alloc: Global, table: &'a Table, key: &str) -> Result<Vec<&'a str>, Flaw>
     ensures ok { IfOk result (λ v. required texts_in key.now (table_view table.now) ≡ Ok (map (λ text. text.now) v.items)) }
     ensures refused { IfErr result (λ flaw. (flaw ≡ Flaw.NoMemory) ⊎ (required texts_in key.now (table_view table.now) ≡ Err flaw)) }
 {

@@ -97,8 +97,11 @@ impl SrTcm {
             level: self.committed_level,
             size: parameters.committed_burst,
         };
-        let surplus =
-            committed.fill_over(parameters.committed_rate, gap, &mut self.committed_begun);
+        let surplus = committed.fill_over(
+            parameters.committed_rate,
+            gap,
+            &mut self.committed_begun,
+        );
         let mut excess = Bucket {
             level: self.excess_level,
             size: parameters.excess_burst,
