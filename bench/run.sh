@@ -6,6 +6,7 @@
 set -eu
 
 bench=$(CDPATH='' cd -- "$(dirname -- "$0")" && pwd)
+. "$bench/common.sh"
 proved=$bench/../crates/dsedge/out/dsedge
 count=${1:-1000000}
 repeats=${2:-7}
@@ -22,28 +23,18 @@ rustc -O --edition 2021 -o "$folder/plain" "$bench/plain/main.rs"
 "$bench/generate.sh" "$count" > "$folder/arrivals"
 echo "$count arrivals, $(wc -c < "$folder/arrivals") bytes, best of $repeats"
 
-# The time that one run takes, in nanoseconds; its output goes to a file.
-run() {
-    begin=$(date +%s%N)
-    # shellcheck disable=SC2086
-    "$1" $words < "$folder/arrivals" > "$2"
-    end=$(date +%s%N)
-    echo $((end - begin))
-}
-
 turn=0
 while [ "$turn" -lt "$repeats" ]; do
-    run "$proved" "$folder/proved.out" >> "$folder/proved.times"
-    run "$folder/plain" "$folder/plain.out" >> "$folder/plain.times"
+    # shellcheck disable=SC2086
+    timed "$folder/arrivals" "$folder/proved.out" "$proved" $words >> "$folder/proved.times"
+    # shellcheck disable=SC2086
+    timed "$folder/arrivals" "$folder/plain.out" "$folder/plain" $words >> "$folder/plain.times"
     turn=$((turn + 1))
 done
 cmp "$folder/proved.out" "$folder/plain.out"
 echo "the same output, $(wc -l < "$folder/plain.out") lines; the accounts:"
 tail -n 3 "$folder/plain.out"
 
-best() {
-    sort -n "$1" | head -n 1
-}
 awk -v proved="$(best "$folder/proved.times")" -v plain="$(best "$folder/plain.times")" -v count="$count" 'BEGIN {
     printf "proved %7.1f ms  %6.1f ns an arrival\n", proved / 1e6, proved / count
     printf "plain  %7.1f ms  %6.1f ns an arrival\n", plain / 1e6, plain / count
