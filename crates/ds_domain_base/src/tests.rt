@@ -21,24 +21,47 @@ fn parameters() -> Result<SoundParameters, Fail> {
     }))?)
 }
 
-/// A port `p` and two meters `m` and `n`, with links from `p` to `m` and from `m` to `n`.
-fn domain(alloc: Global) -> Result<Domain, Fail> {
-    let mut domain = Domain::new(alloc);
-    let none = Delay::new(0)?;
+/// The name of a text.
+fn name(text: &str) -> Result<Name, Fail> {
+    Ok(Name::new(text)?)
+}
+
+/// Adds a meter with the skew 500,000.
+fn add_meter(domain: &mut Domain, text: &str) -> Result<(), Fail> {
     let meter = Meter {
         parameters: parameters()?,
         skew: Delay::new(500_000)?,
         origin: Moment::new(0)?,
     };
-    domain.add_meter(Name::new("m")?, meter)?;
-    domain.add_meter(Name::new("n")?, meter)?;
-    domain.add_port(Name::new("p")?, Port { skew: none })?;
+    domain.add_meter(name(text)?, meter)?;
+    Ok(())
+}
+
+/// Adds a port without skew.
+fn add_port(domain: &mut Domain, text: &str) -> Result<(), Fail> {
+    let skew = Delay::new(0)?;
+    domain.add_port(name(text)?, Port { skew })?;
+    Ok(())
+}
+
+/// Adds a link with the jitter 1,000,000.
+fn add_link(domain: &mut Domain, from: &str, to: &str) -> Result<(), Fail> {
     let link = Link {
-        floor: none,
+        floor: Delay::new(0)?,
         jitter: Delay::new(1_000_000)?,
     };
-    domain.add_link("p", "m", link)?;
-    domain.add_link("m", "n", link)?;
+    domain.add_link(from, to, link)?;
+    Ok(())
+}
+
+/// A port `p` and two meters `m` and `n`, with links from `p` to `m` and from `m` to `n`.
+fn domain(alloc: Global) -> Result<Domain, Fail> {
+    let mut domain = Domain::new(alloc);
+    add_meter(&mut domain, "m")?;
+    add_meter(&mut domain, "n")?;
+    add_port(&mut domain, "p")?;
+    add_link(&mut domain, "p", "m")?;
+    add_link(&mut domain, "m", "n")?;
     Ok(domain)
 }
 
@@ -46,10 +69,10 @@ fn domain(alloc: Global) -> Result<Domain, Fail> {
 fn contract(alloc: Global, meters: &[&str]) -> Result<Contract, Fail> {
     let mut path = Vec::new(alloc);
     for meter in meters {
-        path.push(Name::new(meter)?)?;
+        path.push(name(meter)?)?;
     }
     Ok(Contract {
-        name: Name::new("a")?,
+        name: name("a")?,
         terms: Terms::Trusted {
             committed: Profile {
                 rate: Rate::new(8_000_000)?,
@@ -57,7 +80,7 @@ fn contract(alloc: Global, meters: &[&str]) -> Result<Contract, Fail> {
             },
             peak: None,
         },
-        port: Name::new("p")?,
+        port: name("p")?,
         path: Path::new(path),
         class: Class::new(1)?,
         lifetime: Lifetime::new(Moment::new(0)?, None)?,
