@@ -1,7 +1,9 @@
-use crate::{Contract, Domain, DomainFault, Name, Profile, SoundParameters, Terms, parse};
+use crate::{
+    Contract, Delay, Domain, DomainFault, Link, Meter, Name, Profile, SoundParameters, Terms, parse,
+};
 use flow_classifier::Prefix;
 use meter_book::Parameters;
-use moment_core::{Mode, Rate};
+use moment_core::{Mode, Moment, Rate};
 use std::alloc::Global;
 use std::process::Abort;
 use std::test::Fail;
@@ -107,6 +109,44 @@ fn the_domain_of_three_trusted_contracts(rt: HostRuntime) -> Result<(), Fail> {
     )??;
     assert!(rt; contracts.len() == 3);
     assert!(rt; sizes_of(&domain) == (1, 1, 1));
+    Ok(())
+}
+
+/// The meter of the example domains.
+fn example_meter() -> Result<Meter, Fail> {
+    let rate = Rate::new(24_000_000)?;
+    let parameters = SoundParameters::new(Parameters::TrTcm(TrTcmParameters {
+        committed_rate: rate,
+        committed_burst: 13_500,
+        peak_rate: rate,
+        peak_burst: 13_500,
+    }))?;
+    Ok(Meter {
+        parameters,
+        skew: Delay::new(500_000)?,
+        origin: Moment::new(0)?,
+    })
+}
+
+/// Whether the meter of a name is the one of the example domains.
+fn has_example_meter(domain: &Domain, name: &str) -> Result<bool, Fail> {
+    Ok(domain.meter(Name::new(name)?) == Some(example_meter()?))
+}
+
+/// Whether the link from a name to a name is the one of the example domains.
+fn has_example_link(domain: &Domain, from: &str, to: &str) -> Result<bool, Fail> {
+    let link = Link {
+        floor: Delay::new(0)?,
+        jitter: Delay::new(1_000_000)?,
+    };
+    Ok(domain.link(Name::new(from)?, Name::new(to)?) == Some(link))
+}
+
+#[test]
+fn the_meter_and_the_link_of_the_example_domains(rt: HostRuntime) -> Result<(), Fail> {
+    let (domain, _) = parsed(rt.alloc(), &[a_meter(), a_port(), a_link(), a_policed()])??;
+    assert!(rt; has_example_meter(&domain, "m")?);
+    assert!(rt; has_example_link(&domain, "p", "m")?);
     Ok(())
 }
 
