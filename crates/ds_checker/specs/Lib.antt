@@ -1,0 +1,6 @@
+pub mod Acceptance
+pub mod BoundTests
+pub mod Loads
+pub mod Refusals
+pub mod TableTests
+pub mod Tests

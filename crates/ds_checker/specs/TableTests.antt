@@ -1,0 +1,35 @@
+-- The tests of what contracts bring to each meter of a domain.
+use Rattle.std.specs.Prelude.{ℕ, List, [], ◌∷◌, ◌++◌}
+use Rattle.envelope_core.specs.Curve.{Curve}
+use Rattle.ds_domain_base.specs.Domains.{Domain}
+use Rattle.ds_domain_base.specs.declared.contract.Contract.{Contract}
+use Rattle.ds_domain_base.specs.declared.parts.Meter.{Meter}
+use Rattle.ds_certificate.specs.Columns.{Bound, green_column, all_column}
+use Rattle.ds_checker.specs.Loads.{Share, all_limit, counted, green_limit, load, shares_at}
+use Rattle.ds_checker.specs.Tests.{Test}
+use Rattle.ds_checker.specs.declared.refusal.Refusal.TheVariants.{GreenRate, GreenBurst, AllRate, AllBurst}
+
+-- what is brought in a column, green and all
+abbrev pub green_load : Meter → List Share → Curve
+green_load m shares = load green_column m.skew shares
+
+abbrev pub all_load : Meter → List Share → Curve
+all_load m shares = load all_column m.skew (counted m.parameters shares)
+
+-- green rate, green burst, all rate, all burst
+abbrev pub load_tests : List ℕ → Meter → Curve → Curve → List Test
+load_tests name m green all =
+    record { refused = GreenRate name; needed = green.rate; given = (green_limit m.parameters).rate }
+    ∷ record { refused = GreenBurst name; needed = green.burst; given = (green_limit m.parameters).burst }
+    ∷ record { refused = AllRate name; needed = all.rate; given = (all_limit m.parameters).rate }
+    ∷ record { refused = AllBurst name; needed = all.burst; given = (all_limit m.parameters).burst }
+    ∷ []
+
+abbrev pub meter_tests : List ℕ → Meter → List Share → List Test
+meter_tests name m shares = load_tests name m (green_load m shares) (all_load m shares)
+
+-- meter by meter
+unfoldable pub table_tests : Domain → List Contract → List (List Bound) → List (List ℕ × Meter) → List Test
+table_tests d contracts rows [] = []
+table_tests d contracts rows (entry ∷ meters) =
+    meter_tests entry.0 entry.1 (shares_at d entry.0 contracts rows) ++ table_tests d contracts rows meters
