@@ -1,1 +1,2 @@
 pub mod AcceptanceLaws
+pub mod LeastTableLaws
