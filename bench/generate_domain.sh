@@ -1,11 +1,12 @@
 #!/bin/sh
-# Writes a domain at all its limits: 1,024 meters, 1,024 ports, 65,536 links, and 4,096 contracts over paths of 16 meters.
+# Writes a domain at all its limits: 1,024 meters, 1,024 ports, 65,536 links, and 4,096 contracts, or as many as are asked for,
+# over paths of 16 meters.
 #
-#     bench/generate_domain.sh > domain.toml
+#     bench/generate_domain.sh [CONTRACTS] > domain.toml
 set -eu
-exec awk '
+exec awk -v contracts="${1:-4096}" '
     BEGIN {
-        meters = 1024; ports = 1024; contracts = 4096; path = 16
+        meters = 1024; ports = 1024; path = 16
         for (i = 0; i < meters; i++)
             printf "[[meter]]\nname = \"meter-%d\"\nkind = \"trtcm\"\ncir = 10000000000\ncbs = 4000000000\npir = 10000000000\npbs = 4000000000\nskew = 1000\n\n", i
         for (i = 0; i < ports; i++)
