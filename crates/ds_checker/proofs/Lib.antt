@@ -1,1 +1,3 @@
+pub mod AcceptanceLaws
 pub mod BoundLaws
+pub mod LeastTableLaws

@@ -4,6 +4,7 @@
 pub mod acceptance;
 pub mod bounds;
 pub mod candidate;
+pub mod laws;
 pub mod load;
 pub mod refusal;
 pub mod table;

@@ -1,0 +1,159 @@
+-- Where any certificate is acceptable, the least one is: lower bounds bring less to each meter.
+use Rattle.std.proofs.Common.{◌≡◌, ◌≤◌, ℕ, Bool, true, List, [], ◌∷◌, ◌++◌, Option, refl, sym, ap, ◌∙◌, arith, inl, inr}
+use Rattle.std.specs.Prelude.{drop, filter, map, option_map, option_to_list, sum_by}
+use Rattle.std.specs.List.{AllZip, list_all, list_any}
+use Rattle.std.specs.Str.{bytes_eq}
+use Rattle.std.proofs.lemmas.Bool.{cases_Bool, and_from}
+use Rattle.std.proofs.lemmas.List.Elements.{All-weaker}
+use Rattle.std.proofs.lemmas.List.Sums.{sum_by-cons}
+use Rattle.moment_core.specs.Volume.{bytes_over}
+use Rattle.envelope_core.specs.Curve.{Curve, widened}
+use Rattle.meter_book.specs.declared.any_meter.Parameters.{Parameters}
+use Rattle.meter_book.specs.declared.any_meter.Parameters.TheVariants.{SrTcm, TrTcm, Rfc4115}
+use Rattle.ds_domain_base.specs.Domains.{Domain}
+use Rattle.ds_domain_base.specs.Sent.{has_peak}
+use Rattle.ds_domain_base.specs.declared.contract.Contract.{Contract}
+use Rattle.ds_domain_base.specs.declared.parts.Meter.{Meter}
+use Rattle.ds_certificate.specs.Bounds.{AreAtMost, IsAtMost, IsCertificate, fits, least}
+use Rattle.ds_certificate.specs.Columns.{Bound, Column, green_column, all_column}
+use Rattle.ds_certificate.specs.Sources.{source_of}
+use Rattle.ds_certificate.specs.declared.source.Source.{Source}
+use Rattle.ds_certificate.proofs.LeastLaws.{IsCertificate-least, least-below}
+use Rattle.ds_checker.specs.Acceptance.{Carries, IsAcceptable}
+use Rattle.ds_checker.specs.Loads.{Share, bound_into, counted, kept, load, share_of, shares_at}
+
+-- a share that brings no more than another of the same contract
+record IsLess (a b : Share) : Type 0 where
+  pub source : a.source ≡ b.source
+  pub bound : IsAtMost a.bound b.bound
+  pub peak : a.has_peak ≡ b.has_peak
+
+abbrev AreLess : List Share → List Share → Type 0
+AreLess xs ys = AllZip IsLess xs ys
+
+AreLess-append : (xs ys more others : List Share) → AreLess xs ys → AreLess more others → AreLess (xs ++ more) (ys ++ others)
+AreLess-append [] [] more others low lower = lower
+AreLess-append [] (y ∷ ys) more others low lower = absurd low
+AreLess-append (x ∷ xs) [] more others low lower = absurd low
+AreLess-append (x ∷ xs) (y ∷ ys) more others low lower = (low.0, AreLess-append xs ys more others low.1 lower)
+
+-- the share of a bound, if there is one
+abbrev share_with : Source → Bool → Option Bound → List Share
+share_with source peak bound = option_to_list (option_map (λ b. record { source = source; bound = b; has_peak = peak }) bound)
+
+share_into : (source : Source) (peak : Bool) (name : List ℕ) (path : List (List ℕ)) (low high : List Bound) → AllZip IsAtMost low high
+    → AreLess (share_with source peak (bound_into name path low)) (share_with source peak (bound_into name path high))
+unfolding bound_into
+share_into source peak name [] low high less = tt
+share_into source peak name (to ∷ path) [] [] less = tt
+share_into source peak name (to ∷ path) [] (h ∷ high) less = absurd less
+share_into source peak name (to ∷ path) (l ∷ low) [] less = absurd less
+share_into source peak name (to ∷ path) (l ∷ low) (h ∷ high) less = elim (cases_Bool (bytes_eq name to)) [
+  | inl same ↦ rw same (record { source = refl; bound = less.0; peak = refl }, tt)
+  | inr other ↦ rw other (share_into source peak name path low high less.1)
+]
+
+behind_first : (low high : List Bound) → AllZip IsAtMost low high → AllZip IsAtMost (drop 1 low) (drop 1 high)
+behind_first [] [] less = tt
+behind_first [] (h ∷ high) less = absurd less
+behind_first (l ∷ low) [] less = absurd less
+behind_first (l ∷ low) (h ∷ high) less = less.1
+
+shares_less : (d : Domain) (name : List ℕ) (contracts : List Contract) (low high : List (List Bound)) → AreAtMost low high
+    → AreLess (shares_at d name contracts low) (shares_at d name contracts high)
+unfolding shares_at
+shares_less d name [] low high less = tt
+shares_less d name (c ∷ contracts) [] [] less = tt
+shares_less d name (c ∷ contracts) [] (h ∷ high) less = absurd less
+shares_less d name (c ∷ contracts) (l ∷ low) [] less = absurd less
+shares_less d name (c ∷ contracts) (l ∷ low) (h ∷ high) less =
+    AreLess-append (share_of d name c l) (share_of d name c h) (shares_at d name contracts low) (shares_at d name contracts high)
+    (share_into (source_of d c) (has_peak c.terms) name c.path (drop 1 l) (drop 1 h) (behind_first l h less.0))
+    (shares_less d name contracts low high less.1)
+
+-- a column in which a bound that is at most another is so
+abbrev IsKept : Column → Type 0
+IsKept column = (a b : Bound) → IsAtMost a b → column.bound a ≤ column.bound b
+
+sums_less : (f : Curve → ℕ) (g : Share → Curve) → ((a b : Share) → IsLess a b → f (g a) ≤ f (g b)) → (xs ys : List Share) → AreLess xs ys
+    → sum_by f (map g xs) ≤ sum_by f (map g ys)
+sums_less f g below [] [] less = omega arith
+sums_less f g below [] (y ∷ ys) less = absurd less
+sums_less f g below (x ∷ xs) [] less = absurd less
+sums_less f g below (x ∷ xs) (y ∷ ys) less =
+    let first = below x y less.0 in
+    let later = sums_less f g below xs ys less.1 in
+    let left = sum_by-cons f (g x) (map g xs) in
+    let right = sum_by-cons f (g y) (map g ys) in
+    omega (arith, first, later, left, right)
+
+same_rate : (column : Column) (a b : Source) → a ≡ b → (column.envelope a).rate ≡ (column.envelope b).rate
+same_rate column a b same = ap (λ s. (column.envelope s).rate) same
+
+same_volume : (rate other skew : ℕ) → rate ≡ other → bytes_over rate skew ≡ bytes_over other skew
+same_volume rate other skew same = ap (λ r. bytes_over r skew) same
+
+load_rate : (column : Column) (skew : ℕ) (xs ys : List Share) → AreLess xs ys → (load column skew xs).rate ≤ (load column skew ys).rate
+load_rate column skew xs ys less =
+    sums_less (λ curve. curve.rate) (λ share. widened skew (kept column share)) (λ a b is. omega (arith, same_rate column a.source b.source is.source)) xs ys less
+
+load_burst : (column : Column) → IsKept column → (skew : ℕ) (xs ys : List Share) → AreLess xs ys → (load column skew xs).burst ≤ (load column skew ys).burst
+load_burst column own skew xs ys less =
+    sums_less (λ curve. curve.burst) (λ share. widened skew (kept column share))
+    (λ a b is. omega (
+      arith,
+      own a.bound b.bound is.bound,
+      same_volume (column.envelope a.source).rate (column.envelope b.source).rate skew (same_rate column a.source b.source is.source),
+    )) xs ys less
+
+-- those that are held against a meter
+peaked_less : (xs ys : List Share) → AreLess xs ys → AreLess (filter (λ share. share.has_peak) xs) (filter (λ share. share.has_peak) ys)
+peaked_less [] [] less = tt
+peaked_less [] (y ∷ ys) less = absurd less
+peaked_less (x ∷ xs) [] less = absurd less
+peaked_less (x ∷ xs) (y ∷ ys) less = elim (cases_Bool x.has_peak) [
+  | inl peak ↦ rw (peak, sym less.0.peak ∙ peak) (record { source = less.0.source; bound = less.0.bound; peak = refl }, peaked_less xs ys less.1)
+  | inr none ↦ rw (none, sym less.0.peak ∙ none) (peaked_less xs ys less.1)
+]
+
+any_same : (xs ys : List Share) → AreLess xs ys → list_any (λ share. share.has_peak) xs ≡ list_any (λ share. share.has_peak) ys
+any_same [] [] less = refl
+any_same [] (y ∷ ys) less = absurd less
+any_same (x ∷ xs) [] less = absurd less
+any_same (x ∷ xs) (y ∷ ys) less = rw (less.0.peak, any_same xs ys less.1) refl
+
+counted_less : (p : Parameters) (xs ys : List Share) → AreLess xs ys → AreLess (counted p xs) (counted p ys)
+counted_less (SrTcm p) xs ys less = elim (cases_Bool (list_any (λ share. share.has_peak) xs)) [
+  | inl peak ↦ rw (peak, sym (any_same xs ys less) ∙ peak) less
+  | inr none ↦ rw (none, sym (any_same xs ys less) ∙ none) tt
+]
+counted_less (TrTcm p) xs ys less = less
+counted_less (Rfc4115 p) xs ys less = peaked_less xs ys less
+
+Carries-less : (m : Meter) (xs ys : List Share) → AreLess xs ys → Carries m ys → Carries m xs
+Carries-less m xs ys less met =
+    let all = counted_less m.parameters xs ys less in (
+      (omega (arith, load_rate green_column m.skew xs ys less, met.0.0), omega (arith, load_burst green_column (λ a b is. is.0) m.skew xs ys less, met.0.1)),
+      (
+        omega (arith, load_rate all_column m.skew (counted m.parameters xs) (counted m.parameters ys) all, met.1.0),
+        omega (arith, load_burst all_column (λ a b is. is.1) m.skew (counted m.parameters xs) (counted m.parameters ys) all, met.1.1),
+      ),
+    )
+
+all_fit : (d : Domain) (contracts : List Contract) (rows : List (List Bound)) → IsCertificate d contracts rows → list_all (fits d) contracts ≡ true
+all_fit d [] [] met = refl
+all_fit d [] (bounds ∷ rows) met = absurd met
+all_fit d (c ∷ contracts) [] met = absurd met
+all_fit d (c ∷ contracts) (bounds ∷ rows) met = and_from (fits d c) (list_all (fits d) contracts) met.0.0.0 (all_fit d contracts rows met.1)
+
+pub least_accepted : (d : Domain) (contracts : List Contract) (rows : List (List Bound))
+    → IsAcceptable (record { domain = d; contracts = contracts; certificate = rows })
+    → IsAcceptable (record { domain = d; contracts = contracts; certificate = least d contracts })
+least_accepted d contracts rows met =
+    let less = least-below d contracts rows met.0 in (
+      IsCertificate-least d contracts (all_fit d contracts rows met.0),
+      All-weaker (λ entry. Carries entry.1 (shares_at d entry.0 contracts rows)) (λ entry. Carries entry.1 (shares_at d entry.0 contracts (least d contracts)))
+          (λ entry carries. Carries-less entry.1 (shares_at d entry.0 contracts (least d contracts)) (shares_at d entry.0 contracts rows)
+          (shares_less d entry.0 contracts (least d contracts) rows less) carries)
+          d.meters met.1,
+    )
