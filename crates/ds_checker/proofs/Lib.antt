@@ -1,2 +1,4 @@
 pub mod AcceptanceLaws
+pub mod BoundLaws
+pub mod CheckLaws
 pub mod LeastTableLaws

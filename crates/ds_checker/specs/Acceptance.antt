@@ -10,6 +10,7 @@ use Rattle.ds_checker.specs.BoundTests.{bound_tests, misfit}
 use Rattle.ds_checker.specs.Loads.{Share, all_limit, green_limit, shares_at}
 use Rattle.ds_checker.specs.TableTests.{all_load, green_load, table_tests}
 use Rattle.ds_checker.specs.Tests.{first_failed}
+use Rattle.ds_checker.specs.declared.candidate.Candidate.{Candidate}
 use Rattle.ds_checker.specs.declared.refusal.Refusal.{Refusal}
 use Rattle.ds_checker.specs.declared.refusal.Refusal.TheVariants.{Shape}
 
@@ -18,6 +19,10 @@ pub record Table : Type 0 where
   pub domain : Domain
   pub contracts : List Contract
   pub certificate : List (List Bound)
+
+-- what a candidate says
+abbrev pub table_of : Candidate → Table
+table_of c = record { domain = c.domain; contracts = c.contracts.items; certificate = c.certificate }
 
 -- neither rate nor burst is above the limit's
 abbrev pub IsWithin : Curve → Curve → Type 0

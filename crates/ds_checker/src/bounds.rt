@@ -1,0 +1,213 @@
+ghost use Rattle.std.specs.Prelude.{◌≡◌, ◌&&◌, ◌∷◌, ◌≤◌, ◌^◌, [], suc, length, nat_eq, option_map};
+ghost use Rattle.ds_certificate.specs.Bounds.{fits};
+ghost use Rattle.ds_certificate.specs.Sources.{jitters_of, source_of};
+ghost use Rattle.ds_checker.specs.BoundTests.{bound_tests, first_test, hop_test, hop_tests, in_both, misfit, tests_along};
+ghost use Rattle.ds_checker.specs.Refusals.{named};
+ghost use Rattle.ds_checker.specs.Tests.{first_failed};
+ghost use Rattle.ds_checker.specs.declared.refusal.Refusal.TheVariants.{Shape};
+
+use crate::refusal::{Column, Refusal};
+use ds_certificate::{Bound, Bounds, Certificate, Source, jitter};
+use ds_domain_base::{Contract, Domain, fits};
+use envelope_core::Envelope;
+use moment_core::{Gap, bytes_over_ceil};
+
+/// The refusal of a certificate that has not the shape of its contracts: the least contract that does not fit the domain, or
+/// that has not one bound more than its path has meters; where there are too many lists of bounds, the number of contracts.
+pub(crate) fn shape_refusal(
+    domain: &Domain,
+    contracts: &[Contract],
+    certificate: &Certificate,
+) -> Option<Refusal>
+    ensures { result ≡ option_map Shape (misfit 0 domain.now contracts.now certificate.now) }
+{
+    let rows = certificate.bounds();
+    for (number, contract) in contracts.iter().enumerate() {
+        let Some(bounds) = rows.get(number) else {
+            return Some(Refusal::Shape { contract: number });
+        };
+        if !has_shape(domain, contract, bounds) {
+            return Some(Refusal::Shape { contract: number });
+        }
+    }
+    if rows.len() > contracts.len() {
+        return Some(Refusal::Shape {
+            contract: contracts.len(),
+        });
+    }
+    None
+}
+
+/// Whether a contract fits the domain and has one bound more than its path has meters.
+fn has_shape(domain: &Domain, contract: &Contract, bounds: &Bounds) -> bool
+    ensures { result ≡ (fits domain.now contract.now && nat_eq (length bounds.now) (suc (length contract.now.path))) }
+{
+    is_fit(domain, contract) && bounds.hops().len() == contract.path.meters().len() + 1
+}
+
+/// Whether a contract fits the domain.
+fn is_fit(domain: &Domain, contract: &Contract) -> bool
+    ensures { result ≡ fits domain.now contract.now }
+{
+    fits(domain, contract).is_ok()
+}
+
+/// The refusal of the first bound that is too low, contract by contract, hop by hop, green packets before all.
+pub(crate) fn bounds_refusal(
+    domain: &Domain,
+    contracts: &[Contract],
+    certificate: &Certificate,
+) -> Option<Refusal>
+    ensures { result ≡ first_failed (bound_tests 0 domain.now contracts.now certificate.now) }
+{
+    let rows = certificate.bounds();
+    for (number, contract) in contracts.iter().enumerate() {
+        let Some(bounds) = rows.get(number) else {
+            return None;
+        };
+        let refusal = contract_refusal(domain, number, contract, bounds);
+        if refusal.is_some() {
+            return refusal;
+        }
+    }
+    None
+}
+
+/// The refusal of the first bound of a contract that is too low.
+fn contract_refusal(
+    domain: &Domain,
+    number: usize,
+    contract: &Contract,
+    bounds: &Bounds,
+) -> Option<Refusal>
+    ensures { result ≡ first_failed (tests_along number (source_of domain.now contract.now) (jitters_of domain.now contract.now) bounds.now) }
+{
+    let (first, behind) = bounds.hops().split_first()?;
+    let source = Source::of(domain, contract);
+    first_refusal(number, &source, *first).or_else(|| hops_refusal(
+        domain, number, contract, &source, *first, behind,
+    ))
+}
+
+/// The refusal of a contract's first bound, where it is too low.
+fn first_refusal(number: usize, source: &Source, first: Bound) -> Option<Refusal>
+    ensures { result ≡ first_failed (in_both (first_test number source.now first)) }
+{
+    first_refusal_in(Column::Green, number, source, first).or(first_refusal_in(
+        Column::All,
+        number,
+        source,
+        first,
+    ))
+}
+
+/// The refusal of a contract's first bound in a column: it is no less than the burst that the traffic enters with.
+fn first_refusal_in(column: Column, number: usize, source: &Source, first: Bound) -> Option<Refusal>
+    ensures { result ≡ first_failed (first_test number source.now first column ∷ []) }
+{
+    let needed = u128::from(envelope(source, column).burst());
+    let given = u128::from(bytes(first, column));
+    (needed > given).then_some(Refusal::FirstBound {
+        contract: number,
+        column,
+        needed,
+        given,
+    })
+}
+
+/// The refusal of the first bound of a contract behind a link that is too low.
+fn hops_refusal(
+    domain: &Domain,
+    number: usize,
+    contract: &Contract,
+    source: &Source,
+    first: Bound,
+    behind: &[Bound],
+) -> Option<Refusal>
+    ensures { result ≡ first_failed (hop_tests number 1 source.now (jitters_of domain.now contract.now) first behind.now) }
+{
+    let mut from = contract.port;
+    let mut before = first;
+    for (index, to) in contract.path.meters().iter().enumerate() {
+        let Some(bound) = behind.get(index) else {
+            return None;
+        };
+        let jitter = jitter(domain, from, *to);
+        let refusal = hop_refusal(number, index + 1, source, jitter, before, *bound);
+        if refusal.is_some() {
+            return refusal;
+        }
+        from = *to;
+        before = *bound;
+    }
+    None
+}
+
+/// The refusal of a bound behind a link, where it is too low.
+fn hop_refusal(
+    number: usize,
+    hop: usize,
+    source: &Source,
+    jitter: Gap,
+    before: Bound,
+    bound: Bound,
+) -> Option<Refusal>
+    ensures { result ≡ first_failed (in_both (hop_test number hop source.now jitter before bound)) }
+{
+    hop_refusal_in(Column::Green, number, hop, source, jitter, before, bound).or(hop_refusal_in(
+        Column::All,
+        number,
+        hop,
+        source,
+        jitter,
+        before,
+        bound,
+    ))
+}
+
+/// The refusal of a bound behind a link in a column: it is no less than the one before it and what the rate gives over the
+/// link's jitter, a begun byte counted whole.
+#[tactic(auto, using(crate::proofs::BoundLaws::bytes_over_fits))]
+fn hop_refusal_in(
+    column: Column,
+    number: usize,
+    hop: usize,
+    source: &Source,
+    jitter: Gap,
+    before: Bound,
+    bound: Bound,
+) -> Option<Refusal>
+    ensures { result ≡ first_failed (hop_test number hop source.now jitter before bound column ∷ []) }
+{
+    let growth = bytes_over_ceil(envelope(source, column).rate(), jitter);
+    let needed = u128::from(bytes(before, column)) + growth;
+    let given = u128::from(bytes(bound, column));
+    (needed > given).then_some(Refusal::HopBound {
+        contract: number,
+        hop,
+        column,
+        needed,
+        given,
+    })
+}
+
+/// What a source's packets keep in a column.
+fn envelope(source: &Source, column: Column) -> Envelope
+    ensures { result ≡ (named column).envelope source.now }
+{
+    match column {
+        Column::Green => source.green,
+        Column::All => source.all,
+    }
+}
+
+/// The bytes of a bound in a column.
+fn bytes(bound: Bound, column: Column) -> u64
+    ensures value { result ≡ (named column).bound bound }
+    ensures range { result ≤ 10 ^ 15 }
+{
+    match column {
+        Column::Green => bound.green(),
+        Column::All => bound.all(),
+    }
+}

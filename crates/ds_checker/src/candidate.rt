@@ -1,5 +1,5 @@
 ghost use Rattle.std.specs.Prelude.{◌≡◌};
-ghost use Rattle.ds_checker.specs.Acceptance.{IsAcceptable};
+ghost use Rattle.ds_checker.specs.Acceptance.{IsAcceptable, table_of};
 
 use ds_certificate::Certificate;
 use ds_domain_base::{Contract, Domain};
@@ -37,8 +37,8 @@ impl Model for Accepted {
 impl Accepted {
     /// What was checked, once it is known to be acceptable.
     pub(crate) fn new(candidate: Candidate) -> Self
-        requires { IsAcceptable (record { domain = candidate.domain; contracts = candidate.contracts.items; certificate = candidate.certificate }) }
-        ensures { result ≡ record { domain = candidate.domain; contracts = candidate.contracts.items; certificate = candidate.certificate } }
+        requires { IsAcceptable (table_of candidate) }
+        ensures { result ≡ table_of candidate }
     {
         let Candidate {
             domain,

@@ -1,0 +1,192 @@
+-- Laws of the tests of bounds.
+use Rattle.std.proofs.Common.{◌≡◌, ℕ, suc, ◌+◌, ◌*◌, ◌<◌, ◌≤◌, ◌^◌, ◌++◌, ◌&&◌, nat_eq, length, drop, get_or, List, [], ◌∷◌, Bool, true, false, is_some, Option, None, Some, if◌then◌else◌, nat_le, nat_lt, refl, sym, ap, ◌∙◌, arith}
+use Rattle.std.proofs.lemmas.List.{drop_all, drop_more, length-drop}
+use Rattle.std.specs.Bool.{then_some}
+use Rattle.std.specs.Option.{MatchOption, option_or}
+use Rattle.std.proofs.lemmas.Bool.Decides.{nat_tests}
+use Rattle.std.proofs.Math.Nat.{mul-le-mul}
+use Rattle.std.proofs.lemmas.Grind.{div_ceil_times}
+use Rattle.moment_core.specs.Volume.{bytes_over}
+use Rattle.ds_domain_base.specs.Domains.{Domain, link_of}
+use Rattle.ds_domain_base.specs.declared.contract.Contract.{Contract}
+use Rattle.ds_certificate.specs.Bounds.{fits}
+use Rattle.ds_certificate.specs.Columns.{Bound}
+use Rattle.ds_certificate.specs.Sources.{jitter_of, jitters_along, jitters_of, source_of}
+use Rattle.ds_certificate.specs.declared.source.Source.{Source}
+use Rattle.ds_checker.specs.BoundTests.{bound_tests, first_test, hop_test, hop_tests, in_both, misfit, tests_along}
+use Rattle.ds_checker.specs.declared.refusal.Column.{Column}
+use Rattle.ds_checker.specs.declared.refusal.Column.TheVariants.{Green, All}
+use Rattle.ds_checker.specs.Tests.{Test, first_failed}
+use Rattle.ds_checker.specs.declared.refusal.Refusal.{Refusal}
+
+-- what a rate gives over a gap is far below 2^128
+pub bytes_over_fits : (rate gap : ℕ) → rate < 2 ^ 64 → gap < 2 ^ 64 → bytes_over rate gap < 2 ^ 97
+bytes_over_fits rate gap slow short =
+    let product : rate * gap ≤ 2 ^ 64 * 2 ^ 64 = mul-le-mul {n₁ = rate} {m₁ = gap} {n₂ = 2 ^ 64} {m₂ = 2 ^ 64} (omega arith) (omega arith) in
+    let times = div_ceil_times (rate * gap) 8000000000 (omega arith) in
+    omega (arith, times)
+
+-- the first test that fails in a list, or else in the list behind it
+append_by : (failed : Bool) (refusal : Refusal) (rest whole other : Option Refusal) → whole ≡ option_or rest other
+    → (if failed then whole else Some refusal) ≡ option_or (if failed then rest else Some refusal) other
+append_by true refusal rest whole other same = same
+append_by false refusal rest whole other same = refl
+
+pub first_failed-append : (a b : List Test) → first_failed (a ++ b) ≡ option_or (first_failed a) (first_failed b)
+unfolding first_failed
+first_failed-append [] b = refl
+first_failed-append (t ∷ a) b =
+    append_by (nat_le t.needed t.given) (t.refused t.needed t.given) (first_failed a) (first_failed (a ++ b)) (first_failed b) (first_failed-append a b)
+
+-- a single test
+alone_by : (needed given : ℕ) (refusal : Refusal) → then_some (nat_lt given needed) refusal ≡ (if nat_le needed given then None else Some refusal)
+alone_by needed given refusal = grind (arith, nat_tests)
+
+pub first_failed-alone : (t : Test) (needed given : ℕ) (refusal : Refusal) → needed ≡ t.needed → given ≡ t.given → refusal ≡ t.refused needed given
+    → then_some (nat_lt given needed) refusal ≡ first_failed (t ∷ [])
+unfolding first_failed
+first_failed-alone t needed given refusal is_needed is_given same =
+    rw (sym is_needed) (rw (sym is_given) (ap (then_some (nat_lt given needed)) same ∙ alone_by needed given (t.refused needed given)))
+
+pub first_failed-both : (test : Column → Test) (green all : Option Refusal) → green ≡ first_failed (test Green ∷ []) → all ≡ first_failed (test All ∷ [])
+    → option_or green all ≡ first_failed (in_both test)
+first_failed-both test green all is_green is_all = rw is_green (rw is_all (sym (first_failed-append (test Green ∷ []) (test All ∷ []))))
+
+-- a refusal that there is stands, and else what is behind it
+pub found : (refusal other whole : Option Refusal) → is_some refusal ≡ true → option_or refusal other ≡ whole → refusal ≡ whole
+found None other whole some same = absurd cc
+found (Some r) other whole some same = same
+
+pub not_found : (refusal other whole : Option Refusal) → is_some refusal ≡ false → option_or refusal other ≡ whole → other ≡ whole
+not_found None other whole none same = same
+not_found (Some r) other whole none same = absurd cc
+
+-- what is asked for where there is none
+pub or_else_is : {P : Type 0} (first rest result : Option Refusal) → MatchOption first P (λ refusal. result ≡ Some refusal) → (P → result ≡ rest) → result ≡ option_or first rest
+or_else_is None rest result which called = called which
+or_else_is (Some refusal) rest result which called = which
+
+-- an item, and those behind it
+item_ahead : {X : Type 0} (xs : List X) (i : ℕ) (x : X) → i < length xs → x ≡ get_or xs i x → drop i xs ≡ x ∷ drop (i + 1) xs
+item_ahead xs i x inside is_item = drop_more xs i x inside ∙ ap (λ first. first ∷ drop (i + 1) xs) (sym is_item)
+
+next_is : (i : ℕ) → suc i ≡ i + 1
+next_is i = omega arith
+
+-- a contract that has no bounds
+pub misfit-missing : (d : Domain) (contracts : List Contract) (rows : List (List Bound)) (i : ℕ) (contract : Contract) → i < length contracts → contract ≡ get_or contracts i contract
+    → length rows ≤ i → misfit i d (drop i contracts) (drop i rows) ≡ Some i
+unfolding misfit
+misfit-missing d contracts rows i contract inside is_item short = rw (item_ahead contracts i contract inside is_item) (rw (drop_all i rows short) refl)
+
+-- a contract that has
+misfit-next : (i : ℕ) (d : Domain) (c : Contract) (contracts : List Contract) (bounds : List Bound) (rows : List (List Bound))
+    → misfit i d (c ∷ contracts) (bounds ∷ rows) ≡ (if fits d c && nat_eq (length bounds) (suc (length c.path)) then misfit (i + 1) d contracts rows else Some i)
+unfolding misfit
+misfit-next i d c contracts bounds rows =
+    ap (λ next. if fits d c && nat_eq (length bounds) (suc (length c.path)) then misfit next d contracts rows else Some i) (next_is i)
+
+pub misfit-step : (d : Domain) (contracts : List Contract) (rows : List (List Bound)) (i : ℕ) (contract : Contract) (bounds : List Bound) (answer : Bool) → i < length contracts
+    → contract ≡ get_or contracts i contract → i < length rows → bounds ≡ get_or rows i bounds → answer ≡ (fits d contract && nat_eq (length bounds) (suc (length contract.path)))
+    → misfit i d (drop i contracts) (drop i rows) ≡ (if answer then misfit (i + 1) d (drop (i + 1) contracts) (drop (i + 1) rows) else Some i)
+misfit-step d contracts rows i contract bounds answer inside is_item within is_row same =
+    rw (item_ahead contracts i contract inside is_item)
+    (rw (item_ahead rows i bounds within is_row) (rw same (misfit-next i d contract (drop (i + 1) contracts) bounds (drop (i + 1) rows))))
+
+-- what is left behind the last contract
+misfit_left : (i : ℕ) (d : Domain) (rows : List (List Bound)) → misfit i d [] rows ≡ (if nat_lt 0 (length rows) then Some i else None)
+unfolding misfit
+misfit_left i d [] = refl
+misfit_left i d (bounds ∷ rows) = grind (arith, nat_tests)
+
+pub misfit-more : (d : Domain) (contracts : List Contract) (rows : List (List Bound)) (i : ℕ) → i ≡ length contracts → length contracts < length rows
+    → misfit i d (drop i contracts) (drop i rows) ≡ Some (length contracts)
+misfit-more d contracts rows i ended more =
+    let none = drop_all i contracts (omega arith) in
+    let left : nat_lt 0 (length (drop i rows)) ≡ true = rw (length-drop i rows) (grind (arith, nat_tests)) in
+    rw none (misfit_left i d (drop i rows) ∙ rw left (ap Some ended))
+
+pub misfit-none : (d : Domain) (contracts : List Contract) (rows : List (List Bound)) (i : ℕ) → i ≡ length contracts → length rows ≤ length contracts
+    → misfit i d (drop i contracts) (drop i rows) ≡ None
+misfit-none d contracts rows i ended short = rw (drop_all i contracts (omega arith)) (rw (drop_all i rows (omega arith)) (misfit_left i d []))
+
+-- a hop, and what is behind it
+hops-next : (number hop : ℕ) (s : Source) (jitter : ℕ) (jitters : List ℕ) (before bound : Bound) (bounds : List Bound)
+    → first_failed (hop_tests number hop s (jitter ∷ jitters) before (bound ∷ bounds))
+    ≡ option_or (first_failed (in_both (hop_test number hop s jitter before bound))) (first_failed (hop_tests number (hop + 1) s jitters bound bounds))
+unfolding hop_tests
+hops-next number hop s jitter jitters before bound bounds =
+    first_failed-append (in_both (hop_test number hop s jitter before bound)) (hop_tests number (suc hop) s jitters bound bounds)
+    ∙ ap (λ next. option_or (first_failed (in_both (hop_test number hop s jitter before bound))) (first_failed (hop_tests number next s jitters bound bounds))) (next_is hop)
+
+pub hops-step : (number : ℕ) (s : Source) (d : Domain) (from to : List ℕ) (path : List (List ℕ)) (jitter : ℕ) (before bound : Bound) (bounds : List Bound) (i : ℕ) (refusal : Option Refusal)
+    → i < length path → to ≡ get_or path i to → i < length bounds → bound ≡ get_or bounds i bound → jitter ≡ jitter_of (link_of d from to)
+    → refusal ≡ first_failed (in_both (hop_test number (i + 1) s jitter before bound))
+    → first_failed (hop_tests number (i + 1) s (jitters_along d from (drop i path)) before (drop i bounds))
+    ≡ option_or refusal (first_failed (hop_tests number (i + 1 + 1) s (jitters_along d to (drop (i + 1) path)) bound (drop (i + 1) bounds)))
+unfolding jitters_along
+hops-step number s d from to path jitter before bound bounds i refusal inside is_to within is_bound is_jitter is_refusal =
+    rw (item_ahead path i to inside is_to)
+    (rw (item_ahead bounds i bound within is_bound)
+    (rw is_refusal
+    (rw is_jitter (hops-next number (i + 1) s (jitter_of (link_of d from to)) (jitters_along d to (drop (i + 1) path)) before bound (drop (i + 1) bounds)))))
+
+hops_none : (number hop : ℕ) (s : Source) (jitters : List ℕ) (before : Bound) → hop_tests number hop s jitters before [] ≡ []
+unfolding hop_tests
+hops_none number hop s [] before = refl
+hops_none number hop s (jitter ∷ jitters) before = refl
+
+none_failed : first_failed [] ≡ None
+unfolding first_failed
+none_failed = refl
+
+pub hops-short : (number hop : ℕ) (s : Source) (jitters : List ℕ) (before : Bound) (bounds : List Bound) (i : ℕ) → length bounds ≤ i
+    → first_failed (hop_tests number hop s jitters before (drop i bounds)) ≡ None
+hops-short number hop s jitters before bounds i short = rw (drop_all i bounds short) (rw (hops_none number hop s jitters before) none_failed)
+
+pub hops-ended : (number hop : ℕ) (s : Source) (d : Domain) (from : List ℕ) (path : List (List ℕ)) (before : Bound) (bounds : List Bound) (i : ℕ) → length path ≤ i
+    → first_failed (hop_tests number hop s (jitters_along d from (drop i path)) before bounds) ≡ None
+unfolding jitters_along hop_tests
+hops-ended number hop s d from path before bounds i ended = rw (drop_all i path ended) none_failed
+
+-- a contract, and what is behind it
+contracts-next : (number : ℕ) (d : Domain) (c : Contract) (contracts : List Contract) (bounds : List Bound) (rows : List (List Bound))
+    → first_failed (bound_tests number d (c ∷ contracts) (bounds ∷ rows))
+    ≡ option_or (first_failed (tests_along number (source_of d c) (jitters_of d c) bounds)) (first_failed (bound_tests (number + 1) d contracts rows))
+unfolding bound_tests
+contracts-next number d c contracts bounds rows =
+    first_failed-append (tests_along number (source_of d c) (jitters_of d c) bounds) (bound_tests (suc number) d contracts rows)
+    ∙ ap (λ next. option_or (first_failed (tests_along number (source_of d c) (jitters_of d c) bounds)) (first_failed (bound_tests next d contracts rows))) (next_is number)
+
+pub contracts-step : (d : Domain) (contracts : List Contract) (rows : List (List Bound)) (i : ℕ) (contract : Contract) (bounds : List Bound) (refusal : Option Refusal)
+    → i < length contracts → contract ≡ get_or contracts i contract → i < length rows → bounds ≡ get_or rows i bounds
+    → refusal ≡ first_failed (tests_along i (source_of d contract) (jitters_of d contract) bounds)
+    → first_failed (bound_tests i d (drop i contracts) (drop i rows)) ≡ option_or refusal (first_failed (bound_tests (i + 1) d (drop (i + 1) contracts) (drop (i + 1) rows)))
+contracts-step d contracts rows i contract bounds refusal inside is_item within is_row is_refusal =
+    rw (item_ahead contracts i contract inside is_item)
+    (rw (item_ahead rows i bounds within is_row) (rw is_refusal (contracts-next i d contract (drop (i + 1) contracts) bounds (drop (i + 1) rows))))
+
+contracts_none : (number : ℕ) (d : Domain) (contracts : List Contract) → bound_tests number d contracts [] ≡ []
+unfolding bound_tests
+contracts_none number d [] = refl
+contracts_none number d (c ∷ contracts) = refl
+
+pub contracts-short : (number : ℕ) (d : Domain) (contracts : List Contract) (rows : List (List Bound)) (i : ℕ) → length rows ≤ i
+    → first_failed (bound_tests number d contracts (drop i rows)) ≡ None
+contracts-short number d contracts rows i short = rw (drop_all i rows short) (rw (contracts_none number d contracts) none_failed)
+
+pub contracts-ended : (number : ℕ) (d : Domain) (contracts : List Contract) (rows : List (List Bound)) (i : ℕ) → length contracts ≤ i
+    → first_failed (bound_tests number d (drop i contracts) rows) ≡ None
+unfolding bound_tests
+contracts-ended number d contracts rows i ended = rw (drop_all i contracts ended) none_failed
+
+-- the tests of a contract
+pub along-empty : (number : ℕ) (s : Source) (jitters : List ℕ) (bounds : List Bound) → length bounds ≡ 0 → first_failed (tests_along number s jitters bounds) ≡ None
+along-empty number s jitters [] empty = none_failed
+along-empty number s jitters (first ∷ bounds) empty = absurd (omega (arith, empty))
+
+pub along-parts : (number : ℕ) (s : Source) (jitters : List ℕ) (bounds : List Bound) (first : Bound) (behind : List Bound) (own : Source) (refusal : Option Refusal)
+    → own ≡ s → bounds ≡ first ∷ behind → refusal ≡ first_failed (in_both (first_test number own first))
+    → option_or refusal (first_failed (hop_tests number 1 own jitters first behind)) ≡ first_failed (tests_along number s jitters bounds)
+along-parts number s jitters bounds first behind own refusal same are is_refusal =
+    rw is_refusal (rw same (rw are (sym (first_failed-append (in_both (first_test number s first)) (hop_tests number 1 s jitters first behind)))))

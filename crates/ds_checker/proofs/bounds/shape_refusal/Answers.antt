@@ -1,0 +1,38 @@
+use Rattle.std.proofs.Common.{◌≤◌, length, option_map, false, true, ap, sym, arith, ◌∙◌}
+use Rattle.std.proofs.lemmas.Bool.Decides.{nat_tests}
+use Rattle.ds_checker.specs.declared.refusal.Refusal.TheVariants.{Shape}
+use Rattle.ds_checker.proofs.BoundLaws.{misfit-missing, misfit-more, misfit-none, misfit-step}
+use Rattle.ds_checker.proofs.bounds.shape_refusal.Goals as goal
+
+pub returns-in_default : goal.returns-in_default
+returns-in_default c =
+    let i = c.loop-number.number in
+    let short : length c.bounds-rows.result.now ≤ i = grind (arith, nat_tests, c.in_default.ensures.lookup.0) in
+    let missing = misfit-missing c.args.domain.now c.args.contracts.now c.bounds-rows.result.now i c.index-contracts-number.result c.loop-number-test.true c.index-contracts-number.is short in
+    ap (option_map Shape) (sym missing ∙ c.loop-number.invariant)
+
+pub returns-then-not-has_shape : goal.returns-then-not-has_shape
+returns-then-not-has_shape c =
+    let i = c.loop-number.number in
+    let row = c.in-Some.ensures.lookup in
+    let step = misfit-step c.args.domain.now c.args.contracts.now c.bounds-rows.result.now i c.index-contracts-number.result c.in-Some.bounds.now false c.loop-number-test.true
+    c.index-contracts-number.is row.3.0 row.1 (sym c.if-not-has_shape.true ∙ c.has_shape.ensures) in
+    ap (option_map Shape) (sym step ∙ c.loop-number.invariant)
+
+pub loop-number-preserved : goal.loop-number-preserved
+loop-number-preserved c =
+    let i = c.loop-number.number in
+    let row = c.in-Some.ensures.lookup in
+    let step = misfit-step c.args.domain.now c.args.contracts.now c.bounds-rows.result.now i c.index-contracts-number.result c.in-Some.bounds.now true c.loop-number-test.true
+    c.index-contracts-number.is row.3.0 row.1 (sym c.if-not-has_shape.false ∙ c.has_shape.ensures) in
+    sym step ∙ c.loop-number.invariant
+
+pub returns-then-rows-contracts : goal.returns-then-rows-contracts
+returns-then-rows-contracts c =
+    let more = misfit-more c.args.domain.now c.args.contracts.now c.bounds-rows.result.now c.loop-number.number (omega arith) (omega arith) in
+    ap (option_map Shape) (sym more ∙ c.loop-number.invariant)
+
+pub returns : goal.returns
+returns c =
+    let none = misfit-none c.args.domain.now c.args.contracts.now c.bounds-rows.result.now c.loop-number.number (omega arith) (omega arith) in
+    ap (option_map Shape) (sym none ∙ c.loop-number.invariant)
