@@ -3,13 +3,11 @@
 
 mod command_line;
 mod fault;
-mod file_name;
 mod options;
 mod words;
 mod work;
 
 pub use fault::UsageFault;
-pub use file_name::FileName;
 pub use words::plan;
 pub use work::Plan;
 

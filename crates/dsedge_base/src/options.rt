@@ -4,8 +4,8 @@ ghost use Rattle.dsedge_base.specs.Options.{burst_said, envelope_burst_said, env
 ghost use Rattle.dsedge_base.specs.Options.{origin_said, parameters_given, rate_said, separate_rates_given, single_rate_given, two_rate_given};
 ghost use Rattle.dsedge_base.specs.Plans.{given_by};
 
-use crate::file_name::FileName;
 use clap::ArgMatches;
+use dsedge_files::FileName;
 use line_text::number;
 use meter_book::{AnyMeter, Parameters};
 use moment_core::{Mode, Moment, Rate};

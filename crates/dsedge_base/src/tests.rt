@@ -1,4 +1,5 @@
-use crate::{FileName, Plan, UsageFault, plan};
+use crate::{Plan, UsageFault, plan};
+use dsedge_files::FileName;
 use meter_book::{AnyMeter, Parameters};
 use moment_core::{Mode, Moment, Rate};
 use rfc4115_core::Rfc4115Parameters;

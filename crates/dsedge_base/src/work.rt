@@ -1,7 +1,7 @@
 ghost use Rattle.std.specs.Prelude.{◌≡◌, IfOk};
 ghost use Rattle.dsedge_base.specs.Files.{files_of};
 
-use crate::file_name::FileName;
+use dsedge_files::FileName;
 use meter_book::AnyMeter;
 use moment_core::Rate;
 use std::alloc::{AllocError, Global};
