@@ -1,6 +1,7 @@
 -- Which files can be read whole, and the texts of several.
 use Rattle.std.specs.Prelude.{◌≡◌, ℕ, ◌^◌, nat_le, List, [], ◌∷◌, Option, None, Some, Result, Ok, Err, length, if◌then◌else◌}
 use Rattle.std.specs.Borrow.{Bor}
+use Rattle.std.specs.List.{Contains}
 use Rattle.std.specs.Str.{bytes_eq}
 use Rattle.dsedge_files.specs.declared.fault.TextFault.{TextFault}
 use Rattle.dsedge_files.specs.declared.fault.TextFault.TheVariants.{File, NoMemory}
@@ -25,6 +26,11 @@ with_text name (Some text) (Err unread) = Err unread
 unfoldable pub texts_of : (List ℕ → Option (List ℕ)) → List (List ℕ) → Result (List (List ℕ)) (List ℕ)
 texts_of holds [] = Ok []
 texts_of holds (name ∷ names) = with_text name (readable (holds name)) (texts_of holds names)
+
+-- a file that gave no text is one of those that were asked for
+abbrev pub IsNamed : List (List ℕ) → TextFault → Type 0
+IsNamed names (File name) = Contains names name
+IsNamed names NoMemory = Unit {0}
 
 -- why not all files gave their texts: the first that cannot be read; memory may run out
 abbrev pub IsUnread : (List ℕ → Option (List ℕ)) → List (List ℕ) → TextFault → Type 0

@@ -1,5 +1,5 @@
-ghost use Rattle.std.specs.Prelude.{◌≡◌, map, Ok, Err, IfErr, IfOk};
-ghost use Rattle.dsedge_files.specs.Readable.{IsUnread, texts_of};
+ghost use Rattle.std.specs.Prelude.{◌≡◌, map, length, Ok, Err, IfErr, IfOk};
+ghost use Rattle.dsedge_files.specs.Readable.{IsNamed, IsUnread, texts_of};
 
 use crate::fault::{FileFault, TextFault};
 use crate::file_name::FileName;
@@ -14,6 +14,8 @@ pub fn read_texts<'a, F: Folder>(
 ) -> Result<Vec<Vec<u8>>, TextFault<'a>>
     ensures texts { F.tells folder.now → IfOk result (λ texts.
         texts_of (F.holds folder.now) names.now ≡ Ok (map (λ text. text.items) texts.items)) }
+    ensures count { IfOk result (λ texts. length texts.items ≡ length names.now) }
+    ensures named { IfErr result (IsNamed names.now) }
     ensures refused { F.tells folder.now → IfErr result (IsUnread (F.holds folder.now) names.now) }
 {
     let mut texts = Vec::new(alloc);
