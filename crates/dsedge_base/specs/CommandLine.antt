@@ -10,6 +10,10 @@ optional name = record (new_rule name) { long = Some name; value_names = 1 }
 abbrev pub required : Text → Rule
 required name = record (optional name) { required = true }
 
+-- a word that has to be given
+abbrev pub positional : Text → Rule
+positional name = record (new_rule name) { value_names = 1; required = true }
+
 -- the parameters of a meter, of which each kind has its own, and what every meter has
 abbrev pub meter : App
 meter = with_rule (with_rule (with_rule (with_rule (with_rule (with_rule (with_rule (with_rule (with_rule (new_app (codes "meter"))
@@ -34,5 +38,9 @@ envelope = with_rule (with_rule (new_app (codes "envelope"))
     (required (codes "rate")))
     (required (codes "burst"))
 
+-- a certificate is that of a domain
+abbrev pub certify : App
+certify = with_rule (new_app (codes "certify")) (positional (codes "domain"))
+
 abbrev pub dsedge : App
-dsedge = with_subcommand (with_subcommand program meter.top) envelope.top
+dsedge = with_subcommand (with_subcommand (with_subcommand program meter.top) envelope.top) certify.top

@@ -1,4 +1,5 @@
 -- What the words of a command line ask for.
 pub mod CommandLine
+pub mod Files
 pub mod Options
 pub mod Plans

@@ -1,7 +1,7 @@
 ghost use Rattle.std.specs.Prelude.{◌≡◌, IfOk, true, false};
 ghost use Rattle.clap.specs.Words.{app_of, rule_of};
 ghost use Rattle.clap.specs.declared.builder.command.Command.TheViews.{out-Command as fields_of};
-ghost use Rattle.dsedge_base.specs.CommandLine.{dsedge, envelope, meter, optional, required};
+ghost use Rattle.dsedge_base.specs.CommandLine.{certify, dsedge, envelope, meter, optional, positional, required};
 
 use clap::{Arg, Command};
 use std::alloc::{AllocError, Global};
@@ -16,7 +16,8 @@ pub(crate) fn command_line<'a>(alloc: Global) -> Result<Command<'a>, AllocError>
         .no_binary_name(true)
         .subcommand_required(true)
         .subcommand(meter_command(alloc)?)?
-        .subcommand(envelope_command(alloc)?)
+        .subcommand(envelope_command(alloc)?)?
+        .subcommand(certify_command(alloc)?)
 }
 
 /// `dsedge meter`.
@@ -66,6 +67,28 @@ fn envelope_command<'a>(alloc: Global) -> Result<Command<'a>, AllocError>
         .about("Tests whether the packets on standard input, lines MOMENT SIZE, keep an envelope.")
         .arg(needed(alloc, "rate", "RATE", rate))?
         .arg(needed(alloc, "burst", "BYTES", burst))
+}
+
+/// `dsedge certify`.
+fn certify_command<'a>(alloc: Global) -> Result<Command<'a>, AllocError>
+    ensures shape { IfOk result (λ command. app_of command ≡ certify) }
+    ensures local { IfOk result (λ command. (fields_of command).has_globals ≡ false) }
+{
+    let domain = "the domain: a TOML text of meters, ports, links and contracts";
+    Command::new(alloc, "certify")
+        .about("Prints the least certificate of the contracts of a domain.")
+        .arg(word(alloc, "domain", "DOMAIN", domain))
+}
+
+/// A word that has to be given.
+fn word<'a>(alloc: Global, name: &'a str, value: &'a str, help: &'a str) -> Arg<'a>
+    ensures rule { rule_of result ≡ positional name.entry.now }
+    ensures local { result.global ≡ false }
+{
+    Arg::new(alloc, name)
+        .value_name(value)
+        .help(help)
+        .required(true)
 }
 
 /// An option that may be left out.

@@ -5,6 +5,7 @@ ghost use Rattle.dsedge_base.specs.Options.{origin_said, parameters_given, rate_
 ghost use Rattle.dsedge_base.specs.Plans.{given_by};
 
 use clap::ArgMatches;
+use dsedge_files::FileName;
 use line_text::number;
 use meter_book::{AnyMeter, Parameters};
 use moment_core::{Mode, Moment, Rate};
@@ -34,6 +35,13 @@ pub(crate) fn envelope_in(options: &ArgMatches<'_>) -> Option<(Rate, u64)>
     let rate = rate_said_by(text_in(options, "rate")?)?;
     let burst = envelope_burst_said_by(text_in(options, "burst")?)?;
     Some((rate, burst))
+}
+
+/// The name of a file that a word of a command gives.
+pub(crate) fn file_in<'a>(options: &ArgMatches<'a>, name: &str) -> Option<FileName<'a>>
+    ensures { result ≡ given_by (rows_of (found_of options.now)) name.now }
+{
+    Some(FileName::new(text_in(options, name)?))
 }
 
 /// The meter of parameters that are those of one.

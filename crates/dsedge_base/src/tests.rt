@@ -1,4 +1,5 @@
 use crate::{Plan, UsageFault, plan};
+use dsedge_files::FileName;
 use meter_book::{AnyMeter, Parameters};
 use moment_core::{Mode, Moment, Rate};
 use rfc4115_core::Rfc4115Parameters;
@@ -7,15 +8,19 @@ use std::alloc::Global;
 use std::test::Fail;
 use trtcm_core::TrTcmParameters;
 
-/// The plan for a line of words that stand one space apart.
-fn plan_for(alloc: Global, line: &str) -> Result<Result<Plan, UsageFault>, Fail> {
+/// The plan for a line of words that stand one space apart, as it is shown to people.
+fn plan_for(alloc: Global, line: &str) -> Result<Result<String, UsageFault>, Fail> {
     let words = line.split(' ').collect::<Vec<&str>>(alloc)?;
-    Ok(plan(alloc, words.as_slice()))
+    match plan(alloc, words.as_slice()) {
+        Ok(plan) => Ok(Ok(format!(in alloc; "{plan:?}")?)),
+        Err(fault) => Ok(Err(fault)),
+    }
 }
 
 /// The text of the help that a line of words asks for.
 fn help_for(alloc: Global, line: &str) -> Result<String, Fail> {
-    match plan_for(alloc, line)?? {
+    let words = line.split(' ').collect::<Vec<&str>>(alloc)?;
+    match plan(alloc, words.as_slice())? {
         Plan::Help(text) => Ok(text),
         _ => Err(Fail::from("no help")),
     }
@@ -58,7 +63,7 @@ fn meters_of_two_rates(rt: HostRuntime) -> Result<(), Fail> {
         };
         let expected = AnyMeter::new(Parameters::TrTcm(parameters), mode, Moment::new(origin)?)?;
         let expected = format!(in alloc; "Meter({expected:?})")?;
-        let made = format!(in alloc; "{:?}", plan_for(alloc, line)??)?;
+        let made = plan_for(alloc, line)??;
         assert_eq!(rt; made.as_str(), expected.as_str(), "{line}");
     }
     Ok(())
@@ -94,7 +99,7 @@ fn meters_of_the_other_kinds(rt: HostRuntime) -> Result<(), Fail> {
     ] {
         let expected = AnyMeter::new(parameters, mode, Moment::new(origin)?)?;
         let expected = format!(in alloc; "Meter({expected:?})")?;
-        let made = format!(in alloc; "{:?}", plan_for(alloc, line)??)?;
+        let made = plan_for(alloc, line)??;
         assert_eq!(rt; made.as_str(), expected.as_str(), "{line}");
     }
     Ok(())
@@ -114,7 +119,22 @@ fn envelopes(rt: HostRuntime) -> Result<(), Fail> {
     ] {
         let rate = Rate::new(rate)?;
         let expected = format!(in alloc; "{:?}", Plan::Envelope { rate, burst })?;
-        let made = format!(in alloc; "{:?}", plan_for(alloc, line)??)?;
+        let made = plan_for(alloc, line)??;
+        assert_eq!(rt; made.as_str(), expected.as_str(), "{line}");
+    }
+    Ok(())
+}
+
+#[test]
+fn certificates(rt: HostRuntime) -> Result<(), Fail> {
+    let alloc = rt.alloc();
+    for (line, name) in [
+        ("certify domain.toml", "domain.toml"),
+        ("certify -- --kind", "--kind"),
+    ] {
+        let domain = FileName::new(name);
+        let expected = format!(in alloc; "{:?}", Plan::Certify { domain })?;
+        let made = plan_for(alloc, line)??;
         assert_eq!(rt; made.as_str(), expected.as_str(), "{line}");
     }
     Ok(())
@@ -146,7 +166,9 @@ fn words_that_are_no_command(rt: HostRuntime) -> Result<(), Fail> {
         "envelope --rate 1 --burst 1000000000000001",
         "envelope --rate 1 --burst +1",
         "envelope --rate 1 --burst -1",
-        "certify domain.toml",
+        "certify",
+        "certify one.toml two.toml",
+        "certify --domain one.toml",
         "check domain.toml domain.cert",
         "mark domain.toml domain.cert --port p --workers 1 --red keep",
         "drive domain.toml",

@@ -4,7 +4,7 @@ ghost use Rattle.dsedge_base.specs.Plans.{IsHelp, IsPlanOf, IsRefusalOf, plan_of
 
 use crate::command_line::command_line;
 use crate::fault::UsageFault;
-use crate::options::{envelope_in, meter_in};
+use crate::options::{envelope_in, file_in, meter_in};
 use crate::work::Plan;
 use clap::error::ErrorKind;
 use clap::{ArgMatches, Error};
@@ -15,7 +15,7 @@ use std::convert::AsStr;
 ///
 /// Refused: `Usage` for words that are not those of a command with options of its own, each given once and in its
 /// range, and for parameters that a meter refuses; `NoMemory` where memory runs out.
-pub fn plan<'a, S: AsStr>(alloc: Global, words: &'a [S]) -> Result<Plan, UsageFault>
+pub fn plan<'a, S: AsStr>(alloc: Global, words: &'a [S]) -> Result<Plan<'a>, UsageFault>
     ensures ok { IfOk result (IsPlanOf (map S.text words.entry.now)) }
     ensures err { IfErr result (IsRefusalOf (map S.text words.entry.now)) }
 {
@@ -27,7 +27,7 @@ pub fn plan<'a, S: AsStr>(alloc: Global, words: &'a [S]) -> Result<Plan, UsageFa
 }
 
 /// What a command line that is well formed asks for.
-fn asked_by(matches: &ArgMatches<'_>) -> Option<Plan>
+fn asked_by<'a>(matches: &ArgMatches<'a>) -> Option<Plan<'a>>
     ensures { result ≡ option_and_then plan_of (subcommand_rows_of matches.now) }
 {
     let (name, options) = matches.subcommand()?;
@@ -35,7 +35,7 @@ fn asked_by(matches: &ArgMatches<'_>) -> Option<Plan>
 }
 
 /// What a command asks for with its options.
-fn asked_of(name: &str, options: &ArgMatches<'_>) -> Option<Plan>
+fn asked_of<'a>(name: &str, options: &ArgMatches<'a>) -> Option<Plan<'a>>
     ensures { result ≡ plan_of (name.now, rows_of (found_of options.now)) }
 {
     match name {
@@ -44,12 +44,16 @@ fn asked_of(name: &str, options: &ArgMatches<'_>) -> Option<Plan>
             let (rate, burst) = envelope_in(options)?;
             Some(Plan::Envelope { rate, burst })
         }
+        "certify" => {
+            let domain = file_in(options, "domain")?;
+            Some(Plan::Certify { domain })
+        }
         _ => None,
     }
 }
 
 /// The help that was asked for, or why words are refused.
-fn answer_to(alloc: Global, error: &Error) -> Result<Plan, UsageFault>
+fn answer_to<'a>(alloc: Global, error: &Error) -> Result<Plan<'a>, UsageFault>
     ensures help { IfOk result (λ plan. (kind_of error.now ≡ ErrorKind.DisplayHelp) × IsHelp plan) }
     ensures usage { IfErr result (λ fault. fault ≡ UsageFault.Usage
         → (kind_of error.now ≢ ErrorKind.DisplayHelp) × (kind_of error.now ≢ ErrorKind.OutOfMemory)) }

@@ -1,9 +1,14 @@
+ghost use Rattle.std.specs.Prelude.{◌≡◌, IfOk};
+ghost use Rattle.dsedge_base.specs.Files.{files_of};
+
+use dsedge_files::FileName;
 use meter_book::AnyMeter;
 use moment_core::Rate;
+use std::alloc::{AllocError, Global};
 
 /// What the words of a command line ask for.
 #[derive(Debug, Drop)]
-pub enum Plan {
+pub enum Plan<'a> {
     /// Show this text on standard output.
     Help(String),
     /// Meter the arrivals of standard input with this meter.
@@ -15,4 +20,22 @@ pub enum Plan {
         /// Its burst, in bytes: 0 to 10^15.
         burst: u64,
     },
+    /// Give the least certificate of a domain and its contracts.
+    Certify {
+        /// The file of the domain.
+        domain: FileName<'a>,
+    },
+}
+
+impl<'a> Plan<'a> {
+    /// The names of the files that are to be read, in the order of the words.
+    pub fn files(&self, alloc: Global) -> Result<Vec<FileName<'a>>, AllocError>
+        ensures { IfOk result (λ names. names.items ≡ files_of self.now) }
+    {
+        let mut names = Vec::new(alloc);
+        if let Plan::Certify { domain } = self {
+            names.push(FileName::new(domain.text()))?;
+        }
+        Ok(names)
+    }
 }

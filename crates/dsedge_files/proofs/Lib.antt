@@ -1,0 +1,3 @@
+-- Lemmas on files and their texts.
+pub mod FolderLemmas
+pub mod TextLemmas

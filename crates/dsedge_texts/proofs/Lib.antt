@@ -1,0 +1,3 @@
+-- Lemmas on certificates of domain texts.
+pub mod FittingLaws
+pub mod ShapeLemmas

@@ -1,0 +1,2 @@
+-- What the program answers to the texts of files.
+pub mod Certified
