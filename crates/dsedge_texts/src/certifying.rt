@@ -27,11 +27,7 @@ pub fn certify(alloc: Global, text: &[u8]) -> Result<Vec<u8>, DomainFault>
 }
 
 /// The text of the least certificate of contracts that fit a domain.
-fn least_text(
-    alloc: Global,
-    domain: &Domain,
-    contracts: &[Contract],
-) -> Result<Vec<u8>, AllocError>
+fn least_text(alloc: Global, domain: &Domain, contracts: &[Contract]) -> Result<Vec<u8>, AllocError>
     requires { list_all (fits domain.now) contracts.now ≡ true }
     ensures { IfOk result (λ text. text.items ≡ text_of contracts.now (least domain.now contracts.now)) }
 {

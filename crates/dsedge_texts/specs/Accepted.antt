@@ -1,0 +1,32 @@
+-- What a domain text and a certificate text say together: a table that is acceptable, or what stands against it.
+use Rattle.std.specs.Prelude.{ℕ, List, Option, None, Some, Result, Ok, Err}
+use Rattle.ds_certificate.specs.Columns.{Bound}
+use Rattle.ds_certificate.specs.Readings.{certificate_in}
+use Rattle.ds_certificate.specs.declared.fault.CertificateFault.{CertificateFault}
+use Rattle.ds_checker.specs.Acceptance.{Table, refusal_of}
+use Rattle.ds_checker.specs.declared.refusal.Refusal.{Refusal}
+use Rattle.ds_domain.specs.DomainTexts.{parse_of}
+use Rattle.ds_domain_base.specs.Domains.{Domain}
+use Rattle.ds_domain_base.specs.declared.contract.Contract.{Contract}
+use Rattle.ds_domain_base.specs.declared.fault.DomainFault.{DomainFault}
+use Rattle.dsedge_texts.specs.Refused.{refusal_line}
+use Rattle.dsedge_texts.specs.declared.accepting.TableFault.{TableFault}
+use Rattle.dsedge_texts.specs.declared.accepting.TableFault.TheVariants as faults
+
+-- a table of which nothing stands against it, or the line of the first test that fails
+abbrev pub judged : Table → Option Refusal → Result Table TableFault
+judged t None = Ok t
+judged t (Some refusal) = Err (faults.Refused (refusal_line t.contracts refusal))
+
+abbrev pub tabled : Domain × List Contract → Result (List (List Bound)) CertificateFault → Result Table TableFault
+tabled parsed (Err fault) = Err (faults.Certificate fault)
+tabled parsed (Ok certificate) =
+    let t = record { domain = parsed.0; contracts = parsed.1; certificate = certificate } in judged t (refusal_of t)
+
+abbrev pub accepted_by : Result (Domain × List Contract) DomainFault → List ℕ → Result Table TableFault
+accepted_by (Err fault) certificate = Err (faults.Domain fault)
+accepted_by (Ok parsed) certificate = tabled parsed (certificate_in parsed.1 certificate)
+
+-- the domain's fault before the certificate's, and that before the checker's refusal
+abbrev pub accepted_in : List ℕ → List ℕ → Result Table TableFault
+accepted_in domain certificate = accepted_by (parse_of domain) certificate

@@ -1,0 +1,82 @@
+ghost use Rattle.std.specs.Prelude.{◌≡◌, ◌⊎◌, Err, IfErr, IfOk, Ok};
+ghost use Rattle.ds_certificate.specs.Readings.{certificate_in};
+ghost use Rattle.ds_checker.specs.Acceptance.{refusal_of, table_of};
+ghost use Rattle.dsedge_texts.specs.Accepted.{accepted_in, judged, tabled};
+
+use crate::refusing::RefusalLine;
+use ds_certificate::{CertificateFault, read};
+use ds_checker::{Accepted, Candidate, Refusal, check};
+use ds_domain::{Contract, Domain, DomainFault, Kind, parse};
+use std::alloc::Global;
+
+/// Why the texts of a domain and of a certificate do not say an acceptable table.
+#[derive(Debug, Drop)]
+pub enum TableFault {
+    /// The domain text has a fault.
+    Domain(DomainFault),
+    /// The certificate text has a fault.
+    Certificate(CertificateFault),
+    /// The certificate is not acceptable.
+    Refused(RefusalLine),
+    /// Memory ran out.
+    NoMemory,
+}
+
+/// The domain, the contracts and the certificate that two texts say, where the certificate is acceptable.
+///
+/// Refused: `Domain` with the first fault of the domain text, `Certificate` with that of the certificate text, `Refused` with
+/// the line of the first test of the checker that fails, in this order; `NoMemory` where memory runs out.
+pub fn accept(alloc: Global, domain: &[u8], certificate: &[u8]) -> Result<Accepted, TableFault>
+    ensures ok { IfOk result (λ accepted. accepted_in domain.now certificate.now ≡ Ok accepted) }
+    ensures refused { IfErr result (λ fault. (fault ≡ TableFault.NoMemory) ⊎ (accepted_in domain.now certificate.now ≡ Err fault)) }
+{
+    match parse(alloc, domain) {
+        Ok((domain, contracts)) => accept_parsed(alloc, domain, contracts, certificate),
+        Err(fault) if fault.kind == Kind::NoMemory => Err(TableFault::NoMemory),
+        Err(fault) => Err(TableFault::Domain(fault)),
+    }
+}
+
+/// The table of a domain, of its contracts and of the certificate that a text says.
+fn accept_parsed(
+    alloc: Global,
+    domain: Domain,
+    contracts: Vec<Contract>,
+    certificate: &[u8],
+) -> Result<Accepted, TableFault>
+    ensures ok { IfOk result (λ accepted.
+        tabled (domain, contracts.items) (certificate_in contracts.items certificate.now) ≡ Ok accepted) }
+    ensures refused { IfErr result (λ fault. (fault ≡ TableFault.NoMemory)
+        ⊎ (tabled (domain, contracts.items) (certificate_in contracts.items certificate.now) ≡ Err fault)) }
+{
+    match read(alloc, certificate, contracts.as_slice()) {
+        Ok(certificate) => judge(
+            alloc,
+            Candidate {
+                domain,
+                contracts,
+                certificate,
+            },
+        ),
+        Err(CertificateFault::NoMemory) => Err(TableFault::NoMemory),
+        Err(fault) => Err(TableFault::Certificate(fault)),
+    }
+}
+
+/// What the checker makes of a candidate.
+fn judge(alloc: Global, candidate: Candidate) -> Result<Accepted, TableFault>
+    ensures ok { IfOk result (λ accepted. judged (table_of candidate) (refusal_of (table_of candidate)) ≡ Ok accepted) }
+    ensures refused { IfErr result (λ fault. (fault ≡ TableFault.NoMemory)
+        ⊎ (judged (table_of candidate) (refusal_of (table_of candidate)) ≡ Err fault)) }
+{
+    match check(alloc, candidate) {
+        Ok(accepted) => Ok(accepted),
+        Err((_, Refusal::NoMemory)) => Err(TableFault::NoMemory),
+        Err((candidate, refusal)) => {
+            match RefusalLine::new(alloc, candidate.contracts.as_slice(), &refusal) {
+                Ok(line) => Err(TableFault::Refused(line)),
+                Err(_) => Err(TableFault::NoMemory),
+            }
+        }
+    }
+}
