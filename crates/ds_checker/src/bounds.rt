@@ -60,11 +60,7 @@ pub(crate) fn bounds_refusal(
 ) -> Option<Refusal>
     ensures { result ≡ first_failed (bound_tests 0 domain.now contracts.now certificate.now) }
 {
-    let rows = certificate.bounds();
-    for (number, contract) in contracts.iter().enumerate() {
-        let Some(bounds) = rows.get(number) else {
-            return None;
-        };
+    for (number, (contract, bounds)) in contracts.iter().zip(certificate.bounds()).enumerate() {
         let refusal = contract_refusal(domain, number, contract, bounds);
         if refusal.is_some() {
             return refusal;
@@ -93,12 +89,9 @@ fn contract_refusal(
 fn first_refusal(number: usize, source: &Source, first: Bound) -> Option<Refusal>
     ensures { result ≡ first_failed (in_both (first_test number source.now first)) }
 {
-    first_refusal_in(Column::Green, number, source, first).or(first_refusal_in(
-        Column::All,
-        number,
-        source,
-        first,
-    ))
+    let green = first_refusal_in(Column::Green, number, source, first);
+    let all = first_refusal_in(Column::All, number, source, first);
+    green.or(all)
 }
 
 /// The refusal of a contract's first bound in a column: it is no less than the burst that the traffic enters with.
@@ -128,10 +121,7 @@ fn hops_refusal(
 {
     let mut from = contract.port;
     let mut before = first;
-    for (index, to) in contract.path.meters().iter().enumerate() {
-        let Some(bound) = behind.get(index) else {
-            return None;
-        };
+    for (index, (to, bound)) in contract.path.meters().iter().zip(behind).enumerate() {
         let jitter = jitter(domain, from, *to);
         let refusal = hop_refusal(number, index + 1, source, jitter, before, *bound);
         if refusal.is_some() {
@@ -154,15 +144,9 @@ fn hop_refusal(
 ) -> Option<Refusal>
     ensures { result ≡ first_failed (in_both (hop_test number hop source.now jitter before bound)) }
 {
-    hop_refusal_in(Column::Green, number, hop, source, jitter, before, bound).or(hop_refusal_in(
-        Column::All,
-        number,
-        hop,
-        source,
-        jitter,
-        before,
-        bound,
-    ))
+    let green = hop_refusal_in(Column::Green, number, hop, source, jitter, before, bound);
+    let all = hop_refusal_in(Column::All, number, hop, source, jitter, before, bound);
+    green.or(all)
 }
 
 /// The refusal of a bound behind a link in a column: it is no less than the one before it and what the rate gives over the
