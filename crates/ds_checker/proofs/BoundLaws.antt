@@ -27,8 +27,8 @@ bytes_over_fits rate gap slow short =
     omega (arith, times)
 
 -- the first test that fails in a list, or else in the list behind it
-append_by : (failed : Bool) (refusal : Refusal) (rest whole other : Option Refusal) → whole ≡ option_or rest other
-    → (if failed then whole else Some refusal) ≡ option_or (if failed then rest else Some refusal) other
+append_by : (passed : Bool) (refusal : Refusal) (rest whole other : Option Refusal) → whole ≡ option_or rest other
+    → (if passed then whole else Some refusal) ≡ option_or (if passed then rest else Some refusal) other
 append_by true refusal rest whole other same = same
 append_by false refusal rest whole other same = refl
 
@@ -52,7 +52,7 @@ pub first_failed-both : (test : Column → Test) (green all : Option Refusal) �
     → option_or green all ≡ first_failed (in_both test)
 first_failed-both test green all is_green is_all = rw is_green (rw is_all (sym (first_failed-append (test Green ∷ []) (test All ∷ []))))
 
--- a refusal that there is stands, and else what is behind it
+-- where a refusal stands before others it is the first, and else the first is among the others
 pub found : (refusal other whole : Option Refusal) → is_some refusal ≡ true → option_or refusal other ≡ whole → refusal ≡ whole
 found None other whole some same = absurd cc
 found (Some r) other whole some same = same
@@ -61,7 +61,7 @@ pub not_found : (refusal other whole : Option Refusal) → is_some refusal ≡ f
 not_found None other whole none same = same
 not_found (Some r) other whole none same = absurd cc
 
--- what is asked for where there is none
+-- a refusal, or what was computed where there was none
 pub or_else_is : {P : Type 0} (first rest result : Option Refusal) → MatchOption first P (λ refusal. result ≡ Some refusal) → (P → result ≡ rest) → result ≡ option_or first rest
 or_else_is None rest result which called = called which
 or_else_is (Some refusal) rest result which called = which

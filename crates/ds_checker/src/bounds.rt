@@ -52,7 +52,8 @@ fn is_fit(domain: &Domain, contract: &Contract) -> bool
     fits(domain, contract).is_ok()
 }
 
-/// The refusal of the first bound that is too low, contract by contract, hop by hop, green packets before all.
+/// The refusal of the first bound that is too low, contract by contract, hop by hop, green packets before all. It looks as far
+/// as there are both contracts and bounds; whether there is one list of bounds for each is a question of `shape_refusal`.
 pub(crate) fn bounds_refusal(
     domain: &Domain,
     contracts: &[Contract],
@@ -69,7 +70,7 @@ pub(crate) fn bounds_refusal(
     None
 }
 
-/// The refusal of the first bound of a contract that is too low.
+/// The refusal of the first bound of a contract that is too low; none where it has no bounds.
 fn contract_refusal(
     domain: &Domain,
     number: usize,
@@ -94,7 +95,7 @@ fn first_refusal(number: usize, source: &Source, first: Bound) -> Option<Refusal
     green.or(all)
 }
 
-/// The refusal of a contract's first bound in a column: it is no less than the burst that the traffic enters with.
+/// The refusal of a contract's first bound in a column, where it is below the burst that the traffic enters with.
 fn first_refusal_in(column: Column, number: usize, source: &Source, first: Bound) -> Option<Refusal>
     ensures { result ≡ first_failed (first_test number source.now first column ∷ []) }
 {
@@ -108,7 +109,7 @@ fn first_refusal_in(column: Column, number: usize, source: &Source, first: Bound
     })
 }
 
-/// The refusal of the first bound of a contract behind a link that is too low.
+/// The refusal of the first bound of a contract that is too low behind a link (Cruz 1991, section II).
 fn hops_refusal(
     domain: &Domain,
     number: usize,
@@ -149,7 +150,7 @@ fn hop_refusal(
     green.or(all)
 }
 
-/// The refusal of a bound behind a link in a column: it is no less than the one before it and what the rate gives over the
+/// The refusal of a bound behind a link in a column, where it is below the one before it and what the rate gives over the
 /// link's jitter, a begun byte counted whole.
 #[tactic(auto, using(crate::proofs::BoundLaws::bytes_over_fits))]
 fn hop_refusal_in(
