@@ -1,5 +1,5 @@
 -- Laws of the tests of bounds.
-use Rattle.std.proofs.Common.{◌≡◌, ℕ, suc, ◌+◌, ◌*◌, ◌<◌, ◌≤◌, ◌^◌, ◌++◌, ◌&&◌, nat_eq, length, drop, get_or, List, [], ◌∷◌, Bool, true, false, is_some, Option, None, Some, if◌then◌else◌, nat_le, nat_lt, ◌⊎◌, inl, inr, refl, sym, ap, ◌∙◌, arith}
+use Rattle.std.proofs.Common.{◌≡◌, ℕ, suc, ◌+◌, ◌-◌, ◌*◌, ◌<◌, ◌≤◌, ◌^◌, ◌++◌, ◌&&◌, nat_eq, length, drop, get_or, List, [], ◌∷◌, Bool, true, false, is_some, Option, None, Some, option_map, if◌then◌else◌, nat_le, nat_lt, ◌⊎◌, inl, inr, refl, sym, ap, ◌∙◌, arith}
 use Rattle.std.proofs.lemmas.List.{drop_all, drop_more, length-drop}
 use Rattle.std.specs.Bool.{then_some}
 use Rattle.std.specs.Option.{MatchOption, option_or}
@@ -18,6 +18,7 @@ use Rattle.ds_checker.specs.declared.refusal.Column.{Column}
 use Rattle.ds_checker.specs.declared.refusal.Column.TheVariants.{Green, All}
 use Rattle.ds_checker.specs.Tests.{Test, first_failed}
 use Rattle.ds_checker.specs.declared.refusal.Refusal.{Refusal}
+use Rattle.ds_checker.specs.declared.refusal.Refusal.TheVariants.{Shape}
 
 -- what a rate gives over a gap is far below 2^128
 pub bytes_over_fits : (rate gap : ℕ) → rate < 2 ^ 64 → gap < 2 ^ 64 → bytes_over rate gap < 2 ^ 97
@@ -94,21 +95,25 @@ misfit-step d contracts rows i contract bounds answer inside is_item within is_r
     (rw (item_ahead rows i bounds within is_row) (rw same (misfit-next i d contract (drop (i + 1) contracts) bounds (drop (i + 1) rows))))
 
 -- what is left behind the last contract
-misfit_left : (i : ℕ) (d : Domain) (rows : List (List Bound)) → misfit i d [] rows ≡ (if nat_lt 0 (length rows) then Some i else None)
+misfit_left : (i : ℕ) (d : Domain) (rows : List (List Bound)) → misfit i d [] rows ≡ then_some (nat_lt 0 (length rows)) i
 unfolding misfit
 misfit_left i d [] = refl
 misfit_left i d (bounds ∷ rows) = grind (arith, nat_tests)
 
-pub misfit-more : (d : Domain) (contracts : List Contract) (rows : List (List Bound)) (i : ℕ) → i ≡ length contracts → length contracts < length rows
-    → misfit i d (drop i contracts) (drop i rows) ≡ Some (length contracts)
-misfit-more d contracts rows i ended more =
-    let none = drop_all i contracts (omega arith) in
-    let left : nat_lt 0 (length (drop i rows)) ≡ true = rw (length-drop i rows) (grind (arith, nat_tests)) in
-    rw none (misfit_left i d (drop i rows) ∙ rw left (ap Some ended))
+left_over : (i n : ℕ) → nat_lt 0 (n - i) ≡ nat_lt i n
+left_over i n = grind (arith, nat_tests)
 
-pub misfit-none : (d : Domain) (contracts : List Contract) (rows : List (List Bound)) (i : ℕ) → i ≡ length contracts → length rows ≤ length contracts
-    → misfit i d (drop i contracts) (drop i rows) ≡ None
-misfit-none d contracts rows i ended short = rw (drop_all i contracts (omega arith)) (rw (drop_all i rows (omega arith)) (misfit_left i d []))
+refused_if : (more : Bool) (number : ℕ) → then_some more (Shape number) ≡ option_map Shape (then_some more number)
+refused_if true number = refl
+refused_if false number = refl
+
+pub misfit-behind : (d : Domain) (contracts : List Contract) (rows : List (List Bound)) (i : ℕ) → i ≡ length contracts
+    → then_some (nat_lt (length contracts) (length rows)) (Shape (length contracts)) ≡ option_map Shape (misfit i d (drop i contracts) (drop i rows))
+misfit-behind d contracts rows i ended =
+    let none = ap (λ left. misfit i d left (drop i rows)) (drop_all i contracts (omega arith)) in
+    let more = ap (λ count. then_some (nat_lt 0 count) i) (length-drop i rows) ∙ ap (λ some. then_some some i) (left_over i (length rows)) in
+    let counted = ap (λ count. then_some (nat_lt count (length rows)) count) ended in
+    refused_if (nat_lt (length contracts) (length rows)) (length contracts) ∙ sym (ap (option_map Shape) (none ∙ misfit_left i d (drop i rows) ∙ more ∙ counted))
 
 -- a hop, and what is behind it
 hops-next : (number hop : ℕ) (s : Source) (jitter : ℕ) (jitters : List ℕ) (before bound : Bound) (bounds : List Bound)

@@ -30,12 +30,9 @@ pub(crate) fn shape_refusal(
             return Some(Refusal::Shape { contract: number });
         }
     }
-    if rows.len() > contracts.len() {
-        return Some(Refusal::Shape {
-            contract: contracts.len(),
-        });
-    }
-    None
+    (rows.len() > contracts.len()).then_some(Refusal::Shape {
+        contract: contracts.len(),
+    })
 }
 
 /// Whether a contract fits the domain and has one bound more than its path has meters.
