@@ -1,5 +1,5 @@
 -- Laws of the tests of bounds.
-use Rattle.std.proofs.Common.{◌≡◌, ℕ, suc, ◌+◌, ◌*◌, ◌<◌, ◌≤◌, ◌^◌, ◌++◌, ◌&&◌, nat_eq, length, drop, get_or, List, [], ◌∷◌, Bool, true, false, is_some, Option, None, Some, if◌then◌else◌, nat_le, nat_lt, refl, sym, ap, ◌∙◌, arith}
+use Rattle.std.proofs.Common.{◌≡◌, ℕ, suc, ◌+◌, ◌-◌, ◌*◌, ◌<◌, ◌≤◌, ◌^◌, ◌++◌, ◌&&◌, nat_eq, length, drop, get_or, List, [], ◌∷◌, Bool, true, false, is_some, Option, None, Some, option_map, if◌then◌else◌, nat_le, nat_lt, ◌⊎◌, inl, inr, refl, sym, ap, ◌∙◌, arith}
 use Rattle.std.proofs.lemmas.List.{drop_all, drop_more, length-drop}
 use Rattle.std.specs.Bool.{then_some}
 use Rattle.std.specs.Option.{MatchOption, option_or}
@@ -18,6 +18,7 @@ use Rattle.ds_checker.specs.declared.refusal.Column.{Column}
 use Rattle.ds_checker.specs.declared.refusal.Column.TheVariants.{Green, All}
 use Rattle.ds_checker.specs.Tests.{Test, first_failed}
 use Rattle.ds_checker.specs.declared.refusal.Refusal.{Refusal}
+use Rattle.ds_checker.specs.declared.refusal.Refusal.TheVariants.{Shape}
 
 -- what a rate gives over a gap is far below 2^128
 pub bytes_over_fits : (rate gap : ℕ) → rate < 2 ^ 64 → gap < 2 ^ 64 → bytes_over rate gap < 2 ^ 97
@@ -27,8 +28,8 @@ bytes_over_fits rate gap slow short =
     omega (arith, times)
 
 -- the first test that fails in a list, or else in the list behind it
-append_by : (failed : Bool) (refusal : Refusal) (rest whole other : Option Refusal) → whole ≡ option_or rest other
-    → (if failed then whole else Some refusal) ≡ option_or (if failed then rest else Some refusal) other
+append_by : (passed : Bool) (refusal : Refusal) (rest whole other : Option Refusal) → whole ≡ option_or rest other
+    → (if passed then whole else Some refusal) ≡ option_or (if passed then rest else Some refusal) other
 append_by true refusal rest whole other same = same
 append_by false refusal rest whole other same = refl
 
@@ -52,7 +53,7 @@ pub first_failed-both : (test : Column → Test) (green all : Option Refusal) �
     → option_or green all ≡ first_failed (in_both test)
 first_failed-both test green all is_green is_all = rw is_green (rw is_all (sym (first_failed-append (test Green ∷ []) (test All ∷ []))))
 
--- a refusal that there is stands, and else what is behind it
+-- where a refusal stands before others it is the first, and else the first is among the others
 pub found : (refusal other whole : Option Refusal) → is_some refusal ≡ true → option_or refusal other ≡ whole → refusal ≡ whole
 found None other whole some same = absurd cc
 found (Some r) other whole some same = same
@@ -61,7 +62,7 @@ pub not_found : (refusal other whole : Option Refusal) → is_some refusal ≡ f
 not_found None other whole none same = same
 not_found (Some r) other whole none same = absurd cc
 
--- what is asked for where there is none
+-- a refusal, or what was computed where there was none
 pub or_else_is : {P : Type 0} (first rest result : Option Refusal) → MatchOption first P (λ refusal. result ≡ Some refusal) → (P → result ≡ rest) → result ≡ option_or first rest
 or_else_is None rest result which called = called which
 or_else_is (Some refusal) rest result which called = which
@@ -94,21 +95,25 @@ misfit-step d contracts rows i contract bounds answer inside is_item within is_r
     (rw (item_ahead rows i bounds within is_row) (rw same (misfit-next i d contract (drop (i + 1) contracts) bounds (drop (i + 1) rows))))
 
 -- what is left behind the last contract
-misfit_left : (i : ℕ) (d : Domain) (rows : List (List Bound)) → misfit i d [] rows ≡ (if nat_lt 0 (length rows) then Some i else None)
+misfit_left : (i : ℕ) (d : Domain) (rows : List (List Bound)) → misfit i d [] rows ≡ then_some (nat_lt 0 (length rows)) i
 unfolding misfit
 misfit_left i d [] = refl
 misfit_left i d (bounds ∷ rows) = grind (arith, nat_tests)
 
-pub misfit-more : (d : Domain) (contracts : List Contract) (rows : List (List Bound)) (i : ℕ) → i ≡ length contracts → length contracts < length rows
-    → misfit i d (drop i contracts) (drop i rows) ≡ Some (length contracts)
-misfit-more d contracts rows i ended more =
-    let none = drop_all i contracts (omega arith) in
-    let left : nat_lt 0 (length (drop i rows)) ≡ true = rw (length-drop i rows) (grind (arith, nat_tests)) in
-    rw none (misfit_left i d (drop i rows) ∙ rw left (ap Some ended))
+left_over : (i n : ℕ) → nat_lt 0 (n - i) ≡ nat_lt i n
+left_over i n = grind (arith, nat_tests)
 
-pub misfit-none : (d : Domain) (contracts : List Contract) (rows : List (List Bound)) (i : ℕ) → i ≡ length contracts → length rows ≤ length contracts
-    → misfit i d (drop i contracts) (drop i rows) ≡ None
-misfit-none d contracts rows i ended short = rw (drop_all i contracts (omega arith)) (rw (drop_all i rows (omega arith)) (misfit_left i d []))
+refused_if : (more : Bool) (number : ℕ) → then_some more (Shape number) ≡ option_map Shape (then_some more number)
+refused_if true number = refl
+refused_if false number = refl
+
+pub misfit-behind : (d : Domain) (contracts : List Contract) (rows : List (List Bound)) (i : ℕ) → i ≡ length contracts
+    → then_some (nat_lt (length contracts) (length rows)) (Shape (length contracts)) ≡ option_map Shape (misfit i d (drop i contracts) (drop i rows))
+misfit-behind d contracts rows i ended =
+    let none = ap (λ left. misfit i d left (drop i rows)) (drop_all i contracts (omega arith)) in
+    let more = ap (λ count. then_some (nat_lt 0 count) i) (length-drop i rows) ∙ ap (λ some. then_some some i) (left_over i (length rows)) in
+    let counted = ap (λ count. then_some (nat_lt count (length rows)) count) ended in
+    refused_if (nat_lt (length contracts) (length rows)) (length contracts) ∙ sym (ap (option_map Shape) (none ∙ misfit_left i d (drop i rows) ∙ more ∙ counted))
 
 -- a hop, and what is behind it
 hops-next : (number hop : ℕ) (s : Source) (jitter : ℕ) (jitters : List ℕ) (before bound : Bound) (bounds : List Bound)
@@ -119,17 +124,18 @@ hops-next number hop s jitter jitters before bound bounds =
     first_failed-append (in_both (hop_test number hop s jitter before bound)) (hop_tests number (suc hop) s jitters bound bounds)
     ∙ ap (λ next. option_or (first_failed (in_both (hop_test number hop s jitter before bound))) (first_failed (hop_tests number next s jitters bound bounds))) (next_is hop)
 
-pub hops-step : (number : ℕ) (s : Source) (d : Domain) (from to : List ℕ) (path : List (List ℕ)) (jitter : ℕ) (before bound : Bound) (bounds : List Bound) (i : ℕ) (refusal : Option Refusal)
-    → i < length path → to ≡ get_or path i to → i < length bounds → bound ≡ get_or bounds i bound → jitter ≡ jitter_of (link_of d from to)
-    → refusal ≡ first_failed (in_both (hop_test number (i + 1) s jitter before bound))
-    → first_failed (hop_tests number (i + 1) s (jitters_along d from (drop i path)) before (drop i bounds))
-    ≡ option_or refusal (first_failed (hop_tests number (i + 1 + 1) s (jitters_along d to (drop (i + 1) path)) bound (drop (i + 1) bounds)))
+pub hops-step : (number : ℕ) (s : Source) (d : Domain) (from to : List ℕ) (path later : List (List ℕ)) (jitter : ℕ) (before bound : Bound) (bounds rest : List Bound)
+    → (index at next : ℕ) (refusal : Option Refusal) → path ≡ to ∷ later → bounds ≡ bound ∷ rest → at ≡ index → next ≡ index + 1 → jitter ≡ jitter_of (link_of d from to)
+    → refusal ≡ first_failed (in_both (hop_test number (at + 1) s jitter before bound))
+    → first_failed (hop_tests number (index + 1) s (jitters_along d from path) before bounds)
+    ≡ option_or refusal (first_failed (hop_tests number (next + 1) s (jitters_along d to later) bound rest))
 unfolding jitters_along
-hops-step number s d from to path jitter before bound bounds i refusal inside is_to within is_bound is_jitter is_refusal =
-    rw (item_ahead path i to inside is_to)
-    (rw (item_ahead bounds i bound within is_bound)
+hops-step number s d from to path later jitter before bound bounds rest index at next refusal is_path is_bounds is_at is_next is_jitter is_refusal =
+    rw is_path
+    (rw is_bounds
     (rw is_refusal
-    (rw is_jitter (hops-next number (i + 1) s (jitter_of (link_of d from to)) (jitters_along d to (drop (i + 1) path)) before bound (drop (i + 1) bounds)))))
+    (rw is_at
+    (rw is_next (rw is_jitter (hops-next number (index + 1) s (jitter_of (link_of d from to)) (jitters_along d to later) before bound rest))))))
 
 hops_none : (number hop : ℕ) (s : Source) (jitters : List ℕ) (before : Bound) → hop_tests number hop s jitters before [] ≡ []
 unfolding hop_tests
@@ -140,14 +146,13 @@ none_failed : first_failed [] ≡ None
 unfolding first_failed
 none_failed = refl
 
-pub hops-short : (number hop : ℕ) (s : Source) (jitters : List ℕ) (before : Bound) (bounds : List Bound) (i : ℕ) → length bounds ≤ i
-    → first_failed (hop_tests number hop s jitters before (drop i bounds)) ≡ None
-hops-short number hop s jitters before bounds i short = rw (drop_all i bounds short) (rw (hops_none number hop s jitters before) none_failed)
-
-pub hops-ended : (number hop : ℕ) (s : Source) (d : Domain) (from : List ℕ) (path : List (List ℕ)) (before : Bound) (bounds : List Bound) (i : ℕ) → length path ≤ i
-    → first_failed (hop_tests number hop s (jitters_along d from (drop i path)) before bounds) ≡ None
+pub hops-ended : (number hop : ℕ) (s : Source) (d : Domain) (from : List ℕ) (path : List (List ℕ)) (before : Bound) (bounds : List Bound) → (path ≡ []) ⊎ (bounds ≡ [])
+    → first_failed (hop_tests number hop s (jitters_along d from path) before bounds) ≡ None
 unfolding jitters_along hop_tests
-hops-ended number hop s d from path before bounds i ended = rw (drop_all i path ended) none_failed
+hops-ended number hop s d from path before bounds ended = elim ended [
+  | inl ended ↦ rw ended none_failed
+  | inr ended ↦ rw ended (rw (hops_none number hop s (jitters_along d from path) before) none_failed)
+]
 
 -- a contract, and what is behind it
 contracts-next : (number : ℕ) (d : Domain) (c : Contract) (contracts : List Contract) (bounds : List Bound) (rows : List (List Bound))
@@ -158,27 +163,25 @@ contracts-next number d c contracts bounds rows =
     first_failed-append (tests_along number (source_of d c) (jitters_of d c) bounds) (bound_tests (suc number) d contracts rows)
     ∙ ap (λ next. option_or (first_failed (tests_along number (source_of d c) (jitters_of d c) bounds)) (first_failed (bound_tests next d contracts rows))) (next_is number)
 
-pub contracts-step : (d : Domain) (contracts : List Contract) (rows : List (List Bound)) (i : ℕ) (contract : Contract) (bounds : List Bound) (refusal : Option Refusal)
-    → i < length contracts → contract ≡ get_or contracts i contract → i < length rows → bounds ≡ get_or rows i bounds
-    → refusal ≡ first_failed (tests_along i (source_of d contract) (jitters_of d contract) bounds)
-    → first_failed (bound_tests i d (drop i contracts) (drop i rows)) ≡ option_or refusal (first_failed (bound_tests (i + 1) d (drop (i + 1) contracts) (drop (i + 1) rows)))
-contracts-step d contracts rows i contract bounds refusal inside is_item within is_row is_refusal =
-    rw (item_ahead contracts i contract inside is_item)
-    (rw (item_ahead rows i bounds within is_row) (rw is_refusal (contracts-next i d contract (drop (i + 1) contracts) bounds (drop (i + 1) rows))))
+pub contracts-step : (d : Domain) (contracts later : List Contract) (rows rest : List (List Bound)) (contract : Contract) (bounds : List Bound) (number at next : ℕ)
+    → (refusal : Option Refusal) → contracts ≡ contract ∷ later → rows ≡ bounds ∷ rest → at ≡ number → next ≡ number + 1
+    → refusal ≡ first_failed (tests_along at (source_of d contract) (jitters_of d contract) bounds)
+    → first_failed (bound_tests number d contracts rows) ≡ option_or refusal (first_failed (bound_tests next d later rest))
+contracts-step d contracts later rows rest contract bounds number at next refusal is_contracts is_rows is_at is_next is_refusal =
+    rw is_contracts (rw is_rows (rw is_refusal (rw is_at (rw is_next (contracts-next number d contract later bounds rest)))))
 
 contracts_none : (number : ℕ) (d : Domain) (contracts : List Contract) → bound_tests number d contracts [] ≡ []
 unfolding bound_tests
 contracts_none number d [] = refl
 contracts_none number d (c ∷ contracts) = refl
 
-pub contracts-short : (number : ℕ) (d : Domain) (contracts : List Contract) (rows : List (List Bound)) (i : ℕ) → length rows ≤ i
-    → first_failed (bound_tests number d contracts (drop i rows)) ≡ None
-contracts-short number d contracts rows i short = rw (drop_all i rows short) (rw (contracts_none number d contracts) none_failed)
-
-pub contracts-ended : (number : ℕ) (d : Domain) (contracts : List Contract) (rows : List (List Bound)) (i : ℕ) → length contracts ≤ i
-    → first_failed (bound_tests number d (drop i contracts) rows) ≡ None
+pub contracts-ended : (number : ℕ) (d : Domain) (contracts : List Contract) (rows : List (List Bound)) → (contracts ≡ []) ⊎ (rows ≡ [])
+    → first_failed (bound_tests number d contracts rows) ≡ None
 unfolding bound_tests
-contracts-ended number d contracts rows i ended = rw (drop_all i contracts ended) none_failed
+contracts-ended number d contracts rows ended = elim ended [
+  | inl ended ↦ rw ended none_failed
+  | inr ended ↦ rw ended (rw (contracts_none number d contracts) none_failed)
+]
 
 -- the tests of a contract
 pub along-empty : (number : ℕ) (s : Source) (jitters : List ℕ) (bounds : List Bound) → length bounds ≡ 0 → first_failed (tests_along number s jitters bounds) ≡ None

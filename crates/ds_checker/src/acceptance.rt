@@ -7,7 +7,8 @@ use crate::refusal::Refusal;
 use crate::table::table_refusal;
 use std::alloc::{AllocError, Global};
 
-/// Checks a certificate: accepts exactly those that are acceptable, and hands the others back with the first test that fails.
+/// Checks a certificate: accepts it where it is acceptable, and else hands the candidate back, unchanged, with the first test
+/// that fails; or with `NoMemory` where memory runs out.
 pub fn check(alloc: Global, candidate: Candidate) -> Result<Accepted, (Candidate, Refusal)>
     ensures accepted { IfOk result (λ accepted. accepted ≡ table_of candidate) }
     ensures acceptable { IfOk result (λ accepted. IsAcceptable accepted) }

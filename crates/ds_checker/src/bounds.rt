@@ -30,12 +30,9 @@ pub(crate) fn shape_refusal(
             return Some(Refusal::Shape { contract: number });
         }
     }
-    if rows.len() > contracts.len() {
-        return Some(Refusal::Shape {
-            contract: contracts.len(),
-        });
-    }
-    None
+    (rows.len() > contracts.len()).then_some(Refusal::Shape {
+        contract: contracts.len(),
+    })
 }
 
 /// Whether a contract fits the domain and has one bound more than its path has meters.
@@ -52,7 +49,8 @@ fn is_fit(domain: &Domain, contract: &Contract) -> bool
     fits(domain, contract).is_ok()
 }
 
-/// The refusal of the first bound that is too low, contract by contract, hop by hop, green packets before all.
+/// The refusal of the first bound that is too low, contract by contract, hop by hop, green packets before all. It looks as far
+/// as there are both contracts and bounds; whether there is one list of bounds for each is a question of `shape_refusal`.
 pub(crate) fn bounds_refusal(
     domain: &Domain,
     contracts: &[Contract],
@@ -60,11 +58,7 @@ pub(crate) fn bounds_refusal(
 ) -> Option<Refusal>
     ensures { result ≡ first_failed (bound_tests 0 domain.now contracts.now certificate.now) }
 {
-    let rows = certificate.bounds();
-    for (number, contract) in contracts.iter().enumerate() {
-        let Some(bounds) = rows.get(number) else {
-            return None;
-        };
+    for (number, (contract, bounds)) in contracts.iter().zip(certificate.bounds()).enumerate() {
         let refusal = contract_refusal(domain, number, contract, bounds);
         if refusal.is_some() {
             return refusal;
@@ -73,7 +67,7 @@ pub(crate) fn bounds_refusal(
     None
 }
 
-/// The refusal of the first bound of a contract that is too low.
+/// The refusal of the first bound of a contract that is too low; none where it has no bounds.
 fn contract_refusal(
     domain: &Domain,
     number: usize,
@@ -93,15 +87,12 @@ fn contract_refusal(
 fn first_refusal(number: usize, source: &Source, first: Bound) -> Option<Refusal>
     ensures { result ≡ first_failed (in_both (first_test number source.now first)) }
 {
-    first_refusal_in(Column::Green, number, source, first).or(first_refusal_in(
-        Column::All,
-        number,
-        source,
-        first,
-    ))
+    let green = first_refusal_in(Column::Green, number, source, first);
+    let all = first_refusal_in(Column::All, number, source, first);
+    green.or(all)
 }
 
-/// The refusal of a contract's first bound in a column: it is no less than the burst that the traffic enters with.
+/// The refusal of a contract's first bound in a column, where it is below the burst that the traffic enters with.
 fn first_refusal_in(column: Column, number: usize, source: &Source, first: Bound) -> Option<Refusal>
     ensures { result ≡ first_failed (first_test number source.now first column ∷ []) }
 {
@@ -115,7 +106,7 @@ fn first_refusal_in(column: Column, number: usize, source: &Source, first: Bound
     })
 }
 
-/// The refusal of the first bound of a contract behind a link that is too low.
+/// The refusal of the first bound of a contract that is too low behind a link (Cruz 1991, section II).
 fn hops_refusal(
     domain: &Domain,
     number: usize,
@@ -128,10 +119,7 @@ fn hops_refusal(
 {
     let mut from = contract.port;
     let mut before = first;
-    for (index, to) in contract.path.meters().iter().enumerate() {
-        let Some(bound) = behind.get(index) else {
-            return None;
-        };
+    for (index, (to, bound)) in contract.path.meters().iter().zip(behind).enumerate() {
         let jitter = jitter(domain, from, *to);
         let refusal = hop_refusal(number, index + 1, source, jitter, before, *bound);
         if refusal.is_some() {
@@ -154,18 +142,12 @@ fn hop_refusal(
 ) -> Option<Refusal>
     ensures { result ≡ first_failed (in_both (hop_test number hop source.now jitter before bound)) }
 {
-    hop_refusal_in(Column::Green, number, hop, source, jitter, before, bound).or(hop_refusal_in(
-        Column::All,
-        number,
-        hop,
-        source,
-        jitter,
-        before,
-        bound,
-    ))
+    let green = hop_refusal_in(Column::Green, number, hop, source, jitter, before, bound);
+    let all = hop_refusal_in(Column::All, number, hop, source, jitter, before, bound);
+    green.or(all)
 }
 
-/// The refusal of a bound behind a link in a column: it is no less than the one before it and what the rate gives over the
+/// The refusal of a bound behind a link in a column, where it is below the one before it and what the rate gives over the
 /// link's jitter, a begun byte counted whole.
 #[tactic(auto, using(crate::proofs::BoundLaws::bytes_over_fits))]
 fn hop_refusal_in(

@@ -5,4 +5,4 @@ use Rattle.ds_checker.proofs.bounds.hop_refusal.Goals as goal
 
 pub returns : goal.returns
 returns c =
-    c.or.ensures ∙ first_failed-both (hop_test c.args.number c.args.hop c.args.source.now c.args.jitter c.args.before c.args.bound) _ _ c.hop_refusal_in.ensures c.hop_refusal_in-2.ensures
+    c.or.ensures ∙ first_failed-both (hop_test c.args.number c.args.hop c.args.source.now c.args.jitter c.args.before c.args.bound) _ _ c.hop_refusal_in-green.ensures c.hop_refusal_in-all.ensures

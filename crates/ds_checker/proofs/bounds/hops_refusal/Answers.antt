@@ -1,38 +1,33 @@
-use Rattle.std.proofs.Common.{◌≤◌, ◌+◌, length, sym, ap, refl, get_or, arith, ◌∙◌}
-use Rattle.std.proofs.lemmas.Bool.Decides.{nat_tests}
-use Rattle.ds_checker.proofs.BoundLaws.{found, hops-ended, hops-short, hops-step, not_found}
+use Rattle.std.proofs.Common.{None, ◌+◌, refl, sym, ◌∙◌}
+use Rattle.std.specs.Iterator.Adapters.{enumerate_count, enumerate_source}
+use Rattle.std.proofs.lemmas.Slice.Zip.{Zip-more, either_empty_from_Zip}
+use Rattle.ds_checker.proofs.BoundLaws.{found, hops-ended, hops-step, not_found}
 use Rattle.ds_checker.proofs.bounds.hops_refusal.Goals as goal
-
-pub loop-index-init : goal.loop-index-init
-loop-index-init c = refl
-
-pub returns-in_default : goal.returns-in_default
-returns-in_default c =
-    let short : length c.args.behind.now ≤ c.loop-index.index = grind (arith, nat_tests, c.in_default.ensures.lookup.0) in
-    sym (hops-short c.args.number (c.loop-index.index + 1) c.args.source.now _ c.loop-index.before c.args.behind.now c.loop-index.index short) ∙ c.loop-index.invariant
 
 pub returns-then-is_some : goal.returns-then-is_some
 returns-then-is_some c =
-    let hop = c.in-Some.ensures.lookup in
-    let path = c.meters-to-items.ensures in
+    let s = c.loop-index.index-iterator in
+    let t = c.next.new.self in
+    let steps = c.in-Some.ensures.steps in
     let refusal = c.hop_refusal-refusal.result in
-    let step = hops-step c.args.number c.args.source.now c.args.domain.now c.loop-index.from c.to-item.result c.args.contract.now.path c.jitter-jitter.result c.loop-index.before
-    c.in-Some.bound.now c.args.behind.now c.loop-index.index refusal (omega (arith, ap length path)) (c.to-item.is ∙ ap (λ names. get_or names c.loop-index.index c.to-item.result) path)
-    hop.3.0 hop.1 c.jitter-jitter.ensures.value c.hop_refusal-refusal.ensures in
+    let moved = Zip-more (enumerate_source s) (enumerate_source t) _ (c.in-Some.to, c.in-Some.bound) refl steps.0 in
+    let step = hops-step c.args.number c.args.source.now c.args.domain.now c.loop-index.from c.in-Some.to.now _ _ c.jitter-jitter.result c.loop-index.before c.in-Some.bound.now _ _
+    (enumerate_count s) c.in-Some.index (enumerate_count t) refusal moved.0 moved.1 steps.1 steps.2 c.jitter-jitter.ensures.value c.hop_refusal-refusal.ensures in
     found refusal _ _ (sym c.is_some.ensures ∙ c.if-is_some.true) (sym step ∙ c.loop-index.invariant)
 
 pub loop-index-preserved : goal.loop-index-preserved
 loop-index-preserved c =
-    let hop = c.in-Some.ensures.lookup in
-    let path = c.meters-to-items.ensures in
+    let s = c.loop-index.index-iterator in
+    let t = c.next.new.self in
+    let steps = c.in-Some.ensures.steps in
     let refusal = c.hop_refusal-refusal.result in
-    let step = hops-step c.args.number c.args.source.now c.args.domain.now c.loop-index.from c.to-item.result c.args.contract.now.path c.jitter-jitter.result c.loop-index.before
-    c.in-Some.bound.now c.args.behind.now c.loop-index.index refusal (omega (arith, ap length path)) (c.to-item.is ∙ ap (λ names. get_or names c.loop-index.index c.to-item.result) path)
-    hop.3.0 hop.1 c.jitter-jitter.ensures.value c.hop_refusal-refusal.ensures in
+    let moved = Zip-more (enumerate_source s) (enumerate_source t) _ (c.in-Some.to, c.in-Some.bound) refl steps.0 in
+    let step = hops-step c.args.number c.args.source.now c.args.domain.now c.loop-index.from c.in-Some.to.now _ _ c.jitter-jitter.result c.loop-index.before c.in-Some.bound.now _ _
+    (enumerate_count s) c.in-Some.index (enumerate_count t) refusal moved.0 moved.1 steps.1 steps.2 c.jitter-jitter.ensures.value c.hop_refusal-refusal.ensures in
     not_found refusal _ _ (sym c.is_some.ensures ∙ c.if-is_some.false) (sym step ∙ c.loop-index.invariant)
 
 pub returns : goal.returns
 returns c =
-    let ended : length c.args.contract.now.path ≤ c.loop-index.index = omega (arith, ap length c.meters-to-items.ensures) in
-    sym (hops-ended c.args.number (c.loop-index.index + 1) c.args.source.now c.args.domain.now c.loop-index.from c.args.contract.now.path c.loop-index.before _ c.loop-index.index ended)
-    ∙ c.loop-index.invariant
+    let s = c.loop-index.index-iterator in
+    let ended = either_empty_from_Zip (enumerate_source s) (enumerate_source c.next.new.self) None refl c.in-None.ensures.steps.0 in
+    sym (hops-ended c.args.number (enumerate_count s + 1) c.args.source.now c.args.domain.now c.loop-index.from _ c.loop-index.before _ ended) ∙ c.loop-index.invariant

@@ -1,4 +1,6 @@
-use Rattle.std.proofs.Common.{◌≡◌, ◌+◌, drop}
+use Rattle.std.proofs.Common.{◌≡◌, ◌+◌}
+use Rattle.std.specs.Iterator.Adapters.{enumerate_count, enumerate_source, zip_first, zip_second}
+use Rattle.std.specs.Slice.Iter.{iter_rest}
 use Rattle.ds_certificate.specs.Sources.{jitters_along, jitters_of}
 use Rattle.ds_checker.specs.BoundTests.{hop_tests}
 use Rattle.ds_checker.specs.Tests.{first_failed}
@@ -7,5 +9,6 @@ use Rattle.ds_checker.proofs.bounds.hops_refusal.Given as goal
 -- what is left is as the whole
 abbrev pub invariant-loop-index : goal.invariant-loop-index
 invariant-loop-index l =
-    first_failed (hop_tests l.number (l.index + 1) l.source (jitters_along l.domain l.from (drop l.index l.contract.path)) l.before (drop l.index l.behind))
+    let pairs = enumerate_source l.index-iterator in
+    first_failed (hop_tests l.number (enumerate_count l.index-iterator + 1) l.source (jitters_along l.domain l.from (iter_rest (zip_first pairs))) l.before (iter_rest (zip_second pairs)))
     ≡ first_failed (hop_tests l.number 1 l.source (jitters_of l.domain l.contract) l.fn.first l.behind)

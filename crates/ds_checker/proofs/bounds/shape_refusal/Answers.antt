@@ -1,7 +1,7 @@
 use Rattle.std.proofs.Common.{◌≤◌, length, option_map, false, true, ap, sym, arith, ◌∙◌}
 use Rattle.std.proofs.lemmas.Bool.Decides.{nat_tests}
 use Rattle.ds_checker.specs.declared.refusal.Refusal.TheVariants.{Shape}
-use Rattle.ds_checker.proofs.BoundLaws.{misfit-missing, misfit-more, misfit-none, misfit-step}
+use Rattle.ds_checker.proofs.BoundLaws.{misfit-behind, misfit-missing, misfit-step}
 use Rattle.ds_checker.proofs.bounds.shape_refusal.Goals as goal
 
 pub returns-in_default : goal.returns-in_default
@@ -27,12 +27,7 @@ loop-number-preserved c =
     c.index-contracts-number.is row.3.0 row.1 (sym c.if-not-has_shape.false ∙ c.has_shape.ensures) in
     sym step ∙ c.loop-number.invariant
 
-pub returns-then-rows-contracts : goal.returns-then-rows-contracts
-returns-then-rows-contracts c =
-    let more = misfit-more c.args.domain.now c.args.contracts.now c.bounds-rows.result.now c.loop-number.number (omega arith) (omega arith) in
-    ap (option_map Shape) (sym more ∙ c.loop-number.invariant)
-
 pub returns : goal.returns
 returns c =
-    let none = misfit-none c.args.domain.now c.args.contracts.now c.bounds-rows.result.now c.loop-number.number (omega arith) (omega arith) in
-    ap (option_map Shape) (sym none ∙ c.loop-number.invariant)
+    let behind = misfit-behind c.args.domain.now c.args.contracts.now c.bounds-rows.result.now c.loop-number.number (omega arith) in
+    c.then_some.ensures ∙ behind ∙ ap (option_map Shape) c.loop-number.invariant
