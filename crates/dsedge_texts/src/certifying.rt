@@ -1,11 +1,11 @@
 ghost use Rattle.std.specs.Prelude.{◌≡◌, ◌⊎◌, true, Err, IfErr, IfOk, Ok};
 ghost use Rattle.std.specs.List.{list_all};
 ghost use Rattle.ds_certificate.specs.Bounds.{fits, least};
-ghost use Rattle.ds_certificate.specs.Texts.{text_of};
+ghost use Rattle.ds_certificate.specs.Texts.{is_shaped, text_of};
 ghost use Rattle.ds_domain_base.specs.Faults.{no_memory};
 ghost use Rattle.dsedge_texts.specs.Certified.{certified};
 
-use ds_certificate::{CertificateFault, make, write};
+use ds_certificate::{Certificate, CertificateFault, make, write};
 use ds_domain::{Contract, Domain, DomainFault, parse};
 use std::alloc::{AllocError, Global};
 
@@ -31,12 +31,37 @@ fn least_text(alloc: Global, domain: &Domain, contracts: &[Contract]) -> Result<
     requires { list_all (fits domain.now) contracts.now ≡ true }
     ensures { IfOk result (λ text. text.items ≡ text_of contracts.now (least domain.now contracts.now)) }
 {
-    let certificate = match make(alloc, domain, contracts) {
-        Ok(certificate) => certificate,
-        Err(CertificateFault::NoMemory) => return Err(AllocError),
+    let certificate = least_certificate(alloc, domain, contracts)?;
+    text_of(alloc, &certificate, contracts)
+}
+
+/// The least certificate of contracts that fit a domain.
+fn least_certificate(
+    alloc: Global,
+    domain: &Domain,
+    contracts: &[Contract],
+) -> Result<Certificate, AllocError>
+    requires { list_all (fits domain.now) contracts.now ≡ true }
+    ensures value { IfOk result (λ certificate. certificate ≡ least domain.now contracts.now) }
+    ensures shape { IfOk result (λ certificate. is_shaped contracts.now certificate ≡ true) }
+{
+    match make(alloc, domain, contracts) {
+        Ok(certificate) => Ok(certificate),
+        Err(CertificateFault::NoMemory) => Err(AllocError),
         Err(_) => unreachable!(),
-    };
-    match write(alloc, &certificate, contracts) {
+    }
+}
+
+/// The text of a certificate of the shape of its contracts.
+fn text_of(
+    alloc: Global,
+    certificate: &Certificate,
+    contracts: &[Contract],
+) -> Result<Vec<u8>, AllocError>
+    requires { is_shaped contracts.now certificate.now ≡ true }
+    ensures { IfOk result (λ text. text.items ≡ text_of contracts.now certificate.now) }
+{
+    match write(alloc, certificate, contracts) {
         Ok(text) => Ok(text),
         Err(CertificateFault::NoMemory) => Err(AllocError),
         Err(_) => unreachable!(),

@@ -1,5 +1,4 @@
 use crate::certify;
-use ds_domain::{Field, Kind, Section};
 use std::test::Fail;
 
 #[test]
