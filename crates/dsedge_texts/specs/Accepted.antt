@@ -18,10 +18,12 @@ abbrev pub judged : Table → Option Refusal → Result Table TableFault
 judged t None = Ok t
 judged t (Some refusal) = Err (faults.Refused (refusal_line t.contracts refusal))
 
+abbrev pub table_with : Domain × List Contract → List (List Bound) → Table
+table_with parsed certificate = record { domain = parsed.0; contracts = parsed.1; certificate = certificate }
+
 abbrev pub tabled : Domain × List Contract → Result (List (List Bound)) CertificateFault → Result Table TableFault
 tabled parsed (Err fault) = Err (faults.Certificate fault)
-tabled parsed (Ok certificate) =
-    let t = record { domain = parsed.0; contracts = parsed.1; certificate = certificate } in judged t (refusal_of t)
+tabled parsed (Ok certificate) = judged (table_with parsed certificate) (refusal_of (table_with parsed certificate))
 
 abbrev pub accepted_by : Result (Domain × List Contract) DomainFault → List ℕ → Result Table TableFault
 accepted_by (Err fault) certificate = Err (faults.Domain fault)

@@ -9,7 +9,7 @@ use Rattle.ds_checker.specs.declared.refusal.Refusal.TheVariants as refusals
 
 -- the name of the contract of a number
 abbrev pub name_of : List Contract → ℕ → List ℕ
-name_of contracts number = option_map_or [] (λ c. c.name) (slice_get contracts number)
+name_of contracts number = option_map_or (λ c. c.name) (slice_get contracts number) []
 
 abbrev pub column_text : Column → List ℕ
 column_text Green = codes "green"
@@ -19,22 +19,33 @@ column_text All = codes "all"
 abbrev pub figures_text : ℕ → ℕ → List ℕ
 figures_text needed given = codes " " ++ decimal needed ++ codes " " ++ decimal given
 
--- a meter's name with two figures
-abbrev pub meter_text : List ℕ → ℕ → ℕ → List ℕ
-meter_text meter needed available = meter ++ figures_text needed available
+-- the number and the name of a refusal
+abbrev pub test_text : Refusal → List ℕ
+test_text (refusals.Shape number) = codes "1 Shape"
+test_text (refusals.FirstBound number column needed given) = codes "2 FirstBound"
+test_text (refusals.HopBound number hop column needed given) = codes "3 HopBound"
+test_text (refusals.GreenRate meter needed available) = codes "4 GreenRate"
+test_text (refusals.GreenBurst meter needed available) = codes "5 GreenBurst"
+test_text (refusals.AllRate meter needed available) = codes "6 AllRate"
+test_text (refusals.AllBurst meter needed available) = codes "7 AllBurst"
+test_text refusals.NoMemory = codes "8 NoMemory"
 
-abbrev pub refusal_text : List Contract → Refusal → List ℕ
-refusal_text contracts (refusals.Shape number) = codes "1 Shape " ++ decimal number
-refusal_text contracts (refusals.FirstBound number column needed given) =
-    codes "2 FirstBound " ++ name_of contracts number ++ codes " " ++ column_text column ++ figures_text needed given
-refusal_text contracts (refusals.HopBound number hop column needed given) =
-    codes "3 HopBound " ++ name_of contracts number ++ codes " " ++ decimal hop ++ codes " " ++ column_text column ++ figures_text needed given
-refusal_text contracts (refusals.GreenRate meter needed available) = codes "4 GreenRate " ++ meter_text meter needed available
-refusal_text contracts (refusals.GreenBurst meter needed available) = codes "5 GreenBurst " ++ meter_text meter needed available
-refusal_text contracts (refusals.AllRate meter needed available) = codes "6 AllRate " ++ meter_text meter needed available
-refusal_text contracts (refusals.AllBurst meter needed available) = codes "7 AllBurst " ++ meter_text meter needed available
-refusal_text contracts refusals.NoMemory = codes "8 NoMemory"
+-- a bound's column and its figures, behind a space
+abbrev pub column_figures_text : Column → ℕ → ℕ → List ℕ
+column_figures_text column needed given = codes " " ++ column_text column ++ figures_text needed given
+
+-- where it is, and its figures
+abbrev pub place_text : List Contract → Refusal → List ℕ
+place_text contracts (refusals.Shape number) = decimal number
+place_text contracts (refusals.FirstBound number column needed given) = name_of contracts number ++ column_figures_text column needed given
+place_text contracts (refusals.HopBound number hop column needed given) =
+    name_of contracts number ++ codes " " ++ decimal hop ++ column_figures_text column needed given
+place_text contracts (refusals.GreenRate meter needed available) = meter ++ figures_text needed available
+place_text contracts (refusals.GreenBurst meter needed available) = meter ++ figures_text needed available
+place_text contracts (refusals.AllRate meter needed available) = meter ++ figures_text needed available
+place_text contracts (refusals.AllBurst meter needed available) = meter ++ figures_text needed available
+place_text contracts refusals.NoMemory = []
 
 -- the line of a refusal
 abbrev pub refusal_line : List Contract → Refusal → List ℕ
-refusal_line contracts refusal = codes "refused " ++ refusal_text contracts refusal ++ codes "\n"
+refusal_line contracts refusal = codes "refused " ++ test_text refusal ++ codes " " ++ place_text contracts refusal ++ codes "\n"

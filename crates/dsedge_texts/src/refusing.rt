@@ -1,5 +1,5 @@
-ghost use Rattle.std.specs.Prelude.{◌≡◌, ◌++◌, IfOk, OnOk};
-ghost use Rattle.dsedge_texts.specs.Refused.{column_text, figures_text, meter_text, name_of, refusal_line, refusal_text};
+ghost use Rattle.std.specs.Prelude.{◌≡◌, ◌++◌, IfOk, OnOk, codes, decimal};
+ghost use Rattle.dsedge_texts.specs.Refused.{column_figures_text, column_text, figures_text, name_of, place_text, refusal_line, test_text};
 
 use ds_checker::{Column, Refusal};
 use ds_domain::{Contract, Name};
@@ -29,7 +29,9 @@ impl RefusalLine {
     {
         let mut text = Vec::new(alloc);
         text.extend_from_slice(b"refused ")?;
-        push_refusal(&mut text, contracts, refusal)?;
+        text.extend_from_slice(test_text(refusal))?;
+        text.push(b' ')?;
+        push_place(&mut text, contracts, refusal)?;
         text.push(b'\n')?;
         Ok(RefusalLine { text })
     }
@@ -42,30 +44,40 @@ impl RefusalLine {
     }
 }
 
-/// Appends a refusal's number, name and figures.
-fn push_refusal(
+/// A refusal's number and name.
+fn test_text(refusal: &Refusal) -> &'static [u8]
+    ensures { result.now ≡ test_text refusal.now }
+{
+    match refusal {
+        Refusal::Shape { .. } => "1 Shape".as_bytes(),
+        Refusal::FirstBound { .. } => "2 FirstBound".as_bytes(),
+        Refusal::HopBound { .. } => "3 HopBound".as_bytes(),
+        Refusal::GreenRate { .. } => "4 GreenRate".as_bytes(),
+        Refusal::GreenBurst { .. } => "5 GreenBurst".as_bytes(),
+        Refusal::AllRate { .. } => "6 AllRate".as_bytes(),
+        Refusal::AllBurst { .. } => "7 AllBurst".as_bytes(),
+        Refusal::NoMemory => "8 NoMemory".as_bytes(),
+    }
+}
+
+/// Appends where a refusal is, and its figures.
+fn push_place(
     text: &mut Vec<u8>,
     contracts: &[Contract],
     refusal: &Refusal,
 ) -> Result<(), AllocError>
-    ensures { OnOk result (text.new.items ≡ text.old.items ++ refusal_text contracts.now refusal.now) }
+    ensures { OnOk result (text.new.items ≡ text.old.items ++ place_text contracts.now refusal.now) }
 {
     match *refusal {
-        Refusal::Shape { contract } => {
-            text.extend_from_slice(b"1 Shape ")?;
-            push_number(text, contract as u64)
-        }
+        Refusal::Shape { contract } => push_number(text, contract as u64),
         Refusal::FirstBound {
             contract,
             column,
             needed,
             given,
         } => {
-            text.extend_from_slice(b"2 FirstBound ")?;
             push_name(text, contracts, contract)?;
-            text.push(b' ')?;
-            text.extend_from_slice(column_text(column))?;
-            push_figures(text, needed, given)
+            push_column(text, column, needed, given)
         }
         Refusal::HopBound {
             contract,
@@ -74,35 +86,31 @@ fn push_refusal(
             needed,
             given,
         } => {
-            text.extend_from_slice(b"3 HopBound ")?;
             push_name(text, contracts, contract)?;
-            text.push(b' ')?;
-            push_number(text, hop as u64)?;
-            text.push(b' ')?;
-            text.extend_from_slice(column_text(column))?;
-            push_figures(text, needed, given)
+            push_hop(text, hop)?;
+            push_column(text, column, needed, given)
         }
         Refusal::GreenRate {
             meter,
             needed,
             available,
-        } => push_meter(text, b"4 GreenRate ", meter, needed, available),
-        Refusal::GreenBurst {
+        }
+        | Refusal::GreenBurst {
             meter,
             needed,
             available,
-        } => push_meter(text, b"5 GreenBurst ", meter, needed, available),
-        Refusal::AllRate {
+        }
+        | Refusal::AllRate {
             meter,
             needed,
             available,
-        } => push_meter(text, b"6 AllRate ", meter, needed, available),
-        Refusal::AllBurst {
+        }
+        | Refusal::AllBurst {
             meter,
             needed,
             available,
-        } => push_meter(text, b"7 AllBurst ", meter, needed, available),
-        Refusal::NoMemory => text.extend_from_slice(b"8 NoMemory"),
+        } => push_meter(text, meter, needed, available),
+        Refusal::NoMemory => Ok(()),
     }
 }
 
@@ -136,17 +144,37 @@ fn push_figures(text: &mut Vec<u8>, needed: u128, given: u128) -> Result<(), All
     text.extend_from_slice(Buffer::new().format(given).as_bytes())
 }
 
-/// Appends what is said of a test, a meter's name and two figures.
+/// Appends the number of a hop, behind a space.
+fn push_hop(text: &mut Vec<u8>, hop: usize) -> Result<(), AllocError>
+    ensures { OnOk result (text.new.items ≡ text.old.items ++ codes " " ++ decimal hop) }
+{
+    text.push(b' ')?;
+    push_number(text, hop as u64)
+}
+
+/// Appends a column and two figures, behind a space.
+fn push_column(
+    text: &mut Vec<u8>,
+    column: Column,
+    needed: u128,
+    given: u128,
+) -> Result<(), AllocError>
+    ensures { OnOk result (text.new.items ≡ text.old.items ++ column_figures_text column needed given) }
+{
+    text.push(b' ')?;
+    text.extend_from_slice(column_text(column))?;
+    push_figures(text, needed, given)
+}
+
+/// Appends a meter's name and two figures.
 fn push_meter(
     text: &mut Vec<u8>,
-    test: &[u8],
     meter: Name,
     needed: u128,
     available: u128,
 ) -> Result<(), AllocError>
-    ensures { OnOk result (text.new.items ≡ text.old.items ++ test.now ++ meter_text meter needed available) }
+    ensures { OnOk result (text.new.items ≡ text.old.items ++ meter ++ figures_text needed available) }
 {
-    text.extend_from_slice(test)?;
     text.extend_from_slice(meter.bytes())?;
     push_figures(text, needed, available)
 }
