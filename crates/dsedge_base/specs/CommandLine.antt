@@ -42,5 +42,11 @@ envelope = with_rule (with_rule (new_app (codes "envelope"))
 abbrev pub certify : App
 certify = with_rule (new_app (codes "certify")) (positional (codes "domain"))
 
+-- a check is of a domain and a certificate
+abbrev pub check : App
+check = with_rule (with_rule (new_app (codes "check"))
+    (positional (codes "domain")))
+    (positional (codes "certificate"))
+
 abbrev pub dsedge : App
-dsedge = with_subcommand (with_subcommand (with_subcommand program meter.top) envelope.top) certify.top
+dsedge = with_subcommand (with_subcommand (with_subcommand (with_subcommand program meter.top) envelope.top) certify.top) check.top

@@ -112,3 +112,10 @@ envelope_given given = do
   rate ← given (codes "rate") >>= rate_said
   burst ← given (codes "burst") >>= envelope_burst_said
   Some (rate, burst)
+
+-- the files of a domain and of a certificate
+unfoldable pub table_given : Given → Option (List ℕ × List ℕ)
+table_given given = do
+  domain ← given (codes "domain")
+  certificate ← given (codes "certificate")
+  Some (domain, certificate)

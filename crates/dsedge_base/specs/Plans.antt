@@ -5,11 +5,11 @@ use Rattle.clap.specs.Words.{IsAmong, Row, Text, fault_of, first_of, subcommand_
 use Rattle.clap.specs.declared.error.kind.ErrorKind.{ErrorKind}
 use Rattle.clap.specs.declared.error.kind.ErrorKind.TheVariants.{DisplayHelp}
 use Rattle.dsedge_base.specs.CommandLine.{dsedge}
-use Rattle.dsedge_base.specs.Options.{Given, envelope_given, meter_given, ◌>>=◌}
+use Rattle.dsedge_base.specs.Options.{Given, envelope_given, meter_given, table_given, ◌>>=◌}
 use Rattle.dsedge_base.specs.declared.fault.UsageFault.{UsageFault}
 use Rattle.dsedge_base.specs.declared.fault.UsageFault.TheVariants.{Usage, NoMemory}
 use Rattle.dsedge_base.specs.declared.work.Plan.{Plan}
-use Rattle.dsedge_base.specs.declared.work.Plan.TheVariants.{Certify, Envelope, Help, Meter}
+use Rattle.dsedge_base.specs.declared.work.Plan.TheVariants.{Certify, Check, Envelope, Help, Meter}
 
 -- the texts that the options of a command were given
 abbrev pub given_by : List Row → Given
@@ -21,6 +21,7 @@ plan_of c =
     if bytes_eq c.0 (codes "meter") then meter_given (given_by c.1) >>= (λ m. Some (Meter m))
     else if bytes_eq c.0 (codes "envelope") then envelope_given (given_by c.1) >>= (λ e. Some (Envelope e.0 e.1))
     else if bytes_eq c.0 (codes "certify") then given_by c.1 (codes "domain") >>= (λ domain. Some (Certify domain))
+    else if bytes_eq c.0 (codes "check") then table_given (given_by c.1) >>= (λ files. Some (Check files.0 files.1))
     else None
 
 -- the words are a command line of the program, with nothing wrong in its form
@@ -38,6 +39,7 @@ IsPlanOf words (Help text) = IsAmong DisplayHelp (fault_of dsedge words)
 IsPlanOf words (Meter m) = IsWellFormed words × (asked_by words ≡ Some (Meter m))
 IsPlanOf words (Envelope rate burst) = IsWellFormed words × (asked_by words ≡ Some (Envelope rate burst))
 IsPlanOf words (Certify domain) = IsWellFormed words × (asked_by words ≡ Some (Certify domain))
+IsPlanOf words (Check domain certificate) = IsWellFormed words × (asked_by words ≡ Some (Check domain certificate))
 
 -- something other than a wish for help stands against the form of the words
 abbrev pub IsMalformed : List Text → Type 0
@@ -54,3 +56,4 @@ IsHelp (Help text) = Unit {0}
 IsHelp (Meter m) = ⊥
 IsHelp (Envelope rate burst) = ⊥
 IsHelp (Certify domain) = ⊥
+IsHelp (Check domain certificate) = ⊥

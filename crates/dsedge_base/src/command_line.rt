@@ -1,7 +1,7 @@
 ghost use Rattle.std.specs.Prelude.{◌≡◌, IfOk, true, false};
 ghost use Rattle.clap.specs.Words.{app_of, rule_of};
 ghost use Rattle.clap.specs.declared.builder.command.Command.TheViews.{out-Command as fields_of};
-ghost use Rattle.dsedge_base.specs.CommandLine.{certify, dsedge, envelope, meter, optional, positional, required};
+ghost use Rattle.dsedge_base.specs.CommandLine.{certify, check, dsedge, envelope, meter, optional, positional, required};
 
 use clap::{Arg, Command};
 use std::alloc::{AllocError, Global};
@@ -17,7 +17,8 @@ pub(crate) fn command_line<'a>(alloc: Global) -> Result<Command<'a>, AllocError>
         .subcommand_required(true)
         .subcommand(meter_command(alloc)?)?
         .subcommand(envelope_command(alloc)?)?
-        .subcommand(certify_command(alloc)?)
+        .subcommand(certify_command(alloc)?)?
+        .subcommand(check_command(alloc)?)
 }
 
 /// `dsedge meter`.
@@ -78,6 +79,19 @@ fn certify_command<'a>(alloc: Global) -> Result<Command<'a>, AllocError>
     Command::new(alloc, "certify")
         .about("Prints the least certificate of the contracts of a domain.")
         .arg(word(alloc, "domain", "DOMAIN", domain))
+}
+
+/// `dsedge check`.
+fn check_command<'a>(alloc: Global) -> Result<Command<'a>, AllocError>
+    ensures shape { IfOk result (λ command. app_of command ≡ check) }
+    ensures local { IfOk result (λ command. (fields_of command).has_globals ≡ false) }
+{
+    let domain = "the domain: a TOML text of meters, ports, links and contracts";
+    let certificate = "the certificate of its contracts, as certify prints one";
+    Command::new(alloc, "check")
+        .about("Checks a certificate: accepted, or the first test that fails.")
+        .arg(word(alloc, "domain", "DOMAIN", domain))?
+        .arg(word(alloc, "certificate", "CERTIFICATE", certificate))
 }
 
 /// A word that has to be given.

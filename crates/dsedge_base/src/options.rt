@@ -1,7 +1,7 @@
 ghost use Rattle.std.specs.Prelude.{◌≡◌, option_map};
 ghost use Rattle.clap.specs.Words.{first_of, found_of, rows_of};
 ghost use Rattle.dsedge_base.specs.Options.{burst_said, envelope_burst_said, envelope_given, is_given, meter_given, mode_said, moment_said, opened};
-ghost use Rattle.dsedge_base.specs.Options.{origin_said, parameters_given, rate_said, separate_rates_given, single_rate_given, two_rate_given};
+ghost use Rattle.dsedge_base.specs.Options.{origin_said, parameters_given, rate_said, separate_rates_given, single_rate_given, table_given, two_rate_given};
 ghost use Rattle.dsedge_base.specs.Plans.{given_by};
 
 use clap::ArgMatches;
@@ -42,6 +42,16 @@ pub(crate) fn file_in<'a>(options: &ArgMatches<'a>, name: &str) -> Option<FileNa
     ensures { result ≡ given_by (rows_of (found_of options.now)) name.now }
 {
     Some(FileName::new(text_in(options, name)?))
+}
+
+/// The files of a domain and of a certificate that the words of a command give.
+#[tactic(auto, unfolding(crate::specs::Options::table_given))]
+pub(crate) fn table_in<'a>(options: &ArgMatches<'a>) -> Option<(FileName<'a>, FileName<'a>)>
+    ensures { result ≡ table_given (given_by (rows_of (found_of options.now))) }
+{
+    let domain = file_in(options, "domain")?;
+    let certificate = file_in(options, "certificate")?;
+    Some((domain, certificate))
 }
 
 /// The meter of parameters that are those of one.

@@ -141,6 +141,23 @@ fn certificates(rt: HostRuntime) -> Result<(), Fail> {
 }
 
 #[test]
+fn a_check_names_two_files(rt: HostRuntime) -> Result<(), Fail> {
+    let alloc = rt.alloc();
+    let domain = FileName::new("domain.toml");
+    let certificate = FileName::new("domain.cert");
+    let expected = format!(in alloc;
+        "{:?}",
+        Plan::Check {
+            domain,
+            certificate
+        }
+    )?;
+    let made = plan_for(alloc, "check domain.toml domain.cert")??;
+    assert_eq!(rt; made.as_str(), expected.as_str());
+    Ok(())
+}
+
+#[test]
 fn words_that_are_no_command(rt: HostRuntime) -> Result<(), Fail> {
     let alloc = rt.alloc();
     assert_eq!(rt; plan::<&str>(alloc, &[]).err(), Some(UsageFault::Usage));
@@ -169,7 +186,8 @@ fn words_that_are_no_command(rt: HostRuntime) -> Result<(), Fail> {
         "certify",
         "certify one.toml two.toml",
         "certify --domain one.toml",
-        "check domain.toml domain.cert",
+        "check domain.toml",
+        "check domain.toml domain.cert more",
         "mark domain.toml domain.cert --port p --workers 1 --red keep",
         "drive domain.toml",
         "audit domain.toml domain.cert",

@@ -4,7 +4,7 @@ ghost use Rattle.dsedge_base.specs.Plans.{IsHelp, IsPlanOf, IsRefusalOf, plan_of
 
 use crate::command_line::command_line;
 use crate::fault::UsageFault;
-use crate::options::{envelope_in, file_in, meter_in};
+use crate::options::{envelope_in, file_in, meter_in, table_in};
 use crate::work::Plan;
 use clap::error::ErrorKind;
 use clap::{ArgMatches, Error};
@@ -47,6 +47,13 @@ fn asked_of<'a>(name: &str, options: &ArgMatches<'a>) -> Option<Plan<'a>>
         "certify" => {
             let domain = file_in(options, "domain")?;
             Some(Plan::Certify { domain })
+        }
+        "check" => {
+            let (domain, certificate) = table_in(options)?;
+            Some(Plan::Check {
+                domain,
+                certificate,
+            })
         }
         _ => None,
     }

@@ -25,6 +25,13 @@ pub enum Plan<'a> {
         /// The file of the domain.
         domain: FileName<'a>,
     },
+    /// Check a certificate of a domain and its contracts.
+    Check {
+        /// The file of the domain.
+        domain: FileName<'a>,
+        /// The file of the certificate.
+        certificate: FileName<'a>,
+    },
 }
 
 impl<'a> Plan<'a> {
@@ -33,8 +40,16 @@ impl<'a> Plan<'a> {
         ensures { IfOk result (λ names. names.items ≡ files_of self.now) }
     {
         let mut names = Vec::new(alloc);
-        if let Plan::Certify { domain } = self {
-            names.push(FileName::new(domain.text()))?;
+        match self {
+            Plan::Help(_) | Plan::Meter(_) | Plan::Envelope { .. } => {}
+            Plan::Certify { domain } => names.push(FileName::new(domain.text()))?,
+            Plan::Check {
+                domain,
+                certificate,
+            } => {
+                names.push(FileName::new(domain.text()))?;
+                names.push(FileName::new(certificate.text()))?;
+            }
         }
         Ok(names)
     }

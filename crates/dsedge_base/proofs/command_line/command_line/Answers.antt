@@ -1,7 +1,7 @@
 use Rattle.std.proofs.Common.{rules, ◌≡◌}
 use Rattle.std.proofs.lemmas.Result.{IfOk-weaker}
 use Rattle.clap.specs.Words.{app_of}
-use Rattle.dsedge_base.specs.CommandLine.{certify, envelope, meter, program}
+use Rattle.dsedge_base.specs.CommandLine.{certify, check, envelope, meter, program}
 use Rattle.dsedge_base.proofs.CommandLemmas.{with_command}
 use Rattle.dsedge_base.proofs.command_line.command_line.Goals as goal
 
@@ -10,6 +10,7 @@ returns c =
     let bare : app_of c.subcommand_required.result ≡ program = search rules in
     let metered = with_command program meter _ _ _ bare (c.in_ok-meter_command.ensures.shape, c.in_ok-meter_command.ensures.local) c.in_ok-subcommand.ensures in
     let tested = with_command _ envelope _ _ _ metered (c.in_ok-envelope_command.ensures.shape, c.in_ok-envelope_command.ensures.local) c.in_ok-subcommand-2.ensures in
-    IfOk-weaker c.subcommand-3.result _ _
-    (λ command adds. with_command _ certify _ _ _ tested (c.in_ok-certify_command.ensures.shape, c.in_ok-certify_command.ensures.local) adds)
-    c.subcommand-3.ensures
+    let certified = with_command _ certify _ _ _ tested (c.in_ok-certify_command.ensures.shape, c.in_ok-certify_command.ensures.local) c.in_ok-subcommand-3.ensures in
+    IfOk-weaker c.subcommand-4.result _ _
+    (λ command adds. with_command _ check _ _ _ certified (c.in_ok-check_command.ensures.shape, c.in_ok-check_command.ensures.local) adds)
+    c.subcommand-4.ensures
