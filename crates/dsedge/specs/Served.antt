@@ -1,55 +1,84 @@
 -- What the program does for a plan.
-use Rattle.std.specs.Prelude.{◌≡◌, ◌⊎◌, ◌^◌, ℕ, Bool, true, false, if◌then◌else◌, List, [], ◌++◌, Option, None, Some, Result, Ok, Err, IfOk, OnErr, string_bytes}
+use Rattle.std.specs.Prelude.{◌≡◌, ◌⊎◌, ◌^◌, ℕ, Bool, true, false, if◌then◌else◌, List, [], ◌∷◌, ◌++◌, Option, None, Some, Result, Ok, Err, IfOk, OnErr, string_bytes}
 use Rattle.std.specs.Option.{option_map_or}
 use Rattle.line_text.specs.Lines.{lines_of}
 use Rattle.dsedge.specs.Books.{fresh_book}
 use Rattle.pcap_capture.specs.Counts.{count_after, next_count}
 use Rattle.dsedge_base.specs.declared.work.Plan.{Plan}
-use Rattle.dsedge_base.specs.declared.work.Plan.TheVariants.{Envelope, Help, Meter}
-use Rattle.dsedge_lines.specs.Answers.{Answer, BeginsWith}
-use Rattle.dsedge_lines.specs.declared.command.Ending.{Ending}
+use Rattle.dsedge_base.specs.declared.work.Plan.TheVariants.{Certify, Envelope, Help, Meter}
+use Rattle.ds_domain_base.specs.declared.fault.DomainFault.{DomainFault}
+use Rattle.dsedge_lines.specs.Answers.{Answer}
 use Rattle.dsedge_lines.specs.declared.command.Ending.TheVariants as endings
 use Rattle.dsedge_lines.specs.declared.fault.PumpFault.{PumpFault}
 use Rattle.dsedge_lines.specs.declared.fault.PumpFault.TheVariants as pump_faults
+use Rattle.dsedge_texts.specs.Certified.{certified}
+use Rattle.dsedge.specs.declared.conclusion.Conclusion.{Conclusion}
+use Rattle.dsedge.specs.declared.conclusion.Conclusion.TheVariants.{Ended, Unsound}
 use Rattle.dsedge.specs.declared.fault.Fault.{Fault}
 use Rattle.dsedge.specs.declared.fault.Fault.TheVariants as faults
 use Rattle.dsedge.specs.Faults.{IsFrontOf, fault_text, status_of}
 use Rattle.dsedge.specs.Metered.{answer_of}
 use Rattle.dsedge.specs.Verdicts.{envelope_for, verdict_on}
 
--- the answer that a plan asks for, to the bytes of an input
-abbrev pub answer_for : Plan → List ℕ → Answer
-answer_for (Help text) bytes = record { text = string_bytes text; ending = endings.Whole }
-answer_for (Meter meter) bytes = answer_of (fresh_book meter) 1 (lines_of bytes)
-answer_for (Envelope rate burst) bytes = verdict_on (envelope_for rate burst) (lines_of bytes)
+-- a text on standard output, and how it ends
+pub record Reply : Type 0 where
+  pub text : List ℕ
+  pub conclusion : Conclusion
 
--- an answer was written behind what stood, to its end; or a front of it, where a device failed or memory ran out
-pub record IsServed (answer : Answer) (outcome : Result Ending PumpFault) (before after : List ℕ) : Type 0 where
-  pub whole : IfOk outcome (λ ending. (after ≡ before ++ answer.text) × (ending ≡ answer.ending))
-  pub front : OnErr outcome ((front : List ℕ) × BeginsWith answer front × (after ≡ before ++ front))
+-- a text that is the whole reply
+abbrev pub whole_text : List ℕ → Reply
+whole_text text = record { text = text; conclusion = Ended endings.Whole }
+
+-- an answer to lines is the reply
+abbrev pub reply_of : Answer → Reply
+reply_of answer = record { text = answer.text; conclusion = Ended answer.ending }
+
+-- a text that is made of a domain is the reply, or the fault of the domain ends it before anything is written
+abbrev pub reply_by : Result (List ℕ) DomainFault → Reply
+reply_by (Ok text) = whole_text text
+reply_by (Err fault) = record { text = []; conclusion = Unsound fault }
+
+-- the text of the first file
+abbrev pub first_text : List (List ℕ) → List ℕ
+first_text [] = []
+first_text (text ∷ texts) = text
+
+-- the reply that a plan asks for, to the texts of its files and the bytes of an input
+abbrev pub answer_for : Plan → List (List ℕ) → List ℕ → Reply
+answer_for (Help text) texts bytes = whole_text (string_bytes text)
+answer_for (Meter meter) texts bytes = reply_of (answer_of (fresh_book meter) 1 (lines_of bytes))
+answer_for (Envelope rate burst) texts bytes = reply_of (verdict_on (envelope_for rate burst) (lines_of bytes))
+answer_for (Certify domain) texts bytes = reply_by (certified (first_text texts))
+
+-- a reply was written behind what stood, to its end; or a front of it, where a device failed or memory ran out
+pub record IsServed (reply : Reply) (outcome : Result Conclusion PumpFault) (before after : List ℕ) : Type 0 where
+  pub whole : IfOk outcome (λ conclusion. (after ≡ before ++ reply.text) × (conclusion ≡ reply.conclusion))
+  pub front : OnErr outcome (IsFrontOf before reply.text after)
 
 -- what there is to tell of an outcome
-abbrev pub fault_of : Result Ending PumpFault → Option Fault
-fault_of (Ok endings.Whole) = None
-fault_of (Ok endings.Refused) = None
-fault_of (Ok (endings.BadLine number)) = Some (faults.Line number)
-fault_of (Ok endings.Full) = Some faults.Full
+abbrev pub fault_of : Result Conclusion PumpFault → Option Fault
+fault_of (Ok (Ended endings.Whole)) = None
+fault_of (Ok (Ended endings.Refused)) = None
+fault_of (Ok (Ended (endings.BadLine number))) = Some (faults.Line number)
+fault_of (Ok (Ended endings.Full)) = Some faults.Full
+fault_of (Ok (Unsound fault)) = Some (faults.Domain fault)
 fault_of (Err pump_faults.Read) = Some faults.Read
 fault_of (Err pump_faults.Write) = Some faults.Write
 fault_of (Err pump_faults.NoMemory) = Some faults.Memory
 
 -- the exit status of an outcome: 0 done, 1 answered with no, else that of the fault
-abbrev pub status_for : Result Ending PumpFault → ℕ
-status_for (Ok endings.Whole) = 0
-status_for (Ok endings.Refused) = 1
-status_for (Ok (endings.BadLine number)) = status_of (faults.Line number)
-status_for (Ok endings.Full) = status_of faults.Full
+abbrev pub status_for : Result Conclusion PumpFault → ℕ
+status_for (Ok (Ended endings.Whole)) = 0
+status_for (Ok (Ended endings.Refused)) = 1
+status_for (Ok (Ended (endings.BadLine number))) = status_of (faults.Line number)
+status_for (Ok (Ended endings.Full)) = status_of faults.Full
+status_for (Ok (Unsound fault)) = status_of (faults.Domain fault)
 status_for (Err pump_faults.Read) = status_of faults.Read
 status_for (Err pump_faults.Write) = status_of faults.Write
 status_for (Err pump_faults.NoMemory) = status_of faults.Memory
 
 -- what is told of an outcome on standard error
-abbrev pub told_of : Result Ending PumpFault → List ℕ
+abbrev pub told_of : Result Conclusion PumpFault → List ℕ
 told_of outcome = option_map_or fault_text (fault_of outcome) []
 
 -- A text was written behind what stood; or a front of it, where the device failed.

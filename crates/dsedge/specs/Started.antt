@@ -1,17 +1,20 @@
 -- How the program starts: the words of its command, its input, and what becomes of them.
-use Rattle.std.specs.Prelude.{◌≡◌, ℕ, ◌<◌, ◌≤◌, ◌⊎◌, Bool, true, false, List, [], ◌∷◌, length, Result, if◌then◌else◌}
+use Rattle.std.specs.Prelude.{◌≡◌, ℕ, ◌<◌, ◌≤◌, ◌⊎◌, Bool, true, false, List, [], ◌∷◌, length, Option, Result, Ok, Err, if◌then◌else◌}
+use Rattle.std.specs.List.{Contains}
 use Rattle.std.specs.Str.{IsUtf8}
 use Rattle.line_text.specs.Lines.{fields_of}
 use Rattle.pcap_capture.specs.Counts.{next_count}
+use Rattle.dsedge_base.specs.Files.{files_of}
 use Rattle.dsedge_base.specs.Plans.{IsPlanOf, IsRefusalOf}
 use Rattle.dsedge_base.specs.declared.fault.UsageFault.TheVariants as usage_faults
 use Rattle.dsedge_base.specs.declared.work.Plan.{Plan}
-use Rattle.dsedge_lines.specs.declared.command.Ending.{Ending}
+use Rattle.dsedge_files.specs.Readable.{texts_of}
 use Rattle.dsedge_lines.specs.declared.fault.PumpFault.{PumpFault}
 use Rattle.dsedge_lines.specs.Faults.{is_write_fault, is_read_fault}
 use Rattle.dsedge_lines.specs.FirstLine.{after_first_line, first_line_of}
+use Rattle.dsedge.specs.declared.conclusion.Conclusion.{Conclusion}
 use Rattle.dsedge.specs.declared.fault.Fault.{Fault}
-use Rattle.dsedge.specs.declared.fault.Fault.TheVariants.{Usage, Line, Read, Write, Memory, Full}
+use Rattle.dsedge.specs.declared.fault.Fault.TheVariants.{Usage, Line, Domain, File, Read, Write, Memory, Full}
 use Rattle.dsedge.specs.Faults.{fault_text, status_of}
 use Rattle.dsedge.specs.Served.{IsOfReads, IsServed, answer_for, status_for, told_of}
 
@@ -55,6 +58,8 @@ IsWordless given bytes Usage = LacksWords given bytes
 IsWordless given bytes Read = given ≡ []
 IsWordless given bytes Memory = Unit {0}
 IsWordless given bytes (Line number) = ⊥
+IsWordless given bytes (Domain fault) = ⊥
+IsWordless given bytes (File name) = ⊥
 IsWordless given bytes Write = ⊥
 IsWordless given bytes Full = ⊥
 
@@ -64,6 +69,8 @@ IsRefused words Usage = IsRefusalOf words usage_faults.Usage
 IsRefused words Memory = Unit {0}
 IsRefused words Read = ⊥
 IsRefused words (Line number) = ⊥
+IsRefused words (Domain fault) = ⊥
+IsRefused words (File name) = ⊥
 IsRefused words Write = ⊥
 IsRefused words Full = ⊥
 
@@ -75,6 +82,8 @@ IsRefusalFrom given bytes fault = IsWordless given bytes fault ⊎ (HasWords giv
 abbrev pub is_read : Fault → Bool
 is_read Usage = false
 is_read (Line number) = false
+is_read (Domain fault) = false
+is_read (File name) = false
 is_read Read = true
 is_read Write = false
 is_read Memory = false
@@ -84,37 +93,63 @@ is_read Full = false
 abbrev pub failures_with : Fault → ℕ → ℕ
 failures_with fault failed = if is_read fault then next_count failed else failed
 
--- how a start went: refused with a fault before anything was answered, or a plan was served with an outcome
+-- Why not all files of a plan were read: the first of them that cannot be, which is known where they tell what they hold; memory
+-- may run out.
+abbrev pub IsUnreadable : Type 0 → (List ℕ → Option (List ℕ)) → List (List ℕ) → Fault → Type 0
+IsUnreadable tells holds names (File name) = Contains names name × (tells → texts_of holds names ≡ Err name)
+IsUnreadable tells holds names Memory = Unit {0}
+IsUnreadable tells holds names Usage = ⊥
+IsUnreadable tells holds names (Line number) = ⊥
+IsUnreadable tells holds names (Domain fault) = ⊥
+IsUnreadable tells holds names Read = ⊥
+IsUnreadable tells holds names Write = ⊥
+IsUnreadable tells holds names Full = ⊥
+
+-- how a start went: refused with a fault before anything was read but the words, or a plan with a fault of its files, or a plan was
+-- served with the texts of its files, with an outcome
 pub data Course : Type 0 where
   Refused : Fault → Course
-  Served : Plan → Result Ending PumpFault → Course
+  Unread : Plan → Fault → Course
+  Served : Plan → List (List ℕ) → Result Conclusion PumpFault → Course
 
 -- the exit status of a start
 abbrev pub status_in : Course → ℕ
 status_in (Refused fault) = status_of fault
-status_in (Served plan outcome) = status_for outcome
+status_in (Unread plan fault) = status_of fault
+status_in (Served plan texts outcome) = status_for outcome
 
 -- what is told of a start on standard error
 abbrev pub told_in : Course → List ℕ
 told_in (Refused fault) = fault_text fault
-told_in (Served plan outcome) = told_of outcome
+told_in (Unread plan fault) = fault_text fault
+told_in (Served plan texts outcome) = told_of outcome
 
 -- A start goes as the words and the input have it.
 abbrev pub IsCourseFrom : List (List ℕ) → List ℕ → Course → Type 0
 IsCourseFrom given bytes (Refused fault) = IsRefusalFrom given bytes fault
-IsCourseFrom given bytes (Served plan outcome) = IsPlanFrom given bytes plan
+IsCourseFrom given bytes (Unread plan fault) = IsPlanFrom given bytes plan
+IsCourseFrom given bytes (Served plan texts outcome) = IsPlanFrom given bytes plan
+
+-- A plan is served with the texts of its files, as many as it names, and with no others where the files tell what they hold.
+abbrev pub IsCourseOf : Type 0 → (List ℕ → Option (List ℕ)) → Course → Type 0
+IsCourseOf tells holds (Refused fault) = Unit {0}
+IsCourseOf tells holds (Unread plan fault) = IsUnreadable tells holds (files_of plan) fault
+IsCourseOf tells holds (Served plan texts outcome) = (length texts ≡ length (files_of plan)) × (tells → texts_of holds (files_of plan) ≡ Ok texts)
 
 -- What was written, where the devices tell their bytes: the answer to the input, or a front of it; a refusal writes nothing.
 abbrev pub IsWritten : Course → Type 0 → List ℕ → List ℕ → List ℕ → Type 0
 IsWritten (Refused fault) tells input before after = after ≡ before
-IsWritten (Served plan outcome) tells input before after = tells → IsServed (answer_for plan input) outcome before after
+IsWritten (Unread plan fault) tells input before after = after ≡ before
+IsWritten (Served plan texts outcome) tells input before after = tells → IsServed (answer_for plan texts input) outcome before after
 
 -- whether a start went so that the output could not be written
 abbrev pub is_unwritten : Course → Bool
 is_unwritten (Refused fault) = false
-is_unwritten (Served plan outcome) = is_write_fault outcome
+is_unwritten (Unread plan fault) = false
+is_unwritten (Served plan texts outcome) = is_write_fault outcome
 
 -- A read fault comes only where the input failed once, or behind the words was asked 2^32 times; nothing else lets it fail.
 abbrev pub IsOfInput : Course → ℕ → ℕ → ℕ → ℕ → Type 0
 IsOfInput (Refused fault) failed now asked_before asked = (now ≡ failures_with fault failed) × (asked ≡ asked_before)
-IsOfInput (Served plan outcome) failed now asked_before asked = IsOfReads (is_read_fault outcome) failed now asked_before asked
+IsOfInput (Unread plan fault) failed now asked_before asked = (now ≡ failed) × (asked ≡ asked_before)
+IsOfInput (Served plan texts outcome) failed now asked_before asked = IsOfReads (is_read_fault outcome) failed now asked_before asked

@@ -1,18 +1,25 @@
 ghost use Rattle.std.specs.Prelude.{◌≡◌, ◌++◌, List, ℕ, MatchResult, is_ok, if◌then◌else◌};
 ghost use Rattle.pcap_capture.specs.Counts.{next_count};
-ghost use Rattle.dsedge.specs.Faults.{IsFrontOf, fault_text, status_of};
+ghost use Rattle.dsedge.specs.Faults.{IsFrontOf, fault_text, kind_text, status_of, text_or_dash};
 
-use dsedge_lines::{Ending, PumpFault, give_all};
+use crate::parts::give_parts;
+use ds_domain_base::{DomainFault, Kind};
+use dsedge_files::FileName;
+use dsedge_lines::give_all;
 use itoa::Buffer;
 use pcap_capture::{DeviceFault, Outlet};
 
 /// Why the program did not do all that it was asked for.
-#[derive(Clone, Copy, Debug, PartialEq, Eq)]
-pub enum Fault {
+#[derive(Debug, Drop)]
+pub enum Fault<'a> {
     /// The words are not those of a command.
     Usage,
     /// The line of this number, from 1, is no line of the command.
     Line(u64),
+    /// The text of the domain has a fault.
+    Domain(DomainFault),
+    /// The file of this name cannot be read, or has more than 16 MiB.
+    File(FileName<'a>),
     /// The input could not be read.
     Read,
     /// The output could not be written.
@@ -23,15 +30,15 @@ pub enum Fault {
     Full,
 }
 
-impl Fault {
+impl Fault<'_> {
     /// The exit status: 2 usage, 3 input, 4 device, 5 memory or a full journal.
     pub fn status(&self) -> u8
         ensures { result ≡ status_of self.now }
     {
         match self {
             Fault::Usage => 2,
-            Fault::Line(_) => 3,
-            Fault::Read | Fault::Write => 4,
+            Fault::Line(_) | Fault::Domain(_) => 3,
+            Fault::File(_) | Fault::Read | Fault::Write => 4,
             Fault::Memory | Fault::Full => 5,
         }
     }
@@ -46,7 +53,12 @@ impl Fault {
     {
         match self {
             Fault::Usage => give_all(faults, b"dsedge: usage\n"),
-            Fault::Line(number) => tell_line(*number, faults),
+            Fault::Line(number) => give_parts(
+                faults,
+                &["dsedge: line ", Buffer::new().format(*number), "\n"],
+            ),
+            Fault::Domain(fault) => tell_domain(fault, faults),
+            Fault::File(name) => give_parts(faults, &["dsedge: file ", name.text(), "\n"]),
             Fault::Read => give_all(faults, b"dsedge: read\n"),
             Fault::Write => give_all(faults, b"dsedge: write\n"),
             Fault::Memory => give_all(faults, b"dsedge: memory\n"),
@@ -55,19 +67,53 @@ impl Fault {
     }
 }
 
-/// Writes the line of a bad line, `dsedge: line N`.
-fn tell_line<F: Outlet>(number: u64, faults: &mut F) -> Result<(), DeviceFault>
+/// Writes the line of a domain's fault, `dsedge: domain CODE KIND SECTION INDEX FIELD`.
+fn tell_domain<F: Outlet>(fault: &DomainFault, faults: &mut F) -> Result<(), DeviceFault>
     ensures line { F.tells faults.old → MatchResult result
-        (λ _. F.held faults.new ≡ F.held faults.old ++ fault_text (Fault.Line number))
-        (λ _. IsFrontOf (F.held faults.old) (fault_text (Fault.Line number)) (F.held faults.new)) }
+        (λ _. F.held faults.new ≡ F.held faults.old ++ fault_text (Fault.Domain fault.now))
+        (λ _. IsFrontOf (F.held faults.old) (fault_text (Fault.Domain fault.now)) (F.held faults.new)) }
     ensures failures { F.failed faults.new
         ≡ (if is_ok result then F.failed faults.old else next_count (F.failed faults.old)) }
 {
-    match give_all(faults, b"dsedge: line ") {
-        Err(fault) => Err(fault),
-        Ok(()) => match give_all(faults, Buffer::new().format(number).as_bytes()) {
-            Err(fault) => Err(fault),
-            Ok(()) => give_all(faults, b"\n"),
-        },
+    give_parts(
+        faults,
+        &[
+            "dsedge: domain ",
+            Buffer::new().format(fault.code()),
+            " ",
+            kind_text(fault.kind),
+            " ",
+            fault.section.text(),
+            " ",
+            Buffer::new().format(fault.index as u64),
+            " ",
+            text_or_dash(fault.field.text()),
+            "\n",
+        ],
+    )
+}
+
+/// How a kind of fault of a domain is written.
+fn kind_text(kind: Kind) -> &'static str
+    ensures { result.now ≡ kind_text kind }
+{
+    match kind {
+        Kind::Text => "Text",
+        Kind::Field => "Field",
+        Kind::Range => "Range",
+        Kind::Twice => "Twice",
+        Kind::UnknownName => "UnknownName",
+        Kind::NoLink => "NoLink",
+        Kind::PathRepeats => "PathRepeats",
+        Kind::PathLength => "PathLength",
+        Kind::BlindInside => "BlindInside",
+        Kind::NoMemory => "NoMemory",
     }
+}
+
+/// A text, or `-` where it is empty.
+fn text_or_dash(text: &str) -> &str
+    ensures { result.now ≡ text_or_dash text.now }
+{
+    if text.is_empty() { "-" } else { text }
 }

@@ -2,15 +2,18 @@
 #![tactic(auto)]
 
 mod arrivals;
+mod conclusion;
 mod envelope;
 mod fault;
 mod meter;
+mod parts;
 mod serve;
 mod start;
 #[cfg(test)]
 mod tests;
 
 use crate::start::start;
+use dsedge_files::SystemFolder;
 use pcap_capture::{ReadIntake, WriteOutlet};
 use std::process::ExitCode;
 use std::{env, io};
@@ -24,6 +27,7 @@ fn main(rt: HostRuntime) -> io::Result<ExitCode> {
     let status = start(
         alloc,
         words,
+        &SystemFolder::new(&rt),
         &mut ReadIntake::new(rt.stdin()),
         &mut WriteOutlet::new(rt.stdout()),
         &mut WriteOutlet::new(rt.stderr()),

@@ -1,57 +1,119 @@
-ghost use Rattle.std.specs.Prelude.{◌≡◌, Result};
-ghost use Rattle.dsedge_lines.specs.declared.command.Ending.{Ending};
+ghost use Rattle.std.specs.Prelude.{◌≡◌, false, length, map, Result};
+ghost use Rattle.dsedge_base.specs.Files.{files_of};
 ghost use Rattle.dsedge_lines.specs.declared.fault.PumpFault.{PumpFault};
 ghost use Rattle.dsedge_lines.specs.Faults.{is_read_fault, is_write_fault};
-ghost use Rattle.dsedge.specs.Served.{IsOfReads, IsOfWrites, IsServed, IsTold, answer_for, fault_of, status_for, told_of};
+ghost use Rattle.dsedge.specs.Served.{IsOfReads, IsOfWrites, IsServed, IsTold, answer_for, fault_of, reply_by, reply_of, status_for, told_of, whole_text};
+ghost use Rattle.dsedge.specs.declared.conclusion.Conclusion.{Conclusion};
+ghost use Rattle.dsedge_texts.specs.Certified.{certified};
+ghost use Rattle.line_text.specs.Lines.{lines_of};
 
+use crate::conclusion::Conclusion;
 use crate::envelope::EnvelopeCommand;
 use crate::fault::Fault;
 use crate::meter::MeterCommand;
+use ds_domain_base::{DomainFault, Kind};
 use dsedge_base::Plan;
-use dsedge_lines::{Ending, PumpFault, give_all, pump};
+use dsedge_lines::{Command, Ending, PumpFault, give_all, pump};
+use dsedge_texts::certify;
 use pcap_capture::{Intake, Outlet};
 use std::alloc::Global;
 
 /// By how many calls of `take` an input is read at most; the next is answered as a read fault.
 const TURNS: u64 = 1 << 32;
 
-/// Answers what a plan asks for, on the output.
-pub fn answer<I: Intake, O: Outlet>(
+/// Answers the lines of the input by a command.
+fn answer_lines<C: Command, I: Intake, O: Outlet>(
     alloc: Global,
-    plan: Plan,
+    command: &mut C,
     intake: &mut I,
     output: &mut O,
-) -> Result<Ending, PumpFault>
+) -> Result<Conclusion, PumpFault>
     ensures served { I.tells intake.old → O.tells output.old →
-        IsServed (answer_for plan (I.left intake.old)) result (O.held output.old) (O.held output.new) }
+        IsServed (reply_of (C.answer command.old 1 (lines_of (I.left intake.old)))) result (O.held output.old) (O.held output.new) }
+    ensures writes { IsOfWrites (is_write_fault result) (O.failed output.old) (O.failed output.new) }
+    ensures reads { IsOfReads (is_read_fault result) (I.failed intake.old) (I.failed intake.new)
+        (I.turns intake.old) (I.turns intake.new) }
+{
+    match pump(alloc, command, intake, output, TURNS) {
+        Ok(ending) => Ok(Conclusion::Ended(ending)),
+        Err(fault) => Err(fault),
+    }
+}
+
+/// Answers with a text.
+fn answer_text<O: Outlet>(text: &[u8], output: &mut O) -> Result<Conclusion, PumpFault>
+    ensures served { O.tells output.old →
+        IsServed (whole_text text.now) result (O.held output.old) (O.held output.new) }
+    ensures writes { IsOfWrites (is_write_fault result) (O.failed output.old) (O.failed output.new) }
+    ensures reads { is_read_fault result ≡ false }
+{
+    match give_all(output, text) {
+        Ok(()) => Ok(Conclusion::Ended(Ending::Whole)),
+        Err(_) => Err(PumpFault::Write),
+    }
+}
+
+/// Answers with the least certificate of what a domain text says.
+fn answer_certify<O: Outlet>(
+    alloc: Global,
+    text: &[u8],
+    output: &mut O,
+) -> Result<Conclusion, PumpFault>
+    ensures served { O.tells output.old →
+        IsServed (reply_by (certified text.now)) result (O.held output.old) (O.held output.new) }
+    ensures writes { IsOfWrites (is_write_fault result) (O.failed output.old) (O.failed output.new) }
+    ensures reads { is_read_fault result ≡ false }
+{
+    match certify(alloc, text) {
+        Ok(certificate) => answer_text(certificate.as_slice(), output),
+        Err(
+            DomainFault {
+                kind: Kind::NoMemory,
+                ..
+            },
+        ) => Err(PumpFault::NoMemory),
+        Err(fault) => Ok(Conclusion::Unsound(fault)),
+    }
+}
+
+/// Answers what a plan asks for, on the output, from the texts of its files.
+pub fn answer<I: Intake, O: Outlet>(
+    alloc: Global,
+    plan: Plan<'_>,
+    texts: &[Vec<u8>],
+    intake: &mut I,
+    output: &mut O,
+) -> Result<Conclusion, PumpFault>
+    requires { length texts.now ≡ length (files_of plan) }
+    ensures served { I.tells intake.old → O.tells output.old →
+        IsServed (answer_for plan.entry (map (λ text. text.items) texts.now) (I.left intake.old)) result (O.held output.old) (O.held output.new) }
     ensures writes { IsOfWrites (is_write_fault result) (O.failed output.old) (O.failed output.new) }
     ensures reads { IsOfReads (is_read_fault result) (I.failed intake.old) (I.failed intake.new)
         (I.turns intake.old) (I.turns intake.new) }
 {
     match plan {
-        Plan::Help(text) => match give_all(output, text.as_bytes()) {
-            Ok(()) => Ok(Ending::Whole),
-            Err(_) => Err(PumpFault::Write),
-        },
+        Plan::Help(text) => answer_text(text.as_bytes(), output),
         Plan::Meter(meter) => {
             let mut command = MeterCommand::new(alloc, meter);
-            pump(alloc, &mut command, intake, output, TURNS)
+            answer_lines(alloc, &mut command, intake, output)
         }
         Plan::Envelope { rate, burst } => {
             let mut command = EnvelopeCommand::new(alloc, rate, burst);
-            pump(alloc, &mut command, intake, output, TURNS)
+            answer_lines(alloc, &mut command, intake, output)
         }
+        Plan::Certify { .. } => answer_certify(alloc, texts[0].as_slice(), output),
     }
 }
 
 /// What there is to tell of an outcome, if anything.
-fn fault(outcome: &Result<Ending, PumpFault>) -> Option<Fault>
+fn fault(outcome: &Result<Conclusion, PumpFault>) -> Option<Fault<'static>>
     ensures { result ≡ fault_of outcome.now }
 {
     match outcome {
-        Ok(Ending::Whole | Ending::Refused) => None,
-        Ok(Ending::BadLine(number)) => Some(Fault::Line(*number)),
-        Ok(Ending::Full) => Some(Fault::Full),
+        Ok(Conclusion::Ended(Ending::Whole | Ending::Refused)) => None,
+        Ok(Conclusion::Ended(Ending::BadLine(number))) => Some(Fault::Line(*number)),
+        Ok(Conclusion::Ended(Ending::Full)) => Some(Fault::Full),
+        Ok(Conclusion::Unsound(fault)) => Some(Fault::Domain(*fault)),
         Err(PumpFault::Read) => Some(Fault::Read),
         Err(PumpFault::Write) => Some(Fault::Write),
         Err(PumpFault::NoMemory) => Some(Fault::Memory),
@@ -59,14 +121,15 @@ fn fault(outcome: &Result<Ending, PumpFault>) -> Option<Fault>
 }
 
 /// The exit status of an outcome.
-fn status(outcome: &Result<Ending, PumpFault>) -> u8
+fn status(outcome: &Result<Conclusion, PumpFault>) -> u8
     ensures { result ≡ status_for outcome.now }
 {
     match outcome {
-        Ok(Ending::Whole) => 0,
-        Ok(Ending::Refused) => 1,
-        Ok(Ending::BadLine(number)) => Fault::Line(*number).status(),
-        Ok(Ending::Full) => Fault::Full.status(),
+        Ok(Conclusion::Ended(Ending::Whole)) => 0,
+        Ok(Conclusion::Ended(Ending::Refused)) => 1,
+        Ok(Conclusion::Ended(Ending::BadLine(number))) => Fault::Line(*number).status(),
+        Ok(Conclusion::Ended(Ending::Full)) => Fault::Full.status(),
+        Ok(Conclusion::Unsound(fault)) => Fault::Domain(*fault).status(),
         Err(PumpFault::Read) => Fault::Read.status(),
         Err(PumpFault::Write) => Fault::Write.status(),
         Err(PumpFault::NoMemory) => Fault::Memory.status(),
@@ -74,7 +137,7 @@ fn status(outcome: &Result<Ending, PumpFault>) -> u8
 }
 
 /// Tells an outcome on standard error, where there is anything to tell. A failure to write there is passed over.
-fn tell<F: Outlet>(outcome: &Result<Ending, PumpFault>, faults: &mut F)
+fn tell<F: Outlet>(outcome: &Result<Conclusion, PumpFault>, faults: &mut F)
     ensures { F.tells faults.old →
         IsTold (told_of outcome.now) (F.held faults.old) (F.held faults.new) (F.failed faults.old) (F.failed faults.new) }
 {
@@ -85,25 +148,26 @@ fn tell<F: Outlet>(outcome: &Result<Ending, PumpFault>, faults: &mut F)
 
 /// Does what a plan asks for: answers on the output, tells a fault on `faults`, and gives the exit status.
 ///
-/// `texts` are the contents of the files that the plan names, in the order of its words; `meter` and `envelope` name none.
+/// `texts` are the contents of the files that the plan names, in the order of its words.
 pub fn serve<I: Intake, O: Outlet, F: Outlet>(
     alloc: Global,
-    plan: Plan,
-    _texts: &[Vec<u8>],
+    plan: Plan<'_>,
+    texts: &[Vec<u8>],
     intake: &mut I,
     output: &mut O,
     faults: &mut F,
 ) -> u8
+    requires { length texts.now ≡ length (files_of plan) }
     // One outcome stands behind what is written, what is told and the status.
-    ensures { (outcome : Result Ending PumpFault) × (result ≡ status_for outcome)
+    ensures { (outcome : Result Conclusion PumpFault) × (result ≡ status_for outcome)
         × (I.tells intake.old → O.tells output.old →
-        IsServed (answer_for plan (I.left intake.old)) outcome (O.held output.old) (O.held output.new))
+        IsServed (answer_for plan.entry (map (λ text. text.items) texts.now) (I.left intake.old)) outcome (O.held output.old) (O.held output.new))
         × (F.tells faults.old →
         IsTold (told_of outcome) (F.held faults.old) (F.held faults.new) (F.failed faults.old) (F.failed faults.new))
         × IsOfWrites (is_write_fault outcome) (O.failed output.old) (O.failed output.new)
         × IsOfReads (is_read_fault outcome) (I.failed intake.old) (I.failed intake.new) (I.turns intake.old) (I.turns intake.new) }
 {
-    let outcome = answer(alloc, plan, intake, output);
+    let outcome = answer(alloc, plan, texts, intake, output);
     tell(&outcome, faults);
     status(&outcome)
 }

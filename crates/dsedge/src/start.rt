@@ -1,23 +1,26 @@
-ghost use Rattle.std.specs.Prelude.{◌≡◌, ℕ, ◌≤◌, IfErr, IfOk, MatchResult, OnOk, map, string_bytes};
+ghost use Rattle.std.specs.Prelude.{◌≡◌, ℕ, ◌≤◌, IfErr, IfOk, MatchResult, Ok, OnOk, length, map, string_bytes};
 ghost use Rattle.dsedge_base.specs.Plans.{IsPlanOf};
 ghost use Rattle.pcap_capture.specs.Counts.{count_after};
 ghost use Rattle.dsedge.specs.Faults.{fault_text, status_of};
 ghost use Rattle.dsedge.specs.Served.{IsOfWrites, IsTold};
 ghost use Rattle.dsedge.specs.Started.{AreKnown, Course, HasWords, IsCourseFrom, IsOfInput, IsRefused, IsWordless, IsWritten};
-ghost use Rattle.dsedge.specs.Started.{failures_with, input_from, is_unwritten, most_asked, status_in, told_in, words_from};
+ghost use Rattle.dsedge.specs.Started.{IsCourseOf, IsUnreadable, failures_with, input_from, is_unwritten, most_asked, status_in, told_in, words_from};
+ghost use Rattle.dsedge_base.specs.Files.{files_of};
+ghost use Rattle.dsedge_files.specs.Readable.{texts_of};
 
 use crate::fault::Fault;
 use crate::serve::serve;
 use dsedge_base::{Plan, UsageFault, plan};
+use dsedge_files::{Folder, TextFault, read_texts};
 use dsedge_lines::{FirstLineFault, Words, first_line};
 use pcap_capture::{Intake, Outlet};
 use std::alloc::Global;
 
 /// Tells a fault, and gives its exit status. A failure to write it is passed over.
-fn refuse<F: Outlet>(fault: Fault, faults: &mut F) -> u8
-    ensures status { result ≡ status_of fault }
+fn refuse<F: Outlet>(fault: &Fault<'_>, faults: &mut F) -> u8
+    ensures status { result ≡ status_of fault.now }
     ensures told { F.tells faults.old →
-        IsTold (fault_text fault) (F.held faults.old) (F.held faults.new) (F.failed faults.old) (F.failed faults.new) }
+        IsTold (fault_text fault.now) (F.held faults.old) (F.held faults.new) (F.failed faults.old) (F.failed faults.new) }
 {
     let _told = fault.tell(faults);
     fault.status()
@@ -27,7 +30,11 @@ fn refuse<F: Outlet>(fault: Fault, faults: &mut F) -> u8
 ///
 /// Refused: `Usage` for a first line of more than 65,536 bytes or one that is not UTF-8, `Read` where it could not be
 /// read, `Memory` where memory ran out.
-fn words_for<I: Intake>(alloc: Global, given: Words, intake: &mut I) -> Result<Words, Fault>
+fn words_for<I: Intake>(
+    alloc: Global,
+    given: Words,
+    intake: &mut I,
+) -> Result<Words, Fault<'static>>
     ensures told { I.tells intake.old → I.tells intake.new }
     ensures words { let texts = map string_bytes given.items in
         AreKnown texts (I.tells intake.old) → IfOk result (λ words. HasWords texts (I.left intake.old)
@@ -53,9 +60,9 @@ fn words_for<I: Intake>(alloc: Global, given: Words, intake: &mut I) -> Result<W
 }
 
 /// What words ask for, or the fault that refuses them.
-fn plan_for(alloc: Global, words: &[String]) -> Result<Plan, Fault>
-    ensures plan { IfOk result (IsPlanOf (map string_bytes words.now)) }
-    ensures refused { IfErr result (IsRefused (map string_bytes words.now)) }
+fn plan_for<'a>(alloc: Global, words: &'a [String]) -> Result<Plan<'a>, Fault<'static>>
+    ensures plan { IfOk result (IsPlanOf (map string_bytes words.entry.now)) }
+    ensures refused { IfErr result (IsRefused (map string_bytes words.entry.now)) }
 {
     match plan(alloc, words) {
         Ok(plan) => Ok(plan),
@@ -64,11 +71,33 @@ fn plan_for(alloc: Global, words: &[String]) -> Result<Plan, Fault>
     }
 }
 
+/// The texts of the files that a plan names, or the fault that refuses it.
+fn texts_for<'a, D: Folder>(
+    alloc: Global,
+    folder: &D,
+    plan: &Plan<'a>,
+) -> Result<Vec<Vec<u8>>, Fault<'a>>
+    ensures count { IfOk result (λ texts. length texts.items ≡ length (files_of plan.now)) }
+    ensures texts { D.tells folder.now → IfOk result (λ texts.
+        texts_of (D.holds folder.now) (files_of plan.now) ≡ Ok (map (λ text. text.items) texts.items)) }
+    ensures refused { IfErr result (IsUnreadable (D.tells folder.now) (D.holds folder.now) (files_of plan.now)) }
+{
+    let Ok(names) = plan.files(alloc) else {
+        return Err(Fault::Memory);
+    };
+    match read_texts(alloc, folder, names.as_slice()) {
+        Ok(texts) => Ok(texts),
+        Err(TextFault::File(name)) => Err(Fault::File(name)),
+        Err(TextFault::NoMemory) => Err(Fault::Memory),
+    }
+}
+
 /// Runs the program on its words, the name of the program left out; where there are none, the first line of the input
-/// gives them, and the rest is the input. Gives the exit status.
-pub fn start<I: Intake, O: Outlet, F: Outlet>(
+/// gives them, and the rest is the input. Files that the words name come from `folder`. Gives the exit status.
+pub fn start<D: Folder, I: Intake, O: Outlet, F: Outlet>(
     alloc: Global,
     given: Words,
+    folder: &D,
     intake: &mut I,
     output: &mut O,
     faults: &mut F,
@@ -79,6 +108,7 @@ pub fn start<I: Intake, O: Outlet, F: Outlet>(
     ensures course { let texts = map string_bytes given.items in
         (course : Course) × (result ≡ status_in course)
         × (AreKnown texts (I.tells intake.old) → IsCourseFrom texts (I.left intake.old) course)
+        × IsCourseOf (D.tells folder.now) (D.holds folder.now) course
         × IsWritten course (I.tells intake.old × O.tells output.old) (input_from texts (I.left intake.old))
         (O.held output.old) (O.held output.new)
         × (F.tells faults.old →
@@ -89,10 +119,14 @@ pub fn start<I: Intake, O: Outlet, F: Outlet>(
 {
     let words = match words_for(alloc, given, intake) {
         Ok(words) => words,
-        Err(fault) => return refuse(fault, faults),
+        Err(fault) => return refuse(&fault, faults),
     };
-    match plan_for(alloc, words.as_slice()) {
-        Ok(plan) => serve(alloc, plan, &[], intake, output, faults),
-        Err(fault) => refuse(fault, faults),
+    let plan = match plan_for(alloc, words.as_slice()) {
+        Ok(plan) => plan,
+        Err(fault) => return refuse(&fault, faults),
+    };
+    match texts_for(alloc, folder, &plan) {
+        Ok(texts) => serve(alloc, plan, texts.as_slice(), intake, output, faults),
+        Err(fault) => refuse(&fault, faults),
     }
 }

@@ -1,6 +1,7 @@
 use crate::start::start;
+use dsedge_files::MemoryFolder;
 use pcap_capture::{SliceIntake, VecOutlet};
-use std::alloc::Global;
+use std::alloc::{AllocError, Global};
 use std::process::Abort;
 use std::test::Fail;
 
@@ -12,10 +13,14 @@ struct Done {
     status: u8,
 }
 
-/// The program on words that stand one space apart, with its input and its output.
+/// No files.
+const NO_FILES: MemoryFolder<'static> = MemoryFolder { files: &[] };
+
+/// The program on words that stand one space apart, with its files, its input and its output.
 fn run(
     alloc: Global,
     words: &str,
+    files: MemoryFolder<'_>,
     mut intake: SliceIntake,
     mut output: VecOutlet,
 ) -> Result<Done, Fail> {
@@ -24,7 +29,7 @@ fn run(
         given.push(String::from_str(alloc, word)?)?;
     }
     let mut faults = VecOutlet::new(Vec::new(alloc));
-    let status = start(alloc, given, &mut intake, &mut output, &mut faults);
+    let status = start(alloc, given, &files, &mut intake, &mut output, &mut faults);
     Ok(Done {
         output: output.bytes,
         told: faults.bytes,
@@ -40,7 +45,13 @@ fn expect(
     (output, told, status): (&str, &str, u8),
 ) -> Result<(), Fail> {
     let intake = SliceIntake::new(input.as_bytes());
-    let done = run(alloc, words, intake, VecOutlet::new(Vec::new(alloc)))?;
+    let done = run(
+        alloc,
+        words,
+        NO_FILES,
+        intake,
+        VecOutlet::new(Vec::new(alloc)),
+    )?;
     assert_eq!(rt;
         done.output.as_slice(),
         output.as_bytes(),
@@ -205,6 +216,7 @@ fn words_on_the_first_line(rt: HostRuntime) -> Result<(), Fail> {
     let status = start(
         alloc,
         Vec::new(alloc),
+        &NO_FILES,
         &mut intake,
         &mut output,
         &mut faults,
@@ -225,6 +237,7 @@ fn a_read_that_fails(rt: HostRuntime) -> Result<(), Fail> {
     let done = run(
         rt.alloc(),
         BLIND,
+        NO_FILES,
         intake,
         VecOutlet::new(Vec::new(rt.alloc())),
     )?;
@@ -248,12 +261,138 @@ fn a_write_that_fails(rt: HostRuntime) -> Result<(), Fail> {
         let done = run(
             rt.alloc(),
             words,
+            NO_FILES,
             SliceIntake::new(input.as_bytes()),
             output,
         )?;
         assert_eq!(rt; done.output.as_slice(), front.as_bytes());
         assert_eq!(rt; done.told.as_slice(), b"dsedge: write\n".as_slice());
         assert_eq!(rt; done.status, 4);
+    }
+    Ok(())
+}
+
+/// A contract that is trusted.
+const TRUSTED: &str = r#"
+name = "a"
+kind = "trusted"
+port = "p"
+path = ["m"]
+class = 1
+cir = 8000000
+cbs = 3000
+src = "10.0.0.0/24"
+"#;
+
+/// A contract that is policed by a meter of two rates.
+const POLICED: &str = r#"
+name = "u"
+kind = "trtcm"
+port = "p"
+path = ["m"]
+class = 1
+mode = "blind"
+cir = 8000000
+cbs = 1500
+pir = 16000000
+pbs = 3000
+protocol = 17
+"#;
+
+/// The text of a domain of one meter behind a port with a skew and a link with a jitter, and of one contract.
+fn domain_text(
+    alloc: Global,
+    skew: u64,
+    jitter: u64,
+    contract: &str,
+) -> Result<String, AllocError> {
+    format!(in alloc;
+        r#"
+[[meter]]
+name = "m"
+kind = "trtcm"
+cir = 24000000
+cbs = 13500
+pir = 24000000
+pbs = 13500
+skew = 500000
+[[port]]
+name = "p"
+skew = {skew}
+[[link]]
+from = "p"
+to = "m"
+floor = 0
+jitter = {jitter}
+[[contract]]{contract}"#
+    )
+}
+
+/// The program on words, with one file `domain.toml`.
+fn run_on_domain(alloc: Global, words: &str, domain: &str) -> Result<Done, Fail> {
+    let files = [("domain.toml", domain.as_bytes())];
+    let folder = MemoryFolder { files: &files };
+    let output = VecOutlet::new(Vec::new(alloc));
+    run(alloc, words, folder, SliceIntake::new(b""), output)
+}
+
+#[test]
+fn least_certificates(rt: HostRuntime) -> Result<(), Fail> {
+    for (skew, jitter, contract, certificate) in [
+        (
+            0,
+            1_000_000,
+            TRUSTED,
+            "dscert 1\na 0 3000 3000\na 1 4000 4000\n",
+        ),
+        (0, 1, TRUSTED, "dscert 1\na 0 3000 3000\na 1 3001 3001\n"),
+        (
+            0,
+            1_000_000,
+            POLICED,
+            "dscert 1\nu 0 1501 3001\nu 1 2501 5001\n",
+        ),
+        (
+            1_000,
+            1_000_000,
+            POLICED,
+            "dscert 1\nu 0 1502 3003\nu 1 2502 5003\n",
+        ),
+    ] {
+        let domain = domain_text(rt.alloc(), skew, jitter, contract)?;
+        let done = run_on_domain(rt.alloc(), "certify domain.toml", domain.as_str())?;
+        assert_eq!(rt; done.output.as_slice(), certificate.as_bytes());
+        assert!(rt; done.told.is_empty());
+        assert_eq!(rt; done.status, 0);
+    }
+    Ok(())
+}
+
+#[test]
+fn faults_of_domains_and_files(rt: HostRuntime) -> Result<(), Fail> {
+    for (words, domain, (output, told, status)) in [
+        ("certify domain.toml", "", ("dscert 1\n", "", 0)),
+        (
+            "certify domain.toml",
+            "version = 2",
+            ("", "dsedge: domain 3 Range top 0 version\n", 3),
+        ),
+        (
+            "certify domain.toml",
+            "[",
+            ("", "dsedge: domain 1 Text text 0 -\n", 3),
+        ),
+        (
+            "certify other.toml",
+            "[",
+            ("", "dsedge: file other.toml\n", 4),
+        ),
+        ("certify other.toml [", "[", ("", "dsedge: usage\n", 2)),
+    ] {
+        let done = run_on_domain(rt.alloc(), words, domain)?;
+        assert_eq!(rt; done.output.as_slice(), output.as_bytes(), "{words}");
+        assert_eq!(rt; done.told.as_slice(), told.as_bytes(), "{words}");
+        assert_eq!(rt; done.status, status, "{words}");
     }
     Ok(())
 }

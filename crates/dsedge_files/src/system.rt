@@ -9,6 +9,7 @@ use std::fs;
 use std::rt::Files;
 
 /// The files of the system, by their paths.
+#[derive(Drop)]
 pub struct SystemFolder<'a, R> {
     runtime: &'a R,
 }

@@ -1,4 +1,7 @@
-use Rattle.dsedge.proofs.FrontLemmas.{given_or_front}
+use Rattle.std.specs.Prelude.{codes, decimal}
+use Rattle.dsedge.specs.Faults.{fault_text}
+use Rattle.dsedge.specs.declared.fault.Fault.TheVariants.{File, Line}
+use Rattle.dsedge.proofs.FrontLemmas.{between, given_as, given_or_front}
 use Rattle.dsedge.proofs.fault.Fault.tell.Goals as goal
 
 pub returns-in-Usage-clause-line : goal.returns-in-Usage-clause-line
@@ -20,3 +23,16 @@ returns-in-Memory-clause-line g c told =
 pub returns-in-Full-clause-line : goal.returns-in-Full-clause-line
 returns-in-Full-clause-line g c told =
     rw c.in-Full.is (given_or_front c.give_all-in-Full.result (g.F.Outlet.held c.args.faults.now) (g.F.Outlet.held c.give_all-in-Full.new.outlet) _ (c.give_all-in-Full.ensures.bytes told))
+
+pub returns-in-Line-clause-line : goal.returns-in-Line-clause-line
+returns-in-Line-clause-line g c told =
+    rw c.in-Line.is (given_as c.give_parts.result (g.F.Outlet.held c.args.faults.now) (g.F.Outlet.held c.give_parts.new.outlet) _ (fault_text (Line c.in-Line.number))
+    (between (codes "dsedge: line ") c.format.result.now (decimal c.in-Line.number) (codes "\n") c.format.ensures.text) (c.give_parts.ensures.bytes told))
+
+pub returns-in-Domain-clause-line : goal.returns-in-Domain-clause-line
+returns-in-Domain-clause-line g c told = rw c.in-Domain.is (c.tell_domain.ensures.line told)
+
+pub returns-in-File-clause-line : goal.returns-in-File-clause-line
+returns-in-File-clause-line g c told =
+    rw c.in-File.is (given_as c.give_parts-in-File.result (g.F.Outlet.held c.args.faults.now) (g.F.Outlet.held c.give_parts-in-File.new.outlet) _ (fault_text (File c.in-File.name))
+    (between (codes "dsedge: file ") c.text.result.now c.in-File.name (codes "\n") c.text.ensures) (c.give_parts-in-File.ensures.bytes told))
