@@ -2,7 +2,7 @@
 use Rattle.std.proofs.Common.{◌≡◌, ◌≤◌, ℕ, Bool, List, refl, arith}
 use Rattle.pcap_capture.specs.Counts.{count_after}
 use Rattle.dsedge.specs.declared.fault.Fault.{Fault}
-use Rattle.dsedge.specs.declared.fault.Fault.TheVariants.{Usage, Line, Domain, File, Read, Write, Memory, Full}
+use Rattle.dsedge.specs.declared.fault.Fault.TheVariants.{Usage, Line, Domain, Certificate, File, Read, Write, Memory, Full}
 use Rattle.dsedge.specs.Served.{IsOfReads}
 use Rattle.dsedge.specs.Started.{IsRefused, failures_with}
 
@@ -18,6 +18,7 @@ refused_unread words Memory failed is = refl
 refused_unread words Read failed is = absurd is
 refused_unread words (Line number) failed is = absurd is
 refused_unread words (Domain why) failed is = absurd is
+refused_unread words (Certificate why) failed is = absurd is
 refused_unread words (File name) failed is = absurd is
 refused_unread words Write failed is = absurd is
 refused_unread words Full failed is = absurd is

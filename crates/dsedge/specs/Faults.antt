@@ -6,8 +6,10 @@ use Rattle.ds_domain_base.specs.declared.fault.Field.{Field}
 use Rattle.ds_domain_base.specs.declared.fault.Field.TheVariants as fields
 use Rattle.ds_domain_base.specs.declared.fault.Kind.{Kind}
 use Rattle.ds_domain_base.specs.declared.fault.Kind.TheVariants as kinds
+use Rattle.ds_certificate.specs.declared.fault.CertificateFault.{CertificateFault}
+use Rattle.ds_certificate.specs.declared.fault.CertificateFault.TheVariants as certificates
 use Rattle.dsedge.specs.declared.fault.Fault.{Fault}
-use Rattle.dsedge.specs.declared.fault.Fault.TheVariants.{Usage, Line, Domain, File, Read, Write, Memory, Full}
+use Rattle.dsedge.specs.declared.fault.Fault.TheVariants.{Usage, Line, Domain, Certificate, File, Read, Write, Memory, Full}
 
 -- how a kind of fault of a domain is written
 abbrev pub kind_text : Kind → List ℕ
@@ -33,11 +35,19 @@ domain_fault_text fault =
     decimal (kind_code fault.kind) ++ codes " " ++ kind_text fault.kind ++ codes " " ++ section_text fault.section ++ codes " "
     ++ decimal fault.index ++ codes " " ++ text_or_dash (field_text fault.field)
 
+-- what is wrong with a certificate: CODE KIND
+abbrev pub certificate_fault_text : CertificateFault → List ℕ
+certificate_fault_text certificates.Text = codes "1 Text"
+certificate_fault_text certificates.Shape = codes "2 Shape"
+certificate_fault_text certificates.Range = codes "3 Range"
+certificate_fault_text certificates.NoMemory = codes "4 NoMemory"
+
 -- the line of a fault
 abbrev pub fault_text : Fault → List ℕ
 fault_text Usage = codes "dsedge: usage\n"
 fault_text (Line number) = codes "dsedge: line " ++ decimal number ++ codes "\n"
 fault_text (Domain fault) = codes "dsedge: domain " ++ domain_fault_text fault ++ codes "\n"
+fault_text (Certificate fault) = codes "dsedge: certificate " ++ certificate_fault_text fault ++ codes "\n"
 fault_text (File name) = codes "dsedge: file " ++ name ++ codes "\n"
 fault_text Read = codes "dsedge: read\n"
 fault_text Write = codes "dsedge: write\n"
@@ -49,6 +59,7 @@ abbrev pub status_of : Fault → ℕ
 status_of Usage = 2
 status_of (Line number) = 3
 status_of (Domain fault) = 3
+status_of (Certificate fault) = 3
 status_of (File name) = 4
 status_of Read = 4
 status_of Write = 4

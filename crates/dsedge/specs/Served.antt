@@ -1,19 +1,23 @@
 -- What the program does for a plan.
-use Rattle.std.specs.Prelude.{◌≡◌, ◌⊎◌, ◌^◌, ℕ, Bool, true, false, if◌then◌else◌, List, [], ◌∷◌, ◌++◌, Option, None, Some, Result, Ok, Err, IfOk, OnErr, string_bytes}
+use Rattle.std.specs.Prelude.{◌≡◌, ◌⊎◌, ◌^◌, ℕ, Bool, true, false, if◌then◌else◌, List, [], ◌∷◌, ◌++◌, Option, None, Some, Result, Ok, Err, IfOk, OnErr, codes, string_bytes}
 use Rattle.std.specs.Option.{option_map_or}
 use Rattle.line_text.specs.Lines.{lines_of}
 use Rattle.dsedge.specs.Books.{fresh_book}
 use Rattle.pcap_capture.specs.Counts.{count_after, next_count}
 use Rattle.dsedge_base.specs.declared.work.Plan.{Plan}
-use Rattle.dsedge_base.specs.declared.work.Plan.TheVariants.{Certify, Envelope, Help, Meter}
+use Rattle.dsedge_base.specs.declared.work.Plan.TheVariants.{Certify, Check, Envelope, Help, Meter}
 use Rattle.ds_domain_base.specs.declared.fault.DomainFault.{DomainFault}
 use Rattle.dsedge_lines.specs.Answers.{Answer}
 use Rattle.dsedge_lines.specs.declared.command.Ending.TheVariants as endings
 use Rattle.dsedge_lines.specs.declared.fault.PumpFault.{PumpFault}
 use Rattle.dsedge_lines.specs.declared.fault.PumpFault.TheVariants as pump_faults
+use Rattle.ds_checker.specs.Acceptance.{Table}
+use Rattle.dsedge_texts.specs.Accepted.{accepted_in}
 use Rattle.dsedge_texts.specs.Certified.{certified}
+use Rattle.dsedge_texts.specs.declared.accepting.TableFault.{TableFault}
+use Rattle.dsedge_texts.specs.declared.accepting.TableFault.TheVariants as tables
 use Rattle.dsedge.specs.declared.conclusion.Conclusion.{Conclusion}
-use Rattle.dsedge.specs.declared.conclusion.Conclusion.TheVariants.{Ended, Unsound}
+use Rattle.dsedge.specs.declared.conclusion.Conclusion.TheVariants.{Ended, Unsound, Uncertified}
 use Rattle.dsedge.specs.declared.fault.Fault.{Fault}
 use Rattle.dsedge.specs.declared.fault.Fault.TheVariants as faults
 use Rattle.dsedge.specs.Faults.{IsFrontOf, fault_text, status_of}
@@ -38,10 +42,23 @@ abbrev pub reply_by : Result (List ℕ) DomainFault → Reply
 reply_by (Ok text) = whole_text text
 reply_by (Err fault) = record { text = []; conclusion = Unsound fault }
 
--- the text of the first file
+-- A table is accepted, or the checker's line is the reply; the fault of a text ends it before anything is written. Want of
+-- memory stands in no text.
+abbrev pub reply_on : Result Table TableFault → Reply
+reply_on (Ok table) = whole_text (codes "accepted\n")
+reply_on (Err (tables.Refused line)) = record { text = line; conclusion = Ended endings.Refused }
+reply_on (Err (tables.Domain fault)) = record { text = []; conclusion = Unsound fault }
+reply_on (Err (tables.Certificate fault)) = record { text = []; conclusion = Uncertified fault }
+reply_on (Err tables.NoMemory) = whole_text []
+
+-- the text of the first file, and of the second
 abbrev pub first_text : List (List ℕ) → List ℕ
 first_text [] = []
 first_text (text ∷ texts) = text
+
+abbrev pub second_text : List (List ℕ) → List ℕ
+second_text [] = []
+second_text (text ∷ texts) = first_text texts
 
 -- the reply that a plan asks for, to the texts of its files and the bytes of an input
 abbrev pub answer_for : Plan → List (List ℕ) → List ℕ → Reply
@@ -49,6 +66,7 @@ answer_for (Help text) texts bytes = whole_text (string_bytes text)
 answer_for (Meter meter) texts bytes = reply_of (answer_of (fresh_book meter) 1 (lines_of bytes))
 answer_for (Envelope rate burst) texts bytes = reply_of (verdict_on (envelope_for rate burst) (lines_of bytes))
 answer_for (Certify domain) texts bytes = reply_by (certified (first_text texts))
+answer_for (Check domain certificate) texts bytes = reply_on (accepted_in (first_text texts) (second_text texts))
 
 -- a reply was written behind what stood, to its end; or a front of it, where a device failed or memory ran out
 pub record IsServed (reply : Reply) (outcome : Result Conclusion PumpFault) (before after : List ℕ) : Type 0 where
@@ -62,6 +80,7 @@ fault_of (Ok (Ended endings.Refused)) = None
 fault_of (Ok (Ended (endings.BadLine number))) = Some (faults.Line number)
 fault_of (Ok (Ended endings.Full)) = Some faults.Full
 fault_of (Ok (Unsound fault)) = Some (faults.Domain fault)
+fault_of (Ok (Uncertified fault)) = Some (faults.Certificate fault)
 fault_of (Err pump_faults.Read) = Some faults.Read
 fault_of (Err pump_faults.Write) = Some faults.Write
 fault_of (Err pump_faults.NoMemory) = Some faults.Memory
@@ -73,6 +92,7 @@ status_for (Ok (Ended endings.Refused)) = 1
 status_for (Ok (Ended (endings.BadLine number))) = status_of (faults.Line number)
 status_for (Ok (Ended endings.Full)) = status_of faults.Full
 status_for (Ok (Unsound fault)) = status_of (faults.Domain fault)
+status_for (Ok (Uncertified fault)) = status_of (faults.Certificate fault)
 status_for (Err pump_faults.Read) = status_of faults.Read
 status_for (Err pump_faults.Write) = status_of faults.Write
 status_for (Err pump_faults.NoMemory) = status_of faults.Memory

@@ -14,7 +14,7 @@ use Rattle.dsedge_lines.specs.Faults.{is_write_fault, is_read_fault}
 use Rattle.dsedge_lines.specs.FirstLine.{after_first_line, first_line_of}
 use Rattle.dsedge.specs.declared.conclusion.Conclusion.{Conclusion}
 use Rattle.dsedge.specs.declared.fault.Fault.{Fault}
-use Rattle.dsedge.specs.declared.fault.Fault.TheVariants.{Usage, Line, Domain, File, Read, Write, Memory, Full}
+use Rattle.dsedge.specs.declared.fault.Fault.TheVariants.{Usage, Line, Domain, Certificate, File, Read, Write, Memory, Full}
 use Rattle.dsedge.specs.Faults.{fault_text, status_of}
 use Rattle.dsedge.specs.Served.{IsOfReads, IsServed, answer_for, status_for, told_of}
 
@@ -59,6 +59,7 @@ IsWordless given bytes Read = given ≡ []
 IsWordless given bytes Memory = Unit {0}
 IsWordless given bytes (Line number) = ⊥
 IsWordless given bytes (Domain fault) = ⊥
+IsWordless given bytes (Certificate fault) = ⊥
 IsWordless given bytes (File name) = ⊥
 IsWordless given bytes Write = ⊥
 IsWordless given bytes Full = ⊥
@@ -70,6 +71,7 @@ IsRefused words Memory = Unit {0}
 IsRefused words Read = ⊥
 IsRefused words (Line number) = ⊥
 IsRefused words (Domain fault) = ⊥
+IsRefused words (Certificate fault) = ⊥
 IsRefused words (File name) = ⊥
 IsRefused words Write = ⊥
 IsRefused words Full = ⊥
@@ -83,6 +85,7 @@ abbrev pub is_read : Fault → Bool
 is_read Usage = false
 is_read (Line number) = false
 is_read (Domain fault) = false
+is_read (Certificate fault) = false
 is_read (File name) = false
 is_read Read = true
 is_read Write = false
@@ -101,6 +104,7 @@ IsUnreadable tells holds names Memory = Unit {0}
 IsUnreadable tells holds names Usage = ⊥
 IsUnreadable tells holds names (Line number) = ⊥
 IsUnreadable tells holds names (Domain fault) = ⊥
+IsUnreadable tells holds names (Certificate fault) = ⊥
 IsUnreadable tells holds names Read = ⊥
 IsUnreadable tells holds names Write = ⊥
 IsUnreadable tells holds names Full = ⊥

@@ -1,3 +1,4 @@
+use ds_certificate::CertificateFault;
 use ds_domain_base::DomainFault;
 use dsedge_lines::Ending;
 
@@ -8,4 +9,6 @@ pub enum Conclusion {
     Ended(Ending),
     /// The text of the domain has a fault, and nothing is answered.
     Unsound(DomainFault),
+    /// The text of the certificate has a fault, and nothing is answered.
+    Uncertified(CertificateFault),
 }

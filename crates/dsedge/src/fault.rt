@@ -1,8 +1,9 @@
 ghost use Rattle.std.specs.Prelude.{◌≡◌, ◌++◌, List, ℕ, MatchResult, is_ok, if◌then◌else◌};
 ghost use Rattle.pcap_capture.specs.Counts.{next_count};
-ghost use Rattle.dsedge.specs.Faults.{IsFrontOf, fault_text, kind_text, status_of, text_or_dash};
+ghost use Rattle.dsedge.specs.Faults.{IsFrontOf, certificate_fault_text, fault_text, kind_text, status_of, text_or_dash};
 
 use crate::parts::give_parts;
+use ds_certificate::CertificateFault;
 use ds_domain_base::{DomainFault, Kind};
 use dsedge_files::FileName;
 use dsedge_lines::give_all;
@@ -18,6 +19,8 @@ pub enum Fault<'a> {
     Line(u64),
     /// The text of the domain has a fault.
     Domain(DomainFault),
+    /// The text of the certificate has a fault.
+    Certificate(CertificateFault),
     /// The file of this name cannot be read, or has more than 16 MiB.
     File(FileName<'a>),
     /// The input could not be read.
@@ -37,7 +40,7 @@ impl Fault<'_> {
     {
         match self {
             Fault::Usage => 2,
-            Fault::Line(_) | Fault::Domain(_) => 3,
+            Fault::Line(_) | Fault::Domain(_) | Fault::Certificate(_) => 3,
             Fault::File(_) | Fault::Read | Fault::Write => 4,
             Fault::Memory | Fault::Full => 5,
         }
@@ -58,6 +61,10 @@ impl Fault<'_> {
                 &["dsedge: line ", Buffer::new().format(*number), "\n"],
             ),
             Fault::Domain(fault) => tell_domain(fault, faults),
+            Fault::Certificate(fault) => give_parts(
+                faults,
+                &["dsedge: certificate ", certificate_text(*fault), "\n"],
+            ),
             Fault::File(name) => give_parts(faults, &["dsedge: file ", name.text(), "\n"]),
             Fault::Read => give_all(faults, b"dsedge: read\n"),
             Fault::Write => give_all(faults, b"dsedge: write\n"),
@@ -108,6 +115,18 @@ fn kind_text(kind: Kind) -> &'static str
         Kind::PathLength => "PathLength",
         Kind::BlindInside => "BlindInside",
         Kind::NoMemory => "NoMemory",
+    }
+}
+
+/// How a fault of a certificate is written, its number and its kind.
+fn certificate_text(fault: CertificateFault) -> &'static str
+    ensures { result.now ≡ certificate_fault_text fault }
+{
+    match fault {
+        CertificateFault::Text => "1 Text",
+        CertificateFault::Shape => "2 Shape",
+        CertificateFault::Range => "3 Range",
+        CertificateFault::NoMemory => "4 NoMemory",
     }
 }
 

@@ -2,8 +2,9 @@ ghost use Rattle.std.specs.Prelude.{◌≡◌, false, length, map, Result};
 ghost use Rattle.dsedge_base.specs.Files.{files_of};
 ghost use Rattle.dsedge_lines.specs.declared.fault.PumpFault.{PumpFault};
 ghost use Rattle.dsedge_lines.specs.Faults.{is_read_fault, is_write_fault};
-ghost use Rattle.dsedge.specs.Served.{IsOfReads, IsOfWrites, IsServed, IsTold, answer_for, fault_of, reply_by, reply_of, status_for, told_of, whole_text};
+ghost use Rattle.dsedge.specs.Served.{IsOfReads, IsOfWrites, IsServed, IsTold, Reply, answer_for, fault_of, reply_by, reply_of, reply_on, status_for, told_of};
 ghost use Rattle.dsedge.specs.declared.conclusion.Conclusion.{Conclusion};
+ghost use Rattle.dsedge_texts.specs.Accepted.{accepted_in};
 ghost use Rattle.dsedge_texts.specs.Certified.{certified};
 ghost use Rattle.line_text.specs.Lines.{lines_of};
 
@@ -14,7 +15,7 @@ use crate::meter::MeterCommand;
 use ds_domain_base::{DomainFault, Kind};
 use dsedge_base::Plan;
 use dsedge_lines::{Command, Ending, PumpFault, give_all, pump};
-use dsedge_texts::certify;
+use dsedge_texts::{TableFault, accept, certify};
 use pcap_capture::{Intake, Outlet};
 use std::alloc::Global;
 
@@ -40,15 +41,19 @@ fn answer_lines<C: Command, I: Intake, O: Outlet>(
     }
 }
 
-/// Answers with a text.
-fn answer_text<O: Outlet>(text: &[u8], output: &mut O) -> Result<Conclusion, PumpFault>
+/// Answers with a text, and ends so.
+fn answer_text<O: Outlet>(
+    text: &[u8],
+    ending: Ending,
+    output: &mut O,
+) -> Result<Conclusion, PumpFault>
     ensures served { O.tells output.old →
-        IsServed (whole_text text.now) result (O.held output.old) (O.held output.new) }
+        IsServed (record { text = text.now; conclusion = Conclusion.Ended ending }) result (O.held output.old) (O.held output.new) }
     ensures writes { IsOfWrites (is_write_fault result) (O.failed output.old) (O.failed output.new) }
     ensures reads { is_read_fault result ≡ false }
 {
     match give_all(output, text) {
-        Ok(()) => Ok(Conclusion::Ended(Ending::Whole)),
+        Ok(()) => Ok(Conclusion::Ended(ending)),
         Err(_) => Err(PumpFault::Write),
     }
 }
@@ -65,7 +70,7 @@ fn answer_certify<O: Outlet>(
     ensures reads { is_read_fault result ≡ false }
 {
     match certify(alloc, text) {
-        Ok(certificate) => answer_text(certificate.as_slice(), output),
+        Ok(certificate) => answer_text(certificate.as_slice(), Ending::Whole, output),
         Err(
             DomainFault {
                 kind: Kind::NoMemory,
@@ -73,6 +78,27 @@ fn answer_certify<O: Outlet>(
             },
         ) => Err(PumpFault::NoMemory),
         Err(fault) => Ok(Conclusion::Unsound(fault)),
+    }
+}
+
+/// Answers whether the table that two texts say is acceptable, and where not, with the checker's line.
+fn answer_check<O: Outlet>(
+    alloc: Global,
+    domain: &[u8],
+    certificate: &[u8],
+    output: &mut O,
+) -> Result<Conclusion, PumpFault>
+    ensures served { O.tells output.old →
+        IsServed (reply_on (accepted_in domain.now certificate.now)) result (O.held output.old) (O.held output.new) }
+    ensures writes { IsOfWrites (is_write_fault result) (O.failed output.old) (O.failed output.new) }
+    ensures reads { is_read_fault result ≡ false }
+{
+    match accept(alloc, domain, certificate) {
+        Ok(_) => answer_text(b"accepted\n", Ending::Whole, output),
+        Err(TableFault::Refused(line)) => answer_text(line.bytes(), Ending::Refused, output),
+        Err(TableFault::Domain(fault)) => Ok(Conclusion::Unsound(fault)),
+        Err(TableFault::Certificate(fault)) => Ok(Conclusion::Uncertified(fault)),
+        Err(TableFault::NoMemory) => Err(PumpFault::NoMemory),
     }
 }
 
@@ -92,7 +118,7 @@ pub fn answer<I: Intake, O: Outlet>(
         (I.turns intake.old) (I.turns intake.new) }
 {
     match plan {
-        Plan::Help(text) => answer_text(text.as_bytes(), output),
+        Plan::Help(text) => answer_text(text.as_bytes(), Ending::Whole, output),
         Plan::Meter(meter) => {
             let mut command = MeterCommand::new(alloc, meter);
             answer_lines(alloc, &mut command, intake, output)
@@ -102,6 +128,9 @@ pub fn answer<I: Intake, O: Outlet>(
             answer_lines(alloc, &mut command, intake, output)
         }
         Plan::Certify { .. } => answer_certify(alloc, texts[0].as_slice(), output),
+        Plan::Check { .. } => {
+            answer_check(alloc, texts[0].as_slice(), texts[1].as_slice(), output)
+        }
     }
 }
 
@@ -114,6 +143,7 @@ fn fault(outcome: &Result<Conclusion, PumpFault>) -> Option<Fault<'static>>
         Ok(Conclusion::Ended(Ending::BadLine(number))) => Some(Fault::Line(*number)),
         Ok(Conclusion::Ended(Ending::Full)) => Some(Fault::Full),
         Ok(Conclusion::Unsound(fault)) => Some(Fault::Domain(*fault)),
+        Ok(Conclusion::Uncertified(fault)) => Some(Fault::Certificate(*fault)),
         Err(PumpFault::Read) => Some(Fault::Read),
         Err(PumpFault::Write) => Some(Fault::Write),
         Err(PumpFault::NoMemory) => Some(Fault::Memory),
@@ -130,6 +160,7 @@ fn status(outcome: &Result<Conclusion, PumpFault>) -> u8
         Ok(Conclusion::Ended(Ending::BadLine(number))) => Fault::Line(*number).status(),
         Ok(Conclusion::Ended(Ending::Full)) => Fault::Full.status(),
         Ok(Conclusion::Unsound(fault)) => Fault::Domain(*fault).status(),
+        Ok(Conclusion::Uncertified(fault)) => Fault::Certificate(*fault).status(),
         Err(PumpFault::Read) => Fault::Read.status(),
         Err(PumpFault::Write) => Fault::Write.status(),
         Err(PumpFault::NoMemory) => Fault::Memory.status(),

@@ -1,6 +1,6 @@
 use Rattle.std.specs.Prelude.{codes, decimal}
-use Rattle.dsedge.specs.Faults.{fault_text}
-use Rattle.dsedge.specs.declared.fault.Fault.TheVariants.{File, Line}
+use Rattle.dsedge.specs.Faults.{certificate_fault_text, fault_text}
+use Rattle.dsedge.specs.declared.fault.Fault.TheVariants.{Certificate, File, Line}
 use Rattle.dsedge.proofs.FrontLemmas.{between, given_as, given_or_front}
 use Rattle.dsedge.proofs.fault.Fault.tell.Goals as goal
 
@@ -36,3 +36,8 @@ pub returns-in-File-clause-line : goal.returns-in-File-clause-line
 returns-in-File-clause-line g c told =
     rw c.in-File.is (given_as c.give_parts-in-File.result (g.F.Outlet.held c.args.faults.now) (g.F.Outlet.held c.give_parts-in-File.new.outlet) _ (fault_text (File c.in-File.name))
     (between (codes "dsedge: file ") c.text.result.now c.in-File.name (codes "\n") c.text.ensures) (c.give_parts-in-File.ensures.bytes told))
+
+pub returns-in-Certificate-clause-line : goal.returns-in-Certificate-clause-line
+returns-in-Certificate-clause-line g c told =
+    rw c.in-Certificate.is (given_as c.give_parts-in-Certificate.result (g.F.Outlet.held c.args.faults.now) (g.F.Outlet.held c.give_parts-in-Certificate.new.outlet) _ (fault_text (Certificate c.in-Certificate.fault))
+    (between (codes "dsedge: certificate ") c.certificate_text.result.now (certificate_fault_text c.in-Certificate.fault) (codes "\n") c.certificate_text.ensures) (c.give_parts-in-Certificate.ensures.bytes told))
