@@ -396,3 +396,173 @@ fn faults_of_domains_and_files(rt: HostRuntime) -> Result<(), Fail> {
     }
     Ok(())
 }
+
+/// The text of a domain of a meter `m` of two rates, both the same, and of three contracts of 8 Mbit/s and 3,000 bytes.
+fn three_contracts(alloc: Global, rate: u64, burst: u64) -> Result<String, AllocError> {
+    format!(in alloc;
+        r#"
+[[meter]]
+name = "m"
+kind = "trtcm"
+cir = {rate}
+cbs = {burst}
+pir = 24000000
+pbs = 13500
+skew = 500000
+[[port]]
+name = "p"
+skew = 0
+[[link]]
+from = "p"
+to = "m"
+floor = 0
+jitter = 1000000
+[[contract]]{TRUSTED}
+[[contract]]
+name = "b"
+kind = "trusted"
+port = "p"
+path = ["m"]
+class = 2
+cir = 8000000
+cbs = 3000
+[[contract]]
+name = "c"
+kind = "trusted"
+port = "p"
+path = ["m"]
+class = 3
+cir = 8000000
+cbs = 3000
+"#
+    )
+}
+
+/// The least certificate of three such contracts, but for its last line.
+const ALL_BUT_THE_LAST: &str =
+    "dscert 1\na 0 3000 3000\na 1 4000 4000\nb 0 3000 3000\nb 1 4000 4000\nc 0 3000 3000\n";
+
+/// The least certificate of three such contracts.
+const LEAST_OF_THREE: &str =
+    "dscert 1\na 0 3000 3000\na 1 4000 4000\nb 0 3000 3000\nb 1 4000 4000\nc 0 3000 3000\nc 1 4000 4000";
+
+/// Expects of `check` on a domain and a certificate an output, what is told, and a status.
+fn expect_of_check(
+    rt: &impl Abort,
+    alloc: Global,
+    (domain, certificate): (&str, &str),
+    (output, told, status): (&str, &str, u8),
+) -> Result<(), Fail> {
+    let files = [
+        ("domain.toml", domain.as_bytes()),
+        ("domain.cert", certificate.as_bytes()),
+    ];
+    let folder = MemoryFolder { files: &files };
+    let outlet = VecOutlet::new(Vec::new(alloc));
+    let words = "check domain.toml domain.cert";
+    let done = run(alloc, words, folder, SliceIntake::new(b""), outlet)?;
+    assert_eq!(rt; done.output.as_slice(), output.as_bytes());
+    assert_eq!(rt; done.told.as_slice(), told.as_bytes());
+    assert_eq!(rt; done.status, status);
+    Ok(())
+}
+
+#[test]
+fn three_contracts_fill_a_meter(rt: HostRuntime) -> Result<(), Fail> {
+    let alloc = rt.alloc();
+    let full = three_contracts(alloc, 24_000_000, 13_500)?;
+    let domain = full.as_str();
+    let accepted = ("accepted\n", "", 0);
+    expect_of_check(&rt, alloc, (domain, LEAST_OF_THREE), accepted)?;
+    let short = ("", "dsedge: certificate 2 Shape\n", 3);
+    expect_of_check(&rt, alloc, (domain, ALL_BUT_THE_LAST), short)?;
+    let tight = three_contracts(alloc, 24_000_000, 13_499)?;
+    let burst = ("refused 5 GreenBurst m 13500 13499\n", "", 1);
+    expect_of_check(&rt, alloc, (tight.as_str(), LEAST_OF_THREE), burst)?;
+    let slow = three_contracts(alloc, 23_999_999, 13_500)?;
+    let rate = ("refused 4 GreenRate m 24000000 23999999\n", "", 1);
+    expect_of_check(&rt, alloc, (slow.as_str(), LEAST_OF_THREE), rate)
+}
+
+#[test]
+fn bounds_that_are_too_low(rt: HostRuntime) -> Result<(), Fail> {
+    let alloc = rt.alloc();
+    let alone = domain_text(alloc, 0, 1_000_000, TRUSTED)?;
+    for (certificate, output) in [
+        (
+            "dscert 1\na 0 3000 3000\na 1 3999 4000\n",
+            "refused 3 HopBound a 1 green 4000 3999\n",
+        ),
+        (
+            "dscert 1\na 0 3000 2999\na 1 4000 4000\n",
+            "refused 2 FirstBound a all 3000 2999\n",
+        ),
+    ] {
+        expect_of_check(&rt, alloc, (alone.as_str(), certificate), (output, "", 1))?;
+    }
+    Ok(())
+}
+
+/// A domain of a meter of a single rate, and a contract that may have a peak.
+fn single_rate(alloc: Global, peak: &str) -> Result<String, AllocError> {
+    format!(in alloc;
+        r#"
+[[meter]]
+name = "m"
+kind = "srtcm"
+cir = 8000
+cbs = 500
+ebs = 1000
+skew = 0
+[[port]]
+name = "p"
+skew = 0
+[[link]]
+from = "p"
+to = "m"
+floor = 0
+jitter = 0
+[[contract]]
+name = "a"
+kind = "trusted"
+port = "p"
+path = ["m"]
+class = 1
+cir = 8000
+cbs = 500
+{peak}
+"#
+    )
+}
+
+#[test]
+fn a_peak_is_held_against_the_excess_bucket(rt: HostRuntime) -> Result<(), Fail> {
+    let alloc = rt.alloc();
+    let peaked = single_rate(alloc, "pir = 8000\npbs = 1001")?;
+    let certificate = "dscert 1\na 0 500 1001\na 1 500 1001\n";
+    let refused = ("refused 7 AllBurst m 1001 1000\n", "", 1);
+    expect_of_check(&rt, alloc, (peaked.as_str(), certificate), refused)?;
+    let plain = single_rate(alloc, "")?;
+    let least = "dscert 1\na 0 500 500\na 1 500 500\n";
+    expect_of_check(&rt, alloc, (plain.as_str(), least), ("accepted\n", "", 0))
+}
+
+#[test]
+fn faults_of_tables(rt: HostRuntime) -> Result<(), Fail> {
+    for (domain, certificate, answer) in [
+        ("", "dscert 1\n", ("accepted\n", "", 0)),
+        ("", "dscert 01\n", ("", "dsedge: certificate 1 Text\n", 3)),
+        (
+            "version = 2",
+            "dscert 01\n",
+            ("", "dsedge: domain 3 Range top 0 version\n", 3),
+        ),
+    ] {
+        expect_of_check(&rt, rt.alloc(), (domain, certificate), answer)?;
+    }
+    let done = run_on_domain(rt.alloc(), "check domain.toml domain.cert", "[")?;
+    let told = b"dsedge: file domain.cert\n";
+    assert_eq!(rt; done.told.as_slice(), told.as_slice());
+    assert_eq!(rt; done.status, 4);
+    Ok(())
+}
