@@ -1,17 +1,29 @@
 -- What is added up for each meter, contract by contract and hop by hop.
-use Rattle.std.proofs.Common.{rules, arith, ◌≡◌, ℕ, zero, suc, ◌+◌, ◌-◌, ◌*◌, ◌^◌, ◌≤◌, ◌<◌, Bool, true, false, cond, nat_lt, ◌||◌, ◌&&◌, ◌⊎◌, inl, inr, List, [], ◌∷◌, ◌++◌, length, map, filter, set, get_or, Option, None, Some, refl, sym, ap, subst, ◌∙◌}
+use Rattle.std.proofs.Common.{rules, arith, ◌≡◌, ℕ, zero, suc, ◌+◌, ◌-◌, ◌*◌, ◌^◌, ◌≤◌, ◌<◌, Bool, true, false, cond, nat_lt, nat_eq, ◌||◌, ◌&&◌, ◌⊎◌, inl, inr, List, [], ◌∷◌, ◌++◌, length, map, filter, take, drop, append-nil, set, get_or, if◌then◌else◌, Option, None, Some, refl, sym, ap, subst, ◌∙◌}
 use Rattle.std.specs.List.{AllByRecursion, AllZip, IsDistinct, fold, list_any, position, position_or_len}
 use Rattle.std.specs.Str.{bytes_eq}
 use Rattle.std.proofs.lemmas.Slice.Eq.{bytes_eq-Decides}
 use Rattle.std.proofs.lemmas.Bool.Decides.{nat_tests, same_from_decides}
+use Rattle.std.proofs.lemmas.List.{drop_all, take_all}
 use Rattle.std.proofs.lemmas.List.Sums.{fold-append}
 use Rattle.std.proofs.lemmas.List.Quantifiers.{position-Some}
+use Rattle.std.proofs.lemmas.Bool.{and_parts}
+use Rattle.std.proofs.lemmas.Map.Entries.{length-keys_of}
+use Rattle.std.specs.Map.{keys_of}
+use Rattle.ds_domain_base.specs.Domains.{Domain}
 use Rattle.ds_domain_base.specs.Fitting.{repeats}
-use Rattle.ds_certificate.specs.Columns.{Bound}
+use Rattle.ds_domain_base.specs.declared.contract.Contract.{Contract}
+use Rattle.ds_domain_base.specs.declared.parts.Meter.{Meter}
+use Rattle.ds_certificate.specs.Bounds.{HasShape, fits}
+use Rattle.ds_checker.specs.BoundTests.{misfit}
+use Rattle.envelope_core.specs.Curve.{Curve, widened}
+use Rattle.ds_certificate.specs.Columns.{Bound, IsInRange, all_column}
+use Rattle.ds_certificate.specs.Ranges.{IsModerate}
+use Rattle.ds_certificate.proofs.Volumes.{bytes_over_most}
 use Rattle.ds_certificate.specs.Sources.{source_of}
 use Rattle.ds_certificate.specs.declared.source.Source.{Source}
-use Rattle.ds_checker.specs.Loads.{Share, bound_into}
-use Rattle.ds_checker.specs.Sums.{AreBelow, share_by, with_brought, with_share}
+use Rattle.ds_checker.specs.Loads.{Share, bound_into, kept, share_of, shares_at}
+use Rattle.ds_checker.specs.Sums.{AreBelow, IsBelow, plus, share_by, with_brought, with_share}
 use Rattle.ds_checker.specs.declared.load.Loads.{Loads}
 
 pub bytes_eq-flip : (a b : List ℕ) → bytes_eq a b ≡ bytes_eq b a
@@ -152,3 +164,174 @@ with_brought-elsewhere source has_peak to path b bounds names loads nowhere =
 pub repeats-behind : (to : List ℕ) (path : List (List ℕ)) → repeats (to ∷ path) ≡ false → repeats path ≡ false
 unfolding repeats
 repeats-behind to path once = (or_parts (list_any (bytes_eq to) path) (repeats path) once).1
+
+-- ---- no sum leaves its range
+pub IsBelow-more : (most more : ℕ) (curve : Curve) → most ≤ more → IsBelow most curve → IsBelow more curve
+IsBelow-more most more curve larger below = (omega (arith, larger, below.0), omega (arith, larger, below.1))
+
+pub AreBelow-more : (most more : ℕ) (loads : List Loads) → most ≤ more → AllByRecursion (AreBelow most) loads → AllByRecursion (AreBelow more) loads
+AreBelow-more most more [] larger below = tt
+AreBelow-more most more (l ∷ loads) larger below =
+    ((below.0.0, IsBelow-more most more l.green larger below.0.1, IsBelow-more most more l.all larger below.0.2, IsBelow-more most more l.peaked larger below.0.3),
+      AreBelow-more most more loads larger below.1)
+
+pub plus-below : (most skew rate bound : ℕ) (curve : Curve) → IsBelow most curve → skew ≤ 10 ^ 10 → rate ≤ 2 * 10 ^ 13 → bound ≤ 10 ^ 15
+    → IsBelow (most + 2 * 10 ^ 15) (plus curve (widened skew (record { rate = rate; burst = bound })))
+plus-below most skew rate bound curve below short slow small =
+    let widening = bytes_over_most rate skew slow short in
+    (omega (arith, below.0, slow), omega (arith, below.1, small, widening))
+
+peaked-below : (most : ℕ) (has_peak : Bool) (curve more : Curve) → IsBelow (most + 2 * 10 ^ 15) more → IsBelow (most + 2 * 10 ^ 15) curve
+    → IsBelow (most + 2 * 10 ^ 15) (if has_peak then more else curve)
+peaked-below most true curve more with without = with
+peaked-below most false curve more with without = without
+
+pub with_share-below : (most : ℕ) (l : Loads) (share : Share) → AreBelow most l → IsModerate share.source → IsInRange share.bound → AreBelow (most + 2 * 10 ^ 15) (with_share l share)
+with_share-below most l share below moderate small =
+    (below.0, plus-below most l.skew share.source.green.rate share.bound.green l.green below.1 below.0 moderate.0.0 small.0,
+      plus-below most l.skew share.source.all.rate share.bound.all l.all below.2 below.0 moderate.1.0 small.1,
+      peaked-below most share.has_peak l.peaked (plus l.peaked (widened l.skew (kept all_column share)))
+      (plus-below most l.skew share.source.all.rate share.bound.all l.peaked below.3 below.0 moderate.1.0 small.1)
+      (IsBelow-more most (most + 2 * 10 ^ 15) l.peaked (omega arith) below.3))
+
+pub set-below : (most : ℕ) (loads : List Loads) (i : ℕ) (new : Loads) → i < length loads → AllByRecursion (AreBelow most) loads → AreBelow (most + 2 * 10 ^ 15) new
+    → AllByRecursion (AreBelow (most + 2 * 10 ^ 15)) (set loads i new)
+set-below most [] i new inside below is_below = absurd (omega (arith, inside))
+set-below most (l ∷ loads) zero new inside below is_below = (is_below, AreBelow-more most (most + 2 * 10 ^ 15) loads (omega arith) below.1)
+set-below most (l ∷ loads) (suc i) new inside below is_below =
+    ((AreBelow-more most (most + 2 * 10 ^ 15) (l ∷ []) (omega arith) (below.0, tt)).0, set-below most loads i new (omega (arith, inside)) below.1 is_below)
+
+pub AreBelow-at : (most : ℕ) (loads : List Loads) (i : ℕ) (d : Loads) → i < length loads → AllByRecursion (AreBelow most) loads → AreBelow most (get_or loads i d)
+AreBelow-at most [] i d inside below = absurd (omega (arith, inside))
+AreBelow-at most (l ∷ loads) zero d inside below = below.0
+AreBelow-at most (l ∷ loads) (suc i) d inside below = AreBelow-at most loads i d (omega (arith, inside)) below.1
+
+-- ---- a loop over the meters of a path
+room_left : (most : ℕ) (n : ℕ) (loads : List Loads) → n ≤ 16 → AllByRecursion (AreBelow (2 ^ 120 + 2 * 10 ^ 15 * (16 - n))) loads → AllByRecursion (AreBelow (2 ^ 121)) loads
+room_left most n loads short below = AreBelow-more (2 ^ 120 + 2 * 10 ^ 15 * (16 - n)) (2 ^ 121) loads (omega (arith, short)) below
+
+pub room_at : (n : ℕ) (loads first : List Loads) (i : ℕ) (l : Loads) → n ≤ 16 → i < length loads → l ≡ get_or loads i l → AllByRecursion (AreBelow (2 ^ 120)) first
+    → ((most : ℕ) → AllByRecursion (AreBelow most) first → AllByRecursion (AreBelow (most + 2 * 10 ^ 15 * (16 - n))) loads) → AreBelow (2 ^ 121) l
+room_at n loads first i l short inside is room range =
+    subst (AreBelow (2 ^ 121)) (sym is) (AreBelow-at (2 ^ 121) loads i l inside (room_left 0 n loads short (range (2 ^ 120) room)))
+
+pub range_hop : (xs path : List (List ℕ)) (to : List ℕ) (loads : List Loads) (i : ℕ) (l new : Loads) (most : ℕ) → xs ≡ to ∷ path → length xs ≤ 16 → i < length loads
+    → l ≡ get_or loads i l → ((most : ℕ) → AreBelow most l → AreBelow (most + 2 * 10 ^ 15) new) → AllByRecursion (AreBelow (most + 2 * 10 ^ 15 * (16 - length xs))) loads
+    → AllByRecursion (AreBelow (most + 2 * 10 ^ 15 * (16 - length path))) (set loads i new)
+range_hop xs path to loads i l new most next short inside is grows below =
+    let own = subst (AreBelow (most + 2 * 10 ^ 15 * (16 - length xs))) (sym is) (AreBelow-at (most + 2 * 10 ^ 15 * (16 - length xs)) loads i l inside below) in
+    AreBelow-more (most + 2 * 10 ^ 15 * (16 - length xs) + 2 * 10 ^ 15) (most + 2 * 10 ^ 15 * (16 - length path)) (set loads i new)
+    (omega (arith, ap length next, short)) (set-below (most + 2 * 10 ^ 15 * (16 - length xs)) loads i new inside below (grows (most + 2 * 10 ^ 15 * (16 - length xs)) own))
+
+pub range_past : (xs path : List (List ℕ)) (to : List ℕ) (loads : List Loads) (most : ℕ) → xs ≡ to ∷ path → length xs ≤ 16
+    → AllByRecursion (AreBelow (most + 2 * 10 ^ 15 * (16 - length xs))) loads → AllByRecursion (AreBelow (most + 2 * 10 ^ 15 * (16 - length path))) loads
+range_past xs path to loads most next short below =
+    AreBelow-more (most + 2 * 10 ^ 15 * (16 - length xs)) (most + 2 * 10 ^ 15 * (16 - length path)) loads (omega (arith, ap length next, short)) below
+
+pub hop_kept : (source : Source) (has_peak : Bool) (xs path : List (List ℕ)) (to : List ℕ) (ys bounds : List Bound) (b : Bound) (names : List (List ℕ))
+    (loads whole : List Loads) (i : ℕ) (l new : Loads)
+    → xs ≡ to ∷ path → ys ≡ b ∷ bounds → IsDistinct bytes_eq names → length loads ≡ length names → position (bytes_eq to) names ≡ Some i → repeats xs ≡ false
+    → l ≡ get_or loads i l → new ≡ with_share l (record { source = source; bound = b; has_peak = has_peak })
+    → with_brought (brought_along source has_peak xs ys) names loads ≡ whole → with_brought (brought_along source has_peak path bounds) names (set loads i new) ≡ whole
+hop_kept source has_peak xs path to ys bounds b names loads whole i l new is_path is_bounds distinct long at once is is_new kept =
+    let share : Share = record { source = source; bound = b; has_peak = has_peak } in
+    ap (λ own. with_brought (brought_along source has_peak path bounds) names (set loads i own)) (is_new ∙ ap (λ own. with_share own share) is)
+    ∙ with_brought-hop source has_peak to path b bounds names loads i l distinct long at (subst (λ p. repeats p ≡ false) is_path once)
+    ∙ sym (ap (λ p. with_brought (brought_along source has_peak p ys) names loads) is_path ∙ ap (λ p. with_brought (brought_along source has_peak (to ∷ path) p) names loads) is_bounds)
+    ∙ kept
+
+pub past_kept : (source : Source) (has_peak : Bool) (xs path : List (List ℕ)) (to : List ℕ) (ys bounds : List Bound) (b : Bound) (names : List (List ℕ)) (loads whole : List Loads)
+    → xs ≡ to ∷ path → ys ≡ b ∷ bounds → position (bytes_eq to) names ≡ None
+    → with_brought (brought_along source has_peak xs ys) names loads ≡ whole → with_brought (brought_along source has_peak path bounds) names loads ≡ whole
+past_kept source has_peak xs path to ys bounds b names loads whole is_path is_bounds nowhere kept =
+    with_brought-elsewhere source has_peak to path b bounds names loads nowhere
+    ∙ sym (ap (λ p. with_brought (brought_along source has_peak p ys) names loads) is_path ∙ ap (λ p. with_brought (brought_along source has_peak (to ∷ path) p) names loads) is_bounds)
+    ∙ kept
+
+pub path_ended : (source : Source) (has_peak : Bool) (xs : List (List ℕ)) (ys : List Bound) (names : List (List ℕ)) (loads whole : List Loads) → length loads ≡ length names
+    → (xs ≡ []) ⊎ (ys ≡ []) → with_brought (brought_along source has_peak xs ys) names loads ≡ whole → loads ≡ whole
+path_ended source has_peak xs ys names loads whole long ended kept =
+    sym (with_brought-nothing (brought_along source has_peak xs ys) names loads long (λ name. ap (share_by source has_peak) (bound_into-ended name xs ys ended))) ∙ kept
+
+pub once_behind : (xs path : List (List ℕ)) (to : List ℕ) → xs ≡ to ∷ path → repeats xs ≡ false → repeats path ≡ false
+once_behind xs path to is once = repeats-behind to path (subst (λ p. repeats p ≡ false) is once)
+
+pub position-inside : (to : List ℕ) (names : List (List ℕ)) (loads : List Loads) (i : ℕ) (at : Option ℕ) → at ≡ position (bytes_eq to) names → at ≡ Some i
+    → length loads ≡ length names → i < length loads
+position-inside to names loads i at is_at is long = omega (arith, (position-Some (bytes_eq to) names i to (sym is_at ∙ is)).0, long)
+
+-- ---- a loop over contracts
+by_test : (test : Bool) (number : ℕ) (rest : Option ℕ) → (if test then rest else Some number) ≡ None → (test ≡ true) × (rest ≡ None)
+by_test true number rest whole = (refl, whole)
+by_test false number rest whole = absurd cc
+
+same_long : (n m : ℕ) → nat_eq n m ≡ true → n ≡ m
+same_long n m same = grind (arith, same, nat_tests)
+
+-- where none is amiss, each contract and its bounds have the shape
+pub shaped : (number : ℕ) (d : Domain) (contracts : List Contract) (rows : List (List Bound)) → misfit number d contracts rows ≡ None → AllZip (HasShape d) contracts rows
+unfolding misfit
+shaped number d [] [] whole = tt
+shaped number d [] (bounds ∷ rows) whole = absurd cc
+shaped number d (c ∷ contracts) [] whole = absurd cc
+shaped number d (c ∷ contracts) (bounds ∷ rows) whole =
+    let tested = by_test (fits d c && nat_eq (length bounds) (suc (length c.path))) number (misfit (suc number) d contracts rows) whole in
+    let parts = and_parts (fits d c) (nat_eq (length bounds) (suc (length c.path))) tested.0 in
+    ((parts.0, same_long (length bounds) (suc (length c.path)) parts.1), shaped (suc number) d contracts rows tested.1)
+
+pub shaped_behind : (d : Domain) (xs contracts : List Contract) (c : Contract) (ys rows : List (List Bound)) (bounds : List Bound) → xs ≡ c ∷ contracts → ys ≡ bounds ∷ rows
+    → AllZip (HasShape d) xs ys → HasShape d c bounds × AllZip (HasShape d) contracts rows
+shaped_behind d xs contracts c ys rows bounds is_contracts is_rows all =
+    subst (λ list. AllZip (HasShape d) (c ∷ contracts) list) is_rows (subst (λ list. AllZip (HasShape d) list ys) is_contracts all)
+
+pub shares_at-ended : (d : Domain) (name : List ℕ) (xs : List Contract) (ys : List (List Bound)) → (xs ≡ []) ⊎ (ys ≡ []) → shares_at d name xs ys ≡ []
+unfolding shares_at
+shares_at-ended d name [] ys ended = refl
+shares_at-ended d name (c ∷ xs) [] ended = refl
+shares_at-ended d name (c ∷ xs) (bounds ∷ ys) (inl ended) = absurd cc
+shares_at-ended d name (c ∷ xs) (bounds ∷ ys) (inr ended) = absurd cc
+
+with_brought-contract : (d : Domain) (c : Contract) (contracts : List Contract) (bounds : List Bound) (rows : List (List Bound)) (names : List (List ℕ)) (loads : List Loads)
+    → with_brought (λ name. share_of d name c bounds ++ shares_at d name contracts rows) names loads ≡ with_brought (λ name. shares_at d name (c ∷ contracts) (bounds ∷ rows)) names loads
+unfolding shares_at
+with_brought-contract d c contracts bounds rows names loads = refl
+
+pub contract_kept : (d : Domain) (xs contracts : List Contract) (c : Contract) (ys rows : List (List Bound)) (bounds : List Bound) (names : List (List ℕ)) (loads new whole : List Loads)
+    → xs ≡ c ∷ contracts → ys ≡ bounds ∷ rows → new ≡ with_brought (λ name. share_of d name c bounds) names loads
+    → with_brought (λ name. shares_at d name xs ys) names loads ≡ whole → with_brought (λ name. shares_at d name contracts rows) names new ≡ whole
+contract_kept d xs contracts c ys rows bounds names loads new whole is_contracts is_rows is_new kept =
+    ap (with_brought (λ name. shares_at d name contracts rows) names) is_new
+    ∙ with_brought-twice (λ name. share_of d name c bounds) (λ name. shares_at d name contracts rows) names loads
+    ∙ with_brought-contract d c contracts bounds rows names loads
+    ∙ sym (ap (λ list. with_brought (λ name. shares_at d name list ys) names loads) is_contracts
+    ∙ ap (λ list. with_brought (λ name. shares_at d name (c ∷ contracts) list) names loads) is_rows)
+    ∙ kept
+
+pub contracts_ended : (d : Domain) (xs : List Contract) (ys : List (List Bound)) (names : List (List ℕ)) (loads whole : List Loads) → length loads ≡ length names
+    → (xs ≡ []) ⊎ (ys ≡ []) → with_brought (λ name. shares_at d name xs ys) names loads ≡ whole → loads ≡ whole
+contracts_ended d xs ys names loads whole long ended kept =
+    sym (with_brought-nothing (λ name. shares_at d name xs ys) names loads long (λ name. shares_at-ended d name xs ys ended)) ∙ kept
+
+pub places_kept : (brought : List ℕ → List Share) (meters : List (List ℕ × Meter)) (loads new : List Loads) → new ≡ with_brought brought (keys_of meters) loads
+    → length loads ≡ length meters → length new ≡ length meters
+places_kept brought meters loads new is_new long =
+    ap length is_new ∙ length-with_brought brought (keys_of meters) loads (long ∙ sym (length-keys_of meters)) ∙ length-keys_of meters
+
+pub contracts_room : (n : ℕ) (loads : List Loads) → AllByRecursion (AreBelow (32 * 10 ^ 15 * (2 ^ 64 - n))) loads → AllByRecursion (AreBelow (2 ^ 120)) loads
+contracts_room n loads below = AreBelow-more (32 * 10 ^ 15 * (2 ^ 64 - n)) (2 ^ 120) loads (omega arith) below
+
+pub contracts_range : (xs contracts : List Contract) (c : Contract) (loads new : List Loads) → xs ≡ c ∷ contracts → length xs ≤ 2 ^ 64
+    → ((most : ℕ) → AllByRecursion (AreBelow most) loads → AllByRecursion (AreBelow (most + 32 * 10 ^ 15)) new)
+    → AllByRecursion (AreBelow (32 * 10 ^ 15 * (2 ^ 64 - length xs))) loads → AllByRecursion (AreBelow (32 * 10 ^ 15 * (2 ^ 64 - length contracts))) new
+contracts_range xs contracts c loads new is few grows below =
+    AreBelow-more (32 * 10 ^ 15 * (2 ^ 64 - length xs) + 32 * 10 ^ 15) (32 * 10 ^ 15 * (2 ^ 64 - length contracts)) new (omega (arith, ap length is, few))
+    (grows (32 * 10 ^ 15 * (2 ^ 64 - length xs)) below)
+
+pub shaped_all : (d : Domain) (xs contracts : List Contract) (ys rows : List (List Bound)) → xs ≡ contracts → ys ≡ rows → misfit 0 d contracts rows ≡ None → AllZip (HasShape d) xs ys
+shaped_all d xs contracts ys rows is_contracts is_rows whole = shaped 0 d xs ys (ap (λ list. misfit 0 d list ys) is_contracts ∙ ap (misfit 0 d contracts) is_rows ∙ whole)
+
+-- a list that is written over another of the same length
+pub written : (len : ℕ) (new old given : List Loads) → given ≡ old → length given ≡ len → length new ≡ length given → take len (new ++ drop (length new) old) ≡ new
+written len new old given same is_len long =
+    let as_long : length new ≡ length old = long ∙ ap length same in
+    ap (λ rest. take len (new ++ rest)) (drop_all (length new) old (omega (arith, as_long))) ∙ ap (take len) (append-nil new) ∙ take_all len new (omega (arith, long, is_len))

@@ -1,16 +1,15 @@
 //! Sums of what contracts bring to a meter.
 
-ghost use Rattle.std.specs.Prelude.{◌≡◌, ◌≤◌, ◌*◌, ◌^◌};
+ghost use Rattle.std.specs.Prelude.{◌≡◌, ◌+◌, ◌≤◌, ◌*◌, ◌^◌, ℕ};
 ghost use Rattle.envelope_core.specs.Curve.{widened};
 ghost use Rattle.ds_certificate.specs.Ranges.{IsModerate};
 ghost use Rattle.ds_checker.specs.Loads.{all_limit, green_limit};
 ghost use Rattle.ds_checker.specs.Sums.{AreBelow, IsBelow, counted_load, no_loads, plus, with_share};
 
 use ds_certificate::{Bound, Source};
-use ds_domain_base::Delay;
 use envelope_core::Envelope;
 use meter_book::Parameters;
-use moment_core::bytes_over_ceil;
+use moment_core::{Gap, bytes_over_ceil};
 use std::marker::Model;
 
 /// A rate in bits per second, and a burst in bytes: of what is brought to a meter, or of what it has for it.
@@ -51,13 +50,13 @@ impl Load {
     /// With traffic whose rate is that of an envelope, and whose burst at most a bound, delayed by delays that differ by at
     /// most a skew.
     #[tactic(auto, using(ds_certificate::proofs::Volumes::bytes_over_most))]
-    fn with(self, envelope: Envelope, bound: u64, skew: Delay) -> Load
+    fn with(self, envelope: Envelope, bound: u64, skew: Gap) -> Load
         requires room { IsBelow (2 ^ 121) self }
         requires slow { envelope.rate ≤ 2 * 10 ^ 13 }
         requires short { skew ≤ 10 ^ 10 }
         ensures { result ≡ plus self (widened skew (record { rate = envelope.rate; burst = bound })) }
     {
-        let widening = bytes_over_ceil(envelope.rate(), skew.gap());
+        let widening = bytes_over_ceil(envelope.rate(), skew);
         Load {
             rate: self.rate + u128::from(envelope.rate()),
             burst: self.burst + (u128::from(bound) + widening),
@@ -90,7 +89,7 @@ impl Model for Share {
 #[derive(Clone, Copy, Debug)]
 pub(crate) struct Loads {
     /// The meter's skew.
-    skew: Delay,
+    skew: Gap,
     /// Of green packets.
     green: Load,
     /// Of green and yellow packets.
@@ -102,9 +101,11 @@ pub(crate) struct Loads {
 }
 
 impl Loads {
-    /// What is brought to a meter with a skew before the first contract is counted.
-    pub(crate) fn new(skew: Delay) -> Self
-        ensures { result ≡ no_loads skew }
+    /// What is brought to a meter with a skew of at most 10^10 nanoseconds before the first contract is counted.
+    pub(crate) fn new(skew: Gap) -> Self
+        requires { skew ≤ 10 ^ 10 }
+        ensures value { result ≡ no_loads skew }
+        ensures range { AreBelow 0 result }
     {
         Loads {
             skew,
@@ -119,13 +120,16 @@ impl Loads {
     pub(crate) fn with(self, share: &Share) -> Self
         requires room { AreBelow (2 ^ 121) self }
         requires moderate { IsModerate share.now.source }
-        ensures { result ≡ with_share self share.now }
+        ensures value { result ≡ with_share self share.now }
+        ensures range { (most : ℕ) → AreBelow most self → AreBelow (most + 2 * 10 ^ 15) result }
     {
         let Share {
             source,
             bound,
             has_peak,
         } = *share;
+        let green = self.green.with(source.green, bound.green(), self.skew);
+        let all = self.all.with(source.all, bound.all(), self.skew);
         let peaked = if has_peak {
             self.peaked.with(source.all, bound.all(), self.skew)
         } else {
@@ -133,8 +137,8 @@ impl Loads {
         };
         Loads {
             skew: self.skew,
-            green: self.green.with(source.green, bound.green(), self.skew),
-            all: self.all.with(source.all, bound.all(), self.skew),
+            green,
+            all,
             peaked,
             has_peak: self.has_peak || has_peak,
         }

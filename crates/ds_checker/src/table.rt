@@ -1,6 +1,7 @@
 ghost use Rattle.std.specs.Prelude.{◌≡◌, ◌+◌, ◌*◌, ◌^◌, ◌≤◌, ℕ, false, List, None, IfOk, drop, length, map};
-ghost use Rattle.std.specs.List.{AllByRecursion};
+ghost use Rattle.std.specs.List.{AllByRecursion, IsDistinct};
 ghost use Rattle.std.specs.Map.{keys_of};
+ghost use Rattle.std.specs.Str.{bytes_eq};
 ghost use Rattle.ds_certificate.specs.Ranges.{IsModerate};
 ghost use Rattle.ds_domain_base.specs.Fitting.{repeats};
 ghost use Rattle.ds_certificate.specs.Bounds.{HasShape};
@@ -56,12 +57,14 @@ fn gathered(
 
 /// For each meter, in their order, that nothing is brought there.
 fn unloaded(alloc: Global, domain: &Domain) -> Result<Vec<Loads>, AllocError>
-    ensures { IfOk result (λ sums. sums.items ≡ map (λ entry. no_loads entry.1.skew) domain.now.meters) }
+    ensures value { IfOk result (λ sums. sums.items ≡ map (λ entry. no_loads entry.1.skew) domain.now.meters) }
+    ensures range { IfOk result (λ sums. AllByRecursion (AreBelow 0) sums.items) }
+    ensures apart { IsDistinct bytes_eq (keys_of domain.now.meters) }
 {
     let meters = domain.meters();
     let mut sums = Vec::with_capacity(alloc, meters.len())?;
     for (_, meter) in meters.iter() {
-        sums.push(Loads::new(meter.skew))?;
+        sums.push(Loads::new(meter.skew.gap()))?;
     }
     Ok(sums)
 }
@@ -69,6 +72,7 @@ fn unloaded(alloc: Global, domain: &Domain) -> Result<Vec<Loads>, AllocError>
 /// Adds what a contract brings to each meter, by its bounds from its port on.
 fn add_contract(sums: &mut [Loads], domain: &Domain, contract: &Contract, bounds: &[Bound])
     requires shape { HasShape domain.now contract.now bounds.now }
+    requires apart { IsDistinct bytes_eq (keys_of domain.now.meters) }
     requires places { length sums.old ≡ length domain.now.meters }
     requires room { AllByRecursion (AreBelow (2 ^ 120)) sums.old }
     ensures value { sums.new ≡ with_brought (λ name. share_of domain.now name contract.now bounds.now) (keys_of domain.now.meters) sums.old }
@@ -92,6 +96,7 @@ fn add_path(
     requires once { repeats path.now ≡ false }
     requires short { length path.now ≤ 16 }
     requires moderate { IsModerate source.now }
+    requires apart { IsDistinct bytes_eq (keys_of domain.now.meters) }
     requires places { length sums.old ≡ length domain.now.meters }
     requires room { AllByRecursion (AreBelow (2 ^ 120)) sums.old }
     ensures value { sums.new ≡ with_brought (λ name. share_by source.now has_peak (bound_into name path.now bounds.now)) (keys_of domain.now.meters) sums.old }
