@@ -1,11 +1,11 @@
 -- What is added up for each meter, contract by contract and hop by hop.
-use Rattle.std.proofs.Common.{rules, arith, ◌≡◌, ℕ, zero, suc, ◌+◌, ◌-◌, ◌*◌, ◌^◌, ◌≤◌, ◌<◌, Bool, true, false, cond, nat_lt, nat_eq, ◌||◌, ◌&&◌, ◌⊎◌, inl, inr, List, [], ◌∷◌, ◌++◌, length, map, filter, take, drop, append-nil, set, get_or, if◌then◌else◌, Option, None, Some, refl, sym, ap, subst, ◌∙◌}
+use Rattle.std.proofs.Common.{rules, arith, ◌≡◌, ℕ, zero, suc, ◌+◌, ◌-◌, ◌*◌, ◌^◌, ◌≤◌, ◌<◌, Bool, true, false, cond, nat_lt, nat_le, nat_eq, ◌||◌, ◌&&◌, ◌⊎◌, inl, inr, List, [], ◌∷◌, ◌++◌, length, map, filter, take, drop, append-nil, set, get_or, if◌then◌else◌, Option, None, Some, refl, sym, ap, subst, ◌∙◌}
 use Rattle.std.specs.List.{AllByRecursion, AllZip, IsDistinct, fold, list_any, position, position_or_len}
 use Rattle.std.specs.Str.{bytes_eq}
 use Rattle.std.proofs.lemmas.Slice.Eq.{bytes_eq-Decides}
 use Rattle.std.proofs.lemmas.Bool.Decides.{nat_tests, same_from_decides}
 use Rattle.std.proofs.lemmas.List.{drop_all, take_all}
-use Rattle.std.proofs.lemmas.List.Sums.{fold-append}
+use Rattle.std.proofs.lemmas.List.Sums.{fold-append, sum_by-cons}
 use Rattle.std.proofs.lemmas.List.Quantifiers.{position-Some}
 use Rattle.std.proofs.lemmas.Bool.{and_parts}
 use Rattle.std.proofs.lemmas.Map.Entries.{length-keys_of}
@@ -16,15 +16,20 @@ use Rattle.ds_domain_base.specs.declared.contract.Contract.{Contract}
 use Rattle.ds_domain_base.specs.declared.parts.Meter.{Meter}
 use Rattle.ds_certificate.specs.Bounds.{HasShape, fits}
 use Rattle.ds_checker.specs.BoundTests.{misfit}
-use Rattle.envelope_core.specs.Curve.{Curve, widened}
-use Rattle.ds_certificate.specs.Columns.{Bound, IsInRange, all_column}
+use Rattle.envelope_core.specs.Curve.{Curve, total, widened}
+use Rattle.meter_book.specs.declared.any_meter.Parameters.{Parameters}
+use Rattle.meter_book.specs.declared.any_meter.Parameters.TheVariants.{SrTcm, TrTcm, Rfc4115}
+use Rattle.ds_certificate.specs.Columns.{Bound, Column, IsInRange, all_column, green_column}
 use Rattle.ds_certificate.specs.Ranges.{IsModerate}
 use Rattle.ds_certificate.proofs.Volumes.{bytes_over_most}
 use Rattle.ds_certificate.specs.Sources.{source_of}
 use Rattle.ds_certificate.specs.declared.source.Source.{Source}
-use Rattle.ds_checker.specs.Loads.{Share, bound_into, kept, share_of, shares_at}
-use Rattle.ds_checker.specs.Sums.{AreBelow, IsBelow, plus, share_by, with_brought, with_share}
+use Rattle.ds_checker.specs.Loads.{Share, bound_into, counted, kept, load, share_of, shares_at}
+use Rattle.ds_checker.specs.Sums.{AreBelow, IsBelow, counted_load, no_loads, nothing, plus, share_by, with_brought, with_share}
+use Rattle.ds_checker.specs.TableTests.{load_tests, meter_tests, table_tests}
+use Rattle.ds_checker.specs.Tests.{Test, first_failed}
 use Rattle.ds_checker.specs.declared.load.Loads.{Loads}
+use Rattle.ds_checker.specs.declared.refusal.Refusal.{Refusal}
 
 pub bytes_eq-flip : (a b : List ℕ) → bytes_eq a b ≡ bytes_eq b a
 bytes_eq-flip a b = same_from_decides (bytes_eq a b) (bytes_eq b a) (bytes_eq-Decides a b) ((λ p. sym ((bytes_eq-Decides b a).0 p)), (λ p. (bytes_eq-Decides b a).1 (sym p)))
@@ -335,3 +340,166 @@ pub written : (len : ℕ) (new old given : List Loads) → given ≡ old → len
 written len new old given same is_len long =
     let as_long : length new ≡ length old = long ∙ ap length same in
     ap (λ rest. take len (new ++ rest)) (drop_all (length new) old (omega (arith, as_long))) ∙ ap (take len) (append-nil new) ∙ take_all len new (omega (arith, long, is_len))
+
+-- ---- the sums are those of all shares
+abbrev curve : ℕ → ℕ → Curve
+curve rate burst = record { rate = rate; burst = burst }
+
+same_curve : (rate other burst more : ℕ) → rate ≡ other → burst ≡ more → curve rate burst ≡ curve other more
+same_curve rate other burst more rates bursts = ap (λ r. curve r burst) rates ∙ ap (curve other) bursts
+
+plus-nothing : (c : Curve) → plus nothing c ≡ c
+plus-nothing c = same_curve (0 + c.rate) c.rate (0 + c.burst) c.burst (omega arith) (omega arith)
+
+nothing-plus : (c : Curve) → plus c nothing ≡ c
+nothing-plus c = same_curve (c.rate + 0) c.rate (c.burst + 0) c.burst (omega arith) (omega arith)
+
+plus-assoc : (a b c : Curve) → plus (plus a b) c ≡ plus a (plus b c)
+plus-assoc a b c = same_curve (a.rate + b.rate + c.rate) (a.rate + (b.rate + c.rate)) (a.burst + b.burst + c.burst) (a.burst + (b.burst + c.burst)) (omega arith) (omega arith)
+
+total-cons : (c : Curve) (curves : List Curve) → total (c ∷ curves) ≡ plus c (total curves)
+total-cons c curves = same_curve _ _ _ _ (sum_by-cons (λ (x : Curve). x.rate) c curves) (sum_by-cons (λ (x : Curve). x.burst) c curves)
+
+-- a part of the sums that each share adds to
+part_is : (part : Loads → Curve) (column : Column) → ((l : Loads) (share : Share) → part (with_share l share) ≡ plus (part l) (widened l.skew (kept column share)))
+    → (l : Loads) (shares : List Share) → part (fold with_share l shares) ≡ plus (part l) (load column l.skew shares)
+part_is part column adds l [] = sym (nothing-plus (part l))
+part_is part column adds l (share ∷ shares) =
+    part_is part column adds (with_share l share) shares
+    ∙ ap (λ c. plus c (load column l.skew shares)) (adds l share)
+    ∙ plus-assoc (part l) (widened l.skew (kept column share)) (load column l.skew shares)
+    ∙ ap (plus (part l)) (sym (total-cons (widened l.skew (kept column share)) (map (λ other. widened l.skew (kept column other)) shares)))
+
+peaked_by : (b : Bool) (l : Loads) (share : Share) (shares : List Share) → share.has_peak ≡ b
+    → plus (with_share l share).peaked (load all_column l.skew (filter (λ other. other.has_peak) shares))
+    ≡ plus l.peaked (load all_column l.skew (filter (λ other. other.has_peak) (share ∷ shares)))
+peaked_by true l share shares is =
+    rw is (plus-assoc l.peaked (widened l.skew (kept all_column share)) (load all_column l.skew (filter (λ other. other.has_peak) shares))
+    ∙ ap (plus l.peaked) (sym (total-cons (widened l.skew (kept all_column share)) (map (λ other. widened l.skew (kept all_column other)) (filter (λ other. other.has_peak) shares)))))
+peaked_by false l share shares is = rw is refl
+
+peaked_is : (l : Loads) (shares : List Share) → (fold with_share l shares).peaked ≡ plus l.peaked (load all_column l.skew (filter (λ share. share.has_peak) shares))
+peaked_is l [] = sym (nothing-plus l.peaked)
+peaked_is l (share ∷ shares) = peaked_is (with_share l share) shares ∙ peaked_by share.has_peak l share shares refl
+
+or-false : (b : Bool) → (b || false) ≡ b
+or-false true = refl
+or-false false = refl
+
+or-assoc : (a b c : Bool) → ((a || b) || c) ≡ (a || (b || c))
+or-assoc true b c = refl
+or-assoc false b c = refl
+
+any_is : (l : Loads) (shares : List Share) → (fold with_share l shares).has_peak ≡ (l.has_peak || list_any (λ share. share.has_peak) shares)
+any_is l [] = sym (or-false l.has_peak)
+any_is l (share ∷ shares) = any_is (with_share l share) shares ∙ or-assoc l.has_peak share.has_peak (list_any (λ other. other.has_peak) shares)
+
+-- what contracts bring to a meter in all
+abbrev pub sums_of : ℕ → List Share → Loads
+sums_of skew shares = fold with_share (no_loads skew) shares
+
+green_is : (skew : ℕ) (shares : List Share) → (sums_of skew shares).green ≡ load green_column skew shares
+green_is skew shares = part_is (λ l. l.green) green_column (λ l share. refl) (no_loads skew) shares ∙ plus-nothing (load green_column skew shares)
+
+all_is : (skew : ℕ) (shares : List Share) → (sums_of skew shares).all ≡ load all_column skew shares
+all_is skew shares = part_is (λ l. l.all) all_column (λ l share. refl) (no_loads skew) shares ∙ plus-nothing (load all_column skew shares)
+
+single_by : (b : Bool) (skew : ℕ) (shares : List Share) → (if b then load all_column skew shares else nothing) ≡ load all_column skew (if b then shares else [])
+single_by true skew shares = refl
+single_by false skew shares = refl
+
+counted_is : (p : Parameters) (skew : ℕ) (shares : List Share) → counted_load p (sums_of skew shares) ≡ load all_column skew (counted p shares)
+counted_is (SrTcm p) skew shares =
+    ap (λ b. if b then (sums_of skew shares).all else nothing) (any_is (no_loads skew) shares)
+    ∙ ap (λ c. if list_any (λ share. share.has_peak) shares then c else nothing) (all_is skew shares)
+    ∙ single_by (list_any (λ share. share.has_peak) shares) skew shares
+counted_is (TrTcm p) skew shares = all_is skew shares
+counted_is (Rfc4115 p) skew shares =
+    peaked_is (no_loads skew) shares ∙ plus-nothing (load all_column skew (filter (λ share. share.has_peak) shares))
+
+pub tests_are : (name : List ℕ) (m : Meter) (shares : List Share) (l : Loads) → l ≡ sums_of m.skew shares
+    → load_tests name m l.green (counted_load m.parameters l) ≡ meter_tests name m shares
+tests_are name m shares l is =
+    ap (λ own. load_tests name m own.green (counted_load m.parameters own)) is
+    ∙ ap (λ green. load_tests name m green (counted_load m.parameters (sums_of m.skew shares))) (green_is m.skew shares)
+    ∙ ap (load_tests name m (load green_column m.skew shares)) (counted_is m.parameters m.skew shares)
+
+-- ---- a loop over meters
+passed_by : (b : Bool) (t : Test) (tests more : List Test) → nat_le t.needed t.given ≡ b → (first_failed tests ≡ None → first_failed (tests ++ more) ≡ first_failed more)
+    → first_failed (t ∷ tests) ≡ None → first_failed ((t ∷ tests) ++ more) ≡ first_failed more
+unfolding first_failed
+passed_by true t tests more is behind passed = rw is (behind (rw is at passed))
+passed_by false t tests more is behind passed = absurd cc
+
+first_failed-passed : (tests more : List Test) → first_failed tests ≡ None → first_failed (tests ++ more) ≡ first_failed more
+unfolding first_failed
+first_failed-passed [] more passed = refl
+first_failed-passed (t ∷ tests) more passed = passed_by (nat_le t.needed t.given) t tests more refl (first_failed-passed tests more) passed
+
+failed_by : (b : Bool) (t : Test) (tests more : List Test) (refusal : Refusal) → nat_le t.needed t.given ≡ b
+    → (first_failed tests ≡ Some refusal → first_failed (tests ++ more) ≡ Some refusal)
+    → first_failed (t ∷ tests) ≡ Some refusal → first_failed ((t ∷ tests) ++ more) ≡ Some refusal
+unfolding first_failed
+failed_by true t tests more refusal is behind failed = search (rules, is, behind, failed)
+failed_by false t tests more refusal is behind failed = search (rules, is, failed)
+
+first_failed-failed : (tests more : List Test) (refusal : Refusal) → first_failed tests ≡ Some refusal → first_failed (tests ++ more) ≡ Some refusal
+unfolding first_failed
+first_failed-failed [] more refusal failed = absurd cc
+first_failed-failed (t ∷ tests) more refusal failed = failed_by (nat_le t.needed t.given) t tests more refusal refl (first_failed-failed tests more refusal) failed
+
+heads_same : {X : Type 0} (x y : X) (xs ys : List X) → x ∷ xs ≡ y ∷ ys → (x ≡ y) × (xs ≡ ys)
+heads_same x y xs ys same = (ap (λ list. get_or list 0 x) same, ap (drop 1) same)
+
+-- the sums of the meters that are left
+pub left_sums : Domain → List Contract → List (List Bound) → List (List ℕ × Meter) → List Loads
+left_sums d contracts rows [] = []
+left_sums d contracts rows (entry ∷ meters) = sums_of entry.1.skew (shares_at d entry.0 contracts rows) ∷ left_sums d contracts rows meters
+
+pub sums_are : (d : Domain) (contracts : List Contract) (rows : List (List Bound)) (meters : List (List ℕ × Meter))
+    → with_brought (λ name. shares_at d name contracts rows) (keys_of meters) (map (λ entry. no_loads entry.1.skew) meters) ≡ left_sums d contracts rows meters
+unfolding with_brought left_sums
+sums_are d contracts rows [] = refl
+sums_are d contracts rows (entry ∷ meters) = ap (λ rest. sums_of entry.1.skew (shares_at d entry.0 contracts rows) ∷ rest) (sums_are d contracts rows meters)
+
+-- the sums of the first meter
+pub first_sums : (d : Domain) (contracts : List Contract) (rows : List (List Bound)) (left meters : List (List ℕ × Meter)) (name : List ℕ) (m : Meter) (sums rest : List Loads) (l : Loads)
+    → left ≡ (name, m) ∷ meters → sums ≡ l ∷ rest → sums ≡ left_sums d contracts rows left
+    → (l ≡ sums_of m.skew (shares_at d name contracts rows)) × (rest ≡ left_sums d contracts rows meters)
+unfolding left_sums
+first_sums d contracts rows left meters name m sums rest l is_meters is_sums are =
+    heads_same l (sums_of m.skew (shares_at d name contracts rows)) rest (left_sums d contracts rows meters)
+    (sym is_sums ∙ are ∙ ap (left_sums d contracts rows) is_meters)
+
+table_tests-first : (d : Domain) (contracts : List Contract) (rows : List (List Bound)) (name : List ℕ) (m : Meter) (meters : List (List ℕ × Meter))
+    → table_tests d contracts rows ((name, m) ∷ meters) ≡ meter_tests name m (shares_at d name contracts rows) ++ table_tests d contracts rows meters
+unfolding table_tests
+table_tests-first d contracts rows name m meters = refl
+
+pub meter_passed : (d : Domain) (contracts : List Contract) (rows : List (List Bound)) (left meters : List (List ℕ × Meter)) (name : List ℕ) (m : Meter) (l : Loads) (whole : Option Refusal)
+    → left ≡ (name, m) ∷ meters → l ≡ sums_of m.skew (shares_at d name contracts rows) → first_failed (load_tests name m l.green (counted_load m.parameters l)) ≡ None
+    → first_failed (table_tests d contracts rows left) ≡ whole → first_failed (table_tests d contracts rows meters) ≡ whole
+meter_passed d contracts rows left meters name m l whole is_meters is passed kept =
+    sym (first_failed-passed (meter_tests name m (shares_at d name contracts rows)) (table_tests d contracts rows meters)
+    (ap first_failed (sym (tests_are name m (shares_at d name contracts rows) l is)) ∙ passed))
+    ∙ ap first_failed (sym (table_tests-first d contracts rows name m meters))
+    ∙ sym (ap (λ list. first_failed (table_tests d contracts rows list)) is_meters) ∙ kept
+
+pub meter_failed : (d : Domain) (contracts : List Contract) (rows : List (List Bound)) (left meters : List (List ℕ × Meter)) (name : List ℕ) (m : Meter) (l : Loads) (whole : Option Refusal)
+    (refusal : Refusal) → left ≡ (name, m) ∷ meters → l ≡ sums_of m.skew (shares_at d name contracts rows)
+    → first_failed (load_tests name m l.green (counted_load m.parameters l)) ≡ Some refusal → first_failed (table_tests d contracts rows left) ≡ whole → Some refusal ≡ whole
+meter_failed d contracts rows left meters name m l whole refusal is_meters is failed kept =
+    sym (first_failed-failed (meter_tests name m (shares_at d name contracts rows)) (table_tests d contracts rows meters) refusal
+    (ap first_failed (sym (tests_are name m (shares_at d name contracts rows) l is)) ∙ failed))
+    ∙ ap first_failed (sym (table_tests-first d contracts rows name m meters))
+    ∙ sym (ap (λ list. first_failed (table_tests d contracts rows list)) is_meters) ∙ kept
+
+pub meters_ended : (d : Domain) (contracts : List Contract) (rows : List (List Bound)) (left : List (List ℕ × Meter)) (sums : List Loads) (whole : Option Refusal)
+    → (left ≡ []) ⊎ (sums ≡ []) → sums ≡ left_sums d contracts rows left → first_failed (table_tests d contracts rows left) ≡ whole → None ≡ whole
+unfolding table_tests first_failed left_sums
+meters_ended d contracts rows [] sums whole ended are kept = kept
+meters_ended d contracts rows (entry ∷ meters) sums whole (inl ended) are kept = absurd cc
+meters_ended d contracts rows (entry ∷ meters) sums whole (inr ended) are kept = absurd (none_left (sym ended ∙ are))
+  where
+    none_left : {X : Type 0} {x : X} {xs : List X} → [] ≡ x ∷ xs → ⊥
+    none_left same = absurd cc
