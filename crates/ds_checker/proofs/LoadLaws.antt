@@ -22,7 +22,6 @@ use Rattle.meter_book.specs.declared.any_meter.Parameters.TheVariants.{SrTcm, Tr
 use Rattle.ds_certificate.specs.Columns.{Bound, Column, IsInRange, all_column, green_column}
 use Rattle.ds_certificate.specs.Ranges.{IsModerate}
 use Rattle.ds_certificate.proofs.Volumes.{bytes_over_most}
-use Rattle.ds_certificate.specs.Sources.{source_of}
 use Rattle.ds_certificate.specs.declared.source.Source.{Source}
 use Rattle.ds_checker.specs.Loads.{Share, bound_into, counted, kept, load, share_of, shares_at}
 use Rattle.ds_checker.specs.Sums.{AreBelow, IsBelow, counted_load, no_loads, nothing, plus, share_by, with_brought, with_share}
@@ -176,9 +175,10 @@ IsBelow-more most more curve larger below = (omega (arith, larger, below.0), ome
 
 pub AreBelow-more : (most more : ℕ) (loads : List Loads) → most ≤ more → AllByRecursion (AreBelow most) loads → AllByRecursion (AreBelow more) loads
 AreBelow-more most more [] larger below = tt
-AreBelow-more most more (l ∷ loads) larger below =
-    ((below.0.0, IsBelow-more most more l.green larger below.0.1, IsBelow-more most more l.all larger below.0.2, IsBelow-more most more l.peaked larger below.0.3),
-      AreBelow-more most more loads larger below.1)
+AreBelow-more most more (l ∷ loads) larger below = (
+  (below.0.0, IsBelow-more most more l.green larger below.0.1, IsBelow-more most more l.all larger below.0.2, IsBelow-more most more l.peaked larger below.0.3),
+  AreBelow-more most more loads larger below.1,
+)
 
 pub plus-below : (most skew rate bound : ℕ) (curve : Curve) → IsBelow most curve → skew ≤ 10 ^ 10 → rate ≤ 2 * 10 ^ 13 → bound ≤ 10 ^ 15
     → IsBelow (most + 2 * 10 ^ 15) (plus curve (widened skew (record { rate = rate; burst = bound })))
@@ -192,12 +192,14 @@ peaked-below most true curve more with without = with
 peaked-below most false curve more with without = without
 
 pub with_share-below : (most : ℕ) (l : Loads) (share : Share) → AreBelow most l → IsModerate share.source → IsInRange share.bound → AreBelow (most + 2 * 10 ^ 15) (with_share l share)
-with_share-below most l share below moderate small =
-    (below.0, plus-below most l.skew share.source.green.rate share.bound.green l.green below.1 below.0 moderate.0.0 small.0,
-      plus-below most l.skew share.source.all.rate share.bound.all l.all below.2 below.0 moderate.1.0 small.1,
-      peaked-below most share.has_peak l.peaked (plus l.peaked (widened l.skew (kept all_column share)))
+with_share-below most l share below moderate small = (
+  below.0,
+  plus-below most l.skew share.source.green.rate share.bound.green l.green below.1 below.0 moderate.0.0 small.0,
+  plus-below most l.skew share.source.all.rate share.bound.all l.all below.2 below.0 moderate.1.0 small.1,
+  peaked-below most share.has_peak l.peaked (plus l.peaked (widened l.skew (kept all_column share)))
       (plus-below most l.skew share.source.all.rate share.bound.all l.peaked below.3 below.0 moderate.1.0 small.1)
-      (IsBelow-more most (most + 2 * 10 ^ 15) l.peaked (omega arith) below.3))
+      (IsBelow-more most (most + 2 * 10 ^ 15) l.peaked (omega arith) below.3),
+)
 
 pub set-below : (most : ℕ) (loads : List Loads) (i : ℕ) (new : Loads) → i < length loads → AllByRecursion (AreBelow most) loads → AreBelow (most + 2 * 10 ^ 15) new
     → AllByRecursion (AreBelow (most + 2 * 10 ^ 15)) (set loads i new)
@@ -503,3 +505,7 @@ meters_ended d contracts rows (entry ∷ meters) sums whole (inr ended) are kept
   where
     none_left : {X : Type 0} {x : X} {xs : List X} → [] ≡ x ∷ xs → ⊥
     none_left same = absurd cc
+
+pub none_long : {X : Type 0} (xs : List X) → length xs ≡ 0 → xs ≡ []
+none_long [] short = refl
+none_long (x ∷ xs) short = absurd (omega (arith, short))

@@ -1,9 +1,9 @@
 -- What is added up for each meter, share by share.
-use Rattle.std.specs.Prelude.{ℕ, Bool, false, ◌+◌, ◌*◌, ◌^◌, ◌≤◌, ◌||◌, List, [], ◌∷◌, fold, option_map, option_to_list, Option, if◌then◌else◌}
+use Rattle.std.specs.Prelude.{ℕ, Bool, false, ◌+◌, ◌^◌, ◌≤◌, ◌||◌, List, [], ◌∷◌, fold, option_map, option_to_list, Option, if◌then◌else◌}
 use Rattle.envelope_core.specs.Curve.{Curve, widened}
 use Rattle.meter_book.specs.declared.any_meter.Parameters.{Parameters}
 use Rattle.meter_book.specs.declared.any_meter.Parameters.TheVariants.{SrTcm, TrTcm, Rfc4115}
-use Rattle.ds_certificate.specs.Columns.{Bound, Column, green_column, all_column}
+use Rattle.ds_certificate.specs.Columns.{Bound, green_column, all_column}
 use Rattle.ds_certificate.specs.declared.source.Source.{Source}
 use Rattle.ds_checker.specs.Loads.{Share, kept}
 use Rattle.ds_checker.specs.declared.load.Loads.{Loads}

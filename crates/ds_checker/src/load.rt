@@ -1,5 +1,3 @@
-//! Sums of what contracts bring to a meter.
-
 ghost use Rattle.std.specs.Prelude.{◌≡◌, ◌+◌, ◌≤◌, ◌*◌, ◌^◌, ℕ};
 ghost use Rattle.envelope_core.specs.Curve.{widened};
 ghost use Rattle.ds_certificate.specs.Ranges.{IsModerate};
@@ -30,7 +28,7 @@ impl Model for Load {
 }
 
 impl Load {
-    /// What nobody brings.
+    /// Neither rate nor burst.
     const NONE: Load = Load { rate: 0, burst: 0 };
 
     /// The rate, in bits per second.
@@ -151,7 +149,9 @@ impl Loads {
         self.green
     }
 
-    /// What is held against a meter's rate and bucket of green and yellow packets.
+    /// What is held against a meter's rate and bucket of green and yellow packets. With a single rate it is what all
+    /// contracts bring, if one may send yellow packets, else nothing; with a committed and a peak rate what all bring; with a
+    /// committed and an excess rate what those bring that may send yellow packets.
     pub(crate) fn counted(&self, parameters: &Parameters) -> Load
         ensures { result ≡ counted_load parameters.now self.now }
     {
@@ -163,7 +163,7 @@ impl Loads {
     }
 }
 
-/// What a meter has for green packets: its committed rate and bucket.
+/// What a meter has for green packets: its committed rate and bucket (RFC 2697, RFC 2698, RFC 4115).
 pub(crate) fn green_limit(parameters: &Parameters) -> Load
     ensures { result ≡ green_limit parameters.now }
 {
@@ -178,8 +178,8 @@ pub(crate) fn green_limit(parameters: &Parameters) -> Load
     }
 }
 
-/// What a meter has for green and yellow packets, or, where it has a committed and an excess rate, for those of contracts
-/// that may send yellow ones: its second rate, or the only one, and its second bucket.
+/// What a meter has for green and yellow packets: the excess bucket and the rate that fills it (RFC 2697, RFC 4115), or the
+/// peak rate and bucket (RFC 2698).
 pub(crate) fn all_limit(parameters: &Parameters) -> Load
     ensures { result ≡ all_limit parameters.now }
 {

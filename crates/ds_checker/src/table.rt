@@ -55,7 +55,7 @@ fn gathered(
     Ok(sums)
 }
 
-/// For each meter, in their order, that nothing is brought there.
+/// Sums for each meter, in their order, to which nothing is added yet.
 fn unloaded(alloc: Global, domain: &Domain) -> Result<Vec<Loads>, AllocError>
     ensures value { IfOk result (λ sums. sums.items ≡ map (λ entry. no_loads entry.1.skew) domain.now.meters) }
     ensures range { IfOk result (λ sums. AllByRecursion (AreBelow 0) sums.items) }
@@ -81,10 +81,17 @@ fn add_contract(sums: &mut [Loads], domain: &Domain, contract: &Contract, bounds
     let source = Source::of(domain, contract);
     let has_peak = contract.terms.has_peak();
     let (_, behind) = bounds.split_at(1);
-    add_path(sums, domain, contract.path.meters(), behind, &source, has_peak);
+    add_path(
+        sums,
+        domain,
+        contract.path.meters(),
+        behind,
+        &source,
+        has_peak,
+    );
 }
 
-/// Adds what is brought to each meter of a path, by the bounds of the hops into them.
+/// Adds what is brought to each meter of a path, by the bounds of the hops into them. Names that are no meter's are passed.
 fn add_path(
     sums: &mut [Loads],
     domain: &Domain,

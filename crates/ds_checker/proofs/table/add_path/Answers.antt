@@ -1,6 +1,5 @@
-use Rattle.std.proofs.Common.{◌≡◌, ◌+◌, ◌-◌, ◌*◌, ◌^◌, ◌≤◌, ◌<◌, ◌∷◌, ℕ, false, length, arith, sym, ap, subst, ◌∙◌}
-use Rattle.std.specs.Iterator.Adapters.{zip_first, zip_second}
-use Rattle.std.specs.List.{AllByRecursion}
+use Rattle.std.proofs.Common.{◌+◌, ◌*◌, ◌^◌, length, arith, sym, ap, ◌∙◌}
+use Rattle.std.specs.Iterator.Adapters.{zip_first}
 use Rattle.std.specs.Map.{keys_of}
 use Rattle.std.specs.Slice.Iter.{iter_rest}
 use Rattle.std.proofs.lemmas.List.{length-set}
@@ -13,7 +12,7 @@ pub with-requires-clause-room : goal.with-requires-clause-room
 with-requires-clause-room c =
     room_at (length (iter_rest (zip_first c.loop-name.name-iterator))) c.loop-name.sums c.args.sums.now c.in-Some-meter_index.place c.index-sums-place.result
     c.loop-name.invariant.short (position-inside c.in-Some.name.now (keys_of c.args.domain.now.meters) c.loop-name.sums c.in-Some-meter_index.place c.meter_index.result c.meter_index.ensures
-      c.in-Some-meter_index.is (c.loop-name.invariant.places ∙ sym (length-keys_of c.args.domain.now.meters)))
+    c.in-Some-meter_index.is (c.loop-name.invariant.places ∙ sym (length-keys_of c.args.domain.now.meters)))
     c.index-sums-place.is c.requires.room c.loop-name.invariant.range
 
 pub loop-name-preserved-in-Some-meter_index : goal.loop-name-preserved-in-Some-meter_index
@@ -29,7 +28,7 @@ loop-name-preserved-in-Some-meter_index c =
       short = omega (arith, ap length more.0, c.loop-name.invariant.short);
       range = λ most below. range_hop _ _ _ c.loop-name.sums c.in-Some-meter_index.place c.index-sums-place.result c.with.result most more.0 c.loop-name.invariant.short
           (position-inside c.in-Some.name.now (keys_of c.args.domain.now.meters) c.loop-name.sums c.in-Some-meter_index.place c.meter_index.result c.meter_index.ensures
-              c.in-Some-meter_index.is long) c.index-sums-place.is c.with.ensures.range (c.loop-name.invariant.range most below);
+          c.in-Some-meter_index.is long) c.index-sums-place.is c.with.ensures.range (c.loop-name.invariant.range most below);
     }
 
 pub loop-name-preserved : goal.loop-name-preserved

@@ -1,12 +1,11 @@
-use Rattle.std.proofs.Common.{rules, ◌≡◌, ◌+◌, ◌-◌, ◌*◌, ◌^◌, ◌≤◌, length, map, sym, ap, subst, ◌∙◌, arith}
-use Rattle.std.specs.Iterator.Adapters.{zip_first, zip_second}
-use Rattle.std.specs.List.{AllByRecursion, AllZip}
+use Rattle.std.proofs.Common.{rules, ◌^◌, length, sym, ap, subst, ◌∙◌, arith}
+use Rattle.std.specs.Iterator.Adapters.{zip_first}
+use Rattle.std.specs.List.{AllByRecursion}
 use Rattle.std.specs.Map.{keys_of}
 use Rattle.std.specs.Slice.Iter.{iter_rest}
 use Rattle.std.proofs.lemmas.List.{length-map}
 use Rattle.std.proofs.lemmas.Map.Entries.{length-keys_of}
 use Rattle.std.proofs.lemmas.Slice.Zip.{Zip-more, either_empty_from_Zip}
-use Rattle.ds_certificate.specs.Bounds.{HasShape}
 use Rattle.ds_checker.specs.Loads.{share_of}
 use Rattle.ds_checker.specs.Sums.{AreBelow, no_loads, with_brought}
 use Rattle.ds_checker.proofs.LoadLaws.{AreBelow-more, contract_kept, contracts_ended, contracts_range, contracts_room, places_kept, shaped_all, shaped_behind, written}
@@ -32,9 +31,9 @@ loop-contract-preserved c =
     let meters = c.args.domain.now.meters in
     let items = c.as_mut_slice.ensures.value in
     let said = c.add_contract.ensures.value ∙ ap (with_brought (λ name. share_of c.args.domain.now name c.in-Some.contract.now c.hops.result.now) (keys_of meters)) items
-        ∙ ap (λ bounds. with_brought (λ name. share_of c.args.domain.now name c.in-Some.contract.now bounds) (keys_of meters) c.loop-contract.sums.items) c.hops.ensures in
+    ∙ ap (λ bounds. with_brought (λ name. share_of c.args.domain.now name c.in-Some.contract.now bounds) (keys_of meters) c.loop-contract.sums.items) c.hops.ensures in
     let long = places_kept (λ name. share_of c.args.domain.now name c.in-Some.contract.now c.in-Some.bounds.now) meters c.loop-contract.sums.items c.add_contract.new.sums
-        said c.loop-contract.invariant.places in
+    said c.loop-contract.invariant.places in
     let new = written c.loop-contract.sums.len c.add_contract.new.sums c.loop-contract.sums.items c.as_mut_slice.result.now items c.as_mut_slice.ensures.len (long ∙ sym (ap length items ∙ c.loop-contract.invariant.places)) in
     record {
       value = contract_kept c.args.domain.now _ _ c.in-Some.contract.now _ _ c.in-Some.bounds.now (keys_of meters) c.loop-contract.sums.items _ _ more.0 more.1 (new ∙ said) c.loop-contract.invariant.value;
