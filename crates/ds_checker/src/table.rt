@@ -159,3 +159,73 @@ fn meter_refusal(name: Name, meter: &Meter, loads: &Loads) -> Option<Refusal>
         None
     }
 }
+
+#[cfg(test)]
+mod tests {
+    use super::*;
+    use ds_domain_base::{Delay, SoundParameters};
+    use envelope_core::Envelope;
+    use meter_book::Parameters;
+    use moment_core::{Gap, Moment, Rate};
+    use std::test::Fail;
+    use trtcm_core::TrTcmParameters;
+
+    /// A meter with 24 Mbit/s and a bucket of 4,499 bytes for green packets.
+    fn meter() -> Result<Meter, Fail> {
+        let parameters = Parameters::TrTcm(TrTcmParameters {
+            committed_rate: Rate::new(24_000_000)?,
+            committed_burst: 4499,
+            peak_rate: Rate::new(24_000_000)?,
+            peak_burst: 4499,
+        });
+        Ok(Meter {
+            parameters: SoundParameters::new(parameters)?,
+            skew: Delay::new(500_000)?,
+            origin: Moment::new(0)?,
+        })
+    }
+
+    /// What a contract with 24 Mbit/s and bounds of 3,000 bytes brings.
+    fn share() -> Result<Share, Fail>
+        ensures { IfOk result (λ share. IsModerate share.source) }
+    {
+        let envelope = Envelope::new(24_000_000, 3000)?;
+        Ok(Share {
+            source: Source {
+                green: envelope,
+                all: envelope,
+            },
+            bound: Bound::new(3000, 3000)?,
+            has_peak: false,
+        })
+    }
+
+    #[test]
+    #[tactic(auto, unfolding(crate::specs::BoundTests::misfit))]
+    fn no_contract_brings_anything(rt: HostRuntime) -> Result<(), Fail> {
+        let alloc = rt.alloc();
+        let mut domain = Domain::new(alloc);
+        domain.add_meter(Name::new("m")?, meter()?)?;
+        let contracts: Vec<Contract> = Vec::new(alloc);
+        let certificate = Certificate::new(Vec::new(alloc));
+        let refusal = table_refusal(alloc, &domain, contracts.as_slice(), &certificate)?;
+        assert!(rt; refusal.is_none());
+        Ok(())
+    }
+
+    #[test]
+    fn the_skew_of_a_meter_widens_the_bursts(rt: HostRuntime) -> Result<(), Fail> {
+        let name = Name::new("m")?;
+        let loads = Loads::new(Gap::new(500_000)?).with(&share()?);
+        let refusal = meter_refusal(name, &meter()?, &loads);
+        assert_eq!(rt;
+            refusal,
+            Some(Refusal::GreenBurst {
+                meter: name,
+                needed: 4500,
+                available: 4499,
+            })
+        );
+        Ok(())
+    }
+}
