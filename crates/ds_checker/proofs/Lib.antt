@@ -2,3 +2,4 @@ pub mod AcceptanceLaws
 pub mod BoundLaws
 pub mod CheckLaws
 pub mod LeastTableLaws
+pub mod LoadLaws

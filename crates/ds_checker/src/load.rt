@@ -1,0 +1,195 @@
+ghost use Rattle.std.specs.Prelude.{◌≡◌, ◌+◌, ◌≤◌, ◌*◌, ◌^◌, ℕ};
+ghost use Rattle.envelope_core.specs.Curve.{widened};
+ghost use Rattle.ds_certificate.specs.Ranges.{IsModerate};
+ghost use Rattle.ds_checker.specs.Loads.{all_limit, green_limit};
+ghost use Rattle.ds_checker.specs.Sums.{AreBelow, IsBelow, counted_load, no_loads, plus, with_share};
+
+use ds_certificate::{Bound, Source};
+use envelope_core::Envelope;
+use meter_book::Parameters;
+use moment_core::{Gap, bytes_over_ceil};
+use std::marker::Model;
+
+/// A rate in bits per second, and a burst in bytes: of what is brought to a meter, or of what it has for it.
+#[derive(Clone, Copy, Debug)]
+pub(crate) struct Load {
+    rate: u128,
+    burst: u128,
+}
+
+impl Model for Load {
+    ghost use Rattle.envelope_core.specs.Curve.{Curve};
+
+    ghost Value = { Curve };
+
+    ghost view = { λ l. record { rate = l.rate; burst = l.burst } };
+
+    ghost inverse = { λ c. record { rate = c.rate; burst = c.burst } };
+}
+
+impl Load {
+    /// Neither rate nor burst.
+    const NONE: Load = Load { rate: 0, burst: 0 };
+
+    /// The rate, in bits per second.
+    pub(crate) fn rate(&self) -> u128
+        ensures { result ≡ self.now.rate }
+    {
+        self.rate
+    }
+
+    /// The burst, in bytes.
+    pub(crate) fn burst(&self) -> u128
+        ensures { result ≡ self.now.burst }
+    {
+        self.burst
+    }
+
+    /// With traffic whose rate is that of an envelope, and whose burst at most a bound, delayed by delays that differ by at
+    /// most a skew.
+    #[tactic(auto, using(ds_certificate::proofs::Volumes::bytes_over_most))]
+    fn with(self, envelope: Envelope, bound: u64, skew: Gap) -> Load
+        requires room { IsBelow (2 ^ 121) self }
+        requires slow { envelope.rate ≤ 2 * 10 ^ 13 }
+        requires short { skew ≤ 10 ^ 10 }
+        ensures { result ≡ plus self (widened skew (record { rate = envelope.rate; burst = bound })) }
+    {
+        let widening = bytes_over_ceil(envelope.rate(), skew);
+        Load {
+            rate: self.rate + u128::from(envelope.rate()),
+            burst: self.burst + (u128::from(bound) + widening),
+        }
+    }
+}
+
+/// What a contract brings to a meter.
+#[derive(Clone, Copy, Debug)]
+pub(crate) struct Share {
+    /// What its traffic keeps where it enters.
+    pub(crate) source: Source,
+    /// The bound of the hop into the meter.
+    pub(crate) bound: Bound,
+    /// Whether it may send yellow packets.
+    pub(crate) has_peak: bool,
+}
+
+impl Model for Share {
+    ghost use Rattle.ds_checker.specs.Loads as shares;
+
+    ghost Value = { shares.Share };
+
+    ghost view = { λ s. record { source = s.source; bound = s.bound; has_peak = s.has_peak } };
+
+    ghost inverse = { λ s. record { source = s.source; bound = s.bound; has_peak = s.has_peak } };
+}
+
+/// The sums of what is brought to a meter.
+#[derive(Clone, Copy, Debug)]
+pub(crate) struct Loads {
+    /// The meter's skew.
+    skew: Gap,
+    /// Of green packets.
+    green: Load,
+    /// Of green and yellow packets.
+    all: Load,
+    /// Of green and yellow packets of contracts that may send yellow ones.
+    peaked: Load,
+    /// Whether there is such a contract.
+    has_peak: bool,
+}
+
+impl Loads {
+    /// What is brought to a meter with a skew of at most 10^10 nanoseconds before the first contract is counted.
+    pub(crate) fn new(skew: Gap) -> Self
+        requires { skew ≤ 10 ^ 10 }
+        ensures value { result ≡ no_loads skew }
+        ensures range { AreBelow 0 result }
+    {
+        Loads {
+            skew,
+            green: Load::NONE,
+            all: Load::NONE,
+            peaked: Load::NONE,
+            has_peak: false,
+        }
+    }
+
+    /// With one contract more.
+    pub(crate) fn with(self, share: &Share) -> Self
+        requires room { AreBelow (2 ^ 121) self }
+        requires moderate { IsModerate share.now.source }
+        ensures value { result ≡ with_share self share.now }
+        ensures range { (most : ℕ) → AreBelow most self → AreBelow (most + 2 * 10 ^ 15) result }
+    {
+        let Share {
+            source,
+            bound,
+            has_peak,
+        } = *share;
+        let green = self.green.with(source.green, bound.green(), self.skew);
+        let all = self.all.with(source.all, bound.all(), self.skew);
+        let peaked = if has_peak {
+            self.peaked.with(source.all, bound.all(), self.skew)
+        } else {
+            self.peaked
+        };
+        Loads {
+            skew: self.skew,
+            green,
+            all,
+            peaked,
+            has_peak: self.has_peak || has_peak,
+        }
+    }
+
+    /// What is held against a meter's rate and bucket of green packets.
+    pub(crate) fn green(&self) -> Load
+        ensures { result ≡ self.now.green }
+    {
+        self.green
+    }
+
+    /// What is held against a meter's rate and bucket of green and yellow packets. With a single rate it is what all
+    /// contracts bring, if one may send yellow packets, else nothing; with a committed and a peak rate what all bring; with a
+    /// committed and an excess rate what those bring that may send yellow packets.
+    pub(crate) fn counted(&self, parameters: &Parameters) -> Load
+        ensures { result ≡ counted_load parameters.now self.now }
+    {
+        match parameters {
+            Parameters::SrTcm(_) if !self.has_peak => Load::NONE,
+            Parameters::SrTcm(_) | Parameters::TrTcm(_) => self.all,
+            Parameters::Rfc4115(_) => self.peaked,
+        }
+    }
+}
+
+/// What a meter has for green packets: its committed rate and bucket (RFC 2697, RFC 2698, RFC 4115).
+pub(crate) fn green_limit(parameters: &Parameters) -> Load
+    ensures { result ≡ green_limit parameters.now }
+{
+    let (rate, burst) = match parameters {
+        Parameters::SrTcm(own) => (own.committed_rate, own.committed_burst),
+        Parameters::TrTcm(own) => (own.committed_rate, own.committed_burst),
+        Parameters::Rfc4115(own) => (own.committed_rate, own.committed_burst),
+    };
+    Load {
+        rate: u128::from(rate.get()),
+        burst: u128::from(burst),
+    }
+}
+
+/// What a meter has for green and yellow packets: the excess bucket and the rate that fills it (RFC 2697, RFC 4115), or the
+/// peak rate and bucket (RFC 2698).
+pub(crate) fn all_limit(parameters: &Parameters) -> Load
+    ensures { result ≡ all_limit parameters.now }
+{
+    let (rate, burst) = match parameters {
+        Parameters::SrTcm(own) => (own.committed_rate, own.excess_burst),
+        Parameters::TrTcm(own) => (own.peak_rate, own.peak_burst),
+        Parameters::Rfc4115(own) => (own.excess_rate, own.excess_burst),
+    };
+    Load {
+        rate: u128::from(rate.get()),
+        burst: u128::from(burst),
+    }
+}

@@ -1,11 +1,20 @@
-ghost use Rattle.std.specs.Prelude.{◌≡◌, None, IfOk, List};
+ghost use Rattle.std.specs.Prelude.{◌≡◌, ◌+◌, ◌*◌, ◌^◌, ◌≤◌, ℕ, false, List, None, IfOk, drop, length, map};
+ghost use Rattle.std.specs.List.{AllByRecursion, IsDistinct};
+ghost use Rattle.std.specs.Map.{keys_of};
+ghost use Rattle.std.specs.Str.{bytes_eq};
+ghost use Rattle.ds_certificate.specs.Ranges.{IsModerate};
+ghost use Rattle.ds_domain_base.specs.Fitting.{repeats};
+ghost use Rattle.ds_certificate.specs.Bounds.{HasShape};
 ghost use Rattle.ds_checker.specs.BoundTests.{misfit};
-ghost use Rattle.ds_checker.specs.TableTests.{table_tests};
+ghost use Rattle.ds_checker.specs.Loads.{bound_into, share_of, shares_at};
+ghost use Rattle.ds_checker.specs.Sums.{AreBelow, counted_load, no_loads, share_by, with_brought};
+ghost use Rattle.ds_checker.specs.TableTests.{load_tests, table_tests};
 ghost use Rattle.ds_checker.specs.Tests.{first_failed};
 
+use crate::load::{Loads, Share, all_limit, green_limit};
 use crate::refusal::Refusal;
-use ds_certificate::Certificate;
-use ds_domain_base::{Contract, Domain};
+use ds_certificate::{Bound, Certificate, Source};
+use ds_domain_base::{Contract, Domain, Meter, Name};
 use std::alloc::{AllocError, Global};
 
 /// The first meter test that fails, if one does, of a certificate that has the shape of its contracts; `AllocError` where
@@ -19,5 +28,204 @@ pub(crate) fn table_refusal(
     requires { misfit 0 domain.now contracts.now certificate.now ≡ None }
     ensures { IfOk result (λ refusal. refusal ≡ first_failed (table_tests domain.now contracts.now certificate.now domain.now.meters)) }
 {
-    Err(AllocError)
+    let sums = gathered(alloc, domain, contracts, certificate)?;
+    for ((name, meter), loads) in domain.meters().iter().zip(&sums) {
+        if let Some(refusal) = meter_refusal(*name, meter, loads) {
+            return Ok(Some(refusal));
+        }
+    }
+    Ok(None)
+}
+
+/// What the contracts bring to each meter, in the order of the meters.
+fn gathered(
+    alloc: Global,
+    domain: &Domain,
+    contracts: &[Contract],
+    certificate: &Certificate,
+) -> Result<Vec<Loads>, AllocError>
+    requires { misfit 0 domain.now contracts.now certificate.now ≡ None }
+    ensures { IfOk result (λ sums. sums.items ≡ with_brought (λ name. shares_at domain.now name contracts.now certificate.now)
+        (keys_of domain.now.meters) (map (λ entry. no_loads entry.1.skew) domain.now.meters)) }
+{
+    let mut sums = unloaded(alloc, domain)?;
+    for (contract, bounds) in contracts.iter().zip(certificate.bounds()) {
+        add_contract(sums.as_mut_slice(), domain, contract, bounds.hops());
+    }
+    Ok(sums)
+}
+
+/// Sums for each meter, in their order, to which nothing is added yet.
+fn unloaded(alloc: Global, domain: &Domain) -> Result<Vec<Loads>, AllocError>
+    ensures value { IfOk result (λ sums. sums.items ≡ map (λ entry. no_loads entry.1.skew) domain.now.meters) }
+    ensures range { IfOk result (λ sums. AllByRecursion (AreBelow 0) sums.items) }
+    ensures apart { IsDistinct bytes_eq (keys_of domain.now.meters) }
+{
+    let meters = domain.meters();
+    let mut sums = Vec::with_capacity(alloc, meters.len())?;
+    for (_, meter) in meters.iter() {
+        sums.push(Loads::new(meter.skew.gap()))?;
+    }
+    Ok(sums)
+}
+
+/// Adds what a contract brings to each meter, by its bounds from its port on.
+fn add_contract(sums: &mut [Loads], domain: &Domain, contract: &Contract, bounds: &[Bound])
+    requires shape { HasShape domain.now contract.now bounds.now }
+    requires apart { IsDistinct bytes_eq (keys_of domain.now.meters) }
+    requires places { length sums.old ≡ length domain.now.meters }
+    requires room { AllByRecursion (AreBelow (2 ^ 120)) sums.old }
+    ensures value { sums.new ≡ with_brought (λ name. share_of domain.now name contract.now bounds.now) (keys_of domain.now.meters) sums.old }
+    ensures range { (most : ℕ) → AllByRecursion (AreBelow most) sums.old → AllByRecursion (AreBelow (most + 32 * 10 ^ 15)) sums.new }
+{
+    let source = Source::of(domain, contract);
+    let has_peak = contract.terms.has_peak();
+    let (_, behind) = bounds.split_at(1);
+    add_path(
+        sums,
+        domain,
+        contract.path.meters(),
+        behind,
+        &source,
+        has_peak,
+    );
+}
+
+/// Adds what is brought to each meter of a path, by the bounds of the hops into them. Names that are no meter's are passed.
+fn add_path(
+    sums: &mut [Loads],
+    domain: &Domain,
+    path: &[Name],
+    bounds: &[Bound],
+    source: &Source,
+    has_peak: bool,
+)
+    requires once { repeats path.now ≡ false }
+    requires short { length path.now ≤ 16 }
+    requires moderate { IsModerate source.now }
+    requires apart { IsDistinct bytes_eq (keys_of domain.now.meters) }
+    requires places { length sums.old ≡ length domain.now.meters }
+    requires room { AllByRecursion (AreBelow (2 ^ 120)) sums.old }
+    ensures value { sums.new ≡ with_brought (λ name. share_by source.now has_peak (bound_into name path.now bounds.now)) (keys_of domain.now.meters) sums.old }
+    ensures range { (most : ℕ) → AllByRecursion (AreBelow most) sums.old → AllByRecursion (AreBelow (most + 32 * 10 ^ 15)) sums.new }
+{
+    for (name, bound) in path.iter().zip(bounds) {
+        let share = Share {
+            source: *source,
+            bound: *bound,
+            has_peak,
+        };
+        if let Some(place) = domain.meter_index(*name) {
+            sums[place] = sums[place].with(&share);
+        }
+    }
+}
+
+/// The first test that fails, if one does, of what is brought to a meter.
+#[tactic(auto, unfolding(crate::specs::Tests::first_failed))]
+fn meter_refusal(name: Name, meter: &Meter, loads: &Loads) -> Option<Refusal>
+    ensures { result ≡ first_failed (load_tests name meter.now loads.now.green (counted_load meter.now.parameters loads.now)) }
+{
+    let parameters = meter.parameters.get();
+    let green = loads.green();
+    let all = loads.counted(&parameters);
+    let green_room = green_limit(&parameters);
+    let all_room = all_limit(&parameters);
+    if green.rate() > green_room.rate() {
+        Some(Refusal::GreenRate {
+            meter: name,
+            needed: green.rate(),
+            available: green_room.rate(),
+        })
+    } else if green.burst() > green_room.burst() {
+        Some(Refusal::GreenBurst {
+            meter: name,
+            needed: green.burst(),
+            available: green_room.burst(),
+        })
+    } else if all.rate() > all_room.rate() {
+        Some(Refusal::AllRate {
+            meter: name,
+            needed: all.rate(),
+            available: all_room.rate(),
+        })
+    } else if all.burst() > all_room.burst() {
+        Some(Refusal::AllBurst {
+            meter: name,
+            needed: all.burst(),
+            available: all_room.burst(),
+        })
+    } else {
+        None
+    }
+}
+
+#[cfg(test)]
+mod tests {
+    use super::*;
+    use ds_domain_base::{Delay, SoundParameters};
+    use envelope_core::Envelope;
+    use meter_book::Parameters;
+    use moment_core::{Gap, Moment, Rate};
+    use std::test::Fail;
+    use trtcm_core::TrTcmParameters;
+
+    /// A meter with 24 Mbit/s and a bucket of 4,499 bytes for green packets.
+    fn meter() -> Result<Meter, Fail> {
+        let parameters = Parameters::TrTcm(TrTcmParameters {
+            committed_rate: Rate::new(24_000_000)?,
+            committed_burst: 4499,
+            peak_rate: Rate::new(24_000_000)?,
+            peak_burst: 4499,
+        });
+        Ok(Meter {
+            parameters: SoundParameters::new(parameters)?,
+            skew: Delay::new(500_000)?,
+            origin: Moment::new(0)?,
+        })
+    }
+
+    /// What a contract with 24 Mbit/s and bounds of 3,000 bytes brings.
+    fn share() -> Result<Share, Fail>
+        ensures { IfOk result (λ share. IsModerate share.source) }
+    {
+        let envelope = Envelope::new(24_000_000, 3000)?;
+        Ok(Share {
+            source: Source {
+                green: envelope,
+                all: envelope,
+            },
+            bound: Bound::new(3000, 3000)?,
+            has_peak: false,
+        })
+    }
+
+    #[test]
+    #[tactic(auto, unfolding(crate::specs::BoundTests::misfit))]
+    fn no_contract_brings_anything(rt: HostRuntime) -> Result<(), Fail> {
+        let alloc = rt.alloc();
+        let mut domain = Domain::new(alloc);
+        domain.add_meter(Name::new("m")?, meter()?)?;
+        let contracts: Vec<Contract> = Vec::new(alloc);
+        let certificate = Certificate::new(Vec::new(alloc));
+        let refusal = table_refusal(alloc, &domain, contracts.as_slice(), &certificate)?;
+        assert!(rt; refusal.is_none());
+        Ok(())
+    }
+
+    #[test]
+    fn the_skew_of_a_meter_widens_the_bursts(rt: HostRuntime) -> Result<(), Fail> {
+        let name = Name::new("m")?;
+        let loads = Loads::new(Gap::new(500_000)?).with(&share()?);
+        let refusal = meter_refusal(name, &meter()?, &loads);
+        assert_eq!(rt;
+            refusal,
+            Some(Refusal::GreenBurst {
+                meter: name,
+                needed: 4500,
+                available: 4499,
+            })
+        );
+        Ok(())
+    }
 }

@@ -1,0 +1,511 @@
+-- What is added up for each meter, contract by contract and hop by hop.
+use Rattle.std.proofs.Common.{rules, arith, ◌≡◌, ℕ, zero, suc, ◌+◌, ◌-◌, ◌*◌, ◌^◌, ◌≤◌, ◌<◌, Bool, true, false, cond, nat_lt, nat_le, nat_eq, ◌||◌, ◌&&◌, ◌⊎◌, inl, inr, List, [], ◌∷◌, ◌++◌, length, map, filter, take, drop, append-nil, set, get_or, if◌then◌else◌, Option, None, Some, refl, sym, ap, subst, ◌∙◌}
+use Rattle.std.specs.List.{AllByRecursion, AllZip, IsDistinct, fold, list_any, position, position_or_len}
+use Rattle.std.specs.Str.{bytes_eq}
+use Rattle.std.proofs.lemmas.Slice.Eq.{bytes_eq-Decides}
+use Rattle.std.proofs.lemmas.Bool.Decides.{nat_tests, same_from_decides}
+use Rattle.std.proofs.lemmas.List.{drop_all, take_all}
+use Rattle.std.proofs.lemmas.List.Sums.{fold-append, sum_by-cons}
+use Rattle.std.proofs.lemmas.List.Quantifiers.{position-Some}
+use Rattle.std.proofs.lemmas.Bool.{and_parts}
+use Rattle.std.proofs.lemmas.Map.Entries.{length-keys_of}
+use Rattle.std.specs.Map.{keys_of}
+use Rattle.ds_domain_base.specs.Domains.{Domain}
+use Rattle.ds_domain_base.specs.Fitting.{repeats}
+use Rattle.ds_domain_base.specs.declared.contract.Contract.{Contract}
+use Rattle.ds_domain_base.specs.declared.parts.Meter.{Meter}
+use Rattle.ds_certificate.specs.Bounds.{HasShape, fits}
+use Rattle.ds_checker.specs.BoundTests.{misfit}
+use Rattle.envelope_core.specs.Curve.{Curve, total, widened}
+use Rattle.meter_book.specs.declared.any_meter.Parameters.{Parameters}
+use Rattle.meter_book.specs.declared.any_meter.Parameters.TheVariants.{SrTcm, TrTcm, Rfc4115}
+use Rattle.ds_certificate.specs.Columns.{Bound, Column, IsInRange, all_column, green_column}
+use Rattle.ds_certificate.specs.Ranges.{IsModerate}
+use Rattle.ds_certificate.proofs.Volumes.{bytes_over_most}
+use Rattle.ds_certificate.specs.declared.source.Source.{Source}
+use Rattle.ds_checker.specs.Loads.{Share, bound_into, counted, kept, load, share_of, shares_at}
+use Rattle.ds_checker.specs.Sums.{AreBelow, IsBelow, counted_load, no_loads, nothing, plus, share_by, with_brought, with_share}
+use Rattle.ds_checker.specs.TableTests.{load_tests, meter_tests, table_tests}
+use Rattle.ds_checker.specs.Tests.{Test, first_failed}
+use Rattle.ds_checker.specs.declared.load.Loads.{Loads}
+use Rattle.ds_checker.specs.declared.refusal.Refusal.{Refusal}
+
+pub bytes_eq-flip : (a b : List ℕ) → bytes_eq a b ≡ bytes_eq b a
+bytes_eq-flip a b = same_from_decides (bytes_eq a b) (bytes_eq b a) (bytes_eq-Decides a b) ((λ p. sym ((bytes_eq-Decides b a).0 p)), (λ p. (bytes_eq-Decides b a).1 (sym p)))
+
+-- as many as there were
+pub length-with_brought : (brought : List ℕ → List Share) (names : List (List ℕ)) (loads : List Loads) → length loads ≡ length names
+    → length (with_brought brought names loads) ≡ length names
+unfolding with_brought
+length-with_brought brought [] loads long = refl
+length-with_brought brought (name ∷ names) [] long = absurd (omega (arith, long))
+length-with_brought brought (name ∷ names) (l ∷ loads) long = ap suc (length-with_brought brought names loads (omega (arith, long)))
+
+-- where nothing is brought, nothing changes
+pub with_brought-nothing : (brought : List ℕ → List Share) (names : List (List ℕ)) (loads : List Loads) → length loads ≡ length names
+    → ((name : List ℕ) → brought name ≡ []) → with_brought brought names loads ≡ loads
+unfolding with_brought
+with_brought-nothing brought [] [] long none = refl
+with_brought-nothing brought [] (l ∷ loads) long none = absurd (omega (arith, long))
+with_brought-nothing brought (name ∷ names) [] long none = absurd (omega (arith, long))
+with_brought-nothing brought (name ∷ names) (l ∷ loads) long none =
+    rw (none name) (ap (λ rest. l ∷ rest) (with_brought-nothing brought names loads (omega (arith, long)) none))
+
+-- one after the other
+pub with_brought-twice : (first later : List ℕ → List Share) (names : List (List ℕ)) (loads : List Loads)
+    → with_brought later names (with_brought first names loads) ≡ with_brought (λ name. first name ++ later name) names loads
+unfolding with_brought
+with_brought-twice first later [] loads = refl
+with_brought-twice first later (name ∷ names) [] = refl
+with_brought-twice first later (name ∷ names) (l ∷ loads) =
+    rw (fold-append with_share l (first name) (later name))
+    (ap (λ rest. fold with_share (fold with_share l (first name)) (later name) ∷ rest) (with_brought-twice first later names loads))
+
+-- what is brought to no name of these does not matter
+with_brought-apart : (to : List ℕ) (first later : List ℕ → List Share) (names : List (List ℕ)) (loads : List Loads)
+    → AllByRecursion (λ name. bytes_eq to name ≡ false) names → ((name : List ℕ) → bytes_eq to name ≡ false → later name ≡ first name)
+    → with_brought later names loads ≡ with_brought first names loads
+unfolding with_brought
+with_brought-apart to first later [] loads apart same = refl
+with_brought-apart to first later (name ∷ names) [] apart same = refl
+with_brought-apart to first later (name ∷ names) (l ∷ loads) apart same =
+    rw (same name apart.0) (ap (λ rest. fold with_share l (first name) ∷ rest) (with_brought-apart to first later names loads apart.1 same))
+
+apart_at : (name to : List ℕ) (names : List (List ℕ)) (i : ℕ) (d : List ℕ) → AllByRecursion (λ y. bytes_eq name y ≡ false) names → i < length names
+    → get_or names i d ≡ to → bytes_eq to name ≡ false
+apart_at name to [] i d apart inside is = absurd (omega (arith, inside))
+apart_at name to (y ∷ names) zero d apart inside is = bytes_eq-flip to name ∙ ap (bytes_eq name) (sym is) ∙ apart.0
+apart_at name to (y ∷ names) (suc i) d apart inside is = apart_at name to names i d apart.1 (omega (arith, inside)) is
+
+-- a share at the place of a name
+with_brought-at : (to : List ℕ) (share : Share) (first later : List ℕ → List Share) (names : List (List ℕ)) (loads : List Loads) (i : ℕ) (d : List ℕ) (l : Loads)
+    → IsDistinct bytes_eq names → length loads ≡ length names → i < length names → get_or names i d ≡ to
+    → ((name : List ℕ) → bytes_eq to name ≡ false → later name ≡ first name) → first to ≡ share ∷ [] → later to ≡ []
+    → with_brought later names (set loads i (with_share (get_or loads i l) share)) ≡ with_brought first names loads
+unfolding with_brought IsDistinct
+with_brought-at to share first later [] loads i d l distinct long inside is same one none = absurd (omega (arith, inside))
+with_brought-at to share first later (name ∷ names) [] i d l distinct long inside is same one none = absurd (omega (arith, long))
+with_brought-at to share first later (name ∷ names) (own ∷ loads) zero d l distinct long inside is same one none =
+    rw (is) (rw (one) (rw (none)
+    (ap (λ rest. with_share own share ∷ rest) (with_brought-apart to first later names loads (subst (λ n. AllByRecursion (λ y. bytes_eq n y ≡ false) names) is distinct.0) same))))
+with_brought-at to share first later (name ∷ names) (own ∷ loads) (suc i) d l distinct long inside is same one none =
+    rw (same name (apart_at name to names i d distinct.0 (omega (arith, inside)) is))
+    (ap (λ rest. fold with_share own (first name) ∷ rest)
+    (with_brought-at to share first later names loads i d l distinct.1 (omega (arith, long)) (omega (arith, inside)) is same one none))
+
+or_parts : (p q : Bool) → (p || q) ≡ false → (p ≡ false) × (q ≡ false)
+or_parts true q neither = absurd cc
+or_parts false q neither = (refl, neither)
+
+-- a path that does not lead to a name
+bound_into-absent : (name : List ℕ) (path : List (List ℕ)) (bounds : List Bound) → list_any (bytes_eq name) path ≡ false → bound_into name path bounds ≡ None
+unfolding bound_into
+bound_into-absent name [] bounds absent = refl
+bound_into-absent name (to ∷ path) [] absent = refl
+bound_into-absent name (to ∷ path) (b ∷ bounds) absent =
+    let parts = or_parts (bytes_eq name to) (list_any (bytes_eq name) path) absent in
+    rw parts.0 (bound_into-absent name path bounds parts.1)
+
+bound_into-ended : (name : List ℕ) (path : List (List ℕ)) (bounds : List Bound) → (path ≡ []) ⊎ (bounds ≡ []) → bound_into name path bounds ≡ None
+unfolding bound_into
+bound_into-ended name [] bounds ended = refl
+bound_into-ended name (to ∷ path) [] ended = refl
+bound_into-ended name (to ∷ path) (b ∷ bounds) (inl ended) = absurd cc
+bound_into-ended name (to ∷ path) (b ∷ bounds) (inr ended) = absurd cc
+
+bound_into-here : (to : List ℕ) (path : List (List ℕ)) (b : Bound) (bounds : List Bound) → bound_into to (to ∷ path) (b ∷ bounds) ≡ Some b
+unfolding bound_into
+bound_into-here to path b bounds = rw ((bytes_eq-Decides to to).1 refl) refl
+
+bound_into-other : (name to : List ℕ) (path : List (List ℕ)) (b : Bound) (bounds : List Bound) → bytes_eq to name ≡ false
+    → bound_into name path bounds ≡ bound_into name (to ∷ path) (b ∷ bounds)
+unfolding bound_into
+bound_into-other name to path b bounds other = rw (bytes_eq-flip name to ∙ other) refl
+
+-- along a path
+abbrev pub brought_along : Source → Bool → List (List ℕ) → List Bound → List ℕ → List Share
+brought_along source has_peak path bounds name = share_by source has_peak (bound_into name path bounds)
+
+is_found : (b : Bool) (i : ℕ) → cond b (Some i) None ≡ None → b ≡ false
+is_found true i nowhere = absurd cc
+is_found false i nowhere = refl
+
+passes_none_by : {X : Type 0} (p : X → Bool) (x : X) (xs : List X) (b : Bool) → p x ≡ b → (nat_lt (position_or_len p xs) (length xs) ≡ false → AllByRecursion (λ x. p x ≡ false) xs)
+    → nat_lt (position_or_len p (x ∷ xs)) (length (x ∷ xs)) ≡ false → AllByRecursion (λ x. p x ≡ false) (x ∷ xs)
+passes_none_by p x xs true is behind long = absurd (grind (arith, is, long, nat_tests))
+passes_none_by p x xs false is behind long = (is, behind (grind (arith, is, long, nat_tests)))
+
+passes_none : {X : Type 0} (p : X → Bool) (xs : List X) → nat_lt (position_or_len p xs) (length xs) ≡ false → AllByRecursion (λ x. p x ≡ false) xs
+passes_none p [] long = tt
+passes_none p (x ∷ xs) long = passes_none_by p x xs (p x) refl (passes_none p xs) long
+
+none_passes : {X : Type 0} (p : X → Bool) (xs : List X) → position p xs ≡ None → AllByRecursion (λ x. p x ≡ false) xs
+none_passes p xs nowhere = passes_none p xs (is_found (nat_lt (position_or_len p xs) (length xs)) (position_or_len p xs) nowhere)
+
+-- with one hop more
+pub with_brought-hop : (source : Source) (has_peak : Bool) (to : List ℕ) (path : List (List ℕ)) (b : Bound) (bounds : List Bound) (names : List (List ℕ))
+    (loads : List Loads) (i : ℕ) (l : Loads)
+    → IsDistinct bytes_eq names → length loads ≡ length names → position (bytes_eq to) names ≡ Some i → repeats (to ∷ path) ≡ false
+    → with_brought (brought_along source has_peak path bounds) names (set loads i (with_share (get_or loads i l) (record { source = source; bound = b; has_peak = has_peak })))
+    ≡ with_brought (brought_along source has_peak (to ∷ path) (b ∷ bounds)) names loads
+unfolding repeats
+with_brought-hop source has_peak to path b bounds names loads i l distinct long at once =
+    let found = position-Some (bytes_eq to) names i to at in
+    with_brought-at to (record { source = source; bound = b; has_peak = has_peak }) (brought_along source has_peak (to ∷ path) (b ∷ bounds))
+    (brought_along source has_peak path bounds) names loads i to l distinct long found.0 (sym ((bytes_eq-Decides to (get_or names i to)).0 found.1))
+    (λ name other. ap (share_by source has_peak) (bound_into-other name to path b bounds other))
+    (ap (share_by source has_peak) (bound_into-here to path b bounds))
+    (ap (share_by source has_peak) (bound_into-absent to path bounds (or_parts (list_any (bytes_eq to) path) (repeats path) once).0))
+
+-- and with one that leads to none of them
+pub with_brought-elsewhere : (source : Source) (has_peak : Bool) (to : List ℕ) (path : List (List ℕ)) (b : Bound) (bounds : List Bound) (names : List (List ℕ))
+    (loads : List Loads) → position (bytes_eq to) names ≡ None
+    → with_brought (brought_along source has_peak path bounds) names loads ≡ with_brought (brought_along source has_peak (to ∷ path) (b ∷ bounds)) names loads
+with_brought-elsewhere source has_peak to path b bounds names loads nowhere =
+    with_brought-apart to (brought_along source has_peak (to ∷ path) (b ∷ bounds)) (brought_along source has_peak path bounds) names loads
+    (none_passes (bytes_eq to) names nowhere) (λ name other. ap (share_by source has_peak) (bound_into-other name to path b bounds other))
+
+pub repeats-behind : (to : List ℕ) (path : List (List ℕ)) → repeats (to ∷ path) ≡ false → repeats path ≡ false
+unfolding repeats
+repeats-behind to path once = (or_parts (list_any (bytes_eq to) path) (repeats path) once).1
+
+-- ---- no sum leaves its range
+pub IsBelow-more : (most more : ℕ) (curve : Curve) → most ≤ more → IsBelow most curve → IsBelow more curve
+IsBelow-more most more curve larger below = (omega (arith, larger, below.0), omega (arith, larger, below.1))
+
+pub AreBelow-more : (most more : ℕ) (loads : List Loads) → most ≤ more → AllByRecursion (AreBelow most) loads → AllByRecursion (AreBelow more) loads
+AreBelow-more most more [] larger below = tt
+AreBelow-more most more (l ∷ loads) larger below = (
+  (below.0.0, IsBelow-more most more l.green larger below.0.1, IsBelow-more most more l.all larger below.0.2, IsBelow-more most more l.peaked larger below.0.3),
+  AreBelow-more most more loads larger below.1,
+)
+
+pub plus-below : (most skew rate bound : ℕ) (curve : Curve) → IsBelow most curve → skew ≤ 10 ^ 10 → rate ≤ 2 * 10 ^ 13 → bound ≤ 10 ^ 15
+    → IsBelow (most + 2 * 10 ^ 15) (plus curve (widened skew (record { rate = rate; burst = bound })))
+plus-below most skew rate bound curve below short slow small =
+    let widening = bytes_over_most rate skew slow short in
+    (omega (arith, below.0, slow), omega (arith, below.1, small, widening))
+
+peaked-below : (most : ℕ) (has_peak : Bool) (curve more : Curve) → IsBelow (most + 2 * 10 ^ 15) more → IsBelow (most + 2 * 10 ^ 15) curve
+    → IsBelow (most + 2 * 10 ^ 15) (if has_peak then more else curve)
+peaked-below most true curve more with without = with
+peaked-below most false curve more with without = without
+
+pub with_share-below : (most : ℕ) (l : Loads) (share : Share) → AreBelow most l → IsModerate share.source → IsInRange share.bound → AreBelow (most + 2 * 10 ^ 15) (with_share l share)
+with_share-below most l share below moderate small = (
+  below.0,
+  plus-below most l.skew share.source.green.rate share.bound.green l.green below.1 below.0 moderate.0.0 small.0,
+  plus-below most l.skew share.source.all.rate share.bound.all l.all below.2 below.0 moderate.1.0 small.1,
+  peaked-below most share.has_peak l.peaked (plus l.peaked (widened l.skew (kept all_column share)))
+      (plus-below most l.skew share.source.all.rate share.bound.all l.peaked below.3 below.0 moderate.1.0 small.1)
+      (IsBelow-more most (most + 2 * 10 ^ 15) l.peaked (omega arith) below.3),
+)
+
+pub set-below : (most : ℕ) (loads : List Loads) (i : ℕ) (new : Loads) → i < length loads → AllByRecursion (AreBelow most) loads → AreBelow (most + 2 * 10 ^ 15) new
+    → AllByRecursion (AreBelow (most + 2 * 10 ^ 15)) (set loads i new)
+set-below most [] i new inside below is_below = absurd (omega (arith, inside))
+set-below most (l ∷ loads) zero new inside below is_below = (is_below, AreBelow-more most (most + 2 * 10 ^ 15) loads (omega arith) below.1)
+set-below most (l ∷ loads) (suc i) new inside below is_below =
+    ((AreBelow-more most (most + 2 * 10 ^ 15) (l ∷ []) (omega arith) (below.0, tt)).0, set-below most loads i new (omega (arith, inside)) below.1 is_below)
+
+pub AreBelow-at : (most : ℕ) (loads : List Loads) (i : ℕ) (d : Loads) → i < length loads → AllByRecursion (AreBelow most) loads → AreBelow most (get_or loads i d)
+AreBelow-at most [] i d inside below = absurd (omega (arith, inside))
+AreBelow-at most (l ∷ loads) zero d inside below = below.0
+AreBelow-at most (l ∷ loads) (suc i) d inside below = AreBelow-at most loads i d (omega (arith, inside)) below.1
+
+-- ---- a loop over the meters of a path
+room_left : (most : ℕ) (n : ℕ) (loads : List Loads) → n ≤ 16 → AllByRecursion (AreBelow (2 ^ 120 + 2 * 10 ^ 15 * (16 - n))) loads → AllByRecursion (AreBelow (2 ^ 121)) loads
+room_left most n loads short below = AreBelow-more (2 ^ 120 + 2 * 10 ^ 15 * (16 - n)) (2 ^ 121) loads (omega (arith, short)) below
+
+pub room_at : (n : ℕ) (loads first : List Loads) (i : ℕ) (l : Loads) → n ≤ 16 → i < length loads → l ≡ get_or loads i l → AllByRecursion (AreBelow (2 ^ 120)) first
+    → ((most : ℕ) → AllByRecursion (AreBelow most) first → AllByRecursion (AreBelow (most + 2 * 10 ^ 15 * (16 - n))) loads) → AreBelow (2 ^ 121) l
+room_at n loads first i l short inside is room range =
+    subst (AreBelow (2 ^ 121)) (sym is) (AreBelow-at (2 ^ 121) loads i l inside (room_left 0 n loads short (range (2 ^ 120) room)))
+
+pub range_hop : (xs path : List (List ℕ)) (to : List ℕ) (loads : List Loads) (i : ℕ) (l new : Loads) (most : ℕ) → xs ≡ to ∷ path → length xs ≤ 16 → i < length loads
+    → l ≡ get_or loads i l → ((most : ℕ) → AreBelow most l → AreBelow (most + 2 * 10 ^ 15) new) → AllByRecursion (AreBelow (most + 2 * 10 ^ 15 * (16 - length xs))) loads
+    → AllByRecursion (AreBelow (most + 2 * 10 ^ 15 * (16 - length path))) (set loads i new)
+range_hop xs path to loads i l new most next short inside is grows below =
+    let own = subst (AreBelow (most + 2 * 10 ^ 15 * (16 - length xs))) (sym is) (AreBelow-at (most + 2 * 10 ^ 15 * (16 - length xs)) loads i l inside below) in
+    AreBelow-more (most + 2 * 10 ^ 15 * (16 - length xs) + 2 * 10 ^ 15) (most + 2 * 10 ^ 15 * (16 - length path)) (set loads i new)
+    (omega (arith, ap length next, short)) (set-below (most + 2 * 10 ^ 15 * (16 - length xs)) loads i new inside below (grows (most + 2 * 10 ^ 15 * (16 - length xs)) own))
+
+pub range_past : (xs path : List (List ℕ)) (to : List ℕ) (loads : List Loads) (most : ℕ) → xs ≡ to ∷ path → length xs ≤ 16
+    → AllByRecursion (AreBelow (most + 2 * 10 ^ 15 * (16 - length xs))) loads → AllByRecursion (AreBelow (most + 2 * 10 ^ 15 * (16 - length path))) loads
+range_past xs path to loads most next short below =
+    AreBelow-more (most + 2 * 10 ^ 15 * (16 - length xs)) (most + 2 * 10 ^ 15 * (16 - length path)) loads (omega (arith, ap length next, short)) below
+
+pub hop_kept : (source : Source) (has_peak : Bool) (xs path : List (List ℕ)) (to : List ℕ) (ys bounds : List Bound) (b : Bound) (names : List (List ℕ))
+    (loads whole : List Loads) (i : ℕ) (l new : Loads)
+    → xs ≡ to ∷ path → ys ≡ b ∷ bounds → IsDistinct bytes_eq names → length loads ≡ length names → position (bytes_eq to) names ≡ Some i → repeats xs ≡ false
+    → l ≡ get_or loads i l → new ≡ with_share l (record { source = source; bound = b; has_peak = has_peak })
+    → with_brought (brought_along source has_peak xs ys) names loads ≡ whole → with_brought (brought_along source has_peak path bounds) names (set loads i new) ≡ whole
+hop_kept source has_peak xs path to ys bounds b names loads whole i l new is_path is_bounds distinct long at once is is_new kept =
+    let share : Share = record { source = source; bound = b; has_peak = has_peak } in
+    ap (λ own. with_brought (brought_along source has_peak path bounds) names (set loads i own)) (is_new ∙ ap (λ own. with_share own share) is)
+    ∙ with_brought-hop source has_peak to path b bounds names loads i l distinct long at (subst (λ p. repeats p ≡ false) is_path once)
+    ∙ sym (ap (λ p. with_brought (brought_along source has_peak p ys) names loads) is_path ∙ ap (λ p. with_brought (brought_along source has_peak (to ∷ path) p) names loads) is_bounds)
+    ∙ kept
+
+pub past_kept : (source : Source) (has_peak : Bool) (xs path : List (List ℕ)) (to : List ℕ) (ys bounds : List Bound) (b : Bound) (names : List (List ℕ)) (loads whole : List Loads)
+    → xs ≡ to ∷ path → ys ≡ b ∷ bounds → position (bytes_eq to) names ≡ None
+    → with_brought (brought_along source has_peak xs ys) names loads ≡ whole → with_brought (brought_along source has_peak path bounds) names loads ≡ whole
+past_kept source has_peak xs path to ys bounds b names loads whole is_path is_bounds nowhere kept =
+    with_brought-elsewhere source has_peak to path b bounds names loads nowhere
+    ∙ sym (ap (λ p. with_brought (brought_along source has_peak p ys) names loads) is_path ∙ ap (λ p. with_brought (brought_along source has_peak (to ∷ path) p) names loads) is_bounds)
+    ∙ kept
+
+pub path_ended : (source : Source) (has_peak : Bool) (xs : List (List ℕ)) (ys : List Bound) (names : List (List ℕ)) (loads whole : List Loads) → length loads ≡ length names
+    → (xs ≡ []) ⊎ (ys ≡ []) → with_brought (brought_along source has_peak xs ys) names loads ≡ whole → loads ≡ whole
+path_ended source has_peak xs ys names loads whole long ended kept =
+    sym (with_brought-nothing (brought_along source has_peak xs ys) names loads long (λ name. ap (share_by source has_peak) (bound_into-ended name xs ys ended))) ∙ kept
+
+pub once_behind : (xs path : List (List ℕ)) (to : List ℕ) → xs ≡ to ∷ path → repeats xs ≡ false → repeats path ≡ false
+once_behind xs path to is once = repeats-behind to path (subst (λ p. repeats p ≡ false) is once)
+
+pub position-inside : (to : List ℕ) (names : List (List ℕ)) (loads : List Loads) (i : ℕ) (at : Option ℕ) → at ≡ position (bytes_eq to) names → at ≡ Some i
+    → length loads ≡ length names → i < length loads
+position-inside to names loads i at is_at is long = omega (arith, (position-Some (bytes_eq to) names i to (sym is_at ∙ is)).0, long)
+
+-- ---- a loop over contracts
+by_test : (test : Bool) (number : ℕ) (rest : Option ℕ) → (if test then rest else Some number) ≡ None → (test ≡ true) × (rest ≡ None)
+by_test true number rest whole = (refl, whole)
+by_test false number rest whole = absurd cc
+
+same_long : (n m : ℕ) → nat_eq n m ≡ true → n ≡ m
+same_long n m same = grind (arith, same, nat_tests)
+
+-- where none is amiss, each contract and its bounds have the shape
+pub shaped : (number : ℕ) (d : Domain) (contracts : List Contract) (rows : List (List Bound)) → misfit number d contracts rows ≡ None → AllZip (HasShape d) contracts rows
+unfolding misfit
+shaped number d [] [] whole = tt
+shaped number d [] (bounds ∷ rows) whole = absurd cc
+shaped number d (c ∷ contracts) [] whole = absurd cc
+shaped number d (c ∷ contracts) (bounds ∷ rows) whole =
+    let tested = by_test (fits d c && nat_eq (length bounds) (suc (length c.path))) number (misfit (suc number) d contracts rows) whole in
+    let parts = and_parts (fits d c) (nat_eq (length bounds) (suc (length c.path))) tested.0 in
+    ((parts.0, same_long (length bounds) (suc (length c.path)) parts.1), shaped (suc number) d contracts rows tested.1)
+
+pub shaped_behind : (d : Domain) (xs contracts : List Contract) (c : Contract) (ys rows : List (List Bound)) (bounds : List Bound) → xs ≡ c ∷ contracts → ys ≡ bounds ∷ rows
+    → AllZip (HasShape d) xs ys → HasShape d c bounds × AllZip (HasShape d) contracts rows
+shaped_behind d xs contracts c ys rows bounds is_contracts is_rows all =
+    subst (λ list. AllZip (HasShape d) (c ∷ contracts) list) is_rows (subst (λ list. AllZip (HasShape d) list ys) is_contracts all)
+
+pub shares_at-ended : (d : Domain) (name : List ℕ) (xs : List Contract) (ys : List (List Bound)) → (xs ≡ []) ⊎ (ys ≡ []) → shares_at d name xs ys ≡ []
+unfolding shares_at
+shares_at-ended d name [] ys ended = refl
+shares_at-ended d name (c ∷ xs) [] ended = refl
+shares_at-ended d name (c ∷ xs) (bounds ∷ ys) (inl ended) = absurd cc
+shares_at-ended d name (c ∷ xs) (bounds ∷ ys) (inr ended) = absurd cc
+
+with_brought-contract : (d : Domain) (c : Contract) (contracts : List Contract) (bounds : List Bound) (rows : List (List Bound)) (names : List (List ℕ)) (loads : List Loads)
+    → with_brought (λ name. share_of d name c bounds ++ shares_at d name contracts rows) names loads ≡ with_brought (λ name. shares_at d name (c ∷ contracts) (bounds ∷ rows)) names loads
+unfolding shares_at
+with_brought-contract d c contracts bounds rows names loads = refl
+
+pub contract_kept : (d : Domain) (xs contracts : List Contract) (c : Contract) (ys rows : List (List Bound)) (bounds : List Bound) (names : List (List ℕ)) (loads new whole : List Loads)
+    → xs ≡ c ∷ contracts → ys ≡ bounds ∷ rows → new ≡ with_brought (λ name. share_of d name c bounds) names loads
+    → with_brought (λ name. shares_at d name xs ys) names loads ≡ whole → with_brought (λ name. shares_at d name contracts rows) names new ≡ whole
+contract_kept d xs contracts c ys rows bounds names loads new whole is_contracts is_rows is_new kept =
+    ap (with_brought (λ name. shares_at d name contracts rows) names) is_new
+    ∙ with_brought-twice (λ name. share_of d name c bounds) (λ name. shares_at d name contracts rows) names loads
+    ∙ with_brought-contract d c contracts bounds rows names loads
+    ∙ sym (ap (λ list. with_brought (λ name. shares_at d name list ys) names loads) is_contracts
+    ∙ ap (λ list. with_brought (λ name. shares_at d name (c ∷ contracts) list) names loads) is_rows)
+    ∙ kept
+
+pub contracts_ended : (d : Domain) (xs : List Contract) (ys : List (List Bound)) (names : List (List ℕ)) (loads whole : List Loads) → length loads ≡ length names
+    → (xs ≡ []) ⊎ (ys ≡ []) → with_brought (λ name. shares_at d name xs ys) names loads ≡ whole → loads ≡ whole
+contracts_ended d xs ys names loads whole long ended kept =
+    sym (with_brought-nothing (λ name. shares_at d name xs ys) names loads long (λ name. shares_at-ended d name xs ys ended)) ∙ kept
+
+pub places_kept : (brought : List ℕ → List Share) (meters : List (List ℕ × Meter)) (loads new : List Loads) → new ≡ with_brought brought (keys_of meters) loads
+    → length loads ≡ length meters → length new ≡ length meters
+places_kept brought meters loads new is_new long =
+    ap length is_new ∙ length-with_brought brought (keys_of meters) loads (long ∙ sym (length-keys_of meters)) ∙ length-keys_of meters
+
+pub contracts_room : (n : ℕ) (loads : List Loads) → AllByRecursion (AreBelow (32 * 10 ^ 15 * (2 ^ 64 - n))) loads → AllByRecursion (AreBelow (2 ^ 120)) loads
+contracts_room n loads below = AreBelow-more (32 * 10 ^ 15 * (2 ^ 64 - n)) (2 ^ 120) loads (omega arith) below
+
+pub contracts_range : (xs contracts : List Contract) (c : Contract) (loads new : List Loads) → xs ≡ c ∷ contracts → length xs ≤ 2 ^ 64
+    → ((most : ℕ) → AllByRecursion (AreBelow most) loads → AllByRecursion (AreBelow (most + 32 * 10 ^ 15)) new)
+    → AllByRecursion (AreBelow (32 * 10 ^ 15 * (2 ^ 64 - length xs))) loads → AllByRecursion (AreBelow (32 * 10 ^ 15 * (2 ^ 64 - length contracts))) new
+contracts_range xs contracts c loads new is few grows below =
+    AreBelow-more (32 * 10 ^ 15 * (2 ^ 64 - length xs) + 32 * 10 ^ 15) (32 * 10 ^ 15 * (2 ^ 64 - length contracts)) new (omega (arith, ap length is, few))
+    (grows (32 * 10 ^ 15 * (2 ^ 64 - length xs)) below)
+
+pub shaped_all : (d : Domain) (xs contracts : List Contract) (ys rows : List (List Bound)) → xs ≡ contracts → ys ≡ rows → misfit 0 d contracts rows ≡ None → AllZip (HasShape d) xs ys
+shaped_all d xs contracts ys rows is_contracts is_rows whole = shaped 0 d xs ys (ap (λ list. misfit 0 d list ys) is_contracts ∙ ap (misfit 0 d contracts) is_rows ∙ whole)
+
+-- a list that is written over another of the same length
+pub written : (len : ℕ) (new old given : List Loads) → given ≡ old → length given ≡ len → length new ≡ length given → take len (new ++ drop (length new) old) ≡ new
+written len new old given same is_len long =
+    let as_long : length new ≡ length old = long ∙ ap length same in
+    ap (λ rest. take len (new ++ rest)) (drop_all (length new) old (omega (arith, as_long))) ∙ ap (take len) (append-nil new) ∙ take_all len new (omega (arith, long, is_len))
+
+-- ---- the sums are those of all shares
+abbrev curve : ℕ → ℕ → Curve
+curve rate burst = record { rate = rate; burst = burst }
+
+same_curve : (rate other burst more : ℕ) → rate ≡ other → burst ≡ more → curve rate burst ≡ curve other more
+same_curve rate other burst more rates bursts = ap (λ r. curve r burst) rates ∙ ap (curve other) bursts
+
+plus-nothing : (c : Curve) → plus nothing c ≡ c
+plus-nothing c = same_curve (0 + c.rate) c.rate (0 + c.burst) c.burst (omega arith) (omega arith)
+
+nothing-plus : (c : Curve) → plus c nothing ≡ c
+nothing-plus c = same_curve (c.rate + 0) c.rate (c.burst + 0) c.burst (omega arith) (omega arith)
+
+plus-assoc : (a b c : Curve) → plus (plus a b) c ≡ plus a (plus b c)
+plus-assoc a b c = same_curve (a.rate + b.rate + c.rate) (a.rate + (b.rate + c.rate)) (a.burst + b.burst + c.burst) (a.burst + (b.burst + c.burst)) (omega arith) (omega arith)
+
+total-cons : (c : Curve) (curves : List Curve) → total (c ∷ curves) ≡ plus c (total curves)
+total-cons c curves = same_curve _ _ _ _ (sum_by-cons (λ (x : Curve). x.rate) c curves) (sum_by-cons (λ (x : Curve). x.burst) c curves)
+
+-- a part of the sums that each share adds to
+part_is : (part : Loads → Curve) (column : Column) → ((l : Loads) (share : Share) → part (with_share l share) ≡ plus (part l) (widened l.skew (kept column share)))
+    → (l : Loads) (shares : List Share) → part (fold with_share l shares) ≡ plus (part l) (load column l.skew shares)
+part_is part column adds l [] = sym (nothing-plus (part l))
+part_is part column adds l (share ∷ shares) =
+    part_is part column adds (with_share l share) shares
+    ∙ ap (λ c. plus c (load column l.skew shares)) (adds l share)
+    ∙ plus-assoc (part l) (widened l.skew (kept column share)) (load column l.skew shares)
+    ∙ ap (plus (part l)) (sym (total-cons (widened l.skew (kept column share)) (map (λ other. widened l.skew (kept column other)) shares)))
+
+peaked_by : (b : Bool) (l : Loads) (share : Share) (shares : List Share) → share.has_peak ≡ b
+    → plus (with_share l share).peaked (load all_column l.skew (filter (λ other. other.has_peak) shares))
+    ≡ plus l.peaked (load all_column l.skew (filter (λ other. other.has_peak) (share ∷ shares)))
+peaked_by true l share shares is =
+    rw is (plus-assoc l.peaked (widened l.skew (kept all_column share)) (load all_column l.skew (filter (λ other. other.has_peak) shares))
+    ∙ ap (plus l.peaked) (sym (total-cons (widened l.skew (kept all_column share)) (map (λ other. widened l.skew (kept all_column other)) (filter (λ other. other.has_peak) shares)))))
+peaked_by false l share shares is = rw is refl
+
+peaked_is : (l : Loads) (shares : List Share) → (fold with_share l shares).peaked ≡ plus l.peaked (load all_column l.skew (filter (λ share. share.has_peak) shares))
+peaked_is l [] = sym (nothing-plus l.peaked)
+peaked_is l (share ∷ shares) = peaked_is (with_share l share) shares ∙ peaked_by share.has_peak l share shares refl
+
+or-false : (b : Bool) → (b || false) ≡ b
+or-false true = refl
+or-false false = refl
+
+or-assoc : (a b c : Bool) → ((a || b) || c) ≡ (a || (b || c))
+or-assoc true b c = refl
+or-assoc false b c = refl
+
+any_is : (l : Loads) (shares : List Share) → (fold with_share l shares).has_peak ≡ (l.has_peak || list_any (λ share. share.has_peak) shares)
+any_is l [] = sym (or-false l.has_peak)
+any_is l (share ∷ shares) = any_is (with_share l share) shares ∙ or-assoc l.has_peak share.has_peak (list_any (λ other. other.has_peak) shares)
+
+-- what contracts bring to a meter in all
+abbrev pub sums_of : ℕ → List Share → Loads
+sums_of skew shares = fold with_share (no_loads skew) shares
+
+green_is : (skew : ℕ) (shares : List Share) → (sums_of skew shares).green ≡ load green_column skew shares
+green_is skew shares = part_is (λ l. l.green) green_column (λ l share. refl) (no_loads skew) shares ∙ plus-nothing (load green_column skew shares)
+
+all_is : (skew : ℕ) (shares : List Share) → (sums_of skew shares).all ≡ load all_column skew shares
+all_is skew shares = part_is (λ l. l.all) all_column (λ l share. refl) (no_loads skew) shares ∙ plus-nothing (load all_column skew shares)
+
+single_by : (b : Bool) (skew : ℕ) (shares : List Share) → (if b then load all_column skew shares else nothing) ≡ load all_column skew (if b then shares else [])
+single_by true skew shares = refl
+single_by false skew shares = refl
+
+counted_is : (p : Parameters) (skew : ℕ) (shares : List Share) → counted_load p (sums_of skew shares) ≡ load all_column skew (counted p shares)
+counted_is (SrTcm p) skew shares =
+    ap (λ b. if b then (sums_of skew shares).all else nothing) (any_is (no_loads skew) shares)
+    ∙ ap (λ c. if list_any (λ share. share.has_peak) shares then c else nothing) (all_is skew shares)
+    ∙ single_by (list_any (λ share. share.has_peak) shares) skew shares
+counted_is (TrTcm p) skew shares = all_is skew shares
+counted_is (Rfc4115 p) skew shares =
+    peaked_is (no_loads skew) shares ∙ plus-nothing (load all_column skew (filter (λ share. share.has_peak) shares))
+
+pub tests_are : (name : List ℕ) (m : Meter) (shares : List Share) (l : Loads) → l ≡ sums_of m.skew shares
+    → load_tests name m l.green (counted_load m.parameters l) ≡ meter_tests name m shares
+tests_are name m shares l is =
+    ap (λ own. load_tests name m own.green (counted_load m.parameters own)) is
+    ∙ ap (λ green. load_tests name m green (counted_load m.parameters (sums_of m.skew shares))) (green_is m.skew shares)
+    ∙ ap (load_tests name m (load green_column m.skew shares)) (counted_is m.parameters m.skew shares)
+
+-- ---- a loop over meters
+passed_by : (b : Bool) (t : Test) (tests more : List Test) → nat_le t.needed t.given ≡ b → (first_failed tests ≡ None → first_failed (tests ++ more) ≡ first_failed more)
+    → first_failed (t ∷ tests) ≡ None → first_failed ((t ∷ tests) ++ more) ≡ first_failed more
+unfolding first_failed
+passed_by true t tests more is behind passed = rw is (behind (rw is at passed))
+passed_by false t tests more is behind passed = absurd cc
+
+first_failed-passed : (tests more : List Test) → first_failed tests ≡ None → first_failed (tests ++ more) ≡ first_failed more
+unfolding first_failed
+first_failed-passed [] more passed = refl
+first_failed-passed (t ∷ tests) more passed = passed_by (nat_le t.needed t.given) t tests more refl (first_failed-passed tests more) passed
+
+failed_by : (b : Bool) (t : Test) (tests more : List Test) (refusal : Refusal) → nat_le t.needed t.given ≡ b
+    → (first_failed tests ≡ Some refusal → first_failed (tests ++ more) ≡ Some refusal)
+    → first_failed (t ∷ tests) ≡ Some refusal → first_failed ((t ∷ tests) ++ more) ≡ Some refusal
+unfolding first_failed
+failed_by true t tests more refusal is behind failed = search (rules, is, behind, failed)
+failed_by false t tests more refusal is behind failed = search (rules, is, failed)
+
+first_failed-failed : (tests more : List Test) (refusal : Refusal) → first_failed tests ≡ Some refusal → first_failed (tests ++ more) ≡ Some refusal
+unfolding first_failed
+first_failed-failed [] more refusal failed = absurd cc
+first_failed-failed (t ∷ tests) more refusal failed = failed_by (nat_le t.needed t.given) t tests more refusal refl (first_failed-failed tests more refusal) failed
+
+heads_same : {X : Type 0} (x y : X) (xs ys : List X) → x ∷ xs ≡ y ∷ ys → (x ≡ y) × (xs ≡ ys)
+heads_same x y xs ys same = (ap (λ list. get_or list 0 x) same, ap (drop 1) same)
+
+-- the sums of the meters that are left
+pub left_sums : Domain → List Contract → List (List Bound) → List (List ℕ × Meter) → List Loads
+left_sums d contracts rows [] = []
+left_sums d contracts rows (entry ∷ meters) = sums_of entry.1.skew (shares_at d entry.0 contracts rows) ∷ left_sums d contracts rows meters
+
+pub sums_are : (d : Domain) (contracts : List Contract) (rows : List (List Bound)) (meters : List (List ℕ × Meter))
+    → with_brought (λ name. shares_at d name contracts rows) (keys_of meters) (map (λ entry. no_loads entry.1.skew) meters) ≡ left_sums d contracts rows meters
+unfolding with_brought left_sums
+sums_are d contracts rows [] = refl
+sums_are d contracts rows (entry ∷ meters) = ap (λ rest. sums_of entry.1.skew (shares_at d entry.0 contracts rows) ∷ rest) (sums_are d contracts rows meters)
+
+-- the sums of the first meter
+pub first_sums : (d : Domain) (contracts : List Contract) (rows : List (List Bound)) (left meters : List (List ℕ × Meter)) (name : List ℕ) (m : Meter) (sums rest : List Loads) (l : Loads)
+    → left ≡ (name, m) ∷ meters → sums ≡ l ∷ rest → sums ≡ left_sums d contracts rows left
+    → (l ≡ sums_of m.skew (shares_at d name contracts rows)) × (rest ≡ left_sums d contracts rows meters)
+unfolding left_sums
+first_sums d contracts rows left meters name m sums rest l is_meters is_sums are =
+    heads_same l (sums_of m.skew (shares_at d name contracts rows)) rest (left_sums d contracts rows meters)
+    (sym is_sums ∙ are ∙ ap (left_sums d contracts rows) is_meters)
+
+table_tests-first : (d : Domain) (contracts : List Contract) (rows : List (List Bound)) (name : List ℕ) (m : Meter) (meters : List (List ℕ × Meter))
+    → table_tests d contracts rows ((name, m) ∷ meters) ≡ meter_tests name m (shares_at d name contracts rows) ++ table_tests d contracts rows meters
+unfolding table_tests
+table_tests-first d contracts rows name m meters = refl
+
+pub meter_passed : (d : Domain) (contracts : List Contract) (rows : List (List Bound)) (left meters : List (List ℕ × Meter)) (name : List ℕ) (m : Meter) (l : Loads) (whole : Option Refusal)
+    → left ≡ (name, m) ∷ meters → l ≡ sums_of m.skew (shares_at d name contracts rows) → first_failed (load_tests name m l.green (counted_load m.parameters l)) ≡ None
+    → first_failed (table_tests d contracts rows left) ≡ whole → first_failed (table_tests d contracts rows meters) ≡ whole
+meter_passed d contracts rows left meters name m l whole is_meters is passed kept =
+    sym (first_failed-passed (meter_tests name m (shares_at d name contracts rows)) (table_tests d contracts rows meters)
+    (ap first_failed (sym (tests_are name m (shares_at d name contracts rows) l is)) ∙ passed))
+    ∙ ap first_failed (sym (table_tests-first d contracts rows name m meters))
+    ∙ sym (ap (λ list. first_failed (table_tests d contracts rows list)) is_meters) ∙ kept
+
+pub meter_failed : (d : Domain) (contracts : List Contract) (rows : List (List Bound)) (left meters : List (List ℕ × Meter)) (name : List ℕ) (m : Meter) (l : Loads) (whole : Option Refusal)
+    (refusal : Refusal) → left ≡ (name, m) ∷ meters → l ≡ sums_of m.skew (shares_at d name contracts rows)
+    → first_failed (load_tests name m l.green (counted_load m.parameters l)) ≡ Some refusal → first_failed (table_tests d contracts rows left) ≡ whole → Some refusal ≡ whole
+meter_failed d contracts rows left meters name m l whole refusal is_meters is failed kept =
+    sym (first_failed-failed (meter_tests name m (shares_at d name contracts rows)) (table_tests d contracts rows meters) refusal
+    (ap first_failed (sym (tests_are name m (shares_at d name contracts rows) l is)) ∙ failed))
+    ∙ ap first_failed (sym (table_tests-first d contracts rows name m meters))
+    ∙ sym (ap (λ list. first_failed (table_tests d contracts rows list)) is_meters) ∙ kept
+
+pub meters_ended : (d : Domain) (contracts : List Contract) (rows : List (List Bound)) (left : List (List ℕ × Meter)) (sums : List Loads) (whole : Option Refusal)
+    → (left ≡ []) ⊎ (sums ≡ []) → sums ≡ left_sums d contracts rows left → first_failed (table_tests d contracts rows left) ≡ whole → None ≡ whole
+unfolding table_tests first_failed left_sums
+meters_ended d contracts rows [] sums whole ended are kept = kept
+meters_ended d contracts rows (entry ∷ meters) sums whole (inl ended) are kept = absurd cc
+meters_ended d contracts rows (entry ∷ meters) sums whole (inr ended) are kept = absurd (none_left (sym ended ∙ are))
+  where
+    none_left : {X : Type 0} {x : X} {xs : List X} → [] ≡ x ∷ xs → ⊥
+    none_left same = absurd cc
+
+pub none_long : {X : Type 0} (xs : List X) → length xs ≡ 0 → xs ≡ []
+none_long [] short = refl
+none_long (x ∷ xs) short = absurd (omega (arith, short))
