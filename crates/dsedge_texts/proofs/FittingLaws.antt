@@ -1,5 +1,5 @@
 -- The contracts of a domain text fit its domain.
-use Rattle.std.proofs.Common.{◌≡◌, ℕ, Bool, true, false, if◌then◌else◌, List, [], ◌∷◌, ◌++◌, length, Option, None, Some, is_none, Result, Ok, Err, refl, sym, ap, subst, ◌∙◌}
+use Rattle.std.proofs.Common.{◌≡◌, ℕ, Bool, true, false, if◌then◌else◌, List, [], ◌∷◌, ◌++◌, length, Option, None, Some, is_none, Result, Ok, Err, refl, sym, ap, ◌∙◌}
 use Rattle.std.specs.List.{list_all}
 use Rattle.std.specs.Str.{is_utf8}
 use Rattle.std.proofs.lemmas.Bool.{and_parts}
@@ -12,7 +12,7 @@ use Rattle.ds_domain_base.specs.declared.fault.DomainFault.{DomainFault}
 use Rattle.ds_domain_base.specs.declared.fault.Field.TheVariants as fields
 use Rattle.ds_domain_text.specs.Steps.{◌>>=◌, or_fail}
 use Rattle.ds_domain.specs.ContractEntries.{ContractText, contract_of, contract_terms, contract_text, next_contract, with_contract_of}
-use Rattle.ds_domain.specs.DomainTexts.{SectionTables, document_of, domain_of, no_text, parse_of, sections_of, top_of}
+use Rattle.ds_domain.specs.DomainTexts.{document_of, domain_of, no_text, parse_of, sections_of, top_of}
 use Rattle.ds_domain.specs.Parts.{refused_by}
 use Rattle.ds_domain.specs.Sections.{few, in_turn, section_in}
 use Rattle.ds_domain.proofs.WayLemmas.{moved, way_fault-moved}

@@ -1,4 +1,4 @@
-use Rattle.std.proofs.Common.{◌≡◌, ◌+◌, map, length, Err, ap, sym, ◌∙◌, arith}
+use Rattle.std.proofs.Common.{◌+◌, map, length, Err, ap, sym, ◌∙◌, arith}
 use Rattle.std.proofs.lemmas.List.{length_push, map-append}
 use Rattle.dsedge_files.specs.Readable.{readable}
 use Rattle.dsedge_files.proofs.TextLemmas.{read_all, read_next, unread_next}

@@ -1,4 +1,4 @@
-use Rattle.std.proofs.Common.{◌≡◌, ◌+◌, ◌-◌, ◌<◌, ◌++◌, length, vec_len}
+use Rattle.std.proofs.Common.{◌≡◌, ◌-◌, ◌<◌, ◌++◌, length, vec_len}
 use Rattle.dsedge_files.proofs.whole.read_whole.Given as goal
 
 -- what came so far, and what is left behind it
