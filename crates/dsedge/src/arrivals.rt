@@ -12,38 +12,6 @@ const LAST_MOMENT: u64 = (1 << 63) - 1;
 /// The greatest size of a packet, in bytes.
 const LARGEST_SIZE: u64 = 65_535;
 
-/// The moment that a field says: 0 to 2^63 - 1 nanoseconds.
-pub fn moment(field: &[u8]) -> Option<Moment>
-    ensures { result ≡ number_of (2 ^ 63 - 1) field.now }
-{
-    match number(field, LAST_MOMENT) {
-        Some(nanoseconds) => Moment::new(nanoseconds).ok(),
-        None => None,
-    }
-}
-
-/// The size that a field says: 1 to 65,535 bytes.
-pub fn size(field: &[u8]) -> Option<PacketSize>
-    ensures { result ≡ size_in field.now }
-{
-    match number(field, LARGEST_SIZE) {
-        Some(bytes) => PacketSize::new(bytes).ok(),
-        None => None,
-    }
-}
-
-/// The colour that a field says: `g`, `y` or `r`.
-pub fn colour(field: &[u8]) -> Option<Colour>
-    ensures { result ≡ colour_named field.now }
-{
-    match field {
-        [b'g'] => Some(Colour::Green),
-        [b'y'] => Some(Colour::Yellow),
-        [b'r'] => Some(Colour::Red),
-        _ => None,
-    }
-}
-
 /// The moment at so many nanoseconds.
 fn moment_at(nanoseconds: u64) -> Moment
     requires { nanoseconds < 2 ^ 63 }
@@ -58,6 +26,38 @@ fn size_of(bytes: u64) -> Option<PacketSize>
     ensures { result ≡ (if bytes == 0 then None else Some bytes) }
 {
     PacketSize::new(bytes).ok()
+}
+
+/// The moment that a field says: 0 to 2^63 - 1 nanoseconds.
+pub fn moment(field: &[u8]) -> Option<Moment>
+    ensures { result ≡ number_of (2 ^ 63 - 1) field.now }
+{
+    match number(field, LAST_MOMENT) {
+        Some(nanoseconds) => Some(moment_at(nanoseconds)),
+        None => None,
+    }
+}
+
+/// The size that a field says: 1 to 65,535 bytes.
+pub fn size(field: &[u8]) -> Option<PacketSize>
+    ensures { result ≡ size_in field.now }
+{
+    match number(field, LARGEST_SIZE) {
+        Some(bytes) => size_of(bytes),
+        None => None,
+    }
+}
+
+/// The colour that a field says: `g`, `y` or `r`.
+pub fn colour(field: &[u8]) -> Option<Colour>
+    ensures { result ≡ colour_named field.now }
+{
+    match field {
+        [b'g'] => Some(Colour::Green),
+        [b'y'] => Some(Colour::Yellow),
+        [b'r'] => Some(Colour::Red),
+        _ => None,
+    }
 }
 
 /// The arrival that a line says, `MOMENT SIZE COLOUR`: the line's number is the packet's. Each byte is read once.

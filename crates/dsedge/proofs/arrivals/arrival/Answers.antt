@@ -1,4 +1,4 @@
-use Rattle.std.proofs.Common.{refl, sym, ◌∙◌, arith, ◌≤◌, ap}
+use Rattle.std.proofs.Common.{refl, sym, ◌∙◌, arith, ◌≤◌}
 use Rattle.line_text.specs.Lines.{fields_of}
 use Rattle.dsedge.specs.Arrivals.{arrival_in}
 use Rattle.dsedge.proofs.LeadingArrivals.{by_letter, leading_at_most, no_bytes, no_moment, no_size}
