@@ -2,8 +2,7 @@ ghost use Rattle.std.specs.Prelude.{◌≡◌, ◌≤◌, ◌↔◌, IsTrue, opt
 ghost use Rattle.line_text.specs.Lines.{fields_of};
 ghost use Rattle.line_text.specs.Numbers.{leading_number_of};
 
-/// The most digits that a number may have.
-const MOST_DIGITS: usize = 20;
+use crate::numbers::MOST_DIGITS;
 
 /// Whether a byte ends a number of so many digits and of this value.
 fn ends_number(byte: u8, digits: usize, value: u64, most: u64) -> bool
