@@ -3,3 +3,4 @@ pub mod FrontLemmas
 pub mod MeteredLaws
 pub mod StartLemmas
 pub mod VerdictLaws
+pub mod LeadingArrivals

@@ -1,8 +1,8 @@
-ghost use Rattle.std.specs.Prelude.{◌≡◌, ◌-◌, ◌^◌};
+ghost use Rattle.std.specs.Prelude.{◌≡◌, ◌-◌, ◌<◌, ◌^◌, ◌==◌, None, Some, if◌then◌else◌};
 ghost use Rattle.line_text.specs.Numbers.{number_of};
 ghost use Rattle.dsedge.specs.Arrivals.{arrival_in, colour_named, size_in, sized_in, sized_since};
 
-use line_text::{number, three_fields, two_fields};
+use line_text::{leading_number, number, two_fields};
 use meter_book::Arrival;
 use moment_core::{Colour, Moment, PacketSize};
 
@@ -12,12 +12,28 @@ const LAST_MOMENT: u64 = (1 << 63) - 1;
 /// The greatest size of a packet, in bytes.
 const LARGEST_SIZE: u64 = 65_535;
 
+/// The moment at so many nanoseconds.
+fn moment_at(nanoseconds: u64) -> Moment
+    requires { nanoseconds < 2 ^ 63 }
+    ensures { result ≡ nanoseconds }
+{
+    Moment::new(nanoseconds).unwrap()
+}
+
+/// The size of so many bytes, where there are any.
+fn size_of(bytes: u64) -> Option<PacketSize>
+    requires { bytes < 2 ^ 16 }
+    ensures { result ≡ (if bytes == 0 then None else Some bytes) }
+{
+    PacketSize::new(bytes).ok()
+}
+
 /// The moment that a field says: 0 to 2^63 - 1 nanoseconds.
 pub fn moment(field: &[u8]) -> Option<Moment>
     ensures { result ≡ number_of (2 ^ 63 - 1) field.now }
 {
     match number(field, LAST_MOMENT) {
-        Some(nanoseconds) => Moment::new(nanoseconds).ok(),
+        Some(nanoseconds) => Some(moment_at(nanoseconds)),
         None => None,
     }
 }
@@ -27,7 +43,7 @@ pub fn size(field: &[u8]) -> Option<PacketSize>
     ensures { result ≡ size_in field.now }
 {
     match number(field, LARGEST_SIZE) {
-        Some(bytes) => PacketSize::new(bytes).ok(),
+        Some(bytes) => size_of(bytes),
         None => None,
     }
 }
@@ -44,17 +60,18 @@ pub fn colour(field: &[u8]) -> Option<Colour>
     }
 }
 
-/// The arrival that a line says, `MOMENT SIZE COLOUR`: the line's number is the packet's.
+/// The arrival that a line says, `MOMENT SIZE COLOUR`: the line's number is the packet's. Each byte is read once.
 pub fn arrival(line_number: u64, line: &[u8]) -> Option<Arrival>
     ensures { result ≡ arrival_in line_number line.now }
 {
-    let (at, bytes, letter) = three_fields(line)?;
+    let (nanoseconds, rest) = leading_number(line, LAST_MOMENT)?;
+    let (bytes, letter) = leading_number(rest, LARGEST_SIZE)?;
     Some(Arrival {
         flow: 0,
         packet: line_number,
         hop: 0,
-        moment: moment(at)?,
-        size: size(bytes)?,
+        moment: moment_at(nanoseconds),
+        size: size_of(bytes)?,
         came: colour(letter)?,
     })
 }

@@ -1,3 +1,4 @@
 -- Lemmas on lines, fields and numbers.
 pub mod LineLemmas
 pub mod NumberLemmas
+pub mod LeadingLemmas

@@ -1,10 +1,10 @@
 -- How a text is cut into lines and fields: what a reader of a text in pieces needs.
-use Rattle.std.proofs.Common.{◌≡◌, ◌≢◌, ℕ, ◌+◌, ◌<◌, ◌≤◌, zero, suc, not, Bool, true, false, ◌||◌, ◌&&◌, eqb, ltb, cond, List, [], ◌∷◌, ◌++◌, length, get_or, take, drop, Option, None, Some, refl, sym, ap, ◌∙◌, arith, rules, append_assoc}
-use Rattle.std.specs.List.{onto_first, slice_split, list_any, position_or_len, prefix_len, before_first, after_first, position}
-use Rattle.std.proofs.lemmas.Bool.{eqb-true, not-false}
-use Rattle.std.proofs.lemmas.List.Sums.{split_at_first, prefix_len_stops}
+use Rattle.std.proofs.Common.{◌≡◌, ◌≢◌, ℕ, ◌+◌, ◌<◌, ◌≤◌, suc, not, Bool, true, false, ◌||◌, eqb, cond, List, [], ◌∷◌, ◌++◌, length, get_or, take, drop, Option, None, Some, refl, sym, ap, ◌∙◌, arith}
+use Rattle.std.specs.List.{onto_first, slice_split, position_or_len, before_first, after_first, position}
+use Rattle.std.proofs.lemmas.Bool.{cond_above, cond_below, eqb-true, false_from_ne_true, not-false}
+use Rattle.std.proofs.lemmas.List.Sums.{position_or_len_is, split_at_first, prefix_len_stops}
 use Rattle.std.proofs.lemmas.Bool.Decides.{nat_tests}
-use Rattle.std.proofs.lemmas.Grind.{common_steps}
+use Rattle.memchr.specs.Find.{IsFirstByte, is_byte}
 use Rattle.line_text.specs.Lines.{lines_of, fields_of, has_byte, fields_left}
 
 -- where neither of two tests passes, each fails
@@ -109,6 +109,20 @@ position-some test text place h = grind (arith, nat_tests)
 -- and where it finds none
 position-none : (test : ℕ → Bool) (text : List ℕ) → position test text ≡ None → length text ≤ position_or_len test text
 position-none test text h = grind (arith, nat_tests)
+
+-- the first place of a byte, as a search for it answers it
+pub position-first : (mark : ℕ) (text : List ℕ) (found : Option ℕ) → IsFirstByte (is_byte mark) text found → found ≡ position (λ byte. eqb byte mark) text
+position-first mark text None nowhere =
+    let test : ℕ → Bool = λ byte. eqb byte mark in
+    let end : position_or_len test text ≡ length text =
+    position_or_len_is test text (length text) 0 (omega arith) (λ k below. false_from_ne_true (test (get_or text k 0)) (nowhere k (omega arith) below)) (λ below. absurd (omega (arith, below))) in
+    cond_above (position_or_len test text) (length text) (Some (position_or_len test text)) None None (omega (arith, end)) refl
+position-first mark text (Some place) first =
+    let test : ℕ → Bool = λ byte. eqb byte mark in
+    let within : place < length text = first.0.high in
+    let at : position_or_len test text ≡ place =
+    position_or_len_is test text place 0 (omega (arith, within)) (λ k below. false_from_ne_true (test (get_or text k 0)) (first.0.before k (omega arith) below)) (λ below. first.1) in
+    ap Some (sym at) ∙ cond_below (position_or_len test text) (length text) (Some (position_or_len test text)) None (omega (arith, at, within))
 
 -- a text in which a byte stands first at this place
 pub cut_at_first : (mark : ℕ) (text : List ℕ) (place : ℕ) → position (λ byte. eqb byte mark) text ≡ Some place

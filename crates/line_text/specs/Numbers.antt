@@ -1,5 +1,5 @@
 -- Numbers in a text.
-use Rattle.std.specs.Prelude.{ℕ, ◌+◌, ◌-◌, ◌*◌, Bool, ◌&&◌, nat_le, List, length, fold, Option, None, Some, if◌then◌else◌}
+use Rattle.std.specs.Prelude.{ℕ, ◌+◌, ◌-◌, ◌*◌, Bool, ◌&&◌, nat_le, List, length, fold, Option, None, Some, option_map, ◌∷◌, if◌then◌else◌}
 use Rattle.std.specs.List.{list_all}
 use Rattle.std.specs.Char.{is_ascii_digit}
 
@@ -18,3 +18,8 @@ is_number text = nat_le 1 (length text) && nat_le (length text) 20 && list_all i
 -- the number that a text is, where it is one of at most `most`
 unfoldable pub number_of : ℕ → List ℕ → Option ℕ
 number_of most text = if is_number text && nat_le (value_of text) most then Some (value_of text) else None
+
+-- the number that the first of some fields is, and the other fields, where there are others
+abbrev pub leading_number_of : ℕ → List (List ℕ) → Option (ℕ × List (List ℕ))
+leading_number_of most (field ∷ next ∷ more) = option_map (λ number. (number, next ∷ more)) (number_of most field)
+leading_number_of most _ = None

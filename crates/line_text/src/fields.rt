@@ -2,6 +2,8 @@ ghost use Rattle.std.specs.Prelude.{◌≡◌, ◌≢◌, false, [], ◌∷◌, 
 ghost use Rattle.std.specs.Option.{option_copied};
 ghost use Rattle.line_text.specs.Lines.{fields_of, fields_left, has_byte};
 
+use memchr::memchr;
+
 /// What stands before the first `mark` in a text and what stands after it, or `None` where the
 /// text has no such byte.
 pub fn cut(text: &[u8], mark: u8) -> Option<(&[u8], &[u8])>
@@ -19,7 +21,7 @@ pub fn cut(text: &[u8], mark: u8) -> Option<(&[u8], &[u8])>
 fn place_of(text: &[u8], mark: u8) -> Option<usize>
     ensures { result ≡ position (λ byte. byte == mark) text.now }
 {
-    text.iter().position(|byte| *byte == mark)
+    memchr(mark, text)
 }
 
 /// The first field of a line, and what stands after its space, if it has one. Fields stand one

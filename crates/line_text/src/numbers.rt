@@ -5,7 +5,7 @@ use itoa::Buffer;
 use std::alloc::AllocError;
 
 /// The most digits that a number may have.
-const MOST_DIGITS: usize = 20;
+pub const MOST_DIGITS: usize = 20;
 
 /// The number that a text is: 1 to 20 ASCII digits with a value of at most `most`. Leading zeros
 /// are read; a sign, a space or any other byte makes it no number.

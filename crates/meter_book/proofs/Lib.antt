@@ -1,3 +1,4 @@
 pub mod MeterLaws
 pub mod ReplayLaws
 pub mod RowLaws
+pub mod StoredRowLaws

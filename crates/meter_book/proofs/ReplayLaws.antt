@@ -1,5 +1,5 @@
 -- One arrival more, in a replay and in its sums.
-use Rattle.std.proofs.Common.{◌≡◌, ℕ, ◌+◌, ◌≤◌, Bool, true, false, cond, List, [], ◌∷◌, ◌++◌, length, refl, sym, ◌∙◌, ap, arith}
+use Rattle.std.proofs.Common.{◌≡◌, ℕ, ◌+◌, ◌≤◌, Bool, true, false, cond, List, [], ◌∷◌, ◌++◌, length, map, refl, sym, ◌∙◌, ap, arith}
 use Rattle.std.proofs.lemmas.List.{length-map, map-append}
 use Rattle.std.proofs.lemmas.List.Sums.{count_by-le-length, sum_by-append}
 use Rattle.moment_core.specs.declared.colour.Colour.{Colour}
@@ -8,9 +8,10 @@ use Rattle.moment_core.specs.Colours.{is_green, is_yellow, is_red}
 use Rattle.meter_book.specs.declared.any_meter.AnyMeter.{AnyMeter}
 use Rattle.meter_book.specs.declared.row.Arrival.{Arrival}
 use Rattle.meter_book.specs.declared.row.Row.{Row}
-use Rattle.meter_book.specs.AnyMeter.{after_any}
-use Rattle.meter_book.specs.Kept.{arrivals_of}
-use Rattle.meter_book.specs.Replay.{arrival_of, bytes_left, meter_after, offer_of, packets_left, replay, row_of, rows_from}
+use Rattle.meter_book.specs.AnyMeter.{after_any, left_of}
+use Rattle.meter_book.specs.declared.stored_row.StoredRow.{StoredRow}
+use Rattle.meter_book.specs.Kept.{arrival_stored, arrivals_of, stored_of}
+use Rattle.meter_book.specs.Replay.{bytes_left, meter_after, offer_of, packets_left, replay, row_of, rows_from}
 use Rattle.meter_book.specs.Tallies.{tallies_of, with_packet}
 
 pub meter_after-push : (m : AnyMeter) (before : List Arrival) (a : Arrival) → meter_after m (before ++ a ∷ []) ≡ after_any (meter_after m before) (offer_of a)
@@ -33,25 +34,33 @@ length-rows_from m place [] = refl
 length-rows_from m place (a ∷ more) = omega (arith, length-rows_from (after_any m (offer_of a)) (place + 1) more)
 
 -- the arrivals of a replay's rows are those that were replayed
-pub arrivals_of-rows_from : (m : AnyMeter) (place : ℕ) (arrivals : List Arrival) → arrivals_of (rows_from m place arrivals) ≡ arrivals
+pub arrivals_of-rows_from : (m : AnyMeter) (place : ℕ) (arrivals : List Arrival) → arrivals_of (map stored_of (rows_from m place arrivals)) ≡ arrivals
 arrivals_of-rows_from m place [] = refl
 arrivals_of-rows_from m place (a ∷ more) = ap (λ rest. a ∷ rest) (arrivals_of-rows_from (after_any m (offer_of a)) (place + 1) more)
 
-pub arrivals_of-push : (rows : List Row) (row : Row) → arrivals_of (rows ++ row ∷ []) ≡ arrivals_of rows ++ arrival_of row ∷ []
-arrivals_of-push rows row = map-append arrival_of rows (row ∷ [])
+pub arrivals_of-push : (rows : List StoredRow) (row : StoredRow) → arrivals_of (rows ++ row ∷ []) ≡ arrivals_of rows ++ arrival_stored row ∷ []
+arrivals_of-push rows row = map-append arrival_stored rows (row ∷ [])
 
--- a replay and the row of one arrival more are a replay
-pub replayed-push : (opening meter : AnyMeter) (rows : List Row) (a : Arrival)
-    → rows ≡ replay opening (arrivals_of rows) → meter ≡ meter_after opening (arrivals_of rows)
-    → rows ++ row_of meter (length rows) a ∷ [] ≡ replay opening (arrivals_of (rows ++ row_of meter (length rows) a ∷ []))
+-- the replay of one arrival more
+pub replay-push : (opening meter : AnyMeter) (rows : List StoredRow) (a : Arrival) → meter ≡ meter_after opening (arrivals_of rows)
+    → replay opening (arrivals_of (rows ++ stored_of (row_of meter (length rows) a) ∷ [])) ≡ replay opening (arrivals_of rows) ++ row_of meter (length rows) a ∷ []
+replay-push opening meter rows a met =
+    let place : 0 + length (arrivals_of rows) ≡ length rows = omega (arith, length-map rows arrival_stored) in
+    rw (arrivals_of-push rows (stored_of (row_of meter (length rows) a)), rows_from-push opening 0 (arrivals_of rows) a, place, ← met) refl
+
+-- what is stored of a replay and of the row of one arrival more is a replay
+pub replayed-push : (opening meter : AnyMeter) (rows : List StoredRow) (a : Arrival)
+    → rows ≡ map stored_of (replay opening (arrivals_of rows)) → meter ≡ meter_after opening (arrivals_of rows)
+    → rows ++ stored_of (row_of meter (length rows) a) ∷ [] ≡ map stored_of (replay opening (arrivals_of (rows ++ stored_of (row_of meter (length rows) a) ∷ [])))
 replayed-push opening meter rows a replayed met =
-    let place : 0 + length (arrivals_of rows) ≡ length rows = omega (arith, length-map rows arrival_of) in
-    rw (arrivals_of-push rows (row_of meter (length rows) a), rows_from-push opening 0 (arrivals_of rows) a, place, ← met, ← replayed) refl
+    ap (λ front. front ++ stored_of (row_of meter (length rows) a) ∷ []) replayed
+    ∙ sym (map-append stored_of (replay opening (arrivals_of rows)) (row_of meter (length rows) a ∷ []))
+    ∙ ap (map stored_of) (sym (replay-push opening meter rows a met))
 
-pub met-push : (opening meter : AnyMeter) (rows : List Row) (place : ℕ) (a : Arrival) → meter ≡ meter_after opening (arrivals_of rows)
-    → after_any meter (offer_of a) ≡ meter_after opening (arrivals_of (rows ++ row_of meter place a ∷ []))
+pub met-push : (opening meter : AnyMeter) (rows : List StoredRow) (place : ℕ) (a : Arrival) → meter ≡ meter_after opening (arrivals_of rows)
+    → after_any meter (offer_of a) ≡ meter_after opening (arrivals_of (rows ++ stored_of (row_of meter place a) ∷ []))
 met-push opening meter rows place a met =
-    rw (arrivals_of-push rows (row_of meter place a), meter_after-push opening (arrivals_of rows) a, ← met) refl
+    rw (arrivals_of-push rows (stored_of (row_of meter place a)), meter_after-push opening (arrivals_of rows) a, ← met) refl
 
 packets_counted : (picked : Colour → Bool) (rows : List Row) (row : Row) → picked row.left ≡ true
     → packets_left picked (rows ++ row ∷ []) ≡ packets_left picked rows + 1
@@ -92,3 +101,10 @@ tallies_of-push rows row = tallies_of-push_left rows row row.left refl
 -- no sum of packets is above the number of rows
 pub packets_left-le : (picked : Colour → Bool) (rows : List Row) → packets_left picked rows ≤ length rows
 packets_left-le picked rows = count_by-le-length (λ (r : Row). picked r.left) rows
+
+-- the sums of one arrival more
+pub counted-push : (opening meter : AnyMeter) (rows : List StoredRow) (a : Arrival) → meter ≡ meter_after opening (arrivals_of rows)
+    → with_packet (tallies_of (replay opening (arrivals_of rows))) (left_of meter (offer_of a)) a.size
+    ≡ tallies_of (replay opening (arrivals_of (rows ++ stored_of (row_of meter (length rows) a) ∷ [])))
+counted-push opening meter rows a met =
+    sym (tallies_of-push (replay opening (arrivals_of rows)) (row_of meter (length rows) a)) ∙ ap tallies_of (sym (replay-push opening meter rows a met))

@@ -13,10 +13,6 @@ use Rattle.meter_book.specs.AnyMeter.{newest_of, left_of, after_any}
 abbrev pub offer_of : Arrival → Offer
 offer_of a = record { moment = a.moment; size = a.size; came = a.came }
 
--- what of a row is the arrival
-abbrev pub arrival_of : Row → Arrival
-arrival_of r = record { flow = r.flow; packet = r.packet; hop = r.hop; moment = r.arrival; size = r.size; came = r.came }
-
 -- the row of an arrival at a meter
 abbrev pub row_of : AnyMeter → ℕ → Arrival → Row
 row_of m place a = record {

@@ -1,10 +1,11 @@
-ghost use Rattle.std.specs.Prelude.{◌≡◌, ◌≤◌, ◌<◌, ◌↔◌, ◌^◌, [], length, IfOk, OnOk, OnErr, IsErrOf};
+ghost use Rattle.std.specs.Prelude.{◌≡◌, ◌≤◌, ◌<◌, ◌↔◌, ◌^◌, [], length, slice_get, IsTrue, IfOk, OnOk, OnErr, IsErrOf};
 ghost use Rattle.meter_book.specs.Replay.{accounts_of, next_row, noted, rows_of};
 
 use crate::accounts::Accounts;
 use crate::any_meter::AnyMeter;
 use crate::journal::Journal;
 use crate::row::{Arrival, Row};
+use crate::stored_row::{StoredRow, row_among};
 use crate::tally::Tallies;
 use moment_core::Gap;
 use std::alloc::Global;
@@ -45,7 +46,7 @@ pub struct MeterBook {
     meter: AnyMeter,
     skew: Gap,
     capacity: u32,
-    rows: Vec<Row>,
+    rows: Vec<StoredRow>,
     tallies: Tallies,
 }
 
@@ -100,7 +101,7 @@ impl MeterBook {
         let place = self.rows.len() as u64;
         let row = self.meter.row(place, arrival);
         self.tallies.add(row.left, row.size);
-        let stored = row;
+        let stored = StoredRow::of(&row);
         self.rows.push(stored).unwrap();
         Ok(row)
     }
@@ -112,11 +113,25 @@ impl MeterBook {
         self.tallies.accounts()
     }
 
-    /// Its rows so far, in order.
-    pub fn rows(&self) -> &[Row]
-        ensures { result.now ≡ rows_of self.now }
+    /// How many rows it has so far.
+    pub fn len(&self) -> usize
+        ensures { result ≡ length self.now.arrivals }
     {
-        self.rows.as_slice()
+        self.rows.len()
+    }
+
+    /// Whether it has no row yet.
+    pub fn is_empty(&self) -> bool
+        ensures { IsTrue result ↔ (self.now.arrivals ≡ []) }
+    {
+        self.rows.is_empty()
+    }
+
+    /// The row at a place, counted from 0: that of the replay of what arrived, or `None` where there is none yet.
+    pub fn row(&self, place: usize) -> Option<Row>
+        ensures { result ≡ slice_get (rows_of self.now) place }
+    {
+        row_among(self.rows.as_slice(), place)
     }
 
     /// Hands its rows over, as the journal of site 0 until `Journal::at` names another.
@@ -187,7 +202,9 @@ mod tests {
         assert_eq!(rt; accounts.bytes, [2_000, 2_500, 100]);
         let journal = book.into_journal().at(7);
         assert_eq!(rt; journal.site(), 7);
-        assert_eq!(rt; journal.rows().len(), 5);
+        assert_eq!(rt; journal.len(), 5);
+        assert_eq!(rt; journal.row(4).map_or(0, |row| row.packet), 4);
+        assert_eq!(rt; journal.row(5), None);
         Ok(())
     }
 
@@ -199,7 +216,7 @@ mod tests {
         }
         let refused = book.note(arrival(2, 10, 100, Colour::Green)?);
         assert_eq!(rt; refused.err().map_or(0, |fault| fault.code()), 1);
-        assert_eq!(rt; book.rows().len(), 2);
+        assert_eq!(rt; book.len(), 2);
         assert_eq!(rt; book.accounts().packets, [0, 2, 0]);
         assert_eq!(rt; book.accounts().bytes, [0, 200, 0]);
         Ok(())
@@ -211,6 +228,8 @@ mod tests {
         book.note(arrival(0, 100, 100, Colour::Green)?)?;
         let row = book.note(arrival(1, 40, 100, Colour::Green)?)?;
         assert_eq!(rt; (row.used.get(), row.late.get()), (100, 60));
+        assert_eq!(rt; book.row(1), Some(row));
+        assert_eq!(rt; book.is_empty(), false);
         Ok(())
     }
 }

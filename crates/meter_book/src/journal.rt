@@ -1,7 +1,8 @@
-ghost use Rattle.std.specs.Prelude.{◌≡◌};
+ghost use Rattle.std.specs.Prelude.{◌≡◌, ◌↔◌, IsTrue, [], length, map, slice_get};
 
 use crate::any_meter::AnyMeter;
 use crate::row::Row;
+use crate::stored_row::{StoredRow, row_among};
 use moment_core::Gap;
 use std::marker::Model;
 
@@ -11,7 +12,7 @@ pub struct Journal {
     site: u32,
     opening: AnyMeter,
     skew: Gap,
-    rows: Vec<Row>,
+    rows: Vec<StoredRow>,
 }
 
 impl Model for Journal {
@@ -28,11 +29,11 @@ impl Model for Journal {
 
 impl Journal {
     ghost use Rattle.meter_book.specs.Replay.{journal_rows, replay};
-    ghost use Rattle.meter_book.specs.Kept.{arrivals_of};
+    ghost use Rattle.meter_book.specs.Kept.{arrivals_of, stored_of};
 
     /// The journal of site 0; `rows` must be the replay of their own arrivals.
-    pub(crate) fn new(opening: AnyMeter, skew: Gap, rows: Vec<Row>) -> Self
-        requires { rows.items ≡ replay opening (arrivals_of rows.items) }
+    pub(crate) fn new(opening: AnyMeter, skew: Gap, rows: Vec<StoredRow>) -> Self
+        requires { rows.items ≡ map stored_of (replay opening (arrivals_of rows.items)) }
         ensures { result ≡ record { site = 0; opening = opening; skew = skew; arrivals = arrivals_of rows.items } }
     {
         Journal {
@@ -82,10 +83,24 @@ impl Journal {
         self.skew
     }
 
-    /// Its rows, in order: those of the replay of what arrived.
-    pub fn rows(&self) -> &[Row]
-        ensures { result.now ≡ journal_rows self.now }
+    /// How many rows it has.
+    pub fn len(&self) -> usize
+        ensures { result ≡ length self.now.arrivals }
     {
-        self.rows.as_slice()
+        self.rows.len()
+    }
+
+    /// Whether it has no row.
+    pub fn is_empty(&self) -> bool
+        ensures { IsTrue result ↔ (self.now.arrivals ≡ []) }
+    {
+        self.rows.is_empty()
+    }
+
+    /// The row at a place, counted from 0: that of the replay of what arrived, or `None` where it has no such row.
+    pub fn row(&self, place: usize) -> Option<Row>
+        ensures { result ≡ slice_get (journal_rows self.now) place }
+    {
+        row_among(self.rows.as_slice(), place)
     }
 }

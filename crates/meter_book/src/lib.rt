@@ -9,6 +9,7 @@ pub mod laws;
 pub mod meter;
 pub mod metering;
 pub mod row;
+mod stored_row;
 mod tally;
 
 pub use accounts::Accounts;

@@ -1,8 +1,11 @@
-use Rattle.std.proofs.Common.{sym, ◌∙◌}
-use Rattle.dsedge.proofs.ArrivalLemmas.{number_of_at_most, result_ok_of_size}
+use Rattle.std.proofs.Common.{◌≤◌, sym, arith}
+use Rattle.dsedge.proofs.ArrivalLemmas.{number_of_at_most}
 use Rattle.dsedge.proofs.arrivals.size.Goals as goal
 
+pub size_of-requires : goal.size_of-requires
+size_of-requires c =
+    let most : c.in-Some.bytes ≤ 65535 = number_of_at_most _ _ c.args.field.now (sym c.in-Some.ensures) in
+    omega (arith, most)
+
 pub returns-in-Some : goal.returns-in-Some
-returns-in-Some c =
-    let most = number_of_at_most _ _ c.args.field.now (sym c.in-Some.ensures) in
-    rw (← c.in-Some.ensures) (c.ok.ensures.value ∙ result_ok_of_size c.new.result c.in-Some.bytes c.new.ensures most)
+returns-in-Some c = rw (← c.in-Some.ensures) c.size_of.ensures

@@ -1,0 +1,125 @@
+-- The number that the first field of a line is, read digit by digit.
+use Rattle.std.proofs.Common.{◌≡◌, ◌≢◌, ℕ, ◌+◌, ◌<◌, ◌≤◌, Bool, true, false, ◌&&◌, eqb, leb, cond, List, [], ◌∷◌, length, get_or, drop, fold, Option, None, Some, refl, ◌∙◌, arith, inl, inr}
+use Rattle.std.specs.List.{list_all, onto_first}
+use Rattle.std.specs.Option.{option_map}
+use Rattle.std.specs.Char.{is_ascii_digit}
+use Rattle.std.proofs.lemmas.Bool.{cases_eq, eq-eqb, false_from_ne_true, leb-true, ne_eqb}
+use Rattle.std.proofs.lemmas.Bool.Decides.{nat_tests}
+use Rattle.std.proofs.lemmas.List.{at_drop_more, at_drop_all}
+use Rattle.line_text.specs.Lines.{fields_of}
+use Rattle.line_text.specs.Numbers.{is_number, leading_number_of, number_of, value_of, with_digit}
+use Rattle.line_text.proofs.LineLemmas.{fields_of-some}
+use Rattle.line_text.proofs.NumberLemmas.{value-grows}
+
+-- the number of the first field and the other fields, where digits of that field were read before
+abbrev pub digits_on : ℕ → ℕ → ℕ → List (List ℕ) → Option (ℕ × List (List ℕ))
+digits_on most count value (field ∷ next ∷ more) =
+    cond ((leb 1 (count + length field) && leb (count + length field) 20 && list_all is_ascii_digit field) && leb (fold with_digit value field) most)
+    (Some (fold with_digit value field, next ∷ more)) None
+digits_on most count value _ = None
+
+map_of_cond : (b : Bool) (number : ℕ) (more : List (List ℕ)) → cond {A = Option (ℕ × List (List ℕ))} b (Some (number, more)) None ≡ option_map (λ n. (n, more)) (cond b (Some number) None)
+map_of_cond true number more = refl
+map_of_cond false number more = refl
+
+-- where none was read before
+pub digits_on-first : (most : ℕ) (fields : List (List ℕ)) → digits_on most 0 0 fields ≡ leading_number_of most fields
+unfolding number_of is_number value_of
+digits_on-first most [] = refl
+digits_on-first most (field ∷ []) = refl
+digits_on-first most (field ∷ next ∷ more) =
+    let none : 0 + length field ≡ length field = omega arith in
+    rw none (map_of_cond ((leb 1 (length field) && leb (length field) 20 && list_all is_ascii_digit field) && leb (fold with_digit 0 field) most) (fold with_digit 0 field) (next ∷ more))
+
+digits_on-onto : (most count value byte : ℕ) (fields : List (List ℕ)) → is_ascii_digit byte ≡ true
+    → digits_on most count value (onto_first byte fields) ≡ digits_on most (count + 1) (with_digit value byte) fields
+digits_on-onto most count value byte [] digit = refl
+digits_on-onto most count value byte (field ∷ []) digit = refl
+digits_on-onto most count value byte (field ∷ next ∷ more) digit =
+    let longer : count + length (byte ∷ field) ≡ count + 1 + length field = omega arith in
+    rw (longer, digit) refl
+
+no_space : (byte : ℕ) → is_ascii_digit byte ≡ true → eqb byte 32 ≡ false
+no_space byte digit = grind (arith, nat_tests)
+
+-- one digit more
+digits_on-digit : (most count value byte : ℕ) (line : List ℕ) → is_ascii_digit byte ≡ true
+    → digits_on most count value (fields_of (byte ∷ line)) ≡ digits_on most (count + 1) (with_digit value byte) (fields_of line)
+unfolding fields_of
+digits_on-digit most count value byte line digit = rw (no_space byte digit) (digits_on-onto most count value byte (fields_of line) digit)
+
+fails_third : (a b c d : Bool) (x : Option (ℕ × List (List ℕ))) → c ≡ false → cond ((a && b && c) && d) x None ≡ None
+fails_third true true c d x e = rw e refl
+fails_third true false c d x e = refl
+fails_third false b c d x e = refl
+
+fails_last : (a d : Bool) (x : Option (ℕ × List (List ℕ))) → d ≡ false → cond (a && d) x None ≡ None
+fails_last true d x e = rw e refl
+fails_last false d x e = refl
+
+digits_on-onto_other : (most count value byte : ℕ) (fields : List (List ℕ)) → is_ascii_digit byte ≡ false → digits_on most count value (onto_first byte fields) ≡ None
+digits_on-onto_other most count value byte [] other = refl
+digits_on-onto_other most count value byte (field ∷ []) other = refl
+digits_on-onto_other most count value byte (field ∷ next ∷ more) other =
+    fails_third (leb 1 (count + length (byte ∷ field))) (leb (count + length (byte ∷ field)) 20) (is_ascii_digit byte && list_all is_ascii_digit field)
+    (leb (fold with_digit value (byte ∷ field)) most) _ (rw other refl)
+
+-- a space behind digits
+digits_on-space : (most count value : ℕ) (fields : List (List ℕ)) → length fields ≢ 0 → digits_on most count value ([] ∷ fields)
+    ≡ cond ((leb 1 count && leb count 20 && true) && leb value most) (Some (value, fields)) None
+digits_on-space most count value [] some = absurd (some refl)
+digits_on-space most count value (field ∷ more) some =
+    let none : count + 0 ≡ count = omega arith in
+    rw none refl
+
+within : (most count value : ℕ) (x : Option (ℕ × List (List ℕ))) → 1 ≤ count → count ≤ 20 → value ≤ most
+    → cond ((leb 1 count && leb count 20 && true) && leb value most) x None ≡ x
+within most count value x some short small = grind (arith, nat_tests)
+
+outside : (most count value : ℕ) (x : Option (ℕ × List (List ℕ))) → (1 ≤ count → count ≤ 20 → value ≤ most → ⊥)
+    → cond ((leb 1 count && leb count 20 && true) && leb value most) x None ≡ None
+outside most count value x other = grind (arith, nat_tests)
+
+-- more than the most stays so
+pub digits_on-over : (most count value : ℕ) (fields : List (List ℕ)) → most < value → digits_on most count value fields ≡ None
+digits_on-over most count value [] over = refl
+digits_on-over most count value (field ∷ []) over = refl
+digits_on-over most count value (field ∷ next ∷ more) over =
+    fails_last _ (leb (fold with_digit value field) most) _
+    (false_from_ne_true _ (λ small. absurd (omega (arith, over, value-grows value field, leb-true (fold with_digit value field) most small))))
+
+-- what stands from the next byte on: a digit
+pub next-digit : (most count value : ℕ) (line : List ℕ) → count < length line → is_ascii_digit (get_or line count 0) ≡ true
+    → digits_on most count value (fields_of (drop count line)) ≡ digits_on most (count + 1) (with_digit value (get_or line count 0)) (fields_of (drop (count + 1) line))
+next-digit most count value line below digit =
+    at_drop_more (λ rest. digits_on most count value (fields_of rest)) line count 0 below
+    ∙ digits_on-digit most count value (get_or line count 0) (drop (count + 1) line) digit
+
+-- a space, behind a number that is in its bounds
+pub next-space : (most count value : ℕ) (line : List ℕ) → count < length line → get_or line count 0 ≡ 32 → 1 ≤ count → count ≤ 20 → value ≤ most
+    → digits_on most count value (fields_of (drop count line)) ≡ Some (value, fields_of (drop (count + 1) line))
+unfolding fields_of
+next-space most count value line below space some short small =
+    at_drop_more (λ rest. digits_on most count value (fields_of rest)) line count 0 below
+    ∙ rw space (digits_on-space most count value (fields_of (drop (count + 1) line)) (fields_of-some (drop (count + 1) line)) ∙ within most count value _ some short small)
+
+other_byte : (most count value byte : ℕ) (line : List ℕ) → is_ascii_digit byte ≡ false → (byte ≡ 32 → 1 ≤ count → count ≤ 20 → value ≤ most → ⊥)
+    → digits_on most count value (fields_of (byte ∷ line)) ≡ None
+unfolding fields_of
+other_byte most count value byte line other ends =
+    elim (cases_eq byte 32) [
+      | inl space ↦ rw (eq-eqb byte 32 space) (digits_on-space most count value (fields_of line) (fields_of-some line) ∙ outside most count value _ (ends space))
+      | inr differs ↦ rw (ne_eqb byte 32 differs) (digits_on-onto_other most count value byte (fields_of line) other)
+    ]
+
+-- any other byte
+pub next-other : (most count value : ℕ) (line : List ℕ) → count < length line → is_ascii_digit (get_or line count 0) ≡ false
+    → (get_or line count 0 ≡ 32 → 1 ≤ count → count ≤ 20 → value ≤ most → ⊥) → digits_on most count value (fields_of (drop count line)) ≡ None
+next-other most count value line below other ends =
+    at_drop_more (λ rest. digits_on most count value (fields_of rest)) line count 0 below
+    ∙ other_byte most count value (get_or line count 0) (drop (count + 1) line) other ends
+
+-- the end of the line
+pub next-none : (most count value : ℕ) (line : List ℕ) → length line ≤ count → digits_on most count value (fields_of (drop count line)) ≡ None
+unfolding fields_of
+next-none most count value line all = at_drop_all (λ rest. digits_on most count value (fields_of rest)) line count all
