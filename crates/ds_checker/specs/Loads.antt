@@ -43,20 +43,7 @@ kept column share = record { rate = (column.envelope share.source).rate; burst =
 abbrev pub load : Column → ℕ → List Share → Curve
 load column skew shares = total (map (λ share. widened skew (kept column share)) shares)
 
--- what a meter has for green packets: in each kind the committed rate and bucket (RFC 2697, RFC 2698, RFC 4115)
-abbrev pub green_limit : Parameters → Curve
-green_limit (SrTcm p) = record { rate = p.committed_rate; burst = p.committed_burst }
-green_limit (TrTcm p) = record { rate = p.committed_rate; burst = p.committed_burst }
-green_limit (Rfc4115 p) = record { rate = p.committed_rate; burst = p.committed_burst }
-
--- what it has for green and yellow ones: the excess bucket, which the committed rate fills (RFC 2697), the peak bucket
--- (RFC 2698), or the excess bucket, which the excess rate fills (RFC 4115)
-abbrev pub all_limit : Parameters → Curve
-all_limit (SrTcm p) = record { rate = p.committed_rate; burst = p.excess_burst }
-all_limit (TrTcm p) = record { rate = p.peak_rate; burst = p.peak_burst }
-all_limit (Rfc4115 p) = record { rate = p.excess_rate; burst = p.excess_burst }
-
--- The shares that are held against it. With a single rate all of them, if one may send yellow packets, else none; with a
+-- The shares that are held against what a meter has for green and yellow packets. With a single rate all of them, if one may send yellow packets, else none; with a
 -- committed and an excess rate those that may.
 abbrev pub counted : Parameters → List Share → List Share
 counted (SrTcm p) shares = if list_any (λ share. share.has_peak) shares then shares else []

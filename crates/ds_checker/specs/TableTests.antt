@@ -5,7 +5,8 @@ use Rattle.ds_domain_base.specs.Domains.{Domain}
 use Rattle.ds_domain_base.specs.declared.contract.Contract.{Contract}
 use Rattle.ds_domain_base.specs.declared.parts.Meter.{Meter}
 use Rattle.ds_certificate.specs.Columns.{Bound, green_column, all_column}
-use Rattle.ds_checker.specs.Loads.{Share, all_limit, counted, green_limit, load, shares_at}
+use Rattle.meter_book.specs.Limits.{all_limit, green_limit}
+use Rattle.ds_checker.specs.Loads.{Share, counted, load, shares_at}
 use Rattle.ds_checker.specs.Tests.{Test}
 use Rattle.ds_checker.specs.declared.refusal.Refusal.TheVariants.{GreenRate, GreenBurst, AllRate, AllBurst}
 

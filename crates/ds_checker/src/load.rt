@@ -1,7 +1,7 @@
 ghost use Rattle.std.specs.Prelude.{◌≡◌, ◌+◌, ◌≤◌, ◌*◌, ◌^◌, ℕ};
 ghost use Rattle.envelope_core.specs.Curve.{widened};
 ghost use Rattle.ds_certificate.specs.Ranges.{IsModerate};
-ghost use Rattle.ds_checker.specs.Loads.{all_limit, green_limit};
+ghost use Rattle.meter_book.specs.Limits.{all_limit, green_limit};
 ghost use Rattle.ds_checker.specs.Sums.{AreBelow, IsBelow, counted_load, no_loads, plus, with_share};
 
 use ds_certificate::{Bound, Source};
