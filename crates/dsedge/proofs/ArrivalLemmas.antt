@@ -1,5 +1,5 @@
 -- Numbers within their ranges, and lines that say no arrival.
-use Rattle.std.proofs.Common.{◌≡◌, ℕ, ◌≤◌, ◌<◌, ◌^◌, ◌&&◌, cond, eqb, false, List, [], ◌∷◌, length, Option, None, Some, Result, Ok, Err, arith, refl, ap, nat_le, inl, inr}
+use Rattle.std.proofs.Common.{◌≡◌, ℕ, ◌≤◌, ◌<◌, ◌^◌, cond, eqb, false, List, [], ◌∷◌, length, None, Some, Result, Ok, Err, arith, refl, ap, nat_le, inl, inr}
 use Rattle.std.specs.Result.{OkIff, result_ok}
 use Rattle.std.proofs.lemmas.Bool.{and_parts, cases_eq, eq-eqb, leb-true, ne_eqb}
 use Rattle.std.proofs.lemmas.Option.{cond_some}
