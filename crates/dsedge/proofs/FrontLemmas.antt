@@ -1,5 +1,5 @@
 -- Fronts of a text that is given in parts.
-use Rattle.std.proofs.Common.{◌≡◌, ℕ, ◌+◌, ◌<◌, ◌≤◌, List, [], ◌∷◌, ◌++◌, length, get_or, flat_map, take, drop, Result, Ok, Err, MatchResult, refl, sym, ap, ◌∙◌, append-nil, append_assoc, take-append-drop, cond, is_ok, inl, inr}
+use Rattle.std.proofs.Common.{◌≡◌, ℕ, ◌+◌, ◌<◌, List, [], ◌∷◌, ◌++◌, length, get_or, flat_map, take, drop, Result, Ok, Err, MatchResult, refl, sym, ap, ◌∙◌, append-nil, append_assoc, take-append-drop, cond, is_ok, inl, inr}
 use Rattle.std.proofs.lemmas.Grind.{flat_map-append}
 use Rattle.std.proofs.lemmas.List.{drop_more}
 use Rattle.pcap_capture.specs.Counts.{next_count}
@@ -31,15 +31,6 @@ pub given_or_front : {E : Type 0} (result : Result (Unit {0}) E) (before after t
 given_or_front (Ok x) before after text h = h
 given_or_front (Err e) before after text h =
     (take h.0 text, drop h.0 text, sym (take-append-drop h.0 text), h.1)
-
--- what a call gave of the last of three parts, where the first two were given whole
-pub last_of_three : {E : Type 0} (result : Result (Unit {0}) E) (before first second after a b c : List ℕ) → first ≡ before ++ a → second ≡ first ++ b
-    → MatchResult result (λ _. after ≡ second ++ c) (λ _. (given : ℕ) × (after ≡ second ++ take given c))
-    → MatchResult result (λ _. after ≡ before ++ (a ++ (b ++ c))) (λ _. IsFrontOf before (a ++ (b ++ c)) after)
-last_of_three (Ok x) before first second after a b c e f h = rw (h, f, e) (simp append_assoc)
-last_of_three (Err fault) before first second after a b c e f h =
-    front_behind_part before first after a (b ++ c) e (front_behind_part first second after b c f
-    (take h.0 c, drop h.0 c, sym (take-append-drop h.0 c), h.1))
 
 -- what a call told that gave a text, or a front of it where it failed
 pub told_since : {E : Type 0} (result : Result (Unit {0}) E) (before after text : List ℕ) (failed now : ℕ)

@@ -1,5 +1,5 @@
 -- The answer of `meter`, a line at a time.
-use Rattle.std.proofs.Common.{◌≡◌, ℕ, ◌+◌, ◌-◌, ◌<◌, ◌≤◌, zero, suc, List, [], ◌∷◌, ◌++◌, length, take, flat_map, Option, None, Some, arith, refl, sym, ap, ◌∙◌, append_assoc, inl, inr, length-append}
+use Rattle.std.proofs.Common.{◌≡◌, ℕ, ◌+◌, ◌-◌, ◌<◌, ◌≤◌, zero, suc, List, [], ◌∷◌, ◌++◌, length, take, None, Some, arith, refl, sym, ap, ◌∙◌, append_assoc, inl, inr, length-append}
 use Rattle.std.proofs.lemmas.List.{append-nil}
 use Rattle.std.proofs.lemmas.Bool.{cases_lt}
 use Rattle.std.proofs.lemmas.Bool.Decides.{nat_tests}
@@ -7,11 +7,10 @@ use Rattle.dsedge_lines.specs.Answers.{Answer, behind}
 use Rattle.dsedge_lines.specs.declared.command.Ending.{Ending}
 use Rattle.dsedge_lines.specs.declared.command.Ending.TheVariants.{Whole, BadLine, Full}
 use Rattle.meter_book.specs.declared.row.Arrival.{Arrival}
-use Rattle.meter_book.specs.AnyMeter.{after_any}
-use Rattle.meter_book.specs.Replay.{Book, accounts_of, meter_after, next_row, noted, offer_of, rows_from, rows_of}
+use Rattle.meter_book.specs.Replay.{Book, accounts_of, next_row, noted, rows_of}
 use Rattle.meter_book.proofs.ReplayLaws.{meter_after-push}
 use Rattle.dsedge.specs.Arrivals.{arrival_in, arrivals_from}
-use Rattle.dsedge.specs.Metered.{accounts_text_of, answer_of, answer_to, closing, colour_line, ending_of}
+use Rattle.dsedge.specs.Metered.{accounts_text_of, answer_of, answer_to, colour_line, ending_of}
 
 -- a list that room is made for by one, with an element in front
 take-suc : {X : Type 0} (room : ℕ) (x : X) (xs : List X) → 0 < room → take room (x ∷ xs) ≡ x ∷ take (room - 1) xs

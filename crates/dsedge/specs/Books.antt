@@ -1,5 +1,5 @@
 -- The book that `meter` begins with.
-use Rattle.std.specs.Prelude.{ℕ, ◌^◌, []}
+use Rattle.std.specs.Prelude.{◌^◌, []}
 use Rattle.meter_book.specs.declared.any_meter.AnyMeter.{AnyMeter}
 use Rattle.meter_book.specs.Replay.{Book}
 

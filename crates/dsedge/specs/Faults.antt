@@ -2,8 +2,6 @@
 use Rattle.std.specs.Prelude.{◌≡◌, ℕ, List, [], ◌∷◌, ◌++◌, codes, decimal}
 use Rattle.ds_domain_base.specs.Faults.{field_text, kind_code, section_text}
 use Rattle.ds_domain_base.specs.declared.fault.DomainFault.{DomainFault}
-use Rattle.ds_domain_base.specs.declared.fault.Field.{Field}
-use Rattle.ds_domain_base.specs.declared.fault.Field.TheVariants as fields
 use Rattle.ds_domain_base.specs.declared.fault.Kind.{Kind}
 use Rattle.ds_domain_base.specs.declared.fault.Kind.TheVariants as kinds
 use Rattle.ds_certificate.specs.declared.fault.CertificateFault.{CertificateFault}

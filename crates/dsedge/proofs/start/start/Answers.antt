@@ -1,6 +1,5 @@
-use Rattle.std.proofs.Common.{◌≡◌, List, ℕ, Ok, ap, inl, inr, length, map, refl, string_bytes, subst, sym, ◌∙◌}
+use Rattle.std.proofs.Common.{List, ℕ, Ok, ap, inl, inr, length, map, refl, string_bytes, subst, sym, ◌∙◌}
 use Rattle.std.proofs.lemmas.List.{length-map}
-use Rattle.dsedge_base.specs.Files.{files_of}
 use Rattle.dsedge_base.specs.Plans.{IsPlanOf}
 use Rattle.dsedge.specs.Served.{IsServed, answer_for}
 use Rattle.dsedge.specs.Started.{IsRefused}

@@ -1,5 +1,4 @@
 use Rattle.std.proofs.Common.{refl}
-use Rattle.dsedge.specs.Metered.{accounts_text_of, answer_of}
 use Rattle.dsedge.proofs.MeteredLaws.{answer_of-end}
 use Rattle.dsedge.proofs.meter.MeterCommandCommand.end.Goals as goal
 

@@ -1,5 +1,5 @@
 use Rattle.std.proofs.Common.{◌≡◌, ◌+◌, ◌∷◌, ◌++◌, Err, ap, sym, ◌∙◌}
-use Rattle.dsedge.specs.Metered.{answer_of, colour_line, colour_line_of}
+use Rattle.dsedge.specs.Metered.{answer_of, colour_line}
 use Rattle.dsedge.proofs.MeteredLaws.{answer_of-bad, answer_of-full, answer_of-noted, behind-line, behind-nothing}
 use Rattle.dsedge_lines.specs.declared.command.Ending.TheVariants.{BadLine, Full}
 use Rattle.meter_book.specs.Replay.{next_row, noted}
