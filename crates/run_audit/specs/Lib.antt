@@ -1,0 +1,4 @@
+pub mod KeptColours
+pub mod Premises
+pub mod Runs
+pub mod Sendings
