@@ -1,3 +1,4 @@
 mod Loads
 mod Passages
+mod Places
 mod Ways
