@@ -1,3 +1,4 @@
+mod Journals
 mod Loads
 mod Passages
 mod Places
