@@ -25,17 +25,17 @@ use Rattle.meter_book.specs.AnyMeter.{after_any, how_any, left_of, newest_of, op
 use Rattle.meter_book.specs.Envelopes.{IsFit, all_of, excess_rate_all, excess_rate_green, green_of, mode_of, single_rate_all, single_rate_green, two_rate_all, two_rate_green}
 
 -- a meter of a kind has the departures of that kind
-departures_of_single_rate : (m : State SrTcmParameters Levels) (offers : List Offer)
+pub departures_of_single_rate : (m : State SrTcmParameters Levels) (offers : List Offer)
     → departures how_any (meters.SrTcm m) offers ≡ departures (how single_rate) m offers
 departures_of_single_rate m offers =
     departures-same (λ s. meters.SrTcm s) (how single_rate) how_any (λ s. refl) (λ s o. refl) (λ s o. refl) m offers
 
-departures_of_two_rate : (m : State TrTcmParameters two_rate_levels.Levels) (offers : List Offer)
+pub departures_of_two_rate : (m : State TrTcmParameters two_rate_levels.Levels) (offers : List Offer)
     → departures how_any (meters.TrTcm m) offers ≡ departures (how two_rate) m offers
 departures_of_two_rate m offers =
     departures-same (λ s. meters.TrTcm s) (how two_rate) how_any (λ s. refl) (λ s o. refl) (λ s o. refl) m offers
 
-departures_of_separate_rates : (m : State Rfc4115Parameters Levels) (offers : List Offer)
+pub departures_of_separate_rates : (m : State Rfc4115Parameters Levels) (offers : List Offer)
     → departures how_any (meters.Rfc4115 m) offers ≡ departures (how separate_rates) m offers
 departures_of_separate_rates m offers =
     departures-same (λ s. meters.Rfc4115 s) (how separate_rates) how_any (λ s. refl) (λ s o. refl) (λ s o. refl) m offers

@@ -4,6 +4,7 @@ ghost use Rattle.moment_core.specs.declared.colour.Mode.TheVariants.{Aware};
 ghost use Rattle.moment_core.specs.Colours.{IsNoBetter, is_green, is_in_profile, output};
 ghost use Rattle.moment_core.specs.Metering.{Offer, departures};
 ghost use Rattle.envelope_core.specs.Curve.{KeepsCurve};
+ghost use Rattle.meter_book.specs.KeptColours.{GreenStaysGreen, YellowStaysYellow};
 ghost use Rattle.meter_book.specs.Laws.{
   AwareRowsNeverImprove,
   MetersStayFit,
@@ -69,4 +70,17 @@ pub fn opening_meters_fit()
 /// They stay within them, whatever arrives.
 pub fn meters_stay_fit()
     ensures { MetersStayFit }
+{}
+
+/// A packet that comes green to an aware meter leaves it green, where green packets keep the committed rate and burst, and
+/// with two rates also green and yellow ones together the peak rate and burst (RFC 2697 section 3, RFC 2698 section 3,
+/// RFC 4115 section 2).
+pub fn green_stays_green()
+    ensures { GreenStaysGreen }
+{}
+
+/// A packet that comes yellow to an aware meter leaves it yellow, where green packets leave green and what is held against
+/// the bucket for yellow ones keeps its rate and its burst (RFC 2697 section 3, RFC 2698 section 3, RFC 4115 section 2).
+pub fn yellow_stays_yellow()
+    ensures { YellowStaysYellow }
 {}

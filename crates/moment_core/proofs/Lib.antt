@@ -1,5 +1,7 @@
 pub mod ExcessLaws
 pub mod FillingLaws
+pub mod KeepingLaws
 pub mod MeteringLaws
 pub mod OutputLaws
+pub mod RoomLaws
 pub mod TokenLaws

@@ -37,7 +37,7 @@ Funded given size picked newest level (d ∷ ds) =
     (rest : ℕ) × IsPaid given size newest level d.used (taken picked d) rest × Funded given size picked d.used rest ds
 
 -- the bytes that a window holds of one packet, if it is picked
-abbrev weight : ℕ → ℕ → Bool → ℕ → ℕ → ℕ
+abbrev pub weight : ℕ → ℕ → Bool → ℕ → ℕ → ℕ
 weight start end picked moment bytes = cond picked (size_within start end (moment, bytes)) 0
 
 weight-le : (start end : ℕ) (picked : Bool) (moment bytes : ℕ) → weight start end picked moment bytes ≤ cond picked bytes 0
@@ -49,7 +49,7 @@ weight-before start end picked moment bytes h = grind (arith, nat_tests)
 weight-past : (start end : ℕ) (picked : Bool) (moment bytes : ℕ) → end < moment → weight start end picked moment bytes ≤ 0
 weight-past start end picked moment bytes h = grind (arith, nat_tests)
 
-sum_where : {X Y : Type 0} (f : X → Y) (g : Y → ℕ) (b : Bool) (x : X) (xs : List X)
+pub sum_where : {X Y : Type 0} (f : X → Y) (g : Y → ℕ) (b : Bool) (x : X) (xs : List X)
     → sum_by g (map f (cond b (x ∷ xs) xs)) ≡ cond b (g (f x)) 0 + sum_by g (map f xs)
 sum_where f g true x xs = sum_by-cons g (f x) (map f xs)
 sum_where f g false x xs = sym (zero-add (sum_by g (map f xs)))

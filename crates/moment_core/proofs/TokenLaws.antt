@@ -30,7 +30,7 @@ div-carry first more = omega arith
 mod-carry : (first more : ℕ) → (more + first % 8000000000) % 8000000000 ≡ (first + more) % 8000000000
 mod-carry first more = omega arith
 
-product-since : (rate origin newest now : ℕ) → origin ≤ newest → newest ≤ now → rate * (newest - origin) + rate * (now - newest) ≡ rate * (now - origin)
+pub product-since : (rate origin newest now : ℕ) → origin ≤ newest → newest ≤ now → rate * (newest - origin) + rate * (now - newest) ≡ rate * (now - origin)
 product-since rate origin newest now begun later =
     let parts : now - origin ≡ (newest - origin) + (now - newest) = omega arith in
     rw parts (sym (mul-add rate (newest - origin) (now - newest)))

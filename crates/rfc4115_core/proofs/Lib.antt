@@ -1,2 +1,3 @@
+pub mod KeepingLaws
 pub mod OutputLaws
 pub mod SeparateRatesLaws

@@ -21,15 +21,15 @@ unfolding single_rate
 never_improves m o aware = output_laws.never_improves single_rate no_better m o aware
 
 -- the tokens that the meter is given up to the moment that it meters at
-unfoldable gained : State SrTcmParameters Levels → ℕ → ℕ
+unfoldable pub gained : State SrTcmParameters Levels → ℕ → ℕ
 gained m moment = given m.parameters.committed_rate m.origin (used m.newest moment) - given m.parameters.committed_rate m.origin m.newest
 
-committed_level : (m : State SrTcmParameters Levels) (moment : ℕ)
+pub committed_level : (m : State SrTcmParameters Levels) (moment : ℕ)
     → (levels_at single_rate m (used m.newest moment)).committed ≡ with_tokens m.parameters.committed_burst (gained m moment) m.levels.committed
 unfolding closed gained
 committed_level m moment = ap (λ (l : Levels). l.committed) (levels_at-single_rate m moment)
 
-excess_level : (m : State SrTcmParameters Levels) (moment : ℕ)
+pub excess_level : (m : State SrTcmParameters Levels) (moment : ℕ)
     → (levels_at single_rate m (used m.newest moment)).excess
     ≡ with_tokens m.parameters.excess_burst (m.levels.committed + gained m moment - with_tokens m.parameters.committed_burst (gained m moment) m.levels.committed) m.levels.excess
 unfolding closed gained
@@ -48,7 +48,7 @@ both_gain m moment =
     let excess = with_tokens_le m.parameters.excess_burst surplus m.levels.excess in
     rw (committed_level m moment, excess_level m moment) (omega (arith, committed, excess))
 
-committed_fits : (m : State SrTcmParameters Levels) (moment : ℕ) → IsWithinSizes m → (levels_at single_rate m (used m.newest moment)).committed ≤ m.parameters.committed_burst
+pub committed_fits : (m : State SrTcmParameters Levels) (moment : ℕ) → IsWithinSizes m → (levels_at single_rate m (used m.newest moment)).committed ≤ m.parameters.committed_burst
 committed_fits m moment ok = rw (committed_level m moment) (with_tokens_within m.parameters.committed_burst (gained m moment) m.levels.committed ok.committed)
 
 excess_fits : (m : State SrTcmParameters Levels) (moment : ℕ) → IsWithinSizes m → (levels_at single_rate m (used m.newest moment)).excess ≤ m.parameters.excess_burst

@@ -16,7 +16,7 @@ use Rattle.trtcm_core.specs.Sizes.{IsWithinSizes}
 use Rattle.trtcm_core.specs.TwoRate.{Levels, coloured, full, two_rate, without}
 use Rattle.trtcm_core.proofs.TwoRateLaws.{committed_level, peak_level}
 
-no_better : (l : Levels) (size : ℕ) (came : Colour) → IsNoBetter came (coloured l size came)
+pub no_better : (l : Levels) (size : ℕ) (came : Colour) → IsNoBetter came (coloured l size came)
 unfolding coloured
 no_better l size Green = tt
 no_better l size Yellow = elim (ltb l.peak size) as (λ b. IsNoBetter Yellow (cond b Red Yellow)) [ true ↦ tt | false ↦ tt ]

@@ -1,0 +1,17 @@
+-- What a meter has for the traffic that it is to let through.
+use Rattle.envelope_core.specs.Curve.{Curve}
+use Rattle.meter_book.specs.declared.any_meter.Parameters.{Parameters}
+use Rattle.meter_book.specs.declared.any_meter.Parameters.TheVariants.{SrTcm, TrTcm, Rfc4115}
+
+-- what a meter has for green packets: in each kind the committed rate and bucket (RFC 2697, RFC 2698, RFC 4115)
+abbrev pub green_limit : Parameters → Curve
+green_limit (SrTcm p) = record { rate = p.committed_rate; burst = p.committed_burst }
+green_limit (TrTcm p) = record { rate = p.committed_rate; burst = p.committed_burst }
+green_limit (Rfc4115 p) = record { rate = p.committed_rate; burst = p.committed_burst }
+
+-- what it has for green and yellow ones: the excess bucket, which the committed rate fills (RFC 2697), the peak bucket
+-- (RFC 2698), or the excess bucket, which the excess rate fills (RFC 4115)
+abbrev pub all_limit : Parameters → Curve
+all_limit (SrTcm p) = record { rate = p.committed_rate; burst = p.excess_burst }
+all_limit (TrTcm p) = record { rate = p.peak_rate; burst = p.peak_burst }
+all_limit (Rfc4115 p) = record { rate = p.excess_rate; burst = p.excess_burst }

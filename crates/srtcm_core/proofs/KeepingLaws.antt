@@ -1,0 +1,140 @@
+-- An aware single-rate meter keeps the colours of traffic that keeps what its buckets have.
+use Rattle.std.proofs.Common.{◌≡◌, ℕ, ◌+◌, ◌-◌, ◌≤◌, ◌⊎◌, cond, List, refl, arith, inl, inr}
+use Rattle.std.specs.List.{All}
+use Rattle.moment_core.specs.Colours.{is_green, is_in_profile, is_yellow}
+use Rattle.moment_core.specs.Conformance.{Keeps}
+use Rattle.moment_core.specs.Excess.{Levels}
+use Rattle.moment_core.specs.Metering.{Departure, Offer, State, after, colour_of, departures, how, levels_at, opening, used}
+use Rattle.moment_core.specs.Tokens.{given, with_tokens}
+use Rattle.moment_core.specs.declared.colour.Colour.{Colour}
+use Rattle.moment_core.specs.declared.colour.Colour.TheVariants.{Green, Yellow, Red}
+use Rattle.moment_core.specs.declared.colour.Mode.TheVariants.{Aware}
+use Rattle.moment_core.proofs.KeepingLaws.{both_drain, committed_drains, green_stays, yellow_stays}
+use Rattle.moment_core.proofs.MeteringLaws.{newest_le-used}
+use Rattle.moment_core.proofs.RoomLaws.{Along-any, FillsUp, FillsUp-with_tokens, IsAware, IsAware-after, Room-opening, departures-along, enough, input, with_tokens-fills, with_tokens-grows}
+use Rattle.moment_core.proofs.TokenLaws.{given-mono}
+use Rattle.srtcm_core.specs.declared.parameters.SrTcmParameters.{SrTcmParameters}
+use Rattle.srtcm_core.specs.SingleRate.{full, single_rate}
+use Rattle.srtcm_core.specs.Sizes.{IsWithinSizes}
+use Rattle.srtcm_core.proofs.OutputLaws.{IsWithinSizes-after, IsWithinSizes-opening, committed_fits, committed_level, excess_level, gained}
+
+-- ---- green
+
+committed_fills : (m : State SrTcmParameters Levels) (moment : ℕ)
+    → FillsUp (given m.parameters.committed_rate m.origin) m.parameters.committed_burst m.newest m.levels.committed (used m.newest moment)
+    (levels_at single_rate m (used m.newest moment)).committed
+unfolding gained
+committed_fills m moment =
+    rw (committed_level m moment) (FillsUp-with_tokens m.parameters.committed_rate m.origin m.parameters.committed_burst m.newest moment m.levels.committed)
+
+green_drains : (m : State SrTcmParameters Levels) (o : Offer) → IsAware m → Unit {0}
+    → (levels_at single_rate m (used m.newest o.moment)).committed ≤ (after single_rate m o).levels.committed + cond (is_green o.came) o.size 0
+unfolding after colour_of levels_at single_rate
+green_drains m o aware such = rw aware (committed_drains (levels_at single_rate m (used m.newest o.moment)) o.size o.came)
+
+green_left : (m : State SrTcmParameters Levels) (o : Offer) → IsAware m
+    → cond (is_green o.came) o.size 0 + 0 ≤ (levels_at single_rate m (used m.newest o.moment)).committed
+    → o.came ≡ Green → colour_of single_rate m o ≡ Green
+unfolding colour_of levels_at single_rate
+green_left m o aware held green = rw aware (green_stays (levels_at single_rate m (used m.newest o.moment)) o.size o.came held green)
+
+-- green packets that keep the committed rate and burst leave green
+pub green_stays_green : (p : SrTcmParameters) (origin : ℕ) (offers : List Offer)
+    → Keeps p.committed_rate p.committed_burst (input is_green (departures (how single_rate) (opening single_rate p Aware origin) offers))
+    → All (λ (d : Departure). d.came ≡ Green → d.left ≡ Green) (departures (how single_rate) (opening single_rate p Aware origin) offers)
+unfolding opening single_rate full
+green_stays_green p origin offers kept =
+    let m = opening single_rate p Aware origin in
+    let ds = departures (how single_rate) m offers in
+    let room = Room-opening p.committed_rate origin p.committed_burst p.committed_burst 0 is_green ds (omega arith) kept in
+    let held = enough single_rate IsAware (λ _ _. Unit {0}) is_green (λ (l : Levels). l.committed) (λ (p : SrTcmParameters). p.committed_burst) (λ _. 0) (λ (p : SrTcmParameters). given p.committed_rate)
+    committed_fills green_drains (IsAware-after single_rate) m refl offers (Along-any single_rate m offers) room
+    in
+    departures-along single_rate IsAware
+    (λ (m : State SrTcmParameters Levels) (o : Offer). cond (is_green o.came) o.size 0 + 0 ≤ (levels_at single_rate m (used m.newest o.moment)).committed)
+    (λ _ _. Unit {0}) (λ (d : Departure). d.came ≡ Green → d.left ≡ Green) (λ m o aware held _. green_left m o aware held)
+    (IsAware-after single_rate) m refl offers held (Along-any single_rate m offers)
+
+-- ---- yellow: the two buckets as one, which has the bytes of the committed bucket to spare
+
+both_fill_to : (committed_size excess_size count committed excess : ℕ)
+    → (committed + excess + count
+    ≤ with_tokens committed_size count committed + with_tokens excess_size (committed + count - with_tokens committed_size count committed) excess)
+    ⊎ (committed_size + excess_size
+    ≤ with_tokens committed_size count committed + with_tokens excess_size (committed + count - with_tokens committed_size count committed) excess)
+both_fill_to committed_size excess_size count committed excess =
+    let surplus = committed + count - with_tokens committed_size count committed in
+    let more = with_tokens-grows excess_size surplus excess in
+    elim (with_tokens-fills committed_size count committed) [
+      | inl all ↦ inl (omega (arith, all, more))
+      | inr full ↦
+          elim (with_tokens-fills excess_size surplus excess) [
+            | inl all ↦ inl (omega (arith, all))
+            | inr over ↦ inr (omega (arith, full, over))
+          ]
+    ]
+
+both_fill : (m : State SrTcmParameters Levels) (moment : ℕ)
+    → FillsUp (given m.parameters.committed_rate m.origin) (m.parameters.committed_burst + m.parameters.excess_burst) m.newest (m.levels.committed + m.levels.excess)
+    (used m.newest moment) ((levels_at single_rate m (used m.newest moment)).committed + (levels_at single_rate m (used m.newest moment)).excess)
+unfolding gained
+both_fill m moment =
+    let more = given-mono m.parameters.committed_rate m.origin m.newest (used m.newest moment) (newest_le-used m.newest moment) in
+    elim (both_fill_to m.parameters.committed_burst m.parameters.excess_burst (gained m moment) m.levels.committed m.levels.excess) [
+      | inl all ↦ inl (omega (arith, all, more, committed_level m moment, excess_level m moment))
+      | inr full ↦ inr (omega (arith, full, committed_level m moment, excess_level m moment))
+    ]
+
+-- an aware meter whose buckets are within their sizes
+record IsFit (m : State SrTcmParameters Levels) : Type 0 where
+  aware : IsAware m
+  within : IsWithinSizes m
+
+IsFit-after : (m : State SrTcmParameters Levels) (o : Offer) → IsFit m → IsFit (after single_rate m o)
+IsFit-after m o fit = record { aware = IsAware-after single_rate m o fit.aware; within = IsWithinSizes-after m o fit.within }
+
+in_profile_drains : (m : State SrTcmParameters Levels) (o : Offer) → IsFit m → Unit {0}
+    → (levels_at single_rate m (used m.newest o.moment)).committed + (levels_at single_rate m (used m.newest o.moment)).excess
+    ≤ (after single_rate m o).levels.committed + (after single_rate m o).levels.excess + cond (is_in_profile o.came) o.size 0
+unfolding after colour_of levels_at single_rate
+in_profile_drains m o fit such = rw fit.aware (both_drain (levels_at single_rate m (used m.newest o.moment)) o.size o.came)
+
+yellow_held : (came : Colour) (size committed excess most : ℕ) → committed ≤ most → cond (is_in_profile came) size 0 + most ≤ committed + excess
+    → cond (is_yellow came) size 0 ≤ excess
+yellow_held Green size committed excess most within held = omega arith
+yellow_held Yellow size committed excess most within held = omega (arith, within, held)
+yellow_held Red size committed excess most within held = omega arith
+
+yellow_left_by : (m : State SrTcmParameters Levels) (o : Offer) → IsAware m
+    → cond (is_yellow o.came) o.size 0 ≤ (levels_at single_rate m (used m.newest o.moment)).excess
+    → o.came ≡ Yellow → colour_of single_rate m o ≡ Yellow
+unfolding colour_of levels_at single_rate
+yellow_left_by m o aware held yellow = rw aware (yellow_stays (levels_at single_rate m (used m.newest o.moment)) o.size o.came held yellow)
+
+yellow_left : (m : State SrTcmParameters Levels) (o : Offer) → IsFit m
+    → cond (is_in_profile o.came) o.size 0 + m.parameters.committed_burst
+    ≤ (levels_at single_rate m (used m.newest o.moment)).committed + (levels_at single_rate m (used m.newest o.moment)).excess
+    → o.came ≡ Yellow → colour_of single_rate m o ≡ Yellow
+yellow_left m o fit held yellow =
+    let before = levels_at single_rate m (used m.newest o.moment) in
+    yellow_left_by m o fit.aware (yellow_held o.came o.size before.committed before.excess m.parameters.committed_burst (committed_fits m o.moment fit.within) held) yellow
+
+-- where green and yellow packets keep the committed rate and the excess burst, yellow ones leave yellow
+pub yellow_stays_yellow : (p : SrTcmParameters) (origin : ℕ) (offers : List Offer)
+    → Keeps p.committed_rate p.excess_burst (input is_in_profile (departures (how single_rate) (opening single_rate p Aware origin) offers))
+    → All (λ (d : Departure). d.came ≡ Yellow → d.left ≡ Yellow) (departures (how single_rate) (opening single_rate p Aware origin) offers)
+unfolding opening single_rate full
+yellow_stays_yellow p origin offers kept =
+    let m = opening single_rate p Aware origin in
+    let ds = departures (how single_rate) m offers in
+    let fit : IsFit m = record { aware = refl; within = IsWithinSizes-opening p Aware origin } in
+    let room = Room-opening p.committed_rate origin p.excess_burst (p.committed_burst + p.excess_burst) p.committed_burst is_in_profile ds (omega arith) kept in
+    let held = enough single_rate IsFit (λ _ _. Unit {0}) is_in_profile (λ (l : Levels). l.committed + l.excess) (λ (p : SrTcmParameters). p.committed_burst + p.excess_burst)
+    (λ (p : SrTcmParameters). p.committed_burst) (λ (p : SrTcmParameters). given p.committed_rate)
+    both_fill in_profile_drains IsFit-after m fit offers (Along-any single_rate m offers) room
+    in
+    departures-along single_rate IsFit
+    (λ (m : State SrTcmParameters Levels) (o : Offer). cond (is_in_profile o.came) o.size 0 + m.parameters.committed_burst
+    ≤ (levels_at single_rate m (used m.newest o.moment)).committed + (levels_at single_rate m (used m.newest o.moment)).excess)
+    (λ _ _. Unit {0}) (λ (d : Departure). d.came ≡ Yellow → d.left ≡ Yellow) (λ m o fit held _. yellow_left m o fit held)
+    IsFit-after m fit offers held (Along-any single_rate m offers)
