@@ -111,7 +111,7 @@ pub record IsSent (t : Table) (p : Passage) (c : Contract) (s : Sending) : Type 
 abbrev pub ForEachSent : Table → Run → (Passage → Contract → Sending → Type 0) → Type 0
 ForEachSent t run P = All (λ p. (c : Contract) → contract_of t p.packet.flow ≡ Some c → (s : Sending) → sending_of c p ≡ Some s → P p c s) run.passages
 
-contract_place : (low : Bool) (found : Option Contract) (c : Contract) → (if low then found else None) ≡ Some c → found ≡ Some c
+pub contract_place : (low : Bool) (found : Option Contract) (c : Contract) → (if low then found else None) ≡ Some c → found ≡ Some c
 contract_place true found c is = is
 contract_place false found c is = absurd cc
 

@@ -1,3 +1,4 @@
+mod Inputs
 mod Journals
 mod Loads
 mod Passages
