@@ -1,14 +1,14 @@
 -- An aware meter of any kind keeps the colours of traffic that keeps what the meter has: by cases of its kind.
-use Rattle.std.proofs.Common.{◌≡◌, ℕ, ◌<◌, Bool, true, false, List, [], ◌∷◌, length, map, get_or, refl, sym, ◌∙◌, ap, subst, arith}
+use Rattle.std.proofs.Common.{◌≡◌, ℕ, ◌<◌, Bool, true, false, List, [], ◌∷◌, length, map, refl, sym, ◌∙◌, ap, subst, arith}
 use Rattle.std.specs.List.{All}
 use Rattle.std.proofs.lemmas.List.{get_or-map, length-map}
 use Rattle.std.proofs.lemmas.List.Elements.{All-map}
 use Rattle.moment_core.specs.declared.colour.Colour.{Colour}
 use Rattle.moment_core.specs.declared.colour.Colour.TheVariants.{Green, Yellow}
 use Rattle.moment_core.specs.declared.colour.Mode.TheVariants.{Aware}
-use Rattle.moment_core.specs.Colours.{is_green, is_in_profile}
-use Rattle.moment_core.specs.Metering.{Departure, Offer, departures, how, opening}
-use Rattle.moment_core.proofs.RoomLaws.{input}
+use Rattle.moment_core.specs.Colours.{is_green, is_in_profile, is_yellow}
+use Rattle.moment_core.specs.Metering.{Departure, departures, how, opening}
+use Rattle.moment_core.proofs.RoomLaws.{Keeping, input}
 use Rattle.envelope_core.specs.Curve.{Curve, KeepsCurve}
 use Rattle.srtcm_core.specs.SingleRate.{single_rate}
 use Rattle.srtcm_core.proofs.KeepingLaws as single_rates
@@ -22,9 +22,9 @@ use Rattle.meter_book.specs.declared.any_meter.Parameters.TheVariants.{SrTcm, Tr
 use Rattle.meter_book.specs.declared.row.Arrival.{Arrival}
 use Rattle.meter_book.specs.declared.row.Row.{Row}
 use Rattle.meter_book.specs.AnyMeter.{how_any, opening_of}
-use Rattle.meter_book.specs.KeptColours.{GreenIsWithin, Stays, held_against_all, row_input}
+use Rattle.meter_book.specs.KeptColours.{PeakIsKept, Stays, aware_rows, held_against_all, row_input}
 use Rattle.meter_book.specs.Laws.{departure_of}
-use Rattle.meter_book.specs.Limits.{all_limit}
+use Rattle.meter_book.specs.Limits.{all_limit, green_limit}
 use Rattle.meter_book.specs.OutputLaws.{departures_of_separate_rates, departures_of_single_rate, departures_of_two_rate}
 use Rattle.meter_book.specs.Replay.{offer_of, replay}
 use Rattle.meter_book.proofs.RowLaws.{departures_of-rows_from}
@@ -47,10 +47,6 @@ All-unmap : {X Y : Type 0} (such : Y → Type 0) (f : X → Y) (xs : List X) →
 All-unmap such f xs all k d below =
     let there : k < length (map f xs) = omega (arith, below, length-map xs f) in
     subst such (get_or-map f xs k d (f d) below) (all k (f d) there)
-
--- departures that have a colour each, as they came and as they left
-abbrev Keeping : Colour → List Departure → Type 0
-Keeping colour ds = All (λ (d : Departure). d.came ≡ colour → d.left ≡ colour) ds
 
 -- rows that come to some departures: what came in those, and what holds of them
 input-replay : (picked : Colour → Bool) (curve : Curve) (m : AnyMeter) (arrivals : List Arrival) (ds : List Departure)
@@ -76,58 +72,52 @@ Stays-replay colour m arrivals ds e keeping =
 -- ---- the laws
 
 pub green_stays_green-any : (p : Parameters) (origin : ℕ) (arrivals : List Arrival)
-    → GreenIsWithin p (replay (opening_of p Aware origin) arrivals) → Stays Green (replay (opening_of p Aware origin) arrivals)
-green_stays_green-any (SrTcm p) origin arrivals kept =
-    let m = opening single_rate p Aware origin in
+    → KeepsCurve (green_limit p) (row_input is_green (aware_rows p origin arrivals)) → PeakIsKept p (aware_rows p origin arrivals)
+    → Stays Green (aware_rows p origin arrivals)
+green_stays_green-any (SrTcm p) origin arrivals kept peak =
+    let m = opening_of (SrTcm p) Aware origin in
     let offers = map offer_of arrivals in
-    let same = departures_of_single_rate m offers in
-    let ds = departures (how single_rate) m offers in
-    let curve : Curve = record { rate = p.committed_rate; burst = p.committed_burst } in
-    Stays-replay Green (opening_of (SrTcm p) Aware origin) arrivals ds same
-    (single_rates.green_stays_green p origin offers (input-replay is_green curve (opening_of (SrTcm p) Aware origin) arrivals ds same kept))
-green_stays_green-any (TrTcm p) origin arrivals kept =
-    let m = opening two_rate p Aware origin in
+    let ds = departures (how single_rate) (opening single_rate p Aware origin) offers in
+    let same = departures_of_single_rate (opening single_rate p Aware origin) offers in
+    Stays-replay Green m arrivals ds same
+    (single_rates.green_stays_green p origin offers (input-replay is_green (green_limit (SrTcm p)) m arrivals ds same kept))
+green_stays_green-any (TrTcm p) origin arrivals kept peak =
+    let m = opening_of (TrTcm p) Aware origin in
     let offers = map offer_of arrivals in
-    let same = departures_of_two_rate m offers in
-    let ds = departures (how two_rate) m offers in
-    let curve : Curve = record { rate = p.committed_rate; burst = p.committed_burst } in
-    let all_curve : Curve = record { rate = p.peak_rate; burst = p.peak_burst } in
-    Stays-replay Green (opening_of (TrTcm p) Aware origin) arrivals ds same
-    (two_rates.green_stays_green p origin offers
-    (input-replay is_green curve (opening_of (TrTcm p) Aware origin) arrivals ds same kept.0)
-    (input-replay is_in_profile all_curve (opening_of (TrTcm p) Aware origin) arrivals ds same kept.1))
-green_stays_green-any (Rfc4115 p) origin arrivals kept =
-    let m = opening separate_rates p Aware origin in
+    let ds = departures (how two_rate) (opening two_rate p Aware origin) offers in
+    let same = departures_of_two_rate (opening two_rate p Aware origin) offers in
+    Stays-replay Green m arrivals ds same
+    (two_rates.green_stays_green p origin offers (input-replay is_green (green_limit (TrTcm p)) m arrivals ds same kept) (input-replay is_in_profile (all_limit (TrTcm p)) m arrivals ds same peak))
+green_stays_green-any (Rfc4115 p) origin arrivals kept peak =
+    let m = opening_of (Rfc4115 p) Aware origin in
     let offers = map offer_of arrivals in
-    let same = departures_of_separate_rates m offers in
-    let ds = departures (how separate_rates) m offers in
-    let curve : Curve = record { rate = p.committed_rate; burst = p.committed_burst } in
-    Stays-replay Green (opening_of (Rfc4115 p) Aware origin) arrivals ds same
-    (excess_rates.green_stays_green p origin offers (input-replay is_green curve (opening_of (Rfc4115 p) Aware origin) arrivals ds same kept))
+    let ds = departures (how separate_rates) (opening separate_rates p Aware origin) offers in
+    let same = departures_of_separate_rates (opening separate_rates p Aware origin) offers in
+    Stays-replay Green m arrivals ds same
+    (excess_rates.green_stays_green p origin offers (input-replay is_green (green_limit (Rfc4115 p)) m arrivals ds same kept))
 
 pub yellow_stays_yellow-any : (p : Parameters) (origin : ℕ) (arrivals : List Arrival)
-    → Stays Green (replay (opening_of p Aware origin) arrivals)
-    → KeepsCurve (all_limit p) (row_input (held_against_all p) (replay (opening_of p Aware origin) arrivals))
-    → Stays Yellow (replay (opening_of p Aware origin) arrivals)
+    → Stays Green (aware_rows p origin arrivals) → KeepsCurve (all_limit p) (row_input (held_against_all p) (aware_rows p origin arrivals))
+    → Stays Yellow (aware_rows p origin arrivals)
 yellow_stays_yellow-any (SrTcm p) origin arrivals stays kept =
-    let m = opening single_rate p Aware origin in
+    let m = opening_of (SrTcm p) Aware origin in
     let offers = map offer_of arrivals in
-    let same = departures_of_single_rate m offers in
-    let ds = departures (how single_rate) m offers in
-    Stays-replay Yellow (opening_of (SrTcm p) Aware origin) arrivals ds same
-    (single_rates.yellow_stays_yellow p origin offers (input-replay is_in_profile (all_limit (SrTcm p)) (opening_of (SrTcm p) Aware origin) arrivals ds same kept))
+    let ds = departures (how single_rate) (opening single_rate p Aware origin) offers in
+    let same = departures_of_single_rate (opening single_rate p Aware origin) offers in
+    Stays-replay Yellow m arrivals ds same
+    (single_rates.yellow_stays_yellow p origin offers (input-replay is_in_profile (all_limit (SrTcm p)) m arrivals ds same kept))
 yellow_stays_yellow-any (TrTcm p) origin arrivals stays kept =
-    let m = opening two_rate p Aware origin in
+    let m = opening_of (TrTcm p) Aware origin in
     let offers = map offer_of arrivals in
-    let same = departures_of_two_rate m offers in
-    let ds = departures (how two_rate) m offers in
-    Stays-replay Yellow (opening_of (TrTcm p) Aware origin) arrivals ds same
-    (two_rates.yellow_stays_yellow p origin offers (input-replay is_in_profile (all_limit (TrTcm p)) (opening_of (TrTcm p) Aware origin) arrivals ds same kept))
+    let ds = departures (how two_rate) (opening two_rate p Aware origin) offers in
+    let same = departures_of_two_rate (opening two_rate p Aware origin) offers in
+    Stays-replay Yellow m arrivals ds same
+    (two_rates.yellow_stays_yellow p origin offers (input-replay is_in_profile (all_limit (TrTcm p)) m arrivals ds same kept))
 yellow_stays_yellow-any (Rfc4115 p) origin arrivals stays kept =
-    let m = opening separate_rates p Aware origin in
+    let m = opening_of (Rfc4115 p) Aware origin in
     let offers = map offer_of arrivals in
-    let same = departures_of_separate_rates m offers in
-    let ds = departures (how separate_rates) m offers in
-    Stays-replay Yellow (opening_of (Rfc4115 p) Aware origin) arrivals ds same
-    (excess_rates.yellow_stays_yellow p origin offers (Keeping-replay Green (opening_of (Rfc4115 p) Aware origin) arrivals ds same stays)
-    (input-replay (held_against_all (Rfc4115 p)) (all_limit (Rfc4115 p)) (opening_of (Rfc4115 p) Aware origin) arrivals ds same kept))
+    let ds = departures (how separate_rates) (opening separate_rates p Aware origin) offers in
+    let same = departures_of_separate_rates (opening separate_rates p Aware origin) offers in
+    Stays-replay Yellow m arrivals ds same
+    (excess_rates.yellow_stays_yellow p origin offers (Keeping-replay Green m arrivals ds same stays)
+    (input-replay is_yellow (all_limit (Rfc4115 p)) m arrivals ds same kept))

@@ -13,6 +13,10 @@ use Rattle.meter_book.specs.AnyMeter.{opening_of}
 use Rattle.meter_book.specs.Limits.{all_limit, green_limit}
 use Rattle.meter_book.specs.Replay.{replay}
 
+-- the rows of an aware meter that opened, whatever arrives
+abbrev pub aware_rows : Parameters → ℕ → List Arrival → List Row
+aware_rows p origin arrivals = replay (opening_of p Aware origin) arrivals
+
 -- the sized moments, by the moments metered at, of the rows that came with a colour that a test picks
 abbrev pub row_input : (Colour → Bool) → List Row → List (ℕ × ℕ)
 row_input picked rows = map (λ r. (r.used, r.size)) (filter (λ r. picked r.came) rows)
@@ -21,33 +25,36 @@ row_input picked rows = map (λ r. (r.used, r.size)) (filter (λ r. picked r.cam
 abbrev pub Stays : Colour → List Row → Type 0
 Stays colour rows = All (λ r. r.came ≡ colour → r.left ≡ colour) rows
 
--- The green packets that came keep what the meter has for them. With two rates every green packet takes its bytes from the
--- peak bucket too, so there green and yellow ones together keep what it has for both (RFC 2698 section 3).
-abbrev pub GreenIsWithin : Parameters → List Row → Type 0
-GreenIsWithin (SrTcm p) rows = KeepsCurve (green_limit (SrTcm p)) (row_input is_green rows)
-GreenIsWithin (TrTcm p) rows =
-    KeepsCurve (green_limit (TrTcm p)) (row_input is_green rows) × KeepsCurve (all_limit (TrTcm p)) (row_input is_in_profile rows)
-GreenIsWithin (Rfc4115 p) rows = KeepsCurve (green_limit (Rfc4115 p)) (row_input is_green rows)
+-- With a committed and a peak rate a green packet takes its bytes from the peak bucket too, as a yellow one does
+-- (RFC 2698 section 3): there what came green or yellow must keep what the meter has for both. The other meters have no such
+-- bucket.
+abbrev pub PeakIsKept : Parameters → List Row → Type 0
+PeakIsKept (SrTcm p) rows = Unit {0}
+PeakIsKept (TrTcm p) rows = KeepsCurve (all_limit (TrTcm p)) (row_input is_in_profile rows)
+PeakIsKept (Rfc4115 p) rows = Unit {0}
 
--- Which packets are held against what a meter has for green and yellow ones: both, but with a committed and an excess rate
--- the yellow ones alone, since green ones take nothing from the excess bucket (RFC 4115 section 2). With a single rate green
--- ones count since the excess bucket gets the tokens that the committed one has no room for (RFC 2697 section 3).
+-- Which packets are held against what a meter has for green and yellow ones. With a single rate they are both, since the
+-- excess bucket gets only the tokens that the committed one has no room for (RFC 2697 section 3). With a peak rate they are
+-- both, since both take from the peak bucket (RFC 2698 section 3). With an excess rate they are the yellow ones, which alone
+-- take from the excess bucket where green ones leave green (RFC 4115 section 2).
 abbrev pub held_against_all : Parameters → Colour → Bool
 held_against_all (SrTcm p) = is_in_profile
 held_against_all (TrTcm p) = is_in_profile
 held_against_all (Rfc4115 p) = is_yellow
 
--- an aware meter lets green packets that keep what it has for them through as green
+-- an aware meter lets every green packet through as green, if what came green keeps what the meter has for it
 abbrev pub GreenStaysGreen : Type 0
 GreenStaysGreen =
     (p : Parameters) (origin : ℕ) (arrivals : List Arrival)
-    → GreenIsWithin p (replay (opening_of p Aware origin) arrivals)
-    → Stays Green (replay (opening_of p Aware origin) arrivals)
+    → KeepsCurve (green_limit p) (row_input is_green (aware_rows p origin arrivals))
+    → PeakIsKept p (aware_rows p origin arrivals)
+    → Stays Green (aware_rows p origin arrivals)
 
--- and where all green packets leave green, it lets yellow ones through as yellow if what counts for them keeps what it has
+-- and where every green packet leaves green, it lets every yellow one through as yellow, if what is held against it keeps
+-- what the meter has for green and yellow ones
 abbrev pub YellowStaysYellow : Type 0
 YellowStaysYellow =
     (p : Parameters) (origin : ℕ) (arrivals : List Arrival)
-    → Stays Green (replay (opening_of p Aware origin) arrivals)
-    → KeepsCurve (all_limit p) (row_input (held_against_all p) (replay (opening_of p Aware origin) arrivals))
-    → Stays Yellow (replay (opening_of p Aware origin) arrivals)
+    → Stays Green (aware_rows p origin arrivals)
+    → KeepsCurve (all_limit p) (row_input (held_against_all p) (aware_rows p origin arrivals))
+    → Stays Yellow (aware_rows p origin arrivals)

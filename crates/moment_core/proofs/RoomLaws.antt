@@ -5,7 +5,7 @@ use Rattle.std.proofs.lemmas.Bool.{cases_lt}
 use Rattle.std.proofs.lemmas.Bool.Decides.{nat_tests}
 use Rattle.std.proofs.lemmas.List.Elements.{All-head, All-tail}
 use Rattle.moment_core.specs.Conformance.{Keeps, size_within}
-use Rattle.moment_core.specs.Metering.{Departure, Offer, Rules, State, after, departure, departures, how, levels_at, used}
+use Rattle.moment_core.specs.Metering.{Departure, Offer, Rules, State, after, colour_of, departure, departures, how, levels_at, used}
 use Rattle.moment_core.specs.Tokens.{given, with_tokens}
 use Rattle.moment_core.specs.declared.colour.Colour.{Colour}
 use Rattle.moment_core.specs.declared.colour.Mode.TheVariants.{Aware}
@@ -194,6 +194,28 @@ enough rules fits such picked level size spare given fills drains stays m ok (o 
       Room-admits g (size m.parameters) (spare m.parameters) picked before d ds filled,
       enough rules fits such picked level size spare given fills drains stays (after rules m o) (stays m o ok) os along.1 rest,
     )
+
+-- each packet that came with a colour left with it
+abbrev pub Keeping : Colour → List Departure → Type 0
+Keeping colour ds = All (λ (d : Departure). d.came ≡ colour → d.left ≡ colour) ds
+
+-- So the packets of a colour keep it, where the rules leave it to each for which that bucket has enough with the bytes to spare.
+pub keeps_colour : {P L : Type 0} (rules : Rules P L) (fits : State P L → Type 0) (such : State P L → Offer → Type 0) (picked : Colour → Bool)
+    (level : L → ℕ) (size spare : P → ℕ) (given : P → ℕ → ℕ → ℕ)
+    → ((m : State P L) (moment : ℕ)
+    → FillsUp (given m.parameters m.origin) (size m.parameters) m.newest (level m.levels) (used m.newest moment) (level (levels_at rules m (used m.newest moment))))
+    → ((m : State P L) (o : Offer) → fits m → such m o → level (levels_at rules m (used m.newest o.moment)) ≤ level (after rules m o).levels + cond (picked o.came) o.size 0)
+    → ((m : State P L) (o : Offer) → fits m → fits (after rules m o))
+    → (colour : Colour)
+    → ((m : State P L) (o : Offer) → fits m → cond (picked o.came) o.size 0 + spare m.parameters ≤ level (levels_at rules m (used m.newest o.moment))
+    → o.came ≡ colour → colour_of rules m o ≡ colour)
+    → (m : State P L) → fits m → (offers : List Offer) → Along rules such m offers
+    → Room (given m.parameters m.origin) (size m.parameters) (spare m.parameters) picked m.newest (level m.levels) (departures (how rules) m offers)
+    → Keeping colour (departures (how rules) m offers)
+keeps_colour rules fits such picked level size spare given fills drains stays colour leaves m ok offers along room =
+    let held = enough rules fits such picked level size spare given fills drains stays m ok offers along room in
+    departures-along rules fits (λ m o. cond (picked o.came) o.size 0 + spare m.parameters ≤ level (levels_at rules m (used m.newest o.moment))) such
+    (λ (d : Departure). d.came ≡ colour → d.left ≡ colour) (λ m o fit held _. leaves m o fit held) stays m ok offers held along
 
 -- a meter that heeds the colours that packets come with
 abbrev pub IsAware : {P L : Type 0} → State P L → Type 0

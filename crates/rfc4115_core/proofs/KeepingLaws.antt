@@ -1,6 +1,5 @@
 -- An aware meter with two separate rates keeps the colours of traffic that keeps what its buckets have.
 use Rattle.std.proofs.Common.{◌≡◌, ℕ, ◌+◌, ◌≤◌, cond, List, ap, refl, sym, ◌∙◌, arith}
-use Rattle.std.specs.List.{All}
 use Rattle.moment_core.specs.Colours.{is_green, is_yellow}
 use Rattle.moment_core.specs.Conformance.{Keeps}
 use Rattle.moment_core.specs.Excess.{Levels, coloured}
@@ -9,7 +8,7 @@ use Rattle.moment_core.specs.Tokens.{given}
 use Rattle.moment_core.specs.declared.colour.Colour.TheVariants.{Green, Yellow}
 use Rattle.moment_core.specs.declared.colour.Mode.TheVariants.{Aware}
 use Rattle.moment_core.proofs.KeepingLaws.{committed_drains, excess_drains, green_stays, yellow_stays}
-use Rattle.moment_core.proofs.RoomLaws.{Along-any, Along-departures, FillsUp, FillsUp-with_tokens, IsAware, IsAware-after, Room-opening, departures-along, enough, input}
+use Rattle.moment_core.proofs.RoomLaws.{Along-any, Along-departures, FillsUp, FillsUp-with_tokens, IsAware, IsAware-after, Room-opening, Keeping, keeps_colour, input}
 use Rattle.rfc4115_core.specs.declared.parameters.Rfc4115Parameters.{Rfc4115Parameters}
 use Rattle.rfc4115_core.specs.SeparateRates.{full, separate_rates}
 use Rattle.rfc4115_core.proofs.SeparateRatesLaws.{committed_level, excess_level}
@@ -36,19 +35,14 @@ green_left m o aware held green = rw aware (green_stays (levels_at separate_rate
 -- green packets that keep the committed rate and burst leave green
 pub green_stays_green : (p : Rfc4115Parameters) (origin : ℕ) (offers : List Offer)
     → Keeps p.committed_rate p.committed_burst (input is_green (departures (how separate_rates) (opening separate_rates p Aware origin) offers))
-    → All (λ (d : Departure). d.came ≡ Green → d.left ≡ Green) (departures (how separate_rates) (opening separate_rates p Aware origin) offers)
+    → Keeping Green (departures (how separate_rates) (opening separate_rates p Aware origin) offers)
 unfolding opening separate_rates full
 green_stays_green p origin offers kept =
     let m = opening separate_rates p Aware origin in
     let ds = departures (how separate_rates) m offers in
     let room = Room-opening p.committed_rate origin p.committed_burst p.committed_burst 0 is_green ds (omega arith) kept in
-    let held = enough separate_rates IsAware (λ _ _. Unit {0}) is_green (λ (l : Levels). l.committed) (λ (p : Rfc4115Parameters). p.committed_burst) (λ _. 0) (λ (p : Rfc4115Parameters). given p.committed_rate)
-    committed_fills green_drains (IsAware-after separate_rates) m refl offers (Along-any separate_rates m offers) room
-    in
-    departures-along separate_rates IsAware
-    (λ (m : State Rfc4115Parameters Levels) (o : Offer). cond (is_green o.came) o.size 0 + 0 ≤ (levels_at separate_rates m (used m.newest o.moment)).committed)
-    (λ _ _. Unit {0}) (λ (d : Departure). d.came ≡ Green → d.left ≡ Green) (λ m o aware held _. green_left m o aware held)
-    (IsAware-after separate_rates) m refl offers held (Along-any separate_rates m offers)
+    keeps_colour separate_rates IsAware (λ _ _. Unit {0}) is_green (λ (l : Levels). l.committed) (λ (p : Rfc4115Parameters). p.committed_burst) (λ _. 0) (λ (p : Rfc4115Parameters). given p.committed_rate)
+    committed_fills green_drains (IsAware-after separate_rates) Green green_left m refl offers (Along-any separate_rates m offers) room
 
 -- ---- yellow
 
@@ -79,19 +73,14 @@ yellow_left m o aware held yellow = rw aware (yellow_stays (levels_at separate_r
 
 -- where green packets leave green, yellow ones that keep the excess rate and burst leave yellow
 pub yellow_stays_yellow : (p : Rfc4115Parameters) (origin : ℕ) (offers : List Offer)
-    → All (λ (d : Departure). d.came ≡ Green → d.left ≡ Green) (departures (how separate_rates) (opening separate_rates p Aware origin) offers)
+    → Keeping Green (departures (how separate_rates) (opening separate_rates p Aware origin) offers)
     → Keeps p.excess_rate p.excess_burst (input is_yellow (departures (how separate_rates) (opening separate_rates p Aware origin) offers))
-    → All (λ (d : Departure). d.came ≡ Yellow → d.left ≡ Yellow) (departures (how separate_rates) (opening separate_rates p Aware origin) offers)
+    → Keeping Yellow (departures (how separate_rates) (opening separate_rates p Aware origin) offers)
 unfolding opening separate_rates full
 yellow_stays_yellow p origin offers greens kept =
     let m = opening separate_rates p Aware origin in
     let ds = departures (how separate_rates) m offers in
     let room = Room-opening p.excess_rate origin p.excess_burst p.excess_burst 0 is_yellow ds (omega arith) kept in
-    let such : State Rfc4115Parameters Levels → Offer → Type 0 = λ m o. o.came ≡ Green → colour_of separate_rates m o ≡ Green in
-    let held = enough separate_rates IsAware such is_yellow (λ (l : Levels). l.excess) (λ (p : Rfc4115Parameters). p.excess_burst) (λ _. 0) (λ (p : Rfc4115Parameters). given p.excess_rate)
-    excess_fills yellow_drains (IsAware-after separate_rates) m refl offers (Along-departures separate_rates (λ (d : Departure). d.came ≡ Green → d.left ≡ Green) m offers greens) room
-    in
-    departures-along separate_rates IsAware
-    (λ (m : State Rfc4115Parameters Levels) (o : Offer). cond (is_yellow o.came) o.size 0 + 0 ≤ (levels_at separate_rates m (used m.newest o.moment)).excess)
-    (λ _ _. Unit {0}) (λ (d : Departure). d.came ≡ Yellow → d.left ≡ Yellow) (λ m o aware held _. yellow_left m o aware held)
-    (IsAware-after separate_rates) m refl offers held (Along-any separate_rates m offers)
+    keeps_colour separate_rates IsAware (λ m o. o.came ≡ Green → colour_of separate_rates m o ≡ Green) is_yellow (λ (l : Levels). l.excess) (λ (p : Rfc4115Parameters). p.excess_burst) (λ _. 0)
+    (λ (p : Rfc4115Parameters). given p.excess_rate) excess_fills yellow_drains (IsAware-after separate_rates) Yellow yellow_left m refl offers
+    (Along-departures separate_rates (λ (d : Departure). d.came ≡ Green → d.left ≡ Green) m offers greens) room

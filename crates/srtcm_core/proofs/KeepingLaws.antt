@@ -1,17 +1,16 @@
 -- An aware single-rate meter keeps the colours of traffic that keeps what its buckets have.
 use Rattle.std.proofs.Common.{◌≡◌, ℕ, ◌+◌, ◌-◌, ◌≤◌, ◌⊎◌, cond, List, refl, arith, inl, inr}
-use Rattle.std.specs.List.{All}
 use Rattle.moment_core.specs.Colours.{is_green, is_in_profile, is_yellow}
 use Rattle.moment_core.specs.Conformance.{Keeps}
 use Rattle.moment_core.specs.Excess.{Levels}
-use Rattle.moment_core.specs.Metering.{Departure, Offer, State, after, colour_of, departures, how, levels_at, opening, used}
+use Rattle.moment_core.specs.Metering.{Offer, State, after, colour_of, departures, how, levels_at, opening, used}
 use Rattle.moment_core.specs.Tokens.{given, with_tokens}
 use Rattle.moment_core.specs.declared.colour.Colour.{Colour}
 use Rattle.moment_core.specs.declared.colour.Colour.TheVariants.{Green, Yellow, Red}
 use Rattle.moment_core.specs.declared.colour.Mode.TheVariants.{Aware}
 use Rattle.moment_core.proofs.KeepingLaws.{both_drain, committed_drains, green_stays, yellow_stays}
 use Rattle.moment_core.proofs.MeteringLaws.{newest_le-used}
-use Rattle.moment_core.proofs.RoomLaws.{Along-any, FillsUp, FillsUp-with_tokens, IsAware, IsAware-after, Room-opening, departures-along, enough, input, with_tokens-fills, with_tokens-grows}
+use Rattle.moment_core.proofs.RoomLaws.{Along-any, FillsUp, FillsUp-with_tokens, IsAware, IsAware-after, Room-opening, Keeping, keeps_colour, input, with_tokens-fills, with_tokens-grows}
 use Rattle.moment_core.proofs.TokenLaws.{given-mono}
 use Rattle.srtcm_core.specs.declared.parameters.SrTcmParameters.{SrTcmParameters}
 use Rattle.srtcm_core.specs.SingleRate.{full, single_rate}
@@ -41,19 +40,14 @@ green_left m o aware held green = rw aware (green_stays (levels_at single_rate m
 -- green packets that keep the committed rate and burst leave green
 pub green_stays_green : (p : SrTcmParameters) (origin : ℕ) (offers : List Offer)
     → Keeps p.committed_rate p.committed_burst (input is_green (departures (how single_rate) (opening single_rate p Aware origin) offers))
-    → All (λ (d : Departure). d.came ≡ Green → d.left ≡ Green) (departures (how single_rate) (opening single_rate p Aware origin) offers)
+    → Keeping Green (departures (how single_rate) (opening single_rate p Aware origin) offers)
 unfolding opening single_rate full
 green_stays_green p origin offers kept =
     let m = opening single_rate p Aware origin in
     let ds = departures (how single_rate) m offers in
     let room = Room-opening p.committed_rate origin p.committed_burst p.committed_burst 0 is_green ds (omega arith) kept in
-    let held = enough single_rate IsAware (λ _ _. Unit {0}) is_green (λ (l : Levels). l.committed) (λ (p : SrTcmParameters). p.committed_burst) (λ _. 0) (λ (p : SrTcmParameters). given p.committed_rate)
-    committed_fills green_drains (IsAware-after single_rate) m refl offers (Along-any single_rate m offers) room
-    in
-    departures-along single_rate IsAware
-    (λ (m : State SrTcmParameters Levels) (o : Offer). cond (is_green o.came) o.size 0 + 0 ≤ (levels_at single_rate m (used m.newest o.moment)).committed)
-    (λ _ _. Unit {0}) (λ (d : Departure). d.came ≡ Green → d.left ≡ Green) (λ m o aware held _. green_left m o aware held)
-    (IsAware-after single_rate) m refl offers held (Along-any single_rate m offers)
+    keeps_colour single_rate IsAware (λ _ _. Unit {0}) is_green (λ (l : Levels). l.committed) (λ (p : SrTcmParameters). p.committed_burst) (λ _. 0) (λ (p : SrTcmParameters). given p.committed_rate)
+    committed_fills green_drains (IsAware-after single_rate) Green green_left m refl offers (Along-any single_rate m offers) room
 
 -- ---- yellow: the two buckets as one, which has the bytes of the committed bucket to spare
 
@@ -122,19 +116,13 @@ yellow_left m o fit held yellow =
 -- where green and yellow packets keep the committed rate and the excess burst, yellow ones leave yellow
 pub yellow_stays_yellow : (p : SrTcmParameters) (origin : ℕ) (offers : List Offer)
     → Keeps p.committed_rate p.excess_burst (input is_in_profile (departures (how single_rate) (opening single_rate p Aware origin) offers))
-    → All (λ (d : Departure). d.came ≡ Yellow → d.left ≡ Yellow) (departures (how single_rate) (opening single_rate p Aware origin) offers)
+    → Keeping Yellow (departures (how single_rate) (opening single_rate p Aware origin) offers)
 unfolding opening single_rate full
 yellow_stays_yellow p origin offers kept =
     let m = opening single_rate p Aware origin in
     let ds = departures (how single_rate) m offers in
     let fit : IsFit m = record { aware = refl; within = IsWithinSizes-opening p Aware origin } in
     let room = Room-opening p.committed_rate origin p.excess_burst (p.committed_burst + p.excess_burst) p.committed_burst is_in_profile ds (omega arith) kept in
-    let held = enough single_rate IsFit (λ _ _. Unit {0}) is_in_profile (λ (l : Levels). l.committed + l.excess) (λ (p : SrTcmParameters). p.committed_burst + p.excess_burst)
+    keeps_colour single_rate IsFit (λ _ _. Unit {0}) is_in_profile (λ (l : Levels). l.committed + l.excess) (λ (p : SrTcmParameters). p.committed_burst + p.excess_burst)
     (λ (p : SrTcmParameters). p.committed_burst) (λ (p : SrTcmParameters). given p.committed_rate)
-    both_fill in_profile_drains IsFit-after m fit offers (Along-any single_rate m offers) room
-    in
-    departures-along single_rate IsFit
-    (λ (m : State SrTcmParameters Levels) (o : Offer). cond (is_in_profile o.came) o.size 0 + m.parameters.committed_burst
-    ≤ (levels_at single_rate m (used m.newest o.moment)).committed + (levels_at single_rate m (used m.newest o.moment)).excess)
-    (λ _ _. Unit {0}) (λ (d : Departure). d.came ≡ Yellow → d.left ≡ Yellow) (λ m o fit held _. yellow_left m o fit held)
-    IsFit-after m fit offers held (Along-any single_rate m offers)
+    both_fill in_profile_drains IsFit-after Yellow yellow_left m fit offers (Along-any single_rate m offers) room

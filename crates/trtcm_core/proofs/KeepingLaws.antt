@@ -1,6 +1,5 @@
 -- An aware two-rate meter keeps the colours of traffic that keeps what its buckets have.
 use Rattle.std.proofs.Common.{◌≡◌, ℕ, ◌+◌, ◌≤◌, cond, List, refl, arith}
-use Rattle.std.specs.List.{All}
 use Rattle.moment_core.specs.Colours.{IsNoBetter, is_green, is_in_profile}
 use Rattle.moment_core.specs.Conformance.{Keeps}
 use Rattle.moment_core.specs.Metering.{Departure, Offer, State, after, colour_of, departures, how, levels_at, opening, used}
@@ -9,7 +8,7 @@ use Rattle.moment_core.specs.declared.colour.Colour.{Colour}
 use Rattle.moment_core.specs.declared.colour.Colour.TheVariants.{Green, Yellow, Red}
 use Rattle.moment_core.specs.declared.colour.Mode.TheVariants.{Aware}
 use Rattle.moment_core.proofs.KeepingLaws.{not_short}
-use Rattle.moment_core.proofs.RoomLaws.{Along, Along-any, FillsUp, FillsUp-with_tokens, IsAware, IsAware-after, Room-opening, departures-along, enough, input}
+use Rattle.moment_core.proofs.RoomLaws.{Along, Along-any, FillsUp, FillsUp-with_tokens, IsAware, IsAware-after, Keeping, Room-opening, departures-along, enough, input}
 use Rattle.trtcm_core.specs.declared.parameters.TrTcmParameters.{TrTcmParameters}
 use Rattle.trtcm_core.specs.TwoRate.{Levels, coloured, full, two_rate, without}
 use Rattle.trtcm_core.proofs.OutputLaws.{no_better}
@@ -129,7 +128,7 @@ in_profile_held p origin offers kept =
 pub green_stays_green : (p : TrTcmParameters) (origin : ℕ) (offers : List Offer)
     → Keeps p.committed_rate p.committed_burst (input is_green (departures (how two_rate) (opening two_rate p Aware origin) offers))
     → Keeps p.peak_rate p.peak_burst (input is_in_profile (departures (how two_rate) (opening two_rate p Aware origin) offers))
-    → All (λ (d : Departure). d.came ≡ Green → d.left ≡ Green) (departures (how two_rate) (opening two_rate p Aware origin) offers)
+    → Keeping Green (departures (how two_rate) (opening two_rate p Aware origin) offers)
 unfolding opening
 green_stays_green p origin offers kept all_kept =
     departures-along two_rate IsAware GreenIsHeld InProfileIsHeld (λ (d : Departure). d.came ≡ Green → d.left ≡ Green) green_left
@@ -138,7 +137,7 @@ green_stays_green p origin offers kept all_kept =
 -- where packets in profile keep the peak rate and burst, yellow ones leave yellow
 pub yellow_stays_yellow : (p : TrTcmParameters) (origin : ℕ) (offers : List Offer)
     → Keeps p.peak_rate p.peak_burst (input is_in_profile (departures (how two_rate) (opening two_rate p Aware origin) offers))
-    → All (λ (d : Departure). d.came ≡ Yellow → d.left ≡ Yellow) (departures (how two_rate) (opening two_rate p Aware origin) offers)
+    → Keeping Yellow (departures (how two_rate) (opening two_rate p Aware origin) offers)
 unfolding opening
 yellow_stays_yellow p origin offers kept =
     let held = in_profile_held p origin offers kept in
