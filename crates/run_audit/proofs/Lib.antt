@@ -3,4 +3,5 @@ mod Journals
 mod Loads
 mod Passages
 mod Places
+mod Sources
 mod Ways
