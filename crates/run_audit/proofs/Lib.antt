@@ -1,3 +1,4 @@
+mod ColourLaws
 mod Inputs
 mod Journals
 mod Loads
