@@ -177,3 +177,150 @@ green_kept t run good is_run premises k e h c is s sent green =
     in
     comes_and_leaves t.domain p.packet 1 s.moment Green c.path s.receipts
     (rw (← green) (each_sent t run good is_run k e h c is s sent).trail) stays
+
+-- ---- yellow stays yellow
+
+came_yellow : (sent came : Colour) → IsNoBetter sent came → (sent ≡ Green → came ≡ Green) → is_yellow came ≡ true → is_yellow sent ≡ true
+came_yellow Green came worse green yellow = absurd (false≢true (sym (ap is_yellow (green refl)) ∙ yellow))
+came_yellow Yellow came worse green yellow = refl
+came_yellow Red Green worse green yellow = absurd worse
+came_yellow Red Yellow worse green yellow = absurd worse
+came_yellow Red Red worse green yellow = yellow
+
+comes_yellow : (t : Table) (run : Run) → IsAcceptable t → IsRun t run → Premises t run → ComesAsSent t run is_yellow
+comes_yellow t run good is_run premises k e h c is s sent i d l =
+    came_yellow s.colour (get_or s.receipts i d).row.came (comes_worse t run good is_run premises k e h c is s sent i d l)
+    (λ green. (green_kept t run good is_run premises k e h c is s sent green i d l).0)
+
+-- with a single rate all shares count, as soon as one of them has a peak
+all_input : (p : Parameters) (skew : ℕ) (shares : List Share) (rows : List Row)
+    → IsWithin (all_limit p) (load all_column skew (counted p shares))
+    → list_any (λ share. share.has_peak) shares ≡ true
+    → KeepsCurve (load all_column skew shares) (row_input is_in_profile rows)
+    → KeepsCurve (load all_column skew (filter (λ share. share.has_peak) shares)) (row_input is_yellow rows)
+    → KeepsCurve (limits.all_limit p) (row_input (held_against_all p) rows)
+all_input (SrTcm p) skew shares rows enough peak kept yellow =
+    within (all_limit (SrTcm p)) (load all_column skew shares) (row_input is_in_profile rows)
+    (subst (λ b. IsWithin (all_limit (SrTcm p)) (load all_column skew (if b then shares else []))) peak enough) kept
+all_input (TrTcm p) skew shares rows enough peak kept yellow = within (all_limit (TrTcm p)) (load all_column skew shares) (row_input is_in_profile rows) enough kept
+all_input (Rfc4115 p) skew shares rows enough peak kept yellow =
+    within (all_limit (Rfc4115 p)) (load all_column skew (filter (λ share. share.has_peak) shares)) (row_input is_yellow rows) enough yellow
+
+yellow_stays : (t : Table) (run : Run) → IsAcceptable t → IsRun t run → Premises t run
+    → (site : ℕ) (entry : List ℕ × Meter) (j : Journal) → slice_get t.domain.meters site ≡ Some entry → Stands run site (meter_opening entry.1) j
+    → list_any (λ share. share.has_peak) (shares_at t.domain entry.0 t.contracts t.certificate) ≡ true
+    → Stays Yellow (replay (opening_of entry.1.parameters Aware entry.1.origin) j.arrivals)
+yellow_stays t run good is_run premises site entry j there stands peak =
+    let p = entry.1.parameters in
+    let opened = opening_of p Aware entry.1.origin in
+    let shares = shares_at t.domain entry.0 t.contracts t.certificate in
+    let all = (all_keep t run good is_run premises site entry j there stands).1 in
+    let yellow = input_keeps t run good is_run premises all_column is_yellow (λ b. b) (λ d c bounds meets. meets.1)
+    (yellow_sources t run is_run premises) (comes_yellow t run good is_run premises) no_peak_no_yellow site entry j there stands
+    in
+    yellow_stays_yellow-any p entry.1.origin j.arrivals (green_stays t run good is_run premises site entry j there stands)
+    (subst (λ o. KeepsCurve (limits.all_limit p) (row_input (held_against_all p) (replay o j.arrivals))) stands.meter
+    (all_input p entry.1.skew shares (journal_rows j) (carries_at t good site entry there).1 peak all yellow))
+
+-- ---- the meters that a packet passes count its contract
+
+list_any-at : {X : Type 0} (test : X → Bool) (xs : List X) (n : ℕ) (e : X) → n < length xs → test (get_or xs n e) ≡ true → list_any test xs ≡ true
+list_any-at test [] n e short passes = absurd (omega (arith, short))
+list_any-at test (x ∷ xs) zero e short passes = rw passes refl
+list_any-at test (x ∷ xs) (suc n) e short passes = or-right (test x) (list_any test xs) (list_any-at test xs n e (omega (arith, short)) passes)
+  where
+    or-right : (a b : Bool) → b ≡ true → (a || b) ≡ true
+    or-right true b h = refl
+    or-right false b h = h
+
+list_any-right : {X : Type 0} (test : X → Bool) (xs ys : List X) → list_any test ys ≡ true → list_any test (xs ++ ys) ≡ true
+list_any-right test [] ys passes = passes
+list_any-right test (x ∷ xs) ys passes = or-right (test x) (list_any test (xs ++ ys)) (list_any-right test xs ys passes)
+  where
+    or-right : (a b : Bool) → b ≡ true → (a || b) ≡ true
+    or-right true b h = refl
+    or-right false b h = h
+
+bound_there : (name : List ℕ) (path : List (List ℕ)) (bounds : List Bound) → length bounds ≡ length path → list_any (bytes_eq name) path ≡ true
+    → is_some (bound_into name path bounds) ≡ true
+unfolding bound_into
+bound_there name [] bounds sized there = absurd (false≢true there)
+bound_there name (to ∷ path) [] sized there = absurd (omega (arith, sized))
+bound_there name (to ∷ path) (bound ∷ bounds) sized there = by_name (bytes_eq name to) there (bound_there name path bounds (omega (arith, sized)))
+  where
+    by_name : (b : Bool) → (b || list_any (bytes_eq name) path) ≡ true
+        → (list_any (bytes_eq name) path ≡ true → is_some (bound_into name path bounds) ≡ true)
+        → is_some (if b then Some bound else bound_into name path bounds) ≡ true
+    by_name true there onward = refl
+    by_name false there onward = onward there
+
+share_there : (d : Domain) (c : Contract) (found : Option Bound) (rest : List Share) → is_some found ≡ true → has_peak c.terms ≡ true
+    → list_any (λ share. share.has_peak) (option_to_list (option_map (λ bound. record { source = source_of d c; bound = bound; has_peak = has_peak c.terms }) found) ++ rest) ≡ true
+share_there d c None rest there peak = absurd (false≢true there)
+share_there d c (Some bound) rest there peak = rw peak refl
+
+peak_there : (d : Domain) (name : List ℕ) (contracts : List Contract) (rows : List (List Bound)) (k : ℕ) (c : Contract)
+    → AllZip (λ x bounds. HasShape d x bounds × Meets d x bounds) contracts rows
+    → slice_get contracts k ≡ Some c → has_peak c.terms ≡ true → list_any (bytes_eq name) c.path ≡ true
+    → list_any (λ share. share.has_peak) (shares_at d name contracts rows) ≡ true
+unfolding shares_at
+peak_there d name [] rows k c good found peak passes = absurd cc
+peak_there d name (x ∷ contracts) [] k c good found peak passes = absurd good
+peak_there d name (x ∷ contracts) ([] ∷ rows) zero c good found peak passes = absurd (omega (arith, good.0.0.1))
+peak_there d name (x ∷ contracts) ((first ∷ bounds) ∷ rows) zero c good found peak passes =
+    let same : c ≡ x = same_Some c x (sym found) in
+    share_there d x (bound_into name x.path bounds) (shares_at d name contracts rows)
+    (bound_there name x.path bounds (omega (arith, good.0.0.1)) (subst (λ (y : Contract). list_any (bytes_eq name) y.path ≡ true) same passes))
+    (subst (λ (y : Contract). has_peak y.terms ≡ true) same peak)
+peak_there d name (x ∷ contracts) (bounds ∷ rows) (suc k) c good found peak passes =
+    list_any-right (λ share. share.has_peak) (share_of d name x bounds) (shares_at d name contracts rows) (peak_there d name contracts rows k c good.1 found peak passes)
+
+-- the meter of a receipt, which the path of its contract leads through
+abbrev IsPassed : Table → Contract → Receipt → Type 0
+IsPassed t c r = (entry : List ℕ × Meter) × (slice_get t.domain.meters r.site ≡ Some entry) × (list_any (bytes_eq entry.0) c.path ≡ true)
+
+passed : (t : Table) (run : Run) → IsAcceptable t → IsRun t run → ForEachSent t run (λ p c s. All (IsPassed t c) s.receipts)
+passed t run good is_run k e h c is s sent =
+    let p = get_or run.passages k e in
+    let known = each_sent t run good is_run k e h c is s sent in
+    receipts_along t.domain p.packet 1 s.moment s.colour c.path s.receipts (IsPassed t c)
+    (λ n x m r site size.
+    let to = get_or c.path n x in
+    let (entry, there, named) = found_at t.domain to (known.known n x m) in
+    (entry, rw site there, list_any-at (bytes_eq entry.0) c.path n x m ((bytes_eq-Decides entry.0 to).1 (sym ((bytes_eq-Decides to entry.0).0 named)))))
+    known.trail
+
+yellow_kept : (t : Table) (run : Run) → IsAcceptable t → IsRun t run → Premises t run
+    → ForEachSent t run (λ p c s. s.colour ≡ Yellow → All (λ r. (r.row.came ≡ Yellow) × (r.row.left ≡ Yellow)) s.receipts)
+yellow_kept t run good is_run premises k e h c is s sent yellow =
+    let p = get_or run.passages k e in
+    let known = each_sent t run good is_run k e h c is s sent in
+    let stays : All (λ r. r.row.came ≡ Yellow → r.row.left ≡ Yellow) s.receipts = λ i d l.
+    let r = get_or s.receipts i d in
+    let (entry, at_site, passes) = passed t run good is_run k e h c is s sent i d l in
+    let (j, stands) = journal_at t run is_run premises r.site (meter_opening entry.1) (meter_at t r.site entry at_site) in
+    let peak = peak_there t.domain entry.0 t.contracts t.certificate p.packet.flow c good.0 known.place (yellow_has_peak c p s sent (ap is_yellow yellow)) passes in
+    let rows = at_journal run r.site entry.1 j (Stays Yellow) stands (yellow_stays t run good is_run premises r.site entry j at_site stands peak) in
+    sent_from run r.site (meter_opening entry.1) j (λ x. x.came ≡ Yellow → x.left ≡ Yellow) stands rows k e h c s sent i d l (grind (arith, nat_tests))
+    in
+    comes_and_leaves t.domain p.packet 1 s.moment Yellow c.path s.receipts (rw (← yellow) known.trail) stays
+
+-- ---- each colour
+
+red_stays : (came left : Colour) → IsNoBetter Red came → IsNoBetter came left → left ≡ Red
+red_stays Green left worse never = absurd worse
+red_stays Yellow left worse never = absurd worse
+red_stays Red Green worse never = absurd never
+red_stays Red Yellow worse never = absurd never
+red_stays Red Red worse never = refl
+
+pub colours_kept : (t : Table) (run : Run) → IsAcceptable t → IsRun t run → Premises t run → ColoursKept t run
+colours_kept t run good is_run premises k e h c is s sent = by_colour s.colour refl
+  where
+    by_colour : (colour : Colour) → s.colour ≡ colour → All (λ r. r.row.left ≡ s.colour) s.receipts
+    by_colour Green green i d l = (green_kept t run good is_run premises k e h c is s sent green i d l).1 ∙ sym green
+    by_colour Yellow yellow i d l = (yellow_kept t run good is_run premises k e h c is s sent yellow i d l).1 ∙ sym yellow
+    by_colour Red red i d l =
+        let r = get_or s.receipts i d in
+        let worse : IsNoBetter Red r.row.came = rw (← red) (comes_worse t run good is_run premises k e h c is s sent i d l) in
+        red_stays r.row.came r.row.left worse (never_improves t run good is_run premises k e h c is s sent i d l) ∙ sym red

@@ -1,8 +1,8 @@
-mod ColourLaws
-mod Inputs
-mod Journals
-mod Loads
-mod Passages
-mod Places
-mod Sources
-mod Ways
+pub mod ColourLaws
+pub mod Inputs
+pub mod Journals
+pub mod Loads
+pub mod Passages
+pub mod Places
+pub mod Sources
+pub mod Ways
