@@ -1,6 +1,6 @@
 -- Each packet leaves each meter with the colour that it was sent with.
-use Rattle.std.proofs.Common.{◌≡◌, ℕ, ◌+◌, ◌-◌, ◌<◌, ◌≤◌, zero, suc, Bool, true, false, cond, List, [], ◌∷◌, ◌++◌, map, length, refl, sym, ◌∙◌, ap, subst, arith, get_or, Some, None}
-use Rattle.std.specs.Prelude.{nat_eq, ◌||◌, slice_get, is_some, drop, option_map, option_to_list, Option, if◌then◌else◌}
+use Rattle.std.proofs.Common.{◌≡◌, ℕ, ◌<◌, zero, suc, Bool, true, false, List, [], ◌∷◌, ◌++◌, length, refl, sym, ◌∙◌, ap, subst, arith, get_or, Some, None}
+use Rattle.std.specs.Prelude.{◌||◌, slice_get, is_some, option_map, option_to_list, Option, if◌then◌else◌}
 use Rattle.std.specs.List.{filter, list_any, All, AllZip}
 use Rattle.std.specs.Str.{bytes_eq}
 use Rattle.std.proofs.lemmas.Bool.{false≢true}
@@ -29,22 +29,19 @@ use Rattle.ds_domain_base.specs.Sent.{has_peak}
 use Rattle.ds_domain_base.specs.declared.contract.Contract.{Contract}
 use Rattle.ds_domain_base.specs.declared.parts.Meter.{Meter}
 use Rattle.ds_certificate.specs.Bounds.{HasShape, Meets}
-use Rattle.ds_certificate.specs.Columns.{Bound, Column, all_column, green_column}
+use Rattle.ds_certificate.specs.Columns.{Bound, all_column, green_column}
 use Rattle.ds_certificate.specs.Sources.{source_of}
 use Rattle.ds_checker.specs.Acceptance.{Carries, IsAcceptable, IsWithin, Table}
 use Rattle.ds_checker.specs.Loads.{Share, all_limit, bound_into, counted, green_limit, load, share_of, shares_at}
-use Rattle.meter_fabric.specs.Sites.{contract_of}
 use Rattle.meter_fabric.specs.declared.trail.Receipt.{Receipt}
 use Rattle.run_audit.specs.KeptColours.{ColoursKept}
 use Rattle.run_audit.specs.Premises.{Premises}
-use Rattle.run_audit.specs.Runs.{IsRun, Passage, Run, meter_opening}
-use Rattle.run_audit.specs.Sendings.{Sending, sending_of}
-use Rattle.run_audit.proofs.Inputs.{ComesAsSent, SourcesKeep, counts, input_keeps}
+use Rattle.run_audit.specs.Runs.{IsRun, Run, meter_opening}
+use Rattle.run_audit.proofs.Inputs.{ComesAsSent, input_keeps}
 use Rattle.run_audit.proofs.Journals.{ForEachSent, Stands, each_sent, everywhere, journal_at, meter_at, sent_from}
-use Rattle.run_audit.proofs.Passages.{comes_and_leaves, comes_no_better, receipts_along, weight_of}
+use Rattle.run_audit.proofs.Passages.{comes_and_leaves, comes_no_better, receipts_along}
 use Rattle.run_audit.proofs.Places.{found_at}
 use Rattle.run_audit.proofs.Sources.{all_sources, green_sources, no_peak_no_yellow, yellow_has_peak, yellow_sources}
-use Rattle.run_audit.proofs.Ways.{neither}
 
 -- ---- no meter improves a colour
 

@@ -1,6 +1,6 @@
 -- What comes to a meter keeps what the checker added up for it.
-use Rattle.std.proofs.Common.{◌≡◌, ℕ, ◌+◌, ◌-◌, ◌*◌, ◌/◌, ◌<◌, ◌≤◌, ◌⊎◌, inl, inr, zero, suc, Bool, true, false, cond, List, [], ◌∷◌, ◌++◌, map, length, refl, sym, ◌∙◌, ap, subst, arith, get_or, Some, None}
-use Rattle.std.specs.Prelude.{nat_eq, nat_lt, slice_get, drop, option_map, option_to_list, Option, if◌then◌else◌}
+use Rattle.std.proofs.Common.{◌≡◌, ℕ, ◌+◌, ◌-◌, ◌<◌, ◌≤◌, Bool, true, false, cond, List, [], ◌∷◌, ◌++◌, map, length, refl, sym, ◌∙◌, ap, arith, get_or, Some, None}
+use Rattle.std.specs.Prelude.{nat_eq, nat_lt, slice_get, drop, option_map, option_to_list, Option}
 use Rattle.std.specs.List.{sum_by, filter, flat_map, All}
 use Rattle.std.proofs.lemmas.Bool.{false≢true}
 use Rattle.std.proofs.lemmas.Bool.Decides.{nat_tests}
@@ -10,7 +10,7 @@ use Rattle.std.proofs.lemmas.Option.{same_Some, slice_get_within}
 use Rattle.moment_core.specs.declared.colour.Colour.{Colour}
 use Rattle.moment_core.specs.Conformance.{size_within, Keeps}
 use Rattle.envelope_core.specs.Curve.{KeepsCurve}
-use Rattle.envelope_core.proofs.Windows.{Keeps-nil, sum_by-mono, sum_by-none, sum_by-map, sum_by-flat_map, sum_by-filter}
+use Rattle.envelope_core.proofs.Windows.{sum_by-mono, sum_by-none, sum_by-map, sum_by-flat_map, sum_by-filter}
 use Rattle.meter_book.specs.Replay.{Journal, journal_rows}
 use Rattle.meter_book.specs.declared.row.Row.{Row}
 use Rattle.ds_domain_base.specs.Domains.{Domain}
@@ -31,10 +31,10 @@ use Rattle.run_audit.specs.Premises.{Premises}
 use Rattle.run_audit.specs.Runs.{IsRun, Passage, Run, meter_opening, told, told_by}
 use Rattle.run_audit.specs.Sendings.{Sending, passages_of, sending_by, sending_of}
 use Rattle.run_audit.proofs.Journals.{ForEachSent, Stands, contract_place, each_sent, sent_from}
-use Rattle.run_audit.proofs.Loads.{IsPartOf, KeepsLoad-contracts, gather, items_from, part_of}
+use Rattle.run_audit.proofs.Loads.{IsPartOf, KeepsLoad-contracts, gather, part_of}
 use Rattle.run_audit.proofs.Passages.{goes_along, item_of, moment_of, receipts_along, receipts_of, weight_of}
-use Rattle.run_audit.proofs.Places.{apart_names, contract_keeps, fits_at, fits_names, meters_known}
-use Rattle.run_audit.proofs.Ways.{Goes, IsUsed, Keeps-weightless, crossing}
+use Rattle.run_audit.proofs.Places.{apart_names, contract_keeps, fits_names, meters_known}
+use Rattle.run_audit.proofs.Ways.{Goes, Keeps-weightless, crossing}
 
 -- ---- the packets of a contract
 

@@ -1,8 +1,7 @@
 -- The journals of a run, and what holds of the receipts from their sites.
-use Rattle.std.proofs.Common.{◌≡◌, ℕ, ◌+◌, ◌-◌, ◌<◌, ◌≤◌, zero, suc, Bool, true, false, List, [], ◌∷◌, ◌++◌, map, length, refl, sym, ◌∙◌, ap, subst, arith, get_or, Some, None}
-use Rattle.std.specs.Prelude.{nat_eq, nat_lt, is_some, slice_get, option_map, IsPermutation, Option, if◌then◌else◌}
+use Rattle.std.proofs.Common.{◌≡◌, ℕ, ◌+◌, ◌<◌, ◌≤◌, zero, suc, Bool, true, false, List, [], ◌∷◌, length, refl, sym, ◌∙◌, ap, subst, arith, get_or, Some, None}
+use Rattle.std.specs.Prelude.{nat_eq, nat_lt, is_some, slice_get, IsPermutation, Option, if◌then◌else◌}
 use Rattle.std.specs.List.{All}
-use Rattle.std.specs.Option.{ForSome}
 use Rattle.std.proofs.lemmas.Bool.Decides.{nat_tests}
 use Rattle.std.proofs.lemmas.List.{get_or-map, length-map}
 use Rattle.std.proofs.lemmas.List.Sorted.{All-permutation, IsPermutation-sym}
@@ -10,22 +9,21 @@ use Rattle.std.proofs.lemmas.Option.{same_Some, slice_get_within}
 use Rattle.moment_core.specs.declared.colour.Colour.{Colour}
 use Rattle.moment_core.proofs.MeteringLaws.{moment_le-used}
 use Rattle.meter_book.specs.AnyMeter.{after_any, newest_of}
-use Rattle.meter_book.specs.Replay.{Journal, journal_rows, offer_of, replay, rows_from}
+use Rattle.meter_book.specs.Replay.{Journal, journal_rows, offer_of, rows_from}
 use Rattle.meter_book.specs.declared.any_meter.AnyMeter.{AnyMeter}
 use Rattle.meter_book.specs.declared.row.Arrival.{Arrival}
 use Rattle.meter_book.specs.declared.row.Row.{Row}
-use Rattle.ds_domain_base.specs.Domains.{Domain}
 use Rattle.ds_domain_base.specs.declared.contract.Contract.{Contract}
 use Rattle.ds_domain_base.specs.declared.parts.Meter.{Meter}
 use Rattle.ds_domain_base.specs.declared.terms.Terms.{Terms}
 use Rattle.ds_domain_base.specs.declared.terms.Terms.TheVariants.{Trusted, Policed}
 use Rattle.ds_checker.specs.Acceptance.{IsAcceptable, Table}
-use Rattle.meter_fabric.specs.Sites.{contract_of, edge_hops, hops_along, site_of}
-use Rattle.meter_fabric.specs.Trails.{IsTrail, Packet}
+use Rattle.meter_fabric.specs.Sites.{contract_of, hops_along}
+use Rattle.meter_fabric.specs.Trails.{IsTrail}
 use Rattle.meter_fabric.specs.declared.trail.Receipt.{Receipt}
 use Rattle.run_audit.specs.Premises.{Premises}
 use Rattle.run_audit.specs.Runs.{IsRun, Opening, Passage, Run, meter_opening, opening_at, told}
-use Rattle.run_audit.specs.Sendings.{ForSent, Sending, sending_by, sending_of}
+use Rattle.run_audit.specs.Sendings.{Sending, sending_by, sending_of}
 use Rattle.run_audit.proofs.Passages.{receipts_along, told_each, trail_sent}
 use Rattle.run_audit.proofs.Places.{IsMeter, fits_at, fits_names, found_at, meters_known}
 

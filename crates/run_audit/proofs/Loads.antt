@@ -1,23 +1,23 @@
 -- What contracts bring to a meter together, and how the packets of a run are those of its contracts.
-use Rattle.std.proofs.Common.{◌≡◌, ℕ, ◌+◌, ◌-◌, ◌*◌, ◌/◌, ◌<◌, ◌≤◌, ◌⊎◌, inl, inr, zero, suc, Bool, true, false, cond, List, [], ◌∷◌, ◌++◌, map, length, refl, sym, ◌∙◌, ap, arith, get_or, Some, None}
-use Rattle.std.specs.Prelude.{nat_eq, not, is_none, slice_get, MatchOption, Option, IsTrue, option_map, option_to_list, drop, if◌then◌else◌}
+use Rattle.std.proofs.Common.{◌≡◌, ℕ, ◌+◌, ◌-◌, ◌<◌, ◌≤◌, inl, inr, suc, Bool, true, false, cond, List, [], ◌∷◌, ◌++◌, map, refl, sym, ◌∙◌, arith, get_or, Some, None}
+use Rattle.std.specs.Prelude.{nat_eq, slice_get, Option, option_map, option_to_list}
 use Rattle.std.specs.List.{sum_by, filter, flat_map, All, AllZip}
-use Rattle.std.proofs.lemmas.Bool.{cases_lt, false≢true}
+use Rattle.std.proofs.lemmas.Bool.{cases_lt}
 use Rattle.std.proofs.lemmas.Bool.Decides.{nat_tests}
 use Rattle.std.proofs.lemmas.List.{map-append}
 use Rattle.std.proofs.lemmas.List.Elements.{filter-append}
 use Rattle.std.proofs.lemmas.List.Sums.{sum_by-cons, sum_by-append}
-use Rattle.moment_core.specs.Conformance.{size_within, Keeps}
+use Rattle.moment_core.specs.Conformance.{size_within}
 use Rattle.moment_core.specs.Volume.{bytes_over}
-use Rattle.envelope_core.specs.Curve.{Curve, KeepsCurve, total, widened}
-use Rattle.envelope_core.proofs.Windows.{Keeps-append, Keeps-looser, Keeps-nil, sum_by-mono, sum_by-none, sum_by-map, sum_by-flat_map, sum_by-filter}
+use Rattle.envelope_core.specs.Curve.{Curve, KeepsCurve, widened}
+use Rattle.envelope_core.proofs.Windows.{Keeps-append, Keeps-looser, Keeps-nil, sum_by-mono, sum_by-none, sum_by-flat_map, sum_by-filter}
 use Rattle.ds_domain_base.specs.Domains.{Domain}
 use Rattle.ds_domain_base.specs.Sent.{has_peak}
 use Rattle.ds_domain_base.specs.declared.contract.Contract.{Contract}
-use Rattle.ds_certificate.specs.Bounds.{HasShape, Meets, Grows}
+use Rattle.ds_certificate.specs.Bounds.{HasShape, Meets}
 use Rattle.ds_certificate.specs.Columns.{Bound, Column}
-use Rattle.ds_certificate.specs.Sources.{jitters_of, source_of}
-use Rattle.ds_checker.specs.Loads.{Share, bound_into, load, share_of, shares_at}
+use Rattle.ds_certificate.specs.Sources.{source_of}
+use Rattle.ds_checker.specs.Loads.{Share, load, share_of, shares_at}
 use Rattle.run_audit.proofs.Ways.{KeepsBound}
 
 -- ---- the share of a contract

@@ -1,7 +1,7 @@
 -- What is sent into a domain keeps the envelopes of its source.
-use Rattle.std.proofs.Common.{◌≡◌, ℕ, ◌+◌, ◌-◌, ◌*◌, ◌/◌, ◌<◌, ◌≤◌, ◌⊎◌, inl, inr, zero, suc, Bool, true, false, cond, List, [], ◌∷◌, ◌++◌, map, length, refl, sym, ◌∙◌, ap, subst, arith, get_or, Some, None}
-use Rattle.std.specs.Prelude.{nat_eq, nat_lt, not, ◌&&◌, slice_get, option_map, option_and_then, Option, if◌then◌else◌}
-use Rattle.std.specs.List.{sum_by, filter, flat_map, All}
+use Rattle.std.proofs.Common.{◌≡◌, ℕ, ◌+◌, ◌-◌, ◌≤◌, ◌⊎◌, inl, inr, Bool, true, false, cond, List, [], ◌∷◌, ◌++◌, map, length, refl, sym, ◌∙◌, ap, subst, arith, get_or, Some, None}
+use Rattle.std.specs.Prelude.{nat_eq, nat_lt, not, ◌&&◌, slice_get, Option, if◌then◌else◌}
+use Rattle.std.specs.List.{sum_by, filter, All}
 use Rattle.std.proofs.lemmas.Bool.{false≢true}
 use Rattle.std.proofs.lemmas.Bool.Decides.{nat_tests}
 use Rattle.std.proofs.lemmas.List.Elements.{All-filter, filter_passes}
@@ -14,7 +14,6 @@ use Rattle.moment_core.specs.declared.colour.Mode.{Mode}
 use Rattle.moment_core.specs.Colours.{is_green, is_in_profile, is_yellow}
 use Rattle.moment_core.specs.Conformance.{size_within, Keeps}
 use Rattle.moment_core.specs.Metering.{opening}
-use Rattle.moment_core.specs.Volume.{bytes_over}
 use Rattle.envelope_core.specs.Curve.{Curve, KeepsCurve, widened}
 use Rattle.envelope_core.proofs.Windows.{Keeps-lighter, bytes_delayed, size_within_cases, size_within_inside, sum_by-mono, sum_by-none, sum_by-map, sum_by-flat_map, sum_by-filter}
 use Rattle.meter_book.specs.AnyMeter.{opening_of}
@@ -26,17 +25,17 @@ use Rattle.meter_book.specs.declared.any_meter.Parameters.TheVariants.{SrTcm, Tr
 use Rattle.meter_book.specs.declared.row.Row.{Row}
 use Rattle.meter_book.proofs.RowLaws.{opened_rows_keep}
 use Rattle.ds_domain_base.specs.Domains.{Domain, port_of}
-use Rattle.ds_domain_base.specs.Sent.{came, edge_of, has_peak, shown}
+use Rattle.ds_domain_base.specs.Sent.{came, has_peak, shown}
 use Rattle.ds_domain_base.specs.declared.contract.Contract.{Contract}
 use Rattle.ds_domain_base.specs.declared.terms.Terms.{Terms}
 use Rattle.ds_domain_base.specs.declared.terms.Terms.TheVariants.{Trusted, Policed}
-use Rattle.ds_certificate.specs.Columns.{Column, green_column, all_column}
+use Rattle.ds_certificate.specs.Columns.{green_column, all_column}
 use Rattle.ds_certificate.specs.Sources.{all_output, green_output, skew_of, source_by, source_of}
-use Rattle.ds_checker.specs.Acceptance.{IsAcceptable, Table}
+use Rattle.ds_checker.specs.Acceptance.{Table}
 use Rattle.meter_fabric.specs.Sites.{contract_of, edge_hops, hops_along, hops_of}
 use Rattle.meter_fabric.specs.Trails.{IsTrail, Packet}
 use Rattle.meter_fabric.specs.declared.trail.Receipt.{Receipt}
-use Rattle.run_audit.specs.Premises.{IsTrusted, KeepsSource, Premises}
+use Rattle.run_audit.specs.Premises.{IsTrusted, Premises}
 use Rattle.run_audit.specs.Runs.{IsRun, Opening, Passage, Run, opening_at, told, told_by}
 use Rattle.run_audit.specs.Sendings.{Sending, passages_of, sending_by, sending_of}
 use Rattle.run_audit.proofs.Inputs.{SourcesKeep, passages_of-contract}
