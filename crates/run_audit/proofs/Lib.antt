@@ -1,4 +1,5 @@
 pub mod ColourLaws
+pub mod ExampleLaws
 pub mod Inputs
 pub mod Journals
 pub mod Loads

@@ -1,3 +1,4 @@
+pub mod Examples
 pub mod KeptColours
 pub mod Premises
 pub mod Runs

@@ -1,4 +1,5 @@
 //! The law of colours, proved as the contract of a function that does nothing.
+ghost use Rattle.run_audit.specs.Examples.{SmallRunIsKept};
 ghost use Rattle.run_audit.specs.KeptColours.{EveryRunKeepsColours};
 
 /// Where the checker accepts a domain, its contracts and their certificate, then in every run of its meters by any workers in
@@ -9,4 +10,9 @@ ghost use Rattle.run_audit.specs.KeptColours.{EveryRunKeepsColours};
 /// (RFC 2475 section 2.3.3; Cruz 1991, section II).
 pub fn every_run_keeps_colours()
     ensures { EveryRunKeepsColours }
+{}
+
+/// What is asked of a run can be met: a packet of 100 bytes passes the only meter of a domain.
+pub fn small_run_is_kept()
+    ensures { SmallRunIsKept }
 {}
