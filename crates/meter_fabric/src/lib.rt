@@ -1,0 +1,12 @@
+//! What a packet carries along its path: a traveller that visits the books of meters and keeps a receipt of each visit.
+#![tactic(auto)]
+
+pub mod fault;
+pub mod hop;
+pub mod trail;
+pub mod traveller;
+
+pub use fault::{BeginFault, VisitFault};
+pub use hop::{Hop, MOST_FLOWS};
+pub use trail::{Receipt, Trail};
+pub use traveller::Traveller;
