@@ -1,8 +1,8 @@
 -- The trail of a packet: what it carried away from each hop of its way so far.
 use Rattle.std.specs.Prelude.{◌≡◌, ℕ, ◌≤◌, ⊤, List, [], ◌∷◌}
 use Rattle.moment_core.specs.declared.colour.Colour.{Colour}
-use Rattle.meter_book.specs.Replay.{arrival_of}
 use Rattle.meter_book.specs.declared.row.Arrival.{Arrival}
+use Rattle.meter_book.specs.declared.row.Row.{Row}
 use Rattle.meter_fabric.specs.declared.hop.Hop.{Hop}
 use Rattle.meter_fabric.specs.declared.trail.Receipt.{Receipt}
 use Rattle.meter_fabric.specs.declared.trail.Trail.{Trail}
@@ -35,6 +35,10 @@ arrival_at p hop moment came = record {
   size = p.size;
   came = came;
 }
+
+-- what of a row is the arrival
+abbrev pub arrival_of : Row → Arrival
+arrival_of r = record { flow = r.flow; packet = r.packet; hop = r.hop; moment = r.arrival; size = r.size; came = r.came }
 
 -- a receipt of a packet's arrival at a hop, with a colour and not before a moment
 pub record IsReceipt (p : Packet) (since : ℕ) (came : Colour) (hop : Hop) (r : Receipt) : Type 0 where

@@ -17,7 +17,7 @@ use Rattle.envelope_core.proofs.Windows.{Keeps-looser}
 use Rattle.meter_book.specs.AnyMeter.{opening_of}
 use Rattle.meter_book.specs.Envelopes.{mode_of}
 use Rattle.meter_book.specs.KeptColours.{PeakIsKept, Stays, held_against_all, row_input}
-use Rattle.meter_book.specs.Limits as limits
+use Rattle.meter_book.specs.Limits.{all_limit, green_limit}
 use Rattle.meter_book.specs.Replay.{Journal, journal_rows, replay}
 use Rattle.meter_book.specs.declared.any_meter.Parameters.{Parameters}
 use Rattle.meter_book.specs.declared.any_meter.Parameters.TheVariants.{SrTcm, TrTcm, Rfc4115}
@@ -32,7 +32,7 @@ use Rattle.ds_certificate.specs.Bounds.{HasShape, Meets}
 use Rattle.ds_certificate.specs.Columns.{Bound, all_column, green_column}
 use Rattle.ds_certificate.specs.Sources.{source_of}
 use Rattle.ds_checker.specs.Acceptance.{Carries, IsAcceptable, IsWithin, Table}
-use Rattle.ds_checker.specs.Loads.{Share, all_limit, bound_into, counted, green_limit, load, share_of, shares_at}
+use Rattle.ds_checker.specs.Loads.{Share, bound_into, counted, load, share_of, shares_at}
 use Rattle.meter_fabric.specs.declared.trail.Receipt.{Receipt}
 use Rattle.run_audit.specs.KeptColours.{ColoursKept}
 use Rattle.run_audit.specs.Premises.{Premises}
@@ -131,11 +131,6 @@ all_keep t run good is_run premises site entry j there stands =
       subst (λ xs. KeepsCurve (load all_column entry.1.skew xs) (row_input is_in_profile (journal_rows j))) (count_all shares) all,
     )
 
-green_limits : (p : Parameters) → green_limit p ≡ limits.green_limit p
-green_limits (SrTcm p) = refl
-green_limits (TrTcm p) = refl
-green_limits (Rfc4115 p) = refl
-
 -- ---- green stays green
 
 peak_is_kept : (p : Parameters) (skew : ℕ) (shares : List Share) (rows : List Row)
@@ -155,10 +150,9 @@ green_stays t run good is_run premises site entry j there stands =
     let shares = shares_at t.domain entry.0 t.contracts t.certificate in
     let enough = carries_at t good site entry there in
     let kept = all_keep t run good is_run premises site entry j there stands in
-    let green : KeepsCurve (limits.green_limit p) (row_input is_green (replay opened j.arrivals)) =
-    subst (λ curve. KeepsCurve curve (row_input is_green (replay opened j.arrivals))) (green_limits p)
-    (within (green_limit p) (load green_column entry.1.skew shares) (row_input is_green (replay opened j.arrivals)) enough.0
-    (subst (λ o. KeepsCurve (load green_column entry.1.skew shares) (row_input is_green (replay o j.arrivals))) stands.meter kept.0))
+    let green : KeepsCurve (green_limit p) (row_input is_green (replay opened j.arrivals)) =
+    within (green_limit p) (load green_column entry.1.skew shares) (row_input is_green (replay opened j.arrivals)) enough.0
+    (subst (λ o. KeepsCurve (load green_column entry.1.skew shares) (row_input is_green (replay o j.arrivals))) stands.meter kept.0)
     in
     green_stays_green-any p entry.1.origin j.arrivals green
     (peak_is_kept p entry.1.skew shares (replay opened j.arrivals) enough.1
@@ -195,7 +189,7 @@ all_input : (p : Parameters) (skew : ℕ) (shares : List Share) (rows : List Row
     → list_any (λ share. share.has_peak) shares ≡ true
     → KeepsCurve (load all_column skew shares) (row_input is_in_profile rows)
     → KeepsCurve (load all_column skew (filter (λ share. share.has_peak) shares)) (row_input is_yellow rows)
-    → KeepsCurve (limits.all_limit p) (row_input (held_against_all p) rows)
+    → KeepsCurve (all_limit p) (row_input (held_against_all p) rows)
 all_input (SrTcm p) skew shares rows enough peak kept yellow =
     within (all_limit (SrTcm p)) (load all_column skew shares) (row_input is_in_profile rows)
     (subst (λ b. IsWithin (all_limit (SrTcm p)) (load all_column skew (if b then shares else []))) peak enough) kept
@@ -216,7 +210,7 @@ yellow_stays t run good is_run premises site entry j there stands peak =
     (yellow_sources t run is_run premises) (comes_yellow t run good is_run premises) no_peak_no_yellow site entry j there stands
     in
     yellow_stays_yellow-any p entry.1.origin j.arrivals (green_stays t run good is_run premises site entry j there stands)
-    (subst (λ o. KeepsCurve (limits.all_limit p) (row_input (held_against_all p) (replay o j.arrivals))) stands.meter
+    (subst (λ o. KeepsCurve (all_limit p) (row_input (held_against_all p) (replay o j.arrivals))) stands.meter
     (all_input p entry.1.skew shares (journal_rows j) (carries_at t good site entry there).1 peak all yellow))
 
 -- ---- the meters that a packet passes count its contract
