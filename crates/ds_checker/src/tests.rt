@@ -45,12 +45,7 @@ fn excess_rate() -> Result<Parameters, Fail> {
 }
 
 /// A port `p` without skew, and a meter `m` with a skew behind a link with a jitter.
-fn domain(
-    alloc: Global,
-    parameters: Parameters,
-    skew: u64,
-    jitter: u64,
-) -> Result<Domain, Fail> {
+fn domain(alloc: Global, parameters: Parameters, skew: u64, jitter: u64) -> Result<Domain, Fail> {
     let mut domain = Domain::new(alloc);
     let meter = Meter {
         parameters: SoundParameters::new(parameters)?,
@@ -157,16 +152,24 @@ fn figures(refusal: &Refusal) -> (u8, u128, u128) {
             (refusal.code(), *needed, *given)
         }
         Refusal::GreenRate {
-            needed, available, ..
+            needed,
+            available,
+            ..
         }
         | Refusal::GreenBurst {
-            needed, available, ..
+            needed,
+            available,
+            ..
         }
         | Refusal::AllRate {
-            needed, available, ..
+            needed,
+            available,
+            ..
         }
         | Refusal::AllBurst {
-            needed, available, ..
+            needed,
+            available,
+            ..
         } => (refusal.code(), *needed, *available),
         Refusal::Shape { contract } => (refusal.code(), *contract as u128, 0),
         Refusal::NoMemory => (refusal.code(), 0, 0),
@@ -251,9 +254,24 @@ fn expect_of_bounds(
 fn bounds_that_are_too_low(rt: HostRuntime) -> Result<(), Fail> {
     let alloc = rt.alloc();
     expect_of_bounds(&rt, alloc, &[&[(500, 500), (502, 502)]], None)?;
-    expect_of_bounds(&rt, alloc, &[&[(499, 499), (502, 502)]], Some((2, 500, 499)))?;
-    expect_of_bounds(&rt, alloc, &[&[(500, 500), (501, 502)]], Some((3, 502, 501)))?;
-    expect_of_bounds(&rt, alloc, &[&[(500, 501), (502, 502)]], Some((3, 503, 502)))
+    expect_of_bounds(
+        &rt,
+        alloc,
+        &[&[(499, 499), (502, 502)]],
+        Some((2, 500, 499)),
+    )?;
+    expect_of_bounds(
+        &rt,
+        alloc,
+        &[&[(500, 500), (501, 502)]],
+        Some((3, 502, 501)),
+    )?;
+    expect_of_bounds(
+        &rt,
+        alloc,
+        &[&[(500, 501), (502, 502)]],
+        Some((3, 503, 502)),
+    )
 }
 
 #[test]
@@ -261,5 +279,10 @@ fn lists_that_are_not_those_of_the_contracts(rt: HostRuntime) -> Result<(), Fail
     let alloc = rt.alloc();
     expect_of_bounds(&rt, alloc, &[], Some((1, 0, 0)))?;
     expect_of_bounds(&rt, alloc, &[&[(500, 500)]], Some((1, 0, 0)))?;
-    expect_of_bounds(&rt, alloc, &[&[(500, 500), (502, 502)], &[]], Some((1, 1, 0)))
+    expect_of_bounds(
+        &rt,
+        alloc,
+        &[&[(500, 500), (502, 502)], &[]],
+        Some((1, 1, 0)),
+    )
 }
