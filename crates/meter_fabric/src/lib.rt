@@ -10,3 +10,6 @@ pub use fault::{BeginFault, VisitFault};
 pub use hop::{Hop, MOST_FLOWS};
 pub use trail::{Receipt, Trail};
 pub use traveller::Traveller;
+
+#[cfg(test)]
+mod tests;
