@@ -1,6 +1,6 @@
 #!/bin/sh
 # Does what `dsedge certify` and `dsedge check` do for 4,096 contracts over paths of 16 meters, and reads their texts alone, by
-# two modes of one program, in turns, and prints the best times and their ratio; then the same for half the contracts.
+# two modes of one program, in turns, and prints the best times and their ratio.
 #
 #     bench/certificates.sh [PASSES] [REPEATS]
 set -eu
@@ -12,25 +12,19 @@ repeats=${2:-5}
 folder=$(mktemp -d)
 trap 'rm -rf "$folder"' EXIT
 
-# measure CONTRACTS
-measure() {
-    rm -f "$folder"/*.times
-    "$bench/generate_domain.sh" "$1" > "$folder/domain.toml"
-    turn=0
-    while [ "$turn" -lt "$repeats" ]; do
-        timed "$folder/domain.toml" /dev/null "$proved" texts 0 >> "$folder/none.times"
-        timed "$folder/domain.toml" /dev/null "$proved" texts "$passes" >> "$folder/texts.times"
-        timed "$folder/domain.toml" /dev/null "$proved" commands "$passes" >> "$folder/commands.times"
-        turn=$((turn + 1))
-    done
-    awk -v contracts="$1" -v passes="$passes" -v none="$(best "$folder/none.times")" \
-        -v texts="$(best "$folder/texts.times")" -v commands="$(best "$folder/commands.times")" 'BEGIN {
-            texts = (texts - none) / passes / 1e6
-            commands = (commands - none) / passes / 1e6
-            printf "%d contracts: texts read %.1f ms, certify and check %.1f ms, ratio %.2f\n", contracts, texts, commands, commands / texts
-        }'
-}
-
 build certificates ds_domain ds_certificate ds_checker
-measure 4096
-measure 2048
+"$bench/generate_domain.sh" > "$folder/domain.toml"
+
+turn=0
+while [ "$turn" -lt "$repeats" ]; do
+    timed "$folder/domain.toml" /dev/null "$proved" texts 0 >> "$folder/none.times"
+    timed "$folder/domain.toml" /dev/null "$proved" texts "$passes" >> "$folder/texts.times"
+    timed "$folder/domain.toml" /dev/null "$proved" commands "$passes" >> "$folder/commands.times"
+    turn=$((turn + 1))
+done
+awk -v passes="$passes" -v none="$(best "$folder/none.times")" -v texts="$(best "$folder/texts.times")" \
+    -v commands="$(best "$folder/commands.times")" 'BEGIN {
+        texts = (texts - none) / passes / 1e6
+        commands = (commands - none) / passes / 1e6
+        printf "texts read %.1f ms, certify and check %.1f ms, ratio %.2f\n", texts, commands, commands / texts
+    }'
