@@ -1,4 +1,7 @@
-use crate::{FileFault, FileName, Folder, MemoryFolder, TextFault, read_texts};
+use crate::{
+    FileFault, FileName, Folder, MemoryFolder, SystemFolder, TextFault, read_texts, read_whole,
+};
+use pcap_capture::SliceIntake;
 use std::alloc::Global;
 use std::test::Fail;
 
@@ -46,4 +49,25 @@ fn a_file_that_is_none(rt: HostRuntime) {
     let folder = MemoryFolder { files: &FILES };
     let fault = folder.read(rt.alloc(), "One").err();
     assert_eq!(rt; fault, Some(FileFault::Unreadable));
+}
+
+#[test]
+fn all_bytes_of_an_intake_that_gives_few_at_a_time(rt: HostRuntime) -> Result<(), Fail> {
+    let mut intake = SliceIntake {
+        most: 2,
+        ..SliceIntake::new(b"first")
+    };
+    let bytes = read_whole(rt.alloc(), &mut intake)?;
+    assert_eq!(rt; bytes.as_slice(), b"first".as_slice());
+    Ok(())
+}
+
+#[test]
+fn a_file_of_the_system(rt: HostRuntime) -> Result<(), Fail> {
+    let folder = SystemFolder::new(&rt);
+    let text = folder.read(rt.alloc(), "/proc/version")?;
+    assert!(rt; text.as_slice().starts_with(b"Linux"));
+    let fault = folder.read(rt.alloc(), "/proc/version/none").err();
+    assert_eq!(rt; fault, Some(FileFault::Unreadable));
+    Ok(())
 }
