@@ -58,6 +58,7 @@ pub record IsBook (b : book.Inside) : Type 0 where
 abbrev pub journal_of : journal.Inside → Journal
 journal_of j = record { site = j.site; opening = j.opening; skew = j.skew; arrivals = arrivals_of j.rows.items }
 
--- what is stored is the rows of a replay
+-- what is stored is the rows of a replay, and the sums are the sums of the rows
 pub record IsJournal (j : journal.Inside) : Type 0 where
   pub replayed : j.rows.items ≡ map stored_of (replay j.opening (arrivals_of j.rows.items))
+  pub counted : j.tallies ≡ tallies_of (replay j.opening (arrivals_of j.rows.items))

@@ -144,9 +144,9 @@ impl MeterBook {
             skew,
             capacity: _,
             rows,
-            tallies: _,
+            tallies,
         } = self;
-        Journal::new(opening, skew, rows)
+        Journal::new(opening, skew, rows, tallies)
     }
 }
 

@@ -1,8 +1,10 @@
 ghost use Rattle.std.specs.Prelude.{◌≡◌, ◌↔◌, IsTrue, [], length, map, slice_get};
 
+use crate::accounts::Accounts;
 use crate::any_meter::AnyMeter;
 use crate::row::Row;
 use crate::stored_row::{StoredRow, row_among};
+use crate::tally::Tallies;
 use moment_core::Gap;
 use std::marker::Model;
 
@@ -13,6 +15,7 @@ pub struct Journal {
     opening: AnyMeter,
     skew: Gap,
     rows: Vec<StoredRow>,
+    tallies: Tallies,
 }
 
 impl Model for Journal {
@@ -28,12 +31,14 @@ impl Model for Journal {
 }
 
 impl Journal {
-    ghost use Rattle.meter_book.specs.Replay.{journal_rows, replay};
+    ghost use Rattle.meter_book.specs.Replay.{accounts_of, journal_rows, replay};
     ghost use Rattle.meter_book.specs.Kept.{arrivals_of, stored_of};
+    ghost use Rattle.meter_book.specs.Tallies.{tallies_of};
 
-    /// The journal of site 0; `rows` must be the replay of their own arrivals.
-    pub(crate) fn new(opening: AnyMeter, skew: Gap, rows: Vec<StoredRow>) -> Self
-        requires { rows.items ≡ map stored_of (replay opening (arrivals_of rows.items)) }
+    /// The journal of site 0; `rows` must be the replay of their own arrivals, and `tallies` its sums.
+    pub(crate) fn new(opening: AnyMeter, skew: Gap, rows: Vec<StoredRow>, tallies: Tallies) -> Self
+        requires rows { rows.items ≡ map stored_of (replay opening (arrivals_of rows.items)) }
+        requires sums { tallies ≡ tallies_of (replay opening (arrivals_of rows.items)) }
         ensures { result ≡ record { site = 0; opening = opening; skew = skew; arrivals = arrivals_of rows.items } }
     {
         Journal {
@@ -41,6 +46,7 @@ impl Journal {
             opening,
             skew,
             rows,
+            tallies,
         }
     }
 
@@ -53,12 +59,14 @@ impl Journal {
             opening,
             skew,
             rows,
+            tallies,
         } = self;
         Journal {
             site,
             opening,
             skew,
             rows,
+            tallies,
         }
     }
 
@@ -81,6 +89,13 @@ impl Journal {
         ensures { result ≡ self.now.skew }
     {
         self.skew
+    }
+
+    /// How many packets and bytes left with each colour.
+    pub fn accounts(&self) -> Accounts
+        ensures { result ≡ accounts_of (journal_rows self.now) }
+    {
+        self.tallies.accounts()
     }
 
     /// How many rows it has.

@@ -1,3 +1,5 @@
+ghost use Rattle.std.specs.Prelude.{◌≤◌};
+
 use crate::{BeginFault, Receipt, Traveller};
 use af_marker::{Class, Dscp};
 use ds_certificate::make;
@@ -34,37 +36,64 @@ fn meter_parameters() -> Result<SoundParameters, Fail> {
     }))?)
 }
 
-/// A port `p` and a meter `m`, with a link between them.
-fn domain(alloc: Global) -> Result<Domain, Fail> {
-    let mut domain = Domain::new(alloc);
+/// Adds a meter `m` with the skew 500,000.
+fn add_meter(domain: &mut Domain) -> Result<(), Fail> {
     let meter = Meter {
         parameters: meter_parameters()?,
         skew: Delay::new(500_000)?,
         origin: Moment::new(0)?,
     };
+    domain.add_meter(Name::new("m")?, meter)?;
+    Ok(())
+}
+
+/// Adds a port `p` without skew.
+fn add_port(domain: &mut Domain) -> Result<(), Fail> {
     let skew = Delay::new(0)?;
+    domain.add_port(Name::new("p")?, Port { skew })?;
+    Ok(())
+}
+
+/// Adds a link from `p` to `m` with the jitter 1,000,000.
+fn add_link(domain: &mut Domain) -> Result<(), Fail> {
     let link = Link {
         floor: Delay::new(0)?,
         jitter: Delay::new(1_000_000)?,
     };
-    domain.add_meter(Name::new("m")?, meter)?;
-    domain.add_port(Name::new("p")?, Port { skew })?;
     domain.add_link("p", "m", link)?;
+    Ok(())
+}
+
+/// A port `p` and a meter `m`, with a link between them.
+fn domain(alloc: Global) -> Result<Domain, Fail> {
+    let mut domain = Domain::new(alloc);
+    add_meter(&mut domain)?;
+    add_port(&mut domain)?;
+    add_link(&mut domain)?;
     Ok(domain)
+}
+
+/// What a contract is held to by a blind meter at its edge.
+fn policed_terms() -> Result<Terms, Fail> {
+    Ok(Terms::Policed {
+        parameters: edge_parameters()?,
+        mode: Mode::Blind,
+    })
+}
+
+/// The path over meter `m`.
+fn path(alloc: Global) -> Result<Path, Fail> {
+    let mut meters = Vec::new(alloc);
+    meters.push(Name::new("m")?)?;
+    Ok(Path::new(meters))
 }
 
 /// A policed contract of class 1 from port `p` over meter `m`.
 fn policed(alloc: Global) -> Result<Contract, Fail> {
-    let mut path = Vec::new(alloc);
-    path.push(Name::new("m")?)?;
     Ok(Contract {
         name: Name::new("u")?,
-        terms: Terms::Policed {
-            parameters: edge_parameters()?,
-            mode: Mode::Blind,
-        },
+        terms: policed_terms()?,
         port: Name::new("p")?,
-        path: Path::new(path),
         class: Class::new(1)?,
         lifetime: Lifetime::new(Moment::new(0)?, None)?,
         rule: Rule {
@@ -75,14 +104,21 @@ fn policed(alloc: Global) -> Result<Contract, Fail> {
             target_ports: None,
             dscp: None,
         },
+        path: path(alloc)?,
     })
+}
+
+/// That contract alone.
+fn contracts(alloc: Global) -> Result<Vec<Contract>, Fail> {
+    let mut contracts = Vec::new(alloc);
+    contracts.push(policed(alloc)?)?;
+    Ok(contracts)
 }
 
 /// That domain and contract with their least certificate.
 fn candidate(alloc: Global) -> Result<Candidate, Fail> {
+    let contracts = contracts(alloc)?;
     let domain = domain(alloc)?;
-    let mut contracts = Vec::new(alloc);
-    contracts.push(policed(alloc)?)?;
     let certificate = make(alloc, &domain, contracts.as_slice())?;
     Ok(Candidate {
         domain,
@@ -97,22 +133,97 @@ fn accepted(alloc: Global) -> Result<Accepted, Fail> {
     Ok(check(alloc, candidate)?)
 }
 
-/// A book with room for two rows.
-fn book(alloc: Global, parameters: SoundParameters, mode: Mode) -> Result<MeterBook, Fail> {
-    let meter = parameters.opened(mode, Moment::new(0)?);
-    Ok(MeterBook::new(alloc, meter, Gap::new(0)?, 2))
-}
-
-/// A packet of 1,500 bytes at moment 10, sent green.
-fn packet(
-    alloc: Global,
-    accepted: &Accepted,
-    number: u64,
-) -> Result<Result<Traveller, BeginFault>, Fail> {
+/// A packet of 1,500 bytes at moment 10, sent green, of the contract of a number.
+fn begin(alloc: Global, flow: u32, number: u64) -> Result<Result<Traveller, BeginFault>, Fail> {
     let size = PacketSize::new(1500)?;
     let dscp = Dscp::new(10)?;
     let begun = Moment::new(10)?;
-    Ok(Traveller::begin(alloc, accepted, 0, number, size, dscp, begun))
+    let accepted = accepted(alloc)?;
+    Ok(Traveller::begin(alloc, &accepted, flow, number, size, dscp, begun))
+}
+
+/// Such a packet of contract 0.
+fn sent(alloc: Global, number: u64) -> Result<Traveller, Fail> {
+    Ok(begin(alloc, 0, number)??)
+}
+
+/// The number of the fault of a packet of a contract; 0 where it begins.
+fn begin_code(alloc: Global, flow: u32) -> Result<u8, Fail> {
+    match begin(alloc, flow, 1)? {
+        Ok(_) => Ok(0),
+        Err(fault) => Ok(fault.code()),
+    }
+}
+
+#[test]
+fn a_contract_that_is_not_there_has_no_packets(rt: HostRuntime) -> Result<(), Fail> {
+    for (flow, code) in [(0, 0), (1, 1), (u32::MAX, 1)] {
+        assert_eq!(rt; begin_code(rt.alloc(), flow)?, code, "of {flow}");
+    }
+    Ok(())
+}
+
+/// A book of the meter at the edge, with room for two rows.
+fn edge_book(alloc: Global) -> Result<MeterBook, Fail> {
+    let origin = Moment::new(0)?;
+    let meter = edge_parameters()?.opened(Mode::Blind, origin);
+    Ok(MeterBook::new(alloc, meter, Gap::NONE, 2))
+}
+
+/// A book of the meter behind it, with room for as many rows.
+fn meter_book(alloc: Global, capacity: u32) -> Result<MeterBook, Fail>
+    requires least { 1 ≤ capacity }
+    requires most { capacity ≤ 2 }
+{
+    let origin = Moment::new(0)?;
+    let meter = meter_parameters()?.opened(Mode::Aware, origin);
+    Ok(MeterBook::new(alloc, meter, Gap::NONE, capacity))
+}
+
+/// The traveller behind a step that nothing stands against.
+fn stepped(traveller: Traveller, book: &mut MeterBook, moment: u64) -> Result<Traveller, Fail> {
+    match traveller.step(book, Moment::new(moment)?) {
+        Ok(traveller) => Ok(traveller),
+        Err((_, fault)) => Err(fault.into()),
+    }
+}
+
+/// The site of a receipt, and the colour that the packet left it with.
+fn told(receipt: Option<&Receipt>) -> Option<(u32, Colour)> {
+    receipt.map(|receipt| (receipt.site, receipt.row.left))
+}
+
+/// Expects what a packet carries away that visits two books at moment 10: a colour at the edge and one at the meter.
+fn expect_ends(
+    rt: &impl Abort,
+    sent: Traveller,
+    edge: &mut MeterBook,
+    meter: &mut MeterBook,
+    left: Colour,
+) -> Result<(), Fail> {
+    let within = stepped(sent, edge, 10)?;
+    let trail = stepped(within, meter, 10)?.into_trail();
+    assert_eq!(rt; told(trail.receipts.first()), Some((1, left)));
+    assert_eq!(rt; told(trail.receipts.last()), Some((0, left)));
+    Ok(())
+}
+
+/// Expects the ends of two packets, one behind the other: green and yellow.
+fn expect_two(
+    rt: &impl Abort,
+    alloc: Global,
+    edge: &mut MeterBook,
+    meter: &mut MeterBook,
+) -> Result<(), Fail> {
+    expect_ends(rt, sent(alloc, 1)?, edge, meter, Colour::Green)?;
+    expect_ends(rt, sent(alloc, 2)?, edge, meter, Colour::Yellow)
+}
+
+#[test]
+fn a_policed_packet_comes_to_its_edge_and_then_to_its_meter(rt: HostRuntime) -> Result<(), Fail> {
+    let mut edge = edge_book(rt.alloc())?;
+    let mut meter = meter_book(rt.alloc(), 2)?;
+    expect_two(&rt, rt.alloc(), &mut edge, &mut meter)
 }
 
 /// A step at a moment: the traveller behind it, the number of the fault or 0 where there is none, and the next site.
@@ -127,36 +238,6 @@ fn visit(
     };
     let next = traveller.next_site();
     Ok((traveller, code, next))
-}
-
-/// The site of a receipt, and the colour that the packet left it with.
-fn told(receipt: Option<&Receipt>) -> Option<(u32, Colour)> {
-    receipt.map(|receipt| (receipt.site, receipt.row.left))
-}
-
-/// What a packet carries away that visits two books at moment 10.
-fn ends(
-    sent: Traveller,
-    edge: &mut MeterBook,
-    meter: &mut MeterBook,
-) -> Result<(Option<(u32, Colour)>, Option<(u32, Colour)>), Fail> {
-    let within = visit(sent, edge, 10)?;
-    let trail = visit(within.0, meter, 10)?.0.into_trail();
-    Ok((told(trail.receipts.first()), told(trail.receipts.last())))
-}
-
-#[test]
-fn a_policed_packet_comes_to_its_edge_and_then_to_its_meter(rt: HostRuntime) -> Result<(), Fail> {
-    let alloc = rt.alloc();
-    let accepted = accepted(alloc)?;
-    let mut edge = book(alloc, edge_parameters()?, Mode::Blind)?;
-    let mut meter = book(alloc, meter_parameters()?, Mode::Aware)?;
-    for (number, left) in [(1, Colour::Green), (2, Colour::Yellow)] {
-        let sent = packet(alloc, &accepted, number)??;
-        let ends = ends(sent, &mut edge, &mut meter)?;
-        assert_eq!(rt; ends, (Some((1, left)), Some((0, left))));
-    }
-    Ok(())
 }
 
 /// Expects the number of a step's fault, 0 where there is none, and the site that is next behind it.
@@ -184,9 +265,38 @@ fn expect_way(rt: &impl Abort, sent: Traveller, book: &mut MeterBook) -> Result<
 
 #[test]
 fn refused_steps_leave_a_packet_where_it_is(rt: HostRuntime) -> Result<(), Fail> {
-    let alloc = rt.alloc();
-    let accepted = accepted(alloc)?;
-    let sent = packet(alloc, &accepted, 1)??;
-    let mut edge = book(alloc, edge_parameters()?, Mode::Blind)?;
+    let mut edge = edge_book(rt.alloc())?;
+    let sent = sent(rt.alloc(), 1)?;
     expect_way(&rt, sent, &mut edge)
+}
+
+/// The number of a packet, and how many receipts it carries.
+fn carried(traveller: Traveller) -> (u64, usize) {
+    let trail = traveller.into_trail();
+    (trail.packet, trail.receipts.len())
+}
+
+/// How many rows a book has, and the number of the packet of the first.
+fn noted(book: &MeterBook) -> (usize, Option<u64>) {
+    (book.len(), book.row(0).map(|row| row.packet))
+}
+
+/// Expects that packet 2 does not come into a book that is full of packet 1, and that both are then as before.
+fn expect_full(rt: &impl Abort, sent: Traveller, book: &mut MeterBook) -> Result<(), Fail> {
+    let refused = expect(rt, sent, book, 10, (2, Some(1)))?;
+    assert_eq!(rt; carried(refused), (2, 0));
+    assert_eq!(rt; noted(book), (1, Some(1)));
+    Ok(())
+}
+
+/// Fills a book of one row with packet 1, and expects that packet 2 finds it full.
+fn expect_one(rt: &impl Abort, alloc: Global, book: &mut MeterBook) -> Result<(), Fail> {
+    stepped(sent(alloc, 1)?, book, 10)?;
+    expect_full(rt, sent(alloc, 2)?, book)
+}
+
+#[test]
+fn a_full_book_leaves_a_packet_where_it_is(rt: HostRuntime) -> Result<(), Fail> {
+    let mut book = meter_book(rt.alloc(), 1)?;
+    expect_one(&rt, rt.alloc(), &mut book)
 }

@@ -1,4 +1,4 @@
-ghost use Rattle.std.specs.Prelude.{◌≡◌, ◌↔◌, None, Some, Ok, IfOk, IfErr, OnErr, IsErrOf, option_copied};
+ghost use Rattle.std.specs.Prelude.{◌≡◌, ◌↔◌, None, Some, Ok, IfOk, IfErr, OnOk, OnErr, IsErrOf, option_copied};
 ghost use Rattle.meter_fabric.specs.Sites.{contract_of};
 ghost use Rattle.meter_fabric.specs.Trails.{IsReceipt, IsTrail, arrival_at, packet_of};
 ghost use Rattle.meter_fabric.specs.Travels.{begun_of, comes_as, last_moment, next_hop, next_site, received, refusal_of, visit};
@@ -128,7 +128,7 @@ impl Traveller {
     /// `JournalFull` where the book has as many rows as it can take, `NoMemory` where memory runs out. Traveller and book are
     /// then unchanged.
     pub fn step(
-        self,
+        mut self,
         book: &mut MeterBook,
         moment: Moment,
     ) -> Result<Traveller, (Traveller, VisitFault)>
@@ -137,16 +137,33 @@ impl Traveller {
         ensures back { IfErr result (λ refused. refused.0 ≡ self) }
         ensures unchanged { OnErr result (book.new ≡ book.old) }
     {
+        match self.advance(book, moment) {
+            Ok(()) => Ok(self),
+            Err(fault) => Err((self, fault)),
+        }
+    }
+
+    /// The same visit, of a traveller that stays where it is kept.
+    ///
+    /// Refused as `step` is; traveller and book are then unchanged.
+    pub fn advance(&mut self, book: &mut MeterBook, moment: Moment) -> Result<(), VisitFault>
+        ensures visited { OnOk result (visit self.old book.old moment ≡ Ok (self.new, book.new)) }
+        ensures refused { IfErr result (λ fault. fault ≡ refusal_of (visit self.old book.old moment)) }
+        ensures unchanged { OnErr result ((self.new ≡ self.old) × (book.new ≡ book.old)) }
+    {
         let Some(hop) = self.next_hop() else {
-            return Err((self, VisitFault::PathEnded));
+            return Err(VisitFault::PathEnded);
         };
         if moment < self.last_moment() {
-            return Err((self, VisitFault::BeforeLast));
+            return Err(VisitFault::BeforeLast);
         }
         let arrival = self.arrival(hop, moment);
         match book.note(arrival) {
-            Ok(row) => Ok(self.received(hop, row)),
-            Err(fault) => Err((self, VisitFault::from(fault))),
+            Ok(row) => {
+                self.receive(hop, row);
+                Ok(())
+            }
+            Err(fault) => Err(VisitFault::from(fault)),
         }
     }
 
@@ -165,15 +182,14 @@ impl Traveller {
         }
     }
 
-    /// The traveller with one receipt more: its row at the site of its next hop.
-    fn received(mut self, hop: Hop, row: Row) -> Traveller
-        requires next { next_hop self ≡ Some hop }
-        requires own { IsReceipt self.packet (last_moment self) (comes_as self) hop (record { site = hop.site; row = row }) }
-        ensures { result ≡ received self hop row }
+    /// Keeps one receipt more: the row at the site of its next hop.
+    fn receive(&mut self, hop: Hop, row: Row)
+        requires next { next_hop self.old ≡ Some hop }
+        requires own { IsReceipt self.old.packet (last_moment self.old) (comes_as self.old) hop (record { site = hop.site; row = row }) }
+        ensures { self.new ≡ received self.old hop row }
     {
         let site = hop.site;
         self.trail.receipts.push(Receipt { site, row }).unwrap();
-        self
     }
 
     /// The packet and its receipts, without its hops. It takes no memory.

@@ -1,7 +1,7 @@
 use Rattle.std.proofs.Common.{◌≡◌, ◌∷◌, [], ◌++◌, arith}
 use Rattle.meter_fabric.proofs.TrailLaws.{trail_of-received}
 use Rattle.meter_fabric.specs.Kept.{traveller_of}
-use Rattle.meter_fabric.proofs.traveller.Traveller.received.Goals as goal
+use Rattle.meter_fabric.proofs.traveller.Traveller.receive.Goals as goal
 
 pub invariant_of-self : goal.invariant_of-self
 invariant_of-self c =
