@@ -200,16 +200,28 @@ mod tests {
         })
     }
 
-    #[test]
-    #[tactic(auto, unfolding(crate::specs::BoundTests::misfit))]
-    fn no_contract_brings_anything(rt: HostRuntime) -> Result<(), Fail> {
-        let alloc = rt.alloc();
+    /// A domain of that meter alone.
+    fn domain(alloc: Global) -> Result<Domain, Fail> {
+        let name = Name::new("m")?;
+        let meter = meter()?;
         let mut domain = Domain::new(alloc);
-        domain.add_meter(Name::new("m")?, meter()?)?;
+        domain.add_meter(name, meter)?;
+        Ok(domain)
+    }
+
+    /// Whether nothing stands against a domain without contracts.
+    #[tactic(auto, unfolding(crate::specs::BoundTests::misfit))]
+    fn nothing_is_refused(alloc: Global, domain: &Domain) -> Result<bool, AllocError> {
         let contracts: Vec<Contract> = Vec::new(alloc);
         let certificate = Certificate::new(Vec::new(alloc));
-        let refusal = table_refusal(alloc, &domain, contracts.as_slice(), &certificate)?;
-        assert!(rt; refusal.is_none());
+        let refusal = table_refusal(alloc, domain, contracts.as_slice(), &certificate)?;
+        Ok(refusal.is_none())
+    }
+
+    #[test]
+    fn no_contract_brings_anything(rt: HostRuntime) -> Result<(), Fail> {
+        let domain = domain(rt.alloc())?;
+        assert!(rt; nothing_is_refused(rt.alloc(), &domain)?);
         Ok(())
     }
 

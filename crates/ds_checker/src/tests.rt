@@ -1,4 +1,4 @@
-use crate::{Accepted, Candidate, Refusal, check};
+use crate::{Candidate, Refusal, check};
 use af_marker::Class;
 use ds_certificate::{Bound, Bounds, Certificate, make};
 use ds_domain_base::{
@@ -44,24 +44,40 @@ fn excess_rate() -> Result<Parameters, Fail> {
     }))
 }
 
-/// A port `p` without skew, and a meter `m` with a skew behind a link with a jitter.
-fn domain(alloc: Global, parameters: Parameters, skew: u64, jitter: u64) -> Result<Domain, Fail> {
-    let mut domain = Domain::new(alloc);
+/// Adds a meter `m` with a skew.
+fn add_meter(domain: &mut Domain, parameters: Parameters, skew: u64) -> Result<(), Fail> {
     let meter = Meter {
         parameters: SoundParameters::new(parameters)?,
         skew: Delay::new(skew)?,
         origin: Moment::new(0)?,
     };
-    let port = Port {
-        skew: Delay::new(0)?,
-    };
+    domain.add_meter(Name::new("m")?, meter)?;
+    Ok(())
+}
+
+/// Adds a port `p` without skew.
+fn add_port(domain: &mut Domain) -> Result<(), Fail> {
+    let skew = Delay::new(0)?;
+    domain.add_port(Name::new("p")?, Port { skew })?;
+    Ok(())
+}
+
+/// Adds a link from `p` to `m` with a jitter.
+fn add_link(domain: &mut Domain, jitter: u64) -> Result<(), Fail> {
     let link = Link {
         floor: Delay::new(0)?,
         jitter: Delay::new(jitter)?,
     };
-    domain.add_meter(Name::new("m")?, meter)?;
-    domain.add_port(Name::new("p")?, port)?;
     domain.add_link("p", "m", link)?;
+    Ok(())
+}
+
+/// A port `p` without skew, and a meter `m` with a skew behind a link with a jitter.
+fn domain(alloc: Global, parameters: Parameters, skew: u64, jitter: u64) -> Result<Domain, Fail> {
+    let mut domain = Domain::new(alloc);
+    add_meter(&mut domain, parameters, skew)?;
+    add_port(&mut domain)?;
+    add_link(&mut domain, jitter)?;
     Ok(domain)
 }
 
@@ -73,6 +89,13 @@ fn profile(rate: u64, burst: u32) -> Result<Profile, Fail> {
     })
 }
 
+/// The path over meter `m`.
+fn path(alloc: Global) -> Result<Path, Fail> {
+    let mut meters = Vec::new(alloc);
+    meters.push(Name::new("m")?)?;
+    Ok(Path::new(meters))
+}
+
 /// A trusted contract from port `p` over meter `m`.
 fn contract(
     alloc: Global,
@@ -80,13 +103,10 @@ fn contract(
     committed: Profile,
     peak: Option<Profile>,
 ) -> Result<Contract, Fail> {
-    let mut path = Vec::new(alloc);
-    path.push(Name::new("m")?)?;
     Ok(Contract {
         name: Name::new(name)?,
         terms: Terms::Trusted { committed, peak },
         port: Name::new("p")?,
-        path: Path::new(path),
         class: Class::new(1)?,
         lifetime: Lifetime::new(Moment::new(0)?, None)?,
         rule: Rule {
@@ -97,50 +117,58 @@ fn contract(
             target_ports: None,
             dscp: None,
         },
+        path: path(alloc)?,
     })
+}
+
+/// Adds a contract of 8 Mbit/s and 3,000 bytes, without a peak.
+fn add_contract(alloc: Global, contracts: &mut Vec<Contract>, name: &str) -> Result<(), Fail> {
+    let own = profile(8_000_000, 3000)?;
+    contracts.push(contract(alloc, name, own, None)?)?;
+    Ok(())
 }
 
 /// Three contracts of 8 Mbit/s and 3,000 bytes, without a peak.
 fn three(alloc: Global) -> Result<Vec<Contract>, Fail> {
-    let own = profile(8_000_000, 3000)?;
     let mut contracts = Vec::new(alloc);
-    contracts.push(contract(alloc, "a", own, None)?)?;
-    contracts.push(contract(alloc, "b", own, None)?)?;
-    contracts.push(contract(alloc, "c", own, None)?)?;
+    for name in ["a", "b", "c"] {
+        add_contract(alloc, &mut contracts, name)?;
+    }
     Ok(contracts)
 }
 
 /// One contract of 8,000 bit/s and 500 bytes.
 fn one(alloc: Global, peak: Option<Profile>) -> Result<Vec<Contract>, Fail> {
+    let own = profile(8000, 500)?;
     let mut contracts = Vec::new(alloc);
-    contracts.push(contract(alloc, "a", profile(8000, 500)?, peak)?)?;
+    contracts.push(contract(alloc, "a", own, peak)?)?;
     Ok(contracts)
 }
 
-/// What is answered of a domain, contracts and their least certificate.
-fn of_least(
-    alloc: Global,
-    domain: Domain,
-    contracts: Vec<Contract>,
-) -> Result<Result<Accepted, (Candidate, Refusal)>, Fail> {
+/// A domain and contracts with their least certificate.
+fn with_least(alloc: Global, domain: Domain, contracts: Vec<Contract>) -> Result<Candidate, Fail> {
     let certificate = make(alloc, &domain, contracts.as_slice())?;
-    let candidate = Candidate {
+    Ok(Candidate {
         domain,
         contracts,
         certificate,
-    };
-    Ok(check(alloc, candidate))
+    })
+}
+
+/// The bounds that are given.
+fn bounds(alloc: Global, row: &[(u64, u64)]) -> Result<Bounds, Fail> {
+    let mut hops = Vec::new(alloc);
+    for (green, all) in row {
+        hops.push(Bound::new(*green, *all)?)?;
+    }
+    Ok(Bounds::new(hops))
 }
 
 /// A certificate of a list for each contract, of the bounds that are given.
 fn certificate(alloc: Global, rows: &[&[(u64, u64)]]) -> Result<Certificate, Fail> {
     let mut lists = Vec::new(alloc);
     for row in rows {
-        let mut hops = Vec::new(alloc);
-        for (green, all) in *row {
-            hops.push(Bound::new(*green, *all)?)?;
-        }
-        lists.push(Bounds::new(hops))?;
+        lists.push(bounds(alloc, row)?)?;
     }
     Ok(Certificate::new(lists))
 }
@@ -176,12 +204,20 @@ fn figures(refusal: &Refusal) -> (u8, u128, u128) {
     }
 }
 
-/// The figures of an answer; None where it accepts.
-fn told(answer: &Result<Accepted, (Candidate, Refusal)>) -> Option<(u8, u128, u128)> {
-    match answer {
+/// The figures of what is answered of a candidate; None where it is accepted.
+fn told(alloc: Global, candidate: Candidate) -> Option<(u8, u128, u128)> {
+    let answer = check(alloc, candidate);
+    match &answer {
         Ok(_) => None,
         Err((_, refusal)) => Some(figures(refusal)),
     }
+}
+
+/// The three contracts with their least certificate at a meter of two rates.
+fn candidate_of_three(alloc: Global, parameters: Parameters) -> Result<Candidate, Fail> {
+    let contracts = three(alloc)?;
+    let domain = domain(alloc, parameters, 500_000, 1_000_000)?;
+    with_least(alloc, domain, contracts)
 }
 
 /// Expects figures of the least certificate of three contracts at a meter of two rates.
@@ -191,9 +227,8 @@ fn expect_of_three(
     parameters: Parameters,
     figures: Option<(u8, u128, u128)>,
 ) -> Result<(), Fail> {
-    let domain = domain(alloc, parameters, 500_000, 1_000_000)?;
-    let answer = of_least(alloc, domain, three(alloc)?)?;
-    assert_eq!(rt; told(&answer), figures);
+    let candidate = candidate_of_three(alloc, parameters)?;
+    assert_eq!(rt; told(alloc, candidate), figures);
     Ok(())
 }
 
@@ -207,6 +242,17 @@ fn three_contracts_fill_a_meter(rt: HostRuntime) -> Result<(), Fail> {
     expect_of_three(&rt, alloc, two_rates(23_999_999, 13_500)?, rate)
 }
 
+/// One contract with its least certificate at a meter without skew, behind a link without jitter.
+fn candidate_of_one(
+    alloc: Global,
+    parameters: Parameters,
+    peak: Option<Profile>,
+) -> Result<Candidate, Fail> {
+    let contracts = one(alloc, peak)?;
+    let domain = domain(alloc, parameters, 0, 0)?;
+    with_least(alloc, domain, contracts)
+}
+
 /// Expects figures of the least certificate of one contract at a meter without skew, behind a link without jitter.
 fn expect_of_one(
     rt: &impl Abort,
@@ -215,9 +261,8 @@ fn expect_of_one(
     peak: Option<Profile>,
     figures: Option<(u8, u128, u128)>,
 ) -> Result<(), Fail> {
-    let domain = domain(alloc, parameters, 0, 0)?;
-    let answer = of_least(alloc, domain, one(alloc, peak)?)?;
-    assert_eq!(rt; told(&answer), figures);
+    let candidate = candidate_of_one(alloc, parameters, peak)?;
+    assert_eq!(rt; told(alloc, candidate), figures);
     Ok(())
 }
 
@@ -233,20 +278,28 @@ fn a_peak_is_held_against_the_excess_bucket(rt: HostRuntime) -> Result<(), Fail>
     expect_of_one(&rt, alloc, excess_rate()?, fast, Some((6, 8001, 8000)))
 }
 
-/// Expects figures of a certificate of one contract of 8,000 bit/s and 500 bytes behind a link with a jitter of 2 ms, which
-/// adds 2 bytes.
+/// One contract of 8,000 bit/s and 500 bytes behind a link with a jitter of 2 ms, which adds 2 bytes, with the bounds that
+/// are given.
+fn candidate_of_bounds(alloc: Global, rows: &[&[(u64, u64)]]) -> Result<Candidate, Fail> {
+    let certificate = certificate(alloc, rows)?;
+    let contracts = one(alloc, None)?;
+    let domain = domain(alloc, two_rates(8_000_000, 13_500)?, 0, 2_000_000)?;
+    Ok(Candidate {
+        domain,
+        contracts,
+        certificate,
+    })
+}
+
+/// Expects figures of bounds of that contract.
 fn expect_of_bounds(
     rt: &impl Abort,
     alloc: Global,
     rows: &[&[(u64, u64)]],
     figures: Option<(u8, u128, u128)>,
 ) -> Result<(), Fail> {
-    let candidate = Candidate {
-        domain: domain(alloc, two_rates(8_000_000, 13_500)?, 0, 2_000_000)?,
-        contracts: one(alloc, None)?,
-        certificate: certificate(alloc, rows)?,
-    };
-    assert_eq!(rt; told(&check(alloc, candidate)), figures);
+    let candidate = candidate_of_bounds(alloc, rows)?;
+    assert_eq!(rt; told(alloc, candidate), figures);
     Ok(())
 }
 

@@ -34,6 +34,14 @@ test_text refusals.NoMemory = codes "8 NoMemory"
 abbrev pub column_figures_text : Column → ℕ → ℕ → List ℕ
 column_figures_text column needed given = codes " " ++ column_text column ++ figures_text needed given
 
+-- the meter that it is at, and its figures; nothing where it is at none
+abbrev pub meter_place_text : Refusal → List ℕ
+meter_place_text (refusals.GreenRate meter needed available) = meter ++ figures_text needed available
+meter_place_text (refusals.GreenBurst meter needed available) = meter ++ figures_text needed available
+meter_place_text (refusals.AllRate meter needed available) = meter ++ figures_text needed available
+meter_place_text (refusals.AllBurst meter needed available) = meter ++ figures_text needed available
+meter_place_text refusal = []
+
 -- where it is, and its figures
 abbrev pub place_text : List Contract → Refusal → List ℕ
 place_text contracts (refusals.Shape number) = decimal number

@@ -1,5 +1,5 @@
 ghost use Rattle.std.specs.Prelude.{◌≡◌, ◌++◌, IfOk, OnOk, codes, decimal};
-ghost use Rattle.dsedge_texts.specs.Refused.{column_figures_text, column_text, figures_text, name_of, place_text, refusal_line, test_text};
+ghost use Rattle.dsedge_texts.specs.Refused.{column_figures_text, column_text, figures_text, meter_place_text, name_of, place_text, refusal_line, test_text};
 
 use ds_checker::{Column, Refusal};
 use ds_domain::{Contract, Name};
@@ -90,6 +90,19 @@ fn push_place(
             push_hop(text, hop)?;
             push_column(text, column, needed, given)
         }
+        Refusal::GreenRate { .. }
+        | Refusal::GreenBurst { .. }
+        | Refusal::AllRate { .. }
+        | Refusal::AllBurst { .. }
+        | Refusal::NoMemory => push_meter_place(text, refusal),
+    }
+}
+
+/// Appends the meter that a refusal is at, and its figures; nothing where it is at none.
+fn push_meter_place(text: &mut Vec<u8>, refusal: &Refusal) -> Result<(), AllocError>
+    ensures { OnOk result (text.new.items ≡ text.old.items ++ meter_place_text refusal.now) }
+{
+    match *refusal {
         Refusal::GreenRate {
             meter,
             needed,
@@ -110,7 +123,10 @@ fn push_place(
             needed,
             available,
         } => push_meter(text, meter, needed, available),
-        Refusal::NoMemory => Ok(()),
+        Refusal::Shape { .. }
+        | Refusal::FirstBound { .. }
+        | Refusal::HopBound { .. }
+        | Refusal::NoMemory => Ok(()),
     }
 }
 
