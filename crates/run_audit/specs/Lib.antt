@@ -1,5 +1,11 @@
-pub mod Examples
-pub mod KeptColours
-pub mod Premises
-pub mod Runs
-pub mod Sendings
+pub mod Assembled
+pub mod Assembling
+pub mod Edges
+pub mod Faults
+pub mod Hops
+pub mod Kept
+pub mod Laws
+pub mod Orders
+pub mod Spills
+pub mod Standings
+pub mod Verdicts

@@ -1,18 +1,8 @@
-//! The law of colours, proved as the contract of a function that does nothing.
-ghost use Rattle.run_audit.specs.Examples.{SmallRunIsKept};
-ghost use Rattle.run_audit.specs.KeptColours.{EveryRunKeepsColours};
+//! What a verdict says, proved as the contract of a function that does nothing.
+ghost use Rattle.run_audit.specs.Laws.{KeptIsWhatPremisesSay};
 
-/// Where the checker accepts a domain, its contracts and their certificate, then in every run of its meters by any workers in
-/// any order, in which trusted sources keep their buckets, links keep their jitter and meters their skew, every packet sent
-/// within its committed contract leaves every meter green and none within its peak contract leaves one red.
-///
-/// A run has no order of its own: its journals are what each meter saw, and its packets what each of them carried away
-/// (RFC 2475 section 2.3.3; Cruz 1991, section II).
-pub fn every_run_keeps_colours()
-    ensures { EveryRunKeepsColours }
-{}
-
-/// What is asked of a run can be met: a packet of 100 bytes passes the only meter of a domain.
-pub fn small_run_is_kept()
-    ensures { SmallRunIsKept }
+/// A run is found kept exactly where its contracts keep their time, its trusted sources their envelopes, its links their floors
+/// and jitters, and its meters their skews.
+pub fn kept_is_what_premises_say()
+    ensures { KeptIsWhatPremisesSay }
 {}

@@ -1,4 +1,25 @@
-//! Runs of the meters of an accepted domain, the premises that they are judged by, and what follows of the colours.
+//! Runs of the meters of an accepted domain, assembled from journals and trails, and the audit that judges them.
 #![tactic(auto)]
 
+pub mod assembling;
+pub mod auditing;
+pub mod fault;
 pub mod laws;
+mod links;
+mod orders;
+pub mod run;
+mod sending;
+mod sites;
+mod skews;
+mod soundness;
+mod sources;
+mod times;
+pub mod verdict;
+
+pub use auditing::audit;
+pub use fault::AssembleFault;
+pub use run::Run;
+pub use verdict::Verdict;
+
+#[cfg(test)]
+mod tests;

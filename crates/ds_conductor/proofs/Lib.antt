@@ -1,0 +1,11 @@
+pub mod ClosingLaws
+pub mod ConductLaws
+pub mod ConductedLaws
+pub mod JournalLaws
+pub mod ListLaws
+pub mod OpenedLaws
+pub mod PlaceLaws
+pub mod SendLaws
+pub mod StepLaws
+pub mod UnderWayLaws
+pub mod VisitLaws

@@ -1,0 +1,7 @@
+pub mod Conducting
+pub mod Faults
+pub mod Kept
+pub mod Laws
+pub mod Steps
+pub mod UnderWay
+pub mod Visits

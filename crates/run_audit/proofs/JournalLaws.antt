@@ -1,0 +1,186 @@
+-- What is known of journals that are one for each site, and of a front of them.
+use Rattle.std.proofs.Common.{◌≡◌, ◌⊎◌, inl, inr, ⊎_elim, ℕ, ◌+◌, ◌-◌, ◌<◌, min, not, Bool, true, false, List, [], ◌∷◌, ◌++◌, map, length, take, get_or, refl, sym, ◌∙◌, ap, arith, Option, Some, None}
+use Rattle.std.specs.Prelude.{nat_eq, nat_lt, is_some, slice_get, position, option_and_then, AllPairs, Contains, IsSome, IsTrue, if◌then◌else◌}
+use Rattle.std.specs.List.{list_any}
+use Rattle.std.proofs.lemmas.Bool.{cases_lt, cases_eq, false≢true, true≢false}
+use Rattle.std.proofs.lemmas.Bool.Decides.{nat_tests}
+use Rattle.std.proofs.lemmas.List.{get_or-map, get_or-take, get_or_default, length-map, length-take, take_more}
+use Rattle.std.proofs.lemmas.List.Elements.{at_from_Contains}
+use Rattle.std.proofs.lemmas.List.Folds.{Any-from_list_any, list_any_at}
+use Rattle.std.proofs.lemmas.List.Quantifiers.{all_pairs_push, position-Some}
+use Rattle.std.proofs.lemmas.Option.{slice_get_within}
+use Rattle.indexmap.specs.IndexSet.{insert_key}
+use Rattle.ds_checker.specs.Acceptance.{Table}
+use Rattle.meter_book.specs.Replay.{Journal, journal_rows}
+use Rattle.meter_fabric.specs.Sites.{contract_of}
+use Rattle.meter_fabric.specs.declared.trail.Receipt.{Receipt}
+use Rattle.run_audit_base.specs.Runs.{edge_opening, opening_at}
+use Rattle.run_audit.specs.Assembling.{IsNoted}
+
+-- ---- numbers of sites
+
+either_some : {A : Type 0} (low : Bool) (first second : Option A) → is_some (if low then first else second) ≡ true → (low ≡ true) ⊎ (is_some second ≡ true)
+either_some true first second some = inl refl
+either_some false first second some = inr some
+
+if_some : {A : Type 0} (low : Bool) (found : Option A) → is_some (if low then found else None) ≡ true → (low ≡ true) × (is_some found ≡ true)
+if_some true found some = (refl, some)
+if_some false found some = absurd (false≢true some)
+
+and_then_some : {A B : Type 0} (f : A → Option B) (found : Option A) → is_some (option_and_then f found) ≡ true → is_some found ≡ true
+and_then_some f None some = some
+and_then_some f (Some x) some = refl
+
+slice_get_below : {X : Type 0} (xs : List X) (i : ℕ) → is_some (slice_get xs i) ≡ true → i < length xs
+slice_get_below {X} xs i some = by_found (slice_get xs i) refl some
+  where
+    by_found : (found : Option X) → slice_get xs i ≡ found → is_some found ≡ true → i < length xs
+    by_found None e there = absurd (false≢true there)
+    by_found (Some x) e there = slice_get_within xs i x e
+
+low_test : (a b : ℕ) → nat_lt a b ≡ true → a < b
+low_test a b low = grind (arith, nat_tests)
+
+contract_below : (t : Table) (flow : ℕ) → is_some (contract_of t flow) ≡ true → (flow < 4294966272) × (flow < length t.contracts)
+contract_below t flow some =
+    let (low, there) = if_some (nat_lt flow 4294966272) (slice_get t.contracts flow) some in
+    (low_test flow 4294966272 low, slice_get_below t.contracts flow there)
+
+-- something stands only at the first numbers
+pub opening_below : (t : Table) (site : ℕ) → IsSome (opening_at t site) → site < length t.domain.meters + min (length t.contracts) 4294966272
+opening_below t site some =
+    ⊎_elim
+    (λ low. omega (arith, low_test site (length t.domain.meters) low))
+    (λ there.
+    let (flow, listed) = contract_below t (site - length t.domain.meters) (and_then_some (edge_opening t.domain) (contract_of t (site - length t.domain.meters)) there) in
+    omega (arith, flow, listed))
+    (either_some (nat_lt site (length t.domain.meters)) _ _ some)
+
+-- ---- journals with sites of their own
+
+abbrev pub HaveOwnSites : List Journal → Type 0
+HaveOwnSites journals = AllPairs (λ j k. ¬ (j.site ≡ k.site)) journals
+
+site_map : Journal → ℕ
+site_map j = j.site
+
+-- the place of a journal of a site among the sites
+site_among : (journals : List Journal) (site : ℕ) → list_any (nat_eq site) (map (λ j. j.site) journals) ≡ true
+    → (k : ℕ) × (k < length journals) × ((d : Journal) → site ≡ (get_or journals k d).site)
+site_among journals site any =
+    let (k, x, inside, is, passes) = Any-from_list_any (nat_eq site) (map (λ (j : Journal). j.site) journals) any in
+    let short : k < length journals = omega (arith, inside, length-map journals (λ (j : Journal). j.site)) in
+    let same : site ≡ x = grind (arith, nat_tests) in
+    (k, short, λ d. same ∙ sym is ∙ get_or-map (λ (j : Journal). j.site) journals k d x short)
+
+pub repeated_site : (journals : List Journal) (i : ℕ) (j : Journal) → i < length journals → j ≡ get_or journals i j
+    → list_any (nat_eq j.site) (map (λ j. j.site) (take i journals)) ≡ true
+    → ¬ HaveOwnSites journals
+repeated_site journals i j inside is any once =
+    let (k, short, same) = site_among (take i journals) j.site any in
+    let before : k < i = omega (arith, short, length-take i journals) in
+    let at_place : (get_or journals k j).site ≡ (get_or journals i j).site =
+    sym (ap (λ (x : Journal). x.site) (get_or-take i journals k j before)) ∙ sym (same j) ∙ ap (λ (x : Journal). x.site) is
+    in
+    once k i j before inside at_place
+
+pub own_site_more : (journals : List Journal) (i : ℕ) (j : Journal) → i < length journals → j ≡ get_or journals i j
+    → list_any (nat_eq j.site) (map (λ j. j.site) (take i journals)) ≡ false
+    → HaveOwnSites (take i journals)
+    → HaveOwnSites (take (i + 1) journals)
+own_site_more journals i j inside is none once =
+    rw (take_more journals i j inside, ← is) (all_pairs_push (λ (j k : Journal). ¬ (j.site ≡ k.site)) (take i journals) j once
+    (λ k d short same.
+    let there : list_any (nat_eq j.site) (map (λ (x : Journal). x.site) (take i journals)) ≡ true =
+    list_any_at (nat_eq j.site) (map (λ (x : Journal). x.site) (take i journals)) k 0 (omega (arith, short, length-map (take i journals) (λ (x : Journal). x.site)))
+    (let at_place = get_or-map (λ (x : Journal). x.site) (take i journals) k d 0 short in let e = at_place ∙ same in grind (arith, nat_tests))
+    in
+    true≢false (sym there ∙ none)))
+
+pub sites_more : (journals : List Journal) (keys more : List ℕ) (i : ℕ) (j : Journal) → i < length journals → j ≡ get_or journals i j
+    → keys ≡ map (λ j. j.site) (take i journals) → more ≡ keys ++ j.site ∷ []
+    → more ≡ map (λ j. j.site) (take (i + 1) journals)
+sites_more journals keys more i j inside is kept pushed =
+    let whole : take (i + 1) journals ≡ take i journals ++ j ∷ [] = take_more journals i j inside ∙ ap (λ (x : Journal). take i journals ++ x ∷ []) (sym is) in
+    rw (whole, pushed, kept) (map_push (take i journals) j)
+  where
+    map_push : (js : List Journal) (x : Journal) → map (λ j. j.site) js ++ x.site ∷ [] ≡ map (λ j. j.site) (js ++ x ∷ [])
+    map_push [] x = refl
+    map_push (y ∷ js) x = ap (λ l. y.site ∷ l) (map_push js x)
+
+-- of two journals of a site one is the other
+pub same_journal : (journals : List Journal) (j k : Journal) → HaveOwnSites journals → Contains journals j → Contains journals k → j.site ≡ k.site → j ≡ k
+same_journal journals j k once has_j has_k same =
+    let (a, within_a, is_a) = at_from_Contains journals j has_j in
+    let (b, within_b, is_b) = at_from_Contains journals k has_k in
+    let sites : (get_or journals a j).site ≡ (get_or journals b j).site = ap (λ (x : Journal). x.site) (is_a j) ∙ same ∙ sym (ap (λ (x : Journal). x.site) (is_b j)) in
+    ⊎_elim
+    (λ e. sym (is_a j) ∙ ap (λ n. get_or journals n j) e ∙ is_b j)
+    (λ apart. ⊎_elim
+    (λ below. absurd (once a b j below within_b sites))
+    (λ above. absurd (once b a j (omega (arith, apart, above)) within_a (sym sites)))
+    (cases_lt a b))
+    (cases_eq a b)
+
+-- ---- receipts that are rows of journals
+
+pub not_noted : (journals : List Journal) (r : Receipt) → list_any (nat_eq r.site) (map (λ j. j.site) journals) ≡ false → ¬ IsNoted journals r
+not_noted journals r none noted =
+    let (j, has, same, at_place) = noted in
+    let (k, within, is) = at_from_Contains journals j has in
+    let sites = map (λ (x : Journal). x.site) journals in
+    let at_site : get_or sites k 0 ≡ r.site = get_or-map (λ (x : Journal). x.site) journals k j 0 within ∙ ap (λ (x : Journal). x.site) (is j) ∙ same in
+    let there : list_any (nat_eq r.site) sites ≡ true =
+    list_any_at (nat_eq r.site) sites k 0 (omega (arith, within, length-map journals (λ (x : Journal). x.site))) (equal r.site (get_or sites k 0) (sym at_site))
+    in
+    true≢false (sym there ∙ none)
+  where
+    equal : (a b : ℕ) → a ≡ b → nat_eq a b ≡ true
+    equal a b same = grind (arith, nat_tests)
+
+pub noted_here : (journals : List Journal) (r : Receipt) (place : ℕ) (j : Journal) (passed : Bool) → HaveOwnSites journals
+    → position (nat_eq r.site) (map (λ j. j.site) journals) ≡ Some place → j ≡ get_or journals place j
+    → (IsTrue passed → slice_get (journal_rows j) r.row.place ≡ Some r.row) × (slice_get (journal_rows j) r.row.place ≡ Some r.row → IsTrue passed)
+    → (IsTrue passed → IsNoted journals r) × (IsNoted journals r → IsTrue passed)
+noted_here journals r place j passed once found is test =
+    let (short, passes, first) = position-Some (nat_eq r.site) (map (λ (x : Journal). x.site) journals) place 0 found in
+    let within : place < length journals = omega (arith, short, length-map journals (λ (x : Journal). x.site)) in
+    let at_site : r.site ≡ get_or (map (λ (x : Journal). x.site) journals) place 0 = grind (arith, nat_tests) in
+    let same : j.site ≡ r.site = ap (λ (x : Journal). x.site) is ∙ sym (get_or-map (λ (x : Journal). x.site) journals place j 0 within) ∙ sym at_site in
+    let has : Contains journals j = (place, within, sym is) in (
+      λ passes_row. (j, has, same, test.0 passes_row),
+      λ noted.
+          let (k, has_k, same_k, at_place) = noted in
+          let one : k ≡ j = same_journal journals k j once has_k has (same_k ∙ sym same) in
+          test.1 (rw one at at_place),
+    )
+
+-- a number is among others exactly where a test finds it there
+pub is_among : (xs : List ℕ) (x : ℕ) → (list_any (nat_eq x) xs ≡ true → Contains xs x) × (Contains xs x → list_any (nat_eq x) xs ≡ true)
+is_among xs x = (
+  λ any.
+      let (k, y, inside, is, passes) = Any-from_list_any (nat_eq x) xs any in
+      let same : get_or xs k y ≡ x = is ∙ sym (same_number x y passes) in
+      (k, inside, get_or_default xs k x y inside ∙ same),
+  λ has.
+      let (k, inside, is) = has in
+      list_any_at (nat_eq x) xs k x inside (same_test x (get_or xs k x) (sym is)),
+)
+  where
+    same_number : (a b : ℕ) → nat_eq a b ≡ true → a ≡ b
+    same_number a b passes = grind (arith, nat_tests)
+
+    same_test : (a b : ℕ) → a ≡ b → nat_eq a b ≡ true
+    same_test a b same = grind (arith, nat_tests)
+
+-- what an insertion answers of a number that is there, and of one that is not
+pub was_there : (added there : Bool) → added ≡ not there → added ≡ false → there ≡ true
+was_there added true is none = refl
+was_there added false is none = absurd (true≢false (sym is ∙ none))
+
+pub was_new : (added there : Bool) → added ≡ not there → added ≡ true → there ≡ false
+was_new added true is new = absurd (true≢false (sym new ∙ is))
+was_new added false is new = refl
+
+pub pushed_key : (keys more : List ℕ) (x : ℕ) → more ≡ insert_key nat_eq keys x → list_any (nat_eq x) keys ≡ false → more ≡ keys ++ x ∷ []
+pushed_key keys more x is none = is ∙ ap (λ there. if there then keys else keys ++ x ∷ []) none

@@ -1,0 +1,8 @@
+use Rattle.std.proofs.Common.{◌<◌, ℕ}
+use Rattle.std.specs.Prelude.{Contains, IsSome}
+use Rattle.run_audit_base.specs.Runs.{opening_at}
+use Rattle.run_audit.proofs.sites.has_each.Given as goal
+
+-- those of the numbers so far
+abbrev pub invariant-loop-site : goal.invariant-loop-site
+invariant-loop-site l = (site : ℕ) → site < l.site → IsSome (opening_at l.accepted site) → Contains l.sites.keys site

@@ -1,0 +1,19 @@
+-- What journals and trails say together.
+use Rattle.std.specs.Prelude.{List, map}
+use Rattle.meter_book.specs.Replay.{Journal}
+use Rattle.ds_checker.specs.Acceptance.{Table}
+use Rattle.meter_fabric.specs.Trails.{packet_of}
+use Rattle.meter_fabric.specs.declared.trail.Trail.{Trail}
+use Rattle.run_audit_base.specs.Runs.{Passage, Run}
+
+-- the packet of a trail, with its receipts
+abbrev pub passage_of : Trail → Passage
+passage_of trail = record { packet = packet_of trail; receipts = trail.receipts.items }
+
+abbrev pub run_of : List Journal → List Trail → Run
+run_of journals trails = record { journals = journals; passages = map passage_of trails }
+
+-- a run, and the table that it is of
+pub record TableRun : Type 0 where
+  pub table : Table
+  pub run : Run

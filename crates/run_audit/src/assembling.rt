@@ -1,0 +1,105 @@
+ghost use Rattle.std.specs.Prelude.{◌≡◌, ◌⊎◌, map, sum_by, length, AllPairs, IfErr, IfOk, OnOk};
+ghost use Rattle.run_audit_base.specs.Runs.{AreJournals, IsRun};
+ghost use Rattle.run_audit.specs.Assembled.{passage_of, run_of};
+ghost use Rattle.run_audit.specs.Assembling.{AreSound, IsFirstWrong, IsNew, IsRefusal, IsSound};
+
+use crate::fault::AssembleFault;
+use crate::run::Run;
+use crate::sites::sites_of;
+use crate::soundness::is_sound;
+use ds_checker::Accepted;
+use indexmap::IndexSet;
+use meter_book::Journal;
+use meter_fabric::Trail;
+use std::alloc::Global;
+
+impl<'a> Run<'a> {
+    /// The run of an accepted table that journals and trails tell, which may stand in any order.
+    ///
+    /// Refused, and handed back, in this order: `Mismatch` where the journals are not one for each site (a meter, or the edge
+    /// of a policed contract) with the meter and the skew that it opens with; then for the first trail that is wrong
+    /// `Doubled` where a trail in front of it has its packet's number, else `Mismatch` where there is no contract of its
+    /// number, or its receipts are not rows of the journals that a packet of the contract carries away from its first hops;
+    /// then `Untold` where a row of a journal is told by no trail. `NoMemory` where memory runs out.
+    pub fn assemble(
+        alloc: Global,
+        accepted: &'a Accepted,
+        journals: Vec<Journal>,
+        trails: Vec<Trail>,
+    ) -> Result<Run<'a>, (Vec<Journal>, Vec<Trail>, AssembleFault)>
+        ensures run { IfOk result (λ run. run ≡ record { table = accepted.now; run = run_of journals.items trails.items }) }
+        ensures refused { IfErr result (λ refused. IsRefusal accepted.now (run_of journals.items trails.items) refused.2) }
+        ensures back { IfErr result (λ refused. (refused.0 ≡ journals) × (refused.1 ≡ trails)) }
+    {
+        match judge(alloc, accepted, journals.as_slice(), trails.as_slice()) {
+            Ok(()) => Ok(Run::of(accepted, journals, trails)),
+            Err(fault) => Err((journals, trails, fault)),
+        }
+    }
+}
+
+/// Judges whether journals and trails are those of a run.
+fn judge(
+    alloc: Global,
+    accepted: &Accepted,
+    journals: &[Journal],
+    trails: &[Trail],
+) -> Result<(), AssembleFault>
+    ensures run { OnOk result (IsRun accepted.now (run_of journals.now trails.now)) }
+    ensures refused { IfErr result (λ fault. IsRefusal accepted.now (run_of journals.now trails.now) fault) }
+{
+    let sites = sites_of(alloc, accepted, journals)?;
+    judge_trails(alloc, accepted, journals, &sites, trails)?;
+    if rows_of(journals) == receipts_of(trails) {
+        Ok(())
+    } else {
+        Err(AssembleFault::Untold)
+    }
+}
+
+/// Judges whether each trail is sound and of a packet of its own.
+fn judge_trails(
+    alloc: Global,
+    accepted: &Accepted,
+    journals: &[Journal],
+    sites: &IndexSet<u32>,
+    trails: &[Trail],
+) -> Result<(), AssembleFault>
+    requires places { sites.now.keys ≡ map (λ j. j.site) journals.now }
+    requires journals { AreJournals accepted.now journals.now }
+    ensures sound { OnOk result (AreSound accepted.now journals.now (map passage_of trails.now)) }
+    ensures refused { IfErr result (λ fault. IsRefusal accepted.now (run_of journals.now trails.now) fault) }
+{
+    let mut numbers = IndexSet::new(alloc);
+    for trail in trails {
+        if !numbers.insert(trail.packet)? {
+            return Err(AssembleFault::Doubled);
+        }
+        if !is_sound(accepted, journals, sites, trail) {
+            return Err(AssembleFault::Mismatch);
+        }
+    }
+    Ok(())
+}
+
+/// How many rows journals have.
+fn rows_of(journals: &[Journal]) -> u128
+    ensures { result ≡ sum_by (λ j. length j.arrivals) journals.now }
+{
+    let mut sum = 0;
+    for journal in journals {
+        sum += journal.len() as u128;
+    }
+    sum
+}
+
+/// How many receipts trails have.
+fn receipts_of(trails: &[Trail]) -> u128
+    ensures { result ≡ sum_by (λ trail. length trail.receipts.items) trails.now }
+{
+    let mut sum = 0;
+    for trail in trails {
+        sum += trail.receipts.len() as u128;
+    }
+    sum
+}

@@ -1,0 +1,66 @@
+ghost use Rattle.std.specs.Prelude.{◌≡◌, map};
+ghost use Rattle.run_audit_base.specs.Runs.{IsRun};
+ghost use Rattle.run_audit.specs.Assembled.{passage_of, run_of};
+
+use ds_checker::Accepted;
+use meter_book::Journal;
+use meter_fabric::Trail;
+use std::marker::Model;
+
+/// A run of an accepted table: the journals of its sites, and the trails of its packets, which tell the same rows.
+#[derive(Debug, Drop)]
+pub struct Run<'a> {
+    accepted: &'a Accepted,
+    journals: Vec<Journal>,
+    trails: Vec<Trail>,
+}
+
+impl<'a> Model for Run<'a> {
+    ghost use Rattle.run_audit.specs.Assembled.{TableRun};
+
+    ghost Value = { TableRun };
+
+    ghost use Rattle.run_audit.specs.Kept.{IsKept, table_run_of};
+
+    ghost view = { table_run_of };
+
+    ghost invariant = { IsKept };
+}
+
+impl<'a> Run<'a> {
+    /// The run of journals and trails that are known to be one.
+    pub fn of(accepted: &'a Accepted, journals: Vec<Journal>, trails: Vec<Trail>) -> Self
+        requires { IsRun accepted.now (run_of journals.items trails.items) }
+        ensures { result ≡ record { table = accepted.now; run = run_of journals.items trails.items } }
+    {
+        Run {
+            accepted,
+            journals,
+            trails,
+        }
+    }
+
+    /// The table that it is a run of.
+    pub fn accepted(&self) -> &'a Accepted
+        ensures value { result.now ≡ self.now.table }
+        ensures run { IsRun self.now.table self.now.run }
+    {
+        self.accepted
+    }
+
+    /// The journals of the sites.
+    pub fn journals(&self) -> &[Journal]
+        ensures value { result.now ≡ self.now.run.journals }
+        ensures run { IsRun self.now.table self.now.run }
+    {
+        self.journals.as_slice()
+    }
+
+    /// The trails of the packets.
+    pub fn trails(&self) -> &[Trail]
+        ensures value { map passage_of result.now ≡ self.now.run.passages }
+        ensures run { IsRun self.now.table self.now.run }
+    {
+        self.trails.as_slice()
+    }
+}

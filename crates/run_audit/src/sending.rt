@@ -1,0 +1,70 @@
+//! Packets as they are sent into a domain.
+ghost use Rattle.std.specs.Prelude.{◌≡◌, option_copied};
+ghost use Rattle.meter_fabric.specs.Sites.{contract_of};
+ghost use Rattle.run_audit_base.specs.Sendings.{sending_of};
+ghost use Rattle.run_audit.specs.Edges.{edge_sending};
+ghost use Rattle.run_audit.specs.Assembled.{passage_of};
+
+use ds_checker::Accepted;
+use ds_domain_base::{Contract, Terms};
+use meter_fabric::{MOST_FLOWS, Receipt, Trail};
+use moment_core::{Colour, Moment};
+use std::marker::Model;
+
+/// A packet as it is sent: when, with what colour, and its receipts of the meters that it has visited since.
+#[derive(Debug, Drop)]
+pub(crate) struct Sent<'a> {
+    /// When it is sent.
+    pub(crate) moment: Moment,
+    /// The colour that it is sent with.
+    pub(crate) colour: Colour,
+    /// Its receipts since.
+    pub(crate) receipts: &'a [Receipt],
+}
+
+impl<'a> Model for Sent<'a> {
+    ghost use Rattle.run_audit_base.specs.Sendings.{Sending};
+
+    ghost Value = { Sending };
+
+    ghost view = { λ s. record { moment = s.moment; colour = s.colour; receipts = s.receipts.now } };
+}
+
+/// The contract of a number, if there is one.
+pub(crate) fn contract_of(accepted: &Accepted, flow: u32) -> Option<&Contract>
+    ensures { option_copied result ≡ contract_of accepted.now flow }
+{
+    if flow < MOST_FLOWS {
+        accepted.contracts().get(flow as usize)
+    } else {
+        None
+    }
+}
+
+/// The packet of a trail as it is sent under its contract: as it begins where that is trusted, else as it leaves its edge, if
+/// it has come there.
+pub(crate) fn sent_of<'a>(contract: &Contract, trail: &'a Trail) -> Option<Sent<'a>>
+    ensures { result ≡ sending_of contract.now (passage_of trail.now) }
+{
+    let receipts = trail.receipts.as_slice();
+    match contract.terms {
+        Terms::Trusted { .. } => Some(Sent {
+            moment: trail.begun,
+            colour: contract.came(trail.dscp),
+            receipts,
+        }),
+        Terms::Policed { .. } => sent_by_edge(receipts),
+    }
+}
+
+/// A packet as it left its edge, of which its first receipt tells, if it has one.
+fn sent_by_edge(receipts: &[Receipt]) -> Option<Sent<'_>>
+    ensures { result ≡ edge_sending receipts.now }
+{
+    let (edge, since) = receipts.split_first()?;
+    Some(Sent {
+        moment: edge.row.arrival,
+        colour: edge.row.left,
+        receipts: since,
+    })
+}

@@ -1,0 +1,130 @@
+-- The small run meets all that is asked of a run.
+use Rattle.std.proofs.Common.{◌≡◌, ℕ, ◌-◌, ◌≤◌, zero, suc, Bool, true, false, [], ◌∷◌, refl, sym, ◌∙◌, ap, subst, arith, Some, None, inl, inr}
+use Rattle.std.specs.Prelude.{slice_get, nat_lt, is_some, option_and_then, IsPermutation, IsSome, if◌then◌else◌}
+use Rattle.std.specs.List.{All, AllPairs, Contains}
+use Rattle.std.proofs.lemmas.List.Elements.{All-cons, All-nil}
+use Rattle.std.proofs.lemmas.List.Sorted.{IsPermutation-refl}
+use Rattle.std.proofs.lemmas.Option.{none-some, same_Some}
+use Rattle.std.proofs.lemmas.Bool.{false≢true}
+use Rattle.std.proofs.lemmas.Bool.Decides.{nat_tests}
+use Rattle.std.specs.Option.{ForSome}
+use Rattle.moment_core.specs.Conformance.{Keeps}
+use Rattle.moment_core.specs.Metering.{opening, used}
+use Rattle.envelope_core.proofs.Windows.{size_within_cases}
+use Rattle.meter_book.specs.Replay.{journal_rows, row_of}
+use Rattle.ds_domain_base.specs.Fitting.{lacks_link, names_unknown, repeats}
+use Rattle.ds_domain_base.specs.Sent.{came}
+use Rattle.ds_domain_base.specs.declared.contract.Contract.{Contract}
+use Rattle.ds_certificate.specs.Bounds.{Grows, IsCertificate}
+use Rattle.ds_certificate.specs.Sources.{jitters_along, source_of}
+use Rattle.ds_checker.specs.Acceptance.{Carries}
+use Rattle.ds_checker.specs.Loads.{bound_into, shares_at}
+use Rattle.af_marker.specs.CodePoints.{colour_at}
+use Rattle.meter_fabric.specs.Sites.{contract_of, hops_along}
+use Rattle.meter_fabric.specs.Trails.{IsTrail}
+use Rattle.run_audit_base.specs.Examples.{SmallRunIsKept, meter_name, port_name, small_arrival, small_bound, small_contract, small_domain, small_journal, small_meter, small_parameters, small_passage, small_run, small_table}
+use Rattle.run_audit_base.specs.Premises.{IsInTime, IsTimely, KeepsSource, Premises}
+use Rattle.run_audit_base.specs.Runs.{IsPassage, IsRun, edge_opening, opening_at, told}
+use Rattle.run_audit_base.specs.Sendings.{ForSent, Sending, sending_of}
+
+-- what holds of the only thing of a list
+only : {X : Type 0} (P : X → Type 0) (x : X) → P x → All P (x ∷ [])
+only P x holds = All-cons P x [] holds (All-nil P)
+
+-- no two things stand in it
+only_pairs : {X : Type 0} (R : X → X → Type 0) (x : X) → AllPairs R (x ∷ [])
+only_pairs R x i j d first second = absurd (omega (arith, first, second))
+
+Keeps-one : (rate burst moment size : ℕ) → size ≤ burst → Keeps rate burst ((moment, size) ∷ [])
+Keeps-one rate burst moment size small start end ordered =
+    elim (size_within_cases start end (moment, size)) [
+      | inl inside ↦ omega (arith, inside.2, small)
+      | inr outside ↦ omega (arith, outside.1)
+    ]
+
+small_certificate : IsCertificate small_domain (small_contract ∷ []) ((small_bound ∷ small_bound ∷ []) ∷ [])
+unfolding lacks_link names_unknown repeats Grows jitters_along source_of
+small_certificate = (((refl, refl), ((omega arith, (omega arith, tt)), (omega arith, (omega arith, tt)))), tt)
+
+small_carries : All (λ entry. Carries entry.1 (shares_at small_domain entry.0 (small_contract ∷ []) ((small_bound ∷ small_bound ∷ []) ∷ []))) small_domain.meters
+unfolding shares_at bound_into source_of
+small_carries =
+    only (λ entry. Carries entry.1 (shares_at small_domain entry.0 (small_contract ∷ []) ((small_bound ∷ small_bound ∷ []) ∷ [])))
+    (meter_name, record { parameters = small_parameters; skew = 0; origin = 0 })
+    ((omega arith, omega arith), (omega arith, omega arith))
+
+small_trail : IsPassage small_table small_passage
+unfolding hops_along IsTrail came colour_at
+small_trail = (small_contract, refl, (record { site = refl; arrival = refl; in_time = omega arith }, tt))
+
+-- there is no edge, and no site but the meter's
+no_edge : (low : Bool) (place : ℕ) → option_and_then (edge_opening small_domain) (if low then slice_get (small_contract ∷ []) place else None) ≡ None
+no_edge false place = refl
+no_edge true zero = refl
+no_edge true (suc place) = refl
+
+no_site : (site : ℕ) → opening_at small_table (suc site) ≡ None
+no_site site =
+    let behind : nat_lt (suc site) 1 ≡ false = grind (arith, nat_tests) in
+    rw behind (no_edge (nat_lt (suc site - 1) 4294966272) (suc site - 1))
+
+small_sites : (site : ℕ) → IsSome (opening_at small_table site) → Contains (0 ∷ []) site
+small_sites zero there = (0, omega arith, refl)
+small_sites (suc site) there = absurd (false≢true (sym (ap is_some (no_site site)) ∙ there))
+
+small_is_run : IsRun small_table small_run
+small_is_run = record {
+  journals = record {
+    own = only (λ j. opening_at small_table j.site ≡ Some (record { meter = j.opening; skew = j.skew })) small_journal refl;
+    once = only_pairs (λ j k. ¬ (j.site ≡ k.site)) small_journal;
+    each = small_sites;
+  };
+  passages = only (IsPassage small_table) small_passage small_trail;
+  numbers = only_pairs (λ p q. ¬ (p.packet.number ≡ q.packet.number)) small_passage;
+  rows = only (λ j. IsPermutation (told j.site small_run.passages) (journal_rows j)) small_journal (IsPermutation-refl (journal_rows small_journal));
+}
+
+-- what holds of the packet as it was sent
+small_sent : (P : Contract → Sending → Type 0)
+    → P small_contract (record { moment = 0; colour = came small_contract 10; receipts = small_passage.receipts })
+    → ForSent small_table small_run P
+small_sent P holds =
+    only (λ p. ForSome (contract_of small_table p.packet.flow) (λ c. ForSome (sending_of c p) (P c))) small_passage
+    (λ c is s sent.
+    let contract : small_contract ≡ c = same_Some small_contract c is in
+    subst (λ (x : Contract). sending_of x small_passage ≡ Some s → P x s) contract
+    (λ own. subst (P small_contract) (same_Some (record { moment = 0; colour = came small_contract 10; receipts = small_passage.receipts }) s own) holds)
+    sent)
+
+small_keeps : KeepsSource small_table small_run 0 small_contract
+unfolding source_of came colour_at
+small_keeps = (Keeps-one 8000 1500 0 100 (omega arith), Keeps-one 8000 1500 0 100 (omega arith))
+
+small_source : (flow : ℕ) (c : Contract) → contract_of small_table flow ≡ Some c → KeepsSource small_table small_run flow c
+small_source zero c is =
+    let contract : small_contract ≡ c = same_Some small_contract c is in
+    subst (KeepsSource small_table small_run 0) contract small_keeps
+small_source (suc flow) c is = absurd (nobody (nat_lt (suc flow) 4294966272) is)
+  where
+    nobody : (low : Bool) → (if low then slice_get (small_contract ∷ []) (suc flow) else None) ≡ Some c → ⊥
+    nobody true found = none-some c found
+    nobody false found = none-some c found
+
+small_way : IsTimely small_domain port_name small_contract.path 0 small_passage.receipts
+unfolding IsTimely
+small_way = ((omega arith, omega arith), tt)
+
+small_late : All (λ r. r.late ≤ 0) (journal_rows small_journal)
+unfolding used opening
+small_late = only (λ r. r.late ≤ 0) (row_of small_meter 0 small_arrival) (omega arith)
+
+small_premises : Premises small_table small_run
+small_premises = record {
+  time = small_sent IsInTime (omega arith, λ until is. absurd (none-some until is));
+  source = λ flow c is trusted. small_source flow c is;
+  link = small_sent (λ c s. IsTimely small_domain c.port c.path s.moment s.receipts) small_way;
+  skew = only (λ j. All (λ r. r.late ≤ j.skew) (journal_rows j)) small_journal small_late;
+}
+
+pub small_run_kept : SmallRunIsKept
+small_run_kept = ((small_certificate, small_carries), small_is_run, small_premises)

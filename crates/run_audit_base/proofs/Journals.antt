@@ -1,0 +1,141 @@
+-- The journals of a run, and what holds of the receipts from their sites.
+use Rattle.std.proofs.Common.{◌≡◌, ℕ, ◌+◌, ◌<◌, ◌≤◌, zero, suc, Bool, true, false, List, [], ◌∷◌, length, refl, sym, ◌∙◌, ap, subst, arith, get_or, Some, None}
+use Rattle.std.specs.Prelude.{nat_eq, nat_lt, is_some, slice_get, IsPermutation, Option, if◌then◌else◌}
+use Rattle.std.specs.List.{All}
+use Rattle.std.proofs.lemmas.Bool.Decides.{nat_tests}
+use Rattle.std.proofs.lemmas.List.{get_or-map, length-map}
+use Rattle.std.proofs.lemmas.List.Sorted.{All-permutation, IsPermutation-sym}
+use Rattle.std.proofs.lemmas.Option.{same_Some, slice_get_within}
+use Rattle.moment_core.specs.declared.colour.Colour.{Colour}
+use Rattle.moment_core.proofs.MeteringLaws.{moment_le-used}
+use Rattle.meter_book.specs.AnyMeter.{after_any, newest_of}
+use Rattle.meter_book.specs.Replay.{Journal, journal_rows, offer_of, rows_from}
+use Rattle.meter_book.specs.declared.any_meter.AnyMeter.{AnyMeter}
+use Rattle.meter_book.specs.declared.row.Arrival.{Arrival}
+use Rattle.meter_book.specs.declared.row.Row.{Row}
+use Rattle.ds_domain_base.specs.declared.contract.Contract.{Contract}
+use Rattle.ds_domain_base.specs.declared.parts.Meter.{Meter}
+use Rattle.ds_domain_base.specs.declared.terms.Terms.{Terms}
+use Rattle.ds_domain_base.specs.declared.terms.Terms.TheVariants.{Trusted, Policed}
+use Rattle.ds_checker.specs.Acceptance.{IsAcceptable, Table}
+use Rattle.meter_fabric.specs.Sites.{contract_of, hops_along}
+use Rattle.meter_fabric.specs.Trails.{IsTrail}
+use Rattle.meter_fabric.specs.declared.trail.Receipt.{Receipt}
+use Rattle.run_audit_base.specs.Premises.{Premises}
+use Rattle.run_audit_base.specs.Runs.{IsRun, Opening, Passage, Run, meter_opening, opening_at, told}
+use Rattle.run_audit_base.specs.Sendings.{Sending, sending_by, sending_of}
+use Rattle.run_audit_base.proofs.Passages.{receipts_along, told_each, trail_sent}
+use Rattle.run_audit_base.proofs.Places.{IsMeter, fits_at, fits_names, found_at, meters_known}
+
+-- ---- rows of a replay
+
+abbrev pub IsLate : Row → Type 0
+IsLate r = (r.arrival ≤ r.used) × (r.used ≤ r.arrival + r.late)
+
+rows_late : (m : AnyMeter) (place : ℕ) (arrivals : List Arrival) → All IsLate (rows_from m place arrivals)
+rows_late m place [] k e h = absurd (omega (arith, h))
+rows_late m place (a ∷ as_) zero e h = let later = moment_le-used (newest_of m) a.moment in (later, omega (arith, later))
+rows_late m place (a ∷ as_) (suc k) e h = rows_late (after_any m (offer_of a)) (place + 1) as_ k e (omega (arith, h))
+
+-- ---- the journal of a site
+
+pub record Stands (run : Run) (site : ℕ) (o : Opening) (j : Journal) : Type 0 where
+  pub meter : j.opening ≡ o.meter
+  pub rows : IsPermutation (told site run.passages) (journal_rows j)
+  pub used : All (λ r. (r.arrival ≤ r.used) × (r.used ≤ r.arrival + o.skew)) (journal_rows j)
+
+journal_here : (t : Table) (run : Run) (site : ℕ) (o : Opening) (j : Journal) → opening_at t site ≡ Some o → j.site ≡ site
+    → opening_at t j.site ≡ Some (record { meter = j.opening; skew = j.skew })
+    → IsPermutation (told j.site run.passages) (journal_rows j)
+    → All (λ r. r.late ≤ j.skew) (journal_rows j)
+    → Stands run site o j
+journal_here t run site o j there same own told_rows late =
+    let opens : record { meter = j.opening; skew = j.skew } ≡ o =
+    same_Some (record { meter = j.opening; skew = j.skew }) o (sym own ∙ ap (opening_at t) same ∙ there)
+    in
+    let skew : j.skew ≡ o.skew = ap (λ x. x.skew) opens in
+    record {
+      meter = ap (λ x. x.meter) opens;
+      rows = subst (λ n. IsPermutation (told n run.passages) (journal_rows j)) same told_rows;
+      used = λ i e l.
+          let row = rows_late j.opening 0 j.arrivals i e l in
+          (row.0, omega (arith, row.1, late i e l, skew));
+    }
+
+pub journal_at : (t : Table) (run : Run) → IsRun t run → Premises t run → (site : ℕ) (o : Opening) → opening_at t site ≡ Some o → (j : Journal) × Stands run site o j
+journal_at t run is_run premises site o there =
+    let has : is_some (opening_at t site) ≡ true = ap is_some there in
+    let (k, short, at_site) = is_run.journals.each site has in
+    let none : Journal = record { site = 0; opening = o.meter; skew = 0; arrivals = [] } in
+    let j = get_or run.journals k none in
+    let h : k < length run.journals = omega (arith, short, length-map run.journals (λ (x : Journal). x.site)) in
+    let same : j.site ≡ site = sym (get_or-map (λ (x : Journal). x.site) run.journals k none site h) ∙ at_site in
+    (j, journal_here t run site o j there same (is_run.journals.own k none h) (is_run.rows k none h) (premises.skew k none h))
+
+pub meter_at : (t : Table) (site : ℕ) (entry : List ℕ × Meter) → slice_get t.domain.meters site ≡ Some entry → opening_at t site ≡ Some (meter_opening entry.1)
+meter_at t site entry there =
+    let short : nat_lt site (length t.domain.meters) ≡ true = grind (arith, nat_tests, slice_get_within t.domain.meters site entry there) in
+    rw (short, there) refl
+
+-- ---- receipts from a site
+
+All-sent : (terms : Terms) (came : Colour) (begun : ℕ) (receipts : List Receipt) (s : Sending) (P : Receipt → Type 0)
+    → sending_by terms came begun receipts ≡ Some s → All P receipts → All P s.receipts
+All-sent (Trusted committed peak) came begun receipts s P sent all = rw (← same_Some (record { moment = begun; colour = came; receipts = receipts }) s sent) all
+All-sent (Policed parameters mode) came begun [] s P sent all = absurd cc
+All-sent (Policed parameters mode) came begun (edge ∷ receipts) s P sent all =
+    rw (← same_Some (record { moment = edge.row.arrival; colour = edge.row.left; receipts = receipts }) s sent) (λ k e h. all (suc k) e (omega (arith, h)))
+
+-- what holds of the rows of a site holds of each packet's receipts from there
+pub receipts_from : (run : Run) (site : ℕ) (o : Opening) (j : Journal) (P : Row → Type 0) → Stands run site o j → All P (journal_rows j)
+    → All (λ p. All (λ r. nat_eq r.site site ≡ true → P r.row) p.receipts) run.passages
+receipts_from run site o j P stands all =
+    told_each site P run.passages (All-permutation P (journal_rows j) (told site run.passages) (IsPermutation-sym (told site run.passages) (journal_rows j) stands.rows) all)
+
+pub sent_from : (run : Run) (site : ℕ) (o : Opening) (j : Journal) (P : Row → Type 0) → Stands run site o j → All P (journal_rows j)
+    → All (λ p. (c : Contract) (s : Sending) → sending_of c p ≡ Some s → All (λ r. nat_eq r.site site ≡ true → P r.row) s.receipts) run.passages
+sent_from run site o j P stands all k e h c s sent =
+    let p = get_or run.passages k e in
+    All-sent c.terms _ p.packet.begun p.receipts s (λ r. nat_eq r.site site ≡ true → P r.row) sent (receipts_from run site o j P stands all k e h)
+
+-- ---- each packet that was sent
+
+-- its contract, which fits, and its trail from the meters on
+pub record IsSent (t : Table) (p : Passage) (c : Contract) (s : Sending) : Type 0 where
+  pub place : slice_get t.contracts p.packet.flow ≡ Some c
+  pub known : All (IsMeter t.domain) c.path
+  pub trail : IsTrail p.packet s.moment s.colour (hops_along t.domain 1 c.path) s.receipts
+
+abbrev pub ForEachSent : Table → Run → (Passage → Contract → Sending → Type 0) → Type 0
+ForEachSent t run P = All (λ p. (c : Contract) → contract_of t p.packet.flow ≡ Some c → (s : Sending) → sending_of c p ≡ Some s → P p c s) run.passages
+
+pub contract_place : (low : Bool) (found : Option Contract) (c : Contract) → (if low then found else None) ≡ Some c → found ≡ Some c
+contract_place true found c is = is
+contract_place false found c is = absurd cc
+
+pub each_sent : (t : Table) (run : Run) → IsAcceptable t → IsRun t run → ForEachSent t run (IsSent t)
+each_sent t run good is_run k e h c is s sent =
+    let p = get_or run.passages k e in
+    let (own, is_own, trail) = is_run.passages k e h in
+    let same : own ≡ c = same_Some own c (sym is_own ∙ is) in
+    let place = contract_place (nat_lt p.packet.flow 4294966272) (slice_get t.contracts p.packet.flow) c is in
+    record {
+      place = place;
+      known = meters_known t.domain c.path (fits_names t.domain c (fits_at t.domain t.contracts t.certificate p.packet.flow c good.0 place)).0;
+      trail = trail_sent t.domain p.packet.flow p.packet p.packet.begun _ c.terms c.path p.receipts s (rw same at trail) sent;
+    }
+
+-- what holds of the rows of each meter holds of all receipts from the meters on
+pub everywhere : (t : Table) (run : Run) → IsAcceptable t → IsRun t run → Premises t run → (P : Row → Type 0)
+    → ((site : ℕ) (entry : List ℕ × Meter) (j : Journal) → slice_get t.domain.meters site ≡ Some entry → Stands run site (meter_opening entry.1) j → All P (journal_rows j))
+    → ForEachSent t run (λ p c s. All (λ r. P r.row) s.receipts)
+everywhere t run good is_run premises P each k e h c is s sent i d l =
+    let p = get_or run.passages k e in
+    let known = each_sent t run good is_run k e h c is s sent in
+    let r = get_or s.receipts i d in
+    let (entry, at_site) = receipts_along t.domain p.packet 1 s.moment s.colour c.path s.receipts (λ x. (entry : List ℕ × Meter) × (slice_get t.domain.meters x.site ≡ Some entry))
+    (λ n x m y site size. let (entry, there, named) = found_at t.domain (get_or c.path n x) (known.known n x m) in (entry, rw site there))
+    known.trail i d l
+    in
+    let (j, stands) = journal_at t run is_run premises r.site (meter_opening entry.1) (meter_at t r.site entry at_site) in
+    sent_from run r.site (meter_opening entry.1) j P stands (each r.site entry j at_site stands) k e h c s sent i d l (grind (arith, nat_tests))

@@ -1,0 +1,285 @@
+-- What is sent into a domain keeps the envelopes of its source.
+use Rattle.std.proofs.Common.{◌≡◌, ℕ, ◌+◌, ◌-◌, ◌≤◌, ◌⊎◌, inl, inr, Bool, true, false, cond, List, [], ◌∷◌, ◌++◌, map, length, refl, sym, ◌∙◌, ap, subst, arith, get_or, Some, None}
+use Rattle.std.specs.Prelude.{nat_eq, nat_lt, not, ◌&&◌, slice_get, Option, if◌then◌else◌}
+use Rattle.std.specs.List.{sum_by, filter, All}
+use Rattle.std.proofs.lemmas.Bool.{false≢true}
+use Rattle.std.proofs.lemmas.Bool.Decides.{nat_tests}
+use Rattle.std.proofs.lemmas.List.Elements.{All-filter, filter_passes}
+use Rattle.std.proofs.lemmas.List.Sums.{sum_by-cons}
+use Rattle.std.proofs.lemmas.List.Sorted.{sum_by-IsPermutation}
+use Rattle.std.proofs.lemmas.Option.{same_Some, none-some}
+use Rattle.moment_core.specs.declared.colour.Colour.{Colour}
+use Rattle.moment_core.specs.declared.colour.Colour.TheVariants.{Green, Yellow, Red}
+use Rattle.moment_core.specs.declared.colour.Mode.{Mode}
+use Rattle.moment_core.specs.Colours.{is_green, is_in_profile, is_yellow}
+use Rattle.moment_core.specs.Conformance.{size_within, Keeps}
+use Rattle.moment_core.specs.Metering.{opening}
+use Rattle.envelope_core.specs.Curve.{Curve, KeepsCurve, widened}
+use Rattle.envelope_core.proofs.Windows.{Keeps-lighter, bytes_delayed, size_within_cases, size_within_inside, sum_by-mono, sum_by-none, sum_by-map, sum_by-flat_map, sum_by-filter}
+use Rattle.meter_book.specs.AnyMeter.{opening_of}
+use Rattle.meter_book.specs.Envelopes.{all_of, green_of}
+use Rattle.meter_book.specs.Laws.{row_output}
+use Rattle.meter_book.specs.Replay.{Journal, journal_rows, replay}
+use Rattle.meter_book.specs.declared.any_meter.Parameters.{Parameters}
+use Rattle.meter_book.specs.declared.any_meter.Parameters.TheVariants.{SrTcm, TrTcm, Rfc4115}
+use Rattle.meter_book.specs.declared.row.Row.{Row}
+use Rattle.meter_book.proofs.RowLaws.{opened_rows_keep}
+use Rattle.ds_domain_base.specs.Domains.{Domain, port_of}
+use Rattle.ds_domain_base.specs.Sent.{came, has_peak, shown}
+use Rattle.ds_domain_base.specs.declared.contract.Contract.{Contract}
+use Rattle.ds_domain_base.specs.declared.terms.Terms.{Terms}
+use Rattle.ds_domain_base.specs.declared.terms.Terms.TheVariants.{Trusted, Policed}
+use Rattle.ds_certificate.specs.Columns.{green_column, all_column}
+use Rattle.ds_certificate.specs.Sources.{all_output, green_output, skew_of, source_by, source_of}
+use Rattle.ds_checker.specs.Acceptance.{Table}
+use Rattle.meter_fabric.specs.Sites.{contract_of, edge_hops, hops_along, hops_of}
+use Rattle.meter_fabric.specs.Trails.{IsTrail, Packet}
+use Rattle.meter_fabric.specs.declared.trail.Receipt.{Receipt}
+use Rattle.run_audit_base.specs.Premises.{IsTrusted, Premises}
+use Rattle.run_audit_base.specs.Runs.{IsRun, Opening, Passage, Run, opening_at, told, told_by}
+use Rattle.run_audit_base.specs.Sendings.{Sending, passages_of, sending_by, sending_of}
+use Rattle.run_audit_base.proofs.Inputs.{SourcesKeep, passages_of-contract}
+use Rattle.run_audit_base.proofs.Journals.{Stands, journal_at, receipts_from}
+use Rattle.run_audit_base.proofs.Passages.{Keeps-sent, item_of, moment_of, weight_of}
+
+-- ---- what left an edge
+
+-- what a row weighs that left with a colour that a test picks
+abbrev left_weight : (Colour → Bool) → ℕ → ℕ → Row → ℕ
+left_weight picked start end r = cond (picked r.left) (size_within start end (r.used, r.size)) 0
+
+-- what arrived in a window was used in a window that is longer by the skew
+weight_back : (b : Bool) (arrival used size all skew start end : ℕ) → (arrival ≤ used) × (used ≤ arrival + skew) → size ≡ all
+    → size_within start end (arrival, cond b all 0) ≤ cond b (size_within start (end + skew) (used, size)) 0
+weight_back true arrival used size all skew start end late same =
+    elim (size_within_cases start end (arrival, all)) [
+      | inl inside ↦
+          let there = size_within_inside start (end + skew) (used, size) (omega (arith, inside.0, late.0)) (omega (arith, inside.1, late.1)) in
+          omega (arith, there, inside.2, same)
+      | inr outside ↦ omega (arith, outside.1)
+    ]
+weight_back false arrival used size all skew start end late same =
+    elim (size_within_cases start end (arrival, 0)) [ inl inside ↦ omega (arith, inside.2) | inr outside ↦ omega (arith, outside.1) ]
+
+weight_none : (start end : ℕ) → size_within start end (0, 0) ≤ 0
+weight_none start end = grind arith
+
+-- what a packet was sent with weighs no more than its row at the edge
+edge_weight : (d : Domain) (flow : ℕ) (packet : Packet) (begun : ℕ) (came : Colour) (parameters : Parameters) (mode : Mode) (path : List (List ℕ)) (receipts : List Receipt)
+    (picked : Colour → Bool) (site skew start end : ℕ) → site ≡ length d.meters + flow
+    → IsTrail packet begun came (edge_hops d flow (Policed parameters mode) ++ hops_along d 1 path) receipts
+    → All (λ r. nat_eq r.site site ≡ true → (r.row.arrival ≤ r.row.used) × (r.row.used ≤ r.row.arrival + skew)) receipts
+    → size_within start end (moment_of (sending_by (Policed parameters mode) came begun receipts), weight_of picked packet.size (sending_by (Policed parameters mode) came begun receipts))
+    ≤ sum_by (left_weight picked start (end + skew)) (map (λ r. r.row) (filter (λ r. nat_eq r.site site) receipts))
+unfolding IsTrail
+edge_weight d flow packet begun came parameters mode path [] picked site skew start end at_edge trail late = weight_none start end
+edge_weight d flow packet begun came parameters mode path (edge ∷ receipts) picked site skew start end at_edge trail late =
+    let is_here : edge.site ≡ site = trail.0.site ∙ sym at_edge in
+    let here : nat_eq edge.site site ≡ true = grind (arith, nat_tests) in
+    let size : edge.row.size ≡ packet.size = ap (λ a. a.size) trail.0.arrival in
+    let f = left_weight picked start (end + skew) in
+    let rest = map (λ (r : Receipt). r.row) (filter (λ r. nat_eq r.site site) receipts) in
+    let one = weight_back (picked edge.row.left) edge.row.arrival edge.row.used edge.row.size packet.size skew start end (late 0 edge (omega arith) here) size in
+    rw here (omega (arith, one, sum_by-cons f edge.row rest))
+
+cond-most : (t : Bool) (m : ℕ) → cond t m 0 ≤ m
+cond-most true m = omega arith
+cond-most false m = omega arith
+
+-- where what leaves an edge keeps an envelope, what it sends keeps that, widened by the skew
+policed_keeps : (t : Table) (run : Run) → IsRun t run → (flow : ℕ) (c : Contract) → slice_get t.contracts flow ≡ Some c
+    → (parameters : Parameters) (mode : Mode) → c.terms ≡ Policed parameters mode
+    → (o : Opening) (j : Journal) → Stands run (length t.domain.meters + flow) o j
+    → (picked : Colour → Bool) (out : Curve) → KeepsCurve out (row_output picked (journal_rows j))
+    → KeepsCurve (widened o.skew out) (map (item_of picked c) (passages_of flow run))
+policed_keeps t run is_run flow c found parameters mode policed o j stands picked out kept start end ordered =
+    let site = length t.domain.meters + flow in
+    let rows = journal_rows j in
+    let is_flow = λ (p : Passage). nat_eq p.packet.flow flow in
+    let f = left_weight picked start (end + o.skew) in
+    let item = item_of picked c in
+    let brought = λ (p : Passage). sum_by f (told_by site p) in
+    let less = sum_by-mono (λ p. size_within start end (item p)) brought (passages_of flow run) (each start end) in
+    let part = sum_by-filter brought is_flow run.passages in
+    let most = sum_by-mono (λ p. cond (is_flow p) (brought p) 0) brought run.passages (λ k e h. cond-most (is_flow (get_or run.passages k e)) (brought (get_or run.passages k e))) in
+    let whole = kept start (end + o.skew) (omega arith) in
+    let longer = bytes_delayed out.rate (end + o.skew - start) (end - start) o.skew (omega arith) in
+    omega (
+      arith,
+      less,
+      part,
+      most,
+      whole,
+      longer,
+      sum_by-map (size_within start end) item (passages_of flow run),
+      sum_by-flat_map f (told_by site) run.passages,
+      sum_by-IsPermutation f (told site run.passages) rows stands.rows,
+      sum_by-map (size_within start (end + o.skew)) (λ (r : Row). (r.used, r.size)) (filter (λ r. picked r.left) rows),
+      sum_by-filter (λ (r : Row). size_within start (end + o.skew) (r.used, r.size)) (λ r. picked r.left) rows,
+    )
+  where
+    each : (start end : ℕ) → All (λ p. size_within start end (item_of picked c p) ≤ sum_by (left_weight picked start (end + o.skew)) (told_by (length t.domain.meters + flow) p)) (passages_of flow run)
+    each start end k e h =
+        let p = get_or (passages_of flow run) k e in
+        let site = length t.domain.meters + flow in
+        let is_flow = λ (q : Passage). nat_eq q.packet.flow flow in
+        let passes : nat_eq p.packet.flow flow ≡ true = filter_passes is_flow run.passages k e h in
+        let same_flow : p.packet.flow ≡ flow = grind (arith, nat_tests) in
+        let (own, is_own, trail) = All-filter is_flow (λ q. (x : Contract) × (contract_of t q.packet.flow ≡ Some x) × IsTrail q.packet q.packet.begun (came x q.packet.dscp) (hops_of t.domain q.packet.flow x) q.receipts) run.passages is_run.passages k e h in
+        let same : own ≡ c = same_Some own c (sym is_own ∙ passages_of-contract t run is_run flow c found k e h) in
+        let late = All-filter is_flow (λ q. All (λ r. nat_eq r.site site ≡ true → (r.row.arrival ≤ r.row.used) × (r.row.used ≤ r.row.arrival + o.skew)) q.receipts) run.passages
+        (receipts_from run site o j (λ r. (r.arrival ≤ r.used) × (r.used ≤ r.arrival + o.skew)) stands stands.used) k e h in
+        let way : IsTrail p.packet p.packet.begun (came c p.packet.dscp) (edge_hops t.domain p.packet.flow (Policed parameters mode) ++ hops_along t.domain 1 c.path) p.receipts =
+        subst (λ terms. IsTrail p.packet p.packet.begun (came c p.packet.dscp) (edge_hops t.domain p.packet.flow terms ++ hops_along t.domain 1 c.path) p.receipts) policed
+        (subst (λ (x : Contract). IsTrail p.packet p.packet.begun (came x p.packet.dscp) (hops_of t.domain p.packet.flow x) p.receipts) same trail)
+        in
+        subst
+        (λ terms.
+        let sent = sending_by terms (came c p.packet.dscp) p.packet.begun p.receipts in
+        size_within start end (moment_of sent, weight_of picked p.packet.size sent) ≤ sum_by (left_weight picked start (end + o.skew)) (told_by site p))
+        (sym policed)
+        (edge_weight t.domain p.packet.flow p.packet p.packet.begun (came c p.packet.dscp) parameters mode c.path p.receipts picked site o.skew start end
+        (ap (λ n. length t.domain.meters + n) (sym same_flow)) way late)
+
+-- ---- the sources of a table
+
+-- a contract without a number has no packets
+low_or_high : (t : Table) (flow : ℕ) (c : Contract) (b : Bool) → nat_lt flow 4294966272 ≡ b → slice_get t.contracts flow ≡ Some c
+    → ◌⊎◌ (contract_of t flow ≡ Some c) (contract_of t flow ≡ None)
+low_or_high t flow c true low found = inl (rw low found)
+low_or_high t flow c false high found = inr (rw high refl)
+
+Keeps-nobody : (t : Table) (run : Run) → IsRun t run → (flow : ℕ) (c : Contract) → slice_get t.contracts flow ≡ Some c → contract_of t flow ≡ None
+    → (rate burst : ℕ) (item : Passage → ℕ × ℕ) → Keeps rate burst (map item (passages_of flow run))
+Keeps-nobody t run is_run flow c found none rate burst item start end ordered =
+    let is_flow = λ (p : Passage). nat_eq p.packet.flow flow in
+    let nothing = sum_by-none (λ p. size_within start end (item p)) (passages_of flow run)
+    (λ k e h.
+    let p = get_or (passages_of flow run) k e in
+    let passes : nat_eq p.packet.flow flow ≡ true = filter_passes is_flow run.passages k e h in
+    let same_flow : p.packet.flow ≡ flow = grind (arith, nat_tests) in
+    absurd (none-some c (sym none ∙ ap (contract_of t) (sym same_flow) ∙ passages_of-contract t run is_run flow c found k e h))) in
+    omega (arith, nothing, sum_by-map (size_within start end) item (passages_of flow run))
+
+-- what stands at the edge of a policed contract
+edge_at : (t : Table) (flow : ℕ) (c : Contract) (parameters : Parameters) (mode : Mode) → contract_of t flow ≡ Some c → c.terms ≡ Policed parameters mode
+    → opening_at t (length t.domain.meters + flow) ≡ Some (record { meter = opening_of parameters mode c.lifetime.since; skew = skew_of (port_of t.domain c.port) })
+edge_at t flow c parameters mode is policed =
+    let behind : nat_lt (length t.domain.meters + flow) (length t.domain.meters) ≡ false = grind (arith, nat_tests) in
+    let number : length t.domain.meters + flow - length t.domain.meters ≡ flow = omega arith in
+    rw (behind, number, is, policed) refl
+
+green_of-opening : (p : Parameters) (mode : Mode) (origin : ℕ) → green_of (opening_of p mode origin) ≡ green_output p
+unfolding opening
+green_of-opening (SrTcm p) mode origin = refl
+green_of-opening (TrTcm p) mode origin = refl
+green_of-opening (Rfc4115 p) mode origin = refl
+
+all_of-opening : (p : Parameters) (mode : Mode) (origin : ℕ) → all_of (opening_of p mode origin) ≡ all_output p
+unfolding opening
+all_of-opening (SrTcm p) mode origin = refl
+all_of-opening (TrTcm p) mode origin = refl
+all_of-opening (Rfc4115 p) mode origin = refl
+
+abbrev BothKeep : Table → Run → ℕ → Contract → Type 0
+BothKeep t run flow c =
+    KeepsCurve (source_of t.domain c).green (map (item_of is_green c) (passages_of flow run))
+    × KeepsCurve (source_of t.domain c).all (map (item_of is_in_profile c) (passages_of flow run))
+
+source_policed : (d : Domain) (c : Contract) (parameters : Parameters) (mode : Mode) → c.terms ≡ Policed parameters mode
+    → source_of d c ≡ source_by (skew_of (port_of d c.port)) (Policed parameters mode)
+unfolding source_of
+source_policed d c parameters mode policed = ap (source_by (skew_of (port_of d c.port))) policed
+
+both_keep : (t : Table) (run : Run) → IsRun t run → Premises t run → (flow : ℕ) (c : Contract) → slice_get t.contracts flow ≡ Some c → contract_of t flow ≡ Some c
+    → (terms : Terms) → c.terms ≡ terms → BothKeep t run flow c
+both_keep t run is_run premises flow c found is (Trusted committed peak) trusted =
+    let kept = premises.source flow c is (subst IsTrusted (sym trusted) tt) in
+    let green = (source_of t.domain c).green in
+    let all = (source_of t.domain c).all in
+    (Keeps-sent is_green c (passages_of flow run) green.rate green.burst kept.0, Keeps-sent is_in_profile c (passages_of flow run) all.rate all.burst kept.1)
+both_keep t run is_run premises flow c found is (Policed parameters mode) policed =
+    let o : Opening = record { meter = opening_of parameters mode c.lifetime.since; skew = skew_of (port_of t.domain c.port) } in
+    let (j, stands) = journal_at t run is_run premises (length t.domain.meters + flow) o (edge_at t flow c parameters mode is policed) in
+    let kept = opened_rows_keep parameters mode c.lifetime.since j.arrivals in
+    let green : KeepsCurve (green_output parameters) (row_output is_green (journal_rows j)) =
+    subst (λ m. KeepsCurve (green_output parameters) (row_output is_green (replay m j.arrivals))) (sym stands.meter)
+    (subst (λ curve. KeepsCurve curve (row_output is_green (replay (opening_of parameters mode c.lifetime.since) j.arrivals))) (green_of-opening parameters mode c.lifetime.since) kept.0)
+    in
+    let all : KeepsCurve (all_output parameters) (row_output is_in_profile (journal_rows j)) =
+    subst (λ m. KeepsCurve (all_output parameters) (row_output is_in_profile (replay m j.arrivals))) (sym stands.meter)
+    (subst (λ curve. KeepsCurve curve (row_output is_in_profile (replay (opening_of parameters mode c.lifetime.since) j.arrivals))) (all_of-opening parameters mode c.lifetime.since) kept.1)
+    in
+    subst
+    (λ source.
+    KeepsCurve source.green (map (item_of is_green c) (passages_of flow run)) × KeepsCurve source.all (map (item_of is_in_profile c) (passages_of flow run)))
+    (sym (source_policed t.domain c parameters mode policed)) (
+      policed_keeps t run is_run flow c found parameters mode policed o j stands is_green (green_output parameters) green,
+      policed_keeps t run is_run flow c found parameters mode policed o j stands is_in_profile (all_output parameters) all,
+    )
+
+pub green_sources : (t : Table) (run : Run) → IsRun t run → Premises t run → SourcesKeep t run green_column is_green
+green_sources t run is_run premises flow c found =
+    elim (low_or_high t flow c (nat_lt flow 4294966272) refl found) [
+      | inl is ↦ (both_keep t run is_run premises flow c found is c.terms refl).0
+      | inr none ↦ Keeps-nobody t run is_run flow c found none (source_of t.domain c).green.rate (source_of t.domain c).green.burst (item_of is_green c)
+    ]
+
+pub all_sources : (t : Table) (run : Run) → IsRun t run → Premises t run → SourcesKeep t run all_column is_in_profile
+all_sources t run is_run premises flow c found =
+    elim (low_or_high t flow c (nat_lt flow 4294966272) refl found) [
+      | inl is ↦ (both_keep t run is_run premises flow c found is c.terms refl).1
+      | inr none ↦ Keeps-nobody t run is_run flow c found none (source_of t.domain c).all.rate (source_of t.domain c).all.burst (item_of is_in_profile c)
+    ]
+
+-- the yellow ones alone keep what green and yellow ones keep together
+yellow_lighter : (start end size : ℕ) (sent : Option Sending)
+    → size_within start end (moment_of sent, weight_of is_yellow size sent) ≤ size_within start end (moment_of sent, weight_of is_in_profile size sent)
+yellow_lighter start end size None = omega arith
+yellow_lighter start end size (Some s) = by_colour s.colour s.moment
+  where
+    by_colour : (colour : Colour) (moment : ℕ) → size_within start end (moment, cond (is_yellow colour) size 0) ≤ size_within start end (moment, cond (is_in_profile colour) size 0)
+    by_colour Green moment =
+        elim (size_within_cases start end (moment, 0)) [ inl inside ↦ omega (arith, inside.2) | inr outside ↦ omega (arith, outside.1) ]
+    by_colour Yellow moment = omega arith
+    by_colour Red moment = omega arith
+
+pub yellow_sources : (t : Table) (run : Run) → IsRun t run → Premises t run → SourcesKeep t run all_column is_yellow
+yellow_sources t run is_run premises flow c found =
+    Keeps-lighter (item_of is_in_profile c) (item_of is_yellow c) (source_of t.domain c).all.rate (source_of t.domain c).all.burst (passages_of flow run)
+    (λ start end k e h. let p = get_or (passages_of flow run) k e in yellow_lighter start end p.packet.size (sending_of c p))
+    (all_sources t run is_run premises flow c found)
+
+-- ---- no contract without a peak sends yellow packets
+
+came-dull : (peak : Bool) (colour : Colour) → peak ≡ false → is_yellow (if is_yellow colour && not peak then Red else colour) ≡ false
+came-dull true colour none = absurd (false≢true (sym none))
+came-dull false Green none = refl
+came-dull false Yellow none = refl
+came-dull false Red none = refl
+
+came_not_yellow : (c : Contract) (dscp : ℕ) → has_peak c.terms ≡ false → is_yellow (came c dscp) ≡ false
+unfolding came
+came_not_yellow c dscp none = came-dull (has_peak c.terms) (shown c.class dscp) none
+
+pub sent_yellow-peak : (terms : Terms) (colour : Colour) (begun : ℕ) (receipts : List Receipt) (s : Sending)
+    → (has_peak terms ≡ false → is_yellow colour ≡ false) → sending_by terms colour begun receipts ≡ Some s → is_yellow s.colour ≡ true → has_peak terms ≡ true
+sent_yellow-peak (Trusted committed None) colour begun receipts s dull sent yellow =
+    let same = same_Some (record { moment = begun; colour = colour; receipts = receipts }) s sent in
+    absurd (false≢true (sym (dull refl) ∙ ap (λ x. is_yellow x.colour) same ∙ yellow))
+sent_yellow-peak (Trusted committed (Some peak)) colour begun receipts s dull sent yellow = refl
+sent_yellow-peak (Policed parameters mode) colour begun receipts s dull sent yellow = refl
+
+pub yellow_has_peak : (c : Contract) (p : Passage) (s : Sending) → sending_of c p ≡ Some s → is_yellow s.colour ≡ true → has_peak c.terms ≡ true
+yellow_has_peak c p s sent yellow = sent_yellow-peak c.terms (came c p.packet.dscp) p.packet.begun p.receipts s (came_not_yellow c p.packet.dscp) sent yellow
+
+weight_dull : (size : ℕ) (sent : Option Sending) → ((s : Sending) → sent ≡ Some s → is_yellow s.colour ≡ false) → weight_of is_yellow size sent ≡ 0
+weight_dull size None dull = refl
+weight_dull size (Some s) dull = rw (dull s refl) refl
+
+pub no_peak_no_yellow : (c : Contract) (p : Passage) → has_peak c.terms ≡ false → weight_of is_yellow p.packet.size (sending_of c p) ≡ 0
+no_peak_no_yellow c p none = weight_dull p.packet.size (sending_of c p) (λ s sent. not_yellow s sent (is_yellow s.colour) refl)
+  where
+    not_yellow : (s : Sending) → sending_of c p ≡ Some s → (b : Bool) → is_yellow s.colour ≡ b → b ≡ false
+    not_yellow s sent true yellow = absurd (false≢true (sym none ∙ yellow_has_peak c p s sent yellow))
+    not_yellow s sent false other = refl

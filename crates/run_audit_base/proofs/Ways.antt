@@ -1,0 +1,244 @@
+-- What packets keep along a path, from one meter to the next.
+use Rattle.std.proofs.Common.{◌≡◌, ℕ, ◌+◌, ◌<◌, ◌≤◌, Bool, true, false, cond, List, [], ◌∷◌, map, length, refl, sym, ◌∙◌, ap, arith, get_or, Some, None}
+use Rattle.std.specs.Prelude.{nat_eq, ◌||◌, ⊤, MatchOption, Option, if◌then◌else◌}
+use Rattle.std.specs.List.{sum_by, filter, flat_map, All, list_any}
+use Rattle.std.specs.Str.{bytes_eq}
+use Rattle.std.proofs.lemmas.Bool.{false≢true}
+use Rattle.std.proofs.lemmas.Bool.Decides.{nat_tests}
+use Rattle.std.proofs.lemmas.List.Sums.{sum_by-cons}
+use Rattle.std.proofs.lemmas.Slice.Eq.{bytes_eq-Decides}
+use Rattle.moment_core.specs.Conformance.{size_within, Keeps}
+use Rattle.moment_core.specs.Volume.{bytes_over}
+use Rattle.envelope_core.proofs.Windows.{IsDelayed, Keeps-delayed, Keeps-looser, sum_by-mono, sum_by-none, sum_by-map, sum_by-flat_map}
+use Rattle.ds_domain_base.specs.Domains.{Domain, link_of}
+use Rattle.ds_domain_base.specs.Fitting.{repeats}
+use Rattle.ds_certificate.specs.Bounds.{Grows}
+use Rattle.ds_certificate.specs.Columns.{Bound, Column}
+use Rattle.ds_certificate.specs.Sources.{jitter_of, jitters_along}
+use Rattle.ds_certificate.specs.declared.source.Source.{Source}
+use Rattle.ds_checker.specs.Loads.{bound_into}
+use Rattle.meter_fabric.specs.Sites.{site_of}
+use Rattle.meter_fabric.specs.declared.trail.Receipt.{Receipt}
+use Rattle.run_audit_base.specs.Premises.{IsOver, floor_of}
+
+-- a row of a site is used when it arrives, or by the skew later
+abbrev pub IsUsed : ℕ → ℕ → Receipt → Type 0
+IsUsed site skew r = r.site ≡ site → (r.row.arrival ≤ r.row.used) × (r.row.used ≤ r.row.arrival + skew)
+
+-- receipts of the first meters of a path, over each link in its time
+unfoldable pub Goes : Domain → ℕ → ℕ → List ℕ → List (List ℕ) → ℕ → List Receipt → Type 0
+Goes d site skew from path moment [] = ⊤
+Goes d site skew from [] moment (r ∷ rs) = ⊥
+Goes d site skew from (to ∷ path) moment (r ∷ rs) =
+    (r.site ≡ site_of d to) × IsOver (link_of d from to) moment r.row.arrival × IsUsed site skew r × Goes d site skew to path r.row.arrival rs
+
+-- of the names of a path, no other than this has the site
+unfoldable pub IsApart : Domain → List ℕ → ℕ → List (List ℕ) → Type 0
+IsApart d name site [] = ⊤
+IsApart d name site (to ∷ path) = (site_of d to ≡ site → bytes_eq name to ≡ true) × IsApart d name site path
+
+-- the sized moments used at a site
+abbrev pub crossing : ℕ → ℕ → List Receipt → List (ℕ × ℕ)
+crossing site weight rs = map (λ r. (r.row.used, weight)) (filter (λ r. nat_eq r.site site) rs)
+
+abbrev next_moment : List Receipt → ℕ
+next_moment [] = 0
+next_moment (r ∷ rs) = r.row.arrival
+
+abbrev next_weight : ℕ → List Receipt → ℕ
+next_weight weight [] = 0
+next_weight weight (r ∷ rs) = weight
+
+abbrev next_receipts : List Receipt → List Receipt
+next_receipts [] = []
+next_receipts (r ∷ rs) = rs
+
+abbrev next_used : ℕ → ℕ → List Receipt → ℕ × ℕ
+next_used site weight [] = (0, 0)
+next_used site weight (r ∷ rs) = (r.row.used, cond (nat_eq r.site site) weight 0)
+
+Goes-next : (d : Domain) (site skew : ℕ) (from to : List ℕ) (path : List (List ℕ)) (moment : ℕ) (rs : List Receipt)
+    → Goes d site skew from (to ∷ path) moment rs → Goes d site skew to path (next_moment rs) (next_receipts rs)
+unfolding Goes
+Goes-next d site skew from to path moment [] goes = tt
+Goes-next d site skew from to path moment (r ∷ rs) goes = goes.3
+
+next_delayed : (d : Domain) (site skew : ℕ) (from to : List ℕ) (path : List (List ℕ)) (moment weight : ℕ) (rs : List Receipt) (floor jitter : ℕ)
+    → ((arrival : ℕ) → IsOver (link_of d from to) moment arrival → (moment + floor ≤ arrival) × (arrival ≤ moment + floor + jitter))
+    → Goes d site skew from (to ∷ path) moment rs → IsDelayed floor jitter (moment, weight) (next_moment rs, next_weight weight rs)
+unfolding Goes
+next_delayed d site skew from to path moment weight [] floor jitter over goes some = absurd (omega (arith, some))
+next_delayed d site skew from to path moment weight (r ∷ rs) floor jitter over goes some =
+    let there = over r.row.arrival goes.1 in (omega arith, there.0, there.1)
+
+nat_eq-true : (m n : ℕ) → nat_eq m n ≡ true → m ≡ n
+nat_eq-true m n same = grind (arith, nat_tests)
+
+used_delayed : (d : Domain) (site skew : ℕ) (from to : List ℕ) (path : List (List ℕ)) (moment weight : ℕ) (rs : List Receipt)
+    → Goes d site skew from (to ∷ path) moment rs → IsDelayed 0 skew (next_moment rs, next_weight weight rs) (next_used site weight rs)
+unfolding Goes
+used_delayed d site skew from to path moment weight [] goes some = absurd (omega (arith, some))
+used_delayed d site skew from to path moment weight (r ∷ rs) goes some = by_site (nat_eq r.site site) refl some
+  where
+    by_site : (b : Bool) → nat_eq r.site site ≡ b → 0 < cond b weight 0
+        → (cond b weight 0 ≤ weight) × (r.row.arrival + 0 ≤ r.row.used) × (r.row.used ≤ r.row.arrival + 0 + skew)
+    by_site true here light = let u = goes.2 (nat_eq-true r.site site here) in (omega arith, omega (arith, u.0), omega (arith, u.1))
+    by_site false here light = absurd (omega (arith, light))
+
+-- ---- a site that a path does not come to
+
+pub neither : (a b : Bool) → (a || b) ≡ false → (a ≡ false) × (b ≡ false)
+neither true b h = absurd (false≢true (sym h))
+neither false b h = (refl, h)
+
+nat_eq-refl : (m : ℕ) → nat_eq m m ≡ true
+nat_eq-refl m = grind (arith, nat_tests)
+
+crossing-other : (site weight : ℕ) (r : Receipt) (rs : List Receipt) → nat_eq r.site site ≡ false → crossing site weight (r ∷ rs) ≡ crossing site weight rs
+crossing-other site weight r rs other = rw other refl
+
+crossing-here : (site weight : ℕ) (r : Receipt) (rs : List Receipt) → nat_eq r.site site ≡ true
+    → crossing site weight (r ∷ rs) ≡ (r.row.used, weight) ∷ crossing site weight rs
+crossing-here site weight r rs here = rw here refl
+
+-- a meter of another name has another site
+other_site : (d : Domain) (name to : List ℕ) (site : ℕ) → (site_of d to ≡ site → bytes_eq name to ≡ true) → bytes_eq name to ≡ false
+    → (s : ℕ) → s ≡ site_of d to → nat_eq s site ≡ false
+other_site d name to site apart other s is_site = by_test (nat_eq s site) refl
+  where
+    by_test : (b : Bool) → nat_eq s site ≡ b → b ≡ false
+    by_test true here = absurd (false≢true (sym other ∙ apart (sym is_site ∙ nat_eq-true s site here)))
+    by_test false here = refl
+
+crossing-absent : (d : Domain) (name : List ℕ) (site skew weight : ℕ) (from : List ℕ) (path : List (List ℕ)) (moment : ℕ) (rs : List Receipt)
+    → IsApart d name site path → list_any (bytes_eq name) path ≡ false → Goes d site skew from path moment rs → crossing site weight rs ≡ []
+unfolding Goes IsApart
+crossing-absent d name site skew weight from path moment [] apart absent goes = refl
+crossing-absent d name site skew weight from [] moment (r ∷ rs) apart absent goes = absurd goes
+crossing-absent d name site skew weight from (to ∷ path) moment (r ∷ rs) apart absent goes =
+    let both = neither (bytes_eq name to) (list_any (bytes_eq name) path) absent in
+    crossing-other site weight r rs (other_site d name to site apart.0 both.0 r.site goes.0)
+    ∙ crossing-absent d name site skew weight to path r.row.arrival rs apart.1 both.1 goes.3
+
+-- ---- a step of a path
+
+weight_here : (d : Domain) (name : List ℕ) (site skew : ℕ) (from to : List ℕ) (path : List (List ℕ)) (moment weight : ℕ) (rs : List Receipt) (start end : ℕ)
+    → IsApart d name site path → list_any (bytes_eq name) path ≡ false → Goes d site skew from (to ∷ path) moment rs
+    → sum_by (size_within start end) (crossing site weight rs) ≤ size_within start end (next_used site weight rs)
+unfolding Goes
+weight_here d name site skew from to path moment weight [] start end apart absent goes = omega arith
+weight_here d name site skew from to path moment weight (r ∷ rs) start end apart absent goes = by_site (nat_eq r.site site) refl
+  where
+    rest : crossing site weight rs ≡ []
+    rest = crossing-absent d name site skew weight to path r.row.arrival rs apart absent goes.3
+
+    by_site : (b : Bool) → nat_eq r.site site ≡ b → sum_by (size_within start end) (crossing site weight (r ∷ rs)) ≤ size_within start end (r.row.used, cond b weight 0)
+    by_site true here =
+        rw (crossing-here site weight r rs here, rest)
+        (omega (arith, sum_by-cons (size_within start end) (r.row.used, weight) []))
+    by_site false here = rw (crossing-other site weight r rs here, rest) (omega arith)
+
+weight_on : (d : Domain) (site skew : ℕ) (from to : List ℕ) (path : List (List ℕ)) (moment weight : ℕ) (rs : List Receipt) (start end : ℕ)
+    → ((s : ℕ) → s ≡ site_of d to → nat_eq s site ≡ false) → Goes d site skew from (to ∷ path) moment rs
+    → sum_by (size_within start end) (crossing site weight rs) ≤ sum_by (size_within start end) (crossing site (next_weight weight rs) (next_receipts rs))
+unfolding Goes
+weight_on d site skew from to path moment weight [] start end other goes = omega arith
+weight_on d site skew from to path moment weight (r ∷ rs) start end other goes = rw (crossing-other site weight r rs (other r.site goes.0)) (omega arith)
+
+-- ---- lists of what each packet brings
+
+-- what weighs no more than items keeps what they keep
+pub Keeps-within : {P : Type 0} (rate burst : ℕ) (some : P → List (ℕ × ℕ)) (item : P → ℕ × ℕ) (ps : List P)
+    → ((start end : ℕ) → All (λ p. sum_by (size_within start end) (some p) ≤ size_within start end (item p)) ps)
+    → Keeps rate burst (map item ps)
+    → Keeps rate burst (flat_map some ps)
+Keeps-within rate burst some item ps lighter kept start end ordered =
+    let weigh = size_within start end in
+    let less = sum_by-mono (λ p. sum_by weigh (some p)) (λ p. weigh (item p)) ps (lighter start end) in
+    omega (arith, less, kept start end ordered, sum_by-map weigh item ps, sum_by-flat_map weigh some ps)
+
+pub Keeps-fewer_each : {P : Type 0} (rate burst : ℕ) (some more : P → List (ℕ × ℕ)) (ps : List P)
+    → ((start end : ℕ) → All (λ p. sum_by (size_within start end) (some p) ≤ sum_by (size_within start end) (more p)) ps)
+    → Keeps rate burst (flat_map more ps)
+    → Keeps rate burst (flat_map some ps)
+Keeps-fewer_each rate burst some more ps lighter kept start end ordered =
+    let weigh = size_within start end in
+    let less = sum_by-mono (λ p. sum_by weigh (some p)) (λ p. sum_by weigh (more p)) ps (lighter start end) in
+    omega (arith, less, kept start end ordered, sum_by-flat_map weigh more ps, sum_by-flat_map weigh some ps)
+
+-- what weighs nothing keeps everything
+pub Keeps-weightless : {P : Type 0} (rate burst : ℕ) (some : P → List (ℕ × ℕ)) (ps : List P)
+    → ((start end : ℕ) → All (λ p. sum_by (size_within start end) (some p) ≡ 0) ps)
+    → Keeps rate burst (flat_map some ps)
+Keeps-weightless rate burst some ps light start end ordered =
+    let weigh = size_within start end in
+    omega (arith, sum_by-none (λ p. sum_by weigh (some p)) ps (light start end), sum_by-flat_map weigh some ps)
+
+-- ---- along a path
+
+-- what is kept at a meter, if the path leads to it
+abbrev pub KeepsBound : ℕ → ℕ → Column → Option Bound → List (ℕ × ℕ) → Type 0
+KeepsBound rate skew column found items = MatchOption found (Keeps 0 0 items) (λ bound. Keeps rate (column.bound bound + bytes_over rate skew) items)
+
+KeepsBound-fewer : {P : Type 0} (rate skew : ℕ) (column : Column) (found : Option Bound) (some more : P → List (ℕ × ℕ)) (ps : List P)
+    → ((start end : ℕ) → All (λ p. sum_by (size_within start end) (some p) ≤ sum_by (size_within start end) (more p)) ps)
+    → KeepsBound rate skew column found (flat_map more ps)
+    → KeepsBound rate skew column found (flat_map some ps)
+KeepsBound-fewer rate skew column None some more ps lighter kept = Keeps-fewer_each 0 0 some more ps lighter kept
+KeepsBound-fewer rate skew column (Some bound) some more ps lighter kept = Keeps-fewer_each rate (column.bound bound + bytes_over rate skew) some more ps lighter kept
+
+-- Where the sized moments of packets at a name keep a bound, they keep that of a meter of their path, by the moments used.
+pub along : {P : Type 0} (d : Domain) (name : List ℕ) (site skew : ℕ) (column : Column) (source : Source) (ps : List P)
+    (path : List (List ℕ)) (from : List ℕ) (before : Bound) (bounds : List Bound) (moment weight : P → ℕ) (rest : P → List Receipt)
+    → IsApart d name site path
+    → repeats path ≡ false
+    → length bounds ≡ length path
+    → All (λ p. Goes d site skew from path (moment p) (rest p)) ps
+    → Grows column source (jitters_along d from path) before bounds
+    → Keeps (column.envelope source).rate (column.bound before) (map (λ p. (moment p, weight p)) ps)
+    → KeepsBound (column.envelope source).rate skew column (bound_into name path bounds) (flat_map (λ p. crossing site (weight p) (rest p)) ps)
+unfolding IsApart repeats Grows jitters_along bound_into
+along d name site skew column source ps [] from before [] moment weight rest apart once sized goes grows kept =
+    Keeps-weightless 0 0 (λ p. crossing site (weight p) (rest p)) ps
+    (λ start end k e h. let p = get_or ps k e in ap (sum_by (size_within start end)) (crossing-absent d name site skew (weight p) from [] (moment p) (rest p) apart refl (goes k e h)))
+along d name site skew column source ps [] from before (b ∷ bounds) moment weight rest apart once sized goes grows kept = absurd (omega (arith, sized))
+along d name site skew column source ps (to ∷ path) from before [] moment weight rest apart once sized goes grows kept = absurd (omega (arith, sized))
+along d name site skew column source ps (to ∷ path) from before (b ∷ bounds) moment weight rest apart once sized goes grows kept =
+    by_name (bytes_eq name to) refl
+    (λ arrived.
+    along d name site skew column source ps path to b bounds (λ p. next_moment (rest p)) (λ p. next_weight (weight p) (rest p)) (λ p. next_receipts (rest p))
+    apart.1 (neither (list_any (bytes_eq to) path) (repeats path) once).1 (omega (arith, sized))
+    (λ k e h. let p = get_or ps k e in Goes-next d site skew from to path (moment p) (rest p) (goes k e h)) grows.1 arrived)
+  where
+    rate : ℕ
+    rate = (column.envelope source).rate
+
+    single : (list_any (bytes_eq to) path ≡ false) × (repeats path ≡ false)
+    single = neither (list_any (bytes_eq to) path) (repeats path) once
+
+    arrived : Keeps (column.envelope source).rate (column.bound b) (map (λ p. (next_moment (rest p), next_weight (weight p) (rest p))) ps)
+    arrived =
+        let link = link_of d from to in
+        Keeps-looser rate (column.bound before + bytes_over rate (jitter_of link)) rate (column.bound b)
+        (map (λ p. (next_moment (rest p), next_weight (weight p) (rest p))) ps) (omega arith) grows.0
+        (Keeps-delayed (λ p. (moment p, weight p)) (λ p. (next_moment (rest p), next_weight (weight p) (rest p))) (floor_of link) (jitter_of link) rate (column.bound before) ps
+        (λ k e h. let p = get_or ps k e in next_delayed d site skew from to path (moment p) (weight p) (rest p) (floor_of link) (jitter_of link) (λ a over. over) (goes k e h))
+        kept)
+
+    by_name : (t : Bool) → bytes_eq name to ≡ t
+        → (Keeps (column.envelope source).rate (column.bound b) (map (λ p. (next_moment (rest p), next_weight (weight p) (rest p))) ps)
+        → KeepsBound (column.envelope source).rate skew column (bound_into name path bounds) (flat_map (λ p. crossing site (next_weight (weight p) (rest p)) (next_receipts (rest p))) ps))
+        → KeepsBound (column.envelope source).rate skew column (if t then Some b else bound_into name path bounds) (flat_map (λ p. crossing site (weight p) (rest p)) ps)
+    by_name true same onward =
+        let absent : list_any (bytes_eq name) path ≡ false = rw ((bytes_eq-Decides name to).0 same) single.0 in
+        Keeps-within rate (column.bound b + bytes_over rate skew) (λ p. crossing site (weight p) (rest p)) (λ p. next_used site (weight p) (rest p)) ps
+        (λ start end k e h. let p = get_or ps k e in weight_here d name site skew from to path (moment p) (weight p) (rest p) start end apart.1 absent (goes k e h))
+        (Keeps-delayed (λ p. (next_moment (rest p), next_weight (weight p) (rest p))) (λ p. next_used site (weight p) (rest p)) 0 skew rate (column.bound b) ps
+        (λ k e h. let p = get_or ps k e in used_delayed d site skew from to path (moment p) (weight p) (rest p) (goes k e h))
+        arrived)
+    by_name false differs onward =
+        KeepsBound-fewer rate skew column (bound_into name path bounds) (λ p. crossing site (weight p) (rest p))
+        (λ p. crossing site (next_weight (weight p) (rest p)) (next_receipts (rest p))) ps
+        (λ start end k e h. let p = get_or ps k e in
+        weight_on d site skew from to path (moment p) (weight p) (rest p) start end (other_site d name to site apart.0 differs) (goes k e h))
+        (onward arrived)

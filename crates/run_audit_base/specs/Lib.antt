@@ -1,0 +1,5 @@
+pub mod Examples
+pub mod KeptColours
+pub mod Premises
+pub mod Runs
+pub mod Sendings

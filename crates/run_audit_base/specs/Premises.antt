@@ -1,0 +1,69 @@
+-- What a run is taken to keep: contracts their time, trusted sources their buckets, links their jitter, and meters their
+-- skew.
+use Rattle.std.specs.Prelude.{◌≡◌, ℕ, ◌+◌, ◌<◌, ◌≤◌, ⊤, List, [], ◌∷◌, All, Option, None, Some}
+use Rattle.std.specs.Option.{ForSome}
+use Rattle.moment_core.specs.Colours.{is_green, is_in_profile}
+use Rattle.envelope_core.specs.Curve.{KeepsCurve}
+use Rattle.meter_book.specs.Replay.{journal_rows}
+use Rattle.ds_domain_base.specs.Domains.{Domain, link_of}
+use Rattle.ds_domain_base.specs.declared.contract.Contract.{Contract}
+use Rattle.ds_domain_base.specs.declared.parts.Link.{Link}
+use Rattle.ds_domain_base.specs.declared.terms.Terms.{Terms}
+use Rattle.ds_domain_base.specs.declared.terms.Terms.TheVariants.{Trusted, Policed}
+use Rattle.ds_certificate.specs.Sources.{jitter_of, source_of}
+use Rattle.ds_checker.specs.Acceptance.{Table}
+use Rattle.meter_fabric.specs.Sites.{contract_of}
+use Rattle.meter_fabric.specs.declared.trail.Receipt.{Receipt}
+use Rattle.run_audit_base.specs.Runs.{Run}
+use Rattle.run_audit_base.specs.Sendings.{ForSent, Sending, passages_of, sent_items}
+
+-- a packet is sent when its contract may send
+abbrev pub IsInTime : Contract → Sending → Type 0
+IsInTime c s = (c.lifetime.since ≤ s.moment) × ForSome c.lifetime.until (λ until. s.moment < until)
+
+abbrev pub IsTrusted : Terms → Type 0
+IsTrusted (Trusted committed peak) = ⊤
+IsTrusted (Policed parameters mode) = ⊥
+
+-- what a contract's packets were sent with keeps its envelopes: the green ones, and the green and yellow ones
+abbrev pub KeepsSource : Table → Run → ℕ → Contract → Type 0
+KeepsSource t run flow c =
+    KeepsCurve (source_of t.domain c).green (sent_items is_green c (passages_of flow run))
+    × KeepsCurve (source_of t.domain c).all (sent_items is_in_profile c (passages_of flow run))
+
+-- the least delay of a link; 0 where there is none
+abbrev pub floor_of : Option Link → ℕ
+floor_of None = 0
+floor_of (Some link) = link.floor
+
+-- what left at a moment arrives over a link after its floor at the least, and by its jitter later at the most
+abbrev pub IsOver : Option Link → ℕ → ℕ → Type 0
+IsOver link moment arrival = (moment + floor_of link ≤ arrival) × (arrival ≤ moment + floor_of link + jitter_of link)
+
+-- a packet at a name at a moment goes on from there along a path, over each link in its time
+unfoldable pub IsTimely : Domain → List ℕ → List (List ℕ) → ℕ → List Receipt → Type 0
+IsTimely d from path moment [] = ⊤
+IsTimely d from [] moment (r ∷ receipts) = ⊤
+IsTimely d from (to ∷ path) moment (r ∷ receipts) = IsOver (link_of d from to) moment r.row.arrival × IsTimely d to path r.row.arrival receipts
+
+-- contracts keep their time: each packet is sent when its contract may send
+abbrev pub KeepsTime : Table → Run → Type 0
+KeepsTime t run = ForSent t run IsInTime
+
+-- trusted sources keep their envelopes
+abbrev pub KeepsSources : Table → Run → Type 0
+KeepsSources t run = (flow : ℕ) (c : Contract) → contract_of t flow ≡ Some c → IsTrusted c.terms → KeepsSource t run flow c
+
+-- links keep their floors and jitters
+abbrev pub KeepsLinks : Table → Run → Type 0
+KeepsLinks t run = ForSent t run (λ c s. IsTimely t.domain c.port c.path s.moment s.receipts)
+
+-- meters keep their skews: none meters a packet later than that
+abbrev pub KeepsSkews : Run → Type 0
+KeepsSkews run = All (λ j. All (λ r. r.late ≤ j.skew) (journal_rows j)) run.journals
+
+pub record Premises (t : Table) (run : Run) : Type 0 where
+  pub time : KeepsTime t run
+  pub source : KeepsSources t run
+  pub link : KeepsLinks t run
+  pub skew : KeepsSkews run
