@@ -1,9 +1,9 @@
 -- What becomes of a start.
 use Rattle.std.proofs.Common.{◌≡◌, ◌≤◌, ℕ, Bool, List, refl, arith}
 use Rattle.pcap_capture.specs.Counts.{count_after}
-use Rattle.dsedge.specs.declared.fault.Fault.{Fault}
-use Rattle.dsedge.specs.declared.fault.Fault.TheVariants.{Usage, Line, Domain, Certificate, File, Read, Write, Memory, Full}
-use Rattle.dsedge.specs.Served.{IsOfReads}
+use Rattle.dsedge_serve.specs.declared.fault.Fault.{Fault}
+use Rattle.dsedge_serve.specs.declared.fault.Fault.TheVariants.{Usage, Line, Domain, Certificate, File, Read, Write, Memory, Full}
+use Rattle.dsedge_serve.specs.Served.{IsOfReads}
 use Rattle.dsedge.specs.Started.{IsRefused, failures_with}
 
 -- nothing is asked

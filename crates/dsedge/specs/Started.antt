@@ -12,11 +12,11 @@ use Rattle.dsedge_files.specs.Readable.{texts_of}
 use Rattle.dsedge_lines.specs.declared.fault.PumpFault.{PumpFault}
 use Rattle.dsedge_lines.specs.Faults.{is_write_fault, is_read_fault}
 use Rattle.dsedge_lines.specs.FirstLine.{after_first_line, first_line_of}
-use Rattle.dsedge.specs.declared.conclusion.Conclusion.{Conclusion}
-use Rattle.dsedge.specs.declared.fault.Fault.{Fault}
-use Rattle.dsedge.specs.declared.fault.Fault.TheVariants.{Usage, Line, Domain, Certificate, File, Read, Write, Memory, Full}
-use Rattle.dsedge.specs.Faults.{fault_text, status_of}
-use Rattle.dsedge.specs.Served.{IsOfReads, IsServed, answer_for, status_for, told_of}
+use Rattle.dsedge_serve.specs.declared.conclusion.Conclusion.{Conclusion}
+use Rattle.dsedge_serve.specs.declared.fault.Fault.{Fault}
+use Rattle.dsedge_serve.specs.declared.fault.Fault.TheVariants.{Usage, Line, Domain, Certificate, File, Read, Write, Memory, Full}
+use Rattle.dsedge_serve.specs.Faults.{fault_text, status_of}
+use Rattle.dsedge_serve.specs.Served.{IsOfReads, IsServed, answer_for, status_for, told_of}
 
 -- the words of a command: those given, or where there are none, those of the first line of the input
 abbrev pub words_from : List (List ℕ) → List ℕ → List (List ℕ)

@@ -1,13 +1,6 @@
 //! `dsedge`: a traffic conditioner for the edge of a DiffServ domain (RFC 2475).
 #![tactic(auto)]
 
-mod arrivals;
-mod conclusion;
-mod envelope;
-mod fault;
-mod meter;
-mod parts;
-mod serve;
 mod start;
 #[cfg(test)]
 mod tests;

@@ -1,18 +1,17 @@
 ghost use Rattle.std.specs.Prelude.{◌≡◌, ℕ, ◌≤◌, IfErr, IfOk, MatchResult, Ok, OnOk, length, map, string_bytes};
 ghost use Rattle.dsedge_base.specs.Plans.{IsPlanOf};
 ghost use Rattle.pcap_capture.specs.Counts.{count_after};
-ghost use Rattle.dsedge.specs.Faults.{fault_text, status_of};
-ghost use Rattle.dsedge.specs.Served.{IsOfWrites, IsTold};
+ghost use Rattle.dsedge_serve.specs.Faults.{fault_text, status_of};
+ghost use Rattle.dsedge_serve.specs.Served.{IsOfWrites, IsTold};
 ghost use Rattle.dsedge.specs.Started.{AreKnown, Course, HasWords, IsCourseFrom, IsOfInput, IsRefused, IsWordless, IsWritten};
 ghost use Rattle.dsedge.specs.Started.{IsCourseOf, IsUnreadable, failures_with, input_from, is_unwritten, most_asked, status_in, told_in, words_from};
 ghost use Rattle.dsedge_base.specs.Files.{files_of};
 ghost use Rattle.dsedge_files.specs.Readable.{texts_of};
 
-use crate::fault::Fault;
-use crate::serve::serve;
 use dsedge_base::{Plan, UsageFault, plan};
 use dsedge_files::{Folder, TextFault, read_texts};
 use dsedge_lines::{FirstLineFault, Words, first_line};
+use dsedge_serve::{Fault, serve};
 use pcap_capture::{Intake, Outlet};
 use std::alloc::Global;
 

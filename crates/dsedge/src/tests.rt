@@ -299,10 +299,10 @@ pbs = 3000
 protocol = 17
 "#;
 
-/// The text of a domain of one meter behind a port with a skew and a link with a jitter, and of one contract.
+/// The text of a domain of one meter with a skew, behind a port with a skew and a link with a jitter, and of one contract.
 fn domain_text(
     alloc: Global,
-    skew: u64,
+    (meter_skew, port_skew): (u64, u64),
     jitter: u64,
     contract: &str,
 ) -> Result<String, AllocError> {
@@ -315,10 +315,10 @@ cir = 24000000
 cbs = 13500
 pir = 24000000
 pbs = 13500
-skew = 500000
+skew = {meter_skew}
 [[port]]
 name = "p"
-skew = {skew}
+skew = {port_skew}
 [[link]]
 from = "p"
 to = "m"
@@ -359,7 +359,7 @@ fn least_certificates(rt: HostRuntime) -> Result<(), Fail> {
             "dscert 1\nu 0 1502 3003\nu 1 2502 5003\n",
         ),
     ] {
-        let domain = domain_text(rt.alloc(), skew, jitter, contract)?;
+        let domain = domain_text(rt.alloc(), (500_000, skew), jitter, contract)?;
         let done = run_on_domain(rt.alloc(), "certify domain.toml", domain.as_str())?;
         assert_eq!(rt; done.output.as_slice(), certificate.as_bytes());
         assert!(rt; done.told.is_empty());
@@ -487,7 +487,7 @@ fn three_contracts_fill_a_meter(rt: HostRuntime) -> Result<(), Fail> {
 #[test]
 fn bounds_that_are_too_low(rt: HostRuntime) -> Result<(), Fail> {
     let alloc = rt.alloc();
-    let alone = domain_text(alloc, 0, 1_000_000, TRUSTED)?;
+    let alone = domain_text(alloc, (500_000, 0), 1_000_000, TRUSTED)?;
     for (certificate, output) in [
         (
             "dscert 1\na 0 3000 3000\na 1 3999 4000\n",
@@ -564,5 +564,121 @@ fn faults_of_tables(rt: HostRuntime) -> Result<(), Fail> {
     let told = b"dsedge: file domain.cert\n";
     assert_eq!(rt; done.told.as_slice(), told.as_slice());
     assert_eq!(rt; done.status, 4);
+    Ok(())
+}
+
+/// The program's `audit` of steps, over a domain and a certificate.
+fn run_audit(alloc: Global, domain: &str, certificate: &[u8], steps: &str) -> Result<Done, Fail> {
+    let files = [
+        ("domain.toml", domain.as_bytes()),
+        ("domain.cert", certificate),
+    ];
+    let folder = MemoryFolder { files: &files };
+    let intake = SliceIntake::new(steps.as_bytes());
+    let output = VecOutlet::new(Vec::new(alloc));
+    run(
+        alloc,
+        "audit domain.toml domain.cert",
+        folder,
+        intake,
+        output,
+    )
+}
+
+/// Expects of `audit` on steps, over a domain with its least certificate, how the output begins, what is told, and a status.
+fn expect_of_audit(
+    rt: &impl Abort,
+    alloc: Global,
+    (domain, steps): (&str, &str),
+    (beginning, told, status): (&str, &str, u8),
+) -> Result<(), Fail> {
+    let least = run_on_domain(alloc, "certify domain.toml", domain)?;
+    let done = run_audit(alloc, domain, least.output.as_slice(), steps)?;
+    assert!(rt; done.output.as_slice().starts_with(beginning.as_bytes()));
+    assert_eq!(rt; done.told.as_slice(), told.as_bytes());
+    assert_eq!(rt; done.status, status);
+    Ok(())
+}
+
+/// A domain of a trusted contract, with a meter that keeps time within 100 ns.
+fn close_clock(alloc: Global) -> Result<String, AllocError> {
+    domain_text(alloc, (100, 0), 0, TRUSTED)
+}
+
+#[test]
+fn a_visit_late_by_the_skew_is_kept(rt: HostRuntime) -> Result<(), Fail> {
+    let domain = close_clock(rt.alloc())?;
+    let steps = "send a 1 100 10 1000\nvisit 1 1000\nsend a 2 100 10 900\nvisit 2 900\n";
+    let kept = ("kept\nm green 2 200 yellow 0 0 red 0 0\n", "", 0);
+    expect_of_audit(&rt, rt.alloc(), (domain.as_str(), steps), kept)
+}
+
+#[test]
+fn a_visit_later_than_the_skew_is_late(rt: HostRuntime) -> Result<(), Fail> {
+    let domain = close_clock(rt.alloc())?;
+    let steps = "send a 1 100 10 1000\nvisit 1 1000\nsend a 2 100 10 899\nvisit 2 899\n";
+    let late = ("late m 1 101\n", "", 1);
+    expect_of_audit(&rt, rt.alloc(), (domain.as_str(), steps), late)
+}
+
+#[test]
+fn a_link_that_takes_too_long(rt: HostRuntime) -> Result<(), Fail> {
+    let domain = close_clock(rt.alloc())?;
+    let steps = "send a 1 100 10 1000\nvisit 1 1001\n";
+    let over = ("delay-over 1 1\n", "", 1);
+    expect_of_audit(&rt, rt.alloc(), (domain.as_str(), steps), over)
+}
+
+#[test]
+fn a_source_over_its_contract(rt: HostRuntime) -> Result<(), Fail> {
+    let domain = close_clock(rt.alloc())?;
+    let steps = "send a 1 1500 10 0\nsend a 2 1500 10 0\nsend a 3 1 10 0\n";
+    let over = ("source-over a green 3\n", "", 1);
+    expect_of_audit(&rt, rt.alloc(), (domain.as_str(), steps), over)
+}
+
+#[test]
+fn a_packet_after_the_end_of_its_contract(rt: HostRuntime) -> Result<(), Fail> {
+    let ended = format!(in rt.alloc(); "{TRUSTED}until = 5\n")?;
+    let domain = domain_text(rt.alloc(), (500_000, 0), 1_000_000, ended.as_str())?;
+    let steps = "send a 1 100 10 5\n";
+    let outside = ("outside 1\n", "", 1);
+    expect_of_audit(&rt, rt.alloc(), (domain.as_str(), steps), outside)
+}
+
+#[test]
+fn packets_policed_at_the_edge(rt: HostRuntime) -> Result<(), Fail> {
+    let domain = domain_text(rt.alloc(), (500_000, 0), 1_000_000, POLICED)?;
+    let steps =
+        "send u 1 1500 0 0\nvisit 1 0\nvisit 1 0\nsend u 2 1500 0 0\nvisit 2 0\nvisit 2 500\nsend u 3 1 0 0\nvisit 3 0\n";
+    let accounts =
+        "kept\nm green 1 1500 yellow 1 1500 red 0 0\nedge:u green 1 1500 yellow 1 1500 red 1 1\n";
+    expect_of_audit(&rt, rt.alloc(), (domain.as_str(), steps), (accounts, "", 0))
+}
+
+#[test]
+fn a_visit_of_no_packet(rt: HostRuntime) -> Result<(), Fail> {
+    let domain = domain_text(rt.alloc(), (500_000, 0), 1_000_000, TRUSTED)?;
+    let done = run_audit(
+        rt.alloc(),
+        domain.as_str(),
+        b"dscert 1\na 0 3000 3000\na 1 4000 4000\n",
+        "visit 7 0\n",
+    )?;
+    assert!(rt; done.output.is_empty());
+    assert_eq!(rt; done.told.as_slice(), b"dsedge: line 1\n".as_slice());
+    assert_eq!(rt; done.status, 3);
+    Ok(())
+}
+
+#[test]
+fn an_audit_of_a_refused_table(rt: HostRuntime) -> Result<(), Fail> {
+    let domain = domain_text(rt.alloc(), (500_000, 0), 1_000_000, TRUSTED)?;
+    let low = b"dscert 1\na 0 3000 3000\na 1 3999 4000\n";
+    let done = run_audit(rt.alloc(), domain.as_str(), low, "visit 7 0\n")?;
+    let told = b"refused 3 HopBound a 1 green 4000 3999\n";
+    assert!(rt; done.output.is_empty());
+    assert_eq!(rt; done.told.as_slice(), told.as_slice());
+    assert_eq!(rt; done.status, 1);
     Ok(())
 }

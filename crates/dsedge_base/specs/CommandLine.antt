@@ -42,11 +42,19 @@ envelope = with_rule (with_rule (new_app (codes "envelope"))
 abbrev pub certify : App
 certify = with_rule (new_app (codes "certify")) (positional (codes "domain"))
 
--- a check is of a domain and a certificate
-abbrev pub check : App
-check = with_rule (with_rule (new_app (codes "check"))
+-- a command on a domain and a certificate
+abbrev pub on_table : Text → App
+on_table name = with_rule (with_rule (new_app name)
     (positional (codes "domain")))
     (positional (codes "certificate"))
 
+-- a check is of a domain and a certificate
+abbrev pub check : App
+check = on_table (codes "check")
+
+-- an audit is of a run over a domain with a certificate
+abbrev pub audit : App
+audit = on_table (codes "audit")
+
 abbrev pub dsedge : App
-dsedge = with_subcommand (with_subcommand (with_subcommand (with_subcommand program meter.top) envelope.top) certify.top) check.top
+dsedge = with_subcommand (with_subcommand (with_subcommand (with_subcommand (with_subcommand program meter.top) envelope.top) certify.top) check.top) audit.top

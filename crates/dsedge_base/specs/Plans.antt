@@ -9,7 +9,7 @@ use Rattle.dsedge_base.specs.Options.{Given, envelope_given, meter_given, table_
 use Rattle.dsedge_base.specs.declared.fault.UsageFault.{UsageFault}
 use Rattle.dsedge_base.specs.declared.fault.UsageFault.TheVariants.{Usage, NoMemory}
 use Rattle.dsedge_base.specs.declared.work.Plan.{Plan}
-use Rattle.dsedge_base.specs.declared.work.Plan.TheVariants.{Certify, Check, Envelope, Help, Meter}
+use Rattle.dsedge_base.specs.declared.work.Plan.TheVariants.{Audit, Certify, Check, Envelope, Help, Meter}
 
 -- the texts that the options of a command were given
 abbrev pub given_by : List Row → Given
@@ -22,6 +22,7 @@ plan_of c =
     else if bytes_eq c.0 (codes "envelope") then envelope_given (given_by c.1) >>= (λ e. Some (Envelope e.0 e.1))
     else if bytes_eq c.0 (codes "certify") then given_by c.1 (codes "domain") >>= (λ domain. Some (Certify domain))
     else if bytes_eq c.0 (codes "check") then table_given (given_by c.1) >>= (λ files. Some (Check files.0 files.1))
+    else if bytes_eq c.0 (codes "audit") then table_given (given_by c.1) >>= (λ files. Some (Audit files.0 files.1))
     else None
 
 -- the words are a command line of the program, with nothing wrong in its form
@@ -40,6 +41,7 @@ IsPlanOf words (Meter m) = IsWellFormed words × (asked_by words ≡ Some (Meter
 IsPlanOf words (Envelope rate burst) = IsWellFormed words × (asked_by words ≡ Some (Envelope rate burst))
 IsPlanOf words (Certify domain) = IsWellFormed words × (asked_by words ≡ Some (Certify domain))
 IsPlanOf words (Check domain certificate) = IsWellFormed words × (asked_by words ≡ Some (Check domain certificate))
+IsPlanOf words (Audit domain certificate) = IsWellFormed words × (asked_by words ≡ Some (Audit domain certificate))
 
 -- something other than a wish for help stands against the form of the words
 abbrev pub IsMalformed : List Text → Type 0
@@ -57,3 +59,4 @@ IsHelp (Meter m) = ⊥
 IsHelp (Envelope rate burst) = ⊥
 IsHelp (Certify domain) = ⊥
 IsHelp (Check domain certificate) = ⊥
+IsHelp (Audit domain certificate) = ⊥

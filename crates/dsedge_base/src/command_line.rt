@@ -1,7 +1,7 @@
 ghost use Rattle.std.specs.Prelude.{◌≡◌, IfOk, true, false};
 ghost use Rattle.clap.specs.Words.{app_of, rule_of};
 ghost use Rattle.clap.specs.declared.builder.command.Command.TheViews.{out-Command as fields_of};
-ghost use Rattle.dsedge_base.specs.CommandLine.{certify, check, dsedge, envelope, meter, optional, positional, required};
+ghost use Rattle.dsedge_base.specs.CommandLine.{audit, certify, check, dsedge, envelope, meter, on_table, optional, positional, required};
 
 use clap::{Arg, Command};
 use std::alloc::{AllocError, Global};
@@ -18,7 +18,8 @@ pub(crate) fn command_line<'a>(alloc: Global) -> Result<Command<'a>, AllocError>
         .subcommand(meter_command(alloc)?)?
         .subcommand(envelope_command(alloc)?)?
         .subcommand(certify_command(alloc)?)?
-        .subcommand(check_command(alloc)?)
+        .subcommand(check_command(alloc)?)?
+        .subcommand(audit_command(alloc)?)
 }
 
 /// `dsedge meter`.
@@ -86,10 +87,33 @@ fn check_command<'a>(alloc: Global) -> Result<Command<'a>, AllocError>
     ensures shape { IfOk result (λ command. app_of command ≡ check) }
     ensures local { IfOk result (λ command. (fields_of command).has_globals ≡ false) }
 {
+    let about = "Checks a certificate: accepted, or the first test that fails.";
+    table_command(alloc, "check", about)
+}
+
+/// `dsedge audit`.
+fn audit_command<'a>(alloc: Global) -> Result<Command<'a>, AllocError>
+    ensures shape { IfOk result (λ command. app_of command ≡ audit) }
+    ensures local { IfOk result (λ command. (fields_of command).has_globals ≡ false) }
+{
+    let about =
+        "Judges the run on standard input: lines send CONTRACT PACKET SIZE DSCP MOMENT and visit PACKET MOMENT.";
+    table_command(alloc, "audit", about)
+}
+
+/// A command on a domain and a certificate.
+fn table_command<'a>(
+    alloc: Global,
+    name: &'a str,
+    about: &'a str,
+) -> Result<Command<'a>, AllocError>
+    ensures shape { IfOk result (λ command. app_of command ≡ on_table name.entry.now) }
+    ensures local { IfOk result (λ command. (fields_of command).has_globals ≡ false) }
+{
     let domain = "the domain: a TOML text of meters, ports, links and contracts";
     let certificate = "the certificate of its contracts, as certify prints one";
-    Command::new(alloc, "check")
-        .about("Checks a certificate: accepted, or the first test that fails.")
+    Command::new(alloc, name)
+        .about(about)
         .arg(word(alloc, "domain", "DOMAIN", domain))?
         .arg(word(alloc, "certificate", "CERTIFICATE", certificate))
 }

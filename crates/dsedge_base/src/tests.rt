@@ -158,6 +158,23 @@ fn a_check_names_two_files(rt: HostRuntime) -> Result<(), Fail> {
 }
 
 #[test]
+fn an_audit_names_two_files(rt: HostRuntime) -> Result<(), Fail> {
+    let alloc = rt.alloc();
+    let domain = FileName::new("domain.toml");
+    let certificate = FileName::new("domain.cert");
+    let expected = format!(in alloc;
+        "{:?}",
+        Plan::Audit {
+            domain,
+            certificate
+        }
+    )?;
+    let made = plan_for(alloc, "audit domain.toml domain.cert")??;
+    assert_eq!(rt; made.as_str(), expected.as_str());
+    Ok(())
+}
+
+#[test]
 fn words_that_are_no_command(rt: HostRuntime) -> Result<(), Fail> {
     let alloc = rt.alloc();
     assert_eq!(rt; plan::<&str>(alloc, &[]).err(), Some(UsageFault::Usage));
@@ -190,7 +207,8 @@ fn words_that_are_no_command(rt: HostRuntime) -> Result<(), Fail> {
         "check domain.toml domain.cert more",
         "mark domain.toml domain.cert --port p --workers 1 --red keep",
         "drive domain.toml",
-        "audit domain.toml domain.cert",
+        "audit domain.toml",
+        "audit domain.toml domain.cert more",
     ] {
         assert_eq!(rt;
             plan_for(alloc, line)?.err(),

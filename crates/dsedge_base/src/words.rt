@@ -55,6 +55,13 @@ fn asked_of<'a>(name: &str, options: &ArgMatches<'a>) -> Option<Plan<'a>>
                 certificate,
             })
         }
+        "audit" => {
+            let (domain, certificate) = table_in(options)?;
+            Some(Plan::Audit {
+                domain,
+                certificate,
+            })
+        }
         _ => None,
     }
 }

@@ -32,6 +32,13 @@ pub enum Plan<'a> {
         /// The file of the certificate.
         certificate: FileName<'a>,
     },
+    /// Judge the run of standard input over a domain with a certificate of its contracts.
+    Audit {
+        /// The file of the domain.
+        domain: FileName<'a>,
+        /// The file of the certificate.
+        certificate: FileName<'a>,
+    },
 }
 
 impl<'a> Plan<'a> {
@@ -44,6 +51,10 @@ impl<'a> Plan<'a> {
             Plan::Help(_) | Plan::Meter(_) | Plan::Envelope { .. } => {}
             Plan::Certify { domain } => names.push(FileName::new(domain.text()))?,
             Plan::Check {
+                domain,
+                certificate,
+            }
+            | Plan::Audit {
                 domain,
                 certificate,
             } => {

@@ -1,5 +1,5 @@
-use Rattle.dsedge.specs.Faults.{fault_text}
-use Rattle.dsedge.proofs.FrontLemmas.{told_since}
+use Rattle.dsedge_serve.specs.Faults.{fault_text}
+use Rattle.dsedge_serve.proofs.FrontLemmas.{told_since}
 use Rattle.dsedge.proofs.start.refuse.Goals as goal
 
 pub returns-clause-told : goal.returns-clause-told

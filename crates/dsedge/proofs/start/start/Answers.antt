@@ -1,7 +1,7 @@
 use Rattle.std.proofs.Common.{List, ℕ, Ok, ap, inl, inr, length, map, refl, string_bytes, subst, sym, ◌∙◌}
 use Rattle.std.proofs.lemmas.List.{length-map}
 use Rattle.dsedge_base.specs.Plans.{IsPlanOf}
-use Rattle.dsedge.specs.Served.{IsServed, answer_for}
+use Rattle.dsedge_serve.specs.Served.{IsServed, answer_for}
 use Rattle.dsedge.specs.Started.{IsRefused}
 use Rattle.dsedge.specs.Started.Course.{Refused, Served, Unread}
 use Rattle.dsedge.proofs.StartLemmas.{reads_behind, refused_unread}

@@ -1,4 +1,0 @@
-use Rattle.dsedge.proofs.serve.serve.Goals as goal
-
-pub returns : goal.returns
-returns g c = (c.answer-outcome.result, c.status.ensures, c.answer-outcome.ensures.served, c.tell.ensures, c.answer-outcome.ensures.writes, c.answer-outcome.ensures.reads)

@@ -1,0 +1,4 @@
+pub mod Audited
+pub mod ByName
+pub mod Kept
+pub mod StepLines

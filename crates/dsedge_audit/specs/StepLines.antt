@@ -1,0 +1,42 @@
+-- The lines that say a step: `send CONTRACT PACKET SIZE DSCP MOMENT` and `visit PACKET MOMENT`.
+use Rattle.std.specs.Prelude.{ℕ, ◌==◌, ◌-◌, ◌^◌, nat_lt, List, [], ◌∷◌, codes, position, option_and_then, Option, None, Some, if◌then◌else◌}
+use Rattle.std.specs.Str.{bytes_eq}
+use Rattle.line_text.specs.Lines.{fields_of}
+use Rattle.line_text.specs.Numbers.{number_of}
+use Rattle.ds_domain_base.specs.declared.contract.Contract.{Contract}
+use Rattle.ds_conductor.specs.declared.step.Step.{Step}
+use Rattle.ds_conductor.specs.declared.step.Step.TheVariants.{Send, Visit}
+
+-- the number of the contract of a name, among those of which packets can be
+abbrev pub flow_named : List Contract → List ℕ → Option ℕ
+flow_named contracts name = option_and_then
+    (λ flow. if nat_lt flow 4294966272 then Some flow else None)
+    (position (λ c. bytes_eq name c.name) contracts)
+
+-- a size is a number from 1 to 65,535
+abbrev pub size_in : List ℕ → Option ℕ
+size_in field = option_and_then (λ size. if size == 0 then None else Some size) (number_of 65535 field)
+
+-- packets are numbered from 0 to 2^64 - 1, code points from 0 to 63, moments are 0 to 2^63 - 1 nanoseconds
+abbrev pub send_of : List Contract → List ℕ → List ℕ → List ℕ → List ℕ → List ℕ → Option Step
+send_of contracts name number bytes point at =
+    option_and_then (λ flow.
+    option_and_then (λ packet.
+    option_and_then (λ size.
+    option_and_then (λ dscp.
+    option_and_then (λ moment. Some (Send flow packet size dscp moment))
+    (number_of (2 ^ 63 - 1) at)) (number_of 63 point)) (size_in bytes)) (number_of (2 ^ 64 - 1) number)) (flow_named contracts name)
+
+abbrev pub visit_of : List ℕ → List ℕ → Option Step
+visit_of number at =
+    option_and_then (λ packet. option_and_then (λ moment. Some (Visit packet moment)) (number_of (2 ^ 63 - 1) at)) (number_of (2 ^ 64 - 1) number)
+
+abbrev pub step_of_fields : List Contract → List (List ℕ) → Option Step
+step_of_fields contracts (verb ∷ number ∷ at ∷ []) = if bytes_eq verb (codes "visit") then visit_of number at else None
+step_of_fields contracts (verb ∷ name ∷ number ∷ bytes ∷ point ∷ at ∷ []) =
+    if bytes_eq verb (codes "send") then send_of contracts name number bytes point at else None
+step_of_fields contracts _ = None
+
+-- the step that a line says, with the name of one of these contracts
+unfoldable pub step_in : List Contract → List ℕ → Option Step
+step_in contracts line = step_of_fields contracts (fields_of line)

@@ -1,0 +1,140 @@
+ghost use Rattle.std.specs.Prelude.{◌≡◌, ◌++◌, ◌⊎◌, flat_map, Ok, Err, IfErr, IfOk, OnOk};
+ghost use Rattle.ds_conductor.specs.Conducting.{run_so_far};
+ghost use Rattle.ds_conductor.specs.Steps.{opened, stepped};
+ghost use Rattle.dsedge_lines.specs.Answers.{AnswersAll, behind};
+ghost use Rattle.dsedge_audit.specs.Audited.{accounts_line, audit_from, audit_of, ending_by, verdict_line};
+
+use crate::accounts_text::push_sites;
+use crate::flows::Flows;
+use crate::step_line::step;
+use crate::verdict_text::push_verdict;
+use ds_checker::Accepted;
+use ds_conductor::{Conductor, Step, StepFault};
+use dsedge_lines::{Command, Ending};
+use run_audit::{Run, Verdict, audit};
+use std::alloc::{AllocError, Global};
+use std::marker::Model;
+
+/// The command `audit`: each line is a step, and at the end it answers with the verdict on the run and with the accounts of
+/// each site.
+///
+/// The conductor is handed over at the end of the run; where there is none, no step was made yet.
+#[derive(Drop)]
+pub struct AuditCommand<'a> {
+    alloc: Global,
+    flows: Flows<'a>,
+    conductor: Option<Conductor<'a>>,
+}
+
+impl<'a> Model for AuditCommand<'a> {
+    ghost use Rattle.ds_conductor.specs.Kept.{Conduct};
+
+    ghost Value = { Conduct };
+
+    ghost use Rattle.dsedge_audit.specs.Kept.{IsCommand, conduct_in};
+
+    ghost view = { conduct_in };
+
+    ghost invariant = { IsCommand };
+}
+
+impl<'a> AuditCommand<'a> {
+    /// The command before its first line. `AllocError` where memory runs out.
+    pub fn new(alloc: Global, accepted: &'a Accepted) -> Result<Self, AllocError>
+        ensures { IfOk result (λ command. command ≡ record { table = accepted.now; stage = opened accepted.now }) }
+    {
+        let flows = Flows::new(alloc, accepted)?;
+        Ok(AuditCommand {
+            alloc,
+            flows,
+            conductor: None,
+        })
+    }
+
+    /// Makes a step, as `Conductor::step`, which also says what is refused.
+    fn make(&mut self, step: Step) -> Result<(), StepFault>
+        ensures table { self.new.table ≡ self.old.table }
+        ensures done { OnOk result (stepped self.old.table self.old.stage step ≡ Ok self.new.stage) }
+        ensures refused { IfErr result (λ fault. (fault ≡ StepFault.NoMemory) ⊎ (stepped self.old.table self.old.stage step ≡ Err fault)) }
+    {
+        match &mut self.conductor {
+            Some(conductor) => conductor.step(step),
+            None => {
+                let mut conductor = Conductor::new(self.alloc, self.flows.accepted())?;
+                let done = conductor.step(step);
+                self.conductor = Some(conductor);
+                done
+            }
+        }
+    }
+
+    /// The run that the steps made; there are none from here on.
+    fn finish(&mut self) -> Result<Run<'a>, AllocError>
+        ensures { IfOk result (λ run. run ≡ record { table = self.old.table; run = run_so_far self.old.stage }) }
+    {
+        let conductor = match self.conductor.take() {
+            Some(conductor) => conductor,
+            None => Conductor::new(self.alloc, self.flows.accepted())?,
+        };
+        conductor.finish(self.alloc)
+    }
+}
+
+/// The line of a verdict on a run, then the accounts of each site.
+fn audit_text(alloc: Global, run: &Run<'_>, verdict: &Verdict) -> Result<Vec<u8>, AllocError>
+    ensures { IfOk result (λ text. text.items
+        ≡ verdict_line run.now.table verdict.now ++ flat_map (accounts_line run.now.table) run.now.run.journals) }
+{
+    let mut text = Vec::new(alloc);
+    push_verdict(&mut text, run.accepted(), verdict)?;
+    push_sites(&mut text, run.accepted(), run.journals())?;
+    Ok(text)
+}
+
+/// How the answer ends with a verdict.
+fn ending(verdict: &Verdict) -> Ending
+    ensures { result ≡ ending_by verdict.now }
+{
+    match verdict {
+        Verdict::Kept => Ending::Whole,
+        _ => Ending::Refused,
+    }
+}
+
+/// Judges a run, answers behind `out`, and says how the answer ends. Where memory runs out, `out` is as it was.
+fn judge(alloc: Global, run: &Run<'_>, out: &mut Vec<u8>) -> Result<Ending, AllocError>
+    ensures { AnswersAll (behind out.old.items (audit_of run.now.table run.now.run)) out.new.items result }
+{
+    let verdict = audit(alloc, run)?;
+    let text = audit_text(alloc, run, &verdict)?;
+    out.extend_from_slice(text.as_slice())?;
+    Ok(ending(&verdict))
+}
+
+impl<'a> Command for AuditCommand<'a> {
+    ghost answer = { λ c number lines. audit_from c.table c.stage number lines };
+
+    #[tactic(auto, using(crate::proofs::AuditLaws::bad_line, crate::proofs::AuditLaws::made_line, crate::proofs::AuditLaws::bad_step, crate::proofs::AuditLaws::full_line))]
+    fn line(
+        &mut self,
+        number: u64,
+        line: &[u8],
+        _out: &mut Vec<u8>,
+    ) -> Result<Option<Ending>, AllocError> {
+        let Some(step) = step(&self.flows, line) else {
+            return Ok(Some(Ending::BadLine(number)));
+        };
+        match self.make(step) {
+            Ok(()) => Ok(None),
+            Err(StepFault::BadStep) => Ok(Some(Ending::BadLine(number))),
+            Err(StepFault::JournalFull) => Ok(Some(Ending::Full)),
+            Err(StepFault::NoMemory) => Err(AllocError),
+        }
+    }
+
+    #[tactic(auto, using(crate::proofs::AuditLaws::last_line))]
+    fn end(&mut self, _number: u64, out: &mut Vec<u8>) -> Result<Ending, AllocError> {
+        let run = self.finish()?;
+        judge(self.alloc, &run, out)
+    }
+}

@@ -1,0 +1,5 @@
+pub mod ArrivalLemmas
+pub mod FrontLemmas
+pub mod LeadingArrivals
+pub mod MeteredLaws
+pub mod VerdictLaws

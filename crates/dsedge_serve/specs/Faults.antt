@@ -1,0 +1,76 @@
+-- The faults of the program: their lines on standard error and its exit statuses.
+use Rattle.std.specs.Prelude.{◌≡◌, ℕ, List, [], ◌∷◌, ◌++◌, codes, decimal}
+use Rattle.ds_domain_base.specs.Faults.{field_text, kind_code, section_text}
+use Rattle.ds_domain_base.specs.declared.fault.DomainFault.{DomainFault}
+use Rattle.ds_domain_base.specs.declared.fault.Kind.{Kind}
+use Rattle.ds_domain_base.specs.declared.fault.Kind.TheVariants as kinds
+use Rattle.ds_certificate.specs.declared.fault.CertificateFault.{CertificateFault}
+use Rattle.ds_certificate.specs.declared.fault.CertificateFault.TheVariants as certificates
+use Rattle.dsedge_serve.specs.declared.fault.Fault.{Fault}
+use Rattle.dsedge_serve.specs.declared.fault.Fault.TheVariants.{Usage, Line, Domain, Certificate, File, Read, Write, Memory, Full}
+use Rattle.dsedge_serve.specs.declared.notice.Notice.{Notice}
+use Rattle.dsedge_serve.specs.declared.notice.Notice.TheVariants as notices
+
+-- how a kind of fault of a domain is written
+abbrev pub kind_text : Kind → List ℕ
+kind_text kinds.Text = codes "Text"
+kind_text kinds.Field = codes "Field"
+kind_text kinds.Range = codes "Range"
+kind_text kinds.Twice = codes "Twice"
+kind_text kinds.UnknownName = codes "UnknownName"
+kind_text kinds.NoLink = codes "NoLink"
+kind_text kinds.PathRepeats = codes "PathRepeats"
+kind_text kinds.PathLength = codes "PathLength"
+kind_text kinds.BlindInside = codes "BlindInside"
+kind_text kinds.NoMemory = codes "NoMemory"
+
+-- a field is written as its key, and none as `-`
+abbrev pub text_or_dash : List ℕ → List ℕ
+text_or_dash [] = codes "-"
+text_or_dash (letter ∷ letters) = letter ∷ letters
+
+-- what is wrong with a domain, and where: CODE KIND SECTION INDEX FIELD
+abbrev pub domain_fault_text : DomainFault → List ℕ
+domain_fault_text fault =
+    decimal (kind_code fault.kind) ++ codes " " ++ kind_text fault.kind ++ codes " " ++ section_text fault.section ++ codes " "
+    ++ decimal fault.index ++ codes " " ++ text_or_dash (field_text fault.field)
+
+-- what is wrong with a certificate: CODE KIND
+abbrev pub certificate_fault_text : CertificateFault → List ℕ
+certificate_fault_text certificates.Text = codes "1 Text"
+certificate_fault_text certificates.Shape = codes "2 Shape"
+certificate_fault_text certificates.Range = codes "3 Range"
+certificate_fault_text certificates.NoMemory = codes "4 NoMemory"
+
+-- the line of a fault
+abbrev pub fault_text : Fault → List ℕ
+fault_text Usage = codes "dsedge: usage\n"
+fault_text (Line number) = codes "dsedge: line " ++ decimal number ++ codes "\n"
+fault_text (Domain fault) = codes "dsedge: domain " ++ domain_fault_text fault ++ codes "\n"
+fault_text (Certificate fault) = codes "dsedge: certificate " ++ certificate_fault_text fault ++ codes "\n"
+fault_text (File name) = codes "dsedge: file " ++ name ++ codes "\n"
+fault_text Read = codes "dsedge: read\n"
+fault_text Write = codes "dsedge: write\n"
+fault_text Memory = codes "dsedge: memory\n"
+fault_text Full = codes "dsedge: full\n"
+
+-- the exit status of a fault: 2 usage, 3 input, 4 device, 5 memory or a full journal
+abbrev pub status_of : Fault → ℕ
+status_of Usage = 2
+status_of (Line number) = 3
+status_of (Domain fault) = 3
+status_of (Certificate fault) = 3
+status_of (File name) = 4
+status_of Read = 4
+status_of Write = 4
+status_of Memory = 5
+status_of Full = 5
+
+-- what is told of a fault is its line, and of a table that the checker refuses, the checker's line as it is
+abbrev pub notice_text : Notice → List ℕ
+notice_text (notices.Fault fault) = fault_text fault
+notice_text (notices.Refusal line) = line
+
+-- what stood, with a front of a text behind it
+abbrev pub IsFrontOf : List ℕ → List ℕ → List ℕ → Type 0
+IsFrontOf before text after = (front : List ℕ) × (more : List ℕ) × (text ≡ front ++ more) × (after ≡ before ++ front)

@@ -1,0 +1,7 @@
+-- What the program does for a plan.
+pub mod Arrivals
+pub mod Books
+pub mod Faults
+pub mod Metered
+pub mod Served
+pub mod Verdicts

@@ -1,0 +1,61 @@
+-- What `meter` answers to lines of arrivals.
+use Rattle.std.specs.Prelude.{ℕ, ◌+◌, ◌-◌, nat_lt, List, [], ◌++◌, length, take, flat_map, codes, decimal, slice_index, if◌then◌else◌}
+use Rattle.moment_core.specs.declared.colour.Colour.{Colour}
+use Rattle.moment_core.specs.declared.colour.Colour.TheVariants.{Green, Yellow, Red}
+use Rattle.meter_book.specs.declared.accounts.Accounts.{Accounts}
+use Rattle.meter_book.specs.declared.row.Arrival.{Arrival}
+use Rattle.meter_book.specs.declared.row.Row.{Row}
+use Rattle.meter_book.specs.Replay.{Book, accounts_of, meter_after, rows_from, rows_of}
+use Rattle.dsedge_lines.specs.Answers.{Answer}
+use Rattle.dsedge_lines.specs.declared.command.Ending.{Ending}
+use Rattle.dsedge_lines.specs.declared.command.Ending.TheVariants.{Whole, BadLine, Full}
+use Rattle.dsedge_serve.specs.Arrivals.{arrivals_from}
+
+-- a line with the name of a colour
+abbrev pub colour_line_of : Colour → List ℕ
+colour_line_of Green = codes "green\n"
+colour_line_of Yellow = codes "yellow\n"
+colour_line_of Red = codes "red\n"
+
+-- a line for a row: the colour that it left with
+abbrev pub colour_line : Row → List ℕ
+colour_line row = colour_line_of row.left
+
+-- a line of the accounts: a colour's name, its packets and its bytes
+abbrev pub account_line : List ℕ → ℕ → ℕ → List ℕ
+account_line name packets bytes = name ++ codes " " ++ decimal packets ++ codes " " ++ decimal bytes ++ codes "\n"
+
+-- the accounts: green, yellow and red
+abbrev pub accounts_text_of : Accounts → List ℕ
+accounts_text_of a =
+    account_line (codes "green") (slice_index a.packets 0) (slice_index a.bytes 0)
+    ++ account_line (codes "yellow") (slice_index a.packets 1) (slice_index a.bytes 1)
+    ++ account_line (codes "red") (slice_index a.packets 2) (slice_index a.bytes 2)
+
+-- how an answer to so many lines ends that begins at a line's number, where so many of them say arrivals before any says none,
+-- and there is room for so many
+unfoldable pub ending_of : ℕ → ℕ → ℕ → ℕ → Ending
+ending_of number room arrivals lines =
+    if nat_lt room arrivals then Full else if nat_lt arrivals lines then BadLine (number + arrivals) else Whole
+
+-- the accounts, where the whole input was answered
+abbrev pub closing : Ending → List Row → List ℕ
+closing Whole rows = accounts_text_of (accounts_of rows)
+closing _ rows = []
+
+-- The answer of a book to so many lines from a number on, which say these arrivals before any says none: a colour for each
+-- arrival that there is room for, and the accounts of the whole book where every line was answered.
+unfoldable pub answer_to : Book → ℕ → ℕ → List Arrival → Answer
+answer_to book number lines arrivals =
+    let room = book.capacity - length book.arrivals in
+    let noted = take room arrivals in
+    let rows = rows_from (meter_after book.opening book.arrivals) (length book.arrivals) noted in
+    let ending = ending_of number room (length arrivals) lines in
+    record {
+      text = flat_map colour_line rows ++ closing ending (rows_of (record book { arrivals = book.arrivals ++ noted }));
+      ending = ending;
+    }
+
+-- the answer of a book to lines from a number on
+abbrev pub answer_of : Book → ℕ → List (List ℕ) → Answer
+answer_of book number lines = answer_to book number (length lines) (arrivals_from number lines)

@@ -1,0 +1,130 @@
+-- What the program does for a plan.
+use Rattle.std.specs.Prelude.{◌≡◌, ◌⊎◌, ◌^◌, ℕ, Bool, true, false, if◌then◌else◌, List, [], ◌∷◌, ◌++◌, Option, None, Some, Result, Ok, Err, IfOk, OnErr, codes, string_bytes}
+use Rattle.std.specs.Option.{option_map_or}
+use Rattle.line_text.specs.Lines.{lines_of}
+use Rattle.dsedge_serve.specs.Books.{fresh_book}
+use Rattle.pcap_capture.specs.Counts.{count_after, next_count}
+use Rattle.dsedge_base.specs.declared.work.Plan.{Plan}
+use Rattle.dsedge_base.specs.declared.work.Plan.TheVariants.{Audit, Certify, Check, Envelope, Help, Meter}
+use Rattle.ds_domain_base.specs.declared.fault.DomainFault.{DomainFault}
+use Rattle.dsedge_lines.specs.Answers.{Answer}
+use Rattle.dsedge_lines.specs.declared.command.Ending.TheVariants as endings
+use Rattle.dsedge_lines.specs.declared.fault.PumpFault.{PumpFault}
+use Rattle.dsedge_lines.specs.declared.fault.PumpFault.TheVariants as pump_faults
+use Rattle.ds_checker.specs.Acceptance.{Table}
+use Rattle.ds_conductor.specs.Steps.{opened}
+use Rattle.dsedge_audit.specs.Audited.{audit_from}
+use Rattle.dsedge_texts.specs.Accepted.{accepted_in}
+use Rattle.dsedge_texts.specs.Certified.{certified}
+use Rattle.dsedge_texts.specs.declared.accepting.TableFault.{TableFault}
+use Rattle.dsedge_texts.specs.declared.accepting.TableFault.TheVariants as tables
+use Rattle.dsedge_serve.specs.declared.conclusion.Conclusion.{Conclusion}
+use Rattle.dsedge_serve.specs.declared.conclusion.Conclusion.TheVariants.{Ended, Unaccepted, Uncertified, Unsound}
+use Rattle.dsedge_serve.specs.declared.fault.Fault.TheVariants as faults
+use Rattle.dsedge_serve.specs.Faults.{IsFrontOf, notice_text, status_of}
+use Rattle.dsedge_serve.specs.Metered.{answer_of}
+use Rattle.dsedge_serve.specs.declared.notice.Notice.{Notice}
+use Rattle.dsedge_serve.specs.declared.notice.Notice.TheVariants as notices
+use Rattle.dsedge_serve.specs.Verdicts.{envelope_for, verdict_on}
+
+-- a text on standard output, and how it ends
+pub record Reply : Type 0 where
+  pub text : List ℕ
+  pub conclusion : Conclusion
+
+-- a text that is the whole reply
+abbrev pub whole_text : List ℕ → Reply
+whole_text text = record { text = text; conclusion = Ended endings.Whole }
+
+-- an answer to lines is the reply
+abbrev pub reply_of : Answer → Reply
+reply_of answer = record { text = answer.text; conclusion = Ended answer.ending }
+
+-- a text that is made of a domain is the reply, or the fault of the domain ends it before anything is written
+abbrev pub reply_by : Result (List ℕ) DomainFault → Reply
+reply_by (Ok text) = whole_text text
+reply_by (Err fault) = record { text = []; conclusion = Unsound fault }
+
+-- A table is accepted, or the checker's line is the reply; the fault of a text ends it before anything is written. Want of
+-- memory stands in no text.
+abbrev pub reply_on : Result Table TableFault → Reply
+reply_on (Ok table) = whole_text (codes "accepted\n")
+reply_on (Err (tables.Refused line)) = record { text = line; conclusion = Ended endings.Refused }
+reply_on (Err (tables.Domain fault)) = record { text = []; conclusion = Unsound fault }
+reply_on (Err (tables.Certificate fault)) = record { text = []; conclusion = Uncertified fault }
+reply_on (Err tables.NoMemory) = whole_text []
+
+-- The run that lines say is judged over an accepted table; where the checker refuses the table, or a text has a fault, that ends
+-- it before anything is written. Want of memory stands in no text.
+abbrev pub reply_over : Result Table TableFault → List (List ℕ) → Reply
+reply_over (Ok table) lines = reply_of (audit_from table (opened table) 1 lines)
+reply_over (Err (tables.Refused line)) lines = record { text = []; conclusion = Unaccepted line }
+reply_over (Err (tables.Domain fault)) lines = record { text = []; conclusion = Unsound fault }
+reply_over (Err (tables.Certificate fault)) lines = record { text = []; conclusion = Uncertified fault }
+reply_over (Err tables.NoMemory) lines = whole_text []
+
+-- the text of the first file, and of the second
+abbrev pub first_text : List (List ℕ) → List ℕ
+first_text [] = []
+first_text (text ∷ texts) = text
+
+abbrev pub second_text : List (List ℕ) → List ℕ
+second_text [] = []
+second_text (text ∷ texts) = first_text texts
+
+-- the reply that a plan asks for, to the texts of its files and the bytes of an input
+abbrev pub answer_for : Plan → List (List ℕ) → List ℕ → Reply
+answer_for (Help text) texts bytes = whole_text (string_bytes text)
+answer_for (Meter meter) texts bytes = reply_of (answer_of (fresh_book meter) 1 (lines_of bytes))
+answer_for (Envelope rate burst) texts bytes = reply_of (verdict_on (envelope_for rate burst) (lines_of bytes))
+answer_for (Certify domain) texts bytes = reply_by (certified (first_text texts))
+answer_for (Check domain certificate) texts bytes = reply_on (accepted_in (first_text texts) (second_text texts))
+answer_for (Audit domain certificate) texts bytes = reply_over (accepted_in (first_text texts) (second_text texts)) (lines_of bytes)
+
+-- a reply was written behind what stood, to its end; or a front of it, where a device failed or memory ran out
+pub record IsServed (reply : Reply) (outcome : Result Conclusion PumpFault) (before after : List ℕ) : Type 0 where
+  pub whole : IfOk outcome (λ conclusion. (after ≡ before ++ reply.text) × (conclusion ≡ reply.conclusion))
+  pub front : OnErr outcome (IsFrontOf before reply.text after)
+
+-- what there is to tell of an outcome
+abbrev pub notice_of : Result Conclusion PumpFault → Option Notice
+notice_of (Ok (Ended endings.Whole)) = None
+notice_of (Ok (Ended endings.Refused)) = None
+notice_of (Ok (Ended (endings.BadLine number))) = Some (notices.Fault (faults.Line number))
+notice_of (Ok (Ended endings.Full)) = Some (notices.Fault faults.Full)
+notice_of (Ok (Unsound fault)) = Some (notices.Fault (faults.Domain fault))
+notice_of (Ok (Uncertified fault)) = Some (notices.Fault (faults.Certificate fault))
+notice_of (Ok (Unaccepted line)) = Some (notices.Refusal line)
+notice_of (Err pump_faults.Read) = Some (notices.Fault faults.Read)
+notice_of (Err pump_faults.Write) = Some (notices.Fault faults.Write)
+notice_of (Err pump_faults.NoMemory) = Some (notices.Fault faults.Memory)
+
+-- the exit status of an outcome: 0 done, 1 answered with no, else that of the fault
+abbrev pub status_for : Result Conclusion PumpFault → ℕ
+status_for (Ok (Ended endings.Whole)) = 0
+status_for (Ok (Ended endings.Refused)) = 1
+status_for (Ok (Ended (endings.BadLine number))) = status_of (faults.Line number)
+status_for (Ok (Ended endings.Full)) = status_of faults.Full
+status_for (Ok (Unsound fault)) = status_of (faults.Domain fault)
+status_for (Ok (Uncertified fault)) = status_of (faults.Certificate fault)
+status_for (Ok (Unaccepted line)) = 1
+status_for (Err pump_faults.Read) = status_of faults.Read
+status_for (Err pump_faults.Write) = status_of faults.Write
+status_for (Err pump_faults.NoMemory) = status_of faults.Memory
+
+-- what is told of an outcome on standard error
+abbrev pub told_of : Result Conclusion PumpFault → List ℕ
+told_of outcome = option_map_or notice_text (notice_of outcome) []
+
+-- A text was written behind what stood; or a front of it, where the device failed.
+abbrev pub IsTold : List ℕ → List ℕ → List ℕ → ℕ → ℕ → Type 0
+IsTold text before after failed now = (after ≡ before ++ text) ⊎ (IsFrontOf before text after × (now ≡ next_count failed))
+
+-- a write fault is an outcome where the output failed once, and no other outcome is one where it failed
+abbrev pub IsOfWrites : Bool → ℕ → ℕ → Type 0
+IsOfWrites fault failed now = now ≡ (if fault then next_count failed else failed)
+
+-- a read fault is an outcome only where the input failed once, or was asked 2^32 times; no other outcome is one where it failed
+pub record IsOfReads (fault : Bool) (failed now asked_before asked : ℕ) : Type 0 where
+  pub failed_or_spent : fault ≡ true → (now ≡ next_count failed) ⊎ ((now ≡ failed) × (asked ≡ count_after (2 ^ 32) asked_before))
+  pub else_unfailed : fault ≡ false → now ≡ failed

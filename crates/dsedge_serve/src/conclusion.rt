@@ -1,0 +1,17 @@
+use ds_certificate::CertificateFault;
+use ds_domain_base::DomainFault;
+use dsedge_lines::Ending;
+use dsedge_texts::RefusalLine;
+
+/// How a reply of the program ends.
+#[derive(Debug, Drop)]
+pub enum Conclusion {
+    /// The answer ends so.
+    Ended(Ending),
+    /// The text of the domain has a fault, and nothing is answered.
+    Unsound(DomainFault),
+    /// The text of the certificate has a fault, and nothing is answered.
+    Uncertified(CertificateFault),
+    /// The checker refuses the table with this line, and nothing is answered.
+    Unaccepted(RefusalLine),
+}

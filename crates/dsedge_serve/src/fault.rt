@@ -1,0 +1,138 @@
+ghost use Rattle.std.specs.Prelude.{◌≡◌, ◌++◌, List, ℕ, MatchResult, is_ok, if◌then◌else◌};
+ghost use Rattle.pcap_capture.specs.Counts.{next_count};
+ghost use Rattle.dsedge_serve.specs.Faults.{IsFrontOf, certificate_fault_text, fault_text, kind_text, status_of, text_or_dash};
+
+use crate::parts::give_parts;
+use ds_certificate::CertificateFault;
+use ds_domain_base::{DomainFault, Kind};
+use dsedge_files::FileName;
+use dsedge_lines::give_all;
+use itoa::Buffer;
+use pcap_capture::{DeviceFault, Outlet};
+
+/// Why the program did not do all that it was asked for.
+#[derive(Debug, Drop)]
+pub enum Fault<'a> {
+    /// The words are not those of a command.
+    Usage,
+    /// The line of this number, from 1, is no line of the command.
+    Line(u64),
+    /// The text of the domain has a fault.
+    Domain(DomainFault),
+    /// The text of the certificate has a fault.
+    Certificate(CertificateFault),
+    /// The file of this name cannot be read, or has more than 16 MiB.
+    File(FileName<'a>),
+    /// The input could not be read.
+    Read,
+    /// The output could not be written.
+    Write,
+    /// Memory ran out.
+    Memory,
+    /// A journal is full.
+    Full,
+}
+
+impl Fault<'_> {
+    /// The exit status: 2 usage, 3 input, 4 device, 5 memory or a full journal.
+    pub fn status(&self) -> u8
+        ensures { result ≡ status_of self.now }
+    {
+        match self {
+            Fault::Usage => 2,
+            Fault::Line(_) | Fault::Domain(_) | Fault::Certificate(_) => 3,
+            Fault::File(_) | Fault::Read | Fault::Write => 4,
+            Fault::Memory | Fault::Full => 5,
+        }
+    }
+
+    /// Writes the fault's line, `dsedge: ..`.
+    pub fn tell<F: Outlet>(&self, faults: &mut F) -> Result<(), DeviceFault>
+        ensures line { F.tells faults.old → MatchResult result
+            (λ _. F.held faults.new ≡ F.held faults.old ++ fault_text self.now)
+            (λ _. IsFrontOf (F.held faults.old) (fault_text self.now) (F.held faults.new)) }
+        ensures failures { F.failed faults.new
+            ≡ (if is_ok result then F.failed faults.old else next_count (F.failed faults.old)) }
+    {
+        match self {
+            Fault::Usage => give_all(faults, b"dsedge: usage\n"),
+            Fault::Line(number) => give_parts(
+                faults,
+                &["dsedge: line ", Buffer::new().format(*number), "\n"],
+            ),
+            Fault::Domain(fault) => tell_domain(fault, faults),
+            Fault::Certificate(fault) => give_parts(
+                faults,
+                &["dsedge: certificate ", certificate_text(*fault), "\n"],
+            ),
+            Fault::File(name) => give_parts(faults, &["dsedge: file ", name.text(), "\n"]),
+            Fault::Read => give_all(faults, b"dsedge: read\n"),
+            Fault::Write => give_all(faults, b"dsedge: write\n"),
+            Fault::Memory => give_all(faults, b"dsedge: memory\n"),
+            Fault::Full => give_all(faults, b"dsedge: full\n"),
+        }
+    }
+}
+
+/// Writes the line of a domain's fault, `dsedge: domain CODE KIND SECTION INDEX FIELD`.
+fn tell_domain<F: Outlet>(fault: &DomainFault, faults: &mut F) -> Result<(), DeviceFault>
+    ensures line { F.tells faults.old → MatchResult result
+        (λ _. F.held faults.new ≡ F.held faults.old ++ fault_text (Fault.Domain fault.now))
+        (λ _. IsFrontOf (F.held faults.old) (fault_text (Fault.Domain fault.now)) (F.held faults.new)) }
+    ensures failures { F.failed faults.new
+        ≡ (if is_ok result then F.failed faults.old else next_count (F.failed faults.old)) }
+{
+    give_parts(
+        faults,
+        &[
+            "dsedge: domain ",
+            Buffer::new().format(fault.code()),
+            " ",
+            kind_text(fault.kind),
+            " ",
+            fault.section.text(),
+            " ",
+            Buffer::new().format(fault.index as u64),
+            " ",
+            text_or_dash(fault.field.text()),
+            "\n",
+        ],
+    )
+}
+
+/// How a kind of fault of a domain is written.
+fn kind_text(kind: Kind) -> &'static str
+    ensures { result.now ≡ kind_text kind }
+{
+    match kind {
+        Kind::Text => "Text",
+        Kind::Field => "Field",
+        Kind::Range => "Range",
+        Kind::Twice => "Twice",
+        Kind::UnknownName => "UnknownName",
+        Kind::NoLink => "NoLink",
+        Kind::PathRepeats => "PathRepeats",
+        Kind::PathLength => "PathLength",
+        Kind::BlindInside => "BlindInside",
+        Kind::NoMemory => "NoMemory",
+    }
+}
+
+/// How a fault of a certificate is written, its number and its kind.
+fn certificate_text(fault: CertificateFault) -> &'static str
+    ensures { result.now ≡ certificate_fault_text fault }
+{
+    match fault {
+        CertificateFault::Text => "1 Text",
+        CertificateFault::Shape => "2 Shape",
+        CertificateFault::Range => "3 Range",
+        CertificateFault::NoMemory => "4 NoMemory",
+    }
+}
+
+/// A text, or `-` where it is empty.
+fn text_or_dash(text: &str) -> &str
+    ensures { result.now ≡ text_or_dash text.now }
+{
+    if text.is_empty() { "-" } else { text }
+}

@@ -1,0 +1,260 @@
+ghost use Rattle.std.specs.Prelude.{◌≡◌, false, length, map, Result};
+ghost use Rattle.dsedge_base.specs.Files.{files_of};
+ghost use Rattle.dsedge_lines.specs.declared.fault.PumpFault.{PumpFault};
+ghost use Rattle.dsedge_lines.specs.Faults.{is_read_fault, is_write_fault};
+ghost use Rattle.dsedge_serve.specs.Served.{IsOfReads, IsOfWrites, IsServed, IsTold, Reply, answer_for, notice_of, reply_by, reply_of, reply_on, reply_over, status_for, told_of};
+ghost use Rattle.dsedge_serve.specs.declared.conclusion.Conclusion.{Conclusion};
+ghost use Rattle.ds_conductor.specs.Steps.{opened};
+ghost use Rattle.dsedge_audit.specs.Audited.{audit_from};
+ghost use Rattle.dsedge_texts.specs.Accepted.{accepted_in};
+ghost use Rattle.dsedge_texts.specs.Certified.{certified};
+ghost use Rattle.line_text.specs.Lines.{lines_of};
+
+use crate::conclusion::Conclusion;
+use crate::envelope::EnvelopeCommand;
+use crate::fault::Fault;
+use crate::meter::MeterCommand;
+use crate::notice::Notice;
+use ds_checker::Accepted;
+use ds_domain_base::{DomainFault, Kind};
+use dsedge_audit::AuditCommand;
+use dsedge_base::Plan;
+use dsedge_lines::{Command, Ending, PumpFault, give_all, pump};
+use dsedge_texts::{TableFault, accept, certify};
+use pcap_capture::{Intake, Outlet};
+use std::alloc::Global;
+
+/// By how many calls of `take` an input is read at most; the next is answered as a read fault.
+const TURNS: u64 = 1 << 32;
+
+/// Answers the lines of the input by a command.
+fn answer_lines<C: Command, I: Intake, O: Outlet>(
+    alloc: Global,
+    command: &mut C,
+    intake: &mut I,
+    output: &mut O,
+) -> Result<Conclusion, PumpFault>
+    ensures served { I.tells intake.old → O.tells output.old →
+        IsServed (reply_of (C.answer command.old 1 (lines_of (I.left intake.old)))) result (O.held output.old) (O.held output.new) }
+    ensures writes { IsOfWrites (is_write_fault result) (O.failed output.old) (O.failed output.new) }
+    ensures reads { IsOfReads (is_read_fault result) (I.failed intake.old) (I.failed intake.new)
+        (I.turns intake.old) (I.turns intake.new) }
+{
+    match pump(alloc, command, intake, output, TURNS) {
+        Ok(ending) => Ok(Conclusion::Ended(ending)),
+        Err(fault) => Err(fault),
+    }
+}
+
+/// Answers with a text, and ends so.
+fn answer_text<O: Outlet>(
+    text: &[u8],
+    ending: Ending,
+    output: &mut O,
+) -> Result<Conclusion, PumpFault>
+    ensures served { O.tells output.old →
+        IsServed (record { text = text.now; conclusion = Conclusion.Ended ending }) result (O.held output.old) (O.held output.new) }
+    ensures writes { IsOfWrites (is_write_fault result) (O.failed output.old) (O.failed output.new) }
+    ensures reads { is_read_fault result ≡ false }
+{
+    match give_all(output, text) {
+        Ok(()) => Ok(Conclusion::Ended(ending)),
+        Err(_) => Err(PumpFault::Write),
+    }
+}
+
+/// Answers with the least certificate of what a domain text says.
+fn answer_certify<O: Outlet>(
+    alloc: Global,
+    text: &[u8],
+    output: &mut O,
+) -> Result<Conclusion, PumpFault>
+    ensures served { O.tells output.old →
+        IsServed (reply_by (certified text.now)) result (O.held output.old) (O.held output.new) }
+    ensures writes { IsOfWrites (is_write_fault result) (O.failed output.old) (O.failed output.new) }
+    ensures reads { is_read_fault result ≡ false }
+{
+    match certify(alloc, text) {
+        Ok(certificate) => answer_text(certificate.as_slice(), Ending::Whole, output),
+        Err(
+            DomainFault {
+                kind: Kind::NoMemory,
+                ..
+            },
+        ) => Err(PumpFault::NoMemory),
+        Err(fault) => Ok(Conclusion::Unsound(fault)),
+    }
+}
+
+/// Answers whether the table that two texts say is acceptable, and where not, with the checker's line.
+fn answer_check<O: Outlet>(
+    alloc: Global,
+    domain: &[u8],
+    certificate: &[u8],
+    output: &mut O,
+) -> Result<Conclusion, PumpFault>
+    ensures served { O.tells output.old →
+        IsServed (reply_on (accepted_in domain.now certificate.now)) result (O.held output.old) (O.held output.new) }
+    ensures writes { IsOfWrites (is_write_fault result) (O.failed output.old) (O.failed output.new) }
+    ensures reads { is_read_fault result ≡ false }
+{
+    match accept(alloc, domain, certificate) {
+        Ok(_) => answer_text(b"accepted\n", Ending::Whole, output),
+        Err(TableFault::Refused(line)) => answer_text(line.bytes(), Ending::Refused, output),
+        Err(TableFault::Domain(fault)) => Ok(Conclusion::Unsound(fault)),
+        Err(TableFault::Certificate(fault)) => Ok(Conclusion::Uncertified(fault)),
+        Err(TableFault::NoMemory) => Err(PumpFault::NoMemory),
+    }
+}
+
+/// Judges the run that the lines of the input say, over the table that two texts say.
+fn answer_audit<I: Intake, O: Outlet>(
+    alloc: Global,
+    domain: &[u8],
+    certificate: &[u8],
+    intake: &mut I,
+    output: &mut O,
+) -> Result<Conclusion, PumpFault>
+    ensures served { I.tells intake.old → O.tells output.old →
+        IsServed (reply_over (accepted_in domain.now certificate.now) (lines_of (I.left intake.old))) result
+        (O.held output.old) (O.held output.new) }
+    ensures writes { IsOfWrites (is_write_fault result) (O.failed output.old) (O.failed output.new) }
+    ensures reads { IsOfReads (is_read_fault result) (I.failed intake.old) (I.failed intake.new)
+        (I.turns intake.old) (I.turns intake.new) }
+{
+    match accept(alloc, domain, certificate) {
+        Ok(accepted) => judge_run(alloc, &accepted, intake, output),
+        Err(TableFault::Refused(line)) => Ok(Conclusion::Unaccepted(line)),
+        Err(TableFault::Domain(fault)) => Ok(Conclusion::Unsound(fault)),
+        Err(TableFault::Certificate(fault)) => Ok(Conclusion::Uncertified(fault)),
+        Err(TableFault::NoMemory) => Err(PumpFault::NoMemory),
+    }
+}
+
+/// Judges the run that the lines of the input say, over an accepted table.
+fn judge_run<I: Intake, O: Outlet>(
+    alloc: Global,
+    accepted: &Accepted,
+    intake: &mut I,
+    output: &mut O,
+) -> Result<Conclusion, PumpFault>
+    ensures served { I.tells intake.old → O.tells output.old →
+        IsServed (reply_of (audit_from accepted.now (opened accepted.now) 1 (lines_of (I.left intake.old)))) result
+        (O.held output.old) (O.held output.new) }
+    ensures writes { IsOfWrites (is_write_fault result) (O.failed output.old) (O.failed output.new) }
+    ensures reads { IsOfReads (is_read_fault result) (I.failed intake.old) (I.failed intake.new)
+        (I.turns intake.old) (I.turns intake.new) }
+{
+    match AuditCommand::new(alloc, accepted) {
+        Ok(mut command) => answer_lines(alloc, &mut command, intake, output),
+        Err(_) => Err(PumpFault::NoMemory),
+    }
+}
+
+/// Answers what a plan asks for, on the output, from the texts of its files.
+pub fn answer<I: Intake, O: Outlet>(
+    alloc: Global,
+    plan: Plan<'_>,
+    texts: &[Vec<u8>],
+    intake: &mut I,
+    output: &mut O,
+) -> Result<Conclusion, PumpFault>
+    requires { length texts.now ≡ length (files_of plan) }
+    ensures served { I.tells intake.old → O.tells output.old →
+        IsServed (answer_for plan.entry (map (λ text. text.items) texts.now) (I.left intake.old)) result (O.held output.old) (O.held output.new) }
+    ensures writes { IsOfWrites (is_write_fault result) (O.failed output.old) (O.failed output.new) }
+    ensures reads { IsOfReads (is_read_fault result) (I.failed intake.old) (I.failed intake.new)
+        (I.turns intake.old) (I.turns intake.new) }
+{
+    match plan {
+        Plan::Help(text) => answer_text(text.as_bytes(), Ending::Whole, output),
+        Plan::Meter(meter) => {
+            let mut command = MeterCommand::new(alloc, meter);
+            answer_lines(alloc, &mut command, intake, output)
+        }
+        Plan::Envelope { rate, burst } => {
+            let mut command = EnvelopeCommand::new(alloc, rate, burst);
+            answer_lines(alloc, &mut command, intake, output)
+        }
+        Plan::Certify { .. } => answer_certify(alloc, texts[0].as_slice(), output),
+        Plan::Check { .. } => {
+            answer_check(alloc, texts[0].as_slice(), texts[1].as_slice(), output)
+        }
+        Plan::Audit { .. } => {
+            let (domain, certificate) = (texts[0].as_slice(), texts[1].as_slice());
+            answer_audit(alloc, domain, certificate, intake, output)
+        }
+    }
+}
+
+/// What there is to tell of an outcome, if anything.
+fn notice(outcome: Result<Conclusion, PumpFault>) -> Option<Notice>
+    ensures { result ≡ notice_of outcome }
+{
+    match outcome {
+        Ok(Conclusion::Ended(Ending::Whole | Ending::Refused)) => None,
+        Ok(Conclusion::Ended(Ending::BadLine(number))) => Some(Notice::Fault(Fault::Line(number))),
+        Ok(Conclusion::Ended(Ending::Full)) => Some(Notice::Fault(Fault::Full)),
+        Ok(Conclusion::Unsound(fault)) => Some(Notice::Fault(Fault::Domain(fault))),
+        Ok(Conclusion::Uncertified(fault)) => Some(Notice::Fault(Fault::Certificate(fault))),
+        Ok(Conclusion::Unaccepted(line)) => Some(Notice::Refusal(line)),
+        Err(PumpFault::Read) => Some(Notice::Fault(Fault::Read)),
+        Err(PumpFault::Write) => Some(Notice::Fault(Fault::Write)),
+        Err(PumpFault::NoMemory) => Some(Notice::Fault(Fault::Memory)),
+    }
+}
+
+/// The exit status of an outcome.
+fn status(outcome: &Result<Conclusion, PumpFault>) -> u8
+    ensures { result ≡ status_for outcome.now }
+{
+    match outcome {
+        Ok(Conclusion::Ended(Ending::Whole)) => 0,
+        Ok(Conclusion::Ended(Ending::Refused)) => 1,
+        Ok(Conclusion::Ended(Ending::BadLine(number))) => Fault::Line(*number).status(),
+        Ok(Conclusion::Ended(Ending::Full)) => Fault::Full.status(),
+        Ok(Conclusion::Unsound(fault)) => Fault::Domain(*fault).status(),
+        Ok(Conclusion::Uncertified(fault)) => Fault::Certificate(*fault).status(),
+        Ok(Conclusion::Unaccepted(_)) => 1,
+        Err(PumpFault::Read) => Fault::Read.status(),
+        Err(PumpFault::Write) => Fault::Write.status(),
+        Err(PumpFault::NoMemory) => Fault::Memory.status(),
+    }
+}
+
+/// Tells an outcome on standard error, where there is anything to tell. A failure to write there is passed over.
+fn tell<F: Outlet>(outcome: Result<Conclusion, PumpFault>, faults: &mut F)
+    ensures { F.tells faults.old →
+        IsTold (told_of outcome) (F.held faults.old) (F.held faults.new) (F.failed faults.old) (F.failed faults.new) }
+{
+    if let Some(notice) = notice(outcome) {
+        let _told = notice.tell(faults);
+    }
+}
+
+/// Does what a plan asks for: answers on the output, tells a fault on `faults`, and gives the exit status.
+///
+/// `texts` are the contents of the files that the plan names, in the order of its words.
+pub fn serve<I: Intake, O: Outlet, F: Outlet>(
+    alloc: Global,
+    plan: Plan<'_>,
+    texts: &[Vec<u8>],
+    intake: &mut I,
+    output: &mut O,
+    faults: &mut F,
+) -> u8
+    requires { length texts.now ≡ length (files_of plan) }
+    // One outcome stands behind what is written, what is told and the status.
+    ensures { (outcome : Result Conclusion PumpFault) × (result ≡ status_for outcome)
+        × (I.tells intake.old → O.tells output.old →
+        IsServed (answer_for plan.entry (map (λ text. text.items) texts.now) (I.left intake.old)) outcome (O.held output.old) (O.held output.new))
+        × (F.tells faults.old →
+        IsTold (told_of outcome) (F.held faults.old) (F.held faults.new) (F.failed faults.old) (F.failed faults.new))
+        × IsOfWrites (is_write_fault outcome) (O.failed output.old) (O.failed output.new)
+        × IsOfReads (is_read_fault outcome) (I.failed intake.old) (I.failed intake.new) (I.turns intake.old) (I.turns intake.new) }
+{
+    let outcome = answer(alloc, plan, texts, intake, output);
+    let status = status(&outcome);
+    tell(outcome, faults);
+    status
+}
