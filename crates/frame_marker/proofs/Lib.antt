@@ -1,0 +1,2 @@
+-- Lemmas on classifiers.
+pub mod ClassifierLaws

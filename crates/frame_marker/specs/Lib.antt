@@ -1,0 +1,5 @@
+-- What a frame is at a port, and how it is marked.
+pub mod Frames
+pub mod Kept
+pub mod Ports
+pub mod Sights
