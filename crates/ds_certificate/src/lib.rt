@@ -7,8 +7,6 @@ pub mod fault;
 pub mod least;
 pub mod reading;
 pub mod source;
-#[cfg(test)]
-mod tests;
 pub mod writing;
 
 pub use bound::Bound;

@@ -8,8 +8,6 @@ pub mod laws;
 pub mod load;
 pub mod refusal;
 pub mod table;
-#[cfg(test)]
-mod tests;
 
 pub use acceptance::check;
 pub use candidate::{Accepted, Candidate};

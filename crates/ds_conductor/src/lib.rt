@@ -6,14 +6,12 @@ pub mod conducting;
 pub mod conductor;
 pub mod fault;
 pub mod laws;
-mod opening;
+pub mod opening;
 pub mod step;
 mod visiting;
 
 pub use conducting::conduct;
 pub use conductor::Conductor;
 pub use fault::{ConductFault, StepFault};
+pub use opening::opened_books;
 pub use step::Step;
-
-#[cfg(test)]
-mod tests;

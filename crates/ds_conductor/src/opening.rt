@@ -13,7 +13,7 @@ use moment_core::Gap;
 use std::alloc::{AllocError, Global};
 
 /// The books of all sites, each at its number, without rows.
-pub(crate) fn opened_books(
+pub fn opened_books(
     alloc: Global,
     accepted: &Accepted,
 ) -> Result<Vec<Option<MeterBook>>, AllocError>

@@ -19,6 +19,3 @@ pub use ds_domain_base::{
     Path, Port, Profile, Section, SoundParameters, Terms, fits,
 };
 pub use parsing::parse;
-
-#[cfg(test)]
-mod tests;

@@ -21,6 +21,3 @@ pub use parts::{Link, Meter, Port};
 pub use path::Path;
 pub use quantity::{Delay, Lifetime};
 pub use terms::{Profile, SoundParameters, Terms};
-
-#[cfg(test)]
-mod tests;

@@ -10,6 +10,3 @@ mod work;
 pub use fault::UsageFault;
 pub use words::plan;
 pub use work::Plan;
-
-#[cfg(test)]
-mod tests;

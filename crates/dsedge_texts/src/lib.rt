@@ -4,8 +4,6 @@
 mod accepting;
 mod certifying;
 mod refusing;
-#[cfg(test)]
-mod tests;
 
 pub use accepting::{TableFault, accept};
 pub use certifying::certify;

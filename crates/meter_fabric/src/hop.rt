@@ -45,7 +45,7 @@ pub(crate) fn hops_of(
 }
 
 /// The hop at the edge of a contract; None where it is trusted.
-fn edge_hop(domain: &Domain, flow: u32, terms: &Terms) -> Option<Hop>
+pub fn edge_hop(domain: &Domain, flow: u32, terms: &Terms) -> Option<Hop>
     requires { flow < 4294966272 }
     ensures { option_to_list result ≡ edge_hops domain.now flow terms.now }
 {
@@ -59,7 +59,7 @@ fn edge_hop(domain: &Domain, flow: u32, terms: &Terms) -> Option<Hop>
 }
 
 /// The number of the site of a meter; 0 where there is no meter of that name.
-fn site_of(domain: &Domain, name: Name) -> u32
+pub fn site_of(domain: &Domain, name: Name) -> u32
     ensures { result ≡ site_of domain.now name }
 {
     let place = domain.meters().get_index_of(&name);

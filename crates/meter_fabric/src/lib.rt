@@ -7,9 +7,6 @@ pub mod trail;
 pub mod traveller;
 
 pub use fault::{BeginFault, VisitFault};
-pub use hop::{Hop, MOST_FLOWS};
+pub use hop::{Hop, MOST_FLOWS, edge_hop, site_of};
 pub use trail::{Receipt, Trail};
-pub use traveller::Traveller;
-
-#[cfg(test)]
-mod tests;
+pub use traveller::{Traveller, contract_of};

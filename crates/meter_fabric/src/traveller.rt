@@ -208,7 +208,7 @@ impl Traveller {
 }
 
 /// The contract of a number, if there is one.
-fn contract_of(accepted: &Accepted, flow: u32) -> Option<&Contract>
+pub fn contract_of(accepted: &Accepted, flow: u32) -> Option<&Contract>
     ensures { option_copied result ≡ contract_of accepted.now flow }
 {
     if flow < MOST_FLOWS {

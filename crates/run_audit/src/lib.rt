@@ -20,6 +20,3 @@ pub use auditing::audit;
 pub use fault::AssembleFault;
 pub use run::Run;
 pub use verdict::Verdict;
-
-#[cfg(test)]
-mod tests;

@@ -1,0 +1,9 @@
+-- What a capture becomes whose frames are marked.
+pub mod Faults
+pub mod Markings
+pub mod Readings
+pub mod Reports
+pub mod Sendings
+pub mod Tallies
+pub mod Texts
+pub mod Writings

@@ -1,0 +1,23 @@
+//! Worked rows of the libraries below: what lines of words, texts of domains and certificates, and captures
+//! give in their public calls.
+//! They stand here, and not beside those calls, since a crate with tests is proved twice.
+#![tactic(auto)]
+
+#[cfg(test)]
+mod certificate_rows;
+#[cfg(test)]
+mod checker_rows;
+#[cfg(test)]
+mod domain_rows;
+#[cfg(test)]
+mod mark_rows;
+#[cfg(test)]
+mod plan_rows;
+#[cfg(test)]
+mod run_rows;
+#[cfg(test)]
+mod step_rows;
+#[cfg(test)]
+mod tables;
+#[cfg(test)]
+mod traveller_rows;

@@ -1,0 +1,352 @@
+use dsedge_base::{Plan, UsageFault, plan};
+use dsedge_files::FileName;
+use meter_book::{AnyMeter, Parameters};
+use moment_core::{Mode, Moment, Rate};
+use rfc4115_core::Rfc4115Parameters;
+use srtcm_core::SrTcmParameters;
+use std::alloc::Global;
+use std::process::Abort;
+use std::test::Fail;
+use trtcm_core::TrTcmParameters;
+
+/// A plan as it is shown to people.
+fn shown(alloc: Global, plan: &Plan<'_>) -> Result<String, Fail> {
+    Ok(format!(in alloc; "{plan:?}")?)
+}
+
+/// The plan for a line of words that stand one space apart, as it is shown to people.
+fn plan_for(alloc: Global, line: &str) -> Result<Result<String, UsageFault>, Fail> {
+    let words = line.split(' ').collect::<Vec<&str>>(alloc)?;
+    match plan(alloc, words.as_slice()) {
+        Ok(plan) => Ok(Ok(shown(alloc, &plan)?)),
+        Err(fault) => Ok(Err(fault)),
+    }
+}
+
+/// Expects of a line of words how its plan is shown.
+fn expect_shown(rt: &impl Abort, alloc: Global, line: &str, wanted: &str) -> Result<(), Fail> {
+    let made = plan_for(alloc, line)??;
+    assert_eq!(rt; made.as_str(), wanted, "{line}");
+    Ok(())
+}
+
+/// Expects of a line of words that there is no plan.
+fn expect_usage(rt: &impl Abort, alloc: Global, line: &str) -> Result<(), Fail> {
+    let fault = plan_for(alloc, line)?.err();
+    assert_eq!(rt; fault, Some(UsageFault::Usage), "{line}");
+    Ok(())
+}
+
+/// Expects of a line of words the plan of a meter.
+fn expect_meter(
+    rt: &impl Abort,
+    alloc: Global,
+    line: &str,
+    (parameters, mode, origin): (Parameters, Mode, u64),
+) -> Result<(), Fail> {
+    let meter = AnyMeter::new(parameters, mode, Moment::new(origin)?)?;
+    let wanted = format!(in alloc; "Meter({meter:?})")?;
+    expect_shown(rt, alloc, line, wanted.as_str())
+}
+
+/// The parameters of a meter of two rates.
+fn two_rates((cir, cbs, pir, pbs): (u64, u32, u64, u32)) -> Result<Parameters, Fail> {
+    Ok(Parameters::TrTcm(TrTcmParameters {
+        committed_rate: Rate::new(cir)?,
+        committed_burst: cbs,
+        peak_rate: Rate::new(pir)?,
+        peak_burst: pbs,
+    }))
+}
+
+#[test]
+fn meters_of_two_rates(rt: HostRuntime) -> Result<(), Fail> {
+    for (line, mode, figures, origin) in [
+        (
+            "meter --kind trtcm --mode blind --cir 8000 --cbs 1500 --pir 16000 --pbs 3000",
+            Mode::Blind,
+            (8_000, 1_500, 16_000, 3_000),
+            0,
+        ),
+        (
+            "meter --origin 7 --pbs 4 --pir 3 --cbs 2 --cir 1 --mode aware --kind trtcm",
+            Mode::Aware,
+            (1, 2, 3, 4),
+            7,
+        ),
+        (
+            "meter --kind=trtcm --mode=blind --cir=8000 --cbs=1500 --pir=8000 --pbs=1",
+            Mode::Blind,
+            (8_000, 1_500, 8_000, 1),
+            0,
+        ),
+        (
+            "meter --kind trtcm --mode aware --cir 00000000000000000001 --cbs 01 --pir 10000000000000 --pbs 4294967295 --origin 9223372036854775807",
+            Mode::Aware,
+            (1, 1, 10_000_000_000_000, 4_294_967_295),
+            9_223_372_036_854_775_807,
+        ),
+    ] {
+        let parameters = two_rates(figures)?;
+        expect_meter(&rt, rt.alloc(), line, (parameters, mode, origin))?;
+    }
+    Ok(())
+}
+
+#[test]
+fn a_meter_of_a_single_rate(rt: HostRuntime) -> Result<(), Fail> {
+    let parameters = Parameters::SrTcm(SrTcmParameters {
+        committed_rate: Rate::new(8_000)?,
+        committed_burst: 1_000,
+        excess_burst: 500,
+    });
+    let line = "meter --kind srtcm --mode aware --cir 8000 --cbs 1000 --ebs 500";
+    expect_meter(&rt, rt.alloc(), line, (parameters, Mode::Aware, 0))
+}
+
+#[test]
+fn a_meter_of_separate_rates(rt: HostRuntime) -> Result<(), Fail> {
+    let parameters = Parameters::Rfc4115(Rfc4115Parameters {
+        committed_rate: Rate::new(8_000)?,
+        committed_burst: 0,
+        excess_rate: Rate::new(9_000)?,
+        excess_burst: 500,
+    });
+    let line =
+        "meter --ebs=500 --origin=7 --eir=9000 --cbs=0 --cir=8000 --mode=blind --kind=rfc4115";
+    expect_meter(&rt, rt.alloc(), line, (parameters, Mode::Blind, 7))
+}
+
+/// Expects of a line of words a plan.
+fn expect_plan(rt: &impl Abort, alloc: Global, line: &str, plan: &Plan<'_>) -> Result<(), Fail> {
+    let wanted = shown(alloc, plan)?;
+    expect_shown(rt, alloc, line, wanted.as_str())
+}
+
+#[test]
+fn envelopes(rt: HostRuntime) -> Result<(), Fail> {
+    for (line, rate, burst) in [
+        ("envelope --rate 800000000 --burst 21", 800_000_000, 21),
+        ("envelope --burst=0 --rate=01", 1, 0),
+        (
+            "envelope --rate 10000000000000 --burst 1000000000000000",
+            10_000_000_000_000,
+            1_000_000_000_000_000,
+        ),
+    ] {
+        let rate = Rate::new(rate)?;
+        expect_plan(&rt, rt.alloc(), line, &Plan::Envelope { rate, burst })?;
+    }
+    Ok(())
+}
+
+#[test]
+fn certificates(rt: HostRuntime) -> Result<(), Fail> {
+    for (line, name) in [
+        ("certify domain.toml", "domain.toml"),
+        ("certify -- --kind", "--kind"),
+    ] {
+        let domain = FileName::new(name);
+        expect_plan(&rt, rt.alloc(), line, &Plan::Certify { domain })?;
+    }
+    Ok(())
+}
+
+/// The plan of a check of two files.
+fn check_of_two() -> Plan<'static> {
+    Plan::Check {
+        domain: FileName::new("domain.toml"),
+        certificate: FileName::new("domain.cert"),
+    }
+}
+
+/// The plan of an audit over the same files.
+fn audit_of_two() -> Plan<'static> {
+    Plan::Audit {
+        domain: FileName::new("domain.toml"),
+        certificate: FileName::new("domain.cert"),
+    }
+}
+
+#[test]
+fn checks_and_audits_name_two_files(rt: HostRuntime) -> Result<(), Fail> {
+    let alloc = rt.alloc();
+    let check = "check domain.toml domain.cert";
+    expect_plan(&rt, alloc, check, &check_of_two())?;
+    let audit = "audit domain.toml domain.cert";
+    expect_plan(&rt, alloc, audit, &audit_of_two())
+}
+
+#[test]
+fn no_words_are_no_command(rt: HostRuntime) {
+    let fault = plan::<&str>(rt.alloc(), &[]).err();
+    assert_eq!(rt; fault, Some(UsageFault::Usage));
+}
+
+#[test]
+fn words_that_are_no_command(rt: HostRuntime) -> Result<(), Fail> {
+    for line in [
+        "",
+        " meter",
+        "metre",
+        "Meter",
+        "-",
+        "--",
+        "--version",
+        "--kind trtcm",
+        "help metre",
+        "meter --version",
+        "envelope",
+        "envelope --rate 1",
+        "envelope --burst 1",
+        "envelope --rate 1 --burst 1 --burst 1",
+        "envelope --rate 1 --burst 1 --origin 0",
+        "envelope --rate 1 --burst 1 more",
+        "envelope --rate 10000000000001 --burst 1",
+        "envelope --rate 1 --burst 1000000000000001",
+        "envelope --rate 1 --burst +1",
+        "envelope --rate 1 --burst -1",
+        "certify",
+        "certify one.toml two.toml",
+        "certify --domain one.toml",
+        "check domain.toml",
+        "check domain.toml domain.cert more",
+        "mark domain.toml domain.cert --port p --workers 1 --red keep",
+        "drive domain.toml",
+        "audit domain.toml",
+        "audit domain.toml domain.cert more",
+    ] {
+        expect_usage(&rt, rt.alloc(), line)?;
+    }
+    Ok(())
+}
+
+#[test]
+fn options_that_are_not_those_of_a_meter(rt: HostRuntime) -> Result<(), Fail> {
+    for options in [
+        "",
+        "--kind",
+        "--kind trtcm --mode blind --cir 8000 --cbs 1500 --pir 16000",
+        "--kind trtcm --mode blind --cir 8000 --cbs 1500 --pbs 3000",
+        "--kind trtcm --mode blind --cir 8000 --pir 16000 --pbs 3000",
+        "--kind trtcm --mode blind --cbs 1500 --pir 16000 --pbs 3000",
+        "--kind trtcm --cir 8000 --cbs 1500 --pir 16000 --pbs 3000",
+        "--mode blind --cir 8000 --cbs 1500 --pir 16000 --pbs 3000",
+        "--kind srtcm --mode blind --cir 8000 --cbs 1500",
+        "--kind srtcm --mode blind --cir 8000 --cbs 0 --ebs 0",
+        "--kind srtcm --mode blind --cir 8000 --cbs 1500 --ebs 1500 --pir 16000",
+        "--kind srtcm --mode blind --cir 8000 --cbs 1500 --ebs 1500 --pbs 1500",
+        "--kind srtcm --mode blind --cir 8000 --cbs 1500 --ebs 1500 --eir 16000",
+        "--kind trtcm --mode blind --cir 8000 --cbs 1500 --pir 16000 --pbs 3000 --eir 8000",
+        "--kind rfc4115 --mode blind --cir 8000 --cbs 1500 --ebs 1500",
+        "--kind rfc4115 --mode blind --cir 8000 --cbs 1500 --eir 8000",
+        "--kind rfc4115 --mode blind --cir 8000 --cbs 0 --eir 8000 --ebs 0",
+        "--kind rfc4115 --mode blind --cir 8000 --cbs 1500 --eir 8000 --ebs 1500 --pir 16000",
+        "--kind rfc4115 --mode blind --cir 8000 --cbs 1500 --eir 8000 --ebs 1500 --pbs 1500",
+        "--kind TRTCM --mode blind --cir 8000 --cbs 1500 --pir 16000 --pbs 3000",
+        "--kind trtcm --mode Aware --cir 8000 --cbs 1500 --pir 16000 --pbs 3000",
+        "--kind trtcm --mode blind --cir 8000 --cbs 1500 --pir 16000 --pbs 3000 --ebs 1",
+        "--kind trtcm --mode blind --cir 8000 --cbs 1500 --pir 16000 --pbs 3000 more",
+        "--kind trtcm --mode blind --cir 8000 --cbs 1500 --pir 16000 --pbs 3000 ",
+        "--kind trtcm --mode blind --cir 8000 --cbs 1500 --pir 16000 --pbs 3000 -- more",
+        "--kind trtcm --mode blind --cir 8000 --cbs 1500 --pir 16000 --pbs 3000 --cir 8000",
+        "--kind trtcm --mode blind --cir 8000 --cbs 1500 --pir 16000 --pbs 3000 --origin",
+        "--kind trtcm --mode blind --cir 8000 --cbs 1500 --pi 16000 --pbs 3000",
+        "--kind trtcm --mode blind -cir 8000 --cbs 1500 --pir 16000 --pbs 3000",
+    ] {
+        let line = format!(in rt.alloc(); "meter {options}")?;
+        expect_usage(&rt, rt.alloc(), line.as_str())?;
+    }
+    Ok(())
+}
+
+#[test]
+fn numbers_and_parameters_that_are_refused(rt: HostRuntime) -> Result<(), Fail> {
+    for (cir, cbs, pir, pbs, origin) in [
+        ("0", "1", "9", "1", "0"),
+        ("10000000000001", "1", "10000000000001", "1", "0"),
+        ("1", "4294967296", "9", "1", "0"),
+        ("1", "1", "9", "18446744073709551616", "0"),
+        ("1", "1", "9", "1", "9223372036854775808"),
+        ("000000000000000000001", "1", "9", "1", "0"),
+        ("+1", "1", "9", "1", "0"),
+        ("-1", "1", "9", "1", "0"),
+        ("1_0", "1", "99", "1", "0"),
+        ("0x1", "1", "9", "1", "0"),
+        ("1.0", "1", "9", "1", "0"),
+        ("١", "1", "9", "1", "0"),
+        ("", "1", "9", "1", "0"),
+        ("1", "0", "9", "1", "0"),
+        ("1", "1", "9", "0", "0"),
+        ("8000", "1", "7000", "1", "0"),
+    ] {
+        let line = format!(in rt.alloc();
+            "meter --kind trtcm --mode blind --cir={cir} --cbs={cbs} --pir={pir} --pbs={pbs} --origin={origin}"
+        )?;
+        expect_usage(&rt, rt.alloc(), line.as_str())?;
+    }
+    Ok(())
+}
+
+/// The text of the help that a line of words asks for.
+fn help_for(alloc: Global, line: &str) -> Result<String, Fail> {
+    let words = line.split(' ').collect::<Vec<&str>>(alloc)?;
+    match plan(alloc, words.as_slice())? {
+        Plan::Help(text) => Ok(text),
+        _ => Err(Fail::from("no help")),
+    }
+}
+
+/// Expects that a text has parts.
+fn expect_parts(rt: &impl Abort, text: &str, parts: &[&str]) {
+    for part in parts {
+        assert!(rt; text.contains(*part), "{part}");
+    }
+}
+
+/// Expects of lines of words that their help has parts.
+fn expect_help(rt: &impl Abort, alloc: Global, lines: &[&str], parts: &[&str]) -> Result<(), Fail> {
+    for line in lines {
+        let help = help_for(alloc, line)?;
+        expect_parts(rt, help.as_str(), parts);
+    }
+    Ok(())
+}
+
+#[test]
+fn help_for_the_program_and_its_commands(rt: HostRuntime) -> Result<(), Fail> {
+    let alloc = rt.alloc();
+    let lines = ["--help", "-h", "help", "--help meter"];
+    expect_help(&rt, alloc, &lines, &["Usage: dsedge <COMMAND>", "meter"])?;
+    let parts = [
+        "Usage: dsedge envelope ",
+        "--rate <RATE>",
+        "--burst <BYTES>",
+    ];
+    expect_help(&rt, alloc, &["envelope --help", "help envelope"], &parts)?;
+    let lines = [
+        "meter --help",
+        "meter -h",
+        "help meter",
+        "meter --kind trtcm --help --cir",
+    ];
+    let parts = [
+        "Usage: dsedge meter ",
+        "--kind <KIND>",
+        "--mode <MODE>",
+        "--cir <RATE>",
+        "--cbs <BYTES>",
+        "--pir <RATE>",
+        "--pbs <BYTES>",
+        "--eir <RATE>",
+        "--ebs <BYTES>",
+        "--origin <MOMENT>",
+    ];
+    expect_help(&rt, alloc, &lines, &parts)
+}
+
+#[test]
+fn faults_by_their_numbers(rt: HostRuntime) {
+    assert_eq!(rt; UsageFault::Usage.code(), 1);
+    assert_eq!(rt; UsageFault::NoMemory.code(), 2);
+}
