@@ -14,6 +14,3 @@ pub use fault::MarkFault;
 pub use marking::mark;
 pub use report::Report;
 pub use rule::RedRule;
-
-#[cfg(test)]
-mod tests;
