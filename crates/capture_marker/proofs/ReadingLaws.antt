@@ -3,9 +3,9 @@ use Rattle.std.proofs.Common.{◌≡◌, ℕ, zero, suc, ◌+◌, ◌-◌, ◌<�
 use Rattle.std.proofs.Math.ListN.{drop_of_length-le}
 use Rattle.pcap_capture.specs.Counts.{count_after, next_count}
 use Rattle.pcap_capture.specs.Frames.{FrameValue}
-use Rattle.pcap_capture.specs.Grammar.{CaptureState, IsSoFar, Next, Partial, TooLong, Whole, Reading, Stops, after_heading, after_magic, capture, continued_from, fault_after, fault_in, from_next, has_version, heading_of, link_number, link_of, linked, magic_of, next_of, prepend, read_on, reading, records, records_within, versioned}
+use Rattle.pcap_capture.specs.Grammar.{CaptureState, IsSoFar, Next, Partial, TooLong, Whole, Reading, Stops, after_heading, after_magic, capture, continued_from, ending, fault_after, fault_in, from_next, has_version, heading_of, link_number, link_of, linked, magic_of, next_of, prepend, read_on, reading, records, records_within, versioned}
 use Rattle.pcap_capture.specs.declared.fault.PcapFault.{PcapFault}
-use Rattle.pcap_capture.specs.declared.fault.PcapFault.TheVariants.{NotPcap, IsPcapng, BadVersion, LinkType, RecordTooLong, ReadFault, NoMemory, Failed}
+use Rattle.pcap_capture.specs.declared.fault.PcapFault.TheVariants.{NotPcap, IsPcapng, BadVersion, LinkType, RecordTooLong, ReadFault, NoMemory, Failed, Truncated}
 use Rattle.pcap_capture.specs.declared.heading.Endianness.{Endianness}
 use Rattle.pcap_capture.specs.declared.heading.Heading.{Heading}
 use Rattle.pcap_capture.specs.declared.heading.Link.{Link}
@@ -83,6 +83,28 @@ capture_own : (bytes : List ℕ) (fault : PcapFault) → (capture bytes).fault �
 unfolding capture
 capture_own bytes fault h = behind_own bytes (heading_of bytes) fault refl h
 
+cut_own : (none : Bool) (fault : PcapFault) → cond none None (Some Truncated) ≡ Some fault → is_own fault ≡ true
+cut_own true fault h = cc
+cut_own false fault h = own_is Truncated fault refl h
+
+ending_own_at : (stage : Stage) (rest : List ℕ) (fault : PcapFault) → ending (record { stage = stage; rest = rest }) ≡ Some fault → is_own fault ≡ true
+ending_own_at Opening rest fault h = own_is Truncated fault refl h
+ending_own_at (Records heading) rest fault h = cut_own _ fault h
+ending_own_at Broken rest fault h = own_is Failed fault refl h
+
+ending_own : (state : CaptureState) (fault : PcapFault) → ending state ≡ Some fault → is_own fault ≡ true
+ending_own state fault h = ending_own_at state.stage state.rest fault h
+
+after_own : (found : Option PcapFault) (state : CaptureState) (fault : PcapFault) → (found ≡ Some fault → is_own fault ≡ true) → (ending state ≡ Some fault → is_own fault ≡ true)
+    → fault_after found state ≡ Some fault → is_own fault ≡ true
+after_own None state fault own last h = last h
+after_own (Some found) state fault own last h = own h
+
+-- a fault that stands in a capture is none of a device
+pub fault_in_own : (bytes : List ℕ) (fault : PcapFault) → fault_in bytes ≡ Some fault → is_own fault ≡ true
+fault_in_own bytes fault h =
+    after_own (capture bytes).fault (capture bytes).state fault (λ e. capture_own bytes fault e) (λ e. ending_own (capture bytes).state fault e) h
+
 read_on_own : (stage : Stage) (bytes : List ℕ) (fault : PcapFault) → (read_on stage bytes).fault ≡ Some fault → is_own fault ≡ true
 read_on_own Opening bytes fault h = capture_own bytes fault h
 read_on_own (Records heading) bytes fault h = records_own heading bytes fault h
@@ -153,7 +175,7 @@ unfolding capture
 heading_alone read heading e h = ap (λ found. (after_heading read found).fault) e ∙ records_none heading (drop 24 read) (drop_of_length-le read h)
 
 -- a fault stands, whatever comes behind it
-fault_stands : (read more : List ℕ) (fault : PcapFault) → (capture read).fault ≡ Some fault → capture (read ++ more) ≡ capture read
+pub fault_stands : (read more : List ℕ) (fault : PcapFault) → (capture read).fault ≡ Some fault → capture (read ++ more) ≡ capture read
 fault_stands read more fault h = capture-cut read more ∙ ap (λ v. continued_from v (capture read) more) h
 
 -- a piece that stopped the reading of a capture

@@ -1,6 +1,7 @@
 -- The marked capture, as a function of the bytes of a capture.
-use Rattle.std.specs.Prelude.{◌≡◌, ◌⊎◌, ℕ, List, [], ◌∷◌, ◌++◌, zip, Bool, true, false, Option, None, Some, Result, Ok, Err}
+use Rattle.std.specs.Prelude.{◌≡◌, ◌⊎◌, ◌^◌, ℕ, List, [], ◌∷◌, ◌++◌, zip, Bool, true, false, Option, None, Some, Result, Ok, Err}
 use Rattle.moment_core.specs.declared.colour.Colour.{Colour}
+use Rattle.pcap_capture.specs.Counts.{count_after, next_count}
 use Rattle.pcap_capture.specs.Frames.{FrameValue}
 use Rattle.pcap_capture.specs.Grammar.{capture, fault_in, heading_of}
 use Rattle.pcap_capture.specs.declared.fault.PcapFault.{PcapFault}
@@ -81,12 +82,18 @@ IsPassed m before after (Err (report, marks.UnknownPort)) = ⊥
 IsPassed m before after (Err (report, marks.JournalFull)) = (after ≡ before) × (report ≡ m.report) × (m.is_full ≡ true)
 IsPassed m before after (Err (report, marks.NoMemory)) = IsFrontOf before m.text after
 
--- the same of some front of the bytes of a capture
-pub record IsPassedOf (marked : List ℕ → Marking) (bytes before after : List ℕ) (answer : Result Report (Report × MarkFault)) : Type 0 where
+-- the same of the bytes that a device gave, which still has these
+pub record IsPassedOf (marked : List ℕ → Marking) (bytes more before after : List ℕ) (answer : Result Report (Report × MarkFault)) : Type 0 where
   pub read : List ℕ
-  pub more : List ℕ
   pub front : bytes ≡ read ++ more
   pub passed : IsPassed (marked read) before after answer
+
+-- The marking of the bytes that a device gave before it failed was written whole, and no fault stands in them.
+pub record IsWholeSoFar (marked : List ℕ → Marking) (bytes more before after : List ℕ) (report : Report) : Type 0 where
+  pub read : List ℕ
+  pub front : bytes ≡ read ++ more
+  pub sound : (capture read).fault ≡ None
+  pub whole : IsWhole (marked read) report before after
 
 -- The marking of the bytes of a capture was written whole, and this fault stands in them, or none.
 pub record IsWholeWith (marked : List ℕ → Marking) (bytes before after : List ℕ) (report : Report) (fault : Option PcapFault) : Type 0 where
@@ -94,36 +101,36 @@ pub record IsWholeWith (marked : List ℕ → Marking) (bytes before after : Lis
   pub stands : fault_in bytes ≡ fault
 
 -- what was written, by the fault of the capture that came
-abbrev pub IsMarkedBut : (List ℕ → Marking) → List ℕ → List ℕ → List ℕ → Report → PcapFault → Type 0
-IsMarkedBut marked bytes before after report pcaps.NotPcap = IsWholeWith marked bytes before after report (Some pcaps.NotPcap)
-IsMarkedBut marked bytes before after report pcaps.IsPcapng = IsWholeWith marked bytes before after report (Some pcaps.IsPcapng)
-IsMarkedBut marked bytes before after report pcaps.BadVersion = IsWholeWith marked bytes before after report (Some pcaps.BadVersion)
-IsMarkedBut marked bytes before after report (pcaps.LinkType number) = IsWholeWith marked bytes before after report (Some (pcaps.LinkType number))
-IsMarkedBut marked bytes before after report (pcaps.RecordTooLong count) = IsWholeWith marked bytes before after report (Some (pcaps.RecordTooLong count))
-IsMarkedBut marked bytes before after report pcaps.Truncated = IsWholeWith marked bytes before after report (Some pcaps.Truncated)
-IsMarkedBut marked bytes before after report pcaps.ReadFault = IsPassedOf marked bytes before after (Ok report)
-IsMarkedBut marked bytes before after report pcaps.WriteFault = IsPassedOf marked bytes before after (Err (report, marks.Capture pcaps.WriteFault))
-IsMarkedBut marked bytes before after report pcaps.NoMemory = ⊥
-IsMarkedBut marked bytes before after report pcaps.Failed = IsWholeWith marked bytes before after report (Some pcaps.Failed)
+abbrev pub IsMarkedBut : (List ℕ → Marking) → List ℕ → List ℕ → List ℕ → List ℕ → Report → PcapFault → Type 0
+IsMarkedBut marked bytes more before after report pcaps.NotPcap = IsWholeWith marked bytes before after report (Some pcaps.NotPcap)
+IsMarkedBut marked bytes more before after report pcaps.IsPcapng = IsWholeWith marked bytes before after report (Some pcaps.IsPcapng)
+IsMarkedBut marked bytes more before after report pcaps.BadVersion = IsWholeWith marked bytes before after report (Some pcaps.BadVersion)
+IsMarkedBut marked bytes more before after report (pcaps.LinkType number) = IsWholeWith marked bytes before after report (Some (pcaps.LinkType number))
+IsMarkedBut marked bytes more before after report (pcaps.RecordTooLong count) = IsWholeWith marked bytes before after report (Some (pcaps.RecordTooLong count))
+IsMarkedBut marked bytes more before after report pcaps.Truncated = IsWholeWith marked bytes before after report (Some pcaps.Truncated)
+IsMarkedBut marked bytes more before after report pcaps.ReadFault = IsWholeSoFar marked bytes more before after report
+IsMarkedBut marked bytes more before after report pcaps.WriteFault = IsPassedOf marked bytes more before after (Err (report, marks.Capture pcaps.WriteFault))
+IsMarkedBut marked bytes more before after report pcaps.NoMemory = ⊥
+IsMarkedBut marked bytes more before after report pcaps.Failed = IsWholeWith marked bytes before after report (Some pcaps.Failed)
 
--- What was written behind what stood, and what is answered, for the bytes that a device still gave: all of the marked capture, up to its end or
--- to the first fault that stands in it; or all of what was read before the device failed; or a front; or nothing.
-abbrev pub IsMarkedAs : (List ℕ → Marking) → List ℕ → List ℕ → List ℕ → Result Report (Report × MarkFault) → Type 0
-IsMarkedAs marked bytes before after (Ok report) = IsWholeWith marked bytes before after report None
-IsMarkedAs marked bytes before after (Err (report, marks.Capture fault)) = IsMarkedBut marked bytes before after report fault
-IsMarkedAs marked bytes before after (Err (report, marks.UnknownPort)) = ⊥
-IsMarkedAs marked bytes before after (Err (report, marks.JournalFull)) = IsPassedOf marked bytes before after (Err (report, marks.JournalFull))
-IsMarkedAs marked bytes before after (Err (report, marks.NoMemory)) = IsPassedOf marked bytes before after (Err (report, marks.NoMemory))
+-- What was written behind what stood, and what is answered, for the bytes that a device had and those that it still has: all of the marked
+-- capture, up to its end or to the first fault that stands in it; or all of what the device gave before it failed; or a front; or nothing.
+abbrev pub IsMarkedAs : (List ℕ → Marking) → List ℕ → List ℕ → List ℕ → List ℕ → Result Report (Report × MarkFault) → Type 0
+IsMarkedAs marked bytes more before after (Ok report) = IsWholeWith marked bytes before after report None
+IsMarkedAs marked bytes more before after (Err (report, marks.Capture fault)) = IsMarkedBut marked bytes more before after report fault
+IsMarkedAs marked bytes more before after (Err (report, marks.UnknownPort)) = ⊥
+IsMarkedAs marked bytes more before after (Err (report, marks.JournalFull)) = IsPassedOf marked bytes more before after (Err (report, marks.JournalFull))
+IsMarkedAs marked bytes more before after (Err (report, marks.NoMemory)) = IsPassedOf marked bytes more before after (Err (report, marks.NoMemory))
 
 -- nothing was written, since there is no such port
 abbrev pub IsWithoutPort : List ℕ → List ℕ → Result Report (Report × MarkFault) → Type 0
 IsWithoutPort before after answer = (after ≡ before) × (answer ≡ Err (nothing_read, marks.UnknownPort))
 
 -- What `mark` wrote, and what it answers: an unknown port is told before anything is read, and else the capture is marked at the port.
-abbrev pub IsMarked : Table → List ℕ → RedRule → List ℕ → List ℕ → List ℕ → Result Report (Report × MarkFault) → Type 0
-IsMarked t port red bytes before after answer =
+abbrev pub IsMarked : Table → List ℕ → RedRule → List ℕ → List ℕ → List ℕ → List ℕ → Result Report (Report × MarkFault) → Type 0
+IsMarked t port red bytes more before after answer =
     ((is_port t.domain port ≡ false) × IsWithoutPort before after answer)
-    ⊎ ((is_port t.domain port ≡ true) × IsMarkedAs (marking_in t port red) bytes before after answer)
+    ⊎ ((is_port t.domain port ≡ true) × IsMarkedAs (marking_in t port red) bytes more before after answer)
 
 -- whether the marked capture could not be written
 abbrev pub is_unwritten : Result Report (Report × MarkFault) → Bool
@@ -152,6 +159,29 @@ is_unread (Err (report, marks.Capture fault)) = is_read fault
 is_unread (Err (report, marks.UnknownPort)) = false
 is_unread (Err (report, marks.JournalFull)) = false
 is_unread (Err (report, marks.NoMemory)) = false
+
+-- whether the capture was read to its end, or to a fault that stands in it, and then marked whole
+abbrev pub is_read_whole : Result Report (Report × MarkFault) → Bool
+is_read_whole (Ok report) = true
+is_read_whole (Err (report, marks.Capture pcaps.NotPcap)) = true
+is_read_whole (Err (report, marks.Capture pcaps.IsPcapng)) = true
+is_read_whole (Err (report, marks.Capture pcaps.BadVersion)) = true
+is_read_whole (Err (report, marks.Capture (pcaps.LinkType number))) = true
+is_read_whole (Err (report, marks.Capture (pcaps.RecordTooLong count))) = true
+is_read_whole (Err (report, marks.Capture pcaps.Truncated)) = true
+is_read_whole (Err (report, marks.Capture pcaps.ReadFault)) = false
+is_read_whole (Err (report, marks.Capture pcaps.WriteFault)) = false
+is_read_whole (Err (report, marks.Capture pcaps.NoMemory)) = false
+is_read_whole (Err (report, marks.Capture pcaps.Failed)) = true
+is_read_whole (Err (report, marks.UnknownPort)) = true
+is_read_whole (Err (report, marks.JournalFull)) = false
+is_read_whole (Err (report, marks.NoMemory)) = false
+
+-- A read fault is answered only where the device failed once, or was asked 2^32 times; a capture that was read whole comes from a device that did
+-- not fail.
+pub record IsOfReads (answer : Result Report (Report × MarkFault)) (failed now asked_before asked : ℕ) : Type 0 where
+  pub failed_or_spent : is_unread answer ≡ true → (now ≡ next_count failed) ⊎ ((now ≡ failed) × (asked ≡ count_after (2 ^ 32) asked_before))
+  pub unfailed : is_read_whole answer ≡ true → now ≡ failed
 
 -- the answer to frames that were marked, by what ended the reading of their capture
 abbrev pub answer_of : Report → Option PcapFault → Result Report (Report × MarkFault)

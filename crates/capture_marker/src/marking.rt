@@ -1,6 +1,7 @@
-ghost use Rattle.std.specs.Prelude.{◌≡◌, ◌⊎◌, ◌^◌, ℕ, true, false, List, Some, IfOk, if◌then◌else◌};
-ghost use Rattle.pcap_capture.specs.Counts.{count_after, next_count};
-ghost use Rattle.capture_marker.specs.Markings.{IsMarked, IsMarkedAs, IsPassed, answer_of, is_starved, is_unread, is_unwritten, marking_in, marking_of, marking_told, see};
+ghost use Rattle.std.specs.Prelude.{◌≡◌, ℕ, true, false, List, Err, Some, IfErr, IfOk, if◌then◌else◌};
+ghost use Rattle.pcap_capture.specs.Counts.{next_count};
+ghost use Rattle.ds_domain_base.specs.Domains.{is_port};
+ghost use Rattle.capture_marker.specs.Markings.{IsMarked, IsMarkedAs, IsOfReads, IsPassed, answer_of, is_read_whole, is_starved, is_unread, is_unwritten, marking_in, marking_of, marking_told, see};
 ghost use Rattle.capture_marker.specs.Readings.{IsReading};
 ghost use Rattle.capture_marker.specs.Sendings.{IsSending};
 
@@ -41,11 +42,11 @@ pub fn mark<I: Intake, O: Outlet, G: Gate>(
 ) -> Result<Report, (Report, MarkFault)>
     requires one { workers ≡ 1 }
     ensures marked { I.tells intake.old → O.tells outlet.old →
-        IsMarked accepted.now port.now red (I.left intake.old) (O.held outlet.old) (O.held outlet.new) result }
+        IsMarked accepted.now port.now red (I.left intake.old) (I.left intake.new) (O.held outlet.old) (O.held outlet.new) result }
+    ensures untouched { is_port accepted.now.domain port.now ≡ false → (intake.new ≡ intake.old) × (outlet.new ≡ outlet.old) }
     ensures writes { O.failed outlet.new
         ≡ (if is_unwritten result then next_count (O.failed outlet.old) else O.failed outlet.old) }
-    ensures reads { is_unread result ≡ true → (I.failed intake.new ≡ next_count (I.failed intake.old))
-        ⊎ ((I.failed intake.new ≡ I.failed intake.old) × (I.turns intake.new ≡ count_after (2 ^ 32) (I.turns intake.old))) }
+    ensures reads { IsOfReads result (I.failed intake.old) (I.failed intake.new) (I.turns intake.old) (I.turns intake.new) }
 {
     let Some(port) = accepted.domain().port_named(port) else {
         return Err((Report::nothing(), MarkFault::UnknownPort));
@@ -66,10 +67,11 @@ fn mark_reading<O: Outlet, G: Gate>(
 ) -> Result<Report, (Report, MarkFault)>
     requires { ¬ (reading.fault ≡ Some PcapFault.WriteFault) }
     ensures marked { O.tells outlet.old → (bytes more : List ℕ) → IsReading bytes more reading.heading reading.frames.items reading.fault →
-        IsMarkedAs (marking_in accepted.now port red) bytes (O.held outlet.old) (O.held outlet.new) result }
+        IsMarkedAs (marking_in accepted.now port red) bytes more (O.held outlet.old) (O.held outlet.new) result }
     ensures writes { O.failed outlet.new
         ≡ (if is_unwritten result then next_count (O.failed outlet.old) else O.failed outlet.old) }
     ensures unread { is_unread result ≡ true → reading.fault ≡ Some PcapFault.ReadFault }
+    ensures read { is_read_whole result ≡ true → ¬ (reading.fault ≡ Some PcapFault.ReadFault) }
 {
     let Reading {
         heading,
@@ -118,6 +120,7 @@ fn mark_behind<O: Outlet, G: Gate>(
     ensures writes { O.failed outlet.new
         ≡ (if is_unwritten result then next_count (O.failed outlet.old) else O.failed outlet.old) }
     ensures read { is_unread result ≡ false }
+    ensures stopped { IfErr result (λ refusal. is_read_whole (Err refusal) ≡ false) }
 {
     match heading {
         None => Ok(Report::nothing()),
@@ -141,6 +144,7 @@ fn mark_frames<O: Outlet, G: Gate>(
     ensures writes { O.failed outlet.new
         ≡ (if is_unwritten result then next_count (O.failed outlet.old) else O.failed outlet.old) }
     ensures read { is_unread result ≡ false }
+    ensures stopped { IfErr result (λ refusal. is_read_whole (Err refusal) ≡ false) }
 {
     let Ok(sending) = sending_at(alloc, accepted, port, heading.link, frames.as_slice()) else {
         return Err((Report::nothing(), MarkFault::NoMemory));

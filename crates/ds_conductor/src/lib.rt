@@ -1,17 +1,8 @@
-//! Steps of packets through the meters of an accepted table: what each does, and the run that a list of them makes.
+//! Packets conducted through the meters of an accepted table: step by step, or frame by frame out of a capture.
+//!
+//! Its parts stand in `ds_conductor_base` (steps), `ds_visits` (visits and their gate) and `capture_marker` (captures).
 #![tactic(auto)]
 
-mod closing;
-pub mod conducting;
-pub mod conductor;
-pub mod fault;
-pub mod laws;
-pub mod opening;
-pub mod step;
-mod visiting;
-
-pub use conducting::conduct;
-pub use conductor::Conductor;
-pub use fault::{ConductFault, StepFault};
-pub use opening::opened_books;
-pub use step::Step;
+pub use capture_marker::{MarkFault, RedRule, Report, mark};
+pub use ds_conductor_base::{ConductFault, Conductor, Step, StepFault, conduct};
+pub use ds_visits::{Gate, OpenGate};

@@ -5,7 +5,7 @@ use Rattle.std.proofs.lemmas.List.{drop_all, drop_more}
 use Rattle.moment_core.specs.declared.colour.Colour.{Colour}
 use Rattle.meter_book.specs.Replay.{Book}
 use Rattle.ds_checker.specs.Acceptance.{Table}
-use Rattle.ds_conductor.specs.Steps.{opened}
+use Rattle.ds_conductor_base.specs.Steps.{opened}
 use Rattle.ds_visits.specs.Passing.{Traffic, came_of, colours_of, entered, passed, passed_all}
 use Rattle.ds_visits.specs.Visits.{visits_of}
 use Rattle.ds_visits.specs.declared.fault.VisitsFault.{VisitsFault}

@@ -1,10 +1,10 @@
 -- Visits that are sorted are in order, and so are visits each of which comes before the next.
-use Rattle.std.proofs.Common.{◌≡◌, ◌+◌, ◌<◌, ◌≤◌, ℕ, suc, inl, inr, Bool, true, false, List, [], ◌∷◌, length, drop, get_or, refl, sym, ap, ◌∙◌, arith}
+use Rattle.std.proofs.Common.{◌≡◌, ◌+◌, ◌<◌, ◌≤◌, ℕ, suc, inl, inr, Bool, true, false, List, [], ◌∷◌, ◌++◌, length, take, drop, get_or, append-nil, refl, sym, ap, ◌∙◌, arith}
 use Rattle.std.specs.Prelude.{◌||◌, ◌&&◌, nat_eq, nat_lt, IsPermutation}
 use Rattle.std.specs.List.{All, IsDistinct}
 use Rattle.std.specs.Ordering.{is_lt, nat_cmp, ordering_then}
 use Rattle.std.proofs.lemmas.Bool.Decides.{nat_tests}
-use Rattle.std.proofs.lemmas.List.{drop_all, drop_more}
+use Rattle.std.proofs.lemmas.List.{drop_all, drop_more, take_all}
 use Rattle.std.proofs.lemmas.List.Elements.{All-cons, All-head, All-weaker}
 use Rattle.std.proofs.lemmas.List.Sorted.{Contains-permutation, IsPermutation-sym}
 use Rattle.std.proofs.lemmas.Map.Keys.{IsDistinct-IsPermutation, apart_from_distinct}
@@ -147,3 +147,9 @@ behind-none last = refl
 
 pub behind_ended : (last : Visit) (i : ℕ) (visits : List Visit) → length visits ≤ i → are_behind last (drop i visits) ≡ true
 behind_ended last i visits ended = ap (are_behind last) (drop_all i visits ended) ∙ behind-none last
+
+-- a list that was brought in order in place
+pub written : (len : ℕ) (new old given : List Visit) → given ≡ old → length given ≡ len → length new ≡ length given → take len (new ++ drop (length new) old) ≡ new
+written len new old given same is_len long =
+    let as_long : length new ≡ length old = long ∙ ap length same in
+    ap (λ rest. take len (new ++ rest)) (drop_all (length new) old (omega (arith, as_long))) ∙ ap (take len) (append-nil new) ∙ take_all len new (omega (arith, long, is_len))

@@ -7,7 +7,7 @@ use Rattle.moment_core.specs.declared.colour.Colour.{Colour}
 use Rattle.meter_book.specs.Replay.{Book, next_row, noted}
 use Rattle.meter_book.specs.declared.row.Arrival.{Arrival}
 use Rattle.ds_checker.specs.Acceptance.{Table}
-use Rattle.ds_conductor.specs.Steps.{some_of}
+use Rattle.ds_conductor_base.specs.Steps.{some_of}
 use Rattle.ds_visits.specs.Passing.{Traffic, arrival_of, came_of, colours_of, entered, passed, passed_all, passed_by}
 use Rattle.ds_visits.specs.Visits.{visits_of}
 use Rattle.ds_visits.specs.declared.sent.Sent.{Sent}

@@ -5,7 +5,7 @@ use Rattle.std.proofs.lemmas.Option.{same_Some}
 use Rattle.moment_core.specs.declared.colour.Colour.{Colour}
 use Rattle.meter_book.specs.Replay.{Book, next_row, noted}
 use Rattle.meter_book.specs.declared.row.Arrival.{Arrival}
-use Rattle.ds_conductor.specs.Steps.{some_of}
+use Rattle.ds_conductor_base.specs.Steps.{some_of}
 use Rattle.ds_visits.specs.Noting.{noted_there}
 use Rattle.ds_visits.specs.Passing.{Traffic, arrival_of, passed, passed_by}
 use Rattle.ds_visits.specs.declared.fault.VisitsFault.{VisitsFault}

@@ -8,7 +8,7 @@ use Rattle.ds_domain_base.specs.Sent.{came}
 use Rattle.ds_domain_base.specs.declared.contract.Contract.{Contract}
 use Rattle.ds_checker.specs.Acceptance.{Table}
 use Rattle.meter_fabric.specs.Sites.{contract_of}
-use Rattle.ds_conductor.specs.Steps.{opened, some_of}
+use Rattle.ds_conductor_base.specs.Steps.{opened, some_of}
 use Rattle.ds_visits.specs.Visits.{visits_of}
 use Rattle.ds_visits.specs.declared.sent.Sent.{Sent}
 use Rattle.ds_visits.specs.declared.visit.Visit.{Visit}

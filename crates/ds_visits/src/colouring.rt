@@ -7,7 +7,7 @@ use crate::gate::Gate;
 use crate::sent::Sent;
 use crate::visit::{Visit, visits};
 use ds_checker::Accepted;
-use ds_conductor::opened_books;
+use ds_conductor_base::opened_books;
 use meter_book::{Arrival, MeterBook};
 use meter_fabric::contract_of;
 use moment_core::Colour;

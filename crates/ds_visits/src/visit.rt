@@ -1,4 +1,4 @@
-ghost use Rattle.std.specs.Prelude.{◌≡◌, ◌++◌, IfOk, OnOk, map, option_copied, slice_get};
+ghost use Rattle.std.specs.Prelude.{◌≡◌, ◌++◌, IfOk, OnOk, length, map, option_copied, slice_get};
 ghost use Rattle.std.specs.List.{IsDistinct};
 ghost use Rattle.run_audit.specs.Orders.{in_order};
 ghost use Rattle.ds_visits.specs.Visits.{are_in_order, is_before, is_same, later, visit_to, visits_from, visits_of};
@@ -26,7 +26,7 @@ pub fn visits(alloc: Global, accepted: &Accepted, sent: &[Sent]) -> Result<Vec<V
     ensures { IfOk result (λ visits. visits.items ≡ visits_of accepted.now sent.now) }
 {
     let mut visits = by_packet(alloc, accepted, sent)?;
-    bring_in_order(&mut visits)?;
+    bring_in_order(visits.as_mut_slice());
     Ok(visits)
 }
 
@@ -87,16 +87,16 @@ fn later(moment: Moment, delay: Gap) -> Moment
 }
 
 /// Brings visits in their order, where no two are those of one packet to one hop. Visits that stand in order already are only
-/// read. `AllocError` where memory runs out.
-fn bring_in_order(visits: &mut Vec<Visit>) -> Result<(), AllocError>
-    requires { IsDistinct is_same visits.old.items }
-    ensures { OnOk result (visits.new.items ≡ in_order is_before visits.old.items) }
+/// read.
+fn bring_in_order(visits: &mut [Visit])
+    requires { IsDistinct is_same visits.old }
+    ensures order { visits.new ≡ in_order is_before visits.old }
+    ensures count { length visits.new ≡ length visits.old }
 {
     if are_in_order(visits) {
-        return Ok(());
+        return;
     }
-    visits.sort_by_key(|visit| (visit.moment.get(), visit.place, visit.hop.number))?;
-    Ok(())
+    visits.sort_unstable_by_key(|visit| (visit.moment.get(), visit.place, visit.hop.number));
 }
 
 /// Whether visits stand in their order.

@@ -1,9 +1,10 @@
 -- What becomes of a start.
-use Rattle.std.proofs.Common.{◌≡◌, ◌≤◌, ℕ, Bool, List, refl, arith}
+use Rattle.std.proofs.Common.{◌≡◌, ◌≤◌, ℕ, List, refl, arith}
 use Rattle.pcap_capture.specs.Counts.{count_after}
 use Rattle.dsedge_serve.specs.declared.fault.Fault.{Fault}
-use Rattle.dsedge_serve.specs.declared.fault.Fault.TheVariants.{Usage, Line, Domain, Certificate, File, Read, Write, Memory, Full}
-use Rattle.dsedge_serve.specs.Served.{IsOfReads}
+use Rattle.dsedge_serve.specs.declared.fault.Fault.TheVariants.{Usage, Line, Domain, Certificate, Capture, Port, File, Read, Write, Memory, Full}
+use Rattle.dsedge_serve.specs.declared.outcome.Outcome.{Outcome}
+use Rattle.dsedge_serve.specs.Served.{IsOfInput}
 use Rattle.dsedge.specs.Started.{IsRefused, failures_with}
 
 -- nothing is asked
@@ -19,11 +20,13 @@ refused_unread words Read failed is = absurd is
 refused_unread words (Line number) failed is = absurd is
 refused_unread words (Domain why) failed is = absurd is
 refused_unread words (Certificate why) failed is = absurd is
+refused_unread words (Capture why) failed is = absurd is
+refused_unread words (Port name) failed is = absurd is
 refused_unread words (File name) failed is = absurd is
 refused_unread words Write failed is = absurd is
 refused_unread words Full failed is = absurd is
 
 -- the counts that stand before a plan is served are those that the words left
-pub reads_behind : (fault : Bool) (failed first now before behind asked : ℕ) → first ≡ failed → behind ≡ before
-    → IsOfReads fault first now behind asked → IsOfReads fault failed now before asked
-reads_behind fault failed first now before behind asked e f h = rw (← e, ← f) h
+pub reads_behind : (outcome : Outcome) (failed first now before behind asked : ℕ) → first ≡ failed → behind ≡ before
+    → IsOfInput outcome first now behind asked → IsOfInput outcome failed now before asked
+reads_behind outcome failed first now before behind asked e f h = rw (← e, ← f) h

@@ -9,14 +9,12 @@ use Rattle.dsedge_base.specs.Plans.{IsPlanOf, IsRefusalOf}
 use Rattle.dsedge_base.specs.declared.fault.UsageFault.TheVariants as usage_faults
 use Rattle.dsedge_base.specs.declared.work.Plan.{Plan}
 use Rattle.dsedge_files.specs.Readable.{texts_of}
-use Rattle.dsedge_lines.specs.declared.fault.PumpFault.{PumpFault}
-use Rattle.dsedge_lines.specs.Faults.{is_write_fault, is_read_fault}
 use Rattle.dsedge_lines.specs.FirstLine.{after_first_line, first_line_of}
-use Rattle.dsedge_serve.specs.declared.conclusion.Conclusion.{Conclusion}
 use Rattle.dsedge_serve.specs.declared.fault.Fault.{Fault}
-use Rattle.dsedge_serve.specs.declared.fault.Fault.TheVariants.{Usage, Line, Domain, Certificate, File, Read, Write, Memory, Full}
+use Rattle.dsedge_serve.specs.declared.fault.Fault.TheVariants.{Usage, Line, Domain, Certificate, Capture, Port, File, Read, Write, Memory, Full}
+use Rattle.dsedge_serve.specs.declared.outcome.Outcome.{Outcome}
 use Rattle.dsedge_serve.specs.Faults.{fault_text, status_of}
-use Rattle.dsedge_serve.specs.Served.{IsOfReads, IsServed, answer_for, status_for, told_of}
+use Rattle.dsedge_serve.specs.Served.{IsAnswered, IsOfInput, is_output_fault, status_after, told_after}
 
 -- the words of a command: those given, or where there are none, those of the first line of the input
 abbrev pub words_from : List (List ℕ) → List ℕ → List (List ℕ)
@@ -60,6 +58,8 @@ IsWordless given bytes Memory = Unit {0}
 IsWordless given bytes (Line number) = ⊥
 IsWordless given bytes (Domain fault) = ⊥
 IsWordless given bytes (Certificate fault) = ⊥
+IsWordless given bytes (Capture fault) = ⊥
+IsWordless given bytes (Port name) = ⊥
 IsWordless given bytes (File name) = ⊥
 IsWordless given bytes Write = ⊥
 IsWordless given bytes Full = ⊥
@@ -72,6 +72,8 @@ IsRefused words Read = ⊥
 IsRefused words (Line number) = ⊥
 IsRefused words (Domain fault) = ⊥
 IsRefused words (Certificate fault) = ⊥
+IsRefused words (Capture fault) = ⊥
+IsRefused words (Port name) = ⊥
 IsRefused words (File name) = ⊥
 IsRefused words Write = ⊥
 IsRefused words Full = ⊥
@@ -86,6 +88,8 @@ is_read Usage = false
 is_read (Line number) = false
 is_read (Domain fault) = false
 is_read (Certificate fault) = false
+is_read (Capture fault) = false
+is_read (Port name) = false
 is_read (File name) = false
 is_read Read = true
 is_read Write = false
@@ -105,6 +109,8 @@ IsUnreadable tells holds names Usage = ⊥
 IsUnreadable tells holds names (Line number) = ⊥
 IsUnreadable tells holds names (Domain fault) = ⊥
 IsUnreadable tells holds names (Certificate fault) = ⊥
+IsUnreadable tells holds names (Capture fault) = ⊥
+IsUnreadable tells holds names (Port name) = ⊥
 IsUnreadable tells holds names Read = ⊥
 IsUnreadable tells holds names Write = ⊥
 IsUnreadable tells holds names Full = ⊥
@@ -114,19 +120,19 @@ IsUnreadable tells holds names Full = ⊥
 pub data Course : Type 0 where
   Refused : Fault → Course
   Unread : Plan → Fault → Course
-  Served : Plan → List (List ℕ) → Result Conclusion PumpFault → Course
+  Served : Plan → List (List ℕ) → Outcome → Course
 
 -- the exit status of a start
 abbrev pub status_in : Course → ℕ
 status_in (Refused fault) = status_of fault
 status_in (Unread plan fault) = status_of fault
-status_in (Served plan texts outcome) = status_for outcome
+status_in (Served plan texts outcome) = status_after outcome
 
 -- what is told of a start on standard error
 abbrev pub told_in : Course → List ℕ
 told_in (Refused fault) = fault_text fault
 told_in (Unread plan fault) = fault_text fault
-told_in (Served plan texts outcome) = told_of outcome
+told_in (Served plan texts outcome) = told_after outcome
 
 -- A start goes as the words and the input have it.
 abbrev pub IsCourseFrom : List (List ℕ) → List ℕ → Course → Type 0
@@ -140,20 +146,20 @@ IsCourseOf tells holds (Refused fault) = Unit {0}
 IsCourseOf tells holds (Unread plan fault) = IsUnreadable tells holds (files_of plan) fault
 IsCourseOf tells holds (Served plan texts outcome) = (length texts ≡ length (files_of plan)) × (tells → texts_of holds (files_of plan) ≡ Ok texts)
 
--- What was written, where the devices tell their bytes: the answer to the input, or a front of it; a refusal writes nothing.
-abbrev pub IsWritten : Course → Type 0 → List ℕ → List ℕ → List ℕ → Type 0
-IsWritten (Refused fault) tells input before after = after ≡ before
-IsWritten (Unread plan fault) tells input before after = after ≡ before
-IsWritten (Served plan texts outcome) tells input before after = tells → IsServed (answer_for plan texts input) outcome before after
+-- What was written, where the devices tell their bytes: the answer to the input, which still has more, or a front of it; a refusal writes nothing.
+abbrev pub IsWritten : Course → Type 0 → List ℕ → List ℕ → List ℕ → List ℕ → Type 0
+IsWritten (Refused fault) tells input more before after = after ≡ before
+IsWritten (Unread plan fault) tells input more before after = after ≡ before
+IsWritten (Served plan texts outcome) tells input more before after = tells → IsAnswered plan texts input more outcome before after
 
 -- whether a start went so that the output could not be written
 abbrev pub is_unwritten : Course → Bool
 is_unwritten (Refused fault) = false
 is_unwritten (Unread plan fault) = false
-is_unwritten (Served plan texts outcome) = is_write_fault outcome
+is_unwritten (Served plan texts outcome) = is_output_fault outcome
 
--- A read fault comes only where the input failed once, or behind the words was asked 2^32 times; nothing else lets it fail.
-abbrev pub IsOfInput : Course → ℕ → ℕ → ℕ → ℕ → Type 0
-IsOfInput (Refused fault) failed now asked_before asked = (now ≡ failures_with fault failed) × (asked ≡ asked_before)
-IsOfInput (Unread plan fault) failed now asked_before asked = (now ≡ failed) × (asked ≡ asked_before)
-IsOfInput (Served plan texts outcome) failed now asked_before asked = IsOfReads (is_read_fault outcome) failed now asked_before asked
+-- A read fault comes only where the input failed once, or behind the words was asked 2^32 times.
+abbrev pub IsFromInput : Course → ℕ → ℕ → ℕ → ℕ → Type 0
+IsFromInput (Refused fault) failed now asked_before asked = (now ≡ failures_with fault failed) × (asked ≡ asked_before)
+IsFromInput (Unread plan fault) failed now asked_before asked = (now ≡ failed) × (asked ≡ asked_before)
+IsFromInput (Served plan texts outcome) failed now asked_before asked = IsOfInput outcome failed now asked_before asked

@@ -1,6 +1,8 @@
 //! `dsedge`: a traffic conditioner for the edge of a DiffServ domain (RFC 2475).
 #![tactic(auto)]
 
+#[cfg(test)]
+mod mark_tests;
 mod start;
 #[cfg(test)]
 mod tests;

@@ -3,7 +3,7 @@ ghost use Rattle.dsedge_base.specs.Plans.{IsPlanOf};
 ghost use Rattle.pcap_capture.specs.Counts.{count_after};
 ghost use Rattle.dsedge_serve.specs.Faults.{fault_text, status_of};
 ghost use Rattle.dsedge_serve.specs.Served.{IsOfWrites, IsTold};
-ghost use Rattle.dsedge.specs.Started.{AreKnown, Course, HasWords, IsCourseFrom, IsOfInput, IsRefused, IsWordless, IsWritten};
+ghost use Rattle.dsedge.specs.Started.{AreKnown, Course, HasWords, IsCourseFrom, IsFromInput, IsRefused, IsWordless, IsWritten};
 ghost use Rattle.dsedge.specs.Started.{IsCourseOf, IsUnreadable, failures_with, input_from, is_unwritten, most_asked, status_in, told_in, words_from};
 ghost use Rattle.dsedge_base.specs.Files.{files_of};
 ghost use Rattle.dsedge_files.specs.Readable.{texts_of};
@@ -108,12 +108,12 @@ pub fn start<D: Folder, I: Intake, O: Outlet, F: Outlet>(
         (course : Course) × (result ≡ status_in course)
         × (AreKnown texts (I.tells intake.old) → IsCourseFrom texts (I.left intake.old) course)
         × IsCourseOf (D.tells folder.now) (D.holds folder.now) course
-        × IsWritten course (I.tells intake.old × O.tells output.old) (input_from texts (I.left intake.old))
+        × IsWritten course (I.tells intake.old × O.tells output.old) (input_from texts (I.left intake.old)) (I.left intake.new)
         (O.held output.old) (O.held output.new)
         × (F.tells faults.old →
         IsTold (told_in course) (F.held faults.old) (F.held faults.new) (F.failed faults.old) (F.failed faults.new))
         × IsOfWrites (is_unwritten course) (O.failed output.old) (O.failed output.new)
-        × ((asked : ℕ) × (asked ≤ most_asked texts) × IsOfInput course (I.failed intake.old) (I.failed intake.new)
+        × ((asked : ℕ) × (asked ≤ most_asked texts) × IsFromInput course (I.failed intake.old) (I.failed intake.new)
         (count_after asked (I.turns intake.old)) (I.turns intake.new)) }
 {
     let words = match words_for(alloc, given, intake) {

@@ -7,10 +7,10 @@ use std::test::Fail;
 
 /// What the program left behind.
 #[derive(Drop)]
-struct Done {
-    output: Vec<u8>,
-    told: Vec<u8>,
-    status: u8,
+pub(crate) struct Done {
+    pub output: Vec<u8>,
+    pub told: Vec<u8>,
+    pub status: u8,
 }
 
 /// No files.
@@ -300,7 +300,7 @@ protocol = 17
 "#;
 
 /// The text of a domain of one meter with a skew, behind a port with a skew and a link with a jitter, and of one contract.
-fn domain_text(
+pub(crate) fn domain_text(
     alloc: Global,
     (meter_skew, port_skew): (u64, u64),
     jitter: u64,
@@ -329,7 +329,7 @@ jitter = {jitter}
 }
 
 /// The program on words, with one file `domain.toml`.
-fn run_on_domain(alloc: Global, words: &str, domain: &str) -> Result<Done, Fail> {
+pub(crate) fn run_on_domain(alloc: Global, words: &str, domain: &str) -> Result<Done, Fail> {
     let files = [("domain.toml", domain.as_bytes())];
     let folder = MemoryFolder { files: &files };
     let output = VecOutlet::new(Vec::new(alloc));
@@ -567,22 +567,28 @@ fn faults_of_tables(rt: HostRuntime) -> Result<(), Fail> {
     Ok(())
 }
 
-/// The program's `audit` of steps, over a domain and a certificate.
-fn run_audit(alloc: Global, domain: &str, certificate: &[u8], steps: &str) -> Result<Done, Fail> {
+/// The program on words, with a domain and a certificate in files `domain.toml` and `domain.cert`, and an input.
+pub(crate) fn run_on_table(
+    alloc: Global,
+    words: &str,
+    domain: &str,
+    certificate: &[u8],
+    input: &[u8],
+) -> Result<Done, Fail> {
     let files = [
         ("domain.toml", domain.as_bytes()),
         ("domain.cert", certificate),
     ];
     let folder = MemoryFolder { files: &files };
-    let intake = SliceIntake::new(steps.as_bytes());
+    let intake = SliceIntake::new(input);
     let output = VecOutlet::new(Vec::new(alloc));
-    run(
-        alloc,
-        "audit domain.toml domain.cert",
-        folder,
-        intake,
-        output,
-    )
+    run(alloc, words, folder, intake, output)
+}
+
+/// `audit` on steps, over a domain with a certificate.
+fn run_audit(alloc: Global, domain: &str, certificate: &[u8], steps: &str) -> Result<Done, Fail> {
+    let words = "audit domain.toml domain.cert";
+    run_on_table(alloc, words, domain, certificate, steps.as_bytes())
 }
 
 /// Expects of `audit` on steps, over a domain with its least certificate, how the output begins, what is told, and a status.

@@ -2,10 +2,10 @@
 use Rattle.std.proofs.Common.{◌≡◌, ℕ, ◌+◌, List, ◌∷◌, [], None, Some, Ok, Err, refl}
 use Rattle.std.proofs.lemmas.List.{append-nil}
 use Rattle.ds_checker.specs.Acceptance.{Table}
-use Rattle.ds_conductor.specs.Conducting.{run_so_far}
-use Rattle.ds_conductor.specs.Steps.{Stage, stepped}
-use Rattle.ds_conductor.specs.declared.step.Step.{Step}
-use Rattle.ds_conductor.specs.declared.fault.StepFault.TheVariants.{BadStep, JournalFull}
+use Rattle.ds_conductor_base.specs.Conducting.{run_so_far}
+use Rattle.ds_conductor_base.specs.Steps.{Stage, stepped}
+use Rattle.ds_conductor_base.specs.declared.step.Step.{Step}
+use Rattle.ds_conductor_base.specs.declared.fault.StepFault.TheVariants.{BadStep, JournalFull}
 use Rattle.dsedge_lines.specs.Answers.{Answer, behind}
 use Rattle.dsedge_lines.specs.declared.command.Ending.{Ending}
 use Rattle.dsedge_lines.specs.declared.command.Ending.TheVariants.{BadLine, Full}

@@ -4,8 +4,8 @@ use Rattle.std.specs.Str.{bytes_eq}
 use Rattle.line_text.specs.Lines.{fields_of}
 use Rattle.line_text.specs.Numbers.{number_of}
 use Rattle.ds_domain_base.specs.declared.contract.Contract.{Contract}
-use Rattle.ds_conductor.specs.declared.step.Step.{Step}
-use Rattle.ds_conductor.specs.declared.step.Step.TheVariants.{Send, Visit}
+use Rattle.ds_conductor_base.specs.declared.step.Step.{Step}
+use Rattle.ds_conductor_base.specs.declared.step.Step.TheVariants.{Send, Visit}
 
 -- the number of the contract of a name, among those of which packets can be
 abbrev pub flow_named : List Contract → List ℕ → Option ℕ

@@ -1,6 +1,6 @@
 ghost use Rattle.std.specs.Prelude.{◌≡◌, ◌++◌, ◌⊎◌, flat_map, Ok, Err, IfErr, IfOk, OnOk};
-ghost use Rattle.ds_conductor.specs.Conducting.{run_so_far};
-ghost use Rattle.ds_conductor.specs.Steps.{opened, stepped};
+ghost use Rattle.ds_conductor_base.specs.Conducting.{run_so_far};
+ghost use Rattle.ds_conductor_base.specs.Steps.{opened, stepped};
 ghost use Rattle.dsedge_lines.specs.Answers.{AnswersAll, behind};
 ghost use Rattle.dsedge_audit.specs.Audited.{accounts_line, audit_from, audit_of, ending_by, verdict_line};
 
@@ -9,7 +9,7 @@ use crate::flows::Flows;
 use crate::step_line::step;
 use crate::verdict_text::push_verdict;
 use ds_checker::Accepted;
-use ds_conductor::{Conductor, Step, StepFault};
+use ds_conductor_base::{Conductor, Step, StepFault};
 use dsedge_lines::{Command, Ending};
 use run_audit::{Run, Verdict, audit};
 use std::alloc::{AllocError, Global};
@@ -27,7 +27,7 @@ pub struct AuditCommand<'a> {
 }
 
 impl<'a> Model for AuditCommand<'a> {
-    ghost use Rattle.ds_conductor.specs.Kept.{Conduct};
+    ghost use Rattle.ds_conductor_base.specs.Kept.{Conduct};
 
     ghost Value = { Conduct };
 

@@ -6,7 +6,7 @@ ghost use Rattle.dsedge_audit.specs.StepLines.{flow_named, step_in, step_of_fiel
 
 use crate::flows::Flows;
 use af_marker::Dscp;
-use ds_conductor::Step;
+use ds_conductor_base::Step;
 use line_text::{leading_number, number, split_field};
 use moment_core::{Moment, PacketSize};
 

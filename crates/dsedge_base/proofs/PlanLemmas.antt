@@ -11,12 +11,12 @@ use Rattle.clap.specs.declared.error.kind.ErrorKind.{ErrorKind}
 use Rattle.clap.specs.declared.error.kind.ErrorKind.TheVariants.{DisplayHelp, OutOfMemory}
 use Rattle.clap.proofs.OnLiterals.{clap_on_literals}
 use Rattle.dsedge_base.specs.CommandLine.{dsedge}
-use Rattle.dsedge_base.specs.Options.{envelope_given, meter_given, table_given, ◌>>=◌}
-use Rattle.dsedge_base.specs.Plans.{IsHelp, IsPlanOf, IsRefusalOf, IsWellFormed, asked_by, given_by, plan_of}
+use Rattle.dsedge_base.specs.Options.{Given, envelope_given, marking_given, meter_given, table_given, ◌>>=◌}
+use Rattle.dsedge_base.specs.Plans.{IsHelp, IsPlanOf, IsRefusalOf, IsWellFormed, asked_by, given_by, mark_given, plan_of}
 use Rattle.dsedge_base.specs.declared.fault.UsageFault.{UsageFault}
 use Rattle.dsedge_base.specs.declared.fault.UsageFault.TheVariants.{Usage, NoMemory}
 use Rattle.dsedge_base.specs.declared.work.Plan.{Plan}
-use Rattle.dsedge_base.specs.declared.work.Plan.TheVariants.{Audit, Certify, Check, Envelope, Help, Meter}
+use Rattle.dsedge_base.specs.declared.work.Plan.TheVariants.{Audit, Certify, Check, Envelope, Help, Mark, Meter}
 
 -- the parser says exactly what it makes of a command line such as the program's
 pub dsedge-simple : is_simple dsedge ≡ true
@@ -48,24 +48,36 @@ audit-no_help : (files : Option (List ℕ × List ℕ)) (text : String Global) �
 audit-no_help None text e = cc
 audit-no_help (Some f) text e = cc
 
+mark_with-no_help : (files : Option (List ℕ × List ℕ)) (marking : Option (List ℕ × Bool)) (text : String Global)
+    → (files >>= (λ f. marking >>= (λ m. Some (Mark f.0 f.1 m.0 m.1)))) ≡ Some (Help text) → ⊥
+mark_with-no_help None marking text e = cc
+mark_with-no_help (Some f) None text e = cc
+mark_with-no_help (Some f) (Some m) text e = cc
+
+mark-no_help : (given : Given) (text : String Global) → mark_given given ≡ Some (Help text) → ⊥
+unfolding mark_given
+mark-no_help given text e = mark_with-no_help (table_given given) (marking_given given) text e
+
 -- what a command asks for is no help
-commands-no_help : (is_meter is_envelope is_certify is_check is_audit : Bool) (meter : Option AnyMeter) (envelope : Option (ℕ × ℕ)) (domain : Option (List ℕ)) (files : Option (List ℕ × List ℕ)) (text : String Global)
+commands-no_help : (is_meter is_envelope is_certify is_check is_audit is_mark : Bool) (meter : Option AnyMeter) (envelope : Option (ℕ × ℕ)) (domain : Option (List ℕ)) (files : Option (List ℕ × List ℕ)) (given : Given) (text : String Global)
     → (if is_meter then meter >>= (λ m. Some (Meter m))
     else if is_envelope then envelope >>= (λ e. Some (Envelope e.0 e.1))
     else if is_certify then domain >>= (λ d. Some (Certify d))
     else if is_check then files >>= (λ f. Some (Check f.0 f.1))
-    else if is_audit then files >>= (λ f. Some (Audit f.0 f.1)) else None) ≡ Some (Help text) → ⊥
-commands-no_help true is_envelope is_certify is_check is_audit meter envelope domain files text e = meter-no_help meter text e
-commands-no_help false true is_certify is_check is_audit meter envelope domain files text e = envelope-no_help envelope text e
-commands-no_help false false true is_check is_audit meter envelope domain files text e = certify-no_help domain text e
-commands-no_help false false false true is_audit meter envelope domain files text e = check-no_help files text e
-commands-no_help false false false false true meter envelope domain files text e = audit-no_help files text e
-commands-no_help false false false false false meter envelope domain files text e = cc
+    else if is_audit then files >>= (λ f. Some (Audit f.0 f.1))
+    else if is_mark then mark_given given else None) ≡ Some (Help text) → ⊥
+commands-no_help true is_envelope is_certify is_check is_audit is_mark meter envelope domain files given text e = meter-no_help meter text e
+commands-no_help false true is_certify is_check is_audit is_mark meter envelope domain files given text e = envelope-no_help envelope text e
+commands-no_help false false true is_check is_audit is_mark meter envelope domain files given text e = certify-no_help domain text e
+commands-no_help false false false true is_audit is_mark meter envelope domain files given text e = check-no_help files text e
+commands-no_help false false false false true is_mark meter envelope domain files given text e = audit-no_help files text e
+commands-no_help false false false false false true meter envelope domain files given text e = mark-no_help given text e
+commands-no_help false false false false false false meter envelope domain files given text e = cc
 
 plan_of-no_help : (command : Option (Text × List Row)) (text : String Global) → option_and_then plan_of command ≡ Some (Help text) → ⊥
 plan_of-no_help None text e = cc
 plan_of-no_help (Some c) text e = commands-no_help (bytes_eq c.0 (codes "meter")) (bytes_eq c.0 (codes "envelope")) (bytes_eq c.0 (codes "certify"))
-    (bytes_eq c.0 (codes "check")) (bytes_eq c.0 (codes "audit")) (meter_given (given_by c.1)) (envelope_given (given_by c.1)) (given_by c.1 (codes "domain")) (table_given (given_by c.1)) text e
+    (bytes_eq c.0 (codes "check")) (bytes_eq c.0 (codes "audit")) (bytes_eq c.0 (codes "mark")) (meter_given (given_by c.1)) (envelope_given (given_by c.1)) (given_by c.1 (codes "domain")) (table_given (given_by c.1)) (given_by c.1) text e
 
 -- well formed words are answered with what they ask for, or refused where they ask for nothing
 pub asked_by-answers : (words : List Text) (asked : Option Plan) → IsWellFormed words → asked ≡ asked_by words
@@ -76,6 +88,7 @@ asked_by-answers words (Some (Envelope rate burst)) formed e = ((formed, sym e),
 asked_by-answers words (Some (Certify domain)) formed e = ((formed, sym e), tt)
 asked_by-answers words (Some (Check domain certificate)) formed e = ((formed, sym e), tt)
 asked_by-answers words (Some (Audit domain certificate)) formed e = ((formed, sym e), tt)
+asked_by-answers words (Some (Mark domain certificate port keeps_red)) formed e = ((formed, sym e), tt)
 asked_by-answers words (Some (Help text)) formed e = absurd (plan_of-no_help (subcommand_of dsedge words) text (sym e))
 
 -- the same of a command line that is the program's and was parsed
@@ -107,6 +120,7 @@ help-answers words kind (Envelope rate burst) fails help = absurd help.1
 help-answers words kind (Certify domain) fails help = absurd help.1
 help-answers words kind (Check domain certificate) fails help = absurd help.1
 help-answers words kind (Audit domain certificate) fails help = absurd help.1
+help-answers words kind (Mark domain certificate port keeps_red) fails help = absurd help.1
 help-answers words kind (Help text) (inl memory) help = let apart : DisplayHelp ≡ OutOfMemory → ⊥ = λ e. cc in absurd (apart (sym help.0 ∙ memory))
 help-answers words kind (Help text) (inr among) help = let P : ErrorKind → Type 0 = λ k. IsAmong k (fault_of dsedge words) in subst P help.0 among
 

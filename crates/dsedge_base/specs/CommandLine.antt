@@ -56,5 +56,12 @@ check = on_table (codes "check")
 abbrev pub audit : App
 audit = on_table (codes "audit")
 
+-- a capture is marked at a port, by workers, with a rule for red frames
+abbrev pub mark : App
+mark = with_rule (with_rule (with_rule (on_table (codes "mark"))
+    (required (codes "port")))
+    (required (codes "workers")))
+    (required (codes "red"))
+
 abbrev pub dsedge : App
-dsedge = with_subcommand (with_subcommand (with_subcommand (with_subcommand (with_subcommand program meter.top) envelope.top) certify.top) check.top) audit.top
+dsedge = with_subcommand (with_subcommand (with_subcommand (with_subcommand (with_subcommand (with_subcommand program meter.top) envelope.top) certify.top) check.top) audit.top) mark.top

@@ -1,5 +1,5 @@
 -- What the options of a command say, by the texts that they were given.
-use Rattle.std.specs.Prelude.{ℕ, ◌-◌, ◌^◌, Bool, ◌&&◌, ◌||◌, nat_le, List, codes, Option, None, Some, is_some, if◌then◌else◌}
+use Rattle.std.specs.Prelude.{ℕ, ◌-◌, ◌^◌, Bool, true, false, ◌&&◌, ◌||◌, nat_le, List, codes, Option, None, Some, is_some, if◌then◌else◌}
 use Rattle.std.specs.Str.{bytes_eq}
 use Rattle.line_text.specs.Numbers.{number_of}
 use Rattle.moment_core.specs.declared.colour.Mode.{Mode}
@@ -119,3 +119,22 @@ table_given given = do
   domain ← given (codes "domain")
   certificate ← given (codes "certificate")
   Some (domain, certificate)
+
+-- workers, for now one
+abbrev pub workers_said : List ℕ → Option ℕ
+workers_said = number_within 1 1
+
+-- whether red frames are kept, or dropped
+abbrev pub red_said : List ℕ → Option Bool
+red_said text =
+    if bytes_eq text (codes "keep") then Some true
+    else if bytes_eq text (codes "drop") then Some false
+    else None
+
+-- the port of a marking, and whether it keeps red frames
+unfoldable pub marking_given : Given → Option (List ℕ × Bool)
+marking_given given = do
+  port ← given (codes "port")
+  workers ← given (codes "workers") >>= workers_said
+  keeps_red ← given (codes "red") >>= red_said
+  Some (port, keeps_red)

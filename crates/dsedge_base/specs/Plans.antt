@@ -5,15 +5,22 @@ use Rattle.clap.specs.Words.{IsAmong, Row, Text, fault_of, first_of, subcommand_
 use Rattle.clap.specs.declared.error.kind.ErrorKind.{ErrorKind}
 use Rattle.clap.specs.declared.error.kind.ErrorKind.TheVariants.{DisplayHelp}
 use Rattle.dsedge_base.specs.CommandLine.{dsedge}
-use Rattle.dsedge_base.specs.Options.{Given, envelope_given, meter_given, table_given, ◌>>=◌}
+use Rattle.dsedge_base.specs.Options.{Given, envelope_given, marking_given, meter_given, table_given, ◌>>=◌}
 use Rattle.dsedge_base.specs.declared.fault.UsageFault.{UsageFault}
 use Rattle.dsedge_base.specs.declared.fault.UsageFault.TheVariants.{Usage, NoMemory}
 use Rattle.dsedge_base.specs.declared.work.Plan.{Plan}
-use Rattle.dsedge_base.specs.declared.work.Plan.TheVariants.{Audit, Certify, Check, Envelope, Help, Meter}
+use Rattle.dsedge_base.specs.declared.work.Plan.TheVariants.{Audit, Certify, Check, Envelope, Help, Mark, Meter}
 
 -- the texts that the options of a command were given
 abbrev pub given_by : List Row → Given
 given_by rows name = first_of name rows
+
+-- what `mark` asks for with its options
+unfoldable pub mark_given : Given → Option Plan
+mark_given given = do
+  files ← table_given given
+  marking ← marking_given given
+  Some (Mark files.0 files.1 marking.0 marking.1)
 
 -- what a command and its options ask for
 abbrev pub plan_of : Text × List Row → Option Plan
@@ -23,6 +30,7 @@ plan_of c =
     else if bytes_eq c.0 (codes "certify") then given_by c.1 (codes "domain") >>= (λ domain. Some (Certify domain))
     else if bytes_eq c.0 (codes "check") then table_given (given_by c.1) >>= (λ files. Some (Check files.0 files.1))
     else if bytes_eq c.0 (codes "audit") then table_given (given_by c.1) >>= (λ files. Some (Audit files.0 files.1))
+    else if bytes_eq c.0 (codes "mark") then mark_given (given_by c.1)
     else None
 
 -- the words are a command line of the program, with nothing wrong in its form
@@ -42,6 +50,7 @@ IsPlanOf words (Envelope rate burst) = IsWellFormed words × (asked_by words ≡
 IsPlanOf words (Certify domain) = IsWellFormed words × (asked_by words ≡ Some (Certify domain))
 IsPlanOf words (Check domain certificate) = IsWellFormed words × (asked_by words ≡ Some (Check domain certificate))
 IsPlanOf words (Audit domain certificate) = IsWellFormed words × (asked_by words ≡ Some (Audit domain certificate))
+IsPlanOf words (Mark domain certificate port keeps_red) = IsWellFormed words × (asked_by words ≡ Some (Mark domain certificate port keeps_red))
 
 -- something other than a wish for help stands against the form of the words
 abbrev pub IsMalformed : List Text → Type 0
@@ -60,3 +69,4 @@ IsHelp (Envelope rate burst) = ⊥
 IsHelp (Certify domain) = ⊥
 IsHelp (Check domain certificate) = ⊥
 IsHelp (Audit domain certificate) = ⊥
+IsHelp (Mark domain certificate port keeps_red) = ⊥

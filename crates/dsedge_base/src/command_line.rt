@@ -1,7 +1,7 @@
 ghost use Rattle.std.specs.Prelude.{◌≡◌, IfOk, true, false};
 ghost use Rattle.clap.specs.Words.{app_of, rule_of};
 ghost use Rattle.clap.specs.declared.builder.command.Command.TheViews.{out-Command as fields_of};
-ghost use Rattle.dsedge_base.specs.CommandLine.{audit, certify, check, dsedge, envelope, meter, on_table, optional, positional, required};
+ghost use Rattle.dsedge_base.specs.CommandLine.{audit, certify, check, dsedge, envelope, mark, meter, on_table, optional, positional, program, required};
 
 use clap::{Arg, Command};
 use std::alloc::{AllocError, Global};
@@ -10,16 +10,25 @@ use std::alloc::{AllocError, Global};
 pub(crate) fn command_line<'a>(alloc: Global) -> Result<Command<'a>, AllocError>
     ensures { IfOk result (λ command. app_of command ≡ dsedge) }
 {
-    Command::new(alloc, "dsedge")
-        .bin_name("dsedge")?
-        .about("A DiffServ traffic conditioner: three-colour meters for streams of packets.")
-        .no_binary_name(true)
-        .subcommand_required(true)
+    program(alloc)?
         .subcommand(meter_command(alloc)?)?
         .subcommand(envelope_command(alloc)?)?
         .subcommand(certify_command(alloc)?)?
         .subcommand(check_command(alloc)?)?
-        .subcommand(audit_command(alloc)?)
+        .subcommand(audit_command(alloc)?)?
+        .subcommand(mark_command(alloc)?)
+}
+
+/// `dsedge`, without its commands.
+fn program<'a>(alloc: Global) -> Result<Command<'a>, AllocError>
+    ensures { IfOk result (λ command. app_of command ≡ program) }
+{
+    let command = Command::new(alloc, "dsedge")
+        .bin_name("dsedge")?
+        .about("A DiffServ traffic conditioner: meters, marks and certificates.")
+        .no_binary_name(true)
+        .subcommand_required(true);
+    Ok(command)
 }
 
 /// `dsedge meter`.
@@ -99,6 +108,22 @@ fn audit_command<'a>(alloc: Global) -> Result<Command<'a>, AllocError>
     let about =
         "Judges the run on standard input: lines send CONTRACT PACKET SIZE DSCP MOMENT and visit PACKET MOMENT.";
     table_command(alloc, "audit", about)
+}
+
+/// `dsedge mark`.
+fn mark_command<'a>(alloc: Global) -> Result<Command<'a>, AllocError>
+    ensures shape { IfOk result (λ command. app_of command ≡ mark) }
+    ensures local { IfOk result (λ command. (fields_of command).has_globals ≡ false) }
+{
+    let about =
+        "Marks the capture on standard input by the meters that its packets pass, and reports on standard error.";
+    let port = "the port that the frames come in at";
+    let workers = "how many workers mark: 1";
+    let red = "what is done with red frames: keep or drop";
+    table_command(alloc, "mark", about)?
+        .arg(needed(alloc, "port", "PORT", port))?
+        .arg(needed(alloc, "workers", "WORKERS", workers))?
+        .arg(needed(alloc, "red", "RULE", red))
 }
 
 /// A command on a domain and a certificate.

@@ -1,9 +1,10 @@
 ghost use Rattle.std.specs.Prelude.{◌≡◌, option_map};
 ghost use Rattle.clap.specs.Words.{first_of, found_of, rows_of};
-ghost use Rattle.dsedge_base.specs.Options.{burst_said, envelope_burst_said, envelope_given, is_given, meter_given, mode_said, moment_said, opened};
-ghost use Rattle.dsedge_base.specs.Options.{origin_said, parameters_given, rate_said, separate_rates_given, single_rate_given, table_given, two_rate_given};
+ghost use Rattle.dsedge_base.specs.Options.{burst_said, envelope_burst_said, envelope_given, is_given, marking_given, meter_given, mode_said, moment_said, opened};
+ghost use Rattle.dsedge_base.specs.Options.{origin_said, parameters_given, rate_said, red_said, separate_rates_given, single_rate_given, table_given, two_rate_given, workers_said};
 ghost use Rattle.dsedge_base.specs.Plans.{given_by};
 
+use crate::port::PortName;
 use clap::ArgMatches;
 use dsedge_files::FileName;
 use line_text::number;
@@ -52,6 +53,17 @@ pub(crate) fn table_in<'a>(options: &ArgMatches<'a>) -> Option<(FileName<'a>, Fi
     let domain = file_in(options, "domain")?;
     let certificate = file_in(options, "certificate")?;
     Some((domain, certificate))
+}
+
+/// The port, and whether red frames are kept, that the options of `mark` ask for, if they ask for one worker.
+#[tactic(auto, unfolding(crate::specs::Options::marking_given))]
+pub(crate) fn marking_in<'a>(options: &ArgMatches<'a>) -> Option<(PortName<'a>, bool)>
+    ensures { result ≡ marking_given (given_by (rows_of (found_of options.now))) }
+{
+    let port = text_in(options, "port")?;
+    workers_said_by(text_in(options, "workers")?)?;
+    let keeps_red = red_said_by(text_in(options, "red")?)?;
+    Some((PortName::new(port), keeps_red))
 }
 
 /// The meter of parameters that are those of one.
@@ -142,6 +154,28 @@ fn mode_said_by(text: &str) -> Option<Mode>
     match text {
         "blind" => Some(Mode::Blind),
         "aware" => Some(Mode::Aware),
+        _ => None,
+    }
+}
+
+/// How many workers a text says: 1.
+#[tactic(auto, unfolding(crate::specs::Options::number_within))]
+fn workers_said_by(text: &str) -> Option<u64>
+    ensures { result ≡ workers_said text.now }
+{
+    match number(text.as_bytes(), u64::MAX)? {
+        1 => Some(1),
+        _ => None,
+    }
+}
+
+/// Whether a text says that red frames are kept.
+fn red_said_by(text: &str) -> Option<bool>
+    ensures { result ≡ red_said text.now }
+{
+    match text {
+        "keep" => Some(true),
+        "drop" => Some(false),
         _ => None,
     }
 }

@@ -1,10 +1,10 @@
 ghost use Rattle.std.specs.Prelude.{◌≡◌, ◌≢◌, IfErr, IfOk, map, option_and_then};
 ghost use Rattle.clap.specs.Words.{found_of, kind_of, rows_of, subcommand_rows_of};
-ghost use Rattle.dsedge_base.specs.Plans.{IsHelp, IsPlanOf, IsRefusalOf, plan_of};
+ghost use Rattle.dsedge_base.specs.Plans.{IsHelp, IsPlanOf, IsRefusalOf, given_by, mark_given, plan_of};
 
 use crate::command_line::command_line;
 use crate::fault::UsageFault;
-use crate::options::{envelope_in, file_in, meter_in, table_in};
+use crate::options::{envelope_in, file_in, marking_in, meter_in, table_in};
 use crate::work::Plan;
 use clap::error::ErrorKind;
 use clap::{ArgMatches, Error};
@@ -62,8 +62,24 @@ fn asked_of<'a>(name: &str, options: &ArgMatches<'a>) -> Option<Plan<'a>>
                 certificate,
             })
         }
+        "mark" => mark_asked(options),
         _ => None,
     }
+}
+
+/// What `mark` asks for with its options.
+#[tactic(auto, unfolding(crate::specs::Plans::mark_given))]
+fn mark_asked<'a>(options: &ArgMatches<'a>) -> Option<Plan<'a>>
+    ensures { result ≡ mark_given (given_by (rows_of (found_of options.now))) }
+{
+    let (domain, certificate) = table_in(options)?;
+    let (port, keeps_red) = marking_in(options)?;
+    Some(Plan::Mark {
+        domain,
+        certificate,
+        port,
+        keeps_red,
+    })
 }
 
 /// The help that was asked for, or why words are refused.

@@ -1,6 +1,7 @@
 ghost use Rattle.std.specs.Prelude.{◌≡◌, IfOk};
 ghost use Rattle.dsedge_base.specs.Files.{files_of};
 
+use crate::port::PortName;
 use dsedge_files::FileName;
 use meter_book::AnyMeter;
 use moment_core::Rate;
@@ -39,6 +40,17 @@ pub enum Plan<'a> {
         /// The file of the certificate.
         certificate: FileName<'a>,
     },
+    /// Mark the capture of standard input at a port of a domain with a certificate of its contracts.
+    Mark {
+        /// The file of the domain.
+        domain: FileName<'a>,
+        /// The file of the certificate.
+        certificate: FileName<'a>,
+        /// The port that the frames come in at.
+        port: PortName<'a>,
+        /// Whether red frames stay in the capture, or are left out.
+        keeps_red: bool,
+    },
 }
 
 impl<'a> Plan<'a> {
@@ -57,6 +69,11 @@ impl<'a> Plan<'a> {
             | Plan::Audit {
                 domain,
                 certificate,
+            }
+            | Plan::Mark {
+                domain,
+                certificate,
+                ..
             } => {
                 names.push(FileName::new(domain.text()))?;
                 names.push(FileName::new(certificate.text()))?;

@@ -4,10 +4,12 @@ use Rattle.std.proofs.lemmas.Grind.{flat_map-append}
 use Rattle.std.proofs.lemmas.List.{drop_more}
 use Rattle.pcap_capture.specs.Counts.{next_count}
 use Rattle.dsedge_serve.specs.Served.{IsTold}
-use Rattle.std.specs.Prelude.{codes, decimal}
+use Rattle.std.specs.Prelude.{codes, decimal, slice_index}
+use Rattle.capture_marker.specs.declared.report.Report.{Report}
 use Rattle.ds_domain_base.specs.Faults.{field_text, kind_code, section_text}
 use Rattle.ds_domain_base.specs.declared.fault.DomainFault.{DomainFault}
 use Rattle.dsedge_serve.specs.Faults.{IsFrontOf, fault_text, kind_text, text_or_dash}
+use Rattle.dsedge_serve.specs.Marked.{colours_text, counts_text}
 use Rattle.dsedge_serve.specs.declared.fault.Fault.TheVariants.{Domain}
 
 -- what is given of the first part is a front of the whole
@@ -76,3 +78,50 @@ domain_line fault code kind section index field is_code is_kind is_section is_in
 -- a whole text that was not written to its end
 pub whole_front : (before after text : List ℕ) → (given : ℕ) × (after ≡ before ++ take given text) → IsFrontOf before text after
 whole_front before after text h = (take h.0 text, drop h.0 text, sym (take-append-drop h.0 text), h.1)
+
+-- two texts that were told one behind the other
+pub behind_told : {E : Type 0} (result : Result (Unit {0}) E) (before mid after first second : List ℕ) → mid ≡ before ++ first
+    → MatchResult result (λ _. after ≡ mid ++ second) (λ _. IsFrontOf mid second after)
+    → MatchResult result (λ _. after ≡ before ++ (first ++ second)) (λ _. IsFrontOf before (first ++ second) after)
+behind_told (Ok x) before mid after first second e h = h ∙ (ap (λ t. t ++ second) e ∙ append_assoc before first second)
+behind_told (Err fault) before mid after first second e h = front_behind_part before mid after first second e h
+
+-- a front of the first of two texts
+pub front_told : (before after first second : List ℕ) → IsFrontOf before first after → IsFrontOf before (first ++ second) after
+front_told before after first second f = (f.0, f.1 ++ second, ap (λ t. t ++ second) f.2 ∙ append_assoc f.0 f.1 second, f.3)
+
+-- a line with a count, and what stands behind it
+count_on : (name number digits rest tail : List ℕ) → number ≡ digits → rest ≡ tail
+    → name ++ (number ++ (codes "\n" ++ rest)) ≡ name ++ digits ++ codes "\n" ++ tail
+count_on name number digits rest tail is behind = rw (is, behind) (simp append_assoc)
+
+-- a line with two counts, and what stands behind it
+counts_on : (name packets first bytes second rest tail : List ℕ) → packets ≡ first → bytes ≡ second → rest ≡ tail
+    → name ++ (packets ++ (codes " " ++ (bytes ++ (codes "\n" ++ rest)))) ≡ name ++ first ++ codes " " ++ second ++ codes "\n" ++ tail
+counts_on name packets first bytes second rest tail is_first is_second behind = rw (is_first, is_second, behind) (simp append_assoc)
+
+-- the lines of a report's counts, by their parts
+pub counts_line_of : (r : Report) (records marked unmatched skipped unverified dropped : List ℕ) → records ≡ decimal r.records → marked ≡ decimal r.marked
+    → unmatched ≡ decimal r.unmatched → skipped ≡ decimal r.skipped → unverified ≡ decimal r.unverified → dropped ≡ decimal r.dropped
+    → codes "records " ++ (records ++ (codes "\n" ++ (codes "marked " ++ (marked ++ (codes "\n" ++ (codes "unmatched " ++ (unmatched ++ (codes "\n"
+    ++ (codes "skipped " ++ (skipped ++ (codes "\n" ++ (codes "unverified " ++ (unverified ++ (codes "\n" ++ (codes "dropped " ++ (dropped ++ (codes "\n" ++ [])))))))))))))))))
+    ≡ counts_text r
+counts_line_of r records marked unmatched skipped unverified dropped is_records is_marked is_unmatched is_skipped is_unverified is_dropped =
+    count_on (codes "records ") records (decimal r.records) _ _ is_records
+    (count_on (codes "marked ") marked (decimal r.marked) _ _ is_marked
+    (count_on (codes "unmatched ") unmatched (decimal r.unmatched) _ _ is_unmatched
+    (count_on (codes "skipped ") skipped (decimal r.skipped) _ _ is_skipped
+    (count_on (codes "unverified ") unverified (decimal r.unverified) _ _ is_unverified
+    (count_on (codes "dropped ") dropped (decimal r.dropped) [] [] is_dropped refl)))))
+
+-- the lines of a report's accounts, by their parts
+pub colours_line_of : (r : Report) (green green_bytes yellow yellow_bytes red red_bytes : List ℕ) → green ≡ decimal (slice_index r.packets 0)
+    → green_bytes ≡ decimal (slice_index r.bytes 0) → yellow ≡ decimal (slice_index r.packets 1) → yellow_bytes ≡ decimal (slice_index r.bytes 1)
+    → red ≡ decimal (slice_index r.packets 2) → red_bytes ≡ decimal (slice_index r.bytes 2)
+    → codes "green " ++ (green ++ (codes " " ++ (green_bytes ++ (codes "\n" ++ (codes "yellow " ++ (yellow ++ (codes " " ++ (yellow_bytes ++ (codes "\n"
+    ++ (codes "red " ++ (red ++ (codes " " ++ (red_bytes ++ (codes "\n" ++ []))))))))))))))
+    ≡ colours_text r
+colours_line_of r green green_bytes yellow yellow_bytes red red_bytes is_green is_green_bytes is_yellow is_yellow_bytes is_red is_red_bytes =
+    counts_on (codes "green ") green (decimal (slice_index r.packets 0)) green_bytes (decimal (slice_index r.bytes 0)) _ _ is_green is_green_bytes
+    (counts_on (codes "yellow ") yellow (decimal (slice_index r.packets 1)) yellow_bytes (decimal (slice_index r.bytes 1)) _ _ is_yellow is_yellow_bytes
+    (counts_on (codes "red ") red (decimal (slice_index r.packets 2)) red_bytes (decimal (slice_index r.bytes 2)) [] [] is_red is_red_bytes refl))

@@ -6,8 +6,10 @@ use Rattle.ds_domain_base.specs.declared.fault.Kind.{Kind}
 use Rattle.ds_domain_base.specs.declared.fault.Kind.TheVariants as kinds
 use Rattle.ds_certificate.specs.declared.fault.CertificateFault.{CertificateFault}
 use Rattle.ds_certificate.specs.declared.fault.CertificateFault.TheVariants as certificates
+use Rattle.pcap_capture.specs.declared.fault.PcapFault.{PcapFault}
+use Rattle.pcap_capture.specs.declared.fault.PcapFault.TheVariants as pcaps
 use Rattle.dsedge_serve.specs.declared.fault.Fault.{Fault}
-use Rattle.dsedge_serve.specs.declared.fault.Fault.TheVariants.{Usage, Line, Domain, Certificate, File, Read, Write, Memory, Full}
+use Rattle.dsedge_serve.specs.declared.fault.Fault.TheVariants.{Usage, Line, Domain, Certificate, Capture, Port, File, Read, Write, Memory, Full}
 use Rattle.dsedge_serve.specs.declared.notice.Notice.{Notice}
 use Rattle.dsedge_serve.specs.declared.notice.Notice.TheVariants as notices
 
@@ -42,12 +44,27 @@ certificate_fault_text certificates.Shape = codes "2 Shape"
 certificate_fault_text certificates.Range = codes "3 Range"
 certificate_fault_text certificates.NoMemory = codes "4 NoMemory"
 
+-- what is wrong with a capture: CODE KIND
+abbrev pub capture_fault_text : PcapFault → List ℕ
+capture_fault_text pcaps.NotPcap = codes "1 NotPcap"
+capture_fault_text pcaps.IsPcapng = codes "2 IsPcapng"
+capture_fault_text pcaps.BadVersion = codes "3 BadVersion"
+capture_fault_text (pcaps.LinkType number) = codes "4 LinkType"
+capture_fault_text (pcaps.RecordTooLong count) = codes "5 RecordTooLong"
+capture_fault_text pcaps.Truncated = codes "6 Truncated"
+capture_fault_text pcaps.ReadFault = codes "7 ReadFault"
+capture_fault_text pcaps.WriteFault = codes "8 WriteFault"
+capture_fault_text pcaps.NoMemory = codes "9 NoMemory"
+capture_fault_text pcaps.Failed = codes "10 Failed"
+
 -- the line of a fault
 abbrev pub fault_text : Fault → List ℕ
 fault_text Usage = codes "dsedge: usage\n"
 fault_text (Line number) = codes "dsedge: line " ++ decimal number ++ codes "\n"
 fault_text (Domain fault) = codes "dsedge: domain " ++ domain_fault_text fault ++ codes "\n"
 fault_text (Certificate fault) = codes "dsedge: certificate " ++ certificate_fault_text fault ++ codes "\n"
+fault_text (Capture fault) = codes "dsedge: capture " ++ capture_fault_text fault ++ codes "\n"
+fault_text (Port name) = codes "dsedge: port " ++ name ++ codes "\n"
 fault_text (File name) = codes "dsedge: file " ++ name ++ codes "\n"
 fault_text Read = codes "dsedge: read\n"
 fault_text Write = codes "dsedge: write\n"
@@ -60,6 +77,8 @@ status_of Usage = 2
 status_of (Line number) = 3
 status_of (Domain fault) = 3
 status_of (Certificate fault) = 3
+status_of (Capture fault) = 3
+status_of (Port name) = 3
 status_of (File name) = 4
 status_of Read = 4
 status_of Write = 4

@@ -2,6 +2,7 @@
 pub mod Arrivals
 pub mod Books
 pub mod Faults
+pub mod Marked
 pub mod Metered
 pub mod Served
 pub mod Verdicts

@@ -5,14 +5,17 @@ use Rattle.line_text.specs.Lines.{lines_of}
 use Rattle.dsedge_serve.specs.Books.{fresh_book}
 use Rattle.pcap_capture.specs.Counts.{count_after, next_count}
 use Rattle.dsedge_base.specs.declared.work.Plan.{Plan}
-use Rattle.dsedge_base.specs.declared.work.Plan.TheVariants.{Audit, Certify, Check, Envelope, Help, Meter}
+use Rattle.dsedge_base.specs.declared.work.Plan.TheVariants.{Audit, Certify, Check, Envelope, Help, Mark, Meter}
 use Rattle.ds_domain_base.specs.declared.fault.DomainFault.{DomainFault}
+use Rattle.capture_marker.specs.Markings.{IsOfReads as IsOfCaptureReads, is_unwritten}
+use Rattle.capture_marker.specs.declared.rule.RedRule.{RedRule}
 use Rattle.dsedge_lines.specs.Answers.{Answer}
 use Rattle.dsedge_lines.specs.declared.command.Ending.TheVariants as endings
 use Rattle.dsedge_lines.specs.declared.fault.PumpFault.{PumpFault}
 use Rattle.dsedge_lines.specs.declared.fault.PumpFault.TheVariants as pump_faults
+use Rattle.dsedge_lines.specs.Faults.{is_read_fault, is_write_fault}
 use Rattle.ds_checker.specs.Acceptance.{Table}
-use Rattle.ds_conductor.specs.Steps.{opened}
+use Rattle.ds_conductor_base.specs.Steps.{opened}
 use Rattle.dsedge_audit.specs.Audited.{audit_from}
 use Rattle.dsedge_texts.specs.Accepted.{accepted_in}
 use Rattle.dsedge_texts.specs.Certified.{certified}
@@ -22,9 +25,12 @@ use Rattle.dsedge_serve.specs.declared.conclusion.Conclusion.{Conclusion}
 use Rattle.dsedge_serve.specs.declared.conclusion.Conclusion.TheVariants.{Ended, Unaccepted, Uncertified, Unsound}
 use Rattle.dsedge_serve.specs.declared.fault.Fault.TheVariants as faults
 use Rattle.dsedge_serve.specs.Faults.{IsFrontOf, notice_text, status_of}
+use Rattle.dsedge_serve.specs.Marked.{IsMarkedOver, IsUnmarked, marking_answer, marking_status, marking_told, rule_said}
 use Rattle.dsedge_serve.specs.Metered.{answer_of}
 use Rattle.dsedge_serve.specs.declared.notice.Notice.{Notice}
 use Rattle.dsedge_serve.specs.declared.notice.Notice.TheVariants as notices
+use Rattle.dsedge_serve.specs.declared.outcome.Outcome.{Outcome}
+use Rattle.dsedge_serve.specs.declared.outcome.Outcome.TheVariants.{Answered, Marked}
 use Rattle.dsedge_serve.specs.Verdicts.{envelope_for, verdict_on}
 
 -- a text on standard output, and how it ends
@@ -72,19 +78,34 @@ abbrev pub second_text : List (List ℕ) → List ℕ
 second_text [] = []
 second_text (text ∷ texts) = first_text texts
 
--- the reply that a plan asks for, to the texts of its files and the bytes of an input
-abbrev pub answer_for : Plan → List (List ℕ) → List ℕ → Reply
-answer_for (Help text) texts bytes = whole_text (string_bytes text)
-answer_for (Meter meter) texts bytes = reply_of (answer_of (fresh_book meter) 1 (lines_of bytes))
-answer_for (Envelope rate burst) texts bytes = reply_of (verdict_on (envelope_for rate burst) (lines_of bytes))
-answer_for (Certify domain) texts bytes = reply_by (certified (first_text texts))
-answer_for (Check domain certificate) texts bytes = reply_on (accepted_in (first_text texts) (second_text texts))
-answer_for (Audit domain certificate) texts bytes = reply_over (accepted_in (first_text texts) (second_text texts)) (lines_of bytes)
-
 -- a reply was written behind what stood, to its end; or a front of it, where a device failed or memory ran out
 pub record IsServed (reply : Reply) (outcome : Result Conclusion PumpFault) (before after : List ℕ) : Type 0 where
   pub whole : IfOk outcome (λ conclusion. (after ≡ before ++ reply.text) × (conclusion ≡ reply.conclusion))
   pub front : OnErr outcome (IsFrontOf before reply.text after)
+
+-- a reply was given, and not the marking of a capture
+abbrev pub IsReplied : Reply → Outcome → List ℕ → List ℕ → Type 0
+IsReplied reply (Answered outcome) before after = IsServed reply outcome before after
+IsReplied reply (Marked report fault port) before after = ⊥
+
+-- a capture was marked at this port of a table, if that is accepted
+abbrev pub IsMarkedAt : Result Table TableFault → List ℕ → RedRule → List ℕ → List ℕ → Outcome → List ℕ → List ℕ → Type 0
+IsMarkedAt found port red bytes more (Answered outcome) before after = IsUnmarked found outcome before after
+IsMarkedAt found port red bytes more (Marked report fault name) before after = (name ≡ port) × IsMarkedOver found port red bytes more report fault before after
+
+-- What a plan asks for was written, for the texts of its files and the bytes that the input had, of which it still has more.
+abbrev pub IsAnswered : Plan → List (List ℕ) → List ℕ → List ℕ → Outcome → List ℕ → List ℕ → Type 0
+IsAnswered (Help text) texts bytes more outcome before after = IsReplied (whole_text (string_bytes text)) outcome before after
+IsAnswered (Meter meter) texts bytes more outcome before after = IsReplied (reply_of (answer_of (fresh_book meter) 1 (lines_of bytes))) outcome before after
+IsAnswered (Envelope rate burst) texts bytes more outcome before after =
+    IsReplied (reply_of (verdict_on (envelope_for rate burst) (lines_of bytes))) outcome before after
+IsAnswered (Certify domain) texts bytes more outcome before after = IsReplied (reply_by (certified (first_text texts))) outcome before after
+IsAnswered (Check domain certificate) texts bytes more outcome before after =
+    IsReplied (reply_on (accepted_in (first_text texts) (second_text texts))) outcome before after
+IsAnswered (Audit domain certificate) texts bytes more outcome before after =
+    IsReplied (reply_over (accepted_in (first_text texts) (second_text texts)) (lines_of bytes)) outcome before after
+IsAnswered (Mark domain certificate port keeps_red) texts bytes more outcome before after =
+    IsMarkedAt (accepted_in (first_text texts) (second_text texts)) port (rule_said keeps_red) bytes more outcome before after
 
 -- what there is to tell of an outcome
 abbrev pub notice_of : Result Conclusion PumpFault → Option Notice
@@ -128,3 +149,23 @@ IsOfWrites fault failed now = now ≡ (if fault then next_count failed else fail
 pub record IsOfReads (fault : Bool) (failed now asked_before asked : ℕ) : Type 0 where
   pub failed_or_spent : fault ≡ true → (now ≡ next_count failed) ⊎ ((now ≡ failed) × (asked ≡ count_after (2 ^ 32) asked_before))
   pub else_unfailed : fault ≡ false → now ≡ failed
+
+-- whether the output could not be written
+abbrev pub is_output_fault : Outcome → Bool
+is_output_fault (Answered outcome) = is_write_fault outcome
+is_output_fault (Marked report fault port) = is_unwritten (marking_answer report fault)
+
+-- a read fault comes only where the input failed once, or was asked 2^32 times
+abbrev pub IsOfInput : Outcome → ℕ → ℕ → ℕ → ℕ → Type 0
+IsOfInput (Answered outcome) failed now asked_before asked = IsOfReads (is_read_fault outcome) failed now asked_before asked
+IsOfInput (Marked report fault port) failed now asked_before asked = IsOfCaptureReads (marking_answer report fault) failed now asked_before asked
+
+-- the exit status of a plan that went so
+abbrev pub status_after : Outcome → ℕ
+status_after (Answered outcome) = status_for outcome
+status_after (Marked report fault port) = marking_status fault port
+
+-- what is told of it on standard error
+abbrev pub told_after : Outcome → List ℕ
+told_after (Answered outcome) = told_of outcome
+told_after (Marked report fault port) = marking_told report fault port

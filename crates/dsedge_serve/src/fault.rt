@@ -1,14 +1,15 @@
 ghost use Rattle.std.specs.Prelude.{◌≡◌, ◌++◌, List, ℕ, MatchResult, is_ok, if◌then◌else◌};
 ghost use Rattle.pcap_capture.specs.Counts.{next_count};
-ghost use Rattle.dsedge_serve.specs.Faults.{IsFrontOf, certificate_fault_text, fault_text, kind_text, status_of, text_or_dash};
+ghost use Rattle.dsedge_serve.specs.Faults.{IsFrontOf, capture_fault_text, certificate_fault_text, fault_text, kind_text, status_of, text_or_dash};
 
 use crate::parts::give_parts;
 use ds_certificate::CertificateFault;
 use ds_domain_base::{DomainFault, Kind};
+use dsedge_base::PortName;
 use dsedge_files::FileName;
 use dsedge_lines::give_all;
 use itoa::Buffer;
-use pcap_capture::{DeviceFault, Outlet};
+use pcap_capture::{DeviceFault, Outlet, PcapFault};
 
 /// Why the program did not do all that it was asked for.
 #[derive(Debug, Drop)]
@@ -21,6 +22,10 @@ pub enum Fault<'a> {
     Domain(DomainFault),
     /// The text of the certificate has a fault.
     Certificate(CertificateFault),
+    /// The capture has a fault.
+    Capture(PcapFault),
+    /// The domain has no port of this name.
+    Port(PortName<'a>),
     /// The file of this name cannot be read, or has more than 16 MiB.
     File(FileName<'a>),
     /// The input could not be read.
@@ -40,7 +45,11 @@ impl Fault<'_> {
     {
         match self {
             Fault::Usage => 2,
-            Fault::Line(_) | Fault::Domain(_) | Fault::Certificate(_) => 3,
+            Fault::Line(_)
+            | Fault::Domain(_)
+            | Fault::Certificate(_)
+            | Fault::Capture(_)
+            | Fault::Port(_) => 3,
             Fault::File(_) | Fault::Read | Fault::Write => 4,
             Fault::Memory | Fault::Full => 5,
         }
@@ -65,6 +74,11 @@ impl Fault<'_> {
                 faults,
                 &["dsedge: certificate ", certificate_text(*fault), "\n"],
             ),
+            Fault::Capture(fault) => give_parts(
+                faults,
+                &["dsedge: capture ", capture_text(*fault), "\n"],
+            ),
+            Fault::Port(name) => give_parts(faults, &["dsedge: port ", name.text(), "\n"]),
             Fault::File(name) => give_parts(faults, &["dsedge: file ", name.text(), "\n"]),
             Fault::Read => give_all(faults, b"dsedge: read\n"),
             Fault::Write => give_all(faults, b"dsedge: write\n"),
@@ -127,6 +141,24 @@ fn certificate_text(fault: CertificateFault) -> &'static str
         CertificateFault::Shape => "2 Shape",
         CertificateFault::Range => "3 Range",
         CertificateFault::NoMemory => "4 NoMemory",
+    }
+}
+
+/// How a fault of a capture is written, its number and its kind.
+fn capture_text(fault: PcapFault) -> &'static str
+    ensures { result.now ≡ capture_fault_text fault }
+{
+    match fault {
+        PcapFault::NotPcap => "1 NotPcap",
+        PcapFault::IsPcapng => "2 IsPcapng",
+        PcapFault::BadVersion => "3 BadVersion",
+        PcapFault::LinkType(_) => "4 LinkType",
+        PcapFault::RecordTooLong(_) => "5 RecordTooLong",
+        PcapFault::Truncated => "6 Truncated",
+        PcapFault::ReadFault => "7 ReadFault",
+        PcapFault::WriteFault => "8 WriteFault",
+        PcapFault::NoMemory => "9 NoMemory",
+        PcapFault::Failed => "10 Failed",
     }
 }
 

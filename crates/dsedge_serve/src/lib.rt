@@ -5,11 +5,15 @@ mod arrivals;
 mod conclusion;
 mod envelope;
 mod fault;
+mod marking;
 mod meter;
 mod notice;
+mod outcome;
 mod parts;
+mod report;
 mod serving;
 
 pub use conclusion::Conclusion;
 pub use fault::Fault;
+pub use outcome::Outcome;
 pub use serving::serve;

@@ -1,10 +1,10 @@
-ghost use Rattle.std.specs.Prelude.{◌≡◌, false, length, map, Result};
+ghost use Rattle.std.specs.Prelude.{◌≡◌, false, length, map};
 ghost use Rattle.dsedge_base.specs.Files.{files_of};
-ghost use Rattle.dsedge_lines.specs.declared.fault.PumpFault.{PumpFault};
 ghost use Rattle.dsedge_lines.specs.Faults.{is_read_fault, is_write_fault};
-ghost use Rattle.dsedge_serve.specs.Served.{IsOfReads, IsOfWrites, IsServed, IsTold, Reply, answer_for, notice_of, reply_by, reply_of, reply_on, reply_over, status_for, told_of};
-ghost use Rattle.dsedge_serve.specs.declared.conclusion.Conclusion.{Conclusion};
-ghost use Rattle.ds_conductor.specs.Steps.{opened};
+ghost use Rattle.dsedge_serve.specs.Served.{IsAnswered, IsOfInput, IsOfReads, IsOfWrites, IsServed, IsTold, Reply, is_output_fault, notice_of, reply_by, reply_of, reply_on, reply_over, status_after, status_for, told_after, told_of};
+ghost use Rattle.dsedge_serve.specs.Marked.{rule_said};
+ghost use Rattle.dsedge_serve.specs.declared.outcome.Outcome.{Outcome};
+ghost use Rattle.ds_conductor_base.specs.Steps.{opened};
 ghost use Rattle.dsedge_audit.specs.Audited.{audit_from};
 ghost use Rattle.dsedge_texts.specs.Accepted.{accepted_in};
 ghost use Rattle.dsedge_texts.specs.Certified.{certified};
@@ -13,9 +13,12 @@ ghost use Rattle.line_text.specs.Lines.{lines_of};
 use crate::conclusion::Conclusion;
 use crate::envelope::EnvelopeCommand;
 use crate::fault::Fault;
+use crate::marking::{answer_mark, marking_status, tell_marking};
 use crate::meter::MeterCommand;
 use crate::notice::Notice;
+use crate::outcome::Outcome;
 use ds_checker::Accepted;
+use ds_conductor::RedRule;
 use ds_domain_base::{DomainFault, Kind};
 use dsedge_audit::AuditCommand;
 use dsedge_base::Plan;
@@ -152,38 +155,63 @@ fn judge_run<I: Intake, O: Outlet>(
 }
 
 /// Answers what a plan asks for, on the output, from the texts of its files.
-pub fn answer<I: Intake, O: Outlet>(
+fn answer<'a, I: Intake, O: Outlet>(
     alloc: Global,
-    plan: Plan<'_>,
+    plan: Plan<'a>,
     texts: &[Vec<u8>],
     intake: &mut I,
     output: &mut O,
-) -> Result<Conclusion, PumpFault>
+) -> Outcome<'a>
     requires { length texts.now ≡ length (files_of plan) }
     ensures served { I.tells intake.old → O.tells output.old →
-        IsServed (answer_for plan.entry (map (λ text. text.items) texts.now) (I.left intake.old)) result (O.held output.old) (O.held output.new) }
-    ensures writes { IsOfWrites (is_write_fault result) (O.failed output.old) (O.failed output.new) }
-    ensures reads { IsOfReads (is_read_fault result) (I.failed intake.old) (I.failed intake.new)
-        (I.turns intake.old) (I.turns intake.new) }
+        IsAnswered plan.entry (map (λ text. text.items) texts.now) (I.left intake.old) (I.left intake.new) result
+        (O.held output.old) (O.held output.new) }
+    ensures writes { IsOfWrites (is_output_fault result) (O.failed output.old) (O.failed output.new) }
+    ensures reads { IsOfInput result (I.failed intake.old) (I.failed intake.new) (I.turns intake.old) (I.turns intake.new) }
 {
     match plan {
-        Plan::Help(text) => answer_text(text.as_bytes(), Ending::Whole, output),
+        Plan::Help(text) => {
+            Outcome::Answered(answer_text(text.as_bytes(), Ending::Whole, output))
+        }
         Plan::Meter(meter) => {
             let mut command = MeterCommand::new(alloc, meter);
-            answer_lines(alloc, &mut command, intake, output)
+            Outcome::Answered(answer_lines(alloc, &mut command, intake, output))
         }
         Plan::Envelope { rate, burst } => {
             let mut command = EnvelopeCommand::new(alloc, rate, burst);
-            answer_lines(alloc, &mut command, intake, output)
+            Outcome::Answered(answer_lines(alloc, &mut command, intake, output))
         }
-        Plan::Certify { .. } => answer_certify(alloc, texts[0].as_slice(), output),
+        Plan::Certify { .. } => {
+            Outcome::Answered(answer_certify(alloc, texts[0].as_slice(), output))
+        }
         Plan::Check { .. } => {
-            answer_check(alloc, texts[0].as_slice(), texts[1].as_slice(), output)
+            let (domain, certificate) = (texts[0].as_slice(), texts[1].as_slice());
+            Outcome::Answered(answer_check(alloc, domain, certificate, output))
         }
         Plan::Audit { .. } => {
             let (domain, certificate) = (texts[0].as_slice(), texts[1].as_slice());
-            answer_audit(alloc, domain, certificate, intake, output)
+            Outcome::Answered(answer_audit(alloc, domain, certificate, intake, output))
         }
+        Plan::Mark {
+            port,
+            keeps_red,
+            ..
+        } => {
+            let (domain, certificate) = (texts[0].as_slice(), texts[1].as_slice());
+            let red = rule_said(keeps_red);
+            answer_mark(alloc, domain, certificate, port, red, intake, output)
+        }
+    }
+}
+
+/// The rule that a word says.
+fn rule_said(keeps_red: bool) -> RedRule
+    ensures { result ≡ rule_said keeps_red }
+{
+    if keeps_red {
+        RedRule::Keep
+    } else {
+        RedRule::Drop
     }
 }
 
@@ -232,6 +260,29 @@ fn tell<F: Outlet>(outcome: Result<Conclusion, PumpFault>, faults: &mut F)
     }
 }
 
+/// The exit status of a plan that went so.
+fn status_after(outcome: &Outcome<'_>) -> u8
+    ensures { result ≡ status_after outcome.now }
+{
+    match outcome {
+        Outcome::Answered(outcome) => status(outcome),
+        Outcome::Marked(_, fault, port) => marking_status(*fault, port),
+    }
+}
+
+/// Tells how a plan went, where there is anything to tell. A failure to write there is passed over.
+fn tell_after<F: Outlet>(outcome: Outcome<'_>, faults: &mut F)
+    ensures { F.tells faults.old →
+        IsTold (told_after outcome.entry) (F.held faults.old) (F.held faults.new) (F.failed faults.old) (F.failed faults.new) }
+{
+    match outcome {
+        Outcome::Answered(outcome) => tell(outcome, faults),
+        Outcome::Marked(report, fault, port) => {
+            let _told = tell_marking(&report, fault, &port, faults);
+        }
+    }
+}
+
 /// Does what a plan asks for: answers on the output, tells a fault on `faults`, and gives the exit status.
 ///
 /// `texts` are the contents of the files that the plan names, in the order of its words.
@@ -245,16 +296,17 @@ pub fn serve<I: Intake, O: Outlet, F: Outlet>(
 ) -> u8
     requires { length texts.now ≡ length (files_of plan) }
     // One outcome stands behind what is written, what is told and the status.
-    ensures { (outcome : Result Conclusion PumpFault) × (result ≡ status_for outcome)
+    ensures { (outcome : Outcome) × (result ≡ status_after outcome)
         × (I.tells intake.old → O.tells output.old →
-        IsServed (answer_for plan.entry (map (λ text. text.items) texts.now) (I.left intake.old)) outcome (O.held output.old) (O.held output.new))
+        IsAnswered plan.entry (map (λ text. text.items) texts.now) (I.left intake.old) (I.left intake.new) outcome
+        (O.held output.old) (O.held output.new))
         × (F.tells faults.old →
-        IsTold (told_of outcome) (F.held faults.old) (F.held faults.new) (F.failed faults.old) (F.failed faults.new))
-        × IsOfWrites (is_write_fault outcome) (O.failed output.old) (O.failed output.new)
-        × IsOfReads (is_read_fault outcome) (I.failed intake.old) (I.failed intake.new) (I.turns intake.old) (I.turns intake.new) }
+        IsTold (told_after outcome) (F.held faults.old) (F.held faults.new) (F.failed faults.old) (F.failed faults.new))
+        × IsOfWrites (is_output_fault outcome) (O.failed output.old) (O.failed output.new)
+        × IsOfInput outcome (I.failed intake.old) (I.failed intake.new) (I.turns intake.old) (I.turns intake.new) }
 {
     let outcome = answer(alloc, plan, texts, intake, output);
-    let status = status(&outcome);
-    tell(outcome, faults);
+    let status = status_after(&outcome);
+    tell_after(outcome, faults);
     status
 }

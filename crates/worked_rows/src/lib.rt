@@ -1,5 +1,4 @@
-//! Worked rows of the libraries below: what lines of words, texts of domains and certificates, and captures
-//! give in their public calls.
+//! Worked rows of the libraries below: what lines of words, and texts of domains and of certificates give in their public calls.
 //! They stand here, and not beside those calls, since a crate with tests is proved twice.
 #![tactic(auto)]
 
@@ -10,14 +9,6 @@ mod checker_rows;
 #[cfg(test)]
 mod domain_rows;
 #[cfg(test)]
-mod mark_rows;
-#[cfg(test)]
 mod plan_rows;
 #[cfg(test)]
-mod run_rows;
-#[cfg(test)]
-mod step_rows;
-#[cfg(test)]
 mod tables;
-#[cfg(test)]
-mod traveller_rows;

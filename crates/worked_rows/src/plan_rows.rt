@@ -1,4 +1,4 @@
-use dsedge_base::{Plan, UsageFault, plan};
+use dsedge_base::{Plan, PortName, UsageFault, plan};
 use dsedge_files::FileName;
 use meter_book::{AnyMeter, Parameters};
 use moment_core::{Mode, Moment, Rate};
@@ -168,6 +168,34 @@ fn audit_of_two() -> Plan<'static> {
     }
 }
 
+/// The plan of a mark over the same files.
+fn mark_over_two(keeps_red: bool) -> Plan<'static> {
+    Plan::Mark {
+        domain: FileName::new("domain.toml"),
+        certificate: FileName::new("domain.cert"),
+        port: PortName::new("p"),
+        keeps_red,
+    }
+}
+
+#[test]
+fn a_mark_names_two_files_a_port_and_a_rule(rt: HostRuntime) -> Result<(), Fail> {
+    let alloc = rt.alloc();
+    for (line, keeps_red) in [
+        (
+            "mark domain.toml domain.cert --port p --workers 1 --red keep",
+            true,
+        ),
+        (
+            "mark --red drop --workers 01 --port p domain.toml domain.cert",
+            false,
+        ),
+    ] {
+        expect_plan(&rt, alloc, line, &mark_over_two(keeps_red))?;
+    }
+    Ok(())
+}
+
 #[test]
 fn checks_and_audits_name_two_files(rt: HostRuntime) -> Result<(), Fail> {
     let alloc = rt.alloc();
@@ -211,7 +239,8 @@ fn words_that_are_no_command(rt: HostRuntime) -> Result<(), Fail> {
         "certify --domain one.toml",
         "check domain.toml",
         "check domain.toml domain.cert more",
-        "mark domain.toml domain.cert --port p --workers 1 --red keep",
+        "mark domain.toml domain.cert --port p --workers 2 --red keep",
+        "mark domain.toml domain.cert --port p --workers 1 --red leave",
         "drive domain.toml",
         "audit domain.toml",
         "audit domain.toml domain.cert more",

@@ -1,11 +1,6 @@
-use ds_checker::Accepted;
 use ds_domain::{Contract, parse};
-use dsedge_texts::accept;
-use meter_book::{AnyMeter, Parameters};
-use moment_core::{Mode, Moment, Rate};
 use std::alloc::Global;
 use std::test::Fail;
-use trtcm_core::TrTcmParameters;
 
 /// A meter `m` of 24 Mbit/s and 13,500 bytes, committed and peak, with a skew of 500 µs.
 pub const METER: &str = r#"
@@ -44,28 +39,8 @@ pub fn joined(alloc: Global, parts: &[&str]) -> Result<String, Fail> {
     Ok(text)
 }
 
-/// The table that a domain text of that meter, that port, that link and one contract says with a certificate text.
-pub fn accepted(alloc: Global, contract: &str, certificate: &str) -> Result<Accepted, Fail> {
-    let domain = joined(alloc, &[METER, PORT, LINK, contract])?;
-    match accept(alloc, domain.as_bytes(), certificate.as_bytes()) {
-        Ok(accepted) => Ok(accepted),
-        Err(_) => Err(Fail::from("no acceptable table")),
-    }
-}
-
 /// The contracts of a domain text.
 pub fn contracts(alloc: Global, domain: &str) -> Result<Vec<Contract>, Fail> {
     let (_, contracts) = parse(alloc, domain.as_bytes())?;
     Ok(contracts)
-}
-
-/// A meter of a committed and a peak rate with their bursts, opened at moment 0.
-pub fn two_rates(committed: (u64, u32), peak: (u64, u32), mode: Mode) -> Result<AnyMeter, Fail> {
-    let parameters = TrTcmParameters {
-        committed_rate: Rate::new(committed.0)?,
-        committed_burst: committed.1,
-        peak_rate: Rate::new(peak.0)?,
-        peak_burst: peak.1,
-    };
-    Ok(AnyMeter::new(Parameters::TrTcm(parameters), mode, Moment::new(0)?)?)
 }

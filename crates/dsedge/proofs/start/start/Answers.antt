@@ -1,7 +1,7 @@
 use Rattle.std.proofs.Common.{List, ℕ, Ok, ap, inl, inr, length, map, refl, string_bytes, subst, sym, ◌∙◌}
 use Rattle.std.proofs.lemmas.List.{length-map}
 use Rattle.dsedge_base.specs.Plans.{IsPlanOf}
-use Rattle.dsedge_serve.specs.Served.{IsServed, answer_for}
+use Rattle.dsedge_serve.specs.Served.{IsAnswered}
 use Rattle.dsedge.specs.Started.{IsRefused}
 use Rattle.dsedge.specs.Started.Course.{Refused, Served, Unread}
 use Rattle.dsedge.proofs.StartLemmas.{reads_behind, refused_unread}
@@ -50,7 +50,7 @@ returns-in-Ok-texts_for-clause-course g c =
     let served = c.serve.ensures in
     let asked = c.in-Ok.ensures.asked in
     let P : List (List ℕ) → Type 0 = λ words. IsPlanOf words plan in
-    let Q : List ℕ → Type 0 = λ input. IsServed (answer_for plan texts input) served.0 (g.O.Outlet.held c.args.output.now)
+    let Q : List ℕ → Type 0 = λ input. IsAnswered plan texts input (g.I.Intake.left c.serve.new.intake) served.0 (g.O.Outlet.held c.args.output.now)
     (g.O.Outlet.held c.serve.new.output) in (
       Served plan texts served.0,
       served.1,
@@ -63,7 +63,7 @@ returns-in-Ok-texts_for-clause-course g c =
       λ tell. subst Q (c.in-Ok.ensures.input tell.0) (served.2 (c.in-Ok.ensures.told tell.0) tell.1),
       served.3,
       served.4,
-      (asked.0, asked.1, reads_behind _ _ _ _ _ _ _ c.in-Ok.ensures.failures asked.2 served.5),
+      (asked.0, asked.1, reads_behind served.0 _ _ _ _ _ _ c.in-Ok.ensures.failures asked.2 served.5),
     )
 
 pub returns-clause-course : goal.returns-clause-course

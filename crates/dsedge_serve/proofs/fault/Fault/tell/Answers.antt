@@ -1,6 +1,6 @@
 use Rattle.std.specs.Prelude.{codes, decimal}
-use Rattle.dsedge_serve.specs.Faults.{certificate_fault_text, fault_text}
-use Rattle.dsedge_serve.specs.declared.fault.Fault.TheVariants.{Certificate, File, Line}
+use Rattle.dsedge_serve.specs.Faults.{capture_fault_text, certificate_fault_text, fault_text}
+use Rattle.dsedge_serve.specs.declared.fault.Fault.TheVariants.{Capture, Certificate, File, Line, Port}
 use Rattle.dsedge_serve.proofs.FrontLemmas.{between, given_as, given_or_front}
 use Rattle.dsedge_serve.proofs.fault.Fault.tell.Goals as goal
 
@@ -35,9 +35,19 @@ returns-in-Domain-clause-line g c told = rw c.in-Domain.is (c.tell_domain.ensure
 pub returns-in-File-clause-line : goal.returns-in-File-clause-line
 returns-in-File-clause-line g c told =
     rw c.in-File.is (given_as c.give_parts-in-File.result (g.F.Outlet.held c.args.faults.now) (g.F.Outlet.held c.give_parts-in-File.new.outlet) _ (fault_text (File c.in-File.name))
-    (between (codes "dsedge: file ") c.text.result.now c.in-File.name (codes "\n") c.text.ensures) (c.give_parts-in-File.ensures.bytes told))
+    (between (codes "dsedge: file ") c.text-in-File.result.now c.in-File.name (codes "\n") c.text-in-File.ensures) (c.give_parts-in-File.ensures.bytes told))
 
 pub returns-in-Certificate-clause-line : goal.returns-in-Certificate-clause-line
 returns-in-Certificate-clause-line g c told =
     rw c.in-Certificate.is (given_as c.give_parts-in-Certificate.result (g.F.Outlet.held c.args.faults.now) (g.F.Outlet.held c.give_parts-in-Certificate.new.outlet) _ (fault_text (Certificate c.in-Certificate.fault))
     (between (codes "dsedge: certificate ") c.certificate_text.result.now (certificate_fault_text c.in-Certificate.fault) (codes "\n") c.certificate_text.ensures) (c.give_parts-in-Certificate.ensures.bytes told))
+
+pub returns-in-Capture-clause-line : goal.returns-in-Capture-clause-line
+returns-in-Capture-clause-line g c told =
+    rw c.in-Capture.is (given_as c.give_parts-in-Capture.result (g.F.Outlet.held c.args.faults.now) (g.F.Outlet.held c.give_parts-in-Capture.new.outlet) _ (fault_text (Capture c.in-Capture.fault))
+    (between (codes "dsedge: capture ") c.capture_text.result.now (capture_fault_text c.in-Capture.fault) (codes "\n") c.capture_text.ensures) (c.give_parts-in-Capture.ensures.bytes told))
+
+pub returns-in-Port-clause-line : goal.returns-in-Port-clause-line
+returns-in-Port-clause-line g c told =
+    rw c.in-Port.is (given_as c.give_parts-in-Port.result (g.F.Outlet.held c.args.faults.now) (g.F.Outlet.held c.give_parts-in-Port.new.outlet) _ (fault_text (Port c.in-Port.name))
+    (between (codes "dsedge: port ") c.text.result.now c.in-Port.name (codes "\n") c.text.ensures) (c.give_parts-in-Port.ensures.bytes told))

@@ -1,0 +1,131 @@
+ghost use Rattle.std.specs.Prelude.{◌≡◌, ◌⊎◌, Ok, Err, IfErr, IfOk, OnErr, OnOk};
+ghost use Rattle.ds_conductor_base.specs.Conducting.{run_so_far};
+ghost use Rattle.ds_conductor_base.specs.Steps.{opened, stepped};
+
+use crate::closing::{journals_of, trails_of};
+use crate::fault::StepFault;
+use crate::opening::opened_books;
+use crate::step::Step;
+use crate::visiting::visit_next;
+use af_marker::Dscp;
+use ds_checker::Accepted;
+use indexmap::IndexMap;
+use meter_book::MeterBook;
+use meter_fabric::Traveller;
+use moment_core::{Moment, PacketSize};
+use run_audit::Run;
+use std::alloc::{AllocError, Global};
+use std::marker::Model;
+
+/// A run on its way: the packets that were sent, and the book of each site, which takes 2^20 rows.
+#[derive(Debug, Drop)]
+pub struct Conductor<'a> {
+    accepted: &'a Accepted,
+    travellers: Vec<Traveller>,
+    places: IndexMap<u64, usize>,
+    books: Vec<Option<MeterBook>>,
+}
+
+impl<'a> Model for Conductor<'a> {
+    ghost use Rattle.ds_conductor_base.specs.Kept.{Conduct, IsConductor, conduct_of};
+
+    ghost Value = { Conduct };
+
+    ghost view = { conduct_of };
+
+    ghost invariant = { IsConductor };
+}
+
+impl<'a> Conductor<'a> {
+    /// Before the first step: an empty book for each meter, and for the edge of each policed contract. `AllocError` where
+    /// memory runs out.
+    pub fn new(alloc: Global, accepted: &'a Accepted) -> Result<Self, AllocError>
+        ensures { IfOk result (λ conductor. conductor ≡ record { table = accepted.now; stage = opened accepted.now }) }
+    {
+        let books = opened_books(alloc, accepted)?;
+        Ok(Conductor {
+            accepted,
+            travellers: Vec::new(alloc),
+            places: IndexMap::new(alloc),
+            books,
+        })
+    }
+
+    /// Makes a step: a packet begins its way, or comes to its next site.
+    ///
+    /// Refused: `BadStep` where there is no contract of the packet's number, where the packet was sent before, or never, where
+    /// its path has ended, or where the moment is before its last one; else `JournalFull` where the book of its next site has
+    /// 2^20 rows; `NoMemory` where memory runs out. All is then as it was.
+    pub fn step(&mut self, step: Step) -> Result<(), StepFault>
+        ensures table { self.new.table ≡ self.old.table }
+        ensures done { OnOk result (stepped self.old.table self.old.stage step ≡ Ok self.new.stage) }
+        ensures refused { IfErr result (λ fault. (fault ≡ StepFault.NoMemory) ⊎ (stepped self.old.table self.old.stage step ≡ Err fault)) }
+        ensures unchanged { OnErr result (self.new ≡ self.old) }
+    {
+        match step {
+            Step::Send {
+                flow,
+                packet,
+                size,
+                dscp,
+                moment,
+            } => self.send(flow, packet, size, dscp, moment),
+            Step::Visit { packet, moment } => self.visit(packet, moment),
+        }
+    }
+
+    /// Lets a packet begin its way behind the others.
+    fn send(
+        &mut self,
+        flow: u32,
+        packet: u64,
+        size: PacketSize,
+        dscp: Dscp,
+        moment: Moment,
+    ) -> Result<(), StepFault>
+        ensures table { self.new.table ≡ self.old.table }
+        ensures done { OnOk result (stepped self.old.table self.old.stage (Step.Send flow packet size dscp moment) ≡ Ok self.new.stage) }
+        ensures refused { IfErr result (λ fault. (fault ≡ StepFault.NoMemory) ⊎ (stepped self.old.table self.old.stage (Step.Send flow packet size dscp moment) ≡ Err fault)) }
+        ensures unchanged { OnErr result (self.new ≡ self.old) }
+    {
+        if self.places.contains_key(&packet) {
+            return Err(StepFault::BadStep);
+        }
+        let alloc = *self.travellers.allocator();
+        let traveller = Traveller::begin(alloc, self.accepted, flow, packet, size, dscp, moment)?;
+        let place = self.travellers.len();
+        self.travellers.reserve(1)?;
+        self.places.insert(packet, place)?;
+        self.travellers.push(traveller).unwrap();
+        Ok(())
+    }
+
+    /// Lets the packet of a number come to its next site.
+    fn visit(&mut self, packet: u64, moment: Moment) -> Result<(), StepFault>
+        ensures table { self.new.table ≡ self.old.table }
+        ensures done { OnOk result (stepped self.old.table self.old.stage (Step.Visit packet moment) ≡ Ok self.new.stage) }
+        ensures refused { IfErr result (λ fault. (fault ≡ StepFault.NoMemory) ⊎ (stepped self.old.table self.old.stage (Step.Visit packet moment) ≡ Err fault)) }
+        ensures unchanged { OnErr result (self.new ≡ self.old) }
+    {
+        let Some(place) = self.places.get(&packet).copied() else {
+            return Err(StepFault::BadStep);
+        };
+        visit_next(&mut self.travellers, &mut self.books, place, moment)
+    }
+
+    /// The run that the steps made: the journals of the sites in their order, and the packets as they were sent. `AllocError`
+    /// where memory runs out.
+    pub fn finish(self, alloc: Global) -> Result<Run<'a>, AllocError>
+        ensures { IfOk result (λ run. run ≡ record { table = self.entry.table; run = run_so_far self.entry.stage }) }
+    {
+        let Conductor {
+            accepted,
+            travellers,
+            places: _,
+            books,
+        } = self;
+        let journals = journals_of(alloc, books)?;
+        let trails = trails_of(alloc, travellers)?;
+        Ok(Run::of(accepted, journals, trails))
+    }
+}

@@ -1,0 +1,116 @@
+-- What `mark` writes and tells.
+use Rattle.std.specs.Prelude.{◌≡◌, ◌⊎◌, ℕ, Bool, true, false, List, [], ◌∷◌, ◌++◌, flat_map, Option, None, Some, Result, Ok, Err, codes, decimal, slice_index}
+use Rattle.std.specs.Option.{option_map_or}
+use Rattle.pcap_capture.specs.declared.fault.PcapFault.{PcapFault}
+use Rattle.pcap_capture.specs.declared.fault.PcapFault.TheVariants as pcaps
+use Rattle.capture_marker.specs.Markings.{IsMarked}
+use Rattle.capture_marker.specs.declared.fault.MarkFault.{MarkFault}
+use Rattle.capture_marker.specs.declared.fault.MarkFault.TheVariants as marks
+use Rattle.capture_marker.specs.declared.report.Report.{Report}
+use Rattle.capture_marker.specs.declared.rule.RedRule.{RedRule}
+use Rattle.capture_marker.specs.declared.rule.RedRule.TheVariants.{Drop, Keep}
+use Rattle.ds_checker.specs.Acceptance.{Table}
+use Rattle.dsedge_lines.specs.declared.fault.PumpFault.{PumpFault}
+use Rattle.dsedge_lines.specs.declared.fault.PumpFault.TheVariants as pump_faults
+use Rattle.dsedge_texts.specs.declared.accepting.TableFault.{TableFault}
+use Rattle.dsedge_texts.specs.declared.accepting.TableFault.TheVariants as tables
+use Rattle.dsedge_serve.specs.Faults.{fault_text, status_of}
+use Rattle.dsedge_serve.specs.declared.conclusion.Conclusion.{Conclusion}
+use Rattle.dsedge_serve.specs.declared.conclusion.Conclusion.TheVariants.{Unaccepted, Uncertified, Unsound}
+use Rattle.dsedge_serve.specs.declared.fault.Fault.{Fault}
+use Rattle.dsedge_serve.specs.declared.fault.Fault.TheVariants as faults
+
+-- a line with a count, behind its name
+abbrev pub count_line : List ℕ → ℕ → List ℕ
+count_line name count = name ++ decimal count ++ codes "\n"
+
+-- a line with two counts, behind their name
+abbrev pub counts_line : List ℕ → ℕ → ℕ → List ℕ
+counts_line name packets bytes = name ++ decimal packets ++ codes " " ++ decimal bytes ++ codes "\n"
+
+-- lines, one behind the other
+abbrev pub lines_text : List (List ℕ) → List ℕ
+lines_text lines = flat_map (λ line. line) lines
+
+-- the frames of a report, counted by what became of them
+abbrev pub counts_text : Report → List ℕ
+counts_text r = lines_text (
+    count_line (codes "records ") r.records
+    ∷ count_line (codes "marked ") r.marked
+    ∷ count_line (codes "unmatched ") r.unmatched
+    ∷ count_line (codes "skipped ") r.skipped
+    ∷ count_line (codes "unverified ") r.unverified
+    ∷ count_line (codes "dropped ") r.dropped
+    ∷ []
+    )
+
+-- its packets and their bytes by colour
+abbrev pub colours_text : Report → List ℕ
+colours_text r = lines_text (
+    counts_line (codes "green ") (slice_index r.packets 0) (slice_index r.bytes 0)
+    ∷ counts_line (codes "yellow ") (slice_index r.packets 1) (slice_index r.bytes 1)
+    ∷ counts_line (codes "red ") (slice_index r.packets 2) (slice_index r.bytes 2)
+    ∷ []
+    )
+
+abbrev pub report_text : Report → List ℕ
+report_text r = counts_text r ++ colours_text r
+
+-- what is told of a fault of a capture: a device's by its own line, the others by their number and kind
+abbrev pub capture_fault : PcapFault → Fault
+capture_fault pcaps.NotPcap = faults.Capture pcaps.NotPcap
+capture_fault pcaps.IsPcapng = faults.Capture pcaps.IsPcapng
+capture_fault pcaps.BadVersion = faults.Capture pcaps.BadVersion
+capture_fault (pcaps.LinkType number) = faults.Capture (pcaps.LinkType number)
+capture_fault (pcaps.RecordTooLong count) = faults.Capture (pcaps.RecordTooLong count)
+capture_fault pcaps.Truncated = faults.Capture pcaps.Truncated
+capture_fault pcaps.ReadFault = faults.Read
+capture_fault pcaps.WriteFault = faults.Write
+capture_fault pcaps.NoMemory = faults.Memory
+capture_fault pcaps.Failed = faults.Capture pcaps.Failed
+
+-- what is told where a capture was not marked to its end at the port of a name
+abbrev pub marking_fault : List ℕ → MarkFault → Fault
+marking_fault port (marks.Capture fault) = capture_fault fault
+marking_fault port marks.UnknownPort = faults.Port port
+marking_fault port marks.JournalFull = faults.Full
+marking_fault port marks.NoMemory = faults.Memory
+
+abbrev pub marking_fault_text : List ℕ → Option MarkFault → List ℕ
+marking_fault_text port None = []
+marking_fault_text port (Some fault) = fault_text (marking_fault port fault)
+
+-- what is told of a marked capture: its report, and behind it the fault
+abbrev pub marking_told : Report → Option MarkFault → List ℕ → List ℕ
+marking_told report fault port = report_text report ++ marking_fault_text port fault
+
+abbrev pub marking_status : Option MarkFault → List ℕ → ℕ
+marking_status None port = 0
+marking_status (Some fault) port = status_of (marking_fault port fault)
+
+-- the rule that a word says
+abbrev pub rule_said : Bool → RedRule
+rule_said true = Keep
+rule_said false = Drop
+
+-- what the marking of a capture answered
+abbrev pub marking_answer : Report → Option MarkFault → Result Report (Report × MarkFault)
+marking_answer report None = Ok report
+marking_answer report (Some fault) = Err (report, fault)
+
+-- how a plan ends whose table is not accepted, by what stands against it
+abbrev pub refusal_outcome : TableFault → Result Conclusion PumpFault
+refusal_outcome (tables.Refused line) = Ok (Unaccepted line)
+refusal_outcome (tables.Domain fault) = Ok (Unsound fault)
+refusal_outcome (tables.Certificate fault) = Ok (Uncertified fault)
+refusal_outcome tables.NoMemory = Err pump_faults.NoMemory
+
+-- The capture of an accepted table was marked, with this report and this fault.
+abbrev pub IsMarkedOver : Result Table TableFault → List ℕ → RedRule → List ℕ → List ℕ → Report → Option MarkFault → List ℕ → List ℕ → Type 0
+IsMarkedOver found port red bytes more report fault before after =
+    (table : Table) × (found ≡ Ok table) × IsMarked table port red bytes more before after (marking_answer report fault)
+
+-- Nothing was written: no table is accepted, for what stands against it; or memory ran out.
+abbrev pub IsUnmarked : Result Table TableFault → Result Conclusion PumpFault → List ℕ → List ℕ → Type 0
+IsUnmarked found outcome before after =
+    (after ≡ before) × ((outcome ≡ Err pump_faults.NoMemory) ⊎ ((fault : TableFault) × (found ≡ Err fault) × (outcome ≡ refusal_outcome fault)))

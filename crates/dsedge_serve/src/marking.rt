@@ -1,0 +1,152 @@
+ghost use Rattle.std.specs.Prelude.{◌≡◌, ◌++◌, Ok, MatchResult, is_ok, if◌then◌else◌};
+ghost use Rattle.dsedge_serve.specs.Faults.{IsFrontOf};
+ghost use Rattle.dsedge_serve.specs.Marked.{capture_fault, marking_fault, marking_fault_text, marking_status, marking_told, refusal_outcome};
+ghost use Rattle.dsedge_serve.specs.Served.{IsMarkedAt, IsOfInput, IsOfWrites, is_output_fault};
+ghost use Rattle.dsedge_texts.specs.Accepted.{accepted_in};
+ghost use Rattle.pcap_capture.specs.Counts.{next_count};
+
+use crate::conclusion::Conclusion;
+use crate::fault::Fault;
+use crate::outcome::Outcome;
+use crate::report::tell_report;
+use ds_checker::Accepted;
+use ds_conductor::{MarkFault, OpenGate, RedRule, Report, mark};
+use dsedge_base::PortName;
+use dsedge_lines::PumpFault;
+use dsedge_texts::{TableFault, accept};
+use pcap_capture::{DeviceFault, Intake, Outlet, PcapFault};
+use std::alloc::Global;
+
+/// Answers with the capture of the input, marked at a port of the table that two texts say.
+pub(crate) fn answer_mark<'a, I: Intake, O: Outlet>(
+    alloc: Global,
+    domain: &[u8],
+    certificate: &[u8],
+    port: PortName<'a>,
+    red: RedRule,
+    intake: &mut I,
+    output: &mut O,
+) -> Outcome<'a>
+    ensures served { I.tells intake.old → O.tells output.old →
+        IsMarkedAt (accepted_in domain.now certificate.now) port.entry red (I.left intake.old) (I.left intake.new) result
+        (O.held output.old) (O.held output.new) }
+    ensures writes { IsOfWrites (is_output_fault result) (O.failed output.old) (O.failed output.new) }
+    ensures reads { IsOfInput result (I.failed intake.old) (I.failed intake.new) (I.turns intake.old) (I.turns intake.new) }
+{
+    match accept(alloc, domain, certificate) {
+        Ok(accepted) => mark_over(alloc, &accepted, port, red, intake, output),
+        Err(fault) => Outcome::Answered(refusal_outcome(fault)),
+    }
+}
+
+/// Answers with the capture of the input, marked at a port of an accepted table.
+fn mark_over<'a, I: Intake, O: Outlet>(
+    alloc: Global,
+    accepted: &Accepted,
+    port: PortName<'a>,
+    red: RedRule,
+    intake: &mut I,
+    output: &mut O,
+) -> Outcome<'a>
+    ensures served { I.tells intake.old → O.tells output.old →
+        IsMarkedAt (Ok accepted.now) port.entry red (I.left intake.old) (I.left intake.new) result (O.held output.old) (O.held output.new) }
+    ensures writes { IsOfWrites (is_output_fault result) (O.failed output.old) (O.failed output.new) }
+    ensures reads { IsOfInput result (I.failed intake.old) (I.failed intake.new) (I.turns intake.old) (I.turns intake.new) }
+{
+    match mark(
+        alloc,
+        accepted,
+        port.text(),
+        1,
+        red,
+        intake,
+        output,
+        &OpenGate,
+    ) {
+        Ok(report) => Outcome::Marked(report, None, port),
+        Err((report, fault)) => Outcome::Marked(report, Some(fault), port),
+    }
+}
+
+/// How a plan ends whose table is not accepted.
+fn refusal_outcome(fault: TableFault) -> Result<Conclusion, PumpFault>
+    ensures { result ≡ refusal_outcome fault }
+{
+    match fault {
+        TableFault::Refused(line) => Ok(Conclusion::Unaccepted(line)),
+        TableFault::Domain(fault) => Ok(Conclusion::Unsound(fault)),
+        TableFault::Certificate(fault) => Ok(Conclusion::Uncertified(fault)),
+        TableFault::NoMemory => Err(PumpFault::NoMemory),
+    }
+}
+
+/// What is told of a fault of a capture.
+fn capture_fault(fault: PcapFault) -> Fault<'static>
+    ensures { result ≡ capture_fault fault }
+{
+    match fault {
+        PcapFault::ReadFault => Fault::Read,
+        PcapFault::WriteFault => Fault::Write,
+        PcapFault::NoMemory => Fault::Memory,
+        fault => Fault::Capture(fault),
+    }
+}
+
+/// What is told where a capture was not marked to its end at a port.
+fn marking_fault<'a>(fault: MarkFault, port: &PortName<'a>) -> Fault<'a>
+    ensures { result ≡ marking_fault port.now fault }
+{
+    match fault {
+        MarkFault::Capture(fault) => capture_fault(fault),
+        MarkFault::UnknownPort => Fault::Port(PortName::new(port.text())),
+        MarkFault::JournalFull => Fault::Full,
+        MarkFault::NoMemory => Fault::Memory,
+    }
+}
+
+/// The exit status of a marking.
+pub(crate) fn marking_status(fault: Option<MarkFault>, port: &PortName<'_>) -> u8
+    ensures { result ≡ marking_status fault port.now }
+{
+    match fault {
+        None => 0,
+        Some(fault) => marking_fault(fault, port).status(),
+    }
+}
+
+/// Tells the report of a marking, and behind it the fault, if any.
+pub(crate) fn tell_marking<F: Outlet>(
+    report: &Report,
+    fault: Option<MarkFault>,
+    port: &PortName<'_>,
+    faults: &mut F,
+) -> Result<(), DeviceFault>
+    ensures line { F.tells faults.old → MatchResult result
+        (λ _. F.held faults.new ≡ F.held faults.old ++ marking_told report.now fault port.now)
+        (λ _. IsFrontOf (F.held faults.old) (marking_told report.now fault port.now) (F.held faults.new)) }
+    ensures failures { F.failed faults.new
+        ≡ (if is_ok result then F.failed faults.old else next_count (F.failed faults.old)) }
+{
+    match tell_report(report, faults) {
+        Ok(()) => tell_fault(fault, port, faults),
+        Err(refusal) => Err(refusal),
+    }
+}
+
+/// Tells the fault of a marking, if any.
+fn tell_fault<F: Outlet>(
+    fault: Option<MarkFault>,
+    port: &PortName<'_>,
+    faults: &mut F,
+) -> Result<(), DeviceFault>
+    ensures line { F.tells faults.old → MatchResult result
+        (λ _. F.held faults.new ≡ F.held faults.old ++ marking_fault_text port.now fault)
+        (λ _. IsFrontOf (F.held faults.old) (marking_fault_text port.now fault) (F.held faults.new)) }
+    ensures failures { F.failed faults.new
+        ≡ (if is_ok result then F.failed faults.old else next_count (F.failed faults.old)) }
+{
+    match fault {
+        None => Ok(()),
+        Some(fault) => marking_fault(fault, port).tell(faults),
+    }
+}

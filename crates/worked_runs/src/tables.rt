@@ -1,0 +1,50 @@
+use ds_checker::Accepted;
+use dsedge_texts::accept;
+use meter_book::{AnyMeter, Parameters};
+use moment_core::{Mode, Moment, Rate};
+use std::alloc::Global;
+use std::test::Fail;
+use trtcm_core::TrTcmParameters;
+
+/// A meter `m` of 24 Mbit/s and 13,500 bytes, committed and peak, with a skew of 500 µs; a port `p` without skew; and a link
+/// between them with a jitter of 1 ms.
+const WAY: &str = r#"
+[[meter]]
+name = "m"
+kind = "trtcm"
+cir = 24000000
+cbs = 13500
+pir = 24000000
+pbs = 13500
+skew = 500000
+
+[[port]]
+name = "p"
+skew = 0
+
+[[link]]
+from = "p"
+to = "m"
+floor = 0
+jitter = 1000000
+"#;
+
+/// The table that a domain text of that way and one contract says with a certificate text.
+pub fn accepted(alloc: Global, contract: &str, certificate: &str) -> Result<Accepted, Fail> {
+    let domain = format!(in alloc; "{WAY}{contract}")?;
+    match accept(alloc, domain.as_bytes(), certificate.as_bytes()) {
+        Ok(accepted) => Ok(accepted),
+        Err(_) => Err(Fail::from("no acceptable table")),
+    }
+}
+
+/// A meter of a committed and a peak rate with their bursts, opened at moment 0.
+pub fn two_rates(committed: (u64, u32), peak: (u64, u32), mode: Mode) -> Result<AnyMeter, Fail> {
+    let parameters = TrTcmParameters {
+        committed_rate: Rate::new(committed.0)?,
+        committed_burst: committed.1,
+        peak_rate: Rate::new(peak.0)?,
+        peak_burst: peak.1,
+    };
+    Ok(AnyMeter::new(Parameters::TrTcm(parameters), mode, Moment::new(0)?)?)
+}
