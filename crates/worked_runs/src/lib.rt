@@ -3,6 +3,8 @@
 #![tactic(auto)]
 
 #[cfg(test)]
+mod gate_rows;
+#[cfg(test)]
 mod mark_rows;
 #[cfg(test)]
 mod run_rows;

@@ -27,25 +27,25 @@ const WIDE: (&str, &str) = (
 );
 
 /// With bursts of 150 and 300 bytes, and its least certificate.
-const NARROW: (&str, &str) = (
+pub const NARROW: (&str, &str) = (
     "cbs = 150\npbs = 300\n",
     "dscert 1\nu 0 151 301\nu 1 1151 2301\n",
 );
 
 /// The table of that contract with bursts.
-fn table(alloc: Global, (bursts, certificate): (&str, &str)) -> Result<Accepted, Fail> {
+pub fn table(alloc: Global, (bursts, certificate): (&str, &str)) -> Result<Accepted, Fail> {
     let contract = format!(in alloc; "{UDP}{bursts}")?;
     accepted(alloc, contract.as_str(), certificate)
 }
 
 /// The heading of a capture: low bytes first, microseconds, Ethernet.
-const HEADING: [u8; 24] = [
+pub const HEADING: [u8; 24] = [
     0xd4, 0xc3, 0xb2, 0xa1, 0x02, 0x00, 0x04, 0x00, 0x00, 0x00, 0x00, 0x00, 0x00, 0x00, 0x00, 0x00,
     0xff, 0xff, 0x00, 0x00, 0x01, 0x00, 0x00, 0x00,
 ];
 
 /// A record at 1.5 s of 38 bytes of 133: a header of UDP of 115 bytes behind a tag.
-const TAGGED: [u8; 54] = [
+pub const TAGGED: [u8; 54] = [
     0x01, 0x00, 0x00, 0x00, 0x20, 0xa1, 0x07, 0x00, 0x26, 0x00, 0x00, 0x00, 0x85, 0x00, 0x00, 0x00,
     0x02, 0x00, 0x00, 0x00, 0x00, 0x01, 0x02, 0x00, 0x00, 0x00, 0x00, 0x02, 0x81, 0x00, 0x00, 0x64,
     0x08, 0x00, 0x45, 0x00, 0x00, 0x73, 0x00, 0x00, 0x40, 0x00, 0x40, 0x11, 0xb8, 0x61, 0xc0, 0xa8,
@@ -53,7 +53,7 @@ const TAGGED: [u8; 54] = [
 ];
 
 /// A record at 2 s of 15 bytes of 54, which are of IPv6.
-const OTHER: [u8; 31] = [
+pub const OTHER: [u8; 31] = [
     0x02, 0x00, 0x00, 0x00, 0x00, 0x00, 0x00, 0x00, 0x0f, 0x00, 0x00, 0x00, 0x36, 0x00, 0x00, 0x00,
     0x02, 0x00, 0x00, 0x00, 0x00, 0x01, 0x02, 0x00, 0x00, 0x00, 0x00, 0x02, 0x86, 0xdd, 0x60,
 ];
@@ -67,7 +67,7 @@ fn marked(tos: u8, checksum: u8) -> [u8; 54] {
 }
 
 /// Parts of a capture, one behind the other.
-fn capture(alloc: Global, parts: &[&[u8]]) -> Result<Vec<u8>, Fail> {
+pub fn capture(alloc: Global, parts: &[&[u8]]) -> Result<Vec<u8>, Fail> {
     let mut all = Vec::new(alloc);
     for part in parts {
         all.extend_from_slice(part)?;

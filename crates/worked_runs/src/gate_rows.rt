@@ -1,0 +1,63 @@
+use crate::mark_rows::{HEADING, NARROW, OTHER, TAGGED, capture, table};
+use ds_conductor::{Gate, RedRule, mark};
+use pcap_capture::{SliceIntake, VecOutlet};
+use std::sync::atomic::{AtomicU64, Ordering};
+use std::test::Fail;
+
+/// A gate that counts its calls, and those among them that are not by worker 0 or not round the next visit.
+#[derive(Drop)]
+struct Counter {
+    before: AtomicU64,
+    after: AtomicU64,
+    wrong: AtomicU64,
+}
+
+impl Counter {
+    /// Takes note of a call for a visit, which has to be that of a number.
+    fn expect(&self, worker: u32, visit: u64, number: u64) {
+        if worker != 0 || visit != number {
+            self.wrong.fetch_add(1, Ordering::SeqCst);
+        }
+    }
+}
+
+impl Gate for Counter {
+    fn before(&self, worker: u32, visit: u64) {
+        self.before.fetch_add(1, Ordering::SeqCst);
+        let number = self.after.load(Ordering::SeqCst).wrapping_add(1);
+        self.expect(worker, visit, number);
+    }
+
+    fn after(&self, worker: u32, visit: u64) {
+        self.after.fetch_add(1, Ordering::SeqCst);
+        let number = self.before.load(Ordering::SeqCst);
+        self.expect(worker, visit, number);
+    }
+}
+
+#[test]
+fn the_gate_is_called_round_each_visit(rt: HostRuntime) -> Result<(), Fail> {
+    let alloc = rt.alloc();
+    let accepted = table(alloc, NARROW)?;
+    let given = capture(alloc, &[&HEADING, &TAGGED, &OTHER, &TAGGED])?;
+    let gate = Counter {
+        before: AtomicU64::new(0),
+        after: AtomicU64::new(0),
+        wrong: AtomicU64::new(0),
+    };
+    let marked = mark(
+        alloc,
+        &accepted,
+        "p",
+        1,
+        RedRule::Keep,
+        &mut SliceIntake::new(given.as_slice()),
+        &mut VecOutlet::new(Vec::new(alloc)),
+        &gate,
+    );
+    assert!(rt; marked.is_ok());
+    assert_eq!(rt; gate.before.load(Ordering::SeqCst), 4);
+    assert_eq!(rt; gate.after.load(Ordering::SeqCst), 4);
+    assert_eq!(rt; gate.wrong.load(Ordering::SeqCst), 0);
+    Ok(())
+}
