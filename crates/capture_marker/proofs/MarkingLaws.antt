@@ -12,17 +12,14 @@ use Rattle.ds_visits.specs.Passing.{colours_of}
 use Rattle.ds_visits.specs.declared.sent.Sent.{Sent}
 use Rattle.capture_marker.specs.Markings.{IsMarkedAs, IsMarkedBut, IsPassed, IsPassedOf, IsWhole, IsWholeSoFar, IsWholeWith, Marking, answer_of, is_read_whole, is_starved, marking_behind, marking_in, marking_of, marking_with, marking_told, nothing_marked, see}
 use Rattle.capture_marker.specs.Readings.{IsHeadingTold, IsReading, IsReadTo, heading_in, is_own}
+use Rattle.capture_marker.specs.Reports.{nothing_read}
 use Rattle.capture_marker.specs.Sendings.{sent_of}
-use Rattle.capture_marker.specs.Writings.{IsFrontOf, is_write}
+use Rattle.capture_marker.specs.Writings.{IsFrontOf}
 use Rattle.capture_marker.specs.declared.fault.MarkFault.{MarkFault}
 use Rattle.capture_marker.specs.declared.fault.MarkFault.TheVariants as marks
 use Rattle.capture_marker.specs.declared.report.Report.{Report}
 use Rattle.capture_marker.specs.declared.rule.RedRule.{RedRule}
 use Rattle.capture_marker.proofs.ReadingLaws.{fault_in_own, fault_stands}
-
--- nothing was written
-pub nothing_given : (before after text : List ℕ) → after ≡ before → IsFrontOf before text after
-nothing_given before after text same = (text, record { front = []; whole = refl; written = same ∙ sym (append-nil before) })
 
 -- how the bytes of a capture end that were read with a fault, or without
 abbrev pub EndsAs : Option PcapFault → List ℕ → List ℕ → Type 0
@@ -204,12 +201,12 @@ stopped_marked t port red bytes more before after heading frames fault refusal a
 
 -- memory ran out before anything was written
 pub starved_marked : (t : Table) (port : List ℕ) (red : RedRule) (bytes more before after : List ℕ) (heading : Option Heading) (frames : List FrameValue)
-    (fault : Option PcapFault) (report : Report) → IsReading bytes more heading frames fault → after ≡ before
+    (fault : Option PcapFault) (report : Report) → IsReading bytes more heading frames fault → after ≡ before → report ≡ nothing_read
     → IsMarkedAs (marking_in t port red) bytes more before after (Err (report, marks.NoMemory))
-starved_marked t port red bytes more before after heading frames fault report reading same = record {
+starved_marked t port red bytes more before after heading frames fault report reading same told = record {
   read = reading.read;
   front = reading.front;
-  passed = nothing_given before after (marking_in t port red reading.read).text same;
+  passed = inl (same, told);
 }
 
 -- the answer to a capture that was marked whole comes of no read fault
@@ -244,4 +241,4 @@ pub write_stopped : (m : Marking) (before after text : List ℕ) (report : Repor
 write_stopped m before after text report fault written told (inl unwritten) front =
     subst (λ f. IsPassed m before after (Err (report, f))) (sym unwritten) (refl, subst (λ all. IsFrontOf before all after) (sym written) front, told)
 write_stopped m before after text report fault written told (inr memory) front =
-    subst (λ f. IsPassed m before after (Err (report, f))) (sym memory) (subst (λ all. IsFrontOf before all after) (sym written) front)
+    subst (λ f. IsPassed m before after (Err (report, f))) (sym memory) (inr (subst (λ all. IsFrontOf before all after) (sym written) front, told))

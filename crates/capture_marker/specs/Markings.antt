@@ -1,5 +1,5 @@
 -- The marked capture, as a function of the bytes of a capture.
-use Rattle.std.specs.Prelude.{◌≡◌, ◌⊎◌, ◌^◌, ℕ, List, [], ◌∷◌, ◌++◌, zip, Bool, true, false, Option, None, Some, Result, Ok, Err}
+use Rattle.std.specs.Prelude.{◌≡◌, ◌⊎◌, ◌^◌, ℕ, List, [], ◌++◌, zip, Bool, true, false, Option, None, Some, Result, Ok, Err}
 use Rattle.moment_core.specs.declared.colour.Colour.{Colour}
 use Rattle.pcap_capture.specs.Counts.{count_after, next_count}
 use Rattle.pcap_capture.specs.Frames.{FrameValue}
@@ -73,14 +73,15 @@ pub record IsWhole (m : Marking) (report : Report) (before after : List ℕ) : T
   pub told : report ≡ m.report
   pub room : m.is_full ≡ false
 
--- What was written of frames, and what is told of them: all; or a front, where the device failed or memory ran out; or nothing, where a
--- journal was full.
+-- What was written of frames, and what is told of them: all; or a front, with the whole report, where the device failed or memory ran out on the
+-- way; or nothing, where a journal was full, or where memory ran out before, and then nothing is told either.
 abbrev pub IsPassed : Marking → List ℕ → List ℕ → Result Report (Report × MarkFault) → Type 0
 IsPassed m before after (Ok report) = IsWhole m report before after
 IsPassed m before after (Err (report, marks.Capture fault)) = (fault ≡ pcaps.WriteFault) × IsFrontOf before m.text after × (report ≡ m.report)
 IsPassed m before after (Err (report, marks.UnknownPort)) = ⊥
 IsPassed m before after (Err (report, marks.JournalFull)) = (after ≡ before) × (report ≡ m.report) × (m.is_full ≡ true)
-IsPassed m before after (Err (report, marks.NoMemory)) = IsFrontOf before m.text after
+IsPassed m before after (Err (report, marks.NoMemory)) =
+    ((after ≡ before) × (report ≡ nothing_read)) ⊎ (IsFrontOf before m.text after × (report ≡ m.report))
 
 -- the same of the bytes that a device gave, which still has these
 pub record IsPassedOf (marked : List ℕ → Marking) (bytes more before after : List ℕ) (answer : Result Report (Report × MarkFault)) : Type 0 where

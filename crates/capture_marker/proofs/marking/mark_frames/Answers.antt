@@ -1,4 +1,4 @@
-use Rattle.std.proofs.Common.{◌≡◌, ℕ, List, ◌++◌, zip, Some, refl, subst, sym, ap, ap₂, ◌∙◌, arith}
+use Rattle.std.proofs.Common.{ℕ, List, ◌++◌, zip, Some, refl, subst, sym, ap, ap₂, ◌∙◌, arith, inl}
 use Rattle.pcap_capture.specs.Frames.{FrameValue}
 use Rattle.moment_core.specs.declared.colour.Colour.{Colour}
 use Rattle.ds_visits.specs.Passing.{colours_of}
@@ -7,14 +7,14 @@ use Rattle.capture_marker.specs.Markings.{Marking, see}
 use Rattle.capture_marker.specs.Reports.{report_of}
 use Rattle.capture_marker.specs.Sendings.{IsSending}
 use Rattle.capture_marker.specs.Texts.{text_from}
-use Rattle.capture_marker.proofs.MarkingLaws.{marked_with, nothing_given, write_stopped}
+use Rattle.capture_marker.proofs.MarkingLaws.{marked_with, write_stopped}
 use Rattle.capture_marker.proofs.marking.mark_frames.Goals as goal
 
 pub returns-in_default-clause-passed : goal.returns-in_default-clause-passed
-returns-in_default-clause-passed g c told = nothing_given _ _ _ refl
+returns-in_default-clause-passed g c told = inl (refl, c.nothing.ensures)
 
 pub returns-in-Err-NoMemory-clause-passed : goal.returns-in-Err-NoMemory-clause-passed
-returns-in-Err-NoMemory-clause-passed g c told = nothing_given _ _ _ refl
+returns-in-Err-NoMemory-clause-passed g c told = inl (refl, c.nothing-in-Err-NoMemory.ensures)
 
 pub returns-clause-passed : goal.returns-clause-passed
 returns-clause-passed g c told =

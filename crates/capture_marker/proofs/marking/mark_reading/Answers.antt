@@ -1,10 +1,10 @@
-use Rattle.std.proofs.Common.{◌≡◌, refl, subst, sym, ◌∙◌}
+use Rattle.std.proofs.Common.{refl, subst, sym, ◌∙◌}
 use Rattle.capture_marker.specs.Markings.{IsMarkedAs, marking_in}
 use Rattle.capture_marker.proofs.MarkingLaws.{all_marked, seen, starved_marked, stopped_marked, well_by}
 use Rattle.capture_marker.proofs.marking.mark_reading.Goals as goal
 
 pub returns-then-is_starved-clause-marked : goal.returns-then-is_starved-clause-marked
-returns-then-is_starved-clause-marked g c told bytes more reading = starved_marked _ _ _ bytes more _ _ _ _ _ c.nothing.result reading refl
+returns-then-is_starved-clause-marked g c told bytes more reading = starved_marked _ _ _ bytes more _ _ _ _ _ c.nothing.result reading refl c.nothing.ensures
 
 pub returns-in-Ok-clause-marked : goal.returns-in-Ok-clause-marked
 returns-in-Ok-clause-marked g c told bytes more reading =
