@@ -1,5 +1,5 @@
 -- The journals of books that are left, one by one.
-use Rattle.std.proofs.Common.{◌≡◌, ◌+◌, ℕ, suc, List, [], ◌∷◌, ◌++◌, length, Option, None, Some, refl, sym, ap, ◌∙◌, append-nil, append_assoc, arith}
+use Rattle.std.proofs.Common.{◌≡◌, ◌+◌, ℕ, suc, List, [], ◌∷◌, ◌++◌, Option, None, Some, refl, sym, ap, ◌∙◌, append-nil, append_assoc, arith}
 use Rattle.meter_book.specs.Replay.{Book, Journal}
 use Rattle.ds_conductor_base.specs.Conducting.{journal_of, journals_from}
 

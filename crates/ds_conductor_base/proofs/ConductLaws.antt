@@ -1,8 +1,7 @@
 -- What comes of the steps that are left, one by one.
-use Rattle.std.proofs.Common.{◌≡◌, ◌⊎◌, inl, inr, ◌+◌, ◌<◌, ◌≤◌, ℕ, suc, List, [], ◌∷◌, length, drop, get_or, Result, Ok, Err, refl, sym, ap, ◌∙◌, add-one, arith}
+use Rattle.std.proofs.Common.{◌≡◌, ◌⊎◌, inl, inr, ◌+◌, ◌<◌, ◌≤◌, ℕ, suc, List, [], ◌∷◌, length, drop, get_or, Ok, Err, refl, sym, ap, ◌∙◌, arith}
 use Rattle.std.proofs.lemmas.List.{drop_all, drop_more}
 use Rattle.ds_checker.specs.Acceptance.{Table}
-use Rattle.run_audit_base.specs.Runs.{Run}
 use Rattle.ds_conductor_base.specs.Conducting.{as_run, conducted, conducted_from, fault_at, going_on, run_so_far}
 use Rattle.ds_conductor_base.specs.Steps.{Stage, opened, stepped}
 use Rattle.ds_conductor_base.specs.declared.fault.ConductFault.{ConductFault}

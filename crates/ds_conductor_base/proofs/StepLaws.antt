@@ -1,6 +1,6 @@
 -- What a step makes, by what is found of its packet's number.
-use Rattle.std.proofs.Common.{◌≡◌, ◌⊎◌, inl, inr, ℕ, Bool, true, false, List, [], ◌∷◌, ◌++◌, Option, None, Some, Result, Ok, Err, cond, length, nat_eq, position, is_some, refl, sym, ◌∙◌, ap, subst}
-use Rattle.std.specs.Prelude.{option_map, slice_get, if◌then◌else◌, OnOk, OnErr}
+use Rattle.std.proofs.Common.{◌≡◌, ◌⊎◌, inl, inr, ℕ, true, false, [], ◌∷◌, ◌++◌, Option, None, Some, Result, Ok, Err, cond, length, nat_eq, position, is_some, refl, sym, ◌∙◌, ap, subst}
+use Rattle.std.specs.Prelude.{option_map, slice_get, OnOk, OnErr}
 use Rattle.std.proofs.lemmas.Option.{same_Some}
 use Rattle.ds_domain_base.specs.declared.contract.Contract.{Contract}
 use Rattle.ds_checker.specs.Acceptance.{Table}
@@ -14,7 +14,6 @@ use Rattle.ds_conductor_base.specs.Steps.{Stage, is_of, sent, stepped, visited_b
 use Rattle.ds_conductor_base.specs.UnderWay.{IsUnderWay}
 use Rattle.ds_conductor_base.specs.declared.fault.StepFault.{StepFault}
 use Rattle.ds_conductor_base.specs.declared.fault.StepFault.TheVariants.{BadStep, NoMemory}
-use Rattle.ds_conductor_base.specs.declared.step.Step.{Step}
 use Rattle.ds_conductor_base.specs.declared.step.Step.TheVariants.{Send, Visit}
 use Rattle.ds_conductor_base.proofs.PlaceLaws.{list_any-position, places_sent, places_visited}
 use Rattle.ds_conductor_base.proofs.SendLaws.{beginning}

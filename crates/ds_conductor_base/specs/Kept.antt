@@ -1,5 +1,5 @@
 -- What the fields of a conductor stand for, and what they keep.
-use Rattle.std.specs.Prelude.{◌≡◌, ◌≤◌, ◌^◌, ℕ, List, map, nat_eq, position, Option}
+use Rattle.std.specs.Prelude.{◌≡◌, ◌≤◌, ◌^◌, ℕ, nat_eq, position}
 use Rattle.indexmap.specs.IndexMap.{get}
 use Rattle.ds_checker.specs.Acceptance.{Table}
 use Rattle.ds_conductor_base.specs.Steps.{Stage, is_of, site_count}

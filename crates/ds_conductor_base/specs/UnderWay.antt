@@ -1,5 +1,5 @@
 -- What holds of packets on their way and of the books of the sites, after any steps.
-use Rattle.std.specs.Prelude.{◌≡◌, ℕ, List, length, map, All, AllPairs, IsPermutation, Some, option_map}
+use Rattle.std.specs.Prelude.{◌≡◌, ℕ, length, map, All, AllPairs, IsPermutation, Some, option_map}
 use Rattle.meter_book.specs.Replay.{Book, rows_of}
 use Rattle.ds_domain_base.specs.Sent.{came}
 use Rattle.ds_domain_base.specs.declared.contract.Contract.{Contract}

@@ -1,5 +1,5 @@
 -- The faults of the port and the path of a contract.
-use Rattle.std.proofs.Common.{◌≡◌, ℕ, ◌+◌, ◌<◌, ◌≤◌, Bool, true, false, cond, if◌then◌else◌, ◌||◌, not, List, [], ◌∷◌, ◌++◌, length, get_or, take, drop, map, nat_eq, nat_lt, Option, Some, None, option_map, is_some, is_none, refl, sym, ap, ◌∙◌, arith}
+use Rattle.std.proofs.Common.{◌≡◌, ℕ, ◌+◌, ◌<◌, Bool, true, false, cond, if◌then◌else◌, ◌||◌, not, List, [], ◌∷◌, ◌++◌, length, get_or, take, drop, map, nat_eq, nat_lt, Option, Some, None, is_some, is_none, refl, sym, ◌∙◌}
 use Rattle.std.proofs.lemmas.List.{drop_more, map-append, take_more}
 use Rattle.ds_domain_base.specs.Domains.{Domain, is_meter, is_port, meter_of}
 use Rattle.ds_domain_base.specs.Faults.{fault_at}

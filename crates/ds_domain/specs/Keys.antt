@@ -1,8 +1,8 @@
 -- What the keys of an entry say; a flaw of a key is a fault at its field.
-use Rattle.std.specs.Prelude.{ℕ, ◌-◌, ◌^◌, Bool, true, false, ◌&&◌, ◌||◌, not, List, [], ◌∷◌, ◌++◌, Option, None, Some, Result, Ok, Err, unwrap_or}
+use Rattle.std.specs.Prelude.{ℕ, ◌-◌, ◌^◌, Bool, true, false, not, List, [], ◌∷◌, Option, Result, Ok, Err, unwrap_or}
 use Rattle.std.specs.List.{list_any, list_all}
 use Rattle.std.specs.Str.{bytes_eq}
-use Rattle.toml.specs.Data.{Data, Members, no_members, member}
+use Rattle.toml.specs.Data.{Members, no_members, member}
 use Rattle.ds_domain_base.specs.Faults.{fault_at, field_text, no_memory}
 use Rattle.ds_domain_base.specs.Names.{is_name}
 use Rattle.ds_domain_base.specs.declared.fault.DomainFault.{DomainFault}
@@ -10,7 +10,7 @@ use Rattle.ds_domain_base.specs.declared.fault.Field.{Field}
 use Rattle.ds_domain_base.specs.declared.fault.Field.TheVariants as fields
 use Rattle.ds_domain_base.specs.declared.fault.Kind.{Kind}
 use Rattle.ds_domain_base.specs.declared.fault.Kind.TheVariants as kinds
-use Rattle.ds_domain_text.specs.Steps.{◌>>=◌, or_fail}
+use Rattle.ds_domain_text.specs.Steps.{◌>>=◌}
 use Rattle.ds_domain_text.specs.Values.{number_in, optional, required, text_in}
 use Rattle.ds_domain_text.specs.declared.flaw.Flaw.{Flaw}
 use Rattle.ds_domain_text.specs.declared.flaw.Flaw.TheVariants as flaws

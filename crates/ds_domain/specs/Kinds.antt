@@ -1,5 +1,5 @@
 -- The kinds of meters and of contracts, the modes, and the keys that entries of each kind have.
-use Rattle.std.specs.Prelude.{ℕ, Bool, List, [], ◌∷◌, ◌++◌, Option, None, Some, Result, Ok, Err, codes, if◌then◌else◌, option_map}
+use Rattle.std.specs.Prelude.{ℕ, List, [], ◌∷◌, Option, None, Some, Result, Ok, codes, if◌then◌else◌, option_map}
 use Rattle.std.specs.Str.{bytes_eq}
 use Rattle.toml.specs.Data.{Members}
 use Rattle.moment_core.specs.declared.colour.Mode.{Mode}
@@ -10,7 +10,7 @@ use Rattle.ds_domain_base.specs.declared.fault.Field.{Field}
 use Rattle.ds_domain_base.specs.declared.fault.Field.TheVariants as fields
 use Rattle.ds_domain_base.specs.declared.fault.Kind.TheVariants as kinds
 use Rattle.ds_domain_text.specs.Steps.{◌>>=◌, or_fail}
-use Rattle.ds_domain_text.specs.Values.{optional, required, text_in}
+use Rattle.ds_domain_text.specs.Values.{optional, text_in}
 use Rattle.ds_domain.specs.Keys.{fault_here, text_at, told}
 use Rattle.ds_domain.specs.declared.place.Place.{Place}
 use Rattle.ds_domain.specs.declared.kinds.MeterKind.{MeterKind}

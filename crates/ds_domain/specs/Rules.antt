@@ -1,5 +1,5 @@
 -- Which packets a contract picks.
-use Rattle.std.specs.Prelude.{ℕ, Option, None, Some, Result, Ok, Err, option_map}
+use Rattle.std.specs.Prelude.{ℕ, Option, Result, Ok, option_map}
 use Rattle.toml.specs.Data.{Members}
 use Rattle.flow_classifier.specs.Parts.{PrefixValue, PortRangeValue}
 use Rattle.flow_classifier.specs.declared.rule.Rule.{Rule}

@@ -1,5 +1,5 @@
 -- The sections as the code holds them.
-use Rattle.std.specs.Prelude.{List, map}
+use Rattle.std.specs.Prelude.{map}
 use Rattle.toml.specs.View.{table_view}
 use Rattle.ds_domain.specs.DomainTexts.{SectionTables}
 use Rattle.ds_domain.specs.declared.parsing.Sections.{Sections}

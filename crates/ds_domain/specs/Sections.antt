@@ -1,5 +1,5 @@
 -- The entries of a section, one after the other.
-use Rattle.std.specs.Prelude.{ℕ, List, [], ◌∷◌, length, nat_lt, Result, Ok, Err}
+use Rattle.std.specs.Prelude.{ℕ, List, [], ◌∷◌, length, nat_lt, Result, Ok}
 use Rattle.toml.specs.Data.{Members}
 use Rattle.ds_domain_base.specs.declared.fault.DomainFault.{DomainFault}
 use Rattle.ds_domain_base.specs.declared.fault.Field.{Field}

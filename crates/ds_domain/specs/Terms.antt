@@ -1,9 +1,6 @@
 -- The parameters of meters, and the terms of contracts.
-use Rattle.std.specs.Prelude.{ℕ, Bool, ◌||◌, is_some, Option, None, Some, Result, Ok, Err, if◌then◌else◌}
+use Rattle.std.specs.Prelude.{Bool, ◌||◌, is_some, Option, None, Some, Result, Ok, Err, if◌then◌else◌}
 use Rattle.toml.specs.Data.{Members, get_member}
-use Rattle.srtcm_core.specs.declared.parameters.SrTcmParameters.{SrTcmParameters}
-use Rattle.trtcm_core.specs.declared.parameters.TrTcmParameters.{TrTcmParameters}
-use Rattle.rfc4115_core.specs.declared.parameters.Rfc4115Parameters.{Rfc4115Parameters}
 use Rattle.meter_book.specs.declared.any_meter.MeterFault.{MeterFault}
 use Rattle.meter_book.specs.declared.any_meter.MeterFault.TheVariants as refusals
 use Rattle.meter_book.specs.declared.any_meter.Parameters.{Parameters}

@@ -1,11 +1,10 @@
 -- What the items of an array say, one after the other.
 use Rattle.std.proofs.Common.{◌≡◌, ◌≢◌, ℕ, ◌+◌, ◌<◌, ◌≤◌, List, [], ◌∷◌, ◌++◌, length, get_or, drop, Option, None, Some, option_map, map, refl, sym, ap, ◌∙◌, arith, append_assoc}
 use Rattle.std.proofs.lemmas.List.{append-nil, drop_all, map-append}
-use Rattle.toml.specs.Data.{Data, Items}
+use Rattle.toml.specs.Data.{Data}
 use Rattle.toml.specs.View.{items_view, view}
 use Rattle.toml.specs.declared.value.Value.{Value}
 use Rattle.toml.proofs.Views.{items_view-drop}
-use Rattle.ds_domain_text.specs.Steps.{and_then}
 use Rattle.ds_domain_text.specs.Values.{each_of, two_numbers}
 
 -- what the items left say, behind what those before them said

@@ -1,5 +1,5 @@
 -- An answer that is written a part at a time.
-use Rattle.std.proofs.Common.{◌≡◌, ℕ, ◌+◌, suc, List, [], ◌∷◌, ◌++◌, take, drop, Bool, true, false, cond, ◌<◌, ◌≤◌, arith, Result, Ok, Err, MatchResult, OnErr, refl, sym, ap, ◌∙◌, append_assoc, append-nil, add-one, take-append-drop}
+use Rattle.std.proofs.Common.{◌≡◌, ℕ, ◌+◌, List, [], ◌++◌, take, drop, Bool, true, false, cond, ◌<◌, ◌≤◌, arith, Result, Ok, Err, MatchResult, OnErr, refl, sym, ap, ◌∙◌, append_assoc, append-nil, add-one, take-append-drop}
 use Rattle.pcap_capture.specs.Counts.{next_count, count_after}
 use Rattle.dsedge_lines.specs.declared.command.Ending.{Ending}
 use Rattle.dsedge_lines.specs.declared.fault.PumpFault.{PumpFault}

@@ -1,8 +1,8 @@
 -- The first line of an input that comes a byte at a time.
-use Rattle.std.proofs.Common.{◌≡◌, ◌≢◌, ℕ, ◌+◌, ◌≤◌, ◌<◌, Bool, true, false, eqb, List, [], ◌∷◌, ◌++◌, length, take, get_or, refl, sym, ap, ◌∙◌, arith, append-nil, length-append, append_assoc}
+use Rattle.std.proofs.Common.{◌≡◌, ◌≢◌, ℕ, ◌≤◌, ◌<◌, false, List, [], ◌∷◌, ◌++◌, length, refl, arith}
 use Rattle.std.proofs.lemmas.Bool.Decides.{nat_tests}
 use Rattle.line_text.specs.Lines.{has_byte}
-use Rattle.line_text.proofs.LineLemmas.{has_byte-cons, has_byte-nil, has_byte-append}
+use Rattle.line_text.proofs.LineLemmas.{has_byte-cons, has_byte-append}
 use Rattle.dsedge_lines.specs.FirstLine.{first_line_of, after_first_line}
 
 -- LF ends the line

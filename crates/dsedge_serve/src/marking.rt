@@ -69,7 +69,7 @@ fn mark_over<'a, I: Intake, O: Outlet>(
 }
 
 /// How a plan ends whose table is not accepted.
-fn refusal_outcome(fault: TableFault) -> Result<Conclusion, PumpFault>
+pub(crate) fn refusal_outcome(fault: TableFault) -> Result<Conclusion, PumpFault>
     ensures { result ≡ refusal_outcome fault }
 {
     match fault {

@@ -13,7 +13,7 @@ ghost use Rattle.line_text.specs.Lines.{lines_of};
 use crate::conclusion::Conclusion;
 use crate::envelope::EnvelopeCommand;
 use crate::fault::Fault;
-use crate::marking::{answer_mark, marking_status, tell_marking};
+use crate::marking::{answer_mark, marking_status, refusal_outcome, tell_marking};
 use crate::meter::MeterCommand;
 use crate::notice::Notice;
 use crate::outcome::Outcome;
@@ -127,10 +127,7 @@ fn answer_audit<I: Intake, O: Outlet>(
 {
     match accept(alloc, domain, certificate) {
         Ok(accepted) => judge_run(alloc, &accepted, intake, output),
-        Err(TableFault::Refused(line)) => Ok(Conclusion::Unaccepted(line)),
-        Err(TableFault::Domain(fault)) => Ok(Conclusion::Unsound(fault)),
-        Err(TableFault::Certificate(fault)) => Ok(Conclusion::Uncertified(fault)),
-        Err(TableFault::NoMemory) => Err(PumpFault::NoMemory),
+        Err(fault) => refusal_outcome(fault),
     }
 }
 

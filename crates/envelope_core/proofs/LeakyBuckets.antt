@@ -1,5 +1,5 @@
 -- Leaky buckets: the level is the backlog of a link, so a bucket overflows first where its envelope is left.
-use Rattle.std.proofs.Common.{◌≡◌, ℕ, ◌+◌, ◌-◌, ◌*◌, ◌<◌, ◌≤◌, ◌↔◌, suc, inl, inr, List, [], ◌∷◌, ◌++◌, Option, None, Some, arith, length, take, get_or, refl, ap, append_assoc, length-append}
+use Rattle.std.proofs.Common.{◌≡◌, ℕ, ◌+◌, ◌*◌, ◌<◌, ◌≤◌, ◌↔◌, suc, inl, inr, List, [], ◌∷◌, ◌++◌, Option, None, Some, arith, length, take, get_or, refl, ap, append_assoc, length-append}
 use Rattle.std.proofs.lemmas.Bool.{cases_lt, lt-ltb, le-ltb}
 use Rattle.std.proofs.lemmas.List.{append-nil, take-append-le, take_all, take-take}
 use Rattle.moment_core.specs.Conformance.{Keeps}

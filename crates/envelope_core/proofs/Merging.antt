@@ -1,5 +1,5 @@
 -- Rows of many flows together, and rows that a test passes, as items that weigh something in a window.
-use Rattle.std.proofs.Common.{◌≡◌, ℕ, ◌+◌, ◌*◌, ◌/◌, ◌≤◌, Bool, true, false, cond, List, map, refl, sym, ◌∙◌, arith, get_or}
+use Rattle.std.proofs.Common.{◌≡◌, ℕ, Bool, true, false, cond, List, map, refl, ◌∙◌, arith, get_or}
 use Rattle.std.proofs.lemmas.List.Sorted.{sum_by-IsPermutation}
 use Rattle.std.specs.List.{sum_by, filter, flat_map, All}
 use Rattle.std.specs.List.Sorted.{IsPermutation}

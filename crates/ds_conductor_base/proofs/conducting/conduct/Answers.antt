@@ -1,4 +1,4 @@
-use Rattle.std.proofs.Common.{◌≡◌, Ok, rules, sym, ap, arith, ◌∙◌}
+use Rattle.std.proofs.Common.{Ok, sym, ap, arith, ◌∙◌}
 use Rattle.ds_conductor_base.proofs.ConductLaws.{conducted_more, conducted_refused, conducted_whole}
 use Rattle.ds_conductor_base.proofs.conducting.conduct.Goals as goal
 

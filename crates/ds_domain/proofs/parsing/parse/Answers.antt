@@ -1,7 +1,6 @@
 use Rattle.std.proofs.Common.{◌≡◌, Err, Some, sym, ap, ◌∙◌, inr}
 use Rattle.toml.specs.Parse.{parse_document}
 use Rattle.toml.specs.View.{table_view}
-use Rattle.ds_domain.specs.DomainTexts.{document_of, parse_of}
 use Rattle.ds_domain.proofs.ParseLemmas.{parse_of-other, parse_of-document}
 use Rattle.ds_domain.proofs.parsing.parse.Goals as goal
 

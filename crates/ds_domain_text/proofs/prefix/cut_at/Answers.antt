@@ -1,4 +1,4 @@
-use Rattle.std.proofs.Common.{◌≡◌, ◌++◌, ◌∷◌, Bool, false, List, ℕ, Option, None, Some, option_map, MatchOption, Bor, refl, sym, ◌∙◌, ap}
+use Rattle.std.proofs.Common.{◌≡◌, ◌++◌, ◌∷◌, false, List, ℕ, Option, None, Some, option_map, MatchOption, Bor, sym, ◌∙◌, ap}
 use Rattle.line_text.specs.Lines.{has_byte}
 use Rattle.ds_domain_text.specs.Prefixes.{cut_at}
 use Rattle.ds_domain_text.proofs.PrefixLemmas.{cut_at-none, cut_at-first}

@@ -1,4 +1,4 @@
-use Rattle.std.proofs.Common.{◌≡◌, Some, sym, ◌∙◌, arith}
+use Rattle.std.proofs.Common.{◌≡◌, Some, arith}
 use Rattle.line_text.specs.Numbers.{number_of}
 use Rattle.ds_domain_text.proofs.PrefixLemmas.{number_of-most}
 use Rattle.ds_domain_text.proofs.prefix.plain_number.Goals as goal

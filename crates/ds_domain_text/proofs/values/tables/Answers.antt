@@ -1,7 +1,5 @@
-use Rattle.std.proofs.Common.{◌≡◌, None, Ok, Err, Some, sym, ◌∙◌, ap, inl, inr, rules}
 use Rattle.toml.specs.Data.{as_table}
-use Rattle.ds_domain_text.specs.Values.{each_of, tables_in}
-use Rattle.ds_domain_text.proofs.ArrayLemmas.{each_of-none_done, each_of-turn, each_of-stop, each_of-all_done}
+use Rattle.ds_domain_text.proofs.ArrayLemmas.{each_of-none_done, each_of-turn}
 use Rattle.ds_domain_text.proofs.values.tables.Goals as goal
 
 pub loop-item-init : goal.loop-item-init

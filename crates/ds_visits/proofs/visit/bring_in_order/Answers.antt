@@ -1,6 +1,5 @@
-use Rattle.std.proofs.Common.{rules, arith, ap, sym, ◌∙◌}
+use Rattle.std.proofs.Common.{rules, arith, sym, ◌∙◌}
 use Rattle.std.proofs.lemmas.List.Sorted.{answers_always}
-use Rattle.ds_visits.specs.Visits.{are_in_order}
 use Rattle.ds_visits.proofs.InOrderLaws.{in_order_already, sorted_visits}
 use Rattle.ds_visits.proofs.visit.bring_in_order.Goals as goal
 

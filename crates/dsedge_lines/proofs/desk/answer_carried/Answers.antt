@@ -1,4 +1,4 @@
-use Rattle.std.proofs.Common.{◌≡◌, List, ◌∷◌, ◌++◌, sym, ap, ◌∙◌}
+use Rattle.std.proofs.Common.{◌≡◌, ◌∷◌, ◌++◌, sym, ap, ◌∙◌}
 use Rattle.line_text.specs.Lines.{lines_of}
 use Rattle.dsedge_lines.proofs.DeskLemmas.{lines_of-carried}
 use Rattle.dsedge_lines.proofs.desk.answer_carried.Goals as goal

@@ -1,4 +1,4 @@
-use Rattle.std.proofs.Common.{◌≡◌, ◌+◌, ◌≤◌, List, [], ◌∷◌, ◌++◌, length, arith, sym, ap, ◌∙◌, append_assoc, length-append}
+use Rattle.std.proofs.Common.{◌≡◌, ◌+◌, ◌∷◌, ◌++◌, length, arith, sym, ap, ◌∙◌, append_assoc, length-append}
 use Rattle.line_text.proofs.LineLemmas.{has_byte-nil, has_byte-append}
 use Rattle.dsedge_lines.specs.Desks.{answer_with}
 use Rattle.dsedge_lines.proofs.desk.answer_piece.Goals as goal

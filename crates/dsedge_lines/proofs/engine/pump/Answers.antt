@@ -1,4 +1,4 @@
-use Rattle.std.proofs.Common.{◌≡◌, ℕ, ◌+◌, ◌≤◌, List, [], ◌++◌, refl, sym, ap, ◌∙◌, arith, inl, append-nil, vec_len}
+use Rattle.std.proofs.Common.{◌≡◌, ◌+◌, ◌≤◌, [], ◌++◌, refl, sym, ap, ◌∙◌, arith, inl, append-nil, vec_len}
 use Rattle.line_text.specs.Lines.{lines_of}
 use Rattle.line_text.proofs.LineLemmas.{has_byte-nil}
 use Rattle.pcap_capture.specs.Counts.{next_count}

@@ -1,4 +1,4 @@
-use Rattle.std.proofs.Common.{length-drop, ap, ◌∙◌, sym, append_assoc, arith, take, drop, ◌++◌, length, ◌≡◌, ◌+◌, ◌≤◌}
+use Rattle.std.proofs.Common.{length-drop, ◌∙◌, append_assoc, arith, take, drop, ◌++◌, length, ◌≡◌, ◌≤◌}
 use Rattle.std.proofs.Math.Seq.{take-add}
 use Rattle.std.proofs.lemmas.List.{take_rest}
 use Rattle.dsedge_lines.proofs.hand_over.give_all.Goals as goal

@@ -1,4 +1,4 @@
-use Rattle.std.proofs.Common.{◌≡◌, ◌≤◌, length, arith, sym, subst, ◌∙◌}
+use Rattle.std.proofs.Common.{arith}
 use Rattle.ds_conductor_base.specs.Kept.{stage_of}
 use Rattle.ds_conductor_base.proofs.UnderWayLaws.{run_under_way}
 use Rattle.ds_conductor_base.proofs.conductor.Conductor.finish.Goals as goal

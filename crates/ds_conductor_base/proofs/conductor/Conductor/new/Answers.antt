@@ -1,4 +1,4 @@
-use Rattle.std.proofs.Common.{rules, ap, sym, subst}
+use Rattle.std.proofs.Common.{rules}
 use Rattle.ds_conductor_base.proofs.UnderWayLaws.{opened_under_way}
 use Rattle.ds_conductor_base.proofs.conductor.Conductor.new.Goals as goal
 

@@ -1,4 +1,4 @@
-use Rattle.std.proofs.Common.{◌≡◌, ◌∷◌, [], ◌++◌, Err, inl, inr, is_some, length, position, true, false, rules, ap, sym, subst, ◌∙◌}
+use Rattle.std.proofs.Common.{◌≡◌, ◌∷◌, [], ◌++◌, Err, inr, is_some, length, position, true, false, rules, ap, sym, ◌∙◌}
 use Rattle.ds_conductor_base.specs.Kept.{stage_of}
 use Rattle.ds_conductor_base.specs.Steps.{is_of}
 use Rattle.ds_conductor_base.proofs.StepLaws.{send_begun, send_keeps, send_known, send_refused}

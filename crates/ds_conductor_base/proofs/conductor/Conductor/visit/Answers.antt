@@ -1,4 +1,4 @@
-use Rattle.std.proofs.Common.{◌≡◌, None, Some, inl, inr, position, rules, sym, ap, subst, ◌∙◌}
+use Rattle.std.proofs.Common.{◌≡◌, None, Some, inr, position, sym, ◌∙◌}
 use Rattle.ds_conductor_base.specs.Kept.{stage_of}
 use Rattle.ds_conductor_base.specs.Steps.{is_of}
 use Rattle.ds_conductor_base.proofs.StepLaws.{visit_keeps, visit_known, visit_unknown}

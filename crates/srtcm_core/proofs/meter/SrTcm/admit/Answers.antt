@@ -1,4 +1,4 @@
-use Rattle.std.proofs.Common.{arith, refl}
+use Rattle.std.proofs.Common.{arith}
 use Rattle.moment_core.proofs.MeteringLaws.{admitted-after, admitted-colour, filled-used, kept-used, newest_le-now, origin_le-now}
 use Rattle.srtcm_core.specs.Kept.{state_of}
 use Rattle.srtcm_core.specs.SingleRate.{single_rate}
