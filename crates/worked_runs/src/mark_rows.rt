@@ -254,3 +254,24 @@ fn a_capture_that_cannot_be_read_on(rt: HostRuntime) -> Result<(), Fail> {
     assert_eq!(rt; found, Err((report(1, 0, 0, [1, 0, 0]), fault)));
     Ok(())
 }
+
+#[test]
+fn a_meter_that_is_visited_too_often(rt: HostRuntime) -> Result<(), Fail> {
+    let alloc = rt.alloc();
+    let accepted = table(alloc, NARROW)?;
+    // One more than a journal has room for.
+    let records = 1_048_577;
+    let mut given = capture(alloc, &[&HEADING])?;
+    for _record in 0..records {
+        given.extend_from_slice(&TAGGED)?;
+    }
+    let full = Err((report(records, 0, 0, [0; 3]), MarkFault::JournalFull));
+    expect(
+        &rt,
+        alloc,
+        &accepted,
+        RedRule::Keep,
+        (given.as_slice(), &[]),
+        full,
+    )
+}
