@@ -28,8 +28,8 @@ const TURNS: u64 = 1 << 32;
 /// of moment, record and hop, on books of 2^20 rows, the gate being called round each with worker 0. Then the capture is written: its heading and
 /// each record as they came but for the marks.
 ///
-/// Refused, with the report of what was read: `UnknownPort` (nothing is read); `JournalFull` where a site is visited more than 2^20 times (nothing is written);
-/// `Capture` with the first fault that stands in the capture, or a read fault, where every record before it is written, or with a write fault, where a front is written; `NoMemory`.
+/// Refused, with the report of what was read: `UnknownPort` (nothing is read); `JournalFull` where a site is visited more than 2^20 times (nothing is written); `NoMemory` (a front is written, or nothing with a report of nothing);
+/// `Capture` with the first fault that stands in the capture, or a read fault, where every record before it is written, or with a write fault, where a front is written.
 pub fn mark<I: Intake, O: Outlet, G: Gate>(
     alloc: Global,
     accepted: &Accepted,
