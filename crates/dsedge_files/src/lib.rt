@@ -6,8 +6,6 @@ mod file_name;
 mod folder;
 mod memory;
 mod system;
-#[cfg(test)]
-mod tests;
 mod texts;
 mod whole;
 

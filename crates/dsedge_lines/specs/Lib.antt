@@ -4,4 +4,3 @@ pub mod Codes
 pub mod Desks
 pub mod Faults
 pub mod FirstLine
-pub mod Sample

@@ -6,8 +6,6 @@ mod desk;
 mod engine;
 mod fault;
 mod hand_over;
-#[cfg(test)]
-mod tests;
 mod words;
 
 pub use command::{Command, Ending};

@@ -58,24 +58,3 @@ pub fn three_fields(line: &[u8]) -> Option<(&[u8], &[u8], &[u8])>
     let (second, third) = two_fields(rest?)?;
     Some((first, second, third))
 }
-
-#[cfg(test)]
-mod tests {
-    use super::*;
-
-    #[test]
-    fn fields_stand_one_space_apart(rt: HostRuntime) {
-        assert_eq!(rt;
-            three_fields(b"0 1500 g"),
-            Some((b"0".as_slice(), b"1500".as_slice(), b"g".as_slice()))
-        );
-        assert_eq!(rt;
-            three_fields(b"a  b"),
-            Some((b"a".as_slice(), b"".as_slice(), b"b".as_slice()))
-        );
-        assert_eq!(rt; three_fields(b"0 1500"), None);
-        assert_eq!(rt; three_fields(b"0 1500 g "), None);
-        assert_eq!(rt; two_fields(b" 5"), Some((b"".as_slice(), b"5".as_slice())));
-        assert_eq!(rt; two_fields(b""), None);
-    }
-}

@@ -30,16 +30,3 @@ pub fn leading_number(line: &[u8], most: u64) -> Option<(u64, &[u8])>
     }
     None
 }
-
-#[cfg(test)]
-mod tests {
-    use super::*;
-
-    #[test]
-    fn a_number_and_what_stands_behind_its_space(rt: HostRuntime) {
-        assert_eq!(rt; leading_number(b"15 g", 15), Some((15, b"g".as_slice())));
-        assert_eq!(rt; leading_number(b"15 g", 14), None, "above the most");
-        assert_eq!(rt; leading_number(b"15", 15), None, "nothing behind it");
-        assert_eq!(rt; leading_number(b" g", 15), None, "no digit");
-    }
-}

@@ -36,37 +36,3 @@ pub fn push_number(out: &mut Vec<u8>, number: u64) -> Result<(), AllocError>
     let mut buffer = Buffer::new();
     out.extend_from_slice(buffer.format(number).as_bytes())
 }
-
-#[cfg(test)]
-mod tests {
-    use super::*;
-    use std::test::Fail;
-
-    #[test]
-    fn numbers_of_one_to_twenty_digits(rt: HostRuntime) {
-        assert_eq!(rt; number(b"0", u64::MAX), Some(0));
-        assert_eq!(rt; number(b"00000000000000000012", 12), Some(12));
-        assert_eq!(rt; number(b"12", 11), None, "above the most");
-        assert_eq!(rt; number(b"18446744073709551615", u64::MAX), Some(u64::MAX));
-        assert_eq!(rt; number(b"18446744073709551616", u64::MAX), None);
-        assert_eq!(rt; number(b"000000000000000000012", 12), None, "21 digits");
-    }
-
-    #[test]
-    fn no_number_has_other_bytes(rt: HostRuntime) {
-        assert_eq!(rt; number(b"", 9), None);
-        assert_eq!(rt; number(b"+1", 9), None);
-        assert_eq!(rt; number(b"1\r", 9), None);
-        assert_eq!(rt; number(b" 1", 9), None);
-    }
-
-    #[test]
-    fn numbers_are_written_without_leading_zeros(rt: HostRuntime) -> Result<(), Fail> {
-        let mut out = Vec::new(rt.alloc());
-        push_number(&mut out, 0)?;
-        push_number(&mut out, 1090)?;
-        push_number(&mut out, u64::MAX)?;
-        assert_eq!(rt; out.as_slice(), b"0109018446744073709551615".as_slice());
-        Ok(())
-    }
-}

@@ -11,8 +11,6 @@ mod packet;
 mod reading;
 mod record;
 mod stage;
-#[cfg(test)]
-mod tests;
 
 pub use adaptor::{ReadIntake, WriteOutlet};
 pub use device::{DeviceFault, Intake, Outlet};

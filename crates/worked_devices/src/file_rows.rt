@@ -1,47 +1,55 @@
-use crate::{
+use dsedge_files::{
     FileFault, FileName, Folder, MemoryFolder, SystemFolder, TextFault, read_texts, read_whole,
 };
 use pcap_capture::SliceIntake;
 use std::alloc::Global;
+use std::process::Abort;
 use std::test::Fail;
 
 /// Two files.
 const FILES: [(&str, &[u8]); 2] = [("one", b"first"), ("two", b"")];
 
-/// What files hold, in the order of their names, each in brackets.
-fn texts_told(alloc: Global, names: &[&str]) -> Result<String, Fail> {
-    let folder = MemoryFolder { files: &FILES };
-    let mut asked = Vec::new(alloc);
-    for name in names {
-        asked.push(FileName::new(*name))?;
-    }
-    match read_texts(alloc, &folder, asked.as_slice()) {
+/// Expects what two files hold, in the order of their names.
+fn expect_texts(
+    rt: &impl Abort,
+    alloc: Global,
+    (one, other): (&str, &str),
+    wanted: (&[u8], &[u8]),
+) -> Result<(), Fail> {
+    let asked = [FileName::new(one), FileName::new(other)];
+    match read_texts(alloc, &MemoryFolder { files: &FILES }, &asked) {
         Ok(texts) => {
-            let mut told = String::new(alloc);
-            for text in texts.iter() {
-                told.push_str("[")?;
-                told.push_str(std::str::from_utf8(text.as_slice())?)?;
-                told.push_str("]")?;
-            }
-            Ok(told)
+            assert_eq!(rt; texts.len(), 2);
+            assert_eq!(rt; (texts[0].as_slice(), texts[1].as_slice()), wanted);
+            Ok(())
         }
-        Err(TextFault::File(name)) => Ok(format!(in alloc; "no {}", name.text())?),
+        Err(_) => Err(Fail::from("a file without a text")),
+    }
+}
+
+/// Expects which of two files is the first that is none.
+fn expect_none(
+    rt: &impl Abort,
+    alloc: Global,
+    (one, other): (&str, &str),
+    wanted: &str,
+) -> Result<(), Fail> {
+    let asked = [FileName::new(one), FileName::new(other)];
+    match read_texts(alloc, &MemoryFolder { files: &FILES }, &asked) {
+        Err(TextFault::File(name)) => {
+            assert_eq!(rt; name.text(), wanted);
+            Ok(())
+        }
         Err(TextFault::NoMemory) => Err(Fail::from("no memory")),
+        Ok(_texts) => Err(Fail::from("no file without a text")),
     }
 }
 
 #[test]
 fn texts_in_order(rt: HostRuntime) -> Result<(), Fail> {
-    let alloc = rt.alloc();
-    for (names, told) in [
-        (["two", "one"], "[][first]"),
-        (["one", "three"], "no three"),
-        (["four", "three"], "no four"),
-    ] {
-        let made = texts_told(alloc, &names)?;
-        assert_eq!(rt; made.as_str(), told);
-    }
-    Ok(())
+    expect_texts(&rt, rt.alloc(), ("two", "one"), (b"", b"first"))?;
+    expect_none(&rt, rt.alloc(), ("one", "three"), "three")?;
+    expect_none(&rt, rt.alloc(), ("four", "three"), "four")
 }
 
 #[test]

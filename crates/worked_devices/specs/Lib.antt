@@ -1,0 +1,2 @@
+-- What the commands of the tests answer.
+pub mod Sample
