@@ -1,6 +1,5 @@
 -- How a command gains its options.
-use Rattle.std.proofs.Common.{◌≡◌, ◌||◌, false, ap, ap₂, ◌∙◌, Result, Ok, Err, IfOk, IsOkAnd}
-use Rattle.std.specs.declared.alloc.AllocError.{AllocError}
+use Rattle.std.proofs.Common.{◌≡◌, ◌||◌, false, ap, ap₂, ◌∙◌}
 use Rattle.clap.specs.Words.{AddsArg, AddsSubcommand, App, Rule, app_of, rule_of, with_rule, with_subcommand}
 use Rattle.clap.specs.declared.builder.arg.Arg.{Arg}
 use Rattle.clap.specs.declared.builder.command.Command.{Command}
@@ -21,13 +20,3 @@ pub with_command : (app part : App) (old command new : Command) → app_of old �
     → app_of new ≡ with_subcommand app part.top
 with_command app part old command new is_app is_part adds =
     adds.shape is_part.1 ∙ ap₂ with_subcommand is_app (ap (λ (a : App). a.top) is_part.0)
-
--- with one more subcommand, where both could be made
-pub with_made : (app part : App) (line command result : Result Command AllocError) → IfOk line (λ old. app_of old ≡ app)
-    → IfOk command (λ made. app_of made ≡ part) → IfOk command (λ made. (fields_of made).has_globals ≡ false)
-    → IfOk result (λ new. IsOkAnd line (λ old. IsOkAnd command (λ made. AddsSubcommand old made new)))
-    → IfOk result (λ new. app_of new ≡ with_subcommand app part.top)
-with_made app part line command (Err e) is_app shape local adds = tt
-with_made app part (Err e) command (Ok new) is_app shape local adds = absurd adds
-with_made app part (Ok old) (Err e) (Ok new) is_app shape local adds = absurd adds
-with_made app part (Ok old) (Ok made) (Ok new) is_app shape local adds = with_command app part old made new is_app (shape, local) adds

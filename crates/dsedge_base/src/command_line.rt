@@ -1,5 +1,5 @@
-ghost use Rattle.std.specs.Prelude.{◌≡◌, IfOk, IsOkAnd, true, false};
-ghost use Rattle.clap.specs.Words.{AddsSubcommand, app_of, rule_of};
+ghost use Rattle.std.specs.Prelude.{◌≡◌, IfOk, true, false};
+ghost use Rattle.clap.specs.Words.{app_of, rule_of};
 ghost use Rattle.clap.specs.declared.builder.command.Command.TheViews.{out-Command as fields_of};
 ghost use Rattle.dsedge_base.specs.CommandLine.{audit, certify, check, dsedge, envelope, mark, meter, on_table, optional, positional, program, required};
 
@@ -10,22 +10,13 @@ use std::alloc::{AllocError, Global};
 pub(crate) fn command_line<'a>(alloc: Global) -> Result<Command<'a>, AllocError>
     ensures { IfOk result (λ command. app_of command ≡ dsedge) }
 {
-    let line = with_command(program(alloc), meter_command(alloc));
-    let line = with_command(line, envelope_command(alloc));
-    let line = with_command(line, certify_command(alloc));
-    let line = with_command(line, check_command(alloc));
-    let line = with_command(line, audit_command(alloc));
-    with_command(line, mark_command(alloc))
-}
-
-/// A command line with one more command, where there was memory for both.
-fn with_command<'a>(
-    line: Result<Command<'a>, AllocError>,
-    command: Result<Command<'a>, AllocError>,
-) -> Result<Command<'a>, AllocError>
-    ensures { IfOk result (λ new. IsOkAnd line.entry (λ old. IsOkAnd command.entry (λ part. AddsSubcommand old part new))) }
-{
-    line?.subcommand(command?)
+    program(alloc)?
+        .subcommand(meter_command(alloc)?)?
+        .subcommand(envelope_command(alloc)?)?
+        .subcommand(certify_command(alloc)?)?
+        .subcommand(check_command(alloc)?)?
+        .subcommand(audit_command(alloc)?)?
+        .subcommand(mark_command(alloc)?)
 }
 
 /// `dsedge`, without its commands.

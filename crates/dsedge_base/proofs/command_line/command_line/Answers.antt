@@ -1,12 +1,15 @@
+use Rattle.std.proofs.lemmas.Result.{IfOk-weaker}
 use Rattle.dsedge_base.specs.CommandLine.{audit, certify, check, envelope, mark, meter, program}
-use Rattle.dsedge_base.proofs.CommandLemmas.{with_made}
+use Rattle.dsedge_base.proofs.CommandLemmas.{with_command}
 use Rattle.dsedge_base.proofs.command_line.command_line.Goals as goal
 
 pub returns : goal.returns
 returns c =
-    let metered = with_made program meter _ _ _ c.program.ensures c.meter_command.ensures.shape c.meter_command.ensures.local c.with_command-line.ensures in
-    let tested = with_made _ envelope _ _ _ metered c.envelope_command.ensures.shape c.envelope_command.ensures.local c.with_command-line-2.ensures in
-    let certified = with_made _ certify _ _ _ tested c.certify_command.ensures.shape c.certify_command.ensures.local c.with_command-line-3.ensures in
-    let checked = with_made _ check _ _ _ certified c.check_command.ensures.shape c.check_command.ensures.local c.with_command-line-4.ensures in
-    let audited = with_made _ audit _ _ _ checked c.audit_command.ensures.shape c.audit_command.ensures.local c.with_command-line-5.ensures in
-    with_made _ mark _ _ _ audited c.mark_command.ensures.shape c.mark_command.ensures.local c.with_command.ensures
+    let metered = with_command program meter _ _ _ c.in_ok-program.ensures (c.in_ok-meter_command.ensures.shape, c.in_ok-meter_command.ensures.local) c.in_ok-subcommand.ensures in
+    let tested = with_command _ envelope _ _ _ metered (c.in_ok-envelope_command.ensures.shape, c.in_ok-envelope_command.ensures.local) c.in_ok-subcommand-2.ensures in
+    let certified = with_command _ certify _ _ _ tested (c.in_ok-certify_command.ensures.shape, c.in_ok-certify_command.ensures.local) c.in_ok-subcommand-3.ensures in
+    let checked = with_command _ check _ _ _ certified (c.in_ok-check_command.ensures.shape, c.in_ok-check_command.ensures.local) c.in_ok-subcommand-4.ensures in
+    let audited = with_command _ audit _ _ _ checked (c.in_ok-audit_command.ensures.shape, c.in_ok-audit_command.ensures.local) c.in_ok-subcommand-5.ensures in
+    IfOk-weaker c.subcommand-6.result _ _
+    (λ command adds. with_command _ mark _ _ _ audited (c.in_ok-mark_command.ensures.shape, c.in_ok-mark_command.ensures.local) adds)
+    c.subcommand-6.ensures
