@@ -84,7 +84,7 @@ two_rate_given given = if is_given given (codes "eir") || is_given given (codes 
   pbs ← burst_given given (codes "pbs")
   Some (record { committed_rate = cir; committed_burst = cbs; peak_rate = pir; peak_burst = pbs })
 
--- the parameters of a meter of two separate rates (RFC 4115 section 2), likewise
+-- the parameters of a meter of two separate rates (RFC 4115), likewise
 unfoldable pub separate_rates_given : Given → Option Rfc4115Parameters
 separate_rates_given given = if is_given given (codes "pir") || is_given given (codes "pbs") then None else do
   cir ← rate_given given (codes "cir")

@@ -117,7 +117,7 @@ fn two_rate_in(options: &ArgMatches<'_>) -> Option<TrTcmParameters>
     })
 }
 
-/// The parameters of a meter of two separate rates (RFC 4115 section 2), with no option of another kind beside them.
+/// The parameters of a meter of two separate rates (RFC 4115), with no option of another kind beside them.
 #[tactic(auto, unfolding(crate::specs::Options::separate_rates_given))]
 fn separate_rates_in(options: &ArgMatches<'_>) -> Option<Rfc4115Parameters>
     ensures { result ≡ separate_rates_given (given_by (rows_of (found_of options.now))) }
