@@ -1,4 +1,4 @@
-ghost use Rattle.std.specs.Prelude.{◌≡◌, ◌+◌, ◌-◌, ◌^◌, ◌↔◌, ◌⊎◌, ◌++◌, ◌<◌, length, vec_len, vec_capacity, take, min, max, is_ok, if◌then◌else◌, IfOk, IsErr, OnErr, MatchResult};
+ghost use Rattle.std.specs.Prelude.{◌≡◌, ◌+◌, ◌-◌, ◌^◌, ◌↔◌, ◌⊎◌, ◌++◌, ◌<◌, ◌≤◌, [], length, vec_len, vec_capacity, take, min, max, is_ok, if◌then◌else◌, IfOk, IsErr, OnErr, MatchResult};
 ghost use Rattle.pcap_capture.specs.Counts.{next_count};
 
 use super::device::{DeviceFault, Intake, Outlet};
@@ -47,6 +47,8 @@ impl Intake for SliceIntake<'_> {
     /// The call `fails_at` fails, and no other. Every other call gives as many bytes as there are, as there is room for, and
     /// as one may give.
     fn take(&mut self, buffer: &mut [u8]) -> Result<usize, DeviceFault>
+        ensures within { IfOk result (λ taken. taken ≤ length buffer.new) }
+        ensures end { IfOk result (λ taken. taken ≡ 0 → 0 < length buffer.new → self.new.bytes.now ≡ []) }
         ensures asked { self.new.turns ≡ next_count self.old.turns }
         ensures fails { IsErr result ↔ (self.old.fails_at ≡ Some self.new.turns) }
         ensures taken { IfOk result (λ taken. taken ≡ min (max self.old.most 1) (min (length self.old.bytes.now) (length buffer.old))) }
@@ -116,6 +118,8 @@ impl Outlet for VecOutlet {
     /// The call `fails_at` fails, and else none but one that had to grow what it holds. Every other call takes the whole
     /// piece, or as many bytes as one may take.
     fn give(&mut self, piece: &[u8]) -> Result<usize, DeviceFault>
+        ensures within { IfOk result (λ given. given ≤ length piece.now) }
+        ensures moves { IfOk result (λ given. 0 < length piece.now → 0 < given) }
         ensures fails { (self.old.fails_at ≡ Some self.new.turns) → IsErr result }
         ensures full { OnErr result ((self.old.fails_at ≡ Some self.new.turns)
             ⊎ (vec_capacity self.old.bytes < vec_len self.old.bytes + min (max self.old.most 1) (length piece.now))) }
