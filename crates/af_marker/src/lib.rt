@@ -8,8 +8,6 @@ mod field;
 pub mod ipv4;
 pub mod marking;
 pub mod reading;
-#[cfg(test)]
-mod tests;
 
 pub use code_point::{Class, Dscp};
 pub use drop_precedence::{colour_of, dscp};

@@ -4,8 +4,6 @@
 pub mod key;
 pub mod matching;
 pub mod rule;
-#[cfg(test)]
-mod tests;
 
 pub use key::Key;
 pub use matching::first_match;

@@ -20,24 +20,3 @@ pub fn drain_gap(rate: u64, bytes: u64) -> u128
 {
     (u128::from(bytes) * u128::from(TOKEN)).div_ceil(u128::from(rate))
 }
-
-#[cfg(test)]
-mod tests {
-    use super::*;
-    use crate::OutOfRange;
-
-    #[test]
-    fn a_begun_byte_is_counted_whole(rt: HostRuntime) -> Result<(), OutOfRange> {
-        assert_eq!(rt; bytes_over_ceil(8_000_000, Gap::new(1_000_000)?), 1000);
-        assert_eq!(rt; bytes_over_ceil(8_000_000, Gap::new(1)?), 1);
-        assert_eq!(rt; bytes_over_ceil(8_000_000, Gap::new(0)?), 0);
-        Ok(())
-    }
-
-    #[test]
-    fn a_byte_at_one_bit_per_second_takes_eight_seconds(rt: HostRuntime) {
-        assert_eq!(rt; drain_gap(1, 1), 8_000_000_000);
-        assert_eq!(rt; drain_gap(3, 1), 2_666_666_667);
-        assert_eq!(rt; drain_gap(3, 0), 0);
-    }
-}

@@ -1,0 +1,24 @@
+//! Worked rows of the libraries below: what meters, envelopes, books, headers and rules answer in their public calls.
+//! They stand here, and not beside those calls, since a crate with tests is proved twice.
+#![tactic(auto)]
+
+#[cfg(test)]
+mod book_rows;
+#[cfg(test)]
+mod envelope_rows;
+#[cfg(test)]
+mod header_rows;
+#[cfg(test)]
+mod kind_rows;
+#[cfg(test)]
+mod meters;
+#[cfg(test)]
+mod rule_rows;
+#[cfg(test)]
+mod separate_rate_rows;
+#[cfg(test)]
+mod single_rate_rows;
+#[cfg(test)]
+mod token_rows;
+#[cfg(test)]
+mod two_rate_rows;

@@ -1,0 +1,171 @@
+use crate::meters::{expect, expect_code, expect_newest, opened};
+use meter_book::Parameters;
+use moment_core::{Mode, Moment, Rate};
+use srtcm_core::{SrTcm, SrTcmParameters};
+use std::process::Abort;
+use std::test::Fail;
+
+/// A rate, and a committed and an excess burst.
+type Figures = (u64, u32, u32);
+
+/// The parameters of such figures.
+pub fn parameters((cir, cbs, ebs): Figures) -> Result<SrTcmParameters, Fail> {
+    Ok(SrTcmParameters {
+        committed_rate: Rate::new(cir)?,
+        committed_burst: cbs,
+        excess_burst: ebs,
+    })
+}
+
+/// Expects of a meter of such figures that each packet leaves it as its row says.
+fn expect_rows(rt: &impl Abort, figures: Figures, mode: Mode, rows: &str) -> Result<(), Fail> {
+    let mut meter = opened(Parameters::SrTcm(parameters(figures)?), mode)?;
+    expect(rt, &mut meter, rows)
+}
+
+const FULL: &str = "
+0 1000 g g
+0 500 g y
+1250000000 250 y y
+1250000000 1 y r
+1250000000 1000 g g
+";
+
+#[test]
+fn tokens_fill_the_excess_bucket_once_the_committed_one_is_full(
+    rt: HostRuntime,
+) -> Result<(), Fail> {
+    expect_rows(&rt, (8_000, 1_000, 500), Mode::Aware, FULL)
+}
+
+const NO_COMMITTED: &str = "
+0 10 g y
+1000000 1 g y
+1000000 1 g r
+";
+
+#[test]
+fn without_a_committed_burst_all_that_conforms_is_yellow(rt: HostRuntime) -> Result<(), Fail> {
+    expect_rows(&rt, (8_000, 0, 10), Mode::Blind, NO_COMMITTED)
+}
+
+/// 8 000 bits a second are a token a millisecond. Equality admits; red takes nothing.
+const EQUAL: &str = "
+0 1000 r r
+0 1000 g g
+0 500 y y
+999999 1 g r
+1000000 1 g g
+1000000 1 g r
+";
+
+/// Tokens go to the excess bucket only once the committed one is full, and a full pair loses them.
+const SPILLED: &str = "
+0 10 g g
+0 10 g y
+10000000 1 y r
+15000000 6 y r
+15000000 5 y y
+60000000 11 g r
+60000000 10 g g
+60000000 10 g y
+";
+
+/// A gap of all time fills both buckets and no more.
+const IDLE: &str = "
+0 1000 g g
+0 500 g y
+9223372036854775807 1000 g g
+9223372036854775807 500 g y
+9223372036854775807 1 g r
+";
+
+/// The smallest and the greatest packet, at one bit a second: a token in eight seconds.
+const SIZES: &str = "
+0 65535 g g
+0 65535 g r
+0 1 g y
+7999999999 1 g r
+8000000000 1 g g
+";
+
+/// 10^13 bits a second are 1 250 tokens a nanosecond.
+const FAST: &str = "
+0 2500 g g
+0 1250 g y
+1 1250 g g
+1 1 g r
+3 1 y r
+4 1250 y y
+4 2501 g r
+4 2500 g g
+";
+
+/// A committed bucket of size 0 never admits, and the greatest excess one takes packet after packet.
+const GREATEST_EXCESS: &str = "
+0 65535 g y
+0 65535 y y
+0 65535 r r
+";
+
+/// An excess bucket of size 0 never admits.
+const GREATEST_COMMITTED: &str = "
+0 65535 g g
+0 1 y r
+";
+
+/// 3 000 bits a second are a token each 2 666 666 2/3 ns: no fraction is lost between arrivals.
+const THIRDS: &str = "
+0 3 g g
+2666666 1 g r
+2666667 1 g g
+5333333 1 g r
+5333334 1 g g
+7999999 1 g r
+8000000 1 g g
+";
+
+/// An arrival from before the newest moment is metered at the newest; a blind meter heeds no colour.
+const LATE: &str = "
+2000000 2 r g
+1000000 1 r r
+3000000 1 y g
+0 1 g r
+4000000 1 g g
+";
+
+/// The colours were worked out by hand from the algorithm of RFC 2697 section 3: a token a byte, at the first whole
+/// nanosecond by which the rate has given it.
+#[test]
+fn colours_at_the_edges(rt: HostRuntime) -> Result<(), Fail> {
+    expect_rows(&rt, (8_000, 1_000, 500), Mode::Aware, EQUAL)?;
+    expect_rows(&rt, (8_000, 10, 10), Mode::Aware, SPILLED)?;
+    expect_rows(&rt, (8_000, 1_000, 500), Mode::Aware, IDLE)?;
+    expect_rows(&rt, (1, 65_535, 1), Mode::Blind, SIZES)?;
+    expect_rows(&rt, (Rate::MOST, 2_500, 1_250), Mode::Aware, FAST)?;
+    expect_rows(&rt, (8_000, 0, u32::MAX), Mode::Aware, GREATEST_EXCESS)?;
+    expect_rows(&rt, (8_000, u32::MAX, 0), Mode::Aware, GREATEST_COMMITTED)?;
+    expect_rows(&rt, (3_000, 3, 0), Mode::Blind, THIRDS)?;
+    expect_rows(&rt, (8_000, 2, 0), Mode::Blind, LATE)
+}
+
+/// Expects of a committed and an excess burst the number of the fault of such a meter, 0 where it has none.
+fn expect_fault(rt: &impl Abort, (cbs, ebs): (u32, u32), wanted: u8) -> Result<(), Fail> {
+    let parameters = parameters((8_000, cbs, ebs))?;
+    let code = match SrTcm::new(parameters, Mode::Blind, Moment::new(5)?) {
+        Ok(_) => 0,
+        Err(fault) => fault.code(),
+    };
+    assert_eq!(rt; code, wanted);
+    expect_code(rt, Parameters::SrTcm(parameters), wanted)
+}
+
+#[test]
+fn a_meter_begins_at_its_origin_and_wants_a_burst(rt: HostRuntime) -> Result<(), Fail> {
+    expect_fault(&rt, (0, 0), 1)?;
+    expect_fault(&rt, (0, 1), 0)?;
+    expect_fault(&rt, (1, 0), 0)?;
+    let mut meter = SrTcm::new(parameters((8_000, 1, 1))?, Mode::Blind, Moment::new(5)?)?;
+    expect_newest(&rt, &mut meter)?;
+    Ok(())
+}
