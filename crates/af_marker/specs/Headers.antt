@@ -4,23 +4,24 @@ use Rattle.byteorder.specs.Endian.{big_number}
 use Rattle.af_marker.specs.declared.ipv4.Header.{Header}
 use Rattle.af_marker.specs.declared.ipv4.HeaderFault.{HeaderFault}
 use Rattle.af_marker.specs.declared.ipv4.HeaderFault.TheVariants.{NotIpv4, ShortHeader, BadLength}
+use Rattle.af_marker.specs.Fields.{flags_and_offset, options, protocol_field, source_address, target_address, total_length_field, type_of_service, version_and_length}
 use Rattle.af_marker.specs.Checksums.{ones_sum, words}
 
--- the version, in the upper half of byte 0
+-- the version, in the upper half of its byte
 abbrev pub version : List ℕ → ℕ
-version bytes = slice_index bytes 0 / 16
+version bytes = slice_index bytes version_and_length / 16
 
--- the length of the header in bytes: the lower half of byte 0 counts words of four
+-- the length of the header in bytes: the lower half of that byte counts words of four
 abbrev pub header_length : List ℕ → ℕ
-header_length bytes = 4 * (slice_index bytes 0 % 16)
+header_length bytes = 4 * (slice_index bytes version_and_length % 16)
 
--- the length of header and data, in bytes 2 and 3
+-- the length of header and data in bytes
 abbrev pub total_length : List ℕ → ℕ
-total_length bytes = big_number 2 (drop 2 bytes)
+total_length bytes = big_number 2 (drop total_length_field bytes)
 
--- the place of a fragment, in eights of bytes: the lower thirteen bits of bytes 6 and 7
+-- the place of a fragment, in eights of bytes: the lower thirteen bits of its field
 abbrev pub fragment_offset : List ℕ → ℕ
-fragment_offset bytes = big_number 2 (drop 6 bytes) % 8192
+fragment_offset bytes = big_number 2 (drop flags_and_offset bytes) % 8192
 
 -- The first of the header's tests that fails: there is a byte, the version is 4, the fixed part is there, the header
 -- is not shorter than that, it is there whole, and the packet is not shorter than it.
@@ -28,8 +29,8 @@ unfoldable pub fault_of : List ℕ → Option HeaderFault
 fault_of bytes =
     if nat_eq (length bytes) 0 then Some ShortHeader
     else if not (nat_eq (version bytes) 4) then Some NotIpv4
-    else if nat_lt (length bytes) 20 then Some ShortHeader
-    else if nat_lt (header_length bytes) 20 then Some BadLength
+    else if nat_lt (length bytes) options then Some ShortHeader
+    else if nat_lt (header_length bytes) options then Some BadLength
     else if nat_lt (length bytes) (header_length bytes) then Some ShortHeader
     else if nat_lt (total_length bytes) (header_length bytes) then Some BadLength
     else None
@@ -38,7 +39,7 @@ fault_of bytes =
 -- is no later fragment, and these bytes are there and within the packet.
 abbrev pub has_ports : List ℕ → Bool
 has_ports bytes =
-    (nat_eq (slice_index bytes 9) 6 || nat_eq (slice_index bytes 9) 17)
+    (nat_eq (slice_index bytes protocol_field) 6 || nat_eq (slice_index bytes protocol_field) 17)
     && nat_eq (fragment_offset bytes) 0
     && nat_le (header_length bytes + 4) (length bytes)
     && nat_le (header_length bytes + 4) (total_length bytes)
@@ -58,11 +59,11 @@ unfoldable pub fields_of : List ℕ → Header
 fields_of bytes = record {
   length = header_length bytes;
   total = total_length bytes;
-  dscp = slice_index bytes 1 / 4;
-  protocol = slice_index bytes 9;
+  dscp = slice_index bytes type_of_service / 4;
+  protocol = slice_index bytes protocol_field;
   offset = fragment_offset bytes;
-  source = big_number 4 (drop 12 bytes);
-  target = big_number 4 (drop 16 bytes);
+  source = big_number 4 (drop source_address bytes);
+  target = big_number 4 (drop target_address bytes);
   ports = ports_of bytes;
   verified = is_verified bytes;
 }

@@ -1,4 +1,5 @@
 pub mod Checksums
 pub mod CodePoints
+pub mod Fields
 pub mod Headers
 pub mod Marks

@@ -2,15 +2,16 @@
 use Rattle.std.specs.Prelude.{ℕ, ◌+◌, ◌-◌, ◌*◌, ◌%◌, if◌then◌else◌, List, ◌++◌, take, drop, slice_index, slice_set}
 use Rattle.byteorder.specs.Endian.{big_bytes}
 use Rattle.af_marker.specs.Checksums.{ones_sum, words}
+use Rattle.af_marker.specs.Fields.{checksum_field, type_of_service}
 use Rattle.af_marker.specs.Headers.{header_length, is_verified}
 
--- the code point is the upper six bits of byte 1, whose lower two stay (RFC 2474 section 3)
+-- the code point is the upper six bits of the type of service, whose lower two stay (RFC 2474 section 3)
 abbrev pub with_dscp : ℕ → List ℕ → List ℕ
-with_dscp dscp bytes = slice_set bytes 1 (4 * dscp + slice_index bytes 1 % 4)
+with_dscp dscp bytes = slice_set bytes type_of_service (4 * dscp + slice_index bytes type_of_service % 4)
 
--- the checksum is in bytes 10 and 11 (RFC 791 section 3.1)
+-- the checksum has two bytes (RFC 791 section 3.1)
 abbrev pub with_checksum : ℕ → List ℕ → List ℕ
-with_checksum checksum bytes = take 10 bytes ++ (big_bytes 2 checksum ++ drop 12 bytes)
+with_checksum checksum bytes = take checksum_field bytes ++ (big_bytes 2 checksum ++ drop (checksum_field + 2) bytes)
 
 -- The checksum of a header: the ones' complement of the ones' complement sum of its words, the checksum taken as 0
 -- (RFC 791 section 3.1).

@@ -4,6 +4,7 @@
 mod checksum;
 pub mod code_point;
 pub mod drop_precedence;
+mod field;
 pub mod ipv4;
 pub mod marking;
 pub mod reading;

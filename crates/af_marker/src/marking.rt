@@ -4,6 +4,7 @@ ghost use Rattle.af_marker.specs.Marks.{checksum_of, marked, with_checksum};
 
 use crate::checksum::ones_complement_sum;
 use crate::code_point::Dscp;
+use crate::field;
 use crate::ipv4::{Header, HeaderFault};
 use crate::reading::header;
 use byteorder::{BigEndian, ByteOrder};
@@ -15,9 +16,9 @@ fn set_checksum(bytes: &mut [u8], header_bytes: usize)
     requires whole { header_bytes ≤ length bytes.old }
     ensures { bytes.new ≡ with_checksum (checksum_of bytes.old) bytes.old }
 {
-    BigEndian::write_u16(&mut bytes[10..], 0);
+    BigEndian::write_u16(&mut bytes[field::CHECKSUM..], 0);
     let checksum = u16::MAX - ones_complement_sum(&bytes[..header_bytes]);
-    BigEndian::write_u16(&mut bytes[10..], checksum);
+    BigEndian::write_u16(&mut bytes[field::CHECKSUM..], checksum);
 }
 
 /// Gives a header that passes all tests a code point (RFC 2474 section 3).
@@ -28,7 +29,7 @@ fn set_dscp(bytes: &mut [u8], header_bytes: usize, verified: bool, dscp: Dscp)
     requires verified { verified ≡ is_verified bytes.old }
     ensures { bytes.new ≡ marked dscp bytes.old }
 {
-    bytes[1] = dscp.in_byte(bytes[1]);
+    bytes[field::TYPE_OF_SERVICE] = dscp.in_byte(bytes[field::TYPE_OF_SERVICE]);
     if verified {
         set_checksum(bytes, header_bytes);
     }

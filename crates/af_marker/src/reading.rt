@@ -3,6 +3,7 @@ ghost use Rattle.af_marker.specs.Headers.{fault_of, fields_of, header_length, he
 
 use crate::checksum::ones_complement_sum;
 use crate::code_point::Dscp;
+use crate::field;
 use crate::ipv4::{Header, HeaderFault};
 use byteorder::{BigEndian, ByteOrder};
 use moment_core::PacketSize;
@@ -12,19 +13,19 @@ use moment_core::PacketSize;
 fn fault_of_header(bytes: &[u8]) -> Option<HeaderFault>
     ensures { result ≡ fault_of bytes.now }
 {
-    let Some(first) = bytes.first() else {
+    let Some(first) = bytes.get(field::VERSION_AND_LENGTH) else {
         return Some(HeaderFault::ShortHeader);
     };
     let length = 4 * usize::from(*first % 16);
     if *first / 16 != 4 {
         Some(HeaderFault::NotIpv4)
-    } else if bytes.len() < 20 {
+    } else if bytes.len() < field::OPTIONS {
         Some(HeaderFault::ShortHeader)
-    } else if length < 20 {
+    } else if length < field::OPTIONS {
         Some(HeaderFault::BadLength)
     } else if bytes.len() < length {
         Some(HeaderFault::ShortHeader)
-    } else if usize::from(BigEndian::read_u16(&bytes[2..])) < length {
+    } else if usize::from(BigEndian::read_u16(&bytes[field::TOTAL_LENGTH..])) < length {
         Some(HeaderFault::BadLength)
     } else {
         None
@@ -40,8 +41,8 @@ fn ports_of_packet(bytes: &[u8], ports_at: usize, total: u16) -> Option<(u16, u1
     requires total { total ≡ total_length bytes.now }
     ensures { result ≡ ports_of bytes.now }
 {
-    let is_first = BigEndian::read_u16(&bytes[6..]) % 0x2000 == 0;
-    let has_ports = bytes[9] == 6 || bytes[9] == 17;
+    let is_first = BigEndian::read_u16(&bytes[field::FLAGS_AND_OFFSET..]) % 0x2000 == 0;
+    let has_ports = bytes[field::PROTOCOL] == 6 || bytes[field::PROTOCOL] == 17;
     let end = ports_at + 4;
     if has_ports && is_first && end <= bytes.len() && end <= usize::from(total) {
         let ports = &bytes[ports_at..];
@@ -57,16 +58,16 @@ fn fields_of_header(bytes: &[u8]) -> Header
     requires { fault_of bytes.now ≡ None }
     ensures { result ≡ fields_of bytes.now }
 {
-    let length = 4 * usize::from(bytes[0] % 16);
-    let total = BigEndian::read_u16(&bytes[2..]);
+    let length = 4 * usize::from(bytes[field::VERSION_AND_LENGTH] % 16);
+    let total = BigEndian::read_u16(&bytes[field::TOTAL_LENGTH..]);
     Header {
         length,
         total: PacketSize::new(u64::from(total)).unwrap(),
-        dscp: Dscp::of_byte(bytes[1]),
-        protocol: bytes[9],
-        offset: BigEndian::read_u16(&bytes[6..]) % 0x2000,
-        source: BigEndian::read_u32(&bytes[12..]),
-        target: BigEndian::read_u32(&bytes[16..]),
+        dscp: Dscp::of_byte(bytes[field::TYPE_OF_SERVICE]),
+        protocol: bytes[field::PROTOCOL],
+        offset: BigEndian::read_u16(&bytes[field::FLAGS_AND_OFFSET..]) % 0x2000,
+        source: BigEndian::read_u32(&bytes[field::SOURCE_ADDRESS..]),
+        target: BigEndian::read_u32(&bytes[field::TARGET_ADDRESS..]),
         ports: ports_of_packet(bytes, length, total),
         verified: ones_complement_sum(&bytes[..length]) == u16::MAX,
     }

@@ -1,10 +1,11 @@
 -- What a reader of a certificate's lines needs.
-use Rattle.std.proofs.Common.{rules, append_assoc, append-nil, get_or, take, ◌≡◌, ◌≢◌, ℕ, suc, ◌+◌, ◌-◌, ◌≤◌, ◌<◌, Bool, false, ◌&&◌, leb, List, [], ◌∷◌, ◌++◌, drop, length, None, Some, Result, Ok, Err, refl, sym, ap, ◌∙◌, arith, if◌then◌else◌}
+use Rattle.std.proofs.Common.{rules, append_assoc, append-nil, get_or, take, ◌≡◌, ◌≢◌, ℕ, suc, ◌+◌, ◌-◌, ◌≤◌, ◌<◌, Bool, false, ◌&&◌, List, [], ◌∷◌, ◌++◌, drop, length, None, Some, Result, Ok, Err, refl, sym, ap, ◌∙◌, arith, if◌then◌else◌}
 use Rattle.std.proofs.lemmas.Bool.Decides.{nat_tests}
 use Rattle.std.proofs.lemmas.List.{drop_all, drop_more}
 use Rattle.line_text.specs.Lines.{fields_of, has_byte, lines_of}
 use Rattle.line_text.specs.Numbers.{is_number, number_of}
 use Rattle.line_text.proofs.LineLemmas.{lines_of-nil, lines_of-uncut}
+use Rattle.ds_domain_base.specs.Names.{is_name}
 use Rattle.ds_domain_base.specs.declared.contract.Contract.{Contract}
 use Rattle.ds_certificate.specs.Columns.{Bound}
 use Rattle.ds_certificate.specs.Readings.{Read, bound_in, bounds_in, ending_in, entry_in, entry_of, onto, row_onto, rows_in}
@@ -37,7 +38,7 @@ unfolding entry_in
 no_entry line name fields is other = ap entry_of is ∙ entry_of-other name fields other
 
 pub entry_by : (line name : List ℕ) (fields : List (List ℕ)) (hop green all : List ℕ) (form : Bool) → fields_of line ≡ name ∷ fields → fields ≡ hop ∷ green ∷ all ∷ []
-    → form ≡ (leb 1 (length name) && is_number hop && is_number green && is_number all)
+    → form ≡ (is_name name && is_number hop && is_number green && is_number all)
     → entry_in line ≡ (if form then Some (record { name = name; hop = hop; green = green; all = all }) else None)
 unfolding entry_in
 entry_by line name fields hop green all form is are test =

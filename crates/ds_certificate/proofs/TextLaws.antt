@@ -1,5 +1,5 @@
 -- What is written of a certificate, and that it reads as the same.
-use Rattle.std.proofs.Common.{rules, append_assoc, append-nil, length-append, drop, get_or, ◌≡◌, ℕ, suc, ◌+◌, ◌/◌, ◌%◌, ◌≤◌, ◌<◌, ◌^◌, Bool, true, false, ◌&&◌, ◌||◌, eqb, leb, List, [], ◌∷◌, ◌++◌, length, fold, Option, None, Some, Ok, Err, codes, decimal, IsTrue, refl, sym, ap, subst, ◌∙◌, arith, if◌then◌else◌}
+use Rattle.std.proofs.Common.{rules, append_assoc, append-nil, length-append, drop, get_or, ◌≡◌, ℕ, suc, ◌+◌, ◌/◌, ◌%◌, ◌≤◌, ◌<◌, ◌^◌, Bool, true, false, ◌&&◌, ◌||◌, eqb, List, [], ◌⊎◌, inl, inr, ◌∷◌, ◌++◌, length, fold, Option, None, Some, Ok, Err, codes, decimal, IsTrue, refl, sym, ap, subst, ◌∙◌, arith, if◌then◌else◌}
 use Rattle.std.specs.List.{list_all}
 use Rattle.std.specs.Char.{is_ascii_digit}
 use Rattle.std.specs.Cmp.Lexicographic.{nat_list_eq_equiv}
@@ -107,16 +107,12 @@ fields_of-line name hop b w =
 entry_made : (x y z v : Bool) (e : Entry) → x ≡ true → y ≡ true → z ≡ true → v ≡ true → (if x && y && z && v then Some e else None) ≡ Some e
 entry_made x y z v e p q r s = rw (p, q, r, s) refl
 
-is_name-long : (name : List ℕ) → IsTrue (is_name name) → leb 1 (length name) ≡ true
-unfolding is_name
-is_name-long name good = search (rules, and_parts, good)
-
 entry_in-line : (name : List ℕ) (hop : ℕ) (b : Bound) → IsWritten name hop b
     → entry_in (line_of name hop b) ≡ Some (record { name = name; hop = decimal hop; green = decimal b.green; all = decimal b.all })
 unfolding entry_in
 entry_in-line name hop b w =
     ap entry_of (fields_of-line name hop b w)
-    ∙ entry_made _ _ _ _ _ (is_name-long name w.named) (is_number-decimal hop w.at_hop) (is_number-decimal b.green (omega (arith, w.green))) (is_number-decimal b.all (omega (arith, w.all)))
+    ∙ entry_made _ _ _ _ _ w.named (is_number-decimal hop w.at_hop) (is_number-decimal b.green (omega (arith, w.green))) (is_number-decimal b.all (omega (arith, w.all)))
 
 said_made : (x y : Bool) (g a : Option ℕ) (b : Bound) → x ≡ true → y ≡ true → g ≡ Some b.green → a ≡ Some b.all → (if x && y then bound_of g a else Err Shape) ≡ Ok b
 said_made x y g a b p q r s = rw (p, q, r, s) refl
@@ -208,63 +204,67 @@ lines-ended front name hop i bounds whole all kept =
 pub reads-ended : (name : List ℕ) (hop i : ℕ) (bounds : List Bound) → length bounds ≤ i → (ReadBack name hop (drop i bounds) → ReadBack name 0 bounds) → ReadBack name 0 bounds
 reads-ended name hop i bounds all kept = kept (subst (ReadBack name hop) (sym (drop_all i bounds all)) (ReadBack-nil name hop))
 
-left_is : (contracts : List Contract) (i : ℕ) (c : Contract) → i < length contracts → c ≡ get_or contracts i c → drop i contracts ≡ c ∷ drop (i + 1) contracts
-left_is contracts i c inside is_c = drop_more contracts i c inside ∙ ap (λ x. x ∷ drop (i + 1) contracts) (sym is_c)
-
 pub text_of-headed : (contracts : List Contract) (rows : List (List Bound)) → codes "dscert 1\n" ++ ended (lines_for contracts rows) ≡ text_of contracts rows
 unfolding ended
 text_of-headed contracts rows = refl
 
-pub rows-more : (front more : List ℕ) (contracts : List Contract) (i : ℕ) (c : Contract) (rows : List (List Bound)) (bounds : List Bound) (later : List (List Bound)) (whole : List ℕ)
-    → i < length contracts → c ≡ get_or contracts i c → rows ≡ bounds ∷ later → more ≡ front ++ ended (lines_from c.name 0 bounds)
-    → front ++ ended (lines_for (drop i contracts) rows) ≡ whole → more ++ ended (lines_for (drop (i + 1) contracts) later) ≡ whole
+-- a contract more: xs and ys are the contracts and the rows that were left before it
+pub rows-more : (front more : List ℕ) (xs contracts : List Contract) (c : Contract) (ys rows : List (List Bound)) (bounds : List Bound) (whole : List ℕ)
+    → xs ≡ c ∷ contracts → ys ≡ bounds ∷ rows → more ≡ front ++ ended (lines_from c.name 0 bounds)
+    → front ++ ended (lines_for xs ys) ≡ whole → more ++ ended (lines_for contracts rows) ≡ whole
 unfolding lines_for
-rows-more front more contracts i c rows bounds later whole inside is_c are is_more kept =
-    let before : ended (lines_for (drop i contracts) rows) ≡ ended (lines_from c.name 0 bounds) ++ ended (lines_for (drop (i + 1) contracts) later) =
-    rw (left_is contracts i c inside is_c, are) (ended-append (lines_from c.name 0 bounds) (lines_for (drop (i + 1) contracts) later)) in
-    rw is_more (append_assoc front (ended (lines_from c.name 0 bounds)) (ended (lines_for (drop (i + 1) contracts) later)) ∙ ap (λ text. front ++ text) (sym before) ∙ kept)
+rows-more front more xs contracts c ys rows bounds whole are said is_more kept =
+    let before : ended (lines_for xs ys) ≡ ended (lines_from c.name 0 bounds) ++ ended (lines_for contracts rows) =
+    rw (are, said) (ended-append (lines_from c.name 0 bounds) (lines_for contracts rows)) in
+    rw is_more (append_assoc front (ended (lines_from c.name 0 bounds)) (ended (lines_for contracts rows)) ∙ ap (λ text. front ++ text) (sym before) ∙ kept)
 
-pub shape-more : (contracts : List Contract) (i : ℕ) (c : Contract) (rows : List (List Bound)) (bounds : List Bound) (later : List (List Bound))
-    → i < length contracts → c ≡ get_or contracts i c → rows ≡ bounds ∷ later → eqb (length bounds) (suc (length c.path)) ≡ true
-    → is_shaped (drop i contracts) rows ≡ is_shaped (drop (i + 1) contracts) later
+pub shape-other : (xs contracts : List Contract) (c : Contract) (ys rows : List (List Bound)) (bounds : List Bound) → xs ≡ c ∷ contracts → ys ≡ bounds ∷ rows
+    → eqb (length bounds) (suc (length c.path)) ≡ false → is_shaped xs ys ≡ false
 unfolding is_shaped
-shape-more contracts i c rows bounds later inside is_c are long = rw (left_is contracts i c inside is_c, are, long) refl
+shape-other xs contracts c ys rows bounds are said long = rw (are, said, long) refl
 
-pub shape-other : (contracts : List Contract) (i : ℕ) (c : Contract) (rows : List (List Bound)) (bounds : List Bound) (later : List (List Bound))
-    → i < length contracts → c ≡ get_or contracts i c → rows ≡ bounds ∷ later → eqb (length bounds) (suc (length c.path)) ≡ false
-    → is_shaped (drop i contracts) rows ≡ false
+pub shape-more : (xs contracts : List Contract) (c : Contract) (ys rows : List (List Bound)) (bounds : List Bound) → xs ≡ c ∷ contracts → ys ≡ bounds ∷ rows
+    → eqb (length bounds) (suc (length c.path)) ≡ true → is_shaped xs ys ≡ is_shaped contracts rows
 unfolding is_shaped
-shape-other contracts i c rows bounds later inside is_c are long = rw (left_is contracts i c inside is_c, are, long) refl
+shape-more xs contracts c ys rows bounds are said long = rw (are, said, long) refl
 
-pub shape-missing : (contracts : List Contract) (i : ℕ) (c : Contract) (rows : List (List Bound)) → i < length contracts → c ≡ get_or contracts i c → length rows ≡ 0
-    → is_shaped (drop i contracts) rows ≡ false
+-- what is shaped is long, and so is what stands behind
+pub shape-behind : (xs contracts : List Contract) (c : Contract) (ys rows : List (List Bound)) (bounds : List Bound) → xs ≡ c ∷ contracts → ys ≡ bounds ∷ rows
+    → is_shaped xs ys ≡ true → (eqb (length bounds) (suc (length c.path)) ≡ true) × (is_shaped contracts rows ≡ true)
 unfolding is_shaped
-shape-missing contracts i c [] inside is_c none = rw (left_is contracts i c inside is_c) refl
-shape-missing contracts i c (bounds ∷ rows) inside is_c none = absurd (omega (arith, none))
+shape-behind xs contracts c ys rows bounds are said shaped =
+    and_parts (eqb (length bounds) (suc (length c.path))) (is_shaped contracts rows) (subst (λ list. is_shaped (c ∷ contracts) list ≡ true) said (subst (λ list. is_shaped list ys ≡ true) are shaped))
 
-not_empty : (n : ℕ) → eqb (suc n) 0 ≡ false
-not_empty n = grind (arith, nat_tests)
-
-pub shape-ended : (contracts : List Contract) (i : ℕ) (rows : List (List Bound)) → length contracts ≤ i → is_shaped (drop i contracts) rows ≡ eqb (length rows) 0
+-- where one of both is at its end, they are shaped where they are as long as each other
+pub shape-ended : (xs : List Contract) (ys : List (List Bound)) (m n : ℕ) → (xs ≡ []) ⊎ (ys ≡ []) → length xs + n ≡ length ys + m → eqb m n ≡ is_shaped xs ys
 unfolding is_shaped
-shape-ended contracts i [] all = rw (drop_all i contracts all) refl
-shape-ended contracts i (bounds ∷ rows) all = rw (drop_all i contracts all) (sym (not_empty (length rows)))
+shape-ended [] [] m n ended long = grind (arith, nat_tests, long)
+shape-ended [] (bounds ∷ ys) m n ended long = grind (arith, nat_tests, long)
+shape-ended (c ∷ xs) [] m n ended long = grind (arith, nat_tests, long)
+shape-ended (c ∷ xs) (bounds ∷ ys) m n (inl ended) long = absurd cc
+shape-ended (c ∷ xs) (bounds ∷ ys) m n (inr ended) long = absurd cc
 
-pub back-more : (contracts : List Contract) (i : ℕ) (c : Contract) (rows : List (List Bound)) (bounds : List Bound) (later whole : List (List Bound))
-    → i < length contracts → c ≡ get_or contracts i c → rows ≡ bounds ∷ later → eqb (length bounds) (suc (length c.path)) ≡ true → ReadBack c.name 0 bounds
-    → (RowsBack (drop i contracts) rows → RowsBack contracts whole) → RowsBack (drop (i + 1) contracts) later → RowsBack contracts whole
-back-more contracts i c rows bounds later whole inside is_c are long front kept behind =
+-- where what is left is shaped and one of both is at its end, so is the other
+pub both_ended : (xs : List Contract) (ys : List (List Bound)) → (xs ≡ []) ⊎ (ys ≡ []) → is_shaped xs ys ≡ true → (xs ≡ []) × (ys ≡ [])
+unfolding is_shaped
+both_ended [] [] ended shaped = (refl, refl)
+both_ended [] (bounds ∷ ys) ended shaped = absurd cc
+both_ended (c ∷ xs) [] ended shaped = absurd cc
+both_ended (c ∷ xs) (bounds ∷ ys) (inl ended) shaped = absurd cc
+both_ended (c ∷ xs) (bounds ∷ ys) (inr ended) shaped = absurd cc
+
+pub back-more : (all xs contracts : List Contract) (c : Contract) (ys rows : List (List Bound)) (bounds : List Bound) (whole : List (List Bound))
+    → xs ≡ c ∷ contracts → ys ≡ bounds ∷ rows → eqb (length bounds) (suc (length c.path)) ≡ true → ReadBack c.name 0 bounds
+    → (RowsBack xs ys → RowsBack all whole) → RowsBack contracts rows → RowsBack all whole
+back-more all xs contracts c ys rows bounds whole are said long front kept behind =
     let exact : length bounds ≡ length c.path + 1 = omega (arith, eqb-true _ _ long) in
-    let more = RowsBack-more c (drop (i + 1) contracts) bounds later exact front behind in
-    kept (subst (λ left. RowsBack left rows) (sym (left_is contracts i c inside is_c)) (subst (RowsBack (c ∷ drop (i + 1) contracts)) (sym are) more))
+    let more = RowsBack-more c contracts bounds rows exact front behind in
+    kept (subst (λ left. RowsBack left ys) (sym are) (subst (RowsBack (c ∷ contracts)) (sym said) more))
 
-pub back-ended : (contracts : List Contract) (i : ℕ) (rows whole : List (List Bound)) → length contracts ≤ i → length rows ≡ 0
-    → (RowsBack (drop i contracts) rows → RowsBack contracts whole) → RowsBack contracts whole
-back-ended contracts i [] whole all none kept = kept (subst (λ left. RowsBack left []) (sym (drop_all i contracts all)) RowsBack-nil)
-back-ended contracts i (bounds ∷ rows) whole all none kept = absurd (omega (arith, none))
+pub back-ended : (all xs : List Contract) (ys whole : List (List Bound)) → (xs ≡ []) × (ys ≡ []) → (RowsBack xs ys → RowsBack all whole) → RowsBack all whole
+back-ended all xs ys whole none kept = kept (subst (λ left. RowsBack left ys) (sym none.0) (subst (RowsBack []) (sym none.1) RowsBack-nil))
 
-pub text-ended : (front : List ℕ) (contracts : List Contract) (i : ℕ) (rows : List (List Bound)) (whole : List ℕ) → length contracts ≤ i
-    → front ++ ended (lines_for (drop i contracts) rows) ≡ whole → front ≡ whole
+pub text-ended : (front : List ℕ) (xs : List Contract) (ys : List (List Bound)) (whole : List ℕ) → (xs ≡ []) × (ys ≡ []) → front ++ ended (lines_for xs ys) ≡ whole → front ≡ whole
 unfolding lines_for ended
-text-ended front contracts i rows whole all kept =
-    sym (append-nil front) ∙ ap (λ left. front ++ ended (lines_for left rows)) (sym (drop_all i contracts all)) ∙ kept
+text-ended front xs ys whole none kept =
+    sym (append-nil front) ∙ ap (λ left. front ++ ended (lines_for left ys)) (sym none.0) ∙ kept

@@ -1,8 +1,9 @@
 -- What a certificate's text says of contracts, or its first fault.
-use Rattle.std.specs.Prelude.{ℕ, zero, suc, ◌+◌, ◌^◌, ◌&&◌, nat_eq, nat_le, is_some, List, [], ◌∷◌, length, Option, None, Some, Result, Ok, Err, if◌then◌else◌}
+use Rattle.std.specs.Prelude.{ℕ, zero, suc, ◌+◌, ◌^◌, ◌&&◌, nat_eq, is_some, List, [], ◌∷◌, length, Option, None, Some, Result, Ok, Err, if◌then◌else◌}
 use Rattle.std.specs.Str.{bytes_eq}
 use Rattle.line_text.specs.Lines.{fields_of, lines_of}
 use Rattle.line_text.specs.Numbers.{is_number, number_of, value_of}
+use Rattle.ds_domain_base.specs.Names.{is_name}
 use Rattle.ds_domain_base.specs.declared.contract.Contract.{Contract}
 use Rattle.ds_certificate.specs.Columns.{Bound}
 use Rattle.ds_certificate.specs.Texts.{heading}
@@ -16,10 +17,10 @@ pub record Entry : Type 0 where
   pub green : List ℕ
   pub all : List ℕ
 
--- a name of at least one byte, and three numbers
+-- a name and three numbers
 abbrev pub entry_of : List (List ℕ) → Option Entry
 entry_of (name ∷ hop ∷ green ∷ all ∷ []) =
-    if nat_le 1 (length name) && is_number hop && is_number green && is_number all then
+    if is_name name && is_number hop && is_number green && is_number all then
     Some (record { name = name; hop = hop; green = green; all = all })
     else
     None

@@ -1,6 +1,7 @@
-ghost use Rattle.std.specs.Prelude.{◌≡◌, ◌∷◌, [], ◌+◌, ◌≤◌, ◌^◌, ◌&&◌, ◌⊎◌, ⊤, length, nat_eq, nat_le, None, Some, Ok, Err, IsTrue, IfOk, IfErr, MatchOption, MatchResult};
+ghost use Rattle.std.specs.Prelude.{◌≡◌, ◌∷◌, [], ◌+◌, ◌≤◌, ◌^◌, ◌&&◌, ◌⊎◌, ⊤, length, nat_eq, None, Some, Ok, Err, IsTrue, IfOk, IfErr, MatchOption, MatchResult};
 ghost use Rattle.std.specs.List.{list_all};
 ghost use Rattle.std.specs.Char.{is_ascii_digit};
+ghost use Rattle.ds_domain_base.specs.Names.{is_name};
 ghost use Rattle.line_text.specs.Lines.{lines_of};
 ghost use Rattle.line_text.specs.Numbers.{is_number, number_of, value_of};
 ghost use Rattle.ds_certificate.specs.Readings.{bound_in, bounds_in, certificate_in, ending_in, entry_in, rows_in};
@@ -9,7 +10,7 @@ ghost use Rattle.ds_certificate.specs.Texts.{is_shaped};
 use crate::bound::Bound;
 use crate::certificate::{Bounds, Certificate};
 use crate::fault::CertificateFault;
-use ds_domain_base::{Contract, Name};
+use ds_domain_base::{Contract, Name, is_name};
 use line_text::{cut, number, split_field, three_fields};
 use std::alloc::Global;
 
@@ -141,7 +142,7 @@ fn bytes(text: &[u8]) -> Option<u64>
 /// The fields of a line of a bound.
 #[derive(Clone, Copy)]
 struct Entry<'a> {
-    /// The contract's name: at least one byte.
+    /// The contract's name.
     name: &'a [u8],
     /// The number of the hop.
     hop: &'a [u8],
@@ -168,12 +169,12 @@ fn entry_in<'a>(line: &'a [u8]) -> Option<Entry<'a>>
     if has_form(&entry) { Some(entry) } else { None }
 }
 
-/// Whether fields are a name of at least one byte, and three numbers.
+/// Whether fields are a name and three numbers.
 fn has_form(entry: &Entry<'_>) -> bool
-    ensures { result ≡ (nat_le 1 (length entry.now.name.now) && is_number entry.now.hop.now && is_number entry.now.green.now
+    ensures { result ≡ (is_name entry.now.name.now && is_number entry.now.hop.now && is_number entry.now.green.now
         && is_number entry.now.all.now) }
 {
-    !entry.name.is_empty() && is_number(entry.hop) && is_number(entry.green) && is_number(entry.all)
+    is_name(entry.name) && is_number(entry.hop) && is_number(entry.green) && is_number(entry.all)
 }
 
 /// Whether a text is 1 to 20 decimal digits.

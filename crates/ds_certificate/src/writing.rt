@@ -23,27 +23,31 @@ pub fn write(
     ensures text { IfOk result (λ text. text.items ≡ text_of contracts.now certificate.now) }
     ensures shape { IfOk result (λ _. IsTrue (is_shaped contracts.now certificate.now)) }
     ensures reads { IfOk result (λ text. certificate_in contracts.now text.items ≡ Ok certificate.now) }
-    ensures refused { IfErr result (λ fault. (fault ≡ CertificateFault.NoMemory)
+    // A wrong shape is told without memory.
+    ensures refused { IfErr result (λ fault. ((fault ≡ CertificateFault.NoMemory) × IsTrue (is_shaped contracts.now certificate.now))
         ⊎ ((fault ≡ CertificateFault.Shape) × (is_shaped contracts.now certificate.now ≡ false))) }
 {
+    if !is_shaped(contracts, certificate.bounds()) {
+        return Err(CertificateFault::Shape);
+    }
     let mut text = Vec::new(alloc);
     text.extend_from_slice(b"dscert 1\n")?;
-    let mut rows = certificate.bounds();
-    for contract in contracts {
-        let Some((bounds, later)) = rows.split_first() else {
-            return Err(CertificateFault::Shape);
-        };
-        if !is_long(bounds, contract) {
-            return Err(CertificateFault::Shape);
-        }
+    for (contract, bounds) in contracts.iter().zip(certificate.bounds()) {
         push_bounds(&mut text, contract.name, bounds)?;
-        rows = later;
     }
-    if rows.is_empty() {
-        Ok(text)
-    } else {
-        Err(CertificateFault::Shape)
+    Ok(text)
+}
+
+/// Whether there are bounds for each contract, one more than its path has meters.
+fn is_shaped(contracts: &[Contract], rows: &[Bounds]) -> bool
+    ensures { result ≡ is_shaped contracts.now rows.now }
+{
+    for (contract, bounds) in contracts.iter().zip(rows) {
+        if !is_long(bounds, contract) {
+            return false;
+        }
     }
+    contracts.len() == rows.len()
 }
 
 /// Whether there is one bound more than a contract's path has meters.

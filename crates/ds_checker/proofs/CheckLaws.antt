@@ -1,8 +1,8 @@
 -- What stands against a table, part by part.
-use Rattle.std.proofs.Common.{◌≡◌, ℕ, List, Option, None, Some, option_map, refl, sym}
+use Rattle.std.proofs.Common.{◌≡◌, ◌∙◌, ℕ, List, Bool, false, Option, None, Some, OnErr, Result, Ok, Err, is_some, option_map, refl, subst, sym}
 use Rattle.std.specs.Option.{option_or}
 use Rattle.ds_domain_base.specs.declared.contract.Contract.{Contract}
-use Rattle.ds_checker.specs.Acceptance.{Table, refusal_behind, refusal_of}
+use Rattle.ds_checker.specs.Acceptance.{Table, bounds_refusal_behind, bounds_refusal_of, refusal_behind, refusal_of}
 use Rattle.ds_checker.specs.BoundTests.{bound_tests, misfit}
 use Rattle.ds_checker.specs.TableTests.{table_tests}
 use Rattle.ds_checker.specs.Tests.{first_failed}
@@ -22,3 +22,24 @@ pub refusal_is : (t : Table) (contracts : List Contract) (shape bounds : Option 
     → option_or shape (option_or bounds (first_failed (table_tests t.domain contracts t.certificate t.domain.meters))) ≡ refusal_of t
 refusal_is t contracts shape bounds same is_shape is_bounds =
     rw is_shape (rw is_bounds (rw same (sym (behind_is t (misfit 0 t.domain t.contracts t.certificate)))))
+
+unfounded : (r : Option Refusal) → is_some r ≡ false → r ≡ None
+unfounded None none = refl
+unfounded (Some r) none = absurd cc
+
+behind_misfit : (t : Table) (m : Option ℕ) → option_map Shape m ≡ None → first_failed (bound_tests 0 t.domain t.contracts t.certificate) ≡ None → bounds_refusal_behind t m ≡ None
+behind_misfit t None shaped passed = passed
+behind_misfit t (Some number) shaped passed = shaped
+
+-- where neither shape nor bounds are refused, nothing that takes no memory stands against a table
+pub bounds_refusal_is : (t : Table) (contracts : List Contract) (shape bounds : Option Refusal) → contracts ≡ t.contracts
+    → shape ≡ option_map Shape (misfit 0 t.domain contracts t.certificate) → bounds ≡ first_failed (bound_tests 0 t.domain contracts t.certificate)
+    → is_some shape ≡ false → is_some bounds ≡ false → bounds_refusal_of t ≡ None
+bounds_refusal_is t contracts shape bounds same is_shape is_bounds shaped passed =
+    let at : List Contract → Type 0 = λ cs. option_map Shape (misfit 0 t.domain cs t.certificate) ≡ None in
+    let ahead : List Contract → Type 0 = λ cs. first_failed (bound_tests 0 t.domain cs t.certificate) ≡ None in
+    behind_misfit t (misfit 0 t.domain t.contracts t.certificate) (subst at same (sym is_shape ∙ unfounded shape shaped)) (subst ahead same (sym is_bounds ∙ unfounded bounds passed))
+
+pub on_err : {A E P : Type 0} (r : Result A E) → P → OnErr r P
+on_err (Ok value) holds = tt
+on_err (Err fault) holds = holds

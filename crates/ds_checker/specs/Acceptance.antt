@@ -39,6 +39,14 @@ IsAcceptable t =
     IsCertificate t.domain t.contracts t.certificate
     × All (λ entry. Carries entry.1 (shares_at t.domain entry.0 t.contracts t.certificate)) t.domain.meters
 
+-- the first thing that stands against a table's shape and its bounds, which are looked at without memory
+abbrev pub bounds_refusal_behind : Table → Option ℕ → Option Refusal
+bounds_refusal_behind t (Some number) = Some (Shape number)
+bounds_refusal_behind t None = first_failed (bound_tests 0 t.domain t.contracts t.certificate)
+
+abbrev pub bounds_refusal_of : Table → Option Refusal
+bounds_refusal_of t = bounds_refusal_behind t (misfit 0 t.domain t.contracts t.certificate)
+
 -- the first thing that stands against a table: its shape, then its bounds, contract by contract, then its meters
 abbrev pub refusal_behind : Table → Option ℕ → Option Refusal
 refusal_behind t (Some number) = Some (Shape number)

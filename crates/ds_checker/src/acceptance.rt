@@ -1,5 +1,5 @@
-ghost use Rattle.std.specs.Prelude.{◌≡◌, ◌⊎◌, None, Some, IfOk, IfErr};
-ghost use Rattle.ds_checker.specs.Acceptance.{IsAcceptable, refusal_of, table_of};
+ghost use Rattle.std.specs.Prelude.{◌≡◌, ◌⊎◌, None, Some, IfOk, IfErr, OnErr};
+ghost use Rattle.ds_checker.specs.Acceptance.{IsAcceptable, bounds_refusal_of, refusal_of, table_of};
 
 use crate::bounds::{bounds_refusal, shape_refusal};
 use crate::candidate::{Accepted, Candidate};
@@ -14,7 +14,9 @@ pub fn check(alloc: Global, candidate: Candidate) -> Result<Accepted, (Candidate
     ensures acceptable { IfOk result (λ accepted. IsAcceptable accepted) }
     ensures unrefused { IfOk result (λ accepted. refusal_of accepted ≡ None) }
     ensures back { IfErr result (λ refused. refused.0 ≡ candidate) }
-    ensures refused { IfErr result (λ refused. (refused.1 ≡ Refusal.NoMemory) ⊎ (refusal_of (table_of candidate) ≡ Some refused.1)) }
+    // What is wrong with a shape or a bound is told without memory.
+    ensures refused { IfErr result (λ refused. ((refused.1 ≡ Refusal.NoMemory) × (bounds_refusal_of (table_of candidate) ≡ None))
+        ⊎ (refusal_of (table_of candidate) ≡ Some refused.1)) }
 {
     match refusal(alloc, &candidate) {
         Ok(None) => Ok(Accepted::new(candidate)),
@@ -26,7 +28,8 @@ pub fn check(alloc: Global, candidate: Candidate) -> Result<Accepted, (Candidate
 /// The first test that fails of a candidate, if one does: its shape, then its bounds, then its meters; `AllocError` where
 /// memory runs out.
 fn refusal(alloc: Global, candidate: &Candidate) -> Result<Option<Refusal>, AllocError>
-    ensures { IfOk result (λ refusal. refusal ≡ refusal_of (table_of candidate.now)) }
+    ensures value { IfOk result (λ refusal. refusal ≡ refusal_of (table_of candidate.now)) }
+    ensures memory { OnErr result (bounds_refusal_of (table_of candidate.now) ≡ None) }
 {
     let Candidate {
         domain,

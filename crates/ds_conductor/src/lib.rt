@@ -1,8 +1,20 @@
-//! Packets conducted through the meters of an accepted table: step by step, or frame by frame out of a capture.
+//! Captures whose frames are marked by the colours that their packets leave a domain's meters with (RFC 2475 section 2.3.3, RFC 2597).
 //!
-//! Its parts stand in `ds_conductor_base` (steps), `ds_visits` (visits and their gate) and `capture_marker` (captures).
+//! The calls of steps (`ds_conductor_base`) and of the gate round visits (`ds_visits`) stand here too, by one name for all callers.
 #![tactic(auto)]
 
-pub use capture_marker::{MarkFault, RedRule, Report, mark};
+pub mod fault;
+pub mod marking;
+pub mod reading;
+pub mod report;
+pub mod rule;
+pub mod sending;
+mod tally;
+pub mod writing;
+
 pub use ds_conductor_base::{ConductFault, Conductor, Step, StepFault, conduct};
 pub use ds_visits::{Gate, OpenGate};
+pub use fault::MarkFault;
+pub use marking::mark;
+pub use report::Report;
+pub use rule::RedRule;

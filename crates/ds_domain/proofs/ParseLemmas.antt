@@ -1,10 +1,12 @@
 -- Which bytes are a domain text.
-use Rattle.std.proofs.Common.{◌≡◌, ℕ, List, Some, None, Err, IsUtf8, refl, inl, inr}
+use Rattle.std.proofs.Common.{◌≡◌, ℕ, List, Some, None, Result, Ok, Err, IfErr, ◌⊎◌, IsUtf8, refl, inl, inr}
 use Rattle.std.proofs.lemmas.Bool.{cases_Bool}
 use Rattle.std.proofs.lemmas.Str.{IsUtf8-from_is_utf8, is_utf8-from_IsUtf8}
 use Rattle.std.specs.Str.{is_utf8}
 use Rattle.toml.specs.Data.{Members}
 use Rattle.toml.specs.Parse.{parse_document}
+use Rattle.ds_domain_base.specs.Faults.{no_memory}
+use Rattle.ds_domain_base.specs.declared.fault.DomainFault.{DomainFault}
 use Rattle.ds_domain.specs.DomainTexts.{document_of, no_text, parse_of}
 
 -- bytes that are not UTF-8
@@ -25,3 +27,10 @@ parse_of-refused bytes utf8 none = rw (is_utf8-from_IsUtf8 bytes utf8, none) ref
 pub parse_of-document : (bytes : List ℕ) (members : Members) → IsUtf8 bytes → parse_document bytes ≡ Some members → parse_of bytes ≡ document_of members
 unfolding parse_of
 parse_of-document bytes members utf8 some = rw (is_utf8-from_IsUtf8 bytes utf8, some) refl
+
+-- of a text want of memory says that it is one
+pub with_text : {A : Type 0} (bytes : List ℕ) (r : Result A DomainFault) → IsUtf8 bytes → IfErr r (λ fault. (fault ≡ no_memory) ⊎ (parse_of bytes ≡ Err fault))
+    → IfErr r (λ fault. ((fault ≡ no_memory) × IsUtf8 bytes) ⊎ (parse_of bytes ≡ Err fault))
+with_text bytes (Ok value) text told = tt
+with_text bytes (Err fault) text (inl none) = inl (none, text)
+with_text bytes (Err fault) text (inr said) = inr said

@@ -1,4 +1,5 @@
 ghost use Rattle.std.specs.Prelude.{◌≡◌, ◌⊎◌, map, Err, IfErr, IfOk, Ok};
+ghost use Rattle.std.specs.Str.{IsUtf8};
 ghost use Rattle.toml.specs.View.{table_view};
 ghost use Rattle.ds_domain_base.specs.Faults.{no_memory};
 ghost use Rattle.ds_domain.specs.DomainTexts.{document_of, domain_of, no_text, parse_of, section_of, sections_of, top_of};
@@ -43,7 +44,8 @@ pub(crate) struct Sections<'a> {
 #[tactic(auto, unfolding(crate::specs::DomainTexts::parse_of))]
 pub fn parse(alloc: Global, bytes: &[u8]) -> Result<(Domain, Vec<Contract>), DomainFault>
     ensures ok { IfOk result (λ parsed. parse_of bytes.now ≡ Ok (parsed.0, parsed.1.items)) }
-    ensures refused { IfErr result (λ fault. (fault ≡ no_memory) ⊎ (parse_of bytes.now ≡ Err fault)) }
+    // Bytes that are no text are told without memory.
+    ensures refused { IfErr result (λ fault. ((fault ≡ no_memory) × IsUtf8 bytes.now) ⊎ (parse_of bytes.now ≡ Err fault)) }
 {
     let Ok(text) = std::str::from_utf8(bytes) else {
         return Err(no_text());

@@ -16,7 +16,7 @@ pub use contract::Contract;
 pub use domain::Domain;
 pub use fault::{DomainFault, Field, Kind, Section};
 pub use fit::{MOST_HOPS, fits};
-pub use name::Name;
+pub use name::{Name, is_name};
 pub use parts::{Link, Meter, Port};
 pub use path::Path;
 pub use quantity::{Delay, Lifetime};

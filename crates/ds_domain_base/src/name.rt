@@ -92,9 +92,9 @@ impl Name {
     }
 }
 
-/// Whether a text is a name.
+/// Whether a text is a name: 1 to 32 characters of a to z, 0 to 9, - and _.
 #[tactic(auto, unfolding(crate::specs::Names::is_name))]
-fn is_name(text: &[u8]) -> bool
+pub fn is_name(text: &[u8]) -> bool
     ensures { result ≡ is_name text.now }
 {
     (1..=Name::MOST).contains(&text.len()) && has_name_characters(text)

@@ -7,25 +7,45 @@ mod start;
 #[cfg(test)]
 mod tests;
 
-use crate::start::start;
+use crate::start::{refuse, start};
 use dsedge_files::SystemFolder;
+use dsedge_lines::Words;
+use dsedge_serve::Fault;
 use pcap_capture::{ReadIntake, WriteOutlet};
+use std::env;
+use std::io::{Error, ErrorKind};
 use std::process::ExitCode;
-use std::{env, io};
+use std::rt::Env;
 
-fn main(rt: HostRuntime) -> io::Result<ExitCode> {
-    let alloc = rt.alloc();
-    let mut words = Vec::new(alloc);
-    for word in env::args(&rt)?.skip(1) {
-        words.push(word)?;
+/// Why there are no words: memory ran out, or one of them is not UTF-8.
+fn wordless(error: Error) -> Fault<'static> {
+    match error.kind() {
+        ErrorKind::OutOfMemory => Fault::Memory,
+        _ => Fault::Usage,
     }
-    let status = start(
-        alloc,
-        words,
-        &SystemFolder::new(&rt),
-        &mut ReadIntake::new(rt.stdin()),
-        &mut WriteOutlet::new(rt.stdout()),
-        &mut WriteOutlet::new(rt.stderr()),
-    );
-    Ok(ExitCode::from(status))
+}
+
+/// The words of the command line behind the program's name.
+fn given_words<R: Env + AllocGlobal>(rt: &R) -> Result<Words, Fault<'static>> {
+    let mut words = Vec::new(rt.alloc());
+    for word in env::args(rt).map_err(wordless)?.skip(1) {
+        words.push(word).map_err(|_| Fault::Memory)?;
+    }
+    Ok(words)
+}
+
+fn main(rt: HostRuntime) -> ExitCode {
+    let mut faults = WriteOutlet::new(rt.stderr());
+    let status = match given_words(&rt) {
+        Ok(words) => start(
+            rt.alloc(),
+            words,
+            &SystemFolder::new(&rt),
+            &mut ReadIntake::new(rt.stdin()),
+            &mut WriteOutlet::new(rt.stdout()),
+            &mut faults,
+        ),
+        Err(fault) => refuse(&fault, &mut faults),
+    };
+    ExitCode::from(status)
 }

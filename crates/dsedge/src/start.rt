@@ -16,7 +16,7 @@ use pcap_capture::{Intake, Outlet};
 use std::alloc::Global;
 
 /// Tells a fault, and gives its exit status. A failure to write it is passed over.
-fn refuse<F: Outlet>(fault: &Fault<'_>, faults: &mut F) -> u8
+pub fn refuse<F: Outlet>(fault: &Fault<'_>, faults: &mut F) -> u8
     ensures status { result ≡ status_of fault.now }
     ensures told { F.tells faults.old →
         IsTold (fault_text fault.now) (F.held faults.old) (F.held faults.new) (F.failed faults.old) (F.failed faults.new) }

@@ -59,30 +59,38 @@ origin_said (Some text) = moment_said text
 abbrev pub is_given : Given → List ℕ → Bool
 is_given given name = is_some (given name)
 
+-- the rate that an option gives
+abbrev pub rate_given : Given → List ℕ → Option ℕ
+rate_given given name = given name >>= rate_said
+
+-- the burst that an option gives
+abbrev pub burst_given : Given → List ℕ → Option ℕ
+burst_given given name = given name >>= burst_said
+
 -- the parameters of a single-rate meter (RFC 2697 section 2), with no option of another kind beside them
 unfoldable pub single_rate_given : Given → Option SrTcmParameters
 single_rate_given given = if is_given given (codes "pir") || (is_given given (codes "pbs") || is_given given (codes "eir")) then None else do
-  cir ← given (codes "cir") >>= rate_said
-  cbs ← given (codes "cbs") >>= burst_said
-  ebs ← given (codes "ebs") >>= burst_said
+  cir ← rate_given given (codes "cir")
+  cbs ← burst_given given (codes "cbs")
+  ebs ← burst_given given (codes "ebs")
   Some (record { committed_rate = cir; committed_burst = cbs; excess_burst = ebs })
 
 -- the parameters of a two-rate meter (RFC 2698 section 2), likewise
 unfoldable pub two_rate_given : Given → Option TrTcmParameters
 two_rate_given given = if is_given given (codes "eir") || is_given given (codes "ebs") then None else do
-  cir ← given (codes "cir") >>= rate_said
-  cbs ← given (codes "cbs") >>= burst_said
-  pir ← given (codes "pir") >>= rate_said
-  pbs ← given (codes "pbs") >>= burst_said
+  cir ← rate_given given (codes "cir")
+  cbs ← burst_given given (codes "cbs")
+  pir ← rate_given given (codes "pir")
+  pbs ← burst_given given (codes "pbs")
   Some (record { committed_rate = cir; committed_burst = cbs; peak_rate = pir; peak_burst = pbs })
 
--- the parameters of a meter of two separate rates (RFC 4115 section 2), likewise
+-- the parameters of a meter of two separate rates (RFC 4115), likewise
 unfoldable pub separate_rates_given : Given → Option Rfc4115Parameters
 separate_rates_given given = if is_given given (codes "pir") || is_given given (codes "pbs") then None else do
-  cir ← given (codes "cir") >>= rate_said
-  cbs ← given (codes "cbs") >>= burst_said
-  eir ← given (codes "eir") >>= rate_said
-  ebs ← given (codes "ebs") >>= burst_said
+  cir ← rate_given given (codes "cir")
+  cbs ← burst_given given (codes "cbs")
+  eir ← rate_given given (codes "eir")
+  ebs ← burst_given given (codes "ebs")
   Some (record { committed_rate = cir; committed_burst = cbs; excess_rate = eir; excess_burst = ebs })
 
 -- the parameters of a meter of the kind that is named
@@ -109,7 +117,7 @@ meter_given given = do
 -- the rate and the burst that the options of `envelope` ask for
 unfoldable pub envelope_given : Given → Option (ℕ × ℕ)
 envelope_given given = do
-  rate ← given (codes "rate") >>= rate_said
+  rate ← rate_given given (codes "rate")
   burst ← given (codes "burst") >>= envelope_burst_said
   Some (rate, burst)
 

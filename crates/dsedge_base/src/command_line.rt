@@ -23,12 +23,11 @@ pub(crate) fn command_line<'a>(alloc: Global) -> Result<Command<'a>, AllocError>
 fn program<'a>(alloc: Global) -> Result<Command<'a>, AllocError>
     ensures { IfOk result (λ command. app_of command ≡ program) }
 {
-    let command = Command::new(alloc, "dsedge")
-        .bin_name("dsedge")?
+    Command::new(alloc, "dsedge")
         .about("A DiffServ traffic conditioner: meters, marks and certificates.")
         .no_binary_name(true)
-        .subcommand_required(true);
-    Ok(command)
+        .subcommand_required(true)
+        .bin_name("dsedge")
 }
 
 /// `dsedge meter`.

@@ -1,7 +1,7 @@
 ghost use Rattle.std.specs.Prelude.{◌≡◌, option_map};
 ghost use Rattle.clap.specs.Words.{first_of, found_of, rows_of};
-ghost use Rattle.dsedge_base.specs.Options.{burst_said, envelope_burst_said, envelope_given, is_given, marking_given, meter_given, mode_said, moment_said, opened};
-ghost use Rattle.dsedge_base.specs.Options.{origin_said, parameters_given, rate_said, red_said, separate_rates_given, single_rate_given, table_given, two_rate_given, workers_said};
+ghost use Rattle.dsedge_base.specs.Options.{burst_given, burst_said, envelope_burst_said, envelope_given, is_given, marking_given, meter_given, mode_said, moment_said, opened};
+ghost use Rattle.dsedge_base.specs.Options.{origin_said, parameters_given, rate_given, rate_said, red_said, separate_rates_given, single_rate_given, table_given, two_rate_given, workers_said};
 ghost use Rattle.dsedge_base.specs.Plans.{given_by};
 
 use crate::port::PortName;
@@ -33,7 +33,7 @@ pub(crate) fn meter_in(options: &ArgMatches<'_>) -> Option<AnyMeter>
 pub(crate) fn envelope_in(options: &ArgMatches<'_>) -> Option<(Rate, u64)>
     ensures { result ≡ envelope_given (given_by (rows_of (found_of options.now))) }
 {
-    let rate = rate_said_by(text_in(options, "rate")?)?;
+    let rate = rate_in(options, "rate")?;
     let burst = envelope_burst_said_by(text_in(options, "burst")?)?;
     Some((rate, burst))
 }
@@ -95,9 +95,9 @@ fn single_rate_in(options: &ArgMatches<'_>) -> Option<SrTcmParameters>
         return None;
     }
     Some(SrTcmParameters {
-        committed_rate: rate_said_by(text_in(options, "cir")?)?,
-        committed_burst: burst_said_by(text_in(options, "cbs")?)?,
-        excess_burst: burst_said_by(text_in(options, "ebs")?)?,
+        committed_rate: rate_in(options, "cir")?,
+        committed_burst: burst_in(options, "cbs")?,
+        excess_burst: burst_in(options, "ebs")?,
     })
 }
 
@@ -110,14 +110,14 @@ fn two_rate_in(options: &ArgMatches<'_>) -> Option<TrTcmParameters>
         return None;
     }
     Some(TrTcmParameters {
-        committed_rate: rate_said_by(text_in(options, "cir")?)?,
-        committed_burst: burst_said_by(text_in(options, "cbs")?)?,
-        peak_rate: rate_said_by(text_in(options, "pir")?)?,
-        peak_burst: burst_said_by(text_in(options, "pbs")?)?,
+        committed_rate: rate_in(options, "cir")?,
+        committed_burst: burst_in(options, "cbs")?,
+        peak_rate: rate_in(options, "pir")?,
+        peak_burst: burst_in(options, "pbs")?,
     })
 }
 
-/// The parameters of a meter of two separate rates (RFC 4115 section 2), with no option of another kind beside them.
+/// The parameters of a meter of two separate rates (RFC 4115), with no option of another kind beside them.
 #[tactic(auto, unfolding(crate::specs::Options::separate_rates_given))]
 fn separate_rates_in(options: &ArgMatches<'_>) -> Option<Rfc4115Parameters>
     ensures { result ≡ separate_rates_given (given_by (rows_of (found_of options.now))) }
@@ -126,11 +126,25 @@ fn separate_rates_in(options: &ArgMatches<'_>) -> Option<Rfc4115Parameters>
         return None;
     }
     Some(Rfc4115Parameters {
-        committed_rate: rate_said_by(text_in(options, "cir")?)?,
-        committed_burst: burst_said_by(text_in(options, "cbs")?)?,
-        excess_rate: rate_said_by(text_in(options, "eir")?)?,
-        excess_burst: burst_said_by(text_in(options, "ebs")?)?,
+        committed_rate: rate_in(options, "cir")?,
+        committed_burst: burst_in(options, "cbs")?,
+        excess_rate: rate_in(options, "eir")?,
+        excess_burst: burst_in(options, "ebs")?,
     })
+}
+
+/// The rate that an option gives, in bits per second.
+fn rate_in(options: &ArgMatches<'_>, name: &str) -> Option<Rate>
+    ensures { result ≡ rate_given (given_by (rows_of (found_of options.now))) name.now }
+{
+    rate_said_by(text_in(options, name)?)
+}
+
+/// The burst size that an option gives, in bytes.
+fn burst_in(options: &ArgMatches<'_>, name: &str) -> Option<u32>
+    ensures { result ≡ burst_given (given_by (rows_of (found_of options.now))) name.now }
+{
+    burst_said_by(text_in(options, name)?)
 }
 
 /// Whether an option is given.

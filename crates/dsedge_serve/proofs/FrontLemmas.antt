@@ -5,7 +5,7 @@ use Rattle.std.proofs.lemmas.List.{drop_more}
 use Rattle.pcap_capture.specs.Counts.{next_count}
 use Rattle.dsedge_serve.specs.Served.{IsTold}
 use Rattle.std.specs.Prelude.{codes, decimal, slice_index}
-use Rattle.capture_marker.specs.declared.report.Report.{Report}
+use Rattle.ds_conductor.specs.declared.report.Report.{Report}
 use Rattle.ds_domain_base.specs.Faults.{field_text, kind_code, section_text}
 use Rattle.ds_domain_base.specs.declared.fault.DomainFault.{DomainFault}
 use Rattle.dsedge_serve.specs.Faults.{IsFrontOf, fault_text, kind_text, text_or_dash}

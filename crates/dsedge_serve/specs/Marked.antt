@@ -2,12 +2,12 @@
 use Rattle.std.specs.Prelude.{◌≡◌, ◌⊎◌, ℕ, Bool, true, false, List, [], ◌∷◌, ◌++◌, flat_map, Option, None, Some, Result, Ok, Err, codes, decimal, slice_index}
 use Rattle.pcap_capture.specs.declared.fault.PcapFault.{PcapFault}
 use Rattle.pcap_capture.specs.declared.fault.PcapFault.TheVariants as pcaps
-use Rattle.capture_marker.specs.Markings.{IsMarked}
-use Rattle.capture_marker.specs.declared.fault.MarkFault.{MarkFault}
-use Rattle.capture_marker.specs.declared.fault.MarkFault.TheVariants as marks
-use Rattle.capture_marker.specs.declared.report.Report.{Report}
-use Rattle.capture_marker.specs.declared.rule.RedRule.{RedRule}
-use Rattle.capture_marker.specs.declared.rule.RedRule.TheVariants.{Drop, Keep}
+use Rattle.ds_conductor.specs.Markings.{IsMarked}
+use Rattle.ds_conductor.specs.declared.fault.MarkFault.{MarkFault}
+use Rattle.ds_conductor.specs.declared.fault.MarkFault.TheVariants as marks
+use Rattle.ds_conductor.specs.declared.report.Report.{Report}
+use Rattle.ds_conductor.specs.declared.rule.RedRule.{RedRule}
+use Rattle.ds_conductor.specs.declared.rule.RedRule.TheVariants.{Drop, Keep}
 use Rattle.ds_checker.specs.Acceptance.{Table}
 use Rattle.dsedge_lines.specs.declared.fault.PumpFault.{PumpFault}
 use Rattle.dsedge_lines.specs.declared.fault.PumpFault.TheVariants as pump_faults

@@ -7,8 +7,8 @@ use Rattle.pcap_capture.specs.Counts.{count_after, next_count}
 use Rattle.dsedge_base.specs.declared.work.Plan.{Plan}
 use Rattle.dsedge_base.specs.declared.work.Plan.TheVariants.{Audit, Certify, Check, Envelope, Help, Mark, Meter}
 use Rattle.ds_domain_base.specs.declared.fault.DomainFault.{DomainFault}
-use Rattle.capture_marker.specs.Markings.{IsOfReads as IsOfCaptureReads, is_unwritten}
-use Rattle.capture_marker.specs.declared.rule.RedRule.{RedRule}
+use Rattle.ds_conductor.specs.Markings.{IsOfReads as IsOfCaptureReads, is_unwritten}
+use Rattle.ds_conductor.specs.declared.rule.RedRule.{RedRule}
 use Rattle.dsedge_lines.specs.Answers.{Answer}
 use Rattle.dsedge_lines.specs.declared.command.Ending.TheVariants as endings
 use Rattle.dsedge_lines.specs.declared.fault.PumpFault.{PumpFault}

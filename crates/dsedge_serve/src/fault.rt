@@ -1,4 +1,4 @@
-ghost use Rattle.std.specs.Prelude.{◌≡◌, ◌++◌, List, ℕ, MatchResult, is_ok, if◌then◌else◌};
+ghost use Rattle.std.specs.Prelude.{◌≡◌, ◌++◌, List, ℕ, codes, MatchResult, is_ok, if◌then◌else◌};
 ghost use Rattle.pcap_capture.specs.Counts.{next_count};
 ghost use Rattle.dsedge_serve.specs.Faults.{IsFrontOf, capture_fault_text, certificate_fault_text, fault_text, kind_text, status_of, text_or_dash};
 
@@ -65,27 +65,33 @@ impl Fault<'_> {
     {
         match self {
             Fault::Usage => give_all(faults, b"dsedge: usage\n"),
-            Fault::Line(number) => give_parts(
-                faults,
-                &["dsedge: line ", Buffer::new().format(*number), "\n"],
-            ),
+            Fault::Line(number) => {
+                tell_line("dsedge: line ", Buffer::new().format(*number), faults)
+            }
             Fault::Domain(fault) => tell_domain(fault, faults),
-            Fault::Certificate(fault) => give_parts(
-                faults,
-                &["dsedge: certificate ", certificate_text(*fault), "\n"],
-            ),
-            Fault::Capture(fault) => give_parts(
-                faults,
-                &["dsedge: capture ", capture_text(*fault), "\n"],
-            ),
-            Fault::Port(name) => give_parts(faults, &["dsedge: port ", name.text(), "\n"]),
-            Fault::File(name) => give_parts(faults, &["dsedge: file ", name.text(), "\n"]),
+            Fault::Certificate(fault) => {
+                tell_line("dsedge: certificate ", certificate_text(*fault), faults)
+            }
+            Fault::Capture(fault) => tell_line("dsedge: capture ", capture_text(*fault), faults),
+            Fault::Port(name) => tell_line("dsedge: port ", name.text(), faults),
+            Fault::File(name) => tell_line("dsedge: file ", name.text(), faults),
             Fault::Read => give_all(faults, b"dsedge: read\n"),
             Fault::Write => give_all(faults, b"dsedge: write\n"),
             Fault::Memory => give_all(faults, b"dsedge: memory\n"),
             Fault::Full => give_all(faults, b"dsedge: full\n"),
         }
     }
+}
+
+/// Writes a line of two texts.
+fn tell_line<F: Outlet>(front: &str, back: &str, faults: &mut F) -> Result<(), DeviceFault>
+    ensures line { F.tells faults.old → let line = front.now ++ (back.now ++ codes "\n") in MatchResult result
+        (λ _. F.held faults.new ≡ F.held faults.old ++ line)
+        (λ _. IsFrontOf (F.held faults.old) line (F.held faults.new)) }
+    ensures failures { F.failed faults.new
+        ≡ (if is_ok result then F.failed faults.old else next_count (F.failed faults.old)) }
+{
+    give_parts(faults, &[front, back, "\n"])
 }
 
 /// Writes the line of a domain's fault, `dsedge: domain CODE KIND SECTION INDEX FIELD`.

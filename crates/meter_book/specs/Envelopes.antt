@@ -27,7 +27,7 @@ two_rate_green p = record { rate = p.committed_rate; burst = p.committed_burst +
 abbrev pub two_rate_all : TrTcmParameters → Curve
 two_rate_all p = record { rate = p.peak_rate; burst = p.peak_burst + 1 }
 
--- what leaves a meter with a committed and an excess rate green, and what leaves it green or yellow (RFC 4115 section 2)
+-- what leaves a meter with a committed and an excess rate green, and what leaves it green or yellow (RFC 4115)
 abbrev pub excess_rate_green : Rfc4115Parameters → Curve
 excess_rate_green p = record { rate = p.committed_rate; burst = p.committed_burst + 1 }
 

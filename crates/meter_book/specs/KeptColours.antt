@@ -36,7 +36,7 @@ PeakIsKept (Rfc4115 p) rows = Unit {0}
 -- Which packets are held against what a meter has for green and yellow ones. With a single rate they are both, since the
 -- excess bucket gets only the tokens that the committed one has no room for (RFC 2697 section 3). With a peak rate they are
 -- both, since both take from the peak bucket (RFC 2698 section 3). With an excess rate they are the yellow ones, which alone
--- take from the excess bucket where green ones leave green (RFC 4115 section 2).
+-- take from the excess bucket where green ones leave green (RFC 4115).
 abbrev pub held_against_all : Parameters → Colour → Bool
 held_against_all (SrTcm p) = is_in_profile
 held_against_all (TrTcm p) = is_in_profile

@@ -62,6 +62,8 @@ impl Model for MeterBook {
     ghost invariant = { IsBook };
 }
 
+const _: () = prove!(MeterBook::MOST_ROWS == 1_048_576);
+
 impl MeterBook {
     /// The greatest capacity of a book, in rows.
     pub const MOST_ROWS: u32 = 1 << 20;

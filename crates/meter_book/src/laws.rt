@@ -42,7 +42,7 @@ pub fn rows_are_departures()
 {}
 
 /// What left green keeps the meter's envelope of green, and what left green or yellow that of all, by the moments that
-/// they were metered at (RFC 2697 section 3, RFC 2698 section 3, RFC 4115 section 2; Cruz 1991, section II).
+/// they were metered at (RFC 2697 section 3, RFC 2698 section 3, RFC 4115; Cruz 1991, section II).
 pub fn rows_keep_envelopes()
     ensures { RowsKeepEnvelopes }
 {}
@@ -74,13 +74,13 @@ pub fn meters_stay_fit()
 
 /// A packet that comes green to an aware meter leaves it green, where green packets keep the committed rate and burst, and
 /// with two rates also green and yellow ones together the peak rate and burst (RFC 2697 section 3, RFC 2698 section 3,
-/// RFC 4115 section 2).
+/// RFC 4115).
 pub fn green_stays_green()
     ensures { GreenStaysGreen }
 {}
 
 /// A packet that comes yellow to an aware meter leaves it yellow, where green packets leave green and what is held against
-/// the bucket for yellow ones keeps its rate and its burst (RFC 2697 section 3, RFC 2698 section 3, RFC 4115 section 2).
+/// the bucket for yellow ones keeps its rate and its burst (RFC 2697 section 3, RFC 2698 section 3, RFC 4115).
 pub fn yellow_stays_yellow()
     ensures { YellowStaysYellow }
 {}

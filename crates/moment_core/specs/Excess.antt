@@ -10,14 +10,14 @@ pub record Levels : Type 0 where
 
 -- A packet of this size that comes in with this colour is green if it comes in green and the committed bucket has
 -- enough, else yellow if it does not come in red and the excess bucket has enough, else red
--- (RFC 2697 section 3, RFC 4115 section 2).
+-- (RFC 2697 section 3, RFC 4115).
 unfoldable pub coloured : Levels → ℕ → Colour → Colour
 coloured l size Green = if nat_lt l.committed size then if nat_lt l.excess size then Red else Yellow else Green
 coloured l size Yellow = if nat_lt l.excess size then Red else Yellow
 coloured l size Red = Red
 
 -- a green packet takes its bytes from the committed bucket, a yellow one from the excess bucket, a red one from none
--- (RFC 2697 section 3, RFC 4115 section 2)
+-- (RFC 2697 section 3, RFC 4115)
 unfoldable pub without : Levels → ℕ → Colour → Levels
 without l size Green = record l { committed = l.committed - size }
 without l size Yellow = record l { excess = l.excess - size }

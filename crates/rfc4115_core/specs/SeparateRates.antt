@@ -11,11 +11,11 @@ use Rattle.rfc4115_core.specs.declared.parameters.Rfc4115Fault.TheVariants.{Size
 abbrev pub fault_of : Rfc4115Parameters → Option Rfc4115Fault
 fault_of p = if nat_eq p.committed_burst 0 && nat_eq p.excess_burst 0 then Some SizeZero else None
 
--- both buckets begin full (RFC 4115 section 2)
+-- both buckets begin full (RFC 4115)
 unfoldable pub full : Rfc4115Parameters → Levels
 full p = record { committed = p.committed_burst; excess = p.excess_burst }
 
--- each bucket gains the tokens of its own rate, up to its size (RFC 4115 section 2)
+-- each bucket gains the tokens of its own rate, up to its size (RFC 4115)
 unfoldable pub gain : Rfc4115Parameters → ℕ → ℕ → Levels → Levels
 gain p origin moment l = record {
   committed = with_tokens p.committed_burst (tokens_at p.committed_rate origin moment) l.committed;

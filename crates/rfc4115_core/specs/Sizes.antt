@@ -4,7 +4,7 @@ use Rattle.moment_core.specs.Excess.{Levels}
 use Rattle.moment_core.specs.Metering.{State}
 use Rattle.rfc4115_core.specs.declared.parameters.Rfc4115Parameters.{Rfc4115Parameters}
 
--- each bucket holds no more than its own size (RFC 4115 section 2)
+-- each bucket holds no more than its own size (RFC 4115)
 pub record IsWithinSizes (m : State Rfc4115Parameters Levels) : Type 0 where
   pub committed : m.levels.committed ≤ m.parameters.committed_burst
   pub excess : m.levels.excess ≤ m.parameters.excess_burst

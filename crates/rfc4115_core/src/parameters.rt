@@ -3,7 +3,7 @@ ghost use Rattle.std.specs.Prelude.{◌≡◌};
 use moment_core::Rate;
 use thiserror::Error;
 
-/// The parameters of a two-rate three-colour meter (RFC 4115 section 2).
+/// The parameters of a two-rate three-colour meter (RFC 4115).
 #[derive(Clone, Copy, Debug, PartialEq, Eq, Hash)]
 pub struct Rfc4115Parameters {
     /// The committed information rate, CIR, in bits per second.

@@ -4,4 +4,4 @@ use Rattle.ds_checker.proofs.AcceptanceLaws.{acceptable}
 use Rattle.ds_checker.proofs.acceptance.check.Goals as goal
 
 pub new-requires : goal.new-requires
-new-requires c = acceptable (table_of c.args.candidate) (sym c.in-Ok-None.ensures ∙ c.in-Ok-None.field-0-is)
+new-requires c = acceptable (table_of c.args.candidate) (sym c.in-Ok-None.ensures.value ∙ c.in-Ok-None.field-0-is)

@@ -1,7 +1,7 @@
-use Rattle.std.specs.Prelude.{codes, decimal}
-use Rattle.dsedge_serve.specs.Faults.{capture_fault_text, certificate_fault_text, fault_text}
+use Rattle.std.proofs.Common.{◌++◌, ap, codes}
+use Rattle.dsedge_serve.specs.Faults.{fault_text}
 use Rattle.dsedge_serve.specs.declared.fault.Fault.TheVariants.{Capture, Certificate, File, Line, Port}
-use Rattle.dsedge_serve.proofs.FrontLemmas.{between, given_as, given_or_front}
+use Rattle.dsedge_serve.proofs.FrontLemmas.{given_as, given_or_front}
 use Rattle.dsedge_serve.proofs.fault.Fault.tell.Goals as goal
 
 pub returns-in-Usage-clause-line : goal.returns-in-Usage-clause-line
@@ -26,28 +26,28 @@ returns-in-Full-clause-line g c told =
 
 pub returns-in-Line-clause-line : goal.returns-in-Line-clause-line
 returns-in-Line-clause-line g c told =
-    rw c.in-Line.is (given_as c.give_parts.result (g.F.Outlet.held c.args.faults.now) (g.F.Outlet.held c.give_parts.new.outlet) _ (fault_text (Line c.in-Line.number))
-    (between (codes "dsedge: line ") c.format.result.now (decimal c.in-Line.number) (codes "\n") c.format.ensures.text) (c.give_parts.ensures.bytes told))
+    rw c.in-Line.is (given_as c.tell_line.result (g.F.Outlet.held c.args.faults.now) (g.F.Outlet.held c.tell_line.new.faults) _ (fault_text (Line c.in-Line.number))
+    (ap (λ text. codes "dsedge: line " ++ text ++ codes "\n") c.format.ensures.text) (c.tell_line.ensures.line told))
 
 pub returns-in-Domain-clause-line : goal.returns-in-Domain-clause-line
 returns-in-Domain-clause-line g c told = rw c.in-Domain.is (c.tell_domain.ensures.line told)
 
 pub returns-in-File-clause-line : goal.returns-in-File-clause-line
 returns-in-File-clause-line g c told =
-    rw c.in-File.is (given_as c.give_parts-in-File.result (g.F.Outlet.held c.args.faults.now) (g.F.Outlet.held c.give_parts-in-File.new.outlet) _ (fault_text (File c.in-File.name))
-    (between (codes "dsedge: file ") c.text-in-File.result.now c.in-File.name (codes "\n") c.text-in-File.ensures) (c.give_parts-in-File.ensures.bytes told))
+    rw c.in-File.is (given_as c.tell_line-in-File.result (g.F.Outlet.held c.args.faults.now) (g.F.Outlet.held c.tell_line-in-File.new.faults) _ (fault_text (File c.in-File.name))
+    (ap (λ text. codes "dsedge: file " ++ text ++ codes "\n") c.text-in-File.ensures) (c.tell_line-in-File.ensures.line told))
 
 pub returns-in-Certificate-clause-line : goal.returns-in-Certificate-clause-line
 returns-in-Certificate-clause-line g c told =
-    rw c.in-Certificate.is (given_as c.give_parts-in-Certificate.result (g.F.Outlet.held c.args.faults.now) (g.F.Outlet.held c.give_parts-in-Certificate.new.outlet) _ (fault_text (Certificate c.in-Certificate.fault))
-    (between (codes "dsedge: certificate ") c.certificate_text.result.now (certificate_fault_text c.in-Certificate.fault) (codes "\n") c.certificate_text.ensures) (c.give_parts-in-Certificate.ensures.bytes told))
+    rw c.in-Certificate.is (given_as c.tell_line-in-Certificate.result (g.F.Outlet.held c.args.faults.now) (g.F.Outlet.held c.tell_line-in-Certificate.new.faults) _ (fault_text (Certificate c.in-Certificate.fault))
+    (ap (λ text. codes "dsedge: certificate " ++ text ++ codes "\n") c.certificate_text.ensures) (c.tell_line-in-Certificate.ensures.line told))
 
 pub returns-in-Capture-clause-line : goal.returns-in-Capture-clause-line
 returns-in-Capture-clause-line g c told =
-    rw c.in-Capture.is (given_as c.give_parts-in-Capture.result (g.F.Outlet.held c.args.faults.now) (g.F.Outlet.held c.give_parts-in-Capture.new.outlet) _ (fault_text (Capture c.in-Capture.fault))
-    (between (codes "dsedge: capture ") c.capture_text.result.now (capture_fault_text c.in-Capture.fault) (codes "\n") c.capture_text.ensures) (c.give_parts-in-Capture.ensures.bytes told))
+    rw c.in-Capture.is (given_as c.tell_line-in-Capture.result (g.F.Outlet.held c.args.faults.now) (g.F.Outlet.held c.tell_line-in-Capture.new.faults) _ (fault_text (Capture c.in-Capture.fault))
+    (ap (λ text. codes "dsedge: capture " ++ text ++ codes "\n") c.capture_text.ensures) (c.tell_line-in-Capture.ensures.line told))
 
 pub returns-in-Port-clause-line : goal.returns-in-Port-clause-line
 returns-in-Port-clause-line g c told =
-    rw c.in-Port.is (given_as c.give_parts-in-Port.result (g.F.Outlet.held c.args.faults.now) (g.F.Outlet.held c.give_parts-in-Port.new.outlet) _ (fault_text (Port c.in-Port.name))
-    (between (codes "dsedge: port ") c.text.result.now c.in-Port.name (codes "\n") c.text.ensures) (c.give_parts-in-Port.ensures.bytes told))
+    rw c.in-Port.is (given_as c.tell_line-in-Port.result (g.F.Outlet.held c.args.faults.now) (g.F.Outlet.held c.tell_line-in-Port.new.faults) _ (fault_text (Port c.in-Port.name))
+    (ap (λ text. codes "dsedge: port " ++ text ++ codes "\n") c.text.ensures) (c.tell_line-in-Port.ensures.line told))

@@ -1,0 +1,11 @@
+use Rattle.std.proofs.Common.{[]}
+use Rattle.ds_conductor.proofs.ReadingLaws.{cut, ended}
+use Rattle.ds_conductor.proofs.reading.finish.Goals as goal
+
+pub returns-in-Ok-clause-read : goal.returns-in-Ok-clause-read
+returns-in-Ok-clause-read c bytes at =
+    ended bytes c.args.progress.now at (c.in-Ok.ensures.so_far at.read [] c.args.progress.now.frames.items at.so_far)
+
+pub returns-in-Err-clause-read : goal.returns-in-Err-clause-read
+returns-in-Err-clause-read c bytes at =
+    cut bytes c.args.progress.now c.in-Err.fault at (c.in-Err.ensures.so_far at.read [] c.args.progress.now.frames.items at.so_far)

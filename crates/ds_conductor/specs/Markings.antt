@@ -1,0 +1,204 @@
+-- The marked capture, as a function of the bytes of a capture.
+use Rattle.std.specs.Prelude.{◌≡◌, ◌⊎◌, ◌^◌, ℕ, List, [], ◌++◌, zip, Bool, true, false, Option, None, Some, Result, Ok, Err}
+use Rattle.moment_core.specs.declared.colour.Colour.{Colour}
+use Rattle.pcap_capture.specs.Counts.{count_after, next_count}
+use Rattle.pcap_capture.specs.Frames.{FrameValue}
+use Rattle.pcap_capture.specs.Grammar.{capture, fault_in, heading_of}
+use Rattle.pcap_capture.specs.declared.fault.PcapFault.{PcapFault}
+use Rattle.pcap_capture.specs.declared.fault.PcapFault.TheVariants as pcaps
+use Rattle.pcap_capture.specs.declared.heading.Heading.{Heading}
+use Rattle.pcap_capture.specs.declared.heading.Link.{Link}
+use Rattle.ds_domain_base.specs.Domains.{is_port}
+use Rattle.ds_checker.specs.Acceptance.{Table}
+use Rattle.frame_marker.specs.Sights.{sight_of}
+use Rattle.frame_marker.specs.declared.sight.Sight.{Sight}
+use Rattle.ds_visits.specs.Passing.{colours_of}
+use Rattle.ds_visits.specs.declared.sent.Sent.{Sent}
+use Rattle.ds_conductor.specs.Reports.{nothing_read, report_of, unmarked_report}
+use Rattle.ds_conductor.specs.Sendings.{sent_of}
+use Rattle.ds_conductor.specs.Texts.{text_from}
+use Rattle.ds_conductor.specs.Writings.{IsFrontOf, is_write}
+use Rattle.ds_conductor.specs.declared.fault.MarkFault.{MarkFault}
+use Rattle.ds_conductor.specs.declared.fault.MarkFault.TheVariants as marks
+use Rattle.ds_conductor.specs.declared.report.Report.{Report}
+use Rattle.ds_conductor.specs.declared.rule.RedRule.{RedRule}
+
+-- what is written, what is told, and whether a journal was full before all visits were made
+pub record Marking : Type 0 where
+  pub text : List ℕ
+  pub report : Report
+  pub is_full : Bool
+
+-- what a frame is at a port of a table
+abbrev pub see : Table → List ℕ → Link → List ℕ → Sight
+see t port link bytes = sight_of t.contracts port link bytes
+
+-- frames behind their heading, marked with the colours that their packets left with
+abbrev pub marking_with : Table → List ℕ → RedRule → Heading → List FrameValue → List Sent → Option (List Colour) → Marking
+marking_with t port red heading frames sent None =
+    record { text = []; report = unmarked_report (see t port heading.link) frames; is_full = true }
+marking_with t port red heading frames sent (Some colours) = record {
+  text = heading.bytes ++ text_from t red heading.link 0 frames (zip sent colours);
+  report = report_of (see t port heading.link) red frames (zip sent colours);
+  is_full = false;
+}
+
+-- the marking of frames that stand behind a heading
+abbrev pub marking_of : Table → List ℕ → RedRule → Heading → List FrameValue → Marking
+marking_of t port red heading frames =
+    let sent = sent_of (see t port heading.link) frames in
+    marking_with t port red heading frames sent (colours_of t sent)
+
+-- without a heading there is nothing to mark
+abbrev pub nothing_marked : Marking
+nothing_marked = record { text = []; report = nothing_read; is_full = false }
+
+abbrev pub marking_behind : Table → List ℕ → RedRule → Option (Result Heading PcapFault) → List FrameValue → Marking
+marking_behind t port red (Some (Ok heading)) frames = marking_of t port red heading frames
+marking_behind t port red (Some (Err fault)) frames = nothing_marked
+marking_behind t port red None frames = nothing_marked
+
+-- The marking of the bytes of a capture: of all records that stand in it whole, before the first fault.
+abbrev pub marking_in : Table → List ℕ → RedRule → List ℕ → Marking
+marking_in t port red bytes = marking_behind t port red (heading_of bytes) (capture bytes).frames
+
+-- the marking of frames whose heading is there, or not
+abbrev pub marking_told : Table → List ℕ → RedRule → Option Heading → List FrameValue → Marking
+marking_told t port red None frames = nothing_marked
+marking_told t port red (Some heading) frames = marking_of t port red heading frames
+
+-- a marking was written whole behind what stood, and this is its report
+pub record IsWhole (m : Marking) (report : Report) (before after : List ℕ) : Type 0 where
+  pub written : after ≡ before ++ m.text
+  pub told : report ≡ m.report
+  pub room : m.is_full ≡ false
+
+-- What was written of frames, and what is told of them: all; or a front, with the whole report, where the device failed or memory ran out on the
+-- way; or nothing, where a journal was full, or where memory ran out before, and then nothing is told either.
+abbrev pub IsPassed : Marking → List ℕ → List ℕ → Result Report (Report × MarkFault) → Type 0
+IsPassed m before after (Ok report) = IsWhole m report before after
+IsPassed m before after (Err (report, marks.Capture fault)) = (fault ≡ pcaps.WriteFault) × IsFrontOf before m.text after × (report ≡ m.report)
+IsPassed m before after (Err (report, marks.UnknownPort)) = ⊥
+IsPassed m before after (Err (report, marks.JournalFull)) = (after ≡ before) × (report ≡ m.report) × (m.is_full ≡ true)
+IsPassed m before after (Err (report, marks.NoMemory)) =
+    ((after ≡ before) × (report ≡ nothing_read)) ⊎ (IsFrontOf before m.text after × (report ≡ m.report))
+
+-- the same of the bytes that a device gave, which still has these
+pub record IsPassedOf (marked : List ℕ → Marking) (bytes more before after : List ℕ) (answer : Result Report (Report × MarkFault)) : Type 0 where
+  pub read : List ℕ
+  pub front : bytes ≡ read ++ more
+  pub passed : IsPassed (marked read) before after answer
+
+-- The marking of the bytes that a device gave before it failed was written whole, and no fault stands in them.
+pub record IsWholeSoFar (marked : List ℕ → Marking) (bytes more before after : List ℕ) (report : Report) : Type 0 where
+  pub read : List ℕ
+  pub front : bytes ≡ read ++ more
+  pub sound : (capture read).fault ≡ None
+  pub whole : IsWhole (marked read) report before after
+
+-- The marking of the bytes of a capture was written whole, and this fault stands in them, or none.
+pub record IsWholeWith (marked : List ℕ → Marking) (bytes before after : List ℕ) (report : Report) (fault : Option PcapFault) : Type 0 where
+  pub whole : IsWhole (marked bytes) report before after
+  pub stands : fault_in bytes ≡ fault
+
+-- what was written, by the fault of the capture that came
+abbrev pub IsMarkedBut : (List ℕ → Marking) → List ℕ → List ℕ → List ℕ → List ℕ → Report → PcapFault → Type 0
+IsMarkedBut marked bytes more before after report pcaps.NotPcap = IsWholeWith marked bytes before after report (Some pcaps.NotPcap)
+IsMarkedBut marked bytes more before after report pcaps.IsPcapng = IsWholeWith marked bytes before after report (Some pcaps.IsPcapng)
+IsMarkedBut marked bytes more before after report pcaps.BadVersion = IsWholeWith marked bytes before after report (Some pcaps.BadVersion)
+IsMarkedBut marked bytes more before after report (pcaps.LinkType number) = IsWholeWith marked bytes before after report (Some (pcaps.LinkType number))
+IsMarkedBut marked bytes more before after report (pcaps.RecordTooLong count) = IsWholeWith marked bytes before after report (Some (pcaps.RecordTooLong count))
+IsMarkedBut marked bytes more before after report pcaps.Truncated = IsWholeWith marked bytes before after report (Some pcaps.Truncated)
+IsMarkedBut marked bytes more before after report pcaps.ReadFault = IsWholeSoFar marked bytes more before after report
+IsMarkedBut marked bytes more before after report pcaps.WriteFault = IsPassedOf marked bytes more before after (Err (report, marks.Capture pcaps.WriteFault))
+IsMarkedBut marked bytes more before after report pcaps.NoMemory = ⊥
+IsMarkedBut marked bytes more before after report pcaps.Failed = IsWholeWith marked bytes before after report (Some pcaps.Failed)
+
+-- What was written behind what stood, and what is answered, for the bytes that a device had and those that it still has: all of the marked
+-- capture, up to its end or to the first fault that stands in it; or all of what the device gave before it failed; or a front; or nothing.
+abbrev pub IsMarkedAs : (List ℕ → Marking) → List ℕ → List ℕ → List ℕ → List ℕ → Result Report (Report × MarkFault) → Type 0
+IsMarkedAs marked bytes more before after (Ok report) = IsWholeWith marked bytes before after report None
+IsMarkedAs marked bytes more before after (Err (report, marks.Capture fault)) = IsMarkedBut marked bytes more before after report fault
+IsMarkedAs marked bytes more before after (Err (report, marks.UnknownPort)) = ⊥
+IsMarkedAs marked bytes more before after (Err (report, marks.JournalFull)) = IsPassedOf marked bytes more before after (Err (report, marks.JournalFull))
+IsMarkedAs marked bytes more before after (Err (report, marks.NoMemory)) = IsPassedOf marked bytes more before after (Err (report, marks.NoMemory))
+
+-- nothing was written, since there is no such port
+abbrev pub IsWithoutPort : List ℕ → List ℕ → Result Report (Report × MarkFault) → Type 0
+IsWithoutPort before after answer = (after ≡ before) × (answer ≡ Err (nothing_read, marks.UnknownPort))
+
+-- What `mark` wrote, and what it answers: an unknown port is told before anything is read, and else the capture is marked at the port.
+abbrev pub IsMarked : Table → List ℕ → RedRule → List ℕ → List ℕ → List ℕ → List ℕ → Result Report (Report × MarkFault) → Type 0
+IsMarked t port red bytes more before after answer =
+    ((is_port t.domain port ≡ false) × IsWithoutPort before after answer)
+    ⊎ ((is_port t.domain port ≡ true) × IsMarkedAs (marking_in t port red) bytes more before after answer)
+
+-- whether the marked capture could not be written
+abbrev pub is_unwritten : Result Report (Report × MarkFault) → Bool
+is_unwritten (Ok report) = false
+is_unwritten (Err (report, marks.Capture fault)) = is_write fault
+is_unwritten (Err (report, marks.UnknownPort)) = false
+is_unwritten (Err (report, marks.JournalFull)) = false
+is_unwritten (Err (report, marks.NoMemory)) = false
+
+abbrev pub is_read : PcapFault → Bool
+is_read pcaps.NotPcap = false
+is_read pcaps.IsPcapng = false
+is_read pcaps.BadVersion = false
+is_read (pcaps.LinkType number) = false
+is_read (pcaps.RecordTooLong count) = false
+is_read pcaps.Truncated = false
+is_read pcaps.ReadFault = true
+is_read pcaps.WriteFault = false
+is_read pcaps.NoMemory = false
+is_read pcaps.Failed = false
+
+-- whether the capture could not be read
+abbrev pub is_unread : Result Report (Report × MarkFault) → Bool
+is_unread (Ok report) = false
+is_unread (Err (report, marks.Capture fault)) = is_read fault
+is_unread (Err (report, marks.UnknownPort)) = false
+is_unread (Err (report, marks.JournalFull)) = false
+is_unread (Err (report, marks.NoMemory)) = false
+
+-- whether the capture was read to its end, or to a fault that stands in it, and then marked whole
+abbrev pub is_read_whole : Result Report (Report × MarkFault) → Bool
+is_read_whole (Ok report) = true
+is_read_whole (Err (report, marks.Capture pcaps.NotPcap)) = true
+is_read_whole (Err (report, marks.Capture pcaps.IsPcapng)) = true
+is_read_whole (Err (report, marks.Capture pcaps.BadVersion)) = true
+is_read_whole (Err (report, marks.Capture (pcaps.LinkType number))) = true
+is_read_whole (Err (report, marks.Capture (pcaps.RecordTooLong count))) = true
+is_read_whole (Err (report, marks.Capture pcaps.Truncated)) = true
+is_read_whole (Err (report, marks.Capture pcaps.ReadFault)) = false
+is_read_whole (Err (report, marks.Capture pcaps.WriteFault)) = false
+is_read_whole (Err (report, marks.Capture pcaps.NoMemory)) = false
+is_read_whole (Err (report, marks.Capture pcaps.Failed)) = true
+is_read_whole (Err (report, marks.UnknownPort)) = true
+is_read_whole (Err (report, marks.JournalFull)) = false
+is_read_whole (Err (report, marks.NoMemory)) = false
+
+-- A read fault is answered only where the device failed once, or was asked 2^32 times; a capture that was read whole comes from a device that did
+-- not fail.
+pub record IsOfReads (answer : Result Report (Report × MarkFault)) (failed now asked_before asked : ℕ) : Type 0 where
+  pub failed_or_spent : is_unread answer ≡ true → (now ≡ next_count failed) ⊎ ((now ≡ failed) × (asked ≡ count_after (2 ^ 32) asked_before))
+  pub unfailed : is_read_whole answer ≡ true → now ≡ failed
+
+-- the answer to frames that were marked, by what ended the reading of their capture
+abbrev pub answer_of : Report → Option PcapFault → Result Report (Report × MarkFault)
+answer_of report None = Ok report
+answer_of report (Some fault) = Err (report, marks.Capture fault)
+
+-- whether memory ran out
+abbrev pub is_starved : Option PcapFault → Bool
+is_starved None = false
+is_starved (Some pcaps.NotPcap) = false
+is_starved (Some pcaps.IsPcapng) = false
+is_starved (Some pcaps.BadVersion) = false
+is_starved (Some (pcaps.LinkType number)) = false
+is_starved (Some (pcaps.RecordTooLong count)) = false
+is_starved (Some pcaps.Truncated) = false
+is_starved (Some pcaps.ReadFault) = false
+is_starved (Some pcaps.WriteFault) = false
+is_starved (Some pcaps.NoMemory) = true
+is_starved (Some pcaps.Failed) = false

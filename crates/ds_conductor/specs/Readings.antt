@@ -1,0 +1,87 @@
+-- What is read of a capture that a device gives.
+use Rattle.std.specs.Prelude.{◌≡◌, ◌≢◌, ◌⊎◌, ℕ, ◌-◌, Bool, true, false, List, [], ◌++◌, length, Option, None, Some, Result, Ok, Err}
+use Rattle.pcap_capture.specs.Frames.{FrameValue}
+use Rattle.pcap_capture.specs.Grammar.{IsSoFar, capture, fault_in, heading_of}
+use Rattle.pcap_capture.specs.declared.fault.PcapFault.{PcapFault}
+use Rattle.pcap_capture.specs.declared.fault.PcapFault.TheVariants.{NotPcap, IsPcapng, BadVersion, LinkType, RecordTooLong, Truncated, ReadFault, WriteFault, NoMemory, Failed}
+use Rattle.pcap_capture.specs.declared.heading.Heading.{Heading}
+use Rattle.pcap_capture.specs.declared.stage.Stage.{Stage}
+use Rattle.pcap_capture.specs.declared.stage.Stage.TheVariants.{Opening, Records, Broken}
+use Rattle.ds_conductor.specs.declared.reading.Progress.{Progress}
+
+-- the heading at the front of the bytes of a capture, if it is there whole and one that is read
+abbrev pub heading_in : List ℕ → Option Heading → Type 0
+heading_in bytes None = (heading : Heading) → heading_of bytes ≢ Some (Ok heading)
+heading_in bytes (Some heading) = heading_of bytes ≡ Some (Ok heading)
+
+-- The heading that is told of bytes that were read: the one that stands there, or none where memory ran out.
+abbrev pub IsHeadingTold : List ℕ → Option Heading → Option PcapFault → Type 0
+IsHeadingTold read heading fault = heading_in read heading ⊎ ((heading ≡ None) × (fault ≡ Some NoMemory))
+
+-- All of a capture was read, up to its end or to the first fault that stands in it; or the device failed behind some of its bytes; or memory
+-- ran out.
+abbrev pub IsReadTo : List ℕ → List ℕ → List FrameValue → Option PcapFault → Type 0
+IsReadTo read more frames None = (more ≡ []) × (frames ≡ (capture read).frames) × (fault_in read ≡ None)
+IsReadTo read more frames (Some fault) =
+    ((fault ≡ ReadFault) × (frames ≡ (capture read).frames) × ((capture read).fault ≡ None))
+    ⊎ ((fault ≡ NoMemory) × ((others : List FrameValue) × (frames ++ others ≡ (capture read).frames)))
+    ⊎ ((frames ≡ (capture (read ++ more)).frames) × (fault_in (read ++ more) ≡ Some fault) × ((more ≡ []) ⊎ ((capture read).fault ≡ Some fault)))
+
+-- what was read of bytes: the front of them, its heading, its frames, and what ended the reading
+pub record IsReading (bytes more : List ℕ) (heading : Option Heading) (frames : List FrameValue) (fault : Option PcapFault) : Type 0 where
+  pub read : List ℕ
+  pub front : bytes ≡ read ++ more
+  pub told : IsHeadingTold read heading fault
+  pub ended : IsReadTo read more frames fault
+
+-- the heading of a capture that is being read, once it is there
+abbrev pub heading_at : Stage → Option Heading
+heading_at Opening = None
+heading_at (Records heading) = Some heading
+heading_at Broken = None
+
+-- what was read of bytes in which no fault was found so far: the front of them, the heading once it is there, how many bytes of it are still to
+-- come, and the frames
+pub record IsUnderway (bytes more : List ℕ) (progress : Progress) : Type 0 where
+  pub read : List ℕ
+  pub front : bytes ≡ read ++ more
+  pub so_far : IsSoFar read [] progress.capture progress.frames.items
+  pub known : progress.heading ≡ heading_at progress.capture.stage
+  pub to_come : progress.missing ≡ 24 - length read
+
+-- a reading that ended with this fault, or at the capture's end
+abbrev pub IsEnded : List ℕ → List ℕ → Progress → Option PcapFault → Type 0
+IsEnded bytes more progress fault = IsReading bytes more progress.heading progress.frames.items fault
+
+-- what a call that reads a piece comes to: more may come, or it ended
+abbrev pub IsReadOn : List ℕ → List ℕ → Progress → Result Bool PcapFault → Type 0
+IsReadOn bytes more progress (Ok true) = IsUnderway bytes more progress
+IsReadOn bytes more progress (Ok false) = IsEnded bytes more progress None
+IsReadOn bytes more progress (Err fault) = IsEnded bytes more progress (Some fault)
+
+-- whether a device failed that gives bytes
+abbrev pub is_read_fault : {T : Type 0} → Result T PcapFault → Bool
+is_read_fault (Ok value) = false
+is_read_fault (Err NotPcap) = false
+is_read_fault (Err IsPcapng) = false
+is_read_fault (Err BadVersion) = false
+is_read_fault (Err (LinkType number)) = false
+is_read_fault (Err (RecordTooLong count)) = false
+is_read_fault (Err Truncated) = false
+is_read_fault (Err ReadFault) = true
+is_read_fault (Err WriteFault) = false
+is_read_fault (Err NoMemory) = false
+is_read_fault (Err Failed) = false
+
+-- whether a fault is of a capture itself, or want of memory, and none of a device
+abbrev pub is_own : PcapFault → Bool
+is_own NotPcap = true
+is_own IsPcapng = true
+is_own BadVersion = true
+is_own (LinkType number) = true
+is_own (RecordTooLong count) = true
+is_own Truncated = true
+is_own ReadFault = false
+is_own WriteFault = false
+is_own NoMemory = true
+is_own Failed = true

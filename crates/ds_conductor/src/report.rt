@@ -1,0 +1,97 @@
+ghost use Rattle.std.specs.Prelude.{◌≡◌, ℕ, List, length, zip};
+ghost use Rattle.pcap_capture.specs.Frames.{FrameValue};
+ghost use Rattle.frame_marker.specs.declared.sight.Sight.{Sight};
+ghost use Rattle.ds_conductor.specs.Reports.{nothing_read, report_of, unmarked_report};
+ghost use Rattle.ds_conductor.specs.Sendings.{IsSending};
+
+use crate::rule::RedRule;
+use crate::sending::Sending;
+use crate::tally::tallied;
+use moment_core::Colour;
+
+/// What is told of a marked capture.
+#[derive(Clone, Copy, Debug, PartialEq, Eq)]
+pub struct Report {
+    /// Frames that were read whole.
+    pub records: u64,
+    /// Frames that a contract takes, and whose packets passed their meters; dropped ones too.
+    pub marked: u64,
+    /// Frames with a header that no contract of the port takes.
+    pub unmatched: u64,
+    /// Frames without a header that can be read.
+    pub skipped: u64,
+    /// Marked frames whose header checksum was not right.
+    pub unverified: u64,
+    /// Frames that were left out.
+    pub dropped: u64,
+    /// Packets by the colour that they left their last meter with: green, yellow, red.
+    pub packets: [u64; 3],
+    /// Their bytes, by their headers' total lengths.
+    pub bytes: [u128; 3],
+}
+
+impl Report {
+    /// The report where nothing was read: no frame, no packet, no byte.
+    pub fn nothing() -> Self
+        ensures { result ≡ nothing_read }
+    {
+        Report {
+            records: 0,
+            marked: 0,
+            unmatched: 0,
+            skipped: 0,
+            unverified: 0,
+            dropped: 0,
+            packets: [0; 3],
+            bytes: [0; 3],
+        }
+    }
+}
+
+/// The report of so many frames none of which could be marked.
+pub(crate) fn unmarked_report(sending: &Sending, records: u64) -> Report
+    ensures { (see : List ℕ → Sight) (frames : List FrameValue) → IsSending see frames sending.now → length frames ≡ records
+        → result ≡ unmarked_report see frames }
+{
+    Report {
+        records,
+        unmatched: sending.unmatched,
+        skipped: sending.skipped,
+        ..Report::nothing()
+    }
+}
+
+/// How many frames are left out, of which so many packets left red.
+fn dropped(rule: RedRule, red: u64) -> u64
+    ensures kept { rule ≡ RedRule.Keep → result ≡ 0 }
+    ensures left_out { rule ≡ RedRule.Drop → result ≡ red }
+{
+    match rule {
+        RedRule::Keep => 0,
+        RedRule::Drop => red,
+    }
+}
+
+/// The report of so many frames, whose packets left with these colours, which stand in the order of the packets.
+pub(crate) fn marked_report(
+    sending: &Sending,
+    records: u64,
+    rule: RedRule,
+    colours: &[Colour],
+) -> Report
+    ensures { (see : List ℕ → Sight) (frames : List FrameValue) → IsSending see frames sending.now → length frames ≡ records
+        → result ≡ report_of see rule frames (zip sending.now.sent.items colours.now) }
+{
+    let sent = sending.sent.as_slice();
+    let sums = tallied(sent, colours);
+    Report {
+        records,
+        marked: sent.len().min(colours.len()) as u64,
+        unmatched: sending.unmatched,
+        skipped: sending.skipped,
+        unverified: sending.unverified,
+        dropped: dropped(rule, sums.red.packets),
+        packets: [sums.green.packets, sums.yellow.packets, sums.red.packets],
+        bytes: [sums.green.bytes, sums.yellow.bytes, sums.red.bytes],
+    }
+}
