@@ -137,10 +137,7 @@ fn read_piece<I: Intake>(
     ensures asked { I.turns intake.new ≡ next_count (I.turns intake.old) }
     ensures no_write { ¬ (result ≡ Err PcapFault.WriteFault) }
 {
-    let taken = match take_piece(intake, buffer) {
-        Ok(taken) => taken,
-        Err(fault) => return Err(fault),
-    };
+    let taken = take_piece(intake, buffer)?;
     if taken == 0 {
         return match finish(progress) {
             Ok(()) => Ok(false),

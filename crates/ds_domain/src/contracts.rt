@@ -72,10 +72,9 @@ fn way_named(
     if path.is_empty() || path.len() > MOST_HOPS {
         return Err(place.fault(Kind::PathLength, Field::Path));
     }
-    match meters_named(alloc, domain, path) {
-        Ok(Some(meters)) => Ok((port, Path::new(meters))),
-        Ok(None) => Err(place.fault(Kind::UnknownName, Field::Path)),
-        Err(fault) => Err(fault),
+    match meters_named(alloc, domain, path)? {
+        Some(meters) => Ok((port, Path::new(meters))),
+        None => Err(place.fault(Kind::UnknownName, Field::Path)),
     }
 }
 
@@ -152,17 +151,13 @@ fn contract_of(
     ensures apart { IfOk result (λ contract. has_name done.now contract.name ≡ false) }
     ensures refused { IfErr result (λ fault. (fault ≡ no_memory) ⊎ (contract_of domain.now done.now (text_parts name port.now path.now rest.now) ≡ Err fault)) }
 {
-    match contract_terms(done, name, rest) {
-        Ok(judged) => match way_named(alloc, domain, next_contract(done), port, path) {
-            Ok(way) => fitting(
-                domain,
-                next_contract(done),
-                assembled(name, judged, way, rest),
-            ),
-            Err(fault) => Err(fault),
-        },
-        Err(fault) => Err(fault),
-    }
+    let judged = contract_terms(done, name, rest)?;
+    let way = way_named(alloc, domain, next_contract(done), port, path)?;
+    fitting(
+        domain,
+        next_contract(done),
+        assembled(name, judged, way, rest),
+    )
 }
 
 /// Adds a contract behind the others.
@@ -176,16 +171,10 @@ fn add_contract(
     ensures added { OnOk result (with_contract_of domain.now done.old (table_view table.now) ≡ Ok done.new) }
     ensures refused { IfErr result (λ fault. (fault ≡ no_memory) ⊎ (with_contract_of domain.now done.old (table_view table.now) ≡ Err fault)) }
 {
-    match contract_keys(alloc, next_contract(done), table) {
-        Ok(keys) => {
-            let path = keys.path.as_slice();
-            match contract_of(alloc, domain, done, keys.name, keys.port, path, &keys.rest) {
-                Ok(contract) => done.push(contract),
-                Err(fault) => Err(fault),
-            }
-        }
-        Err(fault) => Err(fault),
-    }
+    let keys = contract_keys(alloc, next_contract(done), table)?;
+    let path = keys.path.as_slice();
+    let contract = contract_of(alloc, domain, done, keys.name, keys.port, path, &keys.rest)?;
+    done.push(contract)
 }
 
 /// Adds contracts behind the others, one after the other.
@@ -199,10 +188,7 @@ fn add_each_contract(
     ensures refused { IfErr result (λ fault. (fault ≡ no_memory) ⊎ (in_turn (with_contract_of domain.now) done.old (map (λ table. table_view table.now) tables.now) ≡ Err fault)) }
 {
     for table in tables {
-        match add_contract(alloc, domain, done, table) {
-            Ok(()) => {}
-            Err(fault) => return Err(fault),
-        }
+        add_contract(alloc, domain, done, table)?;
     }
     Ok(())
 }

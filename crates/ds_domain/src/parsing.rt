@@ -70,17 +70,9 @@ fn document_of(alloc: Global, table: &Table) -> Result<(Domain, Vec<Contract>), 
     ensures ok { IfOk result (λ parsed. document_of (table_view table.now) ≡ Ok (parsed.0, parsed.1.items)) }
     ensures refused { IfErr result (λ fault. (fault ≡ no_memory) ⊎ (document_of (table_view table.now) ≡ Err fault)) }
 {
-    if let Err(fault) = top_of(table) {
-        return Err(fault);
-    }
-    let sections = match sections_of(alloc, table) {
-        Ok(sections) => sections,
-        Err(fault) => return Err(fault),
-    };
-    let domain = match domain_of(alloc, &sections) {
-        Ok(domain) => domain,
-        Err(fault) => return Err(fault),
-    };
+    top_of(table)?;
+    let sections = sections_of(alloc, table)?;
+    let domain = domain_of(alloc, &sections)?;
     match contracts_of(alloc, &domain, sections.contracts.as_slice()) {
         Ok(contracts) => Ok((domain, contracts)),
         Err(fault) => Err(fault),
@@ -119,22 +111,10 @@ fn sections_of<'a>(alloc: Global, table: &'a Table) -> Result<Sections<'a>, Doma
     ensures ok { IfOk result (λ sections. sections_of (table_view table.now) ≡ Ok (tables_of sections)) }
     ensures refused { IfErr result (λ fault. (fault ≡ no_memory) ⊎ (sections_of (table_view table.now) ≡ Err fault)) }
 {
-    let meters = match section_of(alloc, table, Field::Meter) {
-        Ok(meters) => meters,
-        Err(fault) => return Err(fault),
-    };
-    let ports = match section_of(alloc, table, Field::Port) {
-        Ok(ports) => ports,
-        Err(fault) => return Err(fault),
-    };
-    let links = match section_of(alloc, table, Field::Link) {
-        Ok(links) => links,
-        Err(fault) => return Err(fault),
-    };
-    let contracts = match section_of(alloc, table, Field::Contract) {
-        Ok(contracts) => contracts,
-        Err(fault) => return Err(fault),
-    };
+    let meters = section_of(alloc, table, Field::Meter)?;
+    let ports = section_of(alloc, table, Field::Port)?;
+    let links = section_of(alloc, table, Field::Link)?;
+    let contracts = section_of(alloc, table, Field::Contract)?;
     Ok(Sections {
         meters,
         ports,
@@ -150,14 +130,8 @@ fn domain_of(alloc: Global, sections: &Sections<'_>) -> Result<Domain, DomainFau
     ensures refused { IfErr result (λ fault. (fault ≡ no_memory) ⊎ (domain_of (tables_of sections.now) ≡ Err fault)) }
 {
     let mut domain = Domain::new(alloc);
-    if let Err(fault) = add_meters(&mut domain, sections.meters.as_slice()) {
-        return Err(fault);
-    }
-    if let Err(fault) = add_ports(&mut domain, sections.ports.as_slice()) {
-        return Err(fault);
-    }
-    if let Err(fault) = add_links(&mut domain, sections.links.as_slice()) {
-        return Err(fault);
-    }
+    add_meters(&mut domain, sections.meters.as_slice())?;
+    add_ports(&mut domain, sections.ports.as_slice())?;
+    add_links(&mut domain, sections.links.as_slice())?;
     Ok(domain)
 }

@@ -121,10 +121,7 @@ fn add_link(domain: &mut Domain, table: &Table) -> Result<(), DomainFault>
     let to = text_at(place, table, Field::To)?;
     let floor = delay_at(place, table, Field::Floor)?;
     let jitter = delay_at(place, table, Field::Jitter)?;
-    match domain.add_link(from, to, Link { floor, jitter }) {
-        Ok(()) => Ok(()),
-        Err(fault) => Err(fault),
-    }
+    domain.add_link(from, to, Link { floor, jitter })
 }
 
 /// Adds the meters of a section behind the others; `Range` where there are too many, before any is looked at.
@@ -143,10 +140,7 @@ fn add_each_meter(domain: &mut Domain, tables: &[&Table]) -> Result<(), DomainFa
     ensures refused { IfErr result (λ fault. (fault ≡ no_memory) ⊎ (in_turn with_meter_of domain.old (map (λ table. table_view table.now) tables.now) ≡ Err fault)) }
 {
     for table in tables {
-        match add_meter(domain, table) {
-            Ok(()) => {}
-            Err(fault) => return Err(fault),
-        }
+        add_meter(domain, table)?;
     }
     Ok(())
 }
@@ -167,10 +161,7 @@ fn add_each_port(domain: &mut Domain, tables: &[&Table]) -> Result<(), DomainFau
     ensures refused { IfErr result (λ fault. (fault ≡ no_memory) ⊎ (in_turn with_port_of domain.old (map (λ table. table_view table.now) tables.now) ≡ Err fault)) }
 {
     for table in tables {
-        match add_port(domain, table) {
-            Ok(()) => {}
-            Err(fault) => return Err(fault),
-        }
+        add_port(domain, table)?;
     }
     Ok(())
 }
@@ -191,10 +182,7 @@ fn add_each_link(domain: &mut Domain, tables: &[&Table]) -> Result<(), DomainFau
     ensures refused { IfErr result (λ fault. (fault ≡ no_memory) ⊎ (in_turn with_link_of domain.old (map (λ table. table_view table.now) tables.now) ≡ Err fault)) }
 {
     for table in tables {
-        match add_link(domain, table) {
-            Ok(()) => {}
-            Err(fault) => return Err(fault),
-        }
+        add_link(domain, table)?;
     }
     Ok(())
 }

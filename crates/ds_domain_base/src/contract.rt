@@ -58,17 +58,14 @@ impl Contract {
         ensures copied { IfOk result (λ contract. contract ≡ self.now) }
         ensures refused { IfErr result (λ fault. fault ≡ no_memory) }
     {
-        match self.path.copy(alloc) {
-            Err(fault) => Err(fault),
-            Ok(path) => Ok(Contract {
-                name: self.name,
-                terms: self.terms,
-                port: self.port,
-                path,
-                class: self.class,
-                lifetime: self.lifetime,
-                rule: self.rule,
-            }),
-        }
+        Ok(Contract {
+            name: self.name,
+            terms: self.terms,
+            port: self.port,
+            path: self.path.copy(alloc)?,
+            class: self.class,
+            lifetime: self.lifetime,
+            rule: self.rule,
+        })
     }
 }

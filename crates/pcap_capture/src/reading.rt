@@ -57,10 +57,7 @@ impl Capture {
             (λ _. IsSoFar (bytes ++ piece.now) before self.new out.new.items)
             (λ fault. Stops (prepend before (capture (bytes ++ piece.now))) out.new.items fault) }
     {
-        match self.advance(alloc, piece, out) {
-            Ok(()) => Ok(()),
-            Err(fault) => Err(fault),
-        }
+        self.advance(alloc, piece, out)
     }
 
     fn advance(
@@ -76,10 +73,9 @@ impl Capture {
         let read = match self.stage {
             Stage::Opening => read_heading(alloc, &mut self.rest, piece, out),
             Stage::Records(heading) => {
-                match read_records(alloc, &heading, &mut self.rest, piece, out) {
-                    Ok(()) => Ok(Stage::Records(heading)),
-                    Err(fault) => Err(fault),
-                }
+                read_records(alloc, &heading, &mut self.rest, piece, out).map(|()| Stage::Records(
+                    heading,
+                ))
             }
             Stage::Broken => Err(PcapFault::Failed),
         };
@@ -107,10 +103,7 @@ impl Capture {
             (λ _. fault_in bytes ≡ None)
             (λ fault. fault_in bytes ≡ Some fault) }
     {
-        match self.end() {
-            Ok(()) => Ok(()),
-            Err(fault) => Err(fault),
-        }
+        self.end()
     }
 
     fn end(&mut self) -> Result<(), PcapFault>
@@ -157,10 +150,8 @@ fn read_heading(
         Some(Err(fault)) => Err(fault),
         Some(Ok(heading)) => {
             rest.clear();
-            match read_whole(alloc, &heading, rest, left, out) {
-                Ok(()) => Ok(Stage::Records(heading)),
-                Err(fault) => Err(fault),
-            }
+            read_whole(alloc, &heading, rest, left, out)?;
+            Ok(Stage::Records(heading))
         }
     }
 }

@@ -80,23 +80,16 @@ fn complete_body<'a>(
     ensures settled { IfOk result (λ left. (rest.new.items ≡ []) ⊎ ((left.now ≡ []) × (next_of heading.now rest.new.items ≡ Partial))) }
     ensures err { IfErr result (λ fault. Stops (prepend out.old.items (records heading.now (rest.old.items ++ piece.now))) out.new.items fault) }
 {
-    let size = match size_of_record(heading, rest) {
-        Ok(size) => size,
-        Err(fault) => return Err(fault),
-    };
+    let size = size_of_record(heading, rest)?;
     let Ok(left) = draw(rest, piece, size) else {
         return Err(PcapFault::NoMemory);
     };
     if rest.len() < size {
         return Ok(left);
     }
-    match push_frame(alloc, heading, rest, out) {
-        Ok(()) => {
-            rest.clear();
-            Ok(left)
-        }
-        Err(fault) => Err(fault),
-    }
+    push_frame(alloc, heading, rest, out)?;
+    rest.clear();
+    Ok(left)
 }
 
 /// Completes the record that is left over from earlier pieces, and answers the rest of the piece.
@@ -136,17 +129,12 @@ fn take_whole<'a>(
 {
     let mut left = piece;
     loop {
-        let size = match size_of_record(heading, left) {
-            Ok(size) => size,
-            Err(fault) => return Err(fault),
-        };
+        let size = size_of_record(heading, left)?;
         if left.len() < size {
             return Ok(left);
         }
         let (record, after) = left.split_at(size);
-        if let Err(fault) = push_frame(alloc, heading, record, out) {
-            return Err(fault);
-        }
+        push_frame(alloc, heading, record, out)?;
         left = after;
     }
 }
@@ -165,13 +153,9 @@ pub(crate) fn read_whole(
     ensures settled { OnOk result (next_of heading.now rest.new.items ≡ Partial) }
     ensures err { IfErr result (λ fault. Stops (prepend out.old.items (records heading.now piece.now)) out.new.items fault) }
 {
-    match take_whole(alloc, heading, piece, out) {
-        Err(fault) => Err(fault),
-        Ok(left) => match rest.extend_from_slice(left) {
-            Ok(()) => Ok(()),
-            Err(_) => Err(PcapFault::NoMemory),
-        },
-    }
+    let left = take_whole(alloc, heading, piece, out)?;
+    rest.extend_from_slice(left)
+        .map_err(|_| PcapFault::NoMemory)
 }
 
 /// Reads a piece of the records.
@@ -191,9 +175,10 @@ pub(crate) fn read_records(
     if rest.is_empty() {
         return read_whole(alloc, heading, rest, piece, out);
     }
-    match complete(alloc, heading, rest, piece, out) {
-        Ok(left) if rest.is_empty() => read_whole(alloc, heading, rest, left, out),
-        Ok(_) => Ok(()),
-        Err(fault) => Err(fault),
+    let left = complete(alloc, heading, rest, piece, out)?;
+    if rest.is_empty() {
+        read_whole(alloc, heading, rest, left, out)
+    } else {
+        Ok(())
     }
 }

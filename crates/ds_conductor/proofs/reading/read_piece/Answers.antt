@@ -1,6 +1,8 @@
+use Rattle.std.proofs.lemmas.Result.{err_from_is_err_and}
 use Rattle.ds_conductor.proofs.ReadingLaws.{failed}
 use Rattle.ds_conductor.proofs.reading.read_piece.Goals as goal
 
-pub returns-in-Err-clause-read : goal.returns-in-Err-clause-read
-returns-in-Err-clause-read g c = λ bytes tells at.
-    failed bytes _ _ c.args.progress.now c.in-Err.fault at (c.in-Err.ensures.bytes tells) c.in-Err.ensures.fault
+pub returns-in_err-taken-clause-read : goal.returns-in_err-taken-clause-read
+returns-in_err-taken-clause-read g c = λ bytes tells at.
+    let p = err_from_is_err_and c.from_residual.result c.from_residual.ensures.1 in
+    rw (p.1, p.2) (failed bytes _ _ c.args.progress.now c.in_err-taken.field-0.0 at (c.in_err-taken.ensures.bytes tells) c.in_err-taken.ensures.fault)

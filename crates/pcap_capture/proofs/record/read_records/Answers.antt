@@ -9,13 +9,13 @@ use Rattle.pcap_capture.proofs.record.read_records.Goals as goal
 not_empty : (n : ℕ) → false ≡ (n == 0) → n ≡ 0 → ⊥
 not_empty n h e = grind (arith, nat_tests)
 
-pub returns-in-Ok-2-clause-ok : goal.returns-in-Ok-2-clause-ok
-returns-in-Ok-2-clause-ok c =
+pub returns-else-is_empty-2-clause-ok : goal.returns-else-is_empty-2-clause-ok
+returns-else-is_empty-2-clause-ok c =
     let heading = c.args.heading.now in
     let rest = c.complete.new.rest.items in
-    elim c.in-Ok-2.ensures.settled [
+    elim c.in_ok-left.ensures.settled [
       | inl empty ↦ absurd (not_empty (vec_len c.complete.new.rest) c.if-is_empty-2.ensures (omega (arith, ap length empty)))
-      | inr waits ↦ kept_waiting (Records heading) rest c.complete.new.out.items (records heading (rest ++ c.in-Ok-2.field-0.now))
+      | inr waits ↦ kept_waiting (Records heading) rest c.complete.new.out.items (records heading (rest ++ c.in_ok-left.left.now))
           (prepend c.args.out.now.items (records heading (c.args.rest.now.items ++ c.args.piece.now)))
-          (ap (records heading) (ap (λ l. rest ++ l) waits.0 ∙ append-nil rest) ∙ records_partial heading rest waits.1) c.in-Ok-2.ensures.ok
+          (ap (records heading) (ap (λ l. rest ++ l) waits.0 ∙ append-nil rest) ∙ records_partial heading rest waits.1) c.in_ok-left.ensures.ok
     ]

@@ -1,12 +1,11 @@
 use Rattle.std.proofs.Common.{subst, sym, ◌∙◌}
+use Rattle.std.proofs.lemmas.Result.{MatchResult-weaker, MatchResult-from_both}
 use Rattle.pcap_capture.specs.Grammar.{Reading, Stops}
 use Rattle.pcap_capture.proofs.CutLaws.{so_far}
 use Rattle.pcap_capture.proofs.reading.Capture.feed.Goals as goal
 
-pub returns-in-Ok-clause-so_far : goal.returns-in-Ok-clause-so_far
-returns-in-Ok-clause-so_far c bytes before h =
-    c.in-Ok.ensures.ok ∙ sym (so_far bytes c.args.piece.now before c.args.out.now.items c.args.self.now h)
-
-pub returns-in-Err-clause-so_far : goal.returns-in-Err-clause-so_far
-returns-in-Err-clause-so_far c bytes before h =
-    subst (λ (r : Reading). Stops r c.advance.new.out.items c.in-Err.fault) (sym (so_far bytes c.args.piece.now before c.args.out.now.items c.args.self.now h)) c.in-Err.ensures.err.1
+pub returns-clause-so_far : goal.returns-clause-so_far
+returns-clause-so_far c bytes before h =
+    let known = sym (so_far bytes c.args.piece.now before c.args.out.now.items c.args.self.now h) in
+    MatchResult-weaker c.advance.result (MatchResult-from_both c.advance.result _ _ c.advance.ensures.ok c.advance.ensures.err)
+    (λ _ read. read ∙ known) (λ fault stopped. subst (λ (r : Reading). Stops r c.advance.new.out.items fault) known stopped.1)

@@ -1,9 +1,9 @@
 use Rattle.std.proofs.Common.{◌∙◌}
+use Rattle.std.proofs.lemmas.Result.{MatchResult-weaker}
 use Rattle.pcap_capture.proofs.CutLaws.{fault_so_far}
 use Rattle.pcap_capture.proofs.reading.Capture.finish.Goals as goal
 
-pub returns-in-Ok-clause-so_far : goal.returns-in-Ok-clause-so_far
-returns-in-Ok-clause-so_far c bytes before frames h = fault_so_far bytes before frames c.args.self.now h ∙ c.in-Ok.ensures.0
-
-pub returns-in-Err-clause-so_far : goal.returns-in-Err-clause-so_far
-returns-in-Err-clause-so_far c bytes before frames h = fault_so_far bytes before frames c.args.self.now h ∙ c.in-Err.ensures.0
+pub returns-clause-so_far : goal.returns-clause-so_far
+returns-clause-so_far c bytes before frames h =
+    let so_far = fault_so_far bytes before frames c.args.self.now h in
+    MatchResult-weaker c.end.result c.end.ensures (λ _ was. so_far ∙ was.0) (λ _ was. so_far ∙ was.0)
