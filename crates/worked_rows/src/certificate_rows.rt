@@ -85,6 +85,8 @@ fn lines_that_are_none_of_a_certificate(rt: HostRuntime) -> Result<(), Fail> {
         "dscert 1\n 0 3000 3000\n",
         "dscert 1\nb 0 3000 3000 \n",
         "dscert 1\na 0 3000 3000\r\n",
+        "dscert 1\na\r 0 3000 3000\n",
+        "dscert 1\n? 0 1 1000000000000001\n",
         "dscert 1\na 0 3000 000000000000000003000\n",
         "dscert 1\na 0 1 1\na 1 1 1\n\n",
     ] {
@@ -98,7 +100,7 @@ fn lines_that_are_not_those_of_the_contracts(rt: HostRuntime) -> Result<(), Fail
     for text in [
         "",
         "dscert 1\na 0 3000 3000\n",
-        "dscert 1\n? 0 1 1000000000000001\n",
+        "dscert 1\nb 0 1 1000000000000001\n",
         "dscert 1\na 1 1 1\na 0 1 1\n",
         "dscert 1\na 0 1 1\na 1 1 1\na 2 1 1\n",
     ] {
