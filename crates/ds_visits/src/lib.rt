@@ -15,6 +15,3 @@ pub use gate::{Gate, OpenGate};
 pub use sent::Sent;
 pub use visit::{Visit, visits};
 pub use way::Stop;
-
-#[cfg(test)]
-mod tests;

@@ -8,6 +8,3 @@ pub mod sight;
 pub use classifier::PortClassifier;
 pub use frame::{header_in, mark_frame};
 pub use sight::Sight;
-
-#[cfg(test)]
-mod tests;

@@ -1,4 +1,5 @@
-use crate::mark_rows::{HEADING, NARROW, OTHER, TAGGED, capture, table};
+use crate::captures::{HEADING, OTHER, TAGGED, capture};
+use crate::mark_rows::narrow;
 use ds_conductor::{Gate, RedRule, mark};
 use pcap_capture::{SliceIntake, VecOutlet};
 use std::sync::atomic::{AtomicU64, Ordering};
@@ -38,8 +39,8 @@ impl Gate for Counter {
 #[test]
 fn the_gate_is_called_round_each_visit(rt: HostRuntime) -> Result<(), Fail> {
     let alloc = rt.alloc();
-    let accepted = table(alloc, NARROW)?;
-    let given = capture(alloc, &[&HEADING, &TAGGED, &OTHER, &TAGGED])?;
+    let accepted = narrow(alloc)?;
+    let given = capture(alloc, &[HEADING, TAGGED, OTHER, TAGGED])?;
     let gate = Counter {
         before: AtomicU64::new(0),
         after: AtomicU64::new(0),

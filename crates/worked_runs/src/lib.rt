@@ -1,7 +1,11 @@
-//! Worked rows of runs: what packets on their way, steps, journals and captures give in the public calls of the libraries below.
-//! They stand here, and not beside those calls, since a crate with tests is proved twice.
+//! Worked rows of runs: what frames, packets on their way, steps, journals and captures give in the public calls of the
+//! libraries below. They stand here, and not beside those calls, since a crate with tests is proved twice.
 #![tactic(auto)]
 
+#[cfg(test)]
+mod captures;
+#[cfg(test)]
+mod frame_rows;
 #[cfg(test)]
 mod gate_rows;
 #[cfg(test)]
@@ -14,3 +18,5 @@ mod step_rows;
 mod tables;
 #[cfg(test)]
 mod traveller_rows;
+#[cfg(test)]
+mod visit_rows;

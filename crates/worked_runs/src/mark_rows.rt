@@ -1,3 +1,4 @@
+use crate::captures::{CUT, GREEN, HEADING, OTHER, OTHER_LINK, RED, TAGGED, YELLOW, capture};
 use crate::tables::accepted;
 use ds_checker::Accepted;
 use ds_conductor::{MarkFault, OpenGate, RedRule, Report, mark};
@@ -6,8 +7,8 @@ use std::alloc::Global;
 use std::process::Abort;
 use std::test::Fail;
 
-/// A policed contract of UDP packets, but for its bursts.
-const UDP: &str = r#"
+/// A policed contract of UDP packets, with bursts of 1,500 and 3,000 bytes.
+const WIDE: &str = r#"
 [[contract]]
 name = "u"
 kind = "trtcm"
@@ -16,63 +17,42 @@ path = ["m"]
 class = 1
 mode = "blind"
 cir = 8000000
+cbs = 1500
 pir = 16000000
+pbs = 3000
 protocol = 17
 "#;
 
-/// With bursts of 1,500 and 3,000 bytes, and its least certificate.
-const WIDE: (&str, &str) = (
-    "cbs = 1500\npbs = 3000\n",
-    "dscert 1\nu 0 1501 3001\nu 1 2501 5001\n",
-);
+/// Its least certificate.
+const WIDE_LEAST: &str = "dscert 1\nu 0 1501 3001\nu 1 2501 5001\n";
 
-/// With bursts of 150 and 300 bytes, and its least certificate.
-pub const NARROW: (&str, &str) = (
-    "cbs = 150\npbs = 300\n",
-    "dscert 1\nu 0 151 301\nu 1 1151 2301\n",
-);
+/// The same with bursts of 150 and 300 bytes.
+const NARROW: &str = r#"
+[[contract]]
+name = "u"
+kind = "trtcm"
+port = "p"
+path = ["m"]
+class = 1
+mode = "blind"
+cir = 8000000
+cbs = 150
+pir = 16000000
+pbs = 300
+protocol = 17
+"#;
 
-/// The table of that contract with bursts.
-pub fn table(alloc: Global, (bursts, certificate): (&str, &str)) -> Result<Accepted, Fail> {
-    let contract = format!(in alloc; "{UDP}{bursts}")?;
-    accepted(alloc, contract.as_str(), certificate)
+/// Its least certificate.
+const NARROW_LEAST: &str = "dscert 1\nu 0 151 301\nu 1 1151 2301\n";
+
+/// The table of the wide contract.
+fn wide(alloc: Global) -> Result<Accepted, Fail> {
+    accepted(alloc, WIDE, WIDE_LEAST)
 }
 
-/// The heading of a capture: low bytes first, microseconds, Ethernet.
-pub const HEADING: [u8; 24] = [
-    0xd4, 0xc3, 0xb2, 0xa1, 0x02, 0x00, 0x04, 0x00, 0x00, 0x00, 0x00, 0x00, 0x00, 0x00, 0x00, 0x00,
-    0xff, 0xff, 0x00, 0x00, 0x01, 0x00, 0x00, 0x00,
-];
-
-/// A record at 1.5 s of 38 bytes of 133: a header of UDP of 115 bytes behind a tag.
-pub const TAGGED: [u8; 54] = [
-    0x01, 0x00, 0x00, 0x00, 0x20, 0xa1, 0x07, 0x00, 0x26, 0x00, 0x00, 0x00, 0x85, 0x00, 0x00, 0x00,
-    0x02, 0x00, 0x00, 0x00, 0x00, 0x01, 0x02, 0x00, 0x00, 0x00, 0x00, 0x02, 0x81, 0x00, 0x00, 0x64,
-    0x08, 0x00, 0x45, 0x00, 0x00, 0x73, 0x00, 0x00, 0x40, 0x00, 0x40, 0x11, 0xb8, 0x61, 0xc0, 0xa8,
-    0x00, 0x01, 0xc0, 0xa8, 0x00, 0xc7,
-];
-
-/// A record at 2 s of 15 bytes of 54, which are of IPv6.
-pub const OTHER: [u8; 31] = [
-    0x02, 0x00, 0x00, 0x00, 0x00, 0x00, 0x00, 0x00, 0x0f, 0x00, 0x00, 0x00, 0x36, 0x00, 0x00, 0x00,
-    0x02, 0x00, 0x00, 0x00, 0x00, 0x01, 0x02, 0x00, 0x00, 0x00, 0x00, 0x02, 0x86, 0xdd, 0x60,
-];
-
-/// The first record with a byte 1 and the low byte of the checksum of its header, whose high byte is b8.
-fn marked(tos: u8, checksum: u8) -> [u8; 54] {
-    let mut record = TAGGED;
-    record[35] = tos;
-    record[45] = checksum;
-    record
-}
-
-/// Parts of a capture, one behind the other.
-pub fn capture(alloc: Global, parts: &[&[u8]]) -> Result<Vec<u8>, Fail> {
-    let mut all = Vec::new(alloc);
-    for part in parts {
-        all.extend_from_slice(part)?;
-    }
-    Ok(all)
+/// The table of the narrow contract.
+pub fn narrow(alloc: Global) -> Result<Accepted, Fail> {
+    accepted(alloc, NARROW, NARROW_LEAST)
 }
 
 /// A report of so many records, of which so many are skipped, with the packets of each colour, of 115 bytes each.
@@ -94,184 +74,244 @@ fn report(records: u64, skipped: u64, dropped: u64, packets: [u64; 3]) -> Report
     }
 }
 
-/// Expects of a capture at port `p` another one and an answer.
+/// What `mark` leaves behind: what it wrote, its report, and its fault.
+#[derive(Drop)]
+struct Marked {
+    written: Vec<u8>,
+    report: Report,
+    fault: Option<MarkFault>,
+}
+
+/// What `mark` leaves behind of a capture at a port.
+fn leavings(
+    alloc: Global,
+    accepted: &Accepted,
+    port: &str,
+    red: RedRule,
+    intake: &mut SliceIntake<'_>,
+) -> Marked {
+    let mut outlet = VecOutlet::new(Vec::new(alloc));
+    let answer = mark(
+        alloc,
+        accepted,
+        port,
+        1,
+        red,
+        intake,
+        &mut outlet,
+        &OpenGate,
+    );
+    let (report, fault) = match answer {
+        Ok(report) => (report, None),
+        Err((report, fault)) => (report, Some(fault)),
+    };
+    Marked {
+        written: outlet.bytes,
+        report,
+        fault,
+    }
+}
+
+/// Expects what `mark` left behind.
 fn expect(
+    rt: &impl Abort,
+    marked: &Marked,
+    written: &[u8],
+    report: Report,
+    fault: Option<MarkFault>,
+) {
+    assert_eq!(rt; marked.written.as_slice(), written);
+    assert_eq!(rt; marked.report, report);
+    assert_eq!(rt; marked.fault, fault);
+}
+
+/// A capture, and what is expected of it: the marked one, its report, and a fault.
+#[derive(Drop)]
+struct Row<'a> {
+    given: &'a [&'a str],
+    written: &'a [&'a str],
+    report: Report,
+    fault: Option<MarkFault>,
+}
+
+/// Expects what a row says of a capture at port `p`.
+fn expect_row(
     rt: &impl Abort,
     alloc: Global,
     accepted: &Accepted,
     red: RedRule,
-    (given, wanted): (&[u8], &[u8]),
-    answer: Result<Report, (Report, MarkFault)>,
+    row: &Row<'_>,
 ) -> Result<(), Fail> {
-    let mut intake = SliceIntake::new(given);
-    let mut outlet = VecOutlet::new(Vec::new(alloc));
-    let found = mark(
-        alloc,
-        accepted,
-        "p",
-        1,
-        red,
-        &mut intake,
-        &mut outlet,
-        &OpenGate,
-    );
-    assert_eq!(rt; outlet.bytes.as_slice(), wanted);
-    assert_eq!(rt; found, answer);
+    let given = capture(alloc, row.given)?;
+    let written = capture(alloc, row.written)?;
+    let mut intake = SliceIntake::new(given.as_slice());
+    let marked = leavings(alloc, accepted, "p", red, &mut intake);
+    expect(rt, &marked, written.as_slice(), row.report, row.fault);
     Ok(())
+}
+
+/// Expects of the wide contract what a row says.
+fn expect_wide(rt: &impl Abort, alloc: Global, row: &Row<'_>) -> Result<(), Fail> {
+    let accepted = wide(alloc)?;
+    expect_row(rt, alloc, &accepted, RedRule::Keep, row)
 }
 
 #[test]
 fn a_tagged_frame_leaves_green(rt: HostRuntime) -> Result<(), Fail> {
-    let alloc = rt.alloc();
-    let accepted = table(alloc, WIDE)?;
-    let given = capture(alloc, &[&HEADING, &TAGGED, &OTHER])?;
-    let wanted = capture(alloc, &[&HEADING, &marked(0x28, 0x39), &OTHER])?;
-    let pair = (given.as_slice(), wanted.as_slice());
-    expect(
-        &rt,
-        alloc,
-        &accepted,
-        RedRule::Keep,
-        pair,
-        Ok(report(2, 1, 0, [1, 0, 0])),
-    )
-}
-
-/// Three frames of three colours, of which the first so many stay.
-fn three_colours(alloc: Global, stay: usize) -> Result<Vec<u8>, Fail> {
-    let (green, yellow, red) = (marked(0x28, 0x39), marked(0x30, 0x31), marked(0x38, 0x29));
-    let all: [&[u8]; 4] = [&HEADING, &green, &yellow, &red];
-    capture(alloc, &all[..stay.min(3) + 1])
+    let row = Row {
+        given: &[HEADING, TAGGED, OTHER],
+        written: &[HEADING, GREEN, OTHER],
+        report: report(2, 1, 0, [1, 0, 0]),
+        fault: None,
+    };
+    expect_wide(&rt, rt.alloc(), &row)
 }
 
 #[test]
 fn three_frames_of_three_colours(rt: HostRuntime) -> Result<(), Fail> {
-    let alloc = rt.alloc();
-    let accepted = table(alloc, NARROW)?;
-    let given = capture(alloc, &[&HEADING, &TAGGED, &TAGGED, &TAGGED])?;
-    for (red, stay, dropped) in [(RedRule::Keep, 3, 0), (RedRule::Drop, 2, 1)] {
-        let wanted = three_colours(alloc, stay)?;
-        let pair = (given.as_slice(), wanted.as_slice());
-        let answer = Ok(report(3, 0, dropped, [1, 1, 1]));
-        expect(&rt, alloc, &accepted, red, pair, answer)?;
-    }
-    Ok(())
+    let accepted = narrow(rt.alloc())?;
+    let row = Row {
+        given: &[HEADING, TAGGED, TAGGED, TAGGED],
+        written: &[HEADING, GREEN, YELLOW, RED],
+        report: report(3, 0, 0, [1, 1, 1]),
+        fault: None,
+    };
+    expect_row(&rt, rt.alloc(), &accepted, RedRule::Keep, &row)
+}
+
+#[test]
+fn a_red_frame_is_dropped(rt: HostRuntime) -> Result<(), Fail> {
+    let accepted = narrow(rt.alloc())?;
+    let row = Row {
+        given: &[HEADING, TAGGED, TAGGED, TAGGED],
+        written: &[HEADING, GREEN, YELLOW],
+        report: report(3, 0, 1, [1, 1, 1]),
+        fault: None,
+    };
+    expect_row(&rt, rt.alloc(), &accepted, RedRule::Drop, &row)
 }
 
 #[test]
 fn a_capture_that_is_cut(rt: HostRuntime) -> Result<(), Fail> {
-    let alloc = rt.alloc();
-    let accepted = table(alloc, WIDE)?;
-    let given = capture(alloc, &[&HEADING, &TAGGED, &TAGGED, &TAGGED[..40]])?;
-    let green = marked(0x28, 0x39);
-    let wanted = capture(alloc, &[&HEADING, &green, &green])?;
-    let cut = MarkFault::Capture(PcapFault::Truncated);
-    let pair = (given.as_slice(), wanted.as_slice());
-    expect(
-        &rt,
-        alloc,
-        &accepted,
-        RedRule::Keep,
-        pair,
-        Err((report(2, 0, 0, [2, 0, 0]), cut)),
-    )
+    let row = Row {
+        given: &[HEADING, TAGGED, TAGGED, CUT],
+        written: &[HEADING, GREEN, GREEN],
+        report: report(2, 0, 0, [2, 0, 0]),
+        fault: Some(MarkFault::Capture(PcapFault::Truncated)),
+    };
+    expect_wide(&rt, rt.alloc(), &row)
 }
 
 #[test]
-fn captures_without_records(rt: HostRuntime) -> Result<(), Fail> {
-    let alloc = rt.alloc();
-    let accepted = table(alloc, WIDE)?;
-    let none = Report::nothing();
-    let mut other = HEADING;
-    other[20] = 2;
-    for (given, wanted, fault) in [
-        (HEADING.as_slice(), HEADING.as_slice(), None),
-        (&[], &[], Some(PcapFault::Truncated)),
-        (other.as_slice(), &[], Some(PcapFault::LinkType(2))),
-    ] {
-        let answer = match fault {
-            None => Ok(none),
-            Some(fault) => Err((none, MarkFault::Capture(fault))),
-        };
-        expect(
-            &rt,
-            alloc,
-            &accepted,
-            RedRule::Keep,
-            (given, wanted),
-            answer,
-        )?;
-    }
-    Ok(())
+fn a_capture_without_records(rt: HostRuntime) -> Result<(), Fail> {
+    let row = Row {
+        given: &[HEADING],
+        written: &[HEADING],
+        report: Report::nothing(),
+        fault: None,
+    };
+    expect_wide(&rt, rt.alloc(), &row)
+}
+
+#[test]
+fn a_capture_of_no_bytes(rt: HostRuntime) -> Result<(), Fail> {
+    let row = Row {
+        given: &[],
+        written: &[],
+        report: Report::nothing(),
+        fault: Some(MarkFault::Capture(PcapFault::Truncated)),
+    };
+    expect_wide(&rt, rt.alloc(), &row)
+}
+
+#[test]
+fn a_capture_of_another_link(rt: HostRuntime) -> Result<(), Fail> {
+    let row = Row {
+        given: &[OTHER_LINK],
+        written: &[],
+        report: Report::nothing(),
+        fault: Some(MarkFault::Capture(PcapFault::LinkType(2))),
+    };
+    expect_wide(&rt, rt.alloc(), &row)
 }
 
 #[test]
 fn no_such_port(rt: HostRuntime) -> Result<(), Fail> {
-    let alloc = rt.alloc();
-    let accepted = table(alloc, WIDE)?;
-    let mut intake = SliceIntake::new(&HEADING);
-    let mut outlet = VecOutlet::new(Vec::new(alloc));
-    let found = mark(
-        alloc,
-        &accepted,
-        "q",
-        1,
-        RedRule::Keep,
-        &mut intake,
-        &mut outlet,
-        &OpenGate,
+    let accepted = wide(rt.alloc())?;
+    let given = capture(rt.alloc(), &[HEADING])?;
+    let mut intake = SliceIntake::new(given.as_slice());
+    let marked = leavings(rt.alloc(), &accepted, "q", RedRule::Keep, &mut intake);
+    expect(
+        &rt,
+        &marked,
+        &[],
+        Report::nothing(),
+        Some(MarkFault::UnknownPort),
     );
-    assert_eq!(rt; found, Err((Report::nothing(), MarkFault::UnknownPort)));
     assert_eq!(rt; intake.turns, 0);
-    assert!(rt; outlet.bytes.is_empty());
     Ok(())
 }
 
-#[test]
-fn a_capture_that_cannot_be_read_on(rt: HostRuntime) -> Result<(), Fail> {
-    let alloc = rt.alloc();
-    let accepted = table(alloc, WIDE)?;
-    let given = capture(alloc, &[&HEADING, &TAGGED, &TAGGED])?;
+/// Expects of two records, of which the second cannot be read on at the fourth call, that the first is marked.
+fn expect_first(rt: &impl Abort, alloc: Global, accepted: &Accepted) -> Result<(), Fail> {
+    let given = capture(alloc, &[HEADING, TAGGED, TAGGED])?;
+    let written = capture(alloc, &[HEADING, GREEN])?;
     let mut intake = SliceIntake {
         most: 40,
         fails_at: Some(4),
         ..SliceIntake::new(given.as_slice())
     };
-    let mut outlet = VecOutlet::new(Vec::new(alloc));
-    let found = mark(
-        alloc,
-        &accepted,
-        "p",
-        1,
-        RedRule::Keep,
-        &mut intake,
-        &mut outlet,
-        &OpenGate,
-    );
-    let wanted = capture(alloc, &[&HEADING, &marked(0x28, 0x39)])?;
+    let marked = leavings(alloc, accepted, "p", RedRule::Keep, &mut intake);
     let fault = MarkFault::Capture(PcapFault::ReadFault);
-    assert_eq!(rt; outlet.bytes.as_slice(), wanted.as_slice());
-    assert_eq!(rt; found, Err((report(1, 0, 0, [1, 0, 0]), fault)));
+    expect(
+        rt,
+        &marked,
+        written.as_slice(),
+        report(1, 0, 0, [1, 0, 0]),
+        Some(fault),
+    );
+    Ok(())
+}
+
+#[test]
+fn a_capture_that_cannot_be_read_on(rt: HostRuntime) -> Result<(), Fail> {
+    let accepted = wide(rt.alloc())?;
+    expect_first(&rt, rt.alloc(), &accepted)
+}
+
+/// A capture of so many tagged frames.
+fn frames(alloc: Global, records: u64) -> Result<Vec<u8>, Fail> {
+    let mut bytes = capture(alloc, &[HEADING])?;
+    let tagged = capture(alloc, &[TAGGED])?;
+    for _record in 0..records {
+        bytes.extend_from_slice(tagged.as_slice())?;
+    }
+    Ok(bytes)
+}
+
+/// Expects of so many frames that they find a journal full, and that nothing is written.
+fn expect_full(
+    rt: &impl Abort,
+    alloc: Global,
+    accepted: &Accepted,
+    records: u64,
+) -> Result<(), Fail> {
+    let given = frames(alloc, records)?;
+    let mut intake = SliceIntake::new(given.as_slice());
+    let marked = leavings(alloc, accepted, "p", RedRule::Keep, &mut intake);
+    expect(
+        rt,
+        &marked,
+        &[],
+        report(records, 0, 0, [0; 3]),
+        Some(MarkFault::JournalFull),
+    );
     Ok(())
 }
 
 #[test]
 fn a_meter_that_is_visited_too_often(rt: HostRuntime) -> Result<(), Fail> {
-    let alloc = rt.alloc();
-    let accepted = table(alloc, NARROW)?;
+    let accepted = narrow(rt.alloc())?;
     // One more than a journal has room for.
-    let records = 1_048_577;
-    let mut given = capture(alloc, &[&HEADING])?;
-    for _record in 0..records {
-        given.extend_from_slice(&TAGGED)?;
-    }
-    let full = Err((report(records, 0, 0, [0; 3]), MarkFault::JournalFull));
-    expect(
-        &rt,
-        alloc,
-        &accepted,
-        RedRule::Keep,
-        (given.as_slice(), &[]),
-        full,
-    )
+    expect_full(&rt, rt.alloc(), &accepted, 1_048_577)
 }

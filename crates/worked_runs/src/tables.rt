@@ -29,13 +29,18 @@ floor = 0
 jitter = 1000000
 "#;
 
+/// The table that a domain text says with a certificate text.
+pub fn table_of(alloc: Global, domain: &str, certificate: &str) -> Result<Accepted, Fail> {
+    accept(alloc, domain.as_bytes(), certificate.as_bytes()).map_err(|_| Fail::from(
+        "no acceptable table",
+    ))
+}
+
 /// The table that a domain text of that way and one contract says with a certificate text.
 pub fn accepted(alloc: Global, contract: &str, certificate: &str) -> Result<Accepted, Fail> {
-    let domain = format!(in alloc; "{WAY}{contract}")?;
-    match accept(alloc, domain.as_bytes(), certificate.as_bytes()) {
-        Ok(accepted) => Ok(accepted),
-        Err(_) => Err(Fail::from("no acceptable table")),
-    }
+    let mut domain = String::from_str(alloc, WAY)?;
+    domain.push_str(contract)?;
+    table_of(alloc, domain.as_str(), certificate)
 }
 
 /// A meter of a committed and a peak rate with their bursts, opened at moment 0.
