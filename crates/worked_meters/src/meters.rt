@@ -29,8 +29,8 @@ fn colour(letter: &[u8]) -> Option<Colour> {
     }
 }
 
-/// What a line says: a moment in nanoseconds, a size in bytes, the colour that a packet comes in with and the one that it
-/// should leave with.
+/// What a line says: a moment in nanoseconds, a size in bytes, the colour that a packet comes in with and the one that
+/// it should leave with.
 fn row(line: &[u8]) -> Option<(Moment, PacketSize, Colour, Colour)> {
     let (nanoseconds, behind) = split_field(line);
     let (bytes, behind) = split_field(behind?);

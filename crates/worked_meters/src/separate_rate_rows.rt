@@ -52,8 +52,8 @@ fn tokens_of_a_nanosecond_come_before_its_packets(rt: HostRuntime) -> Result<(),
     expect_rows(&rt, figures, Mode::Aware, ONE_A_NANOSECOND)
 }
 
-/// 8 000 bits a second are a token a millisecond. Equality admits; red takes nothing; what finds the committed bucket full
-/// is lost.
+/// 8 000 bits a second are a token a millisecond. Equality admits; red takes nothing; what finds the committed bucket
+/// full is lost.
 const EQUAL: &str = "
 0 10 r r
 0 20 y y
