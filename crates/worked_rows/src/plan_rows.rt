@@ -37,6 +37,15 @@ fn expect_usage(rt: &impl Abort, alloc: Global, line: &str) -> Result<(), Fail> 
     Ok(())
 }
 
+/// Expects of each line of a text, behind some words, that there is no plan.
+fn expect_no_plans(rt: &impl Abort, alloc: Global, front: &str, lines: &str) -> Result<(), Fail> {
+    for line in lines.split('\n') {
+        let words = format!(in alloc; "{front}{line}")?;
+        expect_usage(rt, alloc, words.as_str())?;
+    }
+    Ok(())
+}
+
 /// Expects of a line of words the plan of a meter.
 fn expect_meter(
     rt: &impl Abort,
@@ -211,110 +220,105 @@ fn no_words_are_no_command(rt: HostRuntime) {
     assert_eq!(rt; fault, Some(UsageFault::Usage));
 }
 
+/// Lines of words that ask for nothing that there is.
+const NO_COMMANDS: &str = "
+ meter
+metre
+Meter
+-
+--
+--version
+--kind trtcm
+help metre
+meter --version
+envelope
+envelope --rate 1
+envelope --burst 1
+envelope --rate 1 --burst 1 --burst 1
+envelope --rate 1 --burst 1 --origin 0
+envelope --rate 1 --burst 1 more
+envelope --rate 10000000000001 --burst 1
+envelope --rate 1 --burst 1000000000000001
+envelope --rate 1 --burst +1
+envelope --rate 1 --burst -1
+certify
+certify one.toml two.toml
+certify --domain one.toml
+check domain.toml
+check domain.toml domain.cert more
+mark domain.toml domain.cert --port p --workers 2 --red keep
+mark domain.toml domain.cert --port p --workers 1 --red leave
+drive domain.toml
+audit domain.toml
+audit domain.toml domain.cert more";
+
 #[test]
 fn words_that_are_no_command(rt: HostRuntime) -> Result<(), Fail> {
-    for line in [
-        "",
-        " meter",
-        "metre",
-        "Meter",
-        "-",
-        "--",
-        "--version",
-        "--kind trtcm",
-        "help metre",
-        "meter --version",
-        "envelope",
-        "envelope --rate 1",
-        "envelope --burst 1",
-        "envelope --rate 1 --burst 1 --burst 1",
-        "envelope --rate 1 --burst 1 --origin 0",
-        "envelope --rate 1 --burst 1 more",
-        "envelope --rate 10000000000001 --burst 1",
-        "envelope --rate 1 --burst 1000000000000001",
-        "envelope --rate 1 --burst +1",
-        "envelope --rate 1 --burst -1",
-        "certify",
-        "certify one.toml two.toml",
-        "certify --domain one.toml",
-        "check domain.toml",
-        "check domain.toml domain.cert more",
-        "mark domain.toml domain.cert --port p --workers 2 --red keep",
-        "mark domain.toml domain.cert --port p --workers 1 --red leave",
-        "drive domain.toml",
-        "audit domain.toml",
-        "audit domain.toml domain.cert more",
-    ] {
-        expect_usage(&rt, rt.alloc(), line)?;
-    }
-    Ok(())
+    expect_no_plans(&rt, rt.alloc(), "", NO_COMMANDS)
 }
+
+/// Options that are not those of a meter: none of any kind, too few, those of another kind, or malformed ones.
+const NO_OPTIONS: &str = "
+--kind
+--kind trtcm --mode blind --cir 8000 --cbs 1500 --pir 16000
+--kind trtcm --mode blind --cir 8000 --cbs 1500 --pbs 3000
+--kind trtcm --mode blind --cir 8000 --pir 16000 --pbs 3000
+--kind trtcm --mode blind --cbs 1500 --pir 16000 --pbs 3000
+--kind trtcm --cir 8000 --cbs 1500 --pir 16000 --pbs 3000
+--mode blind --cir 8000 --cbs 1500 --pir 16000 --pbs 3000
+--kind srtcm --mode blind --cir 8000 --cbs 1500
+--kind srtcm --mode blind --cir 8000 --cbs 0 --ebs 0
+--kind srtcm --mode blind --cir 8000 --cbs 1500 --ebs 1500 --pir 16000
+--kind srtcm --mode blind --cir 8000 --cbs 1500 --ebs 1500 --pbs 1500
+--kind srtcm --mode blind --cir 8000 --cbs 1500 --ebs 1500 --eir 16000
+--kind trtcm --mode blind --cir 8000 --cbs 1500 --pir 16000 --pbs 3000 --eir 8000
+--kind rfc4115 --mode blind --cir 8000 --cbs 1500 --ebs 1500
+--kind rfc4115 --mode blind --cir 8000 --cbs 1500 --eir 8000
+--kind rfc4115 --mode blind --cir 8000 --cbs 0 --eir 8000 --ebs 0
+--kind rfc4115 --mode blind --cir 8000 --cbs 1500 --eir 8000 --ebs 1500 --pir 16000
+--kind rfc4115 --mode blind --cir 8000 --cbs 1500 --eir 8000 --ebs 1500 --pbs 1500
+--kind TRTCM --mode blind --cir 8000 --cbs 1500 --pir 16000 --pbs 3000
+--kind trtcm --mode Aware --cir 8000 --cbs 1500 --pir 16000 --pbs 3000
+--kind trtcm --mode blind --cir 8000 --cbs 1500 --pir 16000 --pbs 3000 --ebs 1
+--kind trtcm --mode blind --cir 8000 --cbs 1500 --pir 16000 --pbs 3000 more
+--kind trtcm --mode blind --cir 8000 --cbs 1500 --pir 16000 --pbs 3000\x20
+--kind trtcm --mode blind --cir 8000 --cbs 1500 --pir 16000 --pbs 3000 -- more
+--kind trtcm --mode blind --cir 8000 --cbs 1500 --pir 16000 --pbs 3000 --cir 8000
+--kind trtcm --mode blind --cir 8000 --cbs 1500 --pir 16000 --pbs 3000 --origin
+--kind trtcm --mode blind --cir 8000 --cbs 1500 --pi 16000 --pbs 3000
+--kind trtcm --mode blind -cir 8000 --cbs 1500 --pir 16000 --pbs 3000";
 
 #[test]
 fn options_that_are_not_those_of_a_meter(rt: HostRuntime) -> Result<(), Fail> {
-    for options in [
-        "",
-        "--kind",
-        "--kind trtcm --mode blind --cir 8000 --cbs 1500 --pir 16000",
-        "--kind trtcm --mode blind --cir 8000 --cbs 1500 --pbs 3000",
-        "--kind trtcm --mode blind --cir 8000 --pir 16000 --pbs 3000",
-        "--kind trtcm --mode blind --cbs 1500 --pir 16000 --pbs 3000",
-        "--kind trtcm --cir 8000 --cbs 1500 --pir 16000 --pbs 3000",
-        "--mode blind --cir 8000 --cbs 1500 --pir 16000 --pbs 3000",
-        "--kind srtcm --mode blind --cir 8000 --cbs 1500",
-        "--kind srtcm --mode blind --cir 8000 --cbs 0 --ebs 0",
-        "--kind srtcm --mode blind --cir 8000 --cbs 1500 --ebs 1500 --pir 16000",
-        "--kind srtcm --mode blind --cir 8000 --cbs 1500 --ebs 1500 --pbs 1500",
-        "--kind srtcm --mode blind --cir 8000 --cbs 1500 --ebs 1500 --eir 16000",
-        "--kind trtcm --mode blind --cir 8000 --cbs 1500 --pir 16000 --pbs 3000 --eir 8000",
-        "--kind rfc4115 --mode blind --cir 8000 --cbs 1500 --ebs 1500",
-        "--kind rfc4115 --mode blind --cir 8000 --cbs 1500 --eir 8000",
-        "--kind rfc4115 --mode blind --cir 8000 --cbs 0 --eir 8000 --ebs 0",
-        "--kind rfc4115 --mode blind --cir 8000 --cbs 1500 --eir 8000 --ebs 1500 --pir 16000",
-        "--kind rfc4115 --mode blind --cir 8000 --cbs 1500 --eir 8000 --ebs 1500 --pbs 1500",
-        "--kind TRTCM --mode blind --cir 8000 --cbs 1500 --pir 16000 --pbs 3000",
-        "--kind trtcm --mode Aware --cir 8000 --cbs 1500 --pir 16000 --pbs 3000",
-        "--kind trtcm --mode blind --cir 8000 --cbs 1500 --pir 16000 --pbs 3000 --ebs 1",
-        "--kind trtcm --mode blind --cir 8000 --cbs 1500 --pir 16000 --pbs 3000 more",
-        "--kind trtcm --mode blind --cir 8000 --cbs 1500 --pir 16000 --pbs 3000 ",
-        "--kind trtcm --mode blind --cir 8000 --cbs 1500 --pir 16000 --pbs 3000 -- more",
-        "--kind trtcm --mode blind --cir 8000 --cbs 1500 --pir 16000 --pbs 3000 --cir 8000",
-        "--kind trtcm --mode blind --cir 8000 --cbs 1500 --pir 16000 --pbs 3000 --origin",
-        "--kind trtcm --mode blind --cir 8000 --cbs 1500 --pi 16000 --pbs 3000",
-        "--kind trtcm --mode blind -cir 8000 --cbs 1500 --pir 16000 --pbs 3000",
-    ] {
-        let line = format!(in rt.alloc(); "meter {options}")?;
-        expect_usage(&rt, rt.alloc(), line.as_str())?;
-    }
-    Ok(())
+    expect_no_plans(&rt, rt.alloc(), "meter ", NO_OPTIONS)
 }
+
+/// Options of a meter of two rates whose figures are no numbers, or out of range, or not those of a meter.
+const NO_FIGURES: &str = "--cir=0 --cbs=1 --pir=9 --pbs=1 --origin=0
+--cir=10000000000001 --cbs=1 --pir=10000000000001 --pbs=1 --origin=0
+--cir=1 --cbs=4294967296 --pir=9 --pbs=1 --origin=0
+--cir=1 --cbs=1 --pir=9 --pbs=18446744073709551616 --origin=0
+--cir=1 --cbs=1 --pir=9 --pbs=1 --origin=9223372036854775808
+--cir=000000000000000000001 --cbs=1 --pir=9 --pbs=1 --origin=0
+--cir=+1 --cbs=1 --pir=9 --pbs=1 --origin=0
+--cir=-1 --cbs=1 --pir=9 --pbs=1 --origin=0
+--cir=1_0 --cbs=1 --pir=99 --pbs=1 --origin=0
+--cir=0x1 --cbs=1 --pir=9 --pbs=1 --origin=0
+--cir=1.0 --cbs=1 --pir=9 --pbs=1 --origin=0
+--cir=١ --cbs=1 --pir=9 --pbs=1 --origin=0
+--cir= --cbs=1 --pir=9 --pbs=1 --origin=0
+--cir=1 --cbs=0 --pir=9 --pbs=1 --origin=0
+--cir=1 --cbs=1 --pir=9 --pbs=0 --origin=0
+--cir=8000 --cbs=1 --pir=7000 --pbs=1 --origin=0";
 
 #[test]
 fn numbers_and_parameters_that_are_refused(rt: HostRuntime) -> Result<(), Fail> {
-    for (cir, cbs, pir, pbs, origin) in [
-        ("0", "1", "9", "1", "0"),
-        ("10000000000001", "1", "10000000000001", "1", "0"),
-        ("1", "4294967296", "9", "1", "0"),
-        ("1", "1", "9", "18446744073709551616", "0"),
-        ("1", "1", "9", "1", "9223372036854775808"),
-        ("000000000000000000001", "1", "9", "1", "0"),
-        ("+1", "1", "9", "1", "0"),
-        ("-1", "1", "9", "1", "0"),
-        ("1_0", "1", "99", "1", "0"),
-        ("0x1", "1", "9", "1", "0"),
-        ("1.0", "1", "9", "1", "0"),
-        ("١", "1", "9", "1", "0"),
-        ("", "1", "9", "1", "0"),
-        ("1", "0", "9", "1", "0"),
-        ("1", "1", "9", "0", "0"),
-        ("8000", "1", "7000", "1", "0"),
-    ] {
-        let line = format!(in rt.alloc();
-            "meter --kind trtcm --mode blind --cir={cir} --cbs={cbs} --pir={pir} --pbs={pbs} --origin={origin}"
-        )?;
-        expect_usage(&rt, rt.alloc(), line.as_str())?;
-    }
-    Ok(())
+    expect_no_plans(
+        &rt,
+        rt.alloc(),
+        "meter --kind trtcm --mode blind ",
+        NO_FIGURES,
+    )
 }
 
 /// The text of the help that a line of words asks for.
@@ -359,17 +363,20 @@ fn help_for_the_program_and_its_commands(rt: HostRuntime) -> Result<(), Fail> {
         "help meter",
         "meter --kind trtcm --help --cir",
     ];
-    let parts = [
+    let own = [
         "Usage: dsedge meter ",
         "--kind <KIND>",
         "--mode <MODE>",
+        "--origin <MOMENT>",
+    ];
+    expect_help(&rt, alloc, &lines, &own)?;
+    let parts = [
         "--cir <RATE>",
         "--cbs <BYTES>",
         "--pir <RATE>",
         "--pbs <BYTES>",
         "--eir <RATE>",
         "--ebs <BYTES>",
-        "--origin <MOMENT>",
     ];
     expect_help(&rt, alloc, &lines, &parts)
 }
