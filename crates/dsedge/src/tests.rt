@@ -86,40 +86,21 @@ fn colours_and_accounts(rt: HostRuntime) -> Result<(), Fail> {
     Ok(())
 }
 
+/// Lines that are no arrival, the empty one first.
+const NO_ARRIVALS: &str = "\n0 0 g\n0 1 g\r\n0  1 g\n\x200 1 g\n0 1 g\x20\n0 1\n0 1 g 2\n0 1 b\n0 1 green\n\
+    0 65536 g\n9223372036854775808 1 g\n000000000000000000000 1 g\n-1 1 g\n+1 1 g\nx 1 g";
+
+fn expect_no_arrival(rt: &impl Abort, alloc: Global, line: &str) -> Result<(), Fail> {
+    let first = format!(in alloc; "{line}\n0 1 g\n")?;
+    expect(rt, alloc, (BLIND, first.as_str()), ("", "dsedge: line 1\n", 3))?;
+    let second = format!(in alloc; "0 1 g\n{line}\n")?;
+    expect(rt, alloc, (BLIND, second.as_str()), ("green\n", "dsedge: line 2\n", 3))
+}
+
 #[test]
 fn lines_that_are_no_arrival(rt: HostRuntime) -> Result<(), Fail> {
-    for line in [
-        "",
-        "0 0 g",
-        "0 1 g\r",
-        "0  1 g",
-        " 0 1 g",
-        "0 1 g ",
-        "0 1",
-        "0 1 g 2",
-        "0 1 b",
-        "0 1 green",
-        "0 65536 g",
-        "9223372036854775808 1 g",
-        "000000000000000000000 1 g",
-        "-1 1 g",
-        "+1 1 g",
-        "x 1 g",
-    ] {
-        let first = format!(in rt.alloc(); "{line}\n0 1 g\n")?;
-        expect(
-            &rt,
-            rt.alloc(),
-            (BLIND, first.as_str()),
-            ("", "dsedge: line 1\n", 3),
-        )?;
-        let second = format!(in rt.alloc(); "0 1 g\n{line}\n")?;
-        expect(
-            &rt,
-            rt.alloc(),
-            (BLIND, second.as_str()),
-            ("green\n", "dsedge: line 2\n", 3),
-        )?;
+    for line in NO_ARRIVALS.split('\n') {
+        expect_no_arrival(&rt, rt.alloc(), line)?;
     }
     Ok(())
 }
@@ -165,27 +146,15 @@ fn envelopes_kept_and_left(rt: HostRuntime) -> Result<(), Fail> {
     Ok(())
 }
 
+/// Lines that are no sized moment behind one of moment 5, the empty one first.
+const NO_SIZED_MOMENTS: &str = "\n4 1\n5 0\n5 1\r\n5  1\n5\n5 1 g\n5 65536\n9223372036854775808 1";
+
 #[test]
 fn lines_that_are_no_sized_moment(rt: HostRuntime) -> Result<(), Fail> {
-    let words = "envelope --rate 1 --burst 10";
-    for line in [
-        "",
-        "4 1",
-        "5 0",
-        "5 1\r",
-        "5  1",
-        "5",
-        "5 1 g",
-        "5 65536",
-        "9223372036854775808 1",
-    ] {
+    for line in NO_SIZED_MOMENTS.split('\n') {
         let input = format!(in rt.alloc(); "5 1\n{line}\n")?;
-        expect(
-            &rt,
-            rt.alloc(),
-            (words, input.as_str()),
-            ("", "dsedge: line 2\n", 3),
-        )?;
+        let words = "envelope --rate 1 --burst 10";
+        expect(&rt, rt.alloc(), (words, input.as_str()), ("", "dsedge: line 2\n", 3))?;
     }
     Ok(())
 }

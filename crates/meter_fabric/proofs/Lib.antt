@@ -1,2 +1,3 @@
+pub mod GroundLaws
 pub mod PathLaws
 pub mod TrailLaws

@@ -9,8 +9,10 @@ use Rattle.ds_domain_base.specs.declared.fault.DomainFault.{DomainFault}
 use Rattle.ds_certificate.specs.Bounds.{IsCertificate, fits}
 use Rattle.ds_certificate.specs.Columns.{Bound}
 use Rattle.ds_checker.specs.Acceptance.{IsAcceptable, Table}
-use Rattle.meter_fabric.specs.Sites.{contract_of, hops_along, site_of}
+use Rattle.meter_fabric.specs.Grounds.{contract_of, ground_of, most_flows}
+use Rattle.meter_fabric.specs.Sites.{hops_along, site_of}
 use Rattle.meter_fabric.specs.declared.hop.Hop.{Hop}
+use Rattle.meter_fabric.proofs.GroundLaws.{contract_at}
 
 -- of two tests in turn the second fails where no fault is found
 second_fails : (first second : Bool) (one other : DomainFault) (rest : Option DomainFault)
@@ -39,12 +41,12 @@ numbered : (low : Bool) (found : Option Contract) (c : Contract) → (if low the
 numbered true found c is = (refl, is)
 numbered false found c is = absurd cc
 
-low_test : (flow : ℕ) → nat_lt flow 4294966272 ≡ true → flow < 4294966272
+low_test : (flow : ℕ) → nat_lt flow most_flows ≡ true → flow < most_flows
 low_test flow low = grind (arith, nat_tests)
 
-pub known_contract : (t : Table) (flow : ℕ) (c : Contract) → IsAcceptable t → contract_of t flow ≡ Some c → (flow < 4294966272) × (length c.path ≤ 16)
+pub known_contract : (t : Table) (flow : ℕ) (c : Contract) → IsAcceptable t → contract_of (ground_of t) flow ≡ Some c → (flow < most_flows) × (length c.path ≤ 16)
 known_contract t flow c good is =
-    let both = numbered (nat_lt flow 4294966272) (slice_get t.contracts flow) c is in
+    let both = numbered (nat_lt flow most_flows) (slice_get t.contracts flow) c (sym (contract_at t flow) ∙ is) in
     (low_test flow both.0, certified_short t.domain t.contracts t.certificate flow c good.0 both.1)
 
 -- one hop more

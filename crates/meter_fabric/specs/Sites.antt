@@ -1,18 +1,13 @@
 -- The sites of a domain and its contracts: the meters in order, then behind them an edge for each contract that is policed.
 -- A hop is a step of a packet's way: its number is that of the meters of the path that are passed, its site where it leads.
-use Rattle.std.specs.Prelude.{ℕ, suc, ◌+◌, nat_lt, List, [], ◌∷◌, ◌++◌, length, position, slice_get, unwrap_or, Option, None, if◌then◌else◌}
+use Rattle.std.specs.Prelude.{ℕ, suc, ◌+◌, List, [], ◌∷◌, ◌++◌, length, position, unwrap_or}
 use Rattle.std.specs.Map.{keys_of}
 use Rattle.std.specs.Str.{bytes_eq}
 use Rattle.ds_domain_base.specs.Domains.{Domain}
 use Rattle.ds_domain_base.specs.declared.contract.Contract.{Contract}
 use Rattle.ds_domain_base.specs.declared.terms.Terms.{Terms}
 use Rattle.ds_domain_base.specs.declared.terms.Terms.TheVariants.{Trusted, Policed}
-use Rattle.ds_checker.specs.Acceptance.{Table}
 use Rattle.meter_fabric.specs.declared.hop.Hop.{Hop}
-
--- The contract of a number. Only the first 2^32 - 1024 have one, so that each site has a number of 32 bits.
-abbrev pub contract_of : Table → ℕ → Option Contract
-contract_of t flow = if nat_lt flow 4294966272 then slice_get t.contracts flow else None
 
 -- the site of a meter is its place among the meters; each name of a path that fits is a meter's
 abbrev pub site_of : Domain → List ℕ → ℕ

@@ -5,8 +5,8 @@ use Rattle.meter_book.specs.Replay.{Book, next_row, noted}
 use Rattle.meter_book.specs.declared.row.Arrival.{Arrival}
 use Rattle.meter_book.specs.declared.row.Row.{Row}
 use Rattle.ds_domain_base.specs.Sent.{came}
-use Rattle.ds_checker.specs.Acceptance.{Table}
-use Rattle.meter_fabric.specs.Sites.{contract_of, hops_of}
+use Rattle.meter_fabric.specs.Grounds.{Ground, contract_of}
+use Rattle.meter_fabric.specs.Sites.{hops_of}
 use Rattle.meter_fabric.specs.Trails.{Packet, arrival_at}
 use Rattle.meter_fabric.specs.declared.fault.VisitFault.{VisitFault}
 use Rattle.meter_fabric.specs.declared.fault.VisitFault.TheVariants.{PathEnded, JournalFull, NoMemory, BeforeLast}
@@ -20,11 +20,11 @@ pub record Traveller : Type 0 where
   pub hops : List Hop
   pub receipts : List Receipt
 
--- a packet of an accepted table at its beginning, if its contract is there
-abbrev pub begun_of : Table → Packet → Option Traveller
-begun_of t p = option_map
-    (λ c. record { packet = p; came = came c p.dscp; hops = hops_of t.domain p.flow c; receipts = [] })
-    (contract_of t p.flow)
+-- a packet at its beginning, if its contract is there
+abbrev pub begun_of : Ground → Packet → Option Traveller
+begun_of g p = option_map
+    (λ c. record { packet = p; came = came c p.dscp; hops = hops_of g.domain p.flow c; receipts = [] })
+    (contract_of g p.flow)
 
 -- the hop that it comes to next, none at the end of its way
 abbrev pub next_hop : Traveller → Option Hop

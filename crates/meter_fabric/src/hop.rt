@@ -1,12 +1,9 @@
 ghost use Rattle.std.specs.Prelude.{◌≡◌, ◌<◌, ◌≤◌, length, option_to_list, IfOk};
-ghost use Rattle.meter_fabric.specs.Sites.{edge_hops, hops_of, site_of};
+ghost use Rattle.meter_fabric.specs.Sites.{edge_hops, hops_of};
 
-use ds_domain_base::{Contract, Domain, Name, Terms};
+use crate::site::site_of;
+use ds_domain_base::{Contract, Domain, Terms};
 use std::alloc::{AllocError, Global};
-
-/// How many contracts of a table packets can be of: the first 2^32 - 1,024. A domain has at most 1,024 meters, so the
-/// number of each edge behind them fits 32 bits.
-pub const MOST_FLOWS: u32 = u32::MAX - 1_023;
 
 /// A step of a packet's way through a domain.
 #[derive(Clone, Copy, Debug, PartialEq, Eq, Hash)]
@@ -56,12 +53,4 @@ pub fn edge_hop(domain: &Domain, flow: u32, terms: &Terms) -> Option<Hop>
             site: domain.meters().len() as u32 + flow,
         }),
     }
-}
-
-/// The number of the site of a meter; 0 where there is no meter of that name.
-pub fn site_of(domain: &Domain, name: Name) -> u32
-    ensures { result ≡ site_of domain.now name }
-{
-    let place = domain.meters().get_index_of(&name);
-    place.map_or(0, |place| place as u32)
 }

@@ -3,10 +3,12 @@
 
 pub mod fault;
 pub mod hop;
+pub mod site;
 pub mod trail;
 pub mod traveller;
 
 pub use fault::{BeginFault, VisitFault};
-pub use hop::{Hop, MOST_FLOWS, edge_hop, site_of};
+pub use hop::{Hop, edge_hop};
+pub use site::{MOST_FLOWS, Opening, contract_of, flow_count, opening_at, site_count, site_of};
 pub use trail::{Receipt, Trail};
-pub use traveller::{Traveller, contract_of};
+pub use traveller::Traveller;

@@ -1,14 +1,14 @@
-ghost use Rattle.std.specs.Prelude.{◌≡◌, ◌↔◌, None, Some, Ok, IfOk, IfErr, OnOk, OnErr, IsErrOf, option_copied};
-ghost use Rattle.meter_fabric.specs.Sites.{contract_of};
+ghost use Rattle.std.specs.Prelude.{◌≡◌, ◌↔◌, None, Some, Ok, IfOk, IfErr, OnOk, OnErr, IsErrOf};
+ghost use Rattle.meter_fabric.specs.Grounds.{contract_of, ground_of};
 ghost use Rattle.meter_fabric.specs.Trails.{IsReceipt, IsTrail, arrival_at, packet_of};
 ghost use Rattle.meter_fabric.specs.Travels.{begun_of, comes_as, last_moment, next_hop, next_site, received, refusal_of, visit};
 
 use crate::fault::{BeginFault, VisitFault};
-use crate::hop::{Hop, MOST_FLOWS, hops_of};
+use crate::hop::{Hop, hops_of};
+use crate::site::contract_of;
 use crate::trail::{Receipt, Trail};
 use af_marker::Dscp;
 use ds_checker::Accepted;
-use ds_domain_base::Contract;
 use meter_book::{Arrival, MeterBook, Row};
 use moment_core::{Colour, Moment, PacketSize};
 use std::alloc::Global;
@@ -51,8 +51,9 @@ impl Traveller {
         dscp: Dscp,
         moment: Moment,
     ) -> Result<Traveller, BeginFault>
-        ensures begun { IfOk result (λ traveller. begun_of accepted.now (record { flow = flow; number = packet; size = size; dscp = dscp; begun = moment }) ≡ Some traveller) }
-        ensures unknown { IsErrOf result BeginFault.UnknownFlow ↔ (contract_of accepted.now flow ≡ None) }
+        ensures begun { IfOk result (λ traveller. begun_of (ground_of accepted.now)
+            (record { flow = flow; number = packet; size = size; dscp = dscp; begun = moment }) ≡ Some traveller) }
+        ensures unknown { IsErrOf result BeginFault.UnknownFlow ↔ (contract_of (ground_of accepted.now) flow ≡ None) }
     {
         let Some(contract) = contract_of(accepted, flow) else {
             return Err(BeginFault::UnknownFlow);
@@ -204,16 +205,5 @@ impl Traveller {
             hops: _,
         } = self;
         trail
-    }
-}
-
-/// The contract of a number, if there is one.
-pub fn contract_of(accepted: &Accepted, flow: u32) -> Option<&Contract>
-    ensures { option_copied result ≡ contract_of accepted.now flow }
-{
-    if flow < MOST_FLOWS {
-        accepted.contracts().get(flow as usize)
-    } else {
-        None
     }
 }

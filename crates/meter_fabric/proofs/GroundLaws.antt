@@ -1,0 +1,71 @@
+-- The contract of a flow of a table is the one at its place.
+use Rattle.std.proofs.Common.{◌≡◌, ◌+◌, ◌-◌, ◌<◌, ◌≤◌, ℕ, zero, suc, Bool, true, false, cond, List, [], ◌∷◌, length, take, Option, None, Some, refl, sym, ap, ◌∙◌, arith}
+use Rattle.std.specs.Prelude.{nat_eq, nat_lt, ◌↔◌, is_some, IsSome, option_and_then, option_map, slice_get, if◌then◌else◌}
+use Rattle.std.specs.List.{enumerate_from, find}
+use Rattle.std.proofs.lemmas.Bool.{false≢true}
+use Rattle.std.proofs.lemmas.Bool.Decides.{nat_tests}
+use Rattle.ds_domain_base.specs.declared.contract.Contract.{Contract}
+use Rattle.ds_checker.specs.Acceptance.{Table}
+use Rattle.meter_fabric.specs.Grounds.{Ground, contract_of, ground_of, most_flows}
+use Rattle.meter_fabric.specs.Openings.{edge_opening, opening_at}
+
+abbrev found_from : ℕ → List Contract → ℕ → Option Contract
+found_from n cs flow = option_map (λ entry. entry.1) (find (λ entry. nat_eq entry.0 flow) (enumerate_from n cs))
+
+found_from-at : (n : ℕ) (cs : List Contract) (place : ℕ) → found_from n cs (n + place) ≡ slice_get cs place
+found_from-at n [] place = refl
+found_from-at n (c ∷ cs) zero =
+    let same : nat_eq n (n + 0) ≡ true = grind (arith, nat_tests) in
+    rw same refl
+found_from-at n (c ∷ cs) (suc place) =
+    let other : nat_eq n (n + suc place) ≡ false = grind (arith, nat_tests) in
+    let onward : n + suc place ≡ n + 1 + place = omega arith in
+    rw other (ap (found_from (n + 1) cs) onward ∙ found_from-at (n + 1) cs place)
+
+slice_get-take : (most : ℕ) (cs : List Contract) (place : ℕ) → slice_get (take most cs) place ≡ (if nat_lt place most then slice_get cs place else None)
+slice_get-take zero cs place =
+    let none : nat_lt place 0 ≡ false = grind (arith, nat_tests) in
+    rw none refl
+slice_get-take (suc most) [] place = by_test (nat_lt place (suc most))
+  where
+    by_test : (b : Bool) → None ≡ (if b then slice_get {X = Contract} [] place else None)
+    by_test true = refl
+    by_test false = refl
+slice_get-take (suc most) (c ∷ cs) zero =
+    let low : nat_lt 0 (suc most) ≡ true = grind (arith, nat_tests) in
+    rw low refl
+slice_get-take (suc most) (c ∷ cs) (suc place) = by_test (nat_lt place most) refl (slice_get-take most cs place)
+  where
+    by_test : (b : Bool) → nat_lt place most ≡ b
+        → slice_get (take most cs) place ≡ (if nat_lt place most then slice_get cs place else None)
+        → slice_get (take most cs) place ≡ (if nat_lt (suc place) (suc most) then slice_get cs place else None)
+    by_test true low same =
+        let up : nat_lt (suc place) (suc most) ≡ true = grind (arith, nat_tests) in
+        rw up (rw low at same)
+    by_test false high same =
+        let up : nat_lt (suc place) (suc most) ≡ false = grind (arith, nat_tests) in
+        rw up (rw high at same)
+
+pub contract_at : (t : Table) (flow : ℕ) → contract_of (ground_of t) flow ≡ (if nat_lt flow most_flows then slice_get t.contracts flow else None)
+contract_at t flow =
+    let place : 0 + flow ≡ flow = omega arith in
+    ap (found_from 0 (take most_flows t.contracts)) (sym place)
+    ∙ found_from-at 0 (take most_flows t.contracts) flow
+    ∙ slice_get-take most_flows t.contracts flow
+
+-- behind the meters stand the edges
+pub opening_behind : (g : Ground) (site : ℕ) → length g.domain.meters ≤ site
+    → opening_at g site ≡ option_and_then (edge_opening g.domain) (contract_of g (site - length g.domain.meters))
+opening_behind g site behind =
+    let past : nat_lt site (length g.domain.meters) ≡ false = grind (arith, nat_tests) in
+    rw past refl
+
+-- what is not found stands past the end
+pub none_past : {A : Type 0} (found : Option A) (place long : ℕ) → IsSome found ↔ (place < long) → found ≡ None → long ≤ place
+none_past found place long inside none = by_test (nat_lt place long) refl
+  where
+    by_test : (b : Bool) → nat_lt place long ≡ b → long ≤ place
+    by_test true low =
+        let below : place < long = grind (arith, nat_tests) in
+        absurd (false≢true (sym (ap is_some none) ∙ inside.1 below))
+    by_test false high = grind (arith, nat_tests)
