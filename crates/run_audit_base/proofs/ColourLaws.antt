@@ -33,12 +33,14 @@ use Rattle.ds_certificate.specs.Columns.{Bound, all_column, green_column}
 use Rattle.ds_certificate.specs.Sources.{source_of}
 use Rattle.ds_checker.specs.Acceptance.{Carries, IsAcceptable, IsWithin, Table}
 use Rattle.ds_checker.specs.Loads.{Share, bound_into, counted, load, share_of, shares_at}
+use Rattle.meter_fabric.specs.Grounds.{Ground}
+use Rattle.meter_fabric.specs.Openings.{meter_opening}
 use Rattle.meter_fabric.specs.declared.trail.Receipt.{Receipt}
-use Rattle.run_audit_base.specs.KeptColours.{ColoursKept}
+use Rattle.run_audit_base.specs.KeptColours.{ColoursKept, StandsIn}
 use Rattle.run_audit_base.specs.Premises.{Premises}
-use Rattle.run_audit_base.specs.Runs.{IsRun, Run, meter_opening}
+use Rattle.run_audit_base.specs.Runs.{IsRun, Run}
 use Rattle.run_audit_base.proofs.Inputs.{ComesAsSent, input_keeps}
-use Rattle.run_audit_base.proofs.Journals.{ForEachSent, Stands, each_sent, everywhere, journal_at, meter_at, sent_from}
+use Rattle.run_audit_base.proofs.Journals.{ForEachSent, IsOver, Stands, each_sent, everywhere, journal_at, meter_at, sent_from}
 use Rattle.run_audit_base.proofs.Passages.{comes_and_leaves, comes_no_better, receipts_along}
 use Rattle.run_audit_base.proofs.Places.{found_at}
 use Rattle.run_audit_base.proofs.Sources.{all_sources, green_sources, no_peak_no_yellow, yellow_has_peak, yellow_sources}
@@ -56,19 +58,19 @@ at_journal : (run : Run) (site : ℕ) (m : Meter) (j : Journal) (P : List Row �
     → P (replay (opening_of m.parameters Aware m.origin) j.arrivals) → P (journal_rows j)
 at_journal run site m j P stands holds = subst (λ o. P (replay o j.arrivals)) (sym stands.meter) holds
 
-never_improves : (t : Table) (run : Run) → IsAcceptable t → IsRun t run → Premises t run
-    → ForEachSent t run (λ p c s. All (λ r. IsNoBetter r.row.came r.row.left) s.receipts)
-never_improves t run good is_run premises =
-    everywhere t run good is_run premises (λ r. IsNoBetter r.came r.left)
+never_improves : (g : Ground) (t : Table) (run : Run) → IsOver g t → IsRun g run → Premises g run
+    → ForEachSent g run (λ p c s. All (λ r. IsNoBetter r.row.came r.row.left) s.receipts)
+never_improves g t run good is_run premises =
+    everywhere g t run good is_run premises (λ r. IsNoBetter r.came r.left)
     (λ site entry j there stands.
     at_journal run site entry.1 j (All (λ r. IsNoBetter r.came r.left)) stands
     (replay_never_improves (opening_of entry.1.parameters Aware entry.1.origin) j.arrivals (mode_of-opening entry.1.parameters entry.1.origin)))
 
-comes_worse : (t : Table) (run : Run) → IsAcceptable t → IsRun t run → Premises t run
-    → ForEachSent t run (λ p c s. All (λ r. IsNoBetter s.colour r.row.came) s.receipts)
-comes_worse t run good is_run premises k e h c is s sent =
-    comes_no_better t.domain (get_or run.passages k e).packet 1 s.moment s.colour s.colour c.path s.receipts
-    (each_sent t run good is_run k e h c is s sent).trail (same_colour s.colour) (never_improves t run good is_run premises k e h c is s sent)
+comes_worse : (g : Ground) (t : Table) (run : Run) → IsOver g t → IsRun g run → Premises g run
+    → ForEachSent g run (λ p c s. All (λ r. IsNoBetter s.colour r.row.came) s.receipts)
+comes_worse g t run good is_run premises k e h c is s sent =
+    comes_no_better g.domain (get_or run.passages k e).packet 1 s.moment s.colour s.colour c.path s.receipts
+    (each_sent g t run good is_run k e h c is s sent).trail (same_colour s.colour) (never_improves g t run good is_run premises k e h c is s sent)
   where
     same_colour : (a : Colour) → IsNoBetter a a
     same_colour Green = tt
@@ -91,21 +93,21 @@ in_profile_upward Red Green worse good = absurd worse
 in_profile_upward Red Yellow worse good = absurd worse
 in_profile_upward Red Red worse good = good
 
-comes_green : (t : Table) (run : Run) → IsAcceptable t → IsRun t run → Premises t run → ComesAsSent t run is_green
-comes_green t run good is_run premises k e h c is s sent i d l =
-    green_upward s.colour (get_or s.receipts i d).row.came (comes_worse t run good is_run premises k e h c is s sent i d l)
+comes_green : (g : Ground) (t : Table) (run : Run) → IsOver g t → IsRun g run → Premises g run → ComesAsSent g run is_green
+comes_green g t run good is_run premises k e h c is s sent i d l =
+    green_upward s.colour (get_or s.receipts i d).row.came (comes_worse g t run good is_run premises k e h c is s sent i d l)
 
-comes_in_profile : (t : Table) (run : Run) → IsAcceptable t → IsRun t run → Premises t run → ComesAsSent t run is_in_profile
-comes_in_profile t run good is_run premises k e h c is s sent i d l =
-    in_profile_upward s.colour (get_or s.receipts i d).row.came (comes_worse t run good is_run premises k e h c is s sent i d l)
+comes_in_profile : (g : Ground) (t : Table) (run : Run) → IsOver g t → IsRun g run → Premises g run → ComesAsSent g run is_in_profile
+comes_in_profile g t run good is_run premises k e h c is s sent i d l =
+    in_profile_upward s.colour (get_or s.receipts i d).row.came (comes_worse g t run good is_run premises k e h c is s sent i d l)
 
 -- ---- what a meter has is enough for what comes
 
-carries_at : (t : Table) → IsAcceptable t → (site : ℕ) (entry : List ℕ × Meter) → slice_get t.domain.meters site ≡ Some entry
-    → Carries entry.1 (shares_at t.domain entry.0 t.contracts t.certificate)
-carries_at t good site entry there =
-    subst (λ (e : List ℕ × Meter). Carries e.1 (shares_at t.domain e.0 t.contracts t.certificate)) (get_or_from_slice_get t.domain.meters site entry entry there)
-    (good.1 site entry (slice_get_within t.domain.meters site entry there))
+carries_at : (g : Ground) (t : Table) → IsOver g t → (site : ℕ) (entry : List ℕ × Meter) → slice_get g.domain.meters site ≡ Some entry
+    → Carries entry.1 (shares_at g.domain entry.0 t.contracts t.certificate)
+carries_at g t good site entry there =
+    subst (λ (e : List ℕ × Meter). Carries e.1 (shares_at g.domain e.0 t.contracts t.certificate)) (get_or_from_slice_get g.domain.meters site entry entry there)
+    (good.acceptable.1 site entry (slice_get_within g.domain.meters site entry there))
 
 within : (limit brought : Curve) (items : List (ℕ × ℕ)) → IsWithin limit brought → KeepsCurve brought items → KeepsCurve limit items
 within limit brought items enough kept = Keeps-looser brought.rate brought.burst limit.rate limit.burst items enough.0 enough.1 kept
@@ -115,17 +117,17 @@ count_all [] = refl
 count_all (share ∷ shares) = ap (λ rest. share ∷ rest) (count_all shares)
 
 -- what came keeps the load of all shares
-all_keep : (t : Table) (run : Run) → IsAcceptable t → IsRun t run → Premises t run
-    → (site : ℕ) (entry : List ℕ × Meter) (j : Journal) → slice_get t.domain.meters site ≡ Some entry → Stands run site (meter_opening entry.1) j
-    → KeepsCurve (load green_column entry.1.skew (shares_at t.domain entry.0 t.contracts t.certificate)) (row_input is_green (journal_rows j))
-    × KeepsCurve (load all_column entry.1.skew (shares_at t.domain entry.0 t.contracts t.certificate)) (row_input is_in_profile (journal_rows j))
-all_keep t run good is_run premises site entry j there stands =
-    let shares = shares_at t.domain entry.0 t.contracts t.certificate in
-    let green = input_keeps t run good is_run premises green_column is_green (λ b. true) (λ d c bounds meets. meets.0)
-    (green_sources t run is_run premises) (comes_green t run good is_run premises) (λ c p uncounted. absurd (false≢true (sym uncounted))) site entry j there stands
+all_keep : (g : Ground) (t : Table) (run : Run) → IsOver g t → IsRun g run → Premises g run
+    → (site : ℕ) (entry : List ℕ × Meter) (j : Journal) → slice_get g.domain.meters site ≡ Some entry → Stands run site (meter_opening entry.1) j
+    → KeepsCurve (load green_column entry.1.skew (shares_at g.domain entry.0 t.contracts t.certificate)) (row_input is_green (journal_rows j))
+    × KeepsCurve (load all_column entry.1.skew (shares_at g.domain entry.0 t.contracts t.certificate)) (row_input is_in_profile (journal_rows j))
+all_keep g t run good is_run premises site entry j there stands =
+    let shares = shares_at g.domain entry.0 t.contracts t.certificate in
+    let green = input_keeps g t run good is_run premises green_column is_green (λ b. true) (λ d c bounds meets. meets.0)
+    (green_sources g t run good is_run premises) (comes_green g t run good is_run premises) (λ c p uncounted. absurd (false≢true (sym uncounted))) site entry j there stands
     in
-    let all = input_keeps t run good is_run premises all_column is_in_profile (λ b. true) (λ d c bounds meets. meets.1)
-    (all_sources t run is_run premises) (comes_in_profile t run good is_run premises) (λ c p uncounted. absurd (false≢true (sym uncounted))) site entry j there stands
+    let all = input_keeps g t run good is_run premises all_column is_in_profile (λ b. true) (λ d c bounds meets. meets.1)
+    (all_sources g t run good is_run premises) (comes_in_profile g t run good is_run premises) (λ c p uncounted. absurd (false≢true (sym uncounted))) site entry j there stands
     in (
       subst (λ xs. KeepsCurve (load green_column entry.1.skew xs) (row_input is_green (journal_rows j))) (count_all shares) green,
       subst (λ xs. KeepsCurve (load all_column entry.1.skew xs) (row_input is_in_profile (journal_rows j))) (count_all shares) all,
@@ -141,15 +143,15 @@ peak_is_kept (SrTcm p) skew shares rows enough kept = tt
 peak_is_kept (TrTcm p) skew shares rows enough kept = within (all_limit (TrTcm p)) (load all_column skew shares) (row_input is_in_profile rows) enough kept
 peak_is_kept (Rfc4115 p) skew shares rows enough kept = tt
 
-green_stays : (t : Table) (run : Run) → IsAcceptable t → IsRun t run → Premises t run
-    → (site : ℕ) (entry : List ℕ × Meter) (j : Journal) → slice_get t.domain.meters site ≡ Some entry → Stands run site (meter_opening entry.1) j
+green_stays : (g : Ground) (t : Table) (run : Run) → IsOver g t → IsRun g run → Premises g run
+    → (site : ℕ) (entry : List ℕ × Meter) (j : Journal) → slice_get g.domain.meters site ≡ Some entry → Stands run site (meter_opening entry.1) j
     → Stays Green (replay (opening_of entry.1.parameters Aware entry.1.origin) j.arrivals)
-green_stays t run good is_run premises site entry j there stands =
+green_stays g t run good is_run premises site entry j there stands =
     let p = entry.1.parameters in
     let opened = opening_of p Aware entry.1.origin in
-    let shares = shares_at t.domain entry.0 t.contracts t.certificate in
-    let enough = carries_at t good site entry there in
-    let kept = all_keep t run good is_run premises site entry j there stands in
+    let shares = shares_at g.domain entry.0 t.contracts t.certificate in
+    let enough = carries_at g t good site entry there in
+    let kept = all_keep g t run good is_run premises site entry j there stands in
     let green : KeepsCurve (green_limit p) (row_input is_green (replay opened j.arrivals)) =
     within (green_limit p) (load green_column entry.1.skew shares) (row_input is_green (replay opened j.arrivals)) enough.0
     (subst (λ o. KeepsCurve (load green_column entry.1.skew shares) (row_input is_green (replay o j.arrivals))) stands.meter kept.0)
@@ -158,16 +160,16 @@ green_stays t run good is_run premises site entry j there stands =
     (peak_is_kept p entry.1.skew shares (replay opened j.arrivals) enough.1
     (subst (λ o. KeepsCurve (load all_column entry.1.skew shares) (row_input is_in_profile (replay o j.arrivals))) stands.meter kept.1))
 
-green_kept : (t : Table) (run : Run) → IsAcceptable t → IsRun t run → Premises t run
-    → ForEachSent t run (λ p c s. s.colour ≡ Green → All (λ r. (r.row.came ≡ Green) × (r.row.left ≡ Green)) s.receipts)
-green_kept t run good is_run premises k e h c is s sent green =
+green_kept : (g : Ground) (t : Table) (run : Run) → IsOver g t → IsRun g run → Premises g run
+    → ForEachSent g run (λ p c s. s.colour ≡ Green → All (λ r. (r.row.came ≡ Green) × (r.row.left ≡ Green)) s.receipts)
+green_kept g t run good is_run premises k e h c is s sent green =
     let p = get_or run.passages k e in
-    let stays = everywhere t run good is_run premises (λ r. r.came ≡ Green → r.left ≡ Green)
-    (λ site entry j there stands. at_journal run site entry.1 j (Stays Green) stands (green_stays t run good is_run premises site entry j there stands))
+    let stays = everywhere g t run good is_run premises (λ r. r.came ≡ Green → r.left ≡ Green)
+    (λ site entry j there stands. at_journal run site entry.1 j (Stays Green) stands (green_stays g t run good is_run premises site entry j there stands))
     k e h c is s sent
     in
-    comes_and_leaves t.domain p.packet 1 s.moment Green c.path s.receipts
-    (rw (← green) (each_sent t run good is_run k e h c is s sent).trail) stays
+    comes_and_leaves g.domain p.packet 1 s.moment Green c.path s.receipts
+    (rw (← green) (each_sent g t run good is_run k e h c is s sent).trail) stays
 
 -- ---- yellow stays yellow
 
@@ -178,10 +180,10 @@ came_yellow Red Green worse green yellow = absurd worse
 came_yellow Red Yellow worse green yellow = absurd worse
 came_yellow Red Red worse green yellow = yellow
 
-comes_yellow : (t : Table) (run : Run) → IsAcceptable t → IsRun t run → Premises t run → ComesAsSent t run is_yellow
-comes_yellow t run good is_run premises k e h c is s sent i d l =
-    came_yellow s.colour (get_or s.receipts i d).row.came (comes_worse t run good is_run premises k e h c is s sent i d l)
-    (λ green. (green_kept t run good is_run premises k e h c is s sent green i d l).0)
+comes_yellow : (g : Ground) (t : Table) (run : Run) → IsOver g t → IsRun g run → Premises g run → ComesAsSent g run is_yellow
+comes_yellow g t run good is_run premises k e h c is s sent i d l =
+    came_yellow s.colour (get_or s.receipts i d).row.came (comes_worse g t run good is_run premises k e h c is s sent i d l)
+    (λ green. (green_kept g t run good is_run premises k e h c is s sent green i d l).0)
 
 -- with a single rate all shares count, as soon as one of them has a peak
 all_input : (p : Parameters) (skew : ℕ) (shares : List Share) (rows : List Row)
@@ -197,21 +199,21 @@ all_input (TrTcm p) skew shares rows enough peak kept yellow = within (all_limit
 all_input (Rfc4115 p) skew shares rows enough peak kept yellow =
     within (all_limit (Rfc4115 p)) (load all_column skew (filter (λ share. share.has_peak) shares)) (row_input is_yellow rows) enough yellow
 
-yellow_stays : (t : Table) (run : Run) → IsAcceptable t → IsRun t run → Premises t run
-    → (site : ℕ) (entry : List ℕ × Meter) (j : Journal) → slice_get t.domain.meters site ≡ Some entry → Stands run site (meter_opening entry.1) j
-    → list_any (λ share. share.has_peak) (shares_at t.domain entry.0 t.contracts t.certificate) ≡ true
+yellow_stays : (g : Ground) (t : Table) (run : Run) → IsOver g t → IsRun g run → Premises g run
+    → (site : ℕ) (entry : List ℕ × Meter) (j : Journal) → slice_get g.domain.meters site ≡ Some entry → Stands run site (meter_opening entry.1) j
+    → list_any (λ share. share.has_peak) (shares_at g.domain entry.0 t.contracts t.certificate) ≡ true
     → Stays Yellow (replay (opening_of entry.1.parameters Aware entry.1.origin) j.arrivals)
-yellow_stays t run good is_run premises site entry j there stands peak =
+yellow_stays g t run good is_run premises site entry j there stands peak =
     let p = entry.1.parameters in
     let opened = opening_of p Aware entry.1.origin in
-    let shares = shares_at t.domain entry.0 t.contracts t.certificate in
-    let all = (all_keep t run good is_run premises site entry j there stands).1 in
-    let yellow = input_keeps t run good is_run premises all_column is_yellow (λ b. b) (λ d c bounds meets. meets.1)
-    (yellow_sources t run is_run premises) (comes_yellow t run good is_run premises) no_peak_no_yellow site entry j there stands
+    let shares = shares_at g.domain entry.0 t.contracts t.certificate in
+    let all = (all_keep g t run good is_run premises site entry j there stands).1 in
+    let yellow = input_keeps g t run good is_run premises all_column is_yellow (λ b. b) (λ d c bounds meets. meets.1)
+    (yellow_sources g t run good is_run premises) (comes_yellow g t run good is_run premises) no_peak_no_yellow site entry j there stands
     in
-    yellow_stays_yellow-any p entry.1.origin j.arrivals (green_stays t run good is_run premises site entry j there stands)
+    yellow_stays_yellow-any p entry.1.origin j.arrivals (green_stays g t run good is_run premises site entry j there stands)
     (subst (λ o. KeepsCurve (all_limit p) (row_input (held_against_all p) (replay o j.arrivals))) stands.meter
-    (all_input p entry.1.skew shares (journal_rows j) (carries_at t good site entry there).1 peak all yellow))
+    (all_input p entry.1.skew shares (journal_rows j) (carries_at g t good site entry there).1 peak all yellow))
 
 -- ---- the meters that a packet passes count its contract
 
@@ -267,34 +269,34 @@ peak_there d name (x ∷ contracts) (bounds ∷ rows) (suc k) c good found peak 
     list_any-right (λ share. share.has_peak) (share_of d name x bounds) (shares_at d name contracts rows) (peak_there d name contracts rows k c good.1 found peak passes)
 
 -- the meter of a receipt, which the path of its contract leads through
-abbrev IsPassed : Table → Contract → Receipt → Type 0
-IsPassed t c r = (entry : List ℕ × Meter) × (slice_get t.domain.meters r.site ≡ Some entry) × (list_any (bytes_eq entry.0) c.path ≡ true)
+abbrev IsPassed : Ground → Contract → Receipt → Type 0
+IsPassed g c r = (entry : List ℕ × Meter) × (slice_get g.domain.meters r.site ≡ Some entry) × (list_any (bytes_eq entry.0) c.path ≡ true)
 
-passed : (t : Table) (run : Run) → IsAcceptable t → IsRun t run → ForEachSent t run (λ p c s. All (IsPassed t c) s.receipts)
-passed t run good is_run k e h c is s sent =
+passed : (g : Ground) (t : Table) (run : Run) → IsOver g t → IsRun g run → ForEachSent g run (λ p c s. All (IsPassed g c) s.receipts)
+passed g t run good is_run k e h c is s sent =
     let p = get_or run.passages k e in
-    let known = each_sent t run good is_run k e h c is s sent in
-    receipts_along t.domain p.packet 1 s.moment s.colour c.path s.receipts (IsPassed t c)
+    let known = each_sent g t run good is_run k e h c is s sent in
+    receipts_along g.domain p.packet 1 s.moment s.colour c.path s.receipts (IsPassed g c)
     (λ n x m r site size.
     let to = get_or c.path n x in
-    let (entry, there, named) = found_at t.domain to (known.known n x m) in
+    let (entry, there, named) = found_at g.domain to (known.known n x m) in
     (entry, rw site there, list_any-at (bytes_eq entry.0) c.path n x m ((bytes_eq-Decides entry.0 to).1 (sym ((bytes_eq-Decides to entry.0).0 named)))))
     known.trail
 
-yellow_kept : (t : Table) (run : Run) → IsAcceptable t → IsRun t run → Premises t run
-    → ForEachSent t run (λ p c s. s.colour ≡ Yellow → All (λ r. (r.row.came ≡ Yellow) × (r.row.left ≡ Yellow)) s.receipts)
-yellow_kept t run good is_run premises k e h c is s sent yellow =
+yellow_kept : (g : Ground) (t : Table) (run : Run) → IsOver g t → IsRun g run → Premises g run
+    → ForEachSent g run (λ p c s. s.colour ≡ Yellow → All (λ r. (r.row.came ≡ Yellow) × (r.row.left ≡ Yellow)) s.receipts)
+yellow_kept g t run good is_run premises k e h c is s sent yellow =
     let p = get_or run.passages k e in
-    let known = each_sent t run good is_run k e h c is s sent in
+    let known = each_sent g t run good is_run k e h c is s sent in
     let stays : All (λ r. r.row.came ≡ Yellow → r.row.left ≡ Yellow) s.receipts = λ i d l.
     let r = get_or s.receipts i d in
-    let (entry, at_site, passes) = passed t run good is_run k e h c is s sent i d l in
-    let (j, stands) = journal_at t run is_run premises r.site (meter_opening entry.1) (meter_at t r.site entry at_site) in
-    let peak = peak_there t.domain entry.0 t.contracts t.certificate p.packet.flow c good.0 known.place (yellow_has_peak c p s sent (ap is_yellow yellow)) passes in
-    let rows = at_journal run r.site entry.1 j (Stays Yellow) stands (yellow_stays t run good is_run premises r.site entry j at_site stands peak) in
+    let (entry, at_site, passes) = passed g t run good is_run k e h c is s sent i d l in
+    let (j, stands) = journal_at g run is_run premises r.site (meter_opening entry.1) (meter_at g r.site entry at_site) in
+    let peak = peak_there g.domain entry.0 t.contracts t.certificate p.packet.flow c good.acceptable.0 known.place (yellow_has_peak c p s sent (ap is_yellow yellow)) passes in
+    let rows = at_journal run r.site entry.1 j (Stays Yellow) stands (yellow_stays g t run good is_run premises r.site entry j at_site stands peak) in
     sent_from run r.site (meter_opening entry.1) j (λ x. x.came ≡ Yellow → x.left ≡ Yellow) stands rows k e h c s sent i d l (grind (arith, nat_tests))
     in
-    comes_and_leaves t.domain p.packet 1 s.moment Yellow c.path s.receipts (rw (← yellow) known.trail) stays
+    comes_and_leaves g.domain p.packet 1 s.moment Yellow c.path s.receipts (rw (← yellow) known.trail) stays
 
 -- ---- each colour
 
@@ -305,13 +307,19 @@ red_stays Red Green worse never = absurd never
 red_stays Red Yellow worse never = absurd never
 red_stays Red Red worse never = refl
 
-pub colours_kept : (t : Table) (run : Run) → IsAcceptable t → IsRun t run → Premises t run → ColoursKept t run
-colours_kept t run good is_run premises k e h c is s sent = by_colour s.colour refl
+over_keeps : (g : Ground) (t : Table) (run : Run) → IsOver g t → IsRun g run → Premises g run → ColoursKept g run
+over_keeps g t run good is_run premises k e h c is s sent = by_colour s.colour refl
   where
     by_colour : (colour : Colour) → s.colour ≡ colour → All (λ r. r.row.left ≡ s.colour) s.receipts
-    by_colour Green green i d l = (green_kept t run good is_run premises k e h c is s sent green i d l).1 ∙ sym green
-    by_colour Yellow yellow i d l = (yellow_kept t run good is_run premises k e h c is s sent yellow i d l).1 ∙ sym yellow
+    by_colour Green green i d l = (green_kept g t run good is_run premises k e h c is s sent green i d l).1 ∙ sym green
+    by_colour Yellow yellow i d l = (yellow_kept g t run good is_run premises k e h c is s sent yellow i d l).1 ∙ sym yellow
     by_colour Red red i d l =
         let r = get_or s.receipts i d in
-        let worse : IsNoBetter Red r.row.came = rw (← red) (comes_worse t run good is_run premises k e h c is s sent i d l) in
-        red_stays r.row.came r.row.left worse (never_improves t run good is_run premises k e h c is s sent i d l) ∙ sym red
+        let worse : IsNoBetter Red r.row.came = rw (← red) (comes_worse g t run good is_run premises k e h c is s sent i d l) in
+        red_stays r.row.came r.row.left worse (never_improves g t run good is_run premises k e h c is s sent i d l) ∙ sym red
+
+pub colours_kept : (t : Table) (g : Ground) (run : Run) → IsAcceptable t → StandsIn t g → IsRun g run → Premises g run → ColoursKept g run
+colours_kept t g run good stands is_run premises =
+    over_keeps g t run
+    (record { acceptable = subst (λ (d : Domain). IsAcceptable (record t { domain = d })) stands.domain good; contracts = stands.contracts })
+    is_run premises

@@ -1,6 +1,6 @@
 -- The small run meets all that is asked of a run.
 use Rattle.std.proofs.Common.{◌≡◌, ℕ, ◌-◌, ◌≤◌, zero, suc, Bool, true, false, [], ◌∷◌, refl, sym, ◌∙◌, ap, subst, arith, Some, None, inl, inr}
-use Rattle.std.specs.Prelude.{slice_get, nat_lt, is_some, option_and_then, IsPermutation, IsSome, if◌then◌else◌}
+use Rattle.std.specs.Prelude.{nat_eq, nat_lt, is_some, option_and_then, IsPermutation, IsSome}
 use Rattle.std.specs.List.{All, AllPairs, Contains}
 use Rattle.std.proofs.lemmas.List.Elements.{All-cons, All-nil}
 use Rattle.std.proofs.lemmas.List.Sorted.{IsPermutation-refl}
@@ -20,11 +20,13 @@ use Rattle.ds_certificate.specs.Sources.{jitters_along, source_of}
 use Rattle.ds_checker.specs.Acceptance.{Carries}
 use Rattle.ds_checker.specs.Loads.{bound_into, shares_at}
 use Rattle.af_marker.specs.CodePoints.{colour_at}
-use Rattle.meter_fabric.specs.Sites.{contract_of, hops_along}
+use Rattle.meter_fabric.specs.Grounds.{contract_of, ground_of}
+use Rattle.meter_fabric.specs.Openings.{edge_opening, opening_at}
+use Rattle.meter_fabric.specs.Sites.{hops_along}
 use Rattle.meter_fabric.specs.Trails.{IsTrail}
 use Rattle.run_audit_base.specs.Examples.{SmallRunIsKept, meter_name, port_name, small_arrival, small_bound, small_contract, small_domain, small_journal, small_meter, small_parameters, small_passage, small_run, small_table}
 use Rattle.run_audit_base.specs.Premises.{IsInTime, IsTimely, KeepsSource, Premises}
-use Rattle.run_audit_base.specs.Runs.{IsPassage, IsRun, edge_opening, opening_at, told}
+use Rattle.run_audit_base.specs.Runs.{IsPassage, IsRun, told}
 use Rattle.run_audit_base.specs.Sendings.{ForSent, Sending, sending_of}
 
 -- what holds of the only thing of a list
@@ -53,33 +55,37 @@ small_carries =
     (meter_name, record { parameters = small_parameters; skew = 0; origin = 0 })
     ((omega arith, omega arith), (omega arith, omega arith))
 
-small_trail : IsPassage small_table small_passage
+small_trail : IsPassage (ground_of small_table) small_passage
 unfolding hops_along IsTrail came colour_at
 small_trail = (small_contract, refl, (record { site = refl; arrival = refl; in_time = omega arith }, tt))
 
--- there is no edge, and no site but the meter's
-no_edge : (low : Bool) (place : ℕ) → option_and_then (edge_opening small_domain) (if low then slice_get (small_contract ∷ []) place else None) ≡ None
-no_edge false place = refl
-no_edge true zero = refl
-no_edge true (suc place) = refl
+-- there is no other contract, no edge, and no site but the meter's
+nobody : (flow : ℕ) → contract_of (ground_of small_table) (suc flow) ≡ None
+nobody flow =
+    let other : nat_eq 0 (suc flow) ≡ false = grind (arith, nat_tests) in
+    rw other refl
 
-no_site : (site : ℕ) → opening_at small_table (suc site) ≡ None
+no_edge : (flow : ℕ) → option_and_then (edge_opening small_domain) (contract_of (ground_of small_table) flow) ≡ None
+no_edge zero = refl
+no_edge (suc flow) = ap (option_and_then (edge_opening small_domain)) (nobody flow)
+
+no_site : (site : ℕ) → opening_at (ground_of small_table) (suc site) ≡ None
 no_site site =
     let behind : nat_lt (suc site) 1 ≡ false = grind (arith, nat_tests) in
-    rw behind (no_edge (nat_lt (suc site - 1) 4294966272) (suc site - 1))
+    rw behind (no_edge (suc site - 1))
 
-small_sites : (site : ℕ) → IsSome (opening_at small_table site) → Contains (0 ∷ []) site
+small_sites : (site : ℕ) → IsSome (opening_at (ground_of small_table) site) → Contains (0 ∷ []) site
 small_sites zero there = (0, omega arith, refl)
 small_sites (suc site) there = absurd (false≢true (sym (ap is_some (no_site site)) ∙ there))
 
-small_is_run : IsRun small_table small_run
+small_is_run : IsRun (ground_of small_table) small_run
 small_is_run = record {
   journals = record {
-    own = only (λ j. opening_at small_table j.site ≡ Some (record { meter = j.opening; skew = j.skew })) small_journal refl;
+    own = only (λ j. opening_at (ground_of small_table) j.site ≡ Some (record { meter = j.opening; skew = j.skew })) small_journal refl;
     once = only_pairs (λ j k. ¬ (j.site ≡ k.site)) small_journal;
     each = small_sites;
   };
-  passages = only (IsPassage small_table) small_passage small_trail;
+  passages = only (IsPassage (ground_of small_table)) small_passage small_trail;
   numbers = only_pairs (λ p q. ¬ (p.packet.number ≡ q.packet.number)) small_passage;
   rows = only (λ j. IsPermutation (told j.site small_run.passages) (journal_rows j)) small_journal (IsPermutation-refl (journal_rows small_journal));
 }
@@ -87,28 +93,24 @@ small_is_run = record {
 -- what holds of the packet as it was sent
 small_sent : (P : Contract → Sending → Type 0)
     → P small_contract (record { moment = 0; colour = came small_contract 10; receipts = small_passage.receipts })
-    → ForSent small_table small_run P
+    → ForSent (ground_of small_table) small_run P
 small_sent P holds =
-    only (λ p. ForSome (contract_of small_table p.packet.flow) (λ c. ForSome (sending_of c p) (P c))) small_passage
+    only (λ p. ForSome (contract_of (ground_of small_table) p.packet.flow) (λ c. ForSome (sending_of c p) (P c))) small_passage
     (λ c is s sent.
     let contract : small_contract ≡ c = same_Some small_contract c is in
     subst (λ (x : Contract). sending_of x small_passage ≡ Some s → P x s) contract
     (λ own. subst (P small_contract) (same_Some (record { moment = 0; colour = came small_contract 10; receipts = small_passage.receipts }) s own) holds)
     sent)
 
-small_keeps : KeepsSource small_table small_run 0 small_contract
+small_keeps : KeepsSource (ground_of small_table) small_run 0 small_contract
 unfolding source_of came colour_at
 small_keeps = (Keeps-one 8000 1500 0 100 (omega arith), Keeps-one 8000 1500 0 100 (omega arith))
 
-small_source : (flow : ℕ) (c : Contract) → contract_of small_table flow ≡ Some c → KeepsSource small_table small_run flow c
+small_source : (flow : ℕ) (c : Contract) → contract_of (ground_of small_table) flow ≡ Some c → KeepsSource (ground_of small_table) small_run flow c
 small_source zero c is =
     let contract : small_contract ≡ c = same_Some small_contract c is in
-    subst (KeepsSource small_table small_run 0) contract small_keeps
-small_source (suc flow) c is = absurd (nobody (nat_lt (suc flow) 4294966272) is)
-  where
-    nobody : (low : Bool) → (if low then slice_get (small_contract ∷ []) (suc flow) else None) ≡ Some c → ⊥
-    nobody true found = none-some c found
-    nobody false found = none-some c found
+    subst (KeepsSource (ground_of small_table) small_run 0) contract small_keeps
+small_source (suc flow) c is = absurd (none-some c (sym (nobody flow) ∙ is))
 
 small_way : IsTimely small_domain port_name small_contract.path 0 small_passage.receipts
 unfolding IsTimely
@@ -118,7 +120,7 @@ small_late : All (λ r. r.late ≤ 0) (journal_rows small_journal)
 unfolding used opening
 small_late = only (λ r. r.late ≤ 0) (row_of small_meter 0 small_arrival) (omega arith)
 
-small_premises : Premises small_table small_run
+small_premises : Premises (ground_of small_table) small_run
 small_premises = record {
   time = small_sent IsInTime (omega arith, λ until is. absurd (none-some until is));
   source = λ flow c is trusted. small_source flow c is;

@@ -22,15 +22,17 @@ use Rattle.ds_domain_base.specs.declared.terms.Terms.TheVariants.{Trusted, Polic
 use Rattle.ds_certificate.specs.Bounds.{HasShape, Meets, MeetsIn}
 use Rattle.ds_certificate.specs.Columns.{Bound, Column}
 use Rattle.ds_certificate.specs.Sources.{jitters_of, source_of}
-use Rattle.ds_checker.specs.Acceptance.{IsAcceptable, Table}
+use Rattle.ds_checker.specs.Acceptance.{Table}
 use Rattle.ds_checker.specs.Loads.{Share, bound_into, load, share_of, shares_at}
-use Rattle.meter_fabric.specs.Sites.{contract_of, edge_hops, hops_along, hops_of}
+use Rattle.meter_fabric.specs.Grounds.{Ground, contract_of}
+use Rattle.meter_fabric.specs.Openings.{meter_opening}
+use Rattle.meter_fabric.specs.Sites.{edge_hops, hops_along, hops_of}
 use Rattle.meter_fabric.specs.Trails.{IsTrail, Packet}
 use Rattle.meter_fabric.specs.declared.trail.Receipt.{Receipt}
 use Rattle.run_audit_base.specs.Premises.{Premises}
-use Rattle.run_audit_base.specs.Runs.{IsRun, Passage, Run, meter_opening, told, told_by}
+use Rattle.run_audit_base.specs.Runs.{IsRun, Passage, Run, told, told_by}
 use Rattle.run_audit_base.specs.Sendings.{Sending, passages_of, sending_by, sending_of}
-use Rattle.run_audit_base.proofs.Journals.{ForEachSent, Stands, contract_place, each_sent, sent_from}
+use Rattle.run_audit_base.proofs.Journals.{ForEachSent, IsOver, Stands, each_sent, sent_from}
 use Rattle.run_audit_base.proofs.Loads.{IsPartOf, KeepsLoad-contracts, gather, part_of}
 use Rattle.run_audit_base.proofs.Passages.{goes_along, item_of, moment_of, receipts_along, receipts_of, weight_of}
 use Rattle.run_audit_base.proofs.Places.{apart_names, contract_keeps, fits_names, meters_known}
@@ -38,15 +40,15 @@ use Rattle.run_audit_base.proofs.Ways.{Goes, Keeps-weightless, crossing}
 
 -- ---- the packets of a contract
 
-pub passages_of-contract : (t : Table) (run : Run) → IsRun t run → (flow : ℕ) (c : Contract) → slice_get t.contracts flow ≡ Some c
-    → All (λ p. contract_of t p.packet.flow ≡ Some c) (passages_of flow run)
-passages_of-contract t run is_run flow c there k e h =
+pub passages_of-contract : (g : Ground) (t : Table) (run : Run) → IsOver g t → IsRun g run → (flow : ℕ) (c : Contract) → slice_get t.contracts flow ≡ Some c
+    → All (λ p. contract_of g p.packet.flow ≡ Some c) (passages_of flow run)
+passages_of-contract g t run good is_run flow c there k e h =
     let is_flow = λ (p : Passage). nat_eq p.packet.flow flow in
     let p = get_or (passages_of flow run) k e in
-    let (own, is_own, trail) = All-filter is_flow (λ q. (x : Contract) × (contract_of t q.packet.flow ≡ Some x) × IsTrail q.packet q.packet.begun (came x q.packet.dscp) (hops_of t.domain q.packet.flow x) q.receipts) run.passages is_run.passages k e h in
+    let (own, is_own, trail) = All-filter is_flow (λ q. (x : Contract) × (contract_of g q.packet.flow ≡ Some x) × IsTrail q.packet q.packet.begun (came x q.packet.dscp) (hops_of g.domain q.packet.flow x) q.receipts) run.passages is_run.passages k e h in
     let passes : nat_eq p.packet.flow flow ≡ true = filter_passes is_flow run.passages k e h in
     let same_flow : p.packet.flow ≡ flow = grind (arith, nat_tests) in
-    let place = contract_place (nat_lt p.packet.flow 4294966272) (slice_get t.contracts p.packet.flow) own is_own in
+    let place = good.contracts p.packet.flow own is_own in
     let same : own ≡ c = same_Some own c (sym place ∙ ap (slice_get t.contracts) same_flow ∙ there) in
     is_own ∙ ap (λ x. Some x) same
 
@@ -59,15 +61,15 @@ unfolding Goes
 sent_goes d site skew c None goes = tt
 sent_goes d site skew c (Some s) goes = goes s refl
 
-pub passages_go : (t : Table) (run : Run) → IsAcceptable t → IsRun t run → Premises t run
+pub passages_go : (g : Ground) (t : Table) (run : Run) → IsOver g t → IsRun g run → Premises g run
     → (site : ℕ) (entry : List ℕ × Meter) (j : Journal) → Stands run site (meter_opening entry.1) j
-    → All (λ p. (c : Contract) → contract_of t p.packet.flow ≡ Some c → Goes t.domain site entry.1.skew c.port c.path (moment_of (sending_of c p)) (receipts_of (sending_of c p))) run.passages
-passages_go t run good is_run premises site entry j stands k e h c is =
+    → All (λ p. (c : Contract) → contract_of g p.packet.flow ≡ Some c → Goes g.domain site entry.1.skew c.port c.path (moment_of (sending_of c p)) (receipts_of (sending_of c p))) run.passages
+passages_go g t run good is_run premises site entry j stands k e h c is =
     let p = get_or run.passages k e in
-    sent_goes t.domain site entry.1.skew c (sending_of c p)
+    sent_goes g.domain site entry.1.skew c (sending_of c p)
     (λ s sent.
-    goes_along t.domain site entry.1.skew p.packet 1 s.moment s.colour c.port c.path s.receipts
-    (each_sent t run good is_run k e h c is s sent).trail
+    goes_along g.domain site entry.1.skew p.packet 1 s.moment s.colour c.port c.path s.receipts
+    (each_sent g t run good is_run k e h c is s sent).trail
     (premises.link k e h c is s sent)
     (λ i d l at_site. sent_from run site (meter_opening entry.1) j (λ r. (r.arrival ≤ r.used) × (r.used ≤ r.arrival + entry.1.skew)) stands stands.used k e h c s sent i d l (grind (arith, nat_tests))))
 
@@ -128,14 +130,14 @@ sent_within picked site start end size (Some s) each = rows_within picked site s
 -- ---- all contracts together
 
 -- what was sent with a colour that a test picks keeps an envelope of its source
-abbrev pub SourcesKeep : Table → Run → Column → (Colour → Bool) → Type 0
-SourcesKeep t run column picked =
+abbrev pub SourcesKeep : Ground → Table → Run → Column → (Colour → Bool) → Type 0
+SourcesKeep g t run column picked =
     (flow : ℕ) (c : Contract) → slice_get t.contracts flow ≡ Some c
-    → Keeps (column.envelope (source_of t.domain c)).rate (column.envelope (source_of t.domain c)).burst (map (item_of picked c) (passages_of flow run))
+    → Keeps (column.envelope (source_of g.domain c)).rate (column.envelope (source_of g.domain c)).burst (map (item_of picked c) (passages_of flow run))
 
 -- what comes in with a colour that a test picks was sent with such a colour
-abbrev pub ComesAsSent : Table → Run → (Colour → Bool) → Type 0
-ComesAsSent t run picked = ForEachSent t run (λ p c s. All (λ r. picked r.row.came ≡ true → picked s.colour ≡ true) s.receipts)
+abbrev pub ComesAsSent : Ground → Run → (Colour → Bool) → Type 0
+ComesAsSent g run picked = ForEachSent g run (λ p c s. All (λ r. picked r.row.came ≡ true → picked s.colour ≡ true) s.receipts)
 
 abbrev pub row_items : (Colour → Bool) → List Row → List (ℕ × ℕ)
 row_items picked rows = map (λ r. (r.used, r.size)) (filter (λ r. picked r.came) rows)
@@ -148,20 +150,20 @@ abbrev part_at : (Colour → Bool) → ℕ → Contract → Passage → List (�
 part_at picked site c p = crossing site (weight_of picked p.packet.size (sending_of c p)) (receipts_of (sending_of c p))
 
 -- a passage brings no more to a meter than it does as one of its contract
-passage_part : (t : Table) (run : Run) → IsAcceptable t → IsRun t run → (picked : Colour → Bool) → ComesAsSent t run picked
-    → (site start end : ℕ) → site < length t.domain.meters
+passage_part : (g : Ground) (t : Table) (run : Run) → IsOver g t → IsRun g run → (picked : Colour → Bool) → ComesAsSent g run picked
+    → (site start end : ℕ) → site < length g.domain.meters
     → All (λ p. 0 < sum_by (row_weight picked start end) (told_by site p)
     → IsPartOf (λ q. q.packet.flow) (part_at picked site) start end 0 t.contracts p (sum_by (row_weight picked start end) (told_by site p))) run.passages
-passage_part t run good is_run picked comes site start end low k e h some =
+passage_part g t run good is_run picked comes site start end low k e h some =
     let p = get_or run.passages k e in
     let (c, is, trail) = is_run.passages k e h in
-    let place = contract_place (nat_lt p.packet.flow 4294966272) (slice_get t.contracts p.packet.flow) c is in
+    let place = good.contracts p.packet.flow c is in
     let origin : p.packet.flow - 0 ≡ p.packet.flow = omega arith in
-    let same = receipts_sent t.domain p.packet.flow site p.packet p.packet.begun (came c p.packet.dscp) c.terms c.path p.receipts low trail in
+    let same = receipts_sent g.domain p.packet.flow site p.packet p.packet.begun (came c p.packet.dscp) c.terms c.path p.receipts low trail in
     let less = sent_within picked site start end p.packet.size (sending_of c p)
     (λ s sent i d l. (
       comes k e h c is s sent i d l,
-      receipts_along t.domain p.packet 1 s.moment s.colour c.path s.receipts (λ r. r.row.size ≡ p.packet.size) (λ n x m r site size. size) (each_sent t run good is_run k e h c is s sent).trail i d l,
+      receipts_along g.domain p.packet 1 s.moment s.colour c.path s.receipts (λ r. r.row.size ≡ p.packet.size) (λ n x m r site size. size) (each_sent g t run good is_run k e h c is s sent).trail i d l,
     )) in
     (c, omega arith, rw origin place, rw same less)
 
@@ -186,57 +188,57 @@ crossing-weightless site start end rs =
     sum_by-map (size_within start end) (used_item 0) (filter here rs)
     ∙ sum_by-none (λ r. size_within start end (used_item 0 r)) (filter here rs) (λ k e h. size_within-none start end (get_or (filter here rs) k e).row.used)
 
-contract_part : (t : Table) (run : Run) → IsAcceptable t → IsRun t run → Premises t run
+contract_part : (g : Ground) (t : Table) (run : Run) → IsOver g t → IsRun g run → Premises g run
     → (column : Column) (picked : Colour → Bool) (among : Bool → Bool)
     → ((d : Domain) (c : Contract) (bounds : List Bound) → Meets d c bounds → MeetsIn column (source_of d c) (jitters_of d c) bounds)
-    → SourcesKeep t run column picked
+    → SourcesKeep g t run column picked
     → ((c : Contract) (p : Passage) → among (has_peak c.terms) ≡ false → weight_of picked p.packet.size (sending_of c p) ≡ 0)
-    → (site : ℕ) (entry : List ℕ × Meter) (j : Journal) → slice_get t.domain.meters site ≡ Some entry → Stands run site (meter_opening entry.1) j
-    → (k : ℕ) (c : Contract) (bounds : List Bound) → slice_get t.contracts k ≡ Some c → HasShape t.domain c bounds × Meets t.domain c bounds
-    → KeepsCurve (load column entry.1.skew (filter (counts among) (share_of t.domain entry.0 c bounds)))
+    → (site : ℕ) (entry : List ℕ × Meter) (j : Journal) → slice_get g.domain.meters site ≡ Some entry → Stands run site (meter_opening entry.1) j
+    → (k : ℕ) (c : Contract) (bounds : List Bound) → slice_get t.contracts k ≡ Some c → HasShape g.domain c bounds × Meets g.domain c bounds
+    → KeepsCurve (load column entry.1.skew (filter (counts among) (share_of g.domain entry.0 c bounds)))
     (part_of (λ (p : Passage). p.packet.flow) (part_at picked site) run.passages (0 + k) c)
-contract_part t run good is_run premises column picked among meets sources light site entry j there stands k c bounds found ok =
+contract_part g t run good is_run premises column picked among meets sources light site entry j there stands k c bounds found ok =
     let place : 0 + k ≡ k = omega arith in
     rw place (by_count (among (has_peak c.terms)) refl)
   where
     ps : List Passage
     ps = passages_of k run
 
-    goes : All (λ p. Goes t.domain site entry.1.skew c.port c.path (moment_of (sending_of c p)) (receipts_of (sending_of c p))) (passages_of k run)
+    goes : All (λ p. Goes g.domain site entry.1.skew c.port c.path (moment_of (sending_of c p)) (receipts_of (sending_of c p))) (passages_of k run)
     goes i e h =
         All-filter (λ p. nat_eq p.packet.flow k)
-        (λ p. (x : Contract) → contract_of t p.packet.flow ≡ Some x → Goes t.domain site entry.1.skew x.port x.path (moment_of (sending_of x p)) (receipts_of (sending_of x p)))
-        run.passages (passages_go t run good is_run premises site entry j stands) i e h c (passages_of-contract t run is_run k c found i e h)
+        (λ p. (x : Contract) → contract_of g p.packet.flow ≡ Some x → Goes g.domain site entry.1.skew x.port x.path (moment_of (sending_of x p)) (receipts_of (sending_of x p)))
+        run.passages (passages_go g t run good is_run premises site entry j stands) i e h c (passages_of-contract g t run good is_run k c found i e h)
 
     by_count : (b : Bool) → among (has_peak c.terms) ≡ b
-        → KeepsCurve (load column entry.1.skew (filter (counts among) (share_of t.domain entry.0 c bounds))) (flat_map (part_at picked site c) (passages_of k run))
+        → KeepsCurve (load column entry.1.skew (filter (counts among) (share_of g.domain entry.0 c bounds))) (flat_map (part_at picked site c) (passages_of k run))
     by_count true counted =
-        rw (share_counts among t.domain c (bound_into entry.0 c.path (drop 1 bounds)) counted)
-        (contract_keeps t.domain entry.0 site entry.1.skew column picked c bounds ps ok.0 (meets t.domain c bounds ok.1)
-        (apart_names t.domain entry.0 entry.1 site c.path there (meters_known t.domain c.path (fits_names t.domain c ok.0.0).0))
+        rw (share_counts among g.domain c (bound_into entry.0 c.path (drop 1 bounds)) counted)
+        (contract_keeps g.domain entry.0 site entry.1.skew column picked c bounds ps ok.0 (meets g.domain c bounds ok.1)
+        (apart_names g.domain entry.0 entry.1 site c.path there (meters_known g.domain c.path (fits_names g.domain c ok.0.0).0))
         goes (sources k c found))
     by_count false uncounted =
-        rw (share_passes_by among t.domain c (bound_into entry.0 c.path (drop 1 bounds)) uncounted)
+        rw (share_passes_by among g.domain c (bound_into entry.0 c.path (drop 1 bounds)) uncounted)
         (Keeps-weightless 0 0 (part_at picked site c) ps
         (λ start end i e h.
         let p = get_or ps i e in
         ap (λ w. sum_by (size_within start end) (crossing site w (receipts_of (sending_of c p)))) (light c p uncounted)
         ∙ crossing-weightless site start end (receipts_of (sending_of c p))))
 
-pub input_keeps : (t : Table) (run : Run) → IsAcceptable t → IsRun t run → Premises t run
+pub input_keeps : (g : Ground) (t : Table) (run : Run) → IsOver g t → IsRun g run → Premises g run
     → (column : Column) (picked : Colour → Bool) (among : Bool → Bool)
     → ((d : Domain) (c : Contract) (bounds : List Bound) → Meets d c bounds → MeetsIn column (source_of d c) (jitters_of d c) bounds)
-    → SourcesKeep t run column picked
-    → ComesAsSent t run picked
+    → SourcesKeep g t run column picked
+    → ComesAsSent g run picked
     → ((c : Contract) (p : Passage) → among (has_peak c.terms) ≡ false → weight_of picked p.packet.size (sending_of c p) ≡ 0)
-    → (site : ℕ) (entry : List ℕ × Meter) (j : Journal) → slice_get t.domain.meters site ≡ Some entry → Stands run site (meter_opening entry.1) j
-    → KeepsCurve (load column entry.1.skew (filter (counts among) (shares_at t.domain entry.0 t.contracts t.certificate))) (row_items picked (journal_rows j))
-input_keeps t run good is_run premises column picked among meets sources comes light site entry j there stands start end ordered =
+    → (site : ℕ) (entry : List ℕ × Meter) (j : Journal) → slice_get g.domain.meters site ≡ Some entry → Stands run site (meter_opening entry.1) j
+    → KeepsCurve (load column entry.1.skew (filter (counts among) (shares_at g.domain entry.0 t.contracts t.certificate))) (row_items picked (journal_rows j))
+input_keeps g t run good is_run premises column picked among meets sources comes light site entry j there stands start end ordered =
     let rows = journal_rows j in
     let weigh = size_within start end in
-    let low : site < length t.domain.meters = slice_get_within t.domain.meters site entry there in
+    let low : site < length g.domain.meters = slice_get_within g.domain.meters site entry there in
     let gathered = gather (λ (p : Passage). p.packet.flow) (part_at picked site) run.passages start end 0 t.contracts (λ p. sum_by (row_weight picked start end) (told_by site p))
-    (passage_part t run good is_run picked comes site start end low) in
-    let whole = KeepsLoad-contracts t.domain entry.0 entry.1.skew column (counts among) (part_of (λ (p : Passage). p.packet.flow) (part_at picked site) run.passages) 0 t.contracts t.certificate good.0
-    (contract_part t run good is_run premises column picked among meets sources light site entry j there stands) start end ordered in
+    (passage_part g t run good is_run picked comes site start end low) in
+    let whole = KeepsLoad-contracts g.domain entry.0 entry.1.skew column (counts among) (part_of (λ (p : Passage). p.packet.flow) (part_at picked site) run.passages) 0 t.contracts t.certificate good.acceptable.0
+    (contract_part g t run good is_run premises column picked among meets sources light site entry j there stands) start end ordered in
     omega (arith, gathered, whole, sum_by-map weigh (λ (r : Row). (r.used, r.size)) (filter (λ r. picked r.came) rows), sum_by-filter (λ (r : Row). weigh (r.used, r.size)) (λ r. picked r.came) rows, sum_by-IsPermutation (row_weight picked start end) (told site run.passages) rows stands.rows, sum_by-flat_map (row_weight picked start end) (told_by site) run.passages)

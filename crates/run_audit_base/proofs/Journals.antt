@@ -18,14 +18,22 @@ use Rattle.ds_domain_base.specs.declared.parts.Meter.{Meter}
 use Rattle.ds_domain_base.specs.declared.terms.Terms.{Terms}
 use Rattle.ds_domain_base.specs.declared.terms.Terms.TheVariants.{Trusted, Policed}
 use Rattle.ds_checker.specs.Acceptance.{IsAcceptable, Table}
-use Rattle.meter_fabric.specs.Sites.{contract_of, hops_along}
+use Rattle.meter_fabric.specs.Grounds.{Ground, contract_of}
+use Rattle.meter_fabric.specs.Openings.{meter_opening, opening_at}
+use Rattle.meter_fabric.specs.Sites.{hops_along}
 use Rattle.meter_fabric.specs.Trails.{IsTrail}
+use Rattle.meter_fabric.specs.declared.site.Opening.{Opening}
 use Rattle.meter_fabric.specs.declared.trail.Receipt.{Receipt}
 use Rattle.run_audit_base.specs.Premises.{Premises}
-use Rattle.run_audit_base.specs.Runs.{IsRun, Opening, Passage, Run, meter_opening, opening_at, told}
+use Rattle.run_audit_base.specs.Runs.{IsRun, Passage, Run, told}
 use Rattle.run_audit_base.specs.Sendings.{Sending, sending_by, sending_of}
 use Rattle.run_audit_base.proofs.Passages.{receipts_along, told_each, trail_sent}
 use Rattle.run_audit_base.proofs.Places.{IsMeter, fits_at, fits_names, found_at, meters_known}
+
+-- a table that is acceptable over the domain of a ground, in which the contracts of that stand at the places of their flows
+pub record IsOver (g : Ground) (t : Table) : Type 0 where
+  pub acceptable : IsAcceptable (record t { domain = g.domain })
+  pub contracts : (flow : ℕ) (c : Contract) → contract_of g flow ≡ Some c → slice_get t.contracts flow ≡ Some c
 
 -- ---- rows of a replay
 
@@ -44,14 +52,14 @@ pub record Stands (run : Run) (site : ℕ) (o : Opening) (j : Journal) : Type 0 
   pub rows : IsPermutation (told site run.passages) (journal_rows j)
   pub used : All (λ r. (r.arrival ≤ r.used) × (r.used ≤ r.arrival + o.skew)) (journal_rows j)
 
-journal_here : (t : Table) (run : Run) (site : ℕ) (o : Opening) (j : Journal) → opening_at t site ≡ Some o → j.site ≡ site
-    → opening_at t j.site ≡ Some (record { meter = j.opening; skew = j.skew })
+journal_here : (g : Ground) (run : Run) (site : ℕ) (o : Opening) (j : Journal) → opening_at g site ≡ Some o → j.site ≡ site
+    → opening_at g j.site ≡ Some (record { meter = j.opening; skew = j.skew })
     → IsPermutation (told j.site run.passages) (journal_rows j)
     → All (λ r. r.late ≤ j.skew) (journal_rows j)
     → Stands run site o j
-journal_here t run site o j there same own told_rows late =
+journal_here g run site o j there same own told_rows late =
     let opens : record { meter = j.opening; skew = j.skew } ≡ o =
-    same_Some (record { meter = j.opening; skew = j.skew }) o (sym own ∙ ap (opening_at t) same ∙ there)
+    same_Some (record { meter = j.opening; skew = j.skew }) o (sym own ∙ ap (opening_at g) same ∙ there)
     in
     let skew : j.skew ≡ o.skew = ap (λ x. x.skew) opens in
     record {
@@ -62,19 +70,19 @@ journal_here t run site o j there same own told_rows late =
           (row.0, omega (arith, row.1, late i e l, skew));
     }
 
-pub journal_at : (t : Table) (run : Run) → IsRun t run → Premises t run → (site : ℕ) (o : Opening) → opening_at t site ≡ Some o → (j : Journal) × Stands run site o j
-journal_at t run is_run premises site o there =
-    let has : is_some (opening_at t site) ≡ true = ap is_some there in
+pub journal_at : (g : Ground) (run : Run) → IsRun g run → Premises g run → (site : ℕ) (o : Opening) → opening_at g site ≡ Some o → (j : Journal) × Stands run site o j
+journal_at g run is_run premises site o there =
+    let has : is_some (opening_at g site) ≡ true = ap is_some there in
     let (k, short, at_site) = is_run.journals.each site has in
     let none : Journal = record { site = 0; opening = o.meter; skew = 0; arrivals = [] } in
     let j = get_or run.journals k none in
     let h : k < length run.journals = omega (arith, short, length-map run.journals (λ (x : Journal). x.site)) in
     let same : j.site ≡ site = sym (get_or-map (λ (x : Journal). x.site) run.journals k none site h) ∙ at_site in
-    (j, journal_here t run site o j there same (is_run.journals.own k none h) (is_run.rows k none h) (premises.skew k none h))
+    (j, journal_here g run site o j there same (is_run.journals.own k none h) (is_run.rows k none h) (premises.skew k none h))
 
-pub meter_at : (t : Table) (site : ℕ) (entry : List ℕ × Meter) → slice_get t.domain.meters site ≡ Some entry → opening_at t site ≡ Some (meter_opening entry.1)
-meter_at t site entry there =
-    let short : nat_lt site (length t.domain.meters) ≡ true = grind (arith, nat_tests, slice_get_within t.domain.meters site entry there) in
+pub meter_at : (g : Ground) (site : ℕ) (entry : List ℕ × Meter) → slice_get g.domain.meters site ≡ Some entry → opening_at g site ≡ Some (meter_opening entry.1)
+meter_at g site entry there =
+    let short : nat_lt site (length g.domain.meters) ≡ true = grind (arith, nat_tests, slice_get_within g.domain.meters site entry there) in
     rw (short, there) refl
 
 -- ---- receipts from a site
@@ -101,41 +109,37 @@ sent_from run site o j P stands all k e h c s sent =
 -- ---- each packet that was sent
 
 -- its contract, which fits, and its trail from the meters on
-pub record IsSent (t : Table) (p : Passage) (c : Contract) (s : Sending) : Type 0 where
+pub record IsSent (g : Ground) (t : Table) (p : Passage) (c : Contract) (s : Sending) : Type 0 where
   pub place : slice_get t.contracts p.packet.flow ≡ Some c
-  pub known : All (IsMeter t.domain) c.path
-  pub trail : IsTrail p.packet s.moment s.colour (hops_along t.domain 1 c.path) s.receipts
+  pub known : All (IsMeter g.domain) c.path
+  pub trail : IsTrail p.packet s.moment s.colour (hops_along g.domain 1 c.path) s.receipts
 
-abbrev pub ForEachSent : Table → Run → (Passage → Contract → Sending → Type 0) → Type 0
-ForEachSent t run P = All (λ p. (c : Contract) → contract_of t p.packet.flow ≡ Some c → (s : Sending) → sending_of c p ≡ Some s → P p c s) run.passages
+abbrev pub ForEachSent : Ground → Run → (Passage → Contract → Sending → Type 0) → Type 0
+ForEachSent g run P = All (λ p. (c : Contract) → contract_of g p.packet.flow ≡ Some c → (s : Sending) → sending_of c p ≡ Some s → P p c s) run.passages
 
-pub contract_place : (low : Bool) (found : Option Contract) (c : Contract) → (if low then found else None) ≡ Some c → found ≡ Some c
-contract_place true found c is = is
-contract_place false found c is = absurd cc
-
-pub each_sent : (t : Table) (run : Run) → IsAcceptable t → IsRun t run → ForEachSent t run (IsSent t)
-each_sent t run good is_run k e h c is s sent =
+pub each_sent : (g : Ground) (t : Table) (run : Run) → IsOver g t → IsRun g run → ForEachSent g run (IsSent g t)
+each_sent g t run good is_run k e h c is s sent =
     let p = get_or run.passages k e in
     let (own, is_own, trail) = is_run.passages k e h in
     let same : own ≡ c = same_Some own c (sym is_own ∙ is) in
-    let place = contract_place (nat_lt p.packet.flow 4294966272) (slice_get t.contracts p.packet.flow) c is in
+    let place = good.contracts p.packet.flow c is in
     record {
       place = place;
-      known = meters_known t.domain c.path (fits_names t.domain c (fits_at t.domain t.contracts t.certificate p.packet.flow c good.0 place)).0;
-      trail = trail_sent t.domain p.packet.flow p.packet p.packet.begun _ c.terms c.path p.receipts s (rw same at trail) sent;
+      known = meters_known g.domain c.path (fits_names g.domain c (fits_at g.domain t.contracts t.certificate p.packet.flow c good.acceptable.0 place)).0;
+      trail = trail_sent g.domain p.packet.flow p.packet p.packet.begun _ c.terms c.path p.receipts s (rw same at trail) sent;
     }
 
 -- what holds of the rows of each meter holds of all receipts from the meters on
-pub everywhere : (t : Table) (run : Run) → IsAcceptable t → IsRun t run → Premises t run → (P : Row → Type 0)
-    → ((site : ℕ) (entry : List ℕ × Meter) (j : Journal) → slice_get t.domain.meters site ≡ Some entry → Stands run site (meter_opening entry.1) j → All P (journal_rows j))
-    → ForEachSent t run (λ p c s. All (λ r. P r.row) s.receipts)
-everywhere t run good is_run premises P each k e h c is s sent i d l =
+pub everywhere : (g : Ground) (t : Table) (run : Run) → IsOver g t → IsRun g run → Premises g run → (P : Row → Type 0)
+    → ((site : ℕ) (entry : List ℕ × Meter) (j : Journal) → slice_get g.domain.meters site ≡ Some entry → Stands run site (meter_opening entry.1) j → All P (journal_rows j))
+    → ForEachSent g run (λ p c s. All (λ r. P r.row) s.receipts)
+everywhere g t run good is_run premises P each k e h c is s sent i d l =
     let p = get_or run.passages k e in
-    let known = each_sent t run good is_run k e h c is s sent in
+    let known = each_sent g t run good is_run k e h c is s sent in
     let r = get_or s.receipts i d in
-    let (entry, at_site) = receipts_along t.domain p.packet 1 s.moment s.colour c.path s.receipts (λ x. (entry : List ℕ × Meter) × (slice_get t.domain.meters x.site ≡ Some entry))
-    (λ n x m y site size. let (entry, there, named) = found_at t.domain (get_or c.path n x) (known.known n x m) in (entry, rw site there))
+    let (entry, at_site) = receipts_along g.domain p.packet 1 s.moment s.colour c.path s.receipts (λ x. (entry : List ℕ × Meter) × (slice_get g.domain.meters x.site ≡ Some entry))
+    (λ n x m y site size. let (entry, there, named) = found_at g.domain (get_or c.path n x) (known.known n x m) in (entry, rw site there))
     known.trail i d l
     in
-    let (j, stands) = journal_at t run is_run premises r.site (meter_opening entry.1) (meter_at t r.site entry at_site) in
+    let (j, stands) = journal_at g run is_run premises r.site (meter_opening entry.1) (meter_at g r.site entry at_site) in
     sent_from run r.site (meter_opening entry.1) j P stands (each r.site entry j at_site stands) k e h c s sent i d l (grind (arith, nat_tests))

@@ -32,14 +32,17 @@ use Rattle.ds_domain_base.specs.declared.terms.Terms.TheVariants.{Trusted, Polic
 use Rattle.ds_certificate.specs.Columns.{green_column, all_column}
 use Rattle.ds_certificate.specs.Sources.{all_output, green_output, skew_of, source_by, source_of}
 use Rattle.ds_checker.specs.Acceptance.{Table}
-use Rattle.meter_fabric.specs.Sites.{contract_of, edge_hops, hops_along, hops_of}
+use Rattle.meter_fabric.specs.Grounds.{Ground, contract_of}
+use Rattle.meter_fabric.specs.Openings.{opening_at}
+use Rattle.meter_fabric.specs.Sites.{edge_hops, hops_along, hops_of}
 use Rattle.meter_fabric.specs.Trails.{IsTrail, Packet}
+use Rattle.meter_fabric.specs.declared.site.Opening.{Opening}
 use Rattle.meter_fabric.specs.declared.trail.Receipt.{Receipt}
 use Rattle.run_audit_base.specs.Premises.{IsTrusted, Premises}
-use Rattle.run_audit_base.specs.Runs.{IsRun, Opening, Passage, Run, opening_at, told, told_by}
+use Rattle.run_audit_base.specs.Runs.{IsRun, Passage, Run, told, told_by}
 use Rattle.run_audit_base.specs.Sendings.{Sending, passages_of, sending_by, sending_of}
 use Rattle.run_audit_base.proofs.Inputs.{SourcesKeep, passages_of-contract}
-use Rattle.run_audit_base.proofs.Journals.{Stands, journal_at, receipts_from}
+use Rattle.run_audit_base.proofs.Journals.{IsOver, Stands, journal_at, receipts_from}
 use Rattle.run_audit_base.proofs.Passages.{Keeps-sent, item_of, moment_of, weight_of}
 
 -- ---- what left an edge
@@ -87,13 +90,13 @@ cond-most true m = omega arith
 cond-most false m = omega arith
 
 -- where what leaves an edge keeps an envelope, what it sends keeps that, widened by the skew
-policed_keeps : (t : Table) (run : Run) → IsRun t run → (flow : ℕ) (c : Contract) → slice_get t.contracts flow ≡ Some c
+policed_keeps : (g : Ground) (t : Table) (run : Run) → IsOver g t → IsRun g run → (flow : ℕ) (c : Contract) → slice_get t.contracts flow ≡ Some c
     → (parameters : Parameters) (mode : Mode) → c.terms ≡ Policed parameters mode
-    → (o : Opening) (j : Journal) → Stands run (length t.domain.meters + flow) o j
+    → (o : Opening) (j : Journal) → Stands run (length g.domain.meters + flow) o j
     → (picked : Colour → Bool) (out : Curve) → KeepsCurve out (row_output picked (journal_rows j))
     → KeepsCurve (widened o.skew out) (map (item_of picked c) (passages_of flow run))
-policed_keeps t run is_run flow c found parameters mode policed o j stands picked out kept start end ordered =
-    let site = length t.domain.meters + flow in
+policed_keeps g t run good is_run flow c found parameters mode policed o j stands picked out kept start end ordered =
+    let site = length g.domain.meters + flow in
     let rows = journal_rows j in
     let is_flow = λ (p : Passage). nat_eq p.packet.flow flow in
     let f = left_weight picked start (end + o.skew) in
@@ -118,55 +121,58 @@ policed_keeps t run is_run flow c found parameters mode policed o j stands picke
       sum_by-filter (λ (r : Row). size_within start (end + o.skew) (r.used, r.size)) (λ r. picked r.left) rows,
     )
   where
-    each : (start end : ℕ) → All (λ p. size_within start end (item_of picked c p) ≤ sum_by (left_weight picked start (end + o.skew)) (told_by (length t.domain.meters + flow) p)) (passages_of flow run)
+    each : (start end : ℕ) → All (λ p. size_within start end (item_of picked c p) ≤ sum_by (left_weight picked start (end + o.skew)) (told_by (length g.domain.meters + flow) p)) (passages_of flow run)
     each start end k e h =
         let p = get_or (passages_of flow run) k e in
-        let site = length t.domain.meters + flow in
+        let site = length g.domain.meters + flow in
         let is_flow = λ (q : Passage). nat_eq q.packet.flow flow in
         let passes : nat_eq p.packet.flow flow ≡ true = filter_passes is_flow run.passages k e h in
         let same_flow : p.packet.flow ≡ flow = grind (arith, nat_tests) in
-        let (own, is_own, trail) = All-filter is_flow (λ q. (x : Contract) × (contract_of t q.packet.flow ≡ Some x) × IsTrail q.packet q.packet.begun (came x q.packet.dscp) (hops_of t.domain q.packet.flow x) q.receipts) run.passages is_run.passages k e h in
-        let same : own ≡ c = same_Some own c (sym is_own ∙ passages_of-contract t run is_run flow c found k e h) in
+        let (own, is_own, trail) = All-filter is_flow (λ q. (x : Contract) × (contract_of g q.packet.flow ≡ Some x) × IsTrail q.packet q.packet.begun (came x q.packet.dscp) (hops_of g.domain q.packet.flow x) q.receipts) run.passages is_run.passages k e h in
+        let same : own ≡ c = same_Some own c (sym is_own ∙ passages_of-contract g t run good is_run flow c found k e h) in
         let late = All-filter is_flow (λ q. All (λ r. nat_eq r.site site ≡ true → (r.row.arrival ≤ r.row.used) × (r.row.used ≤ r.row.arrival + o.skew)) q.receipts) run.passages
         (receipts_from run site o j (λ r. (r.arrival ≤ r.used) × (r.used ≤ r.arrival + o.skew)) stands stands.used) k e h in
-        let way : IsTrail p.packet p.packet.begun (came c p.packet.dscp) (edge_hops t.domain p.packet.flow (Policed parameters mode) ++ hops_along t.domain 1 c.path) p.receipts =
-        subst (λ terms. IsTrail p.packet p.packet.begun (came c p.packet.dscp) (edge_hops t.domain p.packet.flow terms ++ hops_along t.domain 1 c.path) p.receipts) policed
-        (subst (λ (x : Contract). IsTrail p.packet p.packet.begun (came x p.packet.dscp) (hops_of t.domain p.packet.flow x) p.receipts) same trail)
+        let way : IsTrail p.packet p.packet.begun (came c p.packet.dscp) (edge_hops g.domain p.packet.flow (Policed parameters mode) ++ hops_along g.domain 1 c.path) p.receipts =
+        subst (λ terms. IsTrail p.packet p.packet.begun (came c p.packet.dscp) (edge_hops g.domain p.packet.flow terms ++ hops_along g.domain 1 c.path) p.receipts) policed
+        (subst (λ (x : Contract). IsTrail p.packet p.packet.begun (came x p.packet.dscp) (hops_of g.domain p.packet.flow x) p.receipts) same trail)
         in
         subst
         (λ terms.
         let sent = sending_by terms (came c p.packet.dscp) p.packet.begun p.receipts in
         size_within start end (moment_of sent, weight_of picked p.packet.size sent) ≤ sum_by (left_weight picked start (end + o.skew)) (told_by site p))
         (sym policed)
-        (edge_weight t.domain p.packet.flow p.packet p.packet.begun (came c p.packet.dscp) parameters mode c.path p.receipts picked site o.skew start end
-        (ap (λ n. length t.domain.meters + n) (sym same_flow)) way late)
+        (edge_weight g.domain p.packet.flow p.packet p.packet.begun (came c p.packet.dscp) parameters mode c.path p.receipts picked site o.skew start end
+        (ap (λ n. length g.domain.meters + n) (sym same_flow)) way late)
 
 -- ---- the sources of a table
 
--- a contract without a number has no packets
-low_or_high : (t : Table) (flow : ℕ) (c : Contract) (b : Bool) → nat_lt flow 4294966272 ≡ b → slice_get t.contracts flow ≡ Some c
-    → ◌⊎◌ (contract_of t flow ≡ Some c) (contract_of t flow ≡ None)
-low_or_high t flow c true low found = inl (rw low found)
-low_or_high t flow c false high found = inr (rw high refl)
+-- a contract of the table is one of the ground, or has no packets
+known_or_not : (g : Ground) (t : Table) → IsOver g t → (flow : ℕ) (c : Contract) → slice_get t.contracts flow ≡ Some c
+    → ◌⊎◌ (contract_of g flow ≡ Some c) (contract_of g flow ≡ None)
+known_or_not g t good flow c found = by_look (contract_of g flow) refl
+  where
+    by_look : (own : Option Contract) → contract_of g flow ≡ own → ◌⊎◌ (contract_of g flow ≡ Some c) (contract_of g flow ≡ None)
+    by_look None none = inr none
+    by_look (Some own) is = inl (is ∙ sym (good.contracts flow own is) ∙ found)
 
-Keeps-nobody : (t : Table) (run : Run) → IsRun t run → (flow : ℕ) (c : Contract) → slice_get t.contracts flow ≡ Some c → contract_of t flow ≡ None
+Keeps-nobody : (g : Ground) (t : Table) (run : Run) → IsOver g t → IsRun g run → (flow : ℕ) (c : Contract) → slice_get t.contracts flow ≡ Some c → contract_of g flow ≡ None
     → (rate burst : ℕ) (item : Passage → ℕ × ℕ) → Keeps rate burst (map item (passages_of flow run))
-Keeps-nobody t run is_run flow c found none rate burst item start end ordered =
+Keeps-nobody g t run good is_run flow c found none rate burst item start end ordered =
     let is_flow = λ (p : Passage). nat_eq p.packet.flow flow in
     let nothing = sum_by-none (λ p. size_within start end (item p)) (passages_of flow run)
     (λ k e h.
     let p = get_or (passages_of flow run) k e in
     let passes : nat_eq p.packet.flow flow ≡ true = filter_passes is_flow run.passages k e h in
     let same_flow : p.packet.flow ≡ flow = grind (arith, nat_tests) in
-    absurd (none-some c (sym none ∙ ap (contract_of t) (sym same_flow) ∙ passages_of-contract t run is_run flow c found k e h))) in
+    absurd (none-some c (sym none ∙ ap (contract_of g) (sym same_flow) ∙ passages_of-contract g t run good is_run flow c found k e h))) in
     omega (arith, nothing, sum_by-map (size_within start end) item (passages_of flow run))
 
 -- what stands at the edge of a policed contract
-edge_at : (t : Table) (flow : ℕ) (c : Contract) (parameters : Parameters) (mode : Mode) → contract_of t flow ≡ Some c → c.terms ≡ Policed parameters mode
-    → opening_at t (length t.domain.meters + flow) ≡ Some (record { meter = opening_of parameters mode c.lifetime.since; skew = skew_of (port_of t.domain c.port) })
-edge_at t flow c parameters mode is policed =
-    let behind : nat_lt (length t.domain.meters + flow) (length t.domain.meters) ≡ false = grind (arith, nat_tests) in
-    let number : length t.domain.meters + flow - length t.domain.meters ≡ flow = omega arith in
+edge_at : (g : Ground) (flow : ℕ) (c : Contract) (parameters : Parameters) (mode : Mode) → contract_of g flow ≡ Some c → c.terms ≡ Policed parameters mode
+    → opening_at g (length g.domain.meters + flow) ≡ Some (record { meter = opening_of parameters mode c.lifetime.since; skew = skew_of (port_of g.domain c.port) })
+edge_at g flow c parameters mode is policed =
+    let behind : nat_lt (length g.domain.meters + flow) (length g.domain.meters) ≡ false = grind (arith, nat_tests) in
+    let number : length g.domain.meters + flow - length g.domain.meters ≡ flow = omega arith in
     rw (behind, number, is, policed) refl
 
 green_of-opening : (p : Parameters) (mode : Mode) (origin : ℕ) → green_of (opening_of p mode origin) ≡ green_output p
@@ -181,26 +187,26 @@ all_of-opening (SrTcm p) mode origin = refl
 all_of-opening (TrTcm p) mode origin = refl
 all_of-opening (Rfc4115 p) mode origin = refl
 
-abbrev BothKeep : Table → Run → ℕ → Contract → Type 0
-BothKeep t run flow c =
-    KeepsCurve (source_of t.domain c).green (map (item_of is_green c) (passages_of flow run))
-    × KeepsCurve (source_of t.domain c).all (map (item_of is_in_profile c) (passages_of flow run))
+abbrev BothKeep : Ground → Run → ℕ → Contract → Type 0
+BothKeep g run flow c =
+    KeepsCurve (source_of g.domain c).green (map (item_of is_green c) (passages_of flow run))
+    × KeepsCurve (source_of g.domain c).all (map (item_of is_in_profile c) (passages_of flow run))
 
 source_policed : (d : Domain) (c : Contract) (parameters : Parameters) (mode : Mode) → c.terms ≡ Policed parameters mode
     → source_of d c ≡ source_by (skew_of (port_of d c.port)) (Policed parameters mode)
 unfolding source_of
 source_policed d c parameters mode policed = ap (source_by (skew_of (port_of d c.port))) policed
 
-both_keep : (t : Table) (run : Run) → IsRun t run → Premises t run → (flow : ℕ) (c : Contract) → slice_get t.contracts flow ≡ Some c → contract_of t flow ≡ Some c
-    → (terms : Terms) → c.terms ≡ terms → BothKeep t run flow c
-both_keep t run is_run premises flow c found is (Trusted committed peak) trusted =
+both_keep : (g : Ground) (t : Table) (run : Run) → IsOver g t → IsRun g run → Premises g run → (flow : ℕ) (c : Contract) → slice_get t.contracts flow ≡ Some c → contract_of g flow ≡ Some c
+    → (terms : Terms) → c.terms ≡ terms → BothKeep g run flow c
+both_keep g t run good is_run premises flow c found is (Trusted committed peak) trusted =
     let kept = premises.source flow c is (subst IsTrusted (sym trusted) tt) in
-    let green = (source_of t.domain c).green in
-    let all = (source_of t.domain c).all in
+    let green = (source_of g.domain c).green in
+    let all = (source_of g.domain c).all in
     (Keeps-sent is_green c (passages_of flow run) green.rate green.burst kept.0, Keeps-sent is_in_profile c (passages_of flow run) all.rate all.burst kept.1)
-both_keep t run is_run premises flow c found is (Policed parameters mode) policed =
-    let o : Opening = record { meter = opening_of parameters mode c.lifetime.since; skew = skew_of (port_of t.domain c.port) } in
-    let (j, stands) = journal_at t run is_run premises (length t.domain.meters + flow) o (edge_at t flow c parameters mode is policed) in
+both_keep g t run good is_run premises flow c found is (Policed parameters mode) policed =
+    let o : Opening = record { meter = opening_of parameters mode c.lifetime.since; skew = skew_of (port_of g.domain c.port) } in
+    let (j, stands) = journal_at g run is_run premises (length g.domain.meters + flow) o (edge_at g flow c parameters mode is policed) in
     let kept = opened_rows_keep parameters mode c.lifetime.since j.arrivals in
     let green : KeepsCurve (green_output parameters) (row_output is_green (journal_rows j)) =
     subst (λ m. KeepsCurve (green_output parameters) (row_output is_green (replay m j.arrivals))) (sym stands.meter)
@@ -213,23 +219,23 @@ both_keep t run is_run premises flow c found is (Policed parameters mode) police
     subst
     (λ source.
     KeepsCurve source.green (map (item_of is_green c) (passages_of flow run)) × KeepsCurve source.all (map (item_of is_in_profile c) (passages_of flow run)))
-    (sym (source_policed t.domain c parameters mode policed)) (
-      policed_keeps t run is_run flow c found parameters mode policed o j stands is_green (green_output parameters) green,
-      policed_keeps t run is_run flow c found parameters mode policed o j stands is_in_profile (all_output parameters) all,
+    (sym (source_policed g.domain c parameters mode policed)) (
+      policed_keeps g t run good is_run flow c found parameters mode policed o j stands is_green (green_output parameters) green,
+      policed_keeps g t run good is_run flow c found parameters mode policed o j stands is_in_profile (all_output parameters) all,
     )
 
-pub green_sources : (t : Table) (run : Run) → IsRun t run → Premises t run → SourcesKeep t run green_column is_green
-green_sources t run is_run premises flow c found =
-    elim (low_or_high t flow c (nat_lt flow 4294966272) refl found) [
-      | inl is ↦ (both_keep t run is_run premises flow c found is c.terms refl).0
-      | inr none ↦ Keeps-nobody t run is_run flow c found none (source_of t.domain c).green.rate (source_of t.domain c).green.burst (item_of is_green c)
+pub green_sources : (g : Ground) (t : Table) (run : Run) → IsOver g t → IsRun g run → Premises g run → SourcesKeep g t run green_column is_green
+green_sources g t run good is_run premises flow c found =
+    elim (known_or_not g t good flow c found) [
+      | inl is ↦ (both_keep g t run good is_run premises flow c found is c.terms refl).0
+      | inr none ↦ Keeps-nobody g t run good is_run flow c found none (source_of g.domain c).green.rate (source_of g.domain c).green.burst (item_of is_green c)
     ]
 
-pub all_sources : (t : Table) (run : Run) → IsRun t run → Premises t run → SourcesKeep t run all_column is_in_profile
-all_sources t run is_run premises flow c found =
-    elim (low_or_high t flow c (nat_lt flow 4294966272) refl found) [
-      | inl is ↦ (both_keep t run is_run premises flow c found is c.terms refl).1
-      | inr none ↦ Keeps-nobody t run is_run flow c found none (source_of t.domain c).all.rate (source_of t.domain c).all.burst (item_of is_in_profile c)
+pub all_sources : (g : Ground) (t : Table) (run : Run) → IsOver g t → IsRun g run → Premises g run → SourcesKeep g t run all_column is_in_profile
+all_sources g t run good is_run premises flow c found =
+    elim (known_or_not g t good flow c found) [
+      | inl is ↦ (both_keep g t run good is_run premises flow c found is c.terms refl).1
+      | inr none ↦ Keeps-nobody g t run good is_run flow c found none (source_of g.domain c).all.rate (source_of g.domain c).all.burst (item_of is_in_profile c)
     ]
 
 -- the yellow ones alone keep what green and yellow ones keep together
@@ -244,11 +250,11 @@ yellow_lighter start end size (Some s) = by_colour s.colour s.moment
     by_colour Yellow moment = omega arith
     by_colour Red moment = omega arith
 
-pub yellow_sources : (t : Table) (run : Run) → IsRun t run → Premises t run → SourcesKeep t run all_column is_yellow
-yellow_sources t run is_run premises flow c found =
-    Keeps-lighter (item_of is_in_profile c) (item_of is_yellow c) (source_of t.domain c).all.rate (source_of t.domain c).all.burst (passages_of flow run)
+pub yellow_sources : (g : Ground) (t : Table) (run : Run) → IsOver g t → IsRun g run → Premises g run → SourcesKeep g t run all_column is_yellow
+yellow_sources g t run good is_run premises flow c found =
+    Keeps-lighter (item_of is_in_profile c) (item_of is_yellow c) (source_of g.domain c).all.rate (source_of g.domain c).all.burst (passages_of flow run)
     (λ start end k e h. let p = get_or (passages_of flow run) k e in yellow_lighter start end p.packet.size (sending_of c p))
-    (all_sources t run is_run premises flow c found)
+    (all_sources g t run good is_run premises flow c found)
 
 -- ---- no contract without a peak sends yellow packets
 

@@ -14,6 +14,7 @@ use Rattle.ds_domain_base.specs.declared.contract.Contract.{Contract}
 use Rattle.ds_domain_base.specs.declared.terms.Terms.TheVariants.{Trusted}
 use Rattle.ds_certificate.specs.Columns.{Bound}
 use Rattle.ds_checker.specs.Acceptance.{IsAcceptable, Table}
+use Rattle.meter_fabric.specs.Grounds.{ground_of}
 use Rattle.run_audit_base.specs.Premises.{Premises}
 use Rattle.run_audit_base.specs.Runs.{IsRun, Passage, Run}
 
@@ -76,4 +77,4 @@ small_run = record { journals = small_journal ∷ []; passages = small_passage �
 
 -- it meets all that is asked of a run
 abbrev pub SmallRunIsKept : Type 0
-SmallRunIsKept = IsAcceptable small_table × IsRun small_table small_run × Premises small_table small_run
+SmallRunIsKept = IsAcceptable small_table × IsRun (ground_of small_table) small_run × Premises (ground_of small_table) small_run

@@ -1,14 +1,22 @@
 -- What is promised of a run: colours are kept.
-use Rattle.std.specs.Prelude.{◌≡◌, All}
+use Rattle.std.specs.Prelude.{◌≡◌, ℕ, All, Some, slice_get}
+use Rattle.ds_domain_base.specs.declared.contract.Contract.{Contract}
 use Rattle.ds_checker.specs.Acceptance.{IsAcceptable, Table}
+use Rattle.meter_fabric.specs.Grounds.{Ground, contract_of}
 use Rattle.run_audit_base.specs.Premises.{Premises}
 use Rattle.run_audit_base.specs.Runs.{IsRun, Run}
 use Rattle.run_audit_base.specs.Sendings.{ForSent}
 
 -- each packet left each meter with the colour that it was sent with
-abbrev pub ColoursKept : Table → Run → Type 0
-ColoursKept t run = ForSent t run (λ c s. All (λ r. r.row.left ≡ s.colour) s.receipts)
+abbrev pub ColoursKept : Ground → Run → Type 0
+ColoursKept g run = ForSent g run (λ c s. All (λ r. r.row.left ≡ s.colour) s.receipts)
 
--- Where a table is acceptable, each run of it that meets the premises keeps the colours.
+-- the contracts of a ground all stand in a table of its domain, each at the place of its flow
+pub record StandsIn (t : Table) (g : Ground) : Type 0 where
+  pub domain : t.domain ≡ g.domain
+  pub contracts : (flow : ℕ) (c : Contract) → contract_of g flow ≡ Some c → slice_get t.contracts flow ≡ Some c
+
+-- Where a table is acceptable, each run of contracts that stand in it that meets the premises keeps the colours.
 abbrev pub EveryRunKeepsColours : Type 0
-EveryRunKeepsColours = (t : Table) (run : Run) → IsAcceptable t → IsRun t run → Premises t run → ColoursKept t run
+EveryRunKeepsColours =
+    (t : Table) (g : Ground) (run : Run) → IsAcceptable t → StandsIn t g → IsRun g run → Premises g run → ColoursKept g run

@@ -11,8 +11,7 @@ use Rattle.ds_domain_base.specs.declared.parts.Link.{Link}
 use Rattle.ds_domain_base.specs.declared.terms.Terms.{Terms}
 use Rattle.ds_domain_base.specs.declared.terms.Terms.TheVariants.{Trusted, Policed}
 use Rattle.ds_certificate.specs.Sources.{jitter_of, source_of}
-use Rattle.ds_checker.specs.Acceptance.{Table}
-use Rattle.meter_fabric.specs.Sites.{contract_of}
+use Rattle.meter_fabric.specs.Grounds.{Ground, contract_of}
 use Rattle.meter_fabric.specs.declared.trail.Receipt.{Receipt}
 use Rattle.run_audit_base.specs.Runs.{Run}
 use Rattle.run_audit_base.specs.Sendings.{ForSent, Sending, passages_of, sent_items}
@@ -26,10 +25,10 @@ IsTrusted (Trusted committed peak) = ⊤
 IsTrusted (Policed parameters mode) = ⊥
 
 -- what a contract's packets were sent with keeps its envelopes: the green ones, and the green and yellow ones
-abbrev pub KeepsSource : Table → Run → ℕ → Contract → Type 0
-KeepsSource t run flow c =
-    KeepsCurve (source_of t.domain c).green (sent_items is_green c (passages_of flow run))
-    × KeepsCurve (source_of t.domain c).all (sent_items is_in_profile c (passages_of flow run))
+abbrev pub KeepsSource : Ground → Run → ℕ → Contract → Type 0
+KeepsSource g run flow c =
+    KeepsCurve (source_of g.domain c).green (sent_items is_green c (passages_of flow run))
+    × KeepsCurve (source_of g.domain c).all (sent_items is_in_profile c (passages_of flow run))
 
 -- the least delay of a link; 0 where there is none
 abbrev pub floor_of : Option Link → ℕ
@@ -47,23 +46,23 @@ IsTimely d from [] moment (r ∷ receipts) = ⊤
 IsTimely d from (to ∷ path) moment (r ∷ receipts) = IsOver (link_of d from to) moment r.row.arrival × IsTimely d to path r.row.arrival receipts
 
 -- contracts keep their time: each packet is sent when its contract may send
-abbrev pub KeepsTime : Table → Run → Type 0
-KeepsTime t run = ForSent t run IsInTime
+abbrev pub KeepsTime : Ground → Run → Type 0
+KeepsTime g run = ForSent g run IsInTime
 
 -- trusted sources keep their envelopes
-abbrev pub KeepsSources : Table → Run → Type 0
-KeepsSources t run = (flow : ℕ) (c : Contract) → contract_of t flow ≡ Some c → IsTrusted c.terms → KeepsSource t run flow c
+abbrev pub KeepsSources : Ground → Run → Type 0
+KeepsSources g run = (flow : ℕ) (c : Contract) → contract_of g flow ≡ Some c → IsTrusted c.terms → KeepsSource g run flow c
 
 -- links keep their floors and jitters
-abbrev pub KeepsLinks : Table → Run → Type 0
-KeepsLinks t run = ForSent t run (λ c s. IsTimely t.domain c.port c.path s.moment s.receipts)
+abbrev pub KeepsLinks : Ground → Run → Type 0
+KeepsLinks g run = ForSent g run (λ c s. IsTimely g.domain c.port c.path s.moment s.receipts)
 
 -- meters keep their skews: none meters a packet later than that
 abbrev pub KeepsSkews : Run → Type 0
 KeepsSkews run = All (λ j. All (λ r. r.late ≤ j.skew) (journal_rows j)) run.journals
 
-pub record Premises (t : Table) (run : Run) : Type 0 where
-  pub time : KeepsTime t run
-  pub source : KeepsSources t run
-  pub link : KeepsLinks t run
+pub record Premises (g : Ground) (run : Run) : Type 0 where
+  pub time : KeepsTime g run
+  pub source : KeepsSources g run
+  pub link : KeepsLinks g run
   pub skew : KeepsSkews run

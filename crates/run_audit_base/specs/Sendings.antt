@@ -6,8 +6,7 @@ use Rattle.ds_domain_base.specs.Sent.{came}
 use Rattle.ds_domain_base.specs.declared.contract.Contract.{Contract}
 use Rattle.ds_domain_base.specs.declared.terms.Terms.{Terms}
 use Rattle.ds_domain_base.specs.declared.terms.Terms.TheVariants.{Trusted, Policed}
-use Rattle.ds_checker.specs.Acceptance.{Table}
-use Rattle.meter_fabric.specs.Sites.{contract_of}
+use Rattle.meter_fabric.specs.Grounds.{Ground, contract_of}
 use Rattle.meter_fabric.specs.declared.trail.Receipt.{Receipt}
 use Rattle.run_audit_base.specs.Runs.{Passage, Run}
 
@@ -29,8 +28,8 @@ abbrev pub sending_of : Contract → Passage → Option Sending
 sending_of c p = sending_by c.terms (came c p.packet.dscp) p.packet.begun p.receipts
 
 -- what holds of each packet that has been sent, with its contract
-abbrev pub ForSent : Table → Run → (Contract → Sending → Type 0) → Type 0
-ForSent t run P = All (λ p. ForSome (contract_of t p.packet.flow) (λ c. ForSome (sending_of c p) (P c))) run.passages
+abbrev pub ForSent : Ground → Run → (Contract → Sending → Type 0) → Type 0
+ForSent g run P = All (λ p. ForSome (contract_of g p.packet.flow) (λ c. ForSome (sending_of c p) (P c))) run.passages
 
 -- the packets of a contract
 abbrev pub passages_of : ℕ → Run → List Passage
