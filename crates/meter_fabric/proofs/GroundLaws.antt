@@ -1,9 +1,10 @@
 -- The contract of a flow of a table is the one at its place.
-use Rattle.std.proofs.Common.{◌≡◌, ◌+◌, ◌-◌, ◌<◌, ◌≤◌, ℕ, zero, suc, Bool, true, false, cond, List, [], ◌∷◌, length, take, Option, None, Some, refl, sym, ap, ◌∙◌, arith}
+use Rattle.std.proofs.Common.{◌≡◌, ◌+◌, ◌-◌, ◌<◌, ◌≤◌, ℕ, zero, suc, Bool, true, false, cond, List, [], ◌∷◌, length, min, take, Option, None, Some, refl, sym, ap, ◌∙◌, arith}
 use Rattle.std.specs.Prelude.{nat_eq, nat_lt, ◌↔◌, is_some, IsSome, option_and_then, option_map, slice_get, if◌then◌else◌}
 use Rattle.std.specs.List.{enumerate_from, find}
 use Rattle.std.proofs.lemmas.Bool.{false≢true}
 use Rattle.std.proofs.lemmas.Bool.Decides.{nat_tests}
+use Rattle.std.proofs.lemmas.List.{take_all}
 use Rattle.ds_domain_base.specs.declared.contract.Contract.{Contract}
 use Rattle.ds_checker.specs.Acceptance.{Table}
 use Rattle.meter_fabric.specs.Grounds.{Ground, contract_of, ground_of, most_flows}
@@ -46,12 +47,22 @@ slice_get-take (suc most) (c ∷ cs) (suc place) = by_test (nat_lt place most) r
         let up : nat_lt (suc place) (suc most) ≡ false = grind (arith, nat_tests) in
         rw up (rw high at same)
 
-pub contract_at : (t : Table) (flow : ℕ) → contract_of (ground_of t) flow ≡ (if nat_lt flow most_flows then slice_get t.contracts flow else None)
-contract_at t flow =
+pub found_at : (t : Table) (flow : ℕ) → contract_of (ground_of t) flow ≡ slice_get (take most_flows t.contracts) flow
+found_at t flow =
     let place : 0 + flow ≡ flow = omega arith in
-    ap (found_from 0 (take most_flows t.contracts)) (sym place)
-    ∙ found_from-at 0 (take most_flows t.contracts) flow
-    ∙ slice_get-take most_flows t.contracts flow
+    ap (found_from 0 (take most_flows t.contracts)) (sym place) ∙ found_from-at 0 (take most_flows t.contracts) flow
+
+pub contract_at : (t : Table) (flow : ℕ) → contract_of (ground_of t) flow ≡ (if nat_lt flow most_flows then slice_get t.contracts flow else None)
+contract_at t flow = found_at t flow ∙ slice_get-take most_flows t.contracts flow
+
+-- the contract of a flow stands at its place
+pub place_of : (t : Table) (flow : ℕ) (c : Contract) → contract_of (ground_of t) flow ≡ Some c
+    → (nat_lt flow most_flows ≡ true) × (slice_get t.contracts flow ≡ Some c)
+place_of t flow c is = numbered (nat_lt flow most_flows) (slice_get t.contracts flow) (sym (contract_at t flow) ∙ is)
+  where
+    numbered : (low : Bool) (found : Option Contract) → (if low then found else None) ≡ Some c → (low ≡ true) × (found ≡ Some c)
+    numbered true found some = (refl, some)
+    numbered false found some = absurd cc
 
 -- behind the meters stand the edges
 pub opening_behind : (g : Ground) (site : ℕ) → length g.domain.meters ≤ site
@@ -69,3 +80,16 @@ none_past found place long inside none = by_test (nat_lt place long) refl
         let below : place < long = grind (arith, nat_tests) in
         absurd (false≢true (sym (ap is_some none) ∙ inside.1 below))
     by_test false high = grind (arith, nat_tests)
+
+-- no more than there are
+pub take_least : {A : Type 0} (most : ℕ) (xs : List A) → take (min (length xs) most) xs ≡ take most xs
+take_least most xs = by_test (nat_lt most (length xs)) refl
+  where
+    by_test : (b : Bool) → nat_lt most (length xs) ≡ b → take (min (length xs) most) xs ≡ take most xs
+    by_test true more =
+        let below : most < length xs = grind (arith, nat_tests) in
+        let least : min (length xs) most ≡ most = omega (arith, below) in
+        ap (λ n. take n xs) least
+    by_test false few =
+        let all : length xs ≤ most = grind (arith, nat_tests) in
+        take_all (min (length xs) most) xs (omega (arith, all)) ∙ sym (take_all most xs all)

@@ -12,7 +12,7 @@ use Rattle.ds_checker.specs.Acceptance.{IsAcceptable, Table}
 use Rattle.meter_fabric.specs.Grounds.{contract_of, ground_of, most_flows}
 use Rattle.meter_fabric.specs.Sites.{hops_along, site_of}
 use Rattle.meter_fabric.specs.declared.hop.Hop.{Hop}
-use Rattle.meter_fabric.proofs.GroundLaws.{contract_at}
+use Rattle.meter_fabric.proofs.GroundLaws.{place_of}
 
 -- of two tests in turn the second fails where no fault is found
 second_fails : (first second : Bool) (one other : DomainFault) (rest : Option DomainFault)
@@ -36,17 +36,12 @@ certified_short d (x ∷ contracts) (bounds ∷ certificate) zero c good is =
     subst (λ (known : Contract). length known.path ≤ 16) same (fits_short d x good.0.0.0)
 certified_short d (x ∷ contracts) (bounds ∷ certificate) (suc place) c good is = certified_short d contracts certificate place c good.1 is
 
--- a contract that has a number
-numbered : (low : Bool) (found : Option Contract) (c : Contract) → (if low then found else None) ≡ Some c → (low ≡ true) × (found ≡ Some c)
-numbered true found c is = (refl, is)
-numbered false found c is = absurd cc
-
 low_test : (flow : ℕ) → nat_lt flow most_flows ≡ true → flow < most_flows
 low_test flow low = grind (arith, nat_tests)
 
 pub known_contract : (t : Table) (flow : ℕ) (c : Contract) → IsAcceptable t → contract_of (ground_of t) flow ≡ Some c → (flow < most_flows) × (length c.path ≤ 16)
 known_contract t flow c good is =
-    let both = numbered (nat_lt flow most_flows) (slice_get t.contracts flow) c (sym (contract_at t flow) ∙ is) in
+    let both = place_of t flow c is in
     (low_test flow both.0, certified_short t.domain t.contracts t.certificate flow c good.0 both.1)
 
 -- one hop more

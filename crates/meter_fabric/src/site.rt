@@ -1,7 +1,7 @@
-ghost use Rattle.std.specs.Prelude.{◌≡◌, ◌≤◌, ◌^◌, length, min, option_and_then, option_copied, slice_get};
+ghost use Rattle.std.specs.Prelude.{◌≡◌, ◌≤◌, ◌^◌, length, min, option_and_then, option_copied, slice_get, take};
 ghost use Rattle.ds_certificate.specs.Sources.{skew_of};
 ghost use Rattle.ds_domain_base.specs.Domains.{port_of};
-ghost use Rattle.meter_fabric.specs.Grounds.{contract_of, flow_count, ground_of};
+ghost use Rattle.meter_fabric.specs.Grounds.{contract_of, flow_count, ground_of, most_flows};
 ghost use Rattle.meter_fabric.specs.Openings.{book_with, edge_opening, opening_at, site_count};
 ghost use Rattle.meter_fabric.specs.Sites.{site_of};
 
@@ -96,11 +96,15 @@ pub fn site_count(accepted: &Accepted) -> u64
 pub fn contract_of(accepted: &Accepted, flow: u32) -> Option<&Contract>
     ensures { option_copied result ≡ contract_of (ground_of accepted.now) flow }
 {
-    if flow < MOST_FLOWS {
-        contract_in(accepted.contracts(), flow as usize)
-    } else {
-        None
-    }
+    contract_in(flows_of(accepted), flow as usize)
+}
+
+/// The contracts that packets can be of, each at the place of its flow.
+pub fn flows_of(accepted: &Accepted) -> &[Contract]
+    ensures { result.now ≡ take most_flows accepted.now.contracts }
+{
+    let contracts = accepted.contracts();
+    &contracts[..contracts.len().min(MOST_FLOWS as usize)]
 }
 
 /// The contract at a place, if there is one.

@@ -20,7 +20,7 @@ use Rattle.meter_book.specs.declared.row.Row.{Row}
 use Rattle.ds_domain_base.specs.Domains.{Domain}
 use Rattle.ds_domain_base.specs.declared.terms.Terms.{Terms}
 use Rattle.ds_domain_base.specs.declared.terms.Terms.TheVariants.{Trusted, Policed}
-use Rattle.ds_checker.specs.Acceptance.{Table}
+use Rattle.meter_fabric.specs.Grounds.{Ground}
 use Rattle.meter_fabric.specs.Sites.{edge_hops, hops_along}
 use Rattle.meter_fabric.specs.Trails.{IsTrail, Packet}
 use Rattle.meter_fabric.specs.declared.hop.Hop.{Hop}
@@ -84,12 +84,12 @@ way_apart p since came d flow (Policed parameters mode) path (x ∷ rs) trail = 
 abbrev pub receipts_in : List Passage → List Receipt
 receipts_in passages = flat_map (λ p. p.receipts) passages
 
-receipts_apart : (t : Table) (journals : List Journal) (passages : List Passage) → AreSound t journals passages → AreApart own_row (receipts_in passages)
-receipts_apart t journals passages sound =
+receipts_apart : (g : Ground) (journals : List Journal) (passages : List Passage) → AreSound g journals passages → AreApart own_row (receipts_in passages)
+receipts_apart g journals passages sound =
     AreApart-flat own_row (λ (p : Passage). p.receipts) passages
     (λ p has.
-    let (c, is, trail) = (All-contains (IsSound t journals) passages p sound.0 has).0 in
-    way_apart p.packet p.packet.begun _ t.domain p.packet.flow c.terms c.path p.receipts trail)
+    let (c, is, trail) = (All-contains (IsSound g journals) passages p sound.0 has).0 in
+    way_apart p.packet p.packet.begun _ g.domain p.packet.flow c.terms c.path p.receipts trail)
     (λ i j d below within a b own other same.
     let p = get_or passages i d in
     let q = get_or passages j d in
@@ -156,15 +156,15 @@ all_rows_apart journals once =
 at_place : (rows : List Row) (place : ℕ) (row : Row) → slice_get rows place ≡ Some row → Contains rows row
 at_place rows place row is = (place, slice_get_within rows place row is, get_or_from_slice_get rows place row row is)
 
-receipts_noted : (t : Table) (journals : List Journal) (passages : List Passage) → AreSound t journals passages
+receipts_noted : (g : Ground) (journals : List Journal) (passages : List Passage) → AreSound g journals passages
     → (r : Receipt) → Contains (receipts_in passages) r → IsNoted journals r
-receipts_noted t journals passages sound r has =
+receipts_noted g journals passages sound r has =
     let (p, found, own) = of_flat (λ (p : Passage). p.receipts) passages r has in
-    All-contains (IsNoted journals) p.receipts r (All-contains (IsSound t journals) passages p sound.0 found).1 own
+    All-contains (IsNoted journals) p.receipts r (All-contains (IsSound g journals) passages p sound.0 found).1 own
 
-receipts_among : (t : Table) (journals : List Journal) (passages : List Passage) → AreSound t journals passages → AreAmong (receipts_in passages) (rows_in journals)
-receipts_among t journals passages sound r has =
-    let (j, found, same, is) = receipts_noted t journals passages sound r has in
+receipts_among : (g : Ground) (journals : List Journal) (passages : List Passage) → AreSound g journals passages → AreAmong (receipts_in passages) (rows_in journals)
+receipts_among g journals passages sound r has =
+    let (j, found, same, is) = receipts_noted g journals passages sound r has in
     in_flat rows_at journals j r found
     (subst (λ site. Contains (rows_at j) (receipt_from site r.row)) same (in_map (receipt_from j.site) (journal_rows j) r.row (at_place (journal_rows j) r.row.place r.row is)))
 
@@ -187,18 +187,18 @@ same_number : (a b : ℕ) → nat_eq a b ≡ true → a ≡ b
 same_number a b passes = grind (arith, nat_tests)
 
 -- where all rows are told, what is told of a site is its journal's rows
-site_told : (t : Table) (journals : List Journal) (passages : List Passage) → AllPairs (λ j k. ¬ (j.site ≡ k.site)) journals → AreSound t journals passages
+site_told : (g : Ground) (journals : List Journal) (passages : List Passage) → AllPairs (λ j k. ¬ (j.site ≡ k.site)) journals → AreSound g journals passages
     → AreAmong (rows_in journals) (receipts_in passages)
     → (j : Journal) → Contains journals j → IsPermutation (told j.site passages) (journal_rows j)
-site_told t journals passages once sound whole j has =
+site_told g journals passages once sound whole j has =
     let here = from_site j.site passages in
     let tells : AreApart (λ (r : Row). r) (map own_row here) =
-    AreApart-map own_row here (AreApart-filter own_row (λ (r : Receipt). nat_eq r.site j.site) (receipts_in passages) (receipts_apart t journals passages sound))
+    AreApart-map own_row here (AreApart-filter own_row (λ (r : Receipt). nat_eq r.site j.site) (receipts_in passages) (receipts_apart g journals passages sound))
     in
     let noted : AreAmong (map own_row here) (journal_rows j) = λ row there.
     let (r, found, is) = of_map own_row here row there in
     let (inside, passes) = of_filter (λ (x : Receipt). nat_eq x.site j.site) (receipts_in passages) r found in
-    let (k, has_k, same, stands) = receipts_noted t journals passages sound r inside in
+    let (k, has_k, same, stands) = receipts_noted g journals passages sound r inside in
     let one : k ≡ j = same_journal journals k j once has_k has (same ∙ same_number r.site j.site passes) in
     subst (Contains (journal_rows j)) is (subst (λ x. Contains (journal_rows x) r.row) one (at_place (journal_rows k) r.row.place r.row stands))
     in
@@ -226,17 +226,17 @@ rows_told run all r has =
     let whole : x ≡ r = ap (λ site. receipt_from site x.row) (same_number x.site j.site passes) ∙ ap (receipt_from j.site) same ∙ is in
     subst (Contains (receipts_in run.passages)) whole carried
 
-told_exactly : (t : Table) (run : Run) → AreJournals t run.journals → AreSound t run.journals run.passages
+told_exactly : (g : Ground) (run : Run) → AreJournals g run.journals → AreSound g run.journals run.passages
     → (length (receipts_in run.passages) ≡ length (rows_in run.journals) → AreTold run)
     × (AreTold run → length (receipts_in run.passages) ≡ length (rows_in run.journals))
-told_exactly t run good sound =
+told_exactly g run good sound =
     let receipts = receipts_in run.passages in
     let rows = rows_in run.journals in
-    let apart = receipts_apart t run.journals run.passages sound in
-    let among = receipts_among t run.journals run.passages sound in (
+    let apart = receipts_apart g run.journals run.passages sound in
+    let among = receipts_among g run.journals run.passages sound in (
       λ as_many k d within.
           let moved = shuffled own_row receipts rows apart among (omega (arith, as_many)) in
-          site_told t run.journals run.passages good.once sound (λ r has. Contains-permutation rows receipts r (IsPermutation-sym receipts rows moved) has)
+          site_told g run.journals run.passages good.once sound (λ r has. Contains-permutation rows receipts r (IsPermutation-sym receipts rows moved) has)
           (get_or run.journals k d) (Contains-get_or run.journals k d within),
       λ all.
           let few = no_longer own_row receipts rows apart among in
@@ -259,20 +259,20 @@ count_rows journals =
 count_receipts : (passages : List Passage) → length (receipts_in passages) ≡ sum_by (λ p. length p.receipts) passages
 count_receipts passages = length-flat_map (λ (p : Passage). p.receipts) passages
 
-counted : (t : Table) (journals : List Journal) (trails : List Trail) (rows receipts : ℕ) → rows ≡ sum_by (λ j. length j.arrivals) journals
+counted : (g : Ground) (journals : List Journal) (trails : List Trail) (rows receipts : ℕ) → rows ≡ sum_by (λ j. length j.arrivals) journals
     → receipts ≡ sum_by (λ trail. length trail.receipts.items) trails
     → (length (rows_in journals) ≡ rows) × (length (receipts_in (map passage_of trails)) ≡ receipts)
-counted t journals trails rows receipts is_rows is_receipts = (
+counted g journals trails rows receipts is_rows is_receipts = (
   count_rows journals ∙ sym is_rows,
   omega (arith, count_receipts (map passage_of trails), sum_by-map (λ (p : Passage). length p.receipts) passage_of trails, is_receipts),
 )
 
 -- as many receipts as rows make a run
-pub run_counted : (t : Table) (journals : List Journal) (trails : List Trail) (rows receipts : ℕ) → AreJournals t journals → AreSound t journals (map passage_of trails)
+pub run_counted : (g : Ground) (journals : List Journal) (trails : List Trail) (rows receipts : ℕ) → AreJournals g journals → AreSound g journals (map passage_of trails)
     → rows ≡ sum_by (λ j. length j.arrivals) journals → receipts ≡ sum_by (λ trail. length trail.receipts.items) trails → rows ≡ receipts
-    → IsRun t (run_of journals trails)
-run_counted t journals trails rows receipts good sound is_rows is_receipts same =
-    let both = counted t journals trails rows receipts is_rows is_receipts in
+    → IsRun g (run_of journals trails)
+run_counted g journals trails rows receipts good sound is_rows is_receipts same =
+    let both = counted g journals trails rows receipts is_rows is_receipts in
     record {
       journals = good;
       passages = λ k d within. (sound.0 k d within).0;
@@ -280,9 +280,9 @@ run_counted t journals trails rows receipts good sound is_rows is_receipts same 
       rows = (told_exactly t (run_of journals trails) good sound).0 (both.1 ∙ sym same ∙ sym both.0);
     }
 
-pub untold_counted : (t : Table) (journals : List Journal) (trails : List Trail) (rows receipts : ℕ) → AreJournals t journals → AreSound t journals (map passage_of trails)
+pub untold_counted : (g : Ground) (journals : List Journal) (trails : List Trail) (rows receipts : ℕ) → AreJournals g journals → AreSound g journals (map passage_of trails)
     → rows ≡ sum_by (λ j. length j.arrivals) journals → receipts ≡ sum_by (λ trail. length trail.receipts.items) trails → ¬ (rows ≡ receipts)
     → ¬ AreTold (run_of journals trails)
-untold_counted t journals trails rows receipts good sound is_rows is_receipts other all =
-    let both = counted t journals trails rows receipts is_rows is_receipts in
+untold_counted g journals trails rows receipts good sound is_rows is_receipts other all =
+    let both = counted g journals trails rows receipts is_rows is_receipts in
     other (sym both.0 ∙ sym ((told_exactly t (run_of journals trails) good sound).1 all) ∙ both.1)

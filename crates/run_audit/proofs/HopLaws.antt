@@ -7,7 +7,7 @@ use Rattle.std.proofs.lemmas.List.Sorted.{All-permutation}
 use Rattle.moment_core.specs.declared.colour.Colour.{Colour}
 use Rattle.ds_domain_base.specs.Domains.{Domain, link_of}
 use Rattle.ds_domain_base.specs.Sent.{came}
-use Rattle.ds_checker.specs.Acceptance.{Table}
+use Rattle.meter_fabric.specs.Grounds.{Ground}
 use Rattle.meter_fabric.specs.Sites.{hops_along}
 use Rattle.meter_fabric.specs.Trails.{IsTrail, Packet}
 use Rattle.meter_fabric.specs.declared.trail.Receipt.{Receipt}
@@ -54,15 +54,15 @@ sent_agree : (find other : Sending → Option Verdict) (o : Option Sending) → 
 sent_agree find other None same = refl
 sent_agree find other (Some s) same = same s refl
 
-against_agree : (t : Table) (p : Passage) → IsPassage t p
-    → against_sent t (delayed_hop t.domain p.packet.number) p ≡ against_sent t (delayed t.domain p.packet.number) p
-against_agree t p (c, is_c, trail) =
-    ap (option_and_then (λ c. option_and_then (delayed_hop t.domain p.packet.number c) (sending_of c p))) is_c
-    ∙ sent_agree (delayed_hop t.domain p.packet.number c) (delayed t.domain p.packet.number c) (sending_of c p)
+against_agree : (g : Ground) (p : Passage) → IsPassage g p
+    → against_sent g (delayed_hop g.domain p.packet.number) p ≡ against_sent g (delayed g.domain p.packet.number) p
+against_agree g p (c, is_c, trail) =
+    ap (option_and_then (λ c. option_and_then (delayed_hop g.domain p.packet.number c) (sending_of c p))) is_c
+    ∙ sent_agree (delayed_hop g.domain p.packet.number c) (delayed g.domain p.packet.number c) (sending_of c p)
     (λ s sent. ap (option_map (λ hop. DelayOver p.packet.number hop))
-    (hops_agree t.domain p.packet 1 s.moment s.colour c.port c.path s.moment s.receipts
-    (trail_sent t.domain p.packet.flow p.packet p.packet.begun (came c p.packet.dscp) c.terms c.path p.receipts s trail sent)))
-    ∙ ap (option_and_then (λ c. option_and_then (delayed t.domain p.packet.number c) (sending_of c p))) (sym is_c)
+    (hops_agree g.domain p.packet 1 s.moment s.colour c.port c.path s.moment s.receipts
+    (trail_sent g.domain p.packet.flow p.packet p.packet.begun (came c p.packet.dscp) c.terms c.path p.receipts s trail sent)))
+    ∙ ap (option_and_then (λ c. option_and_then (delayed g.domain p.packet.number c) (sending_of c p))) (sym is_c)
 
 found_agree : {A B : Type 0} (find other : A → Option B) (xs : List A) → All (λ x. find x ≡ other x) xs → first_found find xs ≡ first_found other xs
 unfolding first_found
@@ -72,8 +72,8 @@ found_agree find other (x ∷ xs) all =
     ∙ ap (λ further. first_of (other x) further) (found_agree find other xs (All-tail (λ x. find x ≡ other x) x xs all))
 
 -- what is found by the hops of receipts is what is found by counting hops
-pub link_of-hops : (t : Table) (run : Run) → IsRun t run → first_found (λ p. against_sent t (delayed_hop t.domain p.packet.number) p) (by_number run.passages) ≡ link_of_run t run
-link_of-hops t run is_run =
-    found_agree (λ p. against_sent t (delayed_hop t.domain p.packet.number) p) (λ p. against_sent t (delayed t.domain p.packet.number) p) (by_number run.passages)
-    (All-weaker (IsPassage t) (λ p. against_sent t (delayed_hop t.domain p.packet.number) p ≡ against_sent t (delayed t.domain p.packet.number) p) (against_agree t) (by_number run.passages)
-    (All-permutation (IsPassage t) run.passages (by_number run.passages) (in_order-permutes is_numbered_before run.passages) is_run.passages))
+pub link_of-hops : (g : Ground) (run : Run) → IsRun g run → first_found (λ p. against_sent g (delayed_hop g.domain p.packet.number) p) (by_number run.passages) ≡ link_of_run g run
+link_of-hops g run is_run =
+    found_agree (λ p. against_sent g (delayed_hop g.domain p.packet.number) p) (λ p. against_sent g (delayed g.domain p.packet.number) p) (by_number run.passages)
+    (All-weaker (IsPassage g) (λ p. against_sent g (delayed_hop g.domain p.packet.number) p ≡ against_sent g (delayed g.domain p.packet.number) p) (against_agree g) (by_number run.passages)
+    (All-permutation (IsPassage g) run.passages (by_number run.passages) (in_order-permutes is_numbered_before run.passages) is_run.passages))

@@ -10,11 +10,12 @@ use Rattle.std.proofs.lemmas.List.Folds.{Any-from_list_any, list_any_at}
 use Rattle.std.proofs.lemmas.List.Quantifiers.{all_pairs_push, position-Some}
 use Rattle.std.proofs.lemmas.Option.{slice_get_within}
 use Rattle.indexmap.specs.IndexSet.{insert_key}
-use Rattle.ds_checker.specs.Acceptance.{Table}
 use Rattle.meter_book.specs.Replay.{Journal, journal_rows}
-use Rattle.meter_fabric.specs.Sites.{contract_of}
+use Rattle.ds_checker.specs.Acceptance.{Table}
+use Rattle.meter_fabric.specs.Grounds.{contract_of, ground_of, most_flows}
+use Rattle.meter_fabric.specs.Openings.{edge_opening, opening_at, site_count}
 use Rattle.meter_fabric.specs.declared.trail.Receipt.{Receipt}
-use Rattle.run_audit_base.specs.Runs.{edge_opening, opening_at}
+use Rattle.meter_fabric.proofs.GroundLaws.{contract_at}
 use Rattle.run_audit.specs.Assembling.{IsNoted}
 
 -- ---- numbers of sites
@@ -41,18 +42,19 @@ slice_get_below {X} xs i some = by_found (slice_get xs i) refl some
 low_test : (a b : ℕ) → nat_lt a b ≡ true → a < b
 low_test a b low = grind (arith, nat_tests)
 
-contract_below : (t : Table) (flow : ℕ) → is_some (contract_of t flow) ≡ true → (flow < 4294966272) × (flow < length t.contracts)
+contract_below : (t : Table) (flow : ℕ) → is_some (contract_of (ground_of t) flow) ≡ true → (flow < most_flows) × (flow < length t.contracts)
 contract_below t flow some =
-    let (low, there) = if_some (nat_lt flow 4294966272) (slice_get t.contracts flow) some in
-    (low_test flow 4294966272 low, slice_get_below t.contracts flow there)
+    let (low, there) = if_some (nat_lt flow most_flows) (slice_get t.contracts flow) (ap is_some (sym (contract_at t flow)) ∙ some) in
+    (low_test flow most_flows low, slice_get_below t.contracts flow there)
 
 -- something stands only at the first numbers
-pub opening_below : (t : Table) (site : ℕ) → IsSome (opening_at t site) → site < length t.domain.meters + min (length t.contracts) 4294966272
+pub opening_below : (t : Table) (site : ℕ) → IsSome (opening_at (ground_of t) site) → site < site_count t
 opening_below t site some =
     ⊎_elim
     (λ low. omega (arith, low_test site (length t.domain.meters) low))
     (λ there.
-    let (flow, listed) = contract_below t (site - length t.domain.meters) (and_then_some (edge_opening t.domain) (contract_of t (site - length t.domain.meters)) there) in
+    let place = site - length t.domain.meters in
+    let (flow, listed) = contract_below t place (and_then_some (edge_opening t.domain) (contract_of (ground_of t) place) there) in
     omega (arith, flow, listed))
     (either_some (nat_lt site (length t.domain.meters)) _ _ some)
 

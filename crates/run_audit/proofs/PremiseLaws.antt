@@ -9,8 +9,7 @@ use Rattle.ds_domain_base.specs.Domains.{Domain, link_of}
 use Rattle.ds_domain_base.specs.declared.contract.Contract.{Contract}
 use Rattle.ds_domain_base.specs.declared.parts.Link.{Link}
 use Rattle.ds_certificate.specs.Sources.{jitter_of}
-use Rattle.ds_checker.specs.Acceptance.{Table}
-use Rattle.meter_fabric.specs.Sites.{contract_of}
+use Rattle.meter_fabric.specs.Grounds.{Ground, contract_of}
 use Rattle.meter_fabric.specs.declared.trail.Receipt.{Receipt}
 use Rattle.run_audit_base.specs.Premises.{IsInTime, IsOver, IsTimely, KeepsLinks, KeepsSkews, KeepsTime, Premises, floor_of}
 use Rattle.run_audit_base.specs.Runs.{IsRun, Passage, Run}
@@ -24,24 +23,24 @@ use Rattle.run_audit.proofs.PremiseSourceLaws.{source-not_kept, source_tells}
 
 -- ---- packets that were sent
 
-against_tells : (t : Table) (find : Contract → Sending → Option Verdict) (P : Contract → Sending → Type 0) (p : Passage)
+against_tells : (g : Ground) (find : Contract → Sending → Option Verdict) (P : Contract → Sending → Type 0) (p : Passage)
     → ((c : Contract) (s : Sending) → (find c s ≡ None) ↔ P c s)
-    → (against_sent t find p ≡ None) ↔ ForSome (contract_of t p.packet.flow) (λ c. ForSome (sending_of c p) (P c))
-against_tells t find P p each =
-    and_then-none (λ c. option_and_then (find c) (sending_of c p)) (λ c. ForSome (sending_of c p) (P c)) (contract_of t p.packet.flow)
+    → (against_sent g find p ≡ None) ↔ ForSome (contract_of g p.packet.flow) (λ c. ForSome (sending_of c p) (P c))
+against_tells g find P p each =
+    and_then-none (λ c. option_and_then (find c) (sending_of c p)) (λ c. ForSome (sending_of c p) (P c)) (contract_of g p.packet.flow)
     (λ c. and_then-none (find c) (P c) (sending_of c p) (each c))
 
-against-not_kept : (t : Table) (find : Contract → Sending → Option Verdict) (p : Passage) → ((c : Contract) (s : Sending) → IsNotKept (find c s)) → IsNotKept (against_sent t find p)
-against-not_kept t find p each =
-    and_then-not_kept (λ c. option_and_then (find c) (sending_of c p)) (contract_of t p.packet.flow)
+against-not_kept : (g : Ground) (find : Contract → Sending → Option Verdict) (p : Passage) → ((c : Contract) (s : Sending) → IsNotKept (find c s)) → IsNotKept (against_sent g find p)
+against-not_kept g find p each =
+    and_then-not_kept (λ c. option_and_then (find c) (sending_of c p)) (contract_of g p.packet.flow)
     (λ c. and_then-not_kept (find c) (sending_of c p) (each c))
 
 -- nothing is found against the packets of a run where each that was sent is as it should be
-sent_tells : (t : Table) (run : Run) (find : ℕ → Contract → Sending → Option Verdict) (P : Contract → Sending → Type 0)
+sent_tells : (g : Ground) (run : Run) (find : ℕ → Contract → Sending → Option Verdict) (P : Contract → Sending → Type 0)
     → ((n : ℕ) (c : Contract) (s : Sending) → (find n c s ≡ None) ↔ P c s)
-    → (first_found (λ p. against_sent t (find p.packet.number) p) (in_order is_numbered_before run.passages) ≡ None) ↔ ForSent t run P
-sent_tells t run find P each =
-    none_in_order is_numbered_before (λ p. against_sent t (find p.packet.number) p) (λ p. ForSome (contract_of t p.packet.flow) (λ c. ForSome (sending_of c p) (P c))) run.passages
+    → (first_found (λ p. against_sent g (find p.packet.number) p) (in_order is_numbered_before run.passages) ≡ None) ↔ ForSent g run P
+sent_tells g run find P each =
+    none_in_order is_numbered_before (λ p. against_sent g (find p.packet.number) p) (λ p. ForSome (contract_of g p.packet.flow) (λ c. ForSome (sending_of c p) (P c))) run.passages
     (λ p. against_tells t (find p.packet.number) P p (each p.packet.number))
 
 -- ---- time
@@ -53,15 +52,15 @@ outside_tells n c s =
     (le_tells c.lifetime.since s.moment)
     (some_tells (λ until. nat_lt s.moment until) (λ until. s.moment < until) c.lifetime.until (λ until. lt_tells s.moment until)))
 
-time_tells : (t : Table) (run : Run) → (time_of t run ≡ None) ↔ KeepsTime t run
-time_tells t run = sent_tells t run outside IsInTime outside_tells
+time_tells : (g : Ground) (run : Run) → (time_of g run ≡ None) ↔ KeepsTime g run
+time_tells g run = sent_tells g run outside IsInTime outside_tells
 
 outside-not_kept : (n : ℕ) (c : Contract) (s : Sending) → IsNotKept (outside n c s)
 outside-not_kept n c s = unless-not_kept (may_send c.lifetime s.moment) (OutsideContract n) (λ e. absurd cc)
 
-time-not_kept : (t : Table) (run : Run) → IsNotKept (time_of t run)
-time-not_kept t run =
-    first_found-not_kept (λ p. against_sent t (outside p.packet.number) p) (in_order is_numbered_before run.passages)
+time-not_kept : (g : Ground) (run : Run) → IsNotKept (time_of g run)
+time-not_kept g run =
+    first_found-not_kept (λ p. against_sent g (outside p.packet.number) p) (in_order is_numbered_before run.passages)
     (λ p. against-not_kept t (outside p.packet.number) p (outside-not_kept p.packet.number))
 
 -- ---- links
@@ -81,21 +80,21 @@ untimely_tells d hop from (to ∷ path) moment (r ∷ receipts) =
     (over_tells (link_of d from to) moment r.row.arrival)
     (untimely_tells d (suc hop) to path r.row.arrival receipts)
 
-delayed_tells : (t : Table) (n : ℕ) (c : Contract) (s : Sending) → (delayed t.domain n c s ≡ None) ↔ IsTimely t.domain c.port c.path s.moment s.receipts
-delayed_tells t n c s =
-    iff_trans (map-none (λ hop. DelayOver n hop) (untimely t.domain 1 c.port c.path s.moment s.receipts))
-    (untimely_tells t.domain 1 c.port c.path s.moment s.receipts)
+delayed_tells : (g : Ground) (n : ℕ) (c : Contract) (s : Sending) → (delayed g.domain n c s ≡ None) ↔ IsTimely g.domain c.port c.path s.moment s.receipts
+delayed_tells g n c s =
+    iff_trans (map-none (λ hop. DelayOver n hop) (untimely g.domain 1 c.port c.path s.moment s.receipts))
+    (untimely_tells g.domain 1 c.port c.path s.moment s.receipts)
 
-link_tells : (t : Table) (run : Run) → (link_of_run t run ≡ None) ↔ KeepsLinks t run
-link_tells t run = sent_tells t run (delayed t.domain) (λ c s. IsTimely t.domain c.port c.path s.moment s.receipts) (delayed_tells t)
+link_tells : (g : Ground) (run : Run) → (link_of_run g run ≡ None) ↔ KeepsLinks g run
+link_tells g run = sent_tells g run (delayed g.domain) (λ c s. IsTimely g.domain c.port c.path s.moment s.receipts) (delayed_tells g)
 
-delayed-not_kept : (t : Table) (n : ℕ) (c : Contract) (s : Sending) → IsNotKept (delayed t.domain n c s)
-delayed-not_kept t n c s = map-not_kept (λ hop. DelayOver n hop) (untimely t.domain 1 c.port c.path s.moment s.receipts) (λ hop e. absurd cc)
+delayed-not_kept : (g : Ground) (n : ℕ) (c : Contract) (s : Sending) → IsNotKept (delayed g.domain n c s)
+delayed-not_kept g n c s = map-not_kept (λ hop. DelayOver n hop) (untimely g.domain 1 c.port c.path s.moment s.receipts) (λ hop e. absurd cc)
 
-link-not_kept : (t : Table) (run : Run) → IsNotKept (link_of_run t run)
-link-not_kept t run =
-    first_found-not_kept (λ p. against_sent t (delayed t.domain p.packet.number) p) (in_order is_numbered_before run.passages)
-    (λ p. against-not_kept t (delayed t.domain p.packet.number) p (delayed-not_kept t p.packet.number))
+link-not_kept : (g : Ground) (run : Run) → IsNotKept (link_of_run g run)
+link-not_kept g run =
+    first_found-not_kept (λ p. against_sent g (delayed g.domain p.packet.number) p) (in_order is_numbered_before run.passages)
+    (λ p. against-not_kept t (delayed g.domain p.packet.number) p (delayed-not_kept g p.packet.number))
 
 -- ---- skews
 
@@ -118,39 +117,39 @@ skew-not_kept run =
 -- ---- all of them
 
 -- what is found against any premise, the first that there is
-abbrev found_in : Table → Run → Option Verdict
-found_in t run = first_of (time_of t run) (first_of (source_of_run t run) (first_of (link_of_run t run) (skew_of_run run)))
+abbrev found_in : Ground → Run → Option Verdict
+found_in g run = first_of (time_of g run) (first_of (source_of_run g run) (first_of (link_of_run g run) (skew_of_run run)))
 
-found-not_kept : (t : Table) (run : Run) → IsNotKept (found_in t run)
-found-not_kept t run =
-    first_of-not_kept (time_of t run) (first_of (source_of_run t run) (first_of (link_of_run t run) (skew_of_run run))) (time-not_kept t run)
-    (first_of-not_kept (source_of_run t run) (first_of (link_of_run t run) (skew_of_run run)) (source-not_kept t run)
-    (first_of-not_kept (link_of_run t run) (skew_of_run run) (link-not_kept t run) (skew-not_kept run)))
+found-not_kept : (g : Ground) (run : Run) → IsNotKept (found_in g run)
+found-not_kept g run =
+    first_of-not_kept (time_of g run) (first_of (source_of_run g run) (first_of (link_of_run g run) (skew_of_run run))) (time-not_kept g run)
+    (first_of-not_kept (source_of_run g run) (first_of (link_of_run g run) (skew_of_run run)) (source-not_kept g run)
+    (first_of-not_kept (link_of_run g run) (skew_of_run run) (link-not_kept g run) (skew-not_kept run)))
 
-found_tells : (t : Table) (run : Run) → IsRun t run → (found_in t run ≡ None) ↔ Premises t run
-found_tells t run is_run =
-    let first = first_of-none (time_of t run) (first_of (source_of_run t run) (first_of (link_of_run t run) (skew_of_run run))) in
-    let next = first_of-none (source_of_run t run) (first_of (link_of_run t run) (skew_of_run run)) in
-    let last = first_of-none (link_of_run t run) (skew_of_run run) in (
+found_tells : (g : Ground) (run : Run) → (found_in g run ≡ None) ↔ Premises g run
+found_tells g run =
+    let first = first_of-none (time_of g run) (first_of (source_of_run g run) (first_of (link_of_run g run) (skew_of_run run))) in
+    let next = first_of-none (source_of_run g run) (first_of (link_of_run g run) (skew_of_run run)) in
+    let last = first_of-none (link_of_run g run) (skew_of_run run) in (
       λ e.
           let a = first.0 e in
           let b = next.0 a.1 in
           let c = last.0 b.1 in
           record {
-            time = (time_tells t run).0 a.0;
-            source = (source_tells t run is_run).0 b.0;
-            link = (link_tells t run).0 c.0;
+            time = (time_tells g run).0 a.0;
+            source = (source_tells g run).0 b.0;
+            link = (link_tells g run).0 c.0;
             skew = (skew_tells run).0 c.1;
           },
       λ premises.
           first.1 (
-            (time_tells t run).1 premises.time,
+            (time_tells g run).1 premises.time,
             next.1 (
-              (source_tells t run is_run).1 premises.source,
-              last.1 ((link_tells t run).1 premises.link, (skew_tells run).1 premises.skew),
+              (source_tells g run).1 premises.source,
+              last.1 ((link_tells g run).1 premises.link, (skew_tells run).1 premises.skew),
             ),
           ),
     )
 
-pub kept_is_premises : (t : Table) (run : Run) → IsRun t run → (verdict_of t run ≡ Kept) ↔ Premises t run
-kept_is_premises t run is_run = iff_trans (kept_is_none (found_in t run) (found-not_kept t run)) (found_tells t run is_run)
+pub kept_is_premises : (g : Ground) (run : Run) → IsRun g run → (verdict_of g run ≡ Kept) ↔ Premises g run
+kept_is_premises g run is_run = iff_trans (kept_is_none (found_in g run) (found-not_kept g run)) (found_tells g run)

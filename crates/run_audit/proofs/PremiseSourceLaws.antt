@@ -1,7 +1,9 @@
 -- No bucket of a trusted source overflows exactly where the sources keep their envelopes.
 use Rattle.std.proofs.Common.{◌≡◌, ℕ, zero, suc, ◌+◌, ◌<◌, ◌≤◌, ◌↔◌, Bool, true, false, cond, List, [], ◌∷◌, ◌++◌, map, length, get_or, Option, None, Some, refl, sym, ap, subst, ◌∙◌, arith}
-use Rattle.std.specs.Prelude.{⊤, IsSome, nat_eq, nat_lt, ◌&&◌, ◌||◌, slice_get, option_and_then, if◌then◌else◌}
-use Rattle.std.specs.List.{All, filter, flat_map, sum_by}
+use Rattle.std.specs.Prelude.{⊤, Contains, IsSome, nat_eq, nat_lt, ◌&&◌, ◌||◌, slice_get, option_and_then, option_map, if◌then◌else◌}
+use Rattle.std.specs.List.{All, filter, find, flat_map, sum_by}
+use Rattle.std.specs.Map.{keys_of}
+use Rattle.std.specs.Option.{ForSome}
 use Rattle.std.specs.List.Sorted.{IsNonDecreasingBy}
 use Rattle.std.proofs.lemmas.Bool.{false≢true}
 use Rattle.std.proofs.lemmas.Bool.Decides.{nat_tests}
@@ -21,22 +23,19 @@ use Rattle.ds_domain_base.specs.declared.contract.Contract.{Contract}
 use Rattle.ds_domain_base.specs.declared.terms.Terms.{Terms}
 use Rattle.ds_domain_base.specs.declared.terms.Terms.TheVariants.{Trusted, Policed}
 use Rattle.ds_certificate.specs.Sources.{source_of}
-use Rattle.ds_checker.specs.Acceptance.{Table}
 use Rattle.ds_checker.specs.declared.refusal.Column.{Column}
 use Rattle.ds_checker.specs.declared.refusal.Column.TheVariants as columns
-use Rattle.meter_fabric.specs.Sites.{contract_of}
+use Rattle.meter_fabric.specs.Grounds.{Ground, contract_of}
 use Rattle.meter_fabric.specs.declared.trail.Receipt.{Receipt}
 use Rattle.run_audit_base.specs.Premises.{IsTrusted, KeepsSource, KeepsSources}
 use Rattle.run_audit_base.specs.Runs.{IsRun, Passage, Run}
 use Rattle.run_audit_base.specs.Sendings.{Sending, passages_of, sending_by, sending_of, sent_item, sent_items}
-use Rattle.run_audit_base.proofs.Inputs.{passages_of-contract}
-use Rattle.run_audit_base.proofs.Journals.{contract_place}
 use Rattle.run_audit.specs.Orders.{in_order, placed}
-use Rattle.run_audit.specs.Verdicts.{counts_in, curve_in, is_begun_before, over_by, over_in, overflowing, sent_in, source_of_run, sources_from, was_sent_as}
+use Rattle.run_audit.specs.Verdicts.{counts_in, curve_in, is_begun_before, over_by, over_in, overflowing, sent_in, source_of_run, over_at, was_sent_as}
 use Rattle.run_audit.specs.declared.verdict.Verdict.TheVariants.{SourceOver}
 use Rattle.run_audit.proofs.FoundLaws.{is_there}
 use Rattle.run_audit.proofs.OrderLaws.{in_order-permutes}
-use Rattle.run_audit.proofs.PremiseFoundLaws.{IsNotKept, first_of-none, first_of-not_kept, iff_trans, map-none, map-not_kept}
+use Rattle.run_audit.proofs.PremiseFoundLaws.{IsNotKept, and_then-none, and_then-not_kept, first_found-not_kept, first_of-none, first_of-not_kept, iff_trans, map-none, map-not_kept, none_along}
 
 -- ---- a list in an order that follows a key does not fall in that key
 
@@ -191,105 +190,63 @@ column_tells curve column c ps trusted =
 
 -- ---- contracts
 
-in_tells : (t : Table) (run : Run) (flow : ℕ) (c : Contract) (column : Column) → IsTrusted c.terms
-    → (over_in t run flow c column ≡ None) ↔ KeepsCurve (curve_in column (source_of t.domain c)) (sent_items (counts_in column) c (passages_of flow run))
-in_tells t run flow c column trusted =
-    let curve = curve_in column (source_of t.domain c) in
+in_tells : (g : Ground) (run : Run) (flow : ℕ) (c : Contract) (column : Column) → IsTrusted c.terms
+    → (over_in g run flow c column ≡ None) ↔ KeepsCurve (curve_in column (source_of g.domain c)) (sent_items (counts_in column) c (passages_of flow run))
+in_tells g run flow c column trusted =
+    let curve = curve_in column (source_of g.domain c) in
     iff_trans (map-none (λ p. SourceOver flow column p.packet.number) (overflowing curve column c (sent_in column c (passages_of flow run))))
     (column_tells curve column c (passages_of flow run) trusted)
 
-by_tells : (t : Table) (run : Run) (flow : ℕ) (c : Contract) (terms : Terms) → c.terms ≡ terms
-    → (over_by terms t run flow c ≡ None) ↔ (IsTrusted terms → KeepsSource t run flow c)
-by_tells t run flow c (Trusted committed peak) is =
+by_tells : (g : Ground) (run : Run) (flow : ℕ) (c : Contract) (terms : Terms) → c.terms ≡ terms
+    → (over_by terms g run flow c ≡ None) ↔ (IsTrusted terms → KeepsSource g run flow c)
+by_tells g run flow c (Trusted committed peak) is =
     let trusted = subst IsTrusted (sym is) tt in
-    let both = first_of-none (over_in t run flow c columns.Green) (over_in t run flow c columns.All) in
-    let green = in_tells t run flow c columns.Green trusted in
-    let all = in_tells t run flow c columns.All trusted in
+    let both = first_of-none (over_in g run flow c columns.Green) (over_in g run flow c columns.All) in
+    let green = in_tells g run flow c columns.Green trusted in
+    let all = in_tells g run flow c columns.All trusted in
     (λ e so. (green.0 (both.0 e).0, all.0 (both.0 e).1), λ kept. both.1 (green.1 (kept tt).0, all.1 (kept tt).1))
-by_tells t run flow c (Policed parameters mode) is = (λ e trusted. absurd trusted, λ kept. refl)
+by_tells g run flow c (Policed parameters mode) is = (λ e trusted. absurd trusted, λ kept. refl)
 
--- nothing is found against each contract of a list, of which the first has a number
-abbrev NoneOver : Table → Run → ℕ → List Contract → Type 0
-NoneOver t run n cs = (place flow : ℕ) (c : Contract) → flow ≡ n + place → slice_get cs place ≡ Some c → over_by c.terms t run flow c ≡ None
-
-none_over-first : (t : Table) (run : Run) (n : ℕ) (first : Contract) (cs : List Contract) → over_by first.terms t run n first ≡ None → NoneOver t run (suc n) cs
-    → NoneOver t run n (first ∷ cs)
-none_over-first t run n first cs here behind zero flow c at found =
-    let same : n ≡ flow = omega (arith, at) in
-    subst (λ f. over_by c.terms t run f c ≡ None) same (subst (λ (x : Contract). over_by x.terms t run n x ≡ None) (same_Some first c found) here)
-none_over-first t run n first cs here behind (suc place) flow c at found = behind place flow c (omega (arith, at)) found
-
-sources_tell : (t : Table) (run : Run) (n : ℕ) (cs : List Contract) → (sources_from t run n cs ≡ None) ↔ NoneOver t run n cs
-unfolding sources_from
-sources_tell t run n [] = (λ e place flow c at found. absurd (none-some c found), λ each. refl)
-sources_tell t run n (first ∷ cs) =
-    let both = first_of-none (over_by first.terms t run n first) (sources_from t run (suc n) cs) in
-    let behind = sources_tell t run (suc n) cs in (
-      λ e. none_over-first t run n first cs (both.0 e).0 (behind.0 (both.0 e).1),
-      λ each. both.1 (each 0 n first (omega arith) refl, behind.1 (λ place flow c at found. each (suc place) flow c (omega (arith, at)) found)),
-    )
-
--- ---- contracts without a number have no packets
-
-empty_from : {A : Type 0} (xs : List A) → All (λ x. ⊥) xs → xs ≡ []
-empty_from [] none = refl
-empty_from (x ∷ xs) none = absurd (none 0 x (omega arith))
-
-nobody : (t : Table) (run : Run) → IsRun t run → (flow : ℕ) (c : Contract) → slice_get t.contracts flow ≡ Some c → contract_of t flow ≡ None → passages_of flow run ≡ []
-nobody t run is_run flow c found none =
-    let is_flow = λ (p : Passage). nat_eq p.packet.flow flow in
-    empty_from (passages_of flow run)
-    (λ k d short.
-    let p = get_or (passages_of flow run) k d in
-    let passes : nat_eq p.packet.flow flow ≡ true = filter_passes is_flow run.passages k d short in
-    let same : p.packet.flow ≡ flow = grind (arith, nat_tests) in
-    none-some c (sym none ∙ ap (contract_of t) (sym same) ∙ passages_of-contract t run is_run flow c found k d short))
-
-keeps_nothing : (t : Table) (run : Run) (flow : ℕ) (c : Contract) → passages_of flow run ≡ [] → KeepsSource t run flow c
-keeps_nothing t run flow c none =
-    let source = source_of t.domain c in (
-      subst (λ ps. KeepsCurve source.green (sent_items is_green c ps)) (sym none) (Keeps-nil source.green.rate source.green.burst),
-      subst (λ ps. KeepsCurve source.all (sent_items is_in_profile c ps)) (sym none) (Keeps-nil source.all.rate source.all.burst),
-    )
-
--- what holds of the contracts that have a number holds of all
-each_source : (t : Table) (run : Run) → IsRun t run → KeepsSources t run → (flow : ℕ) (c : Contract) → slice_get t.contracts flow ≡ Some c → IsTrusted c.terms → KeepsSource t run flow c
-each_source t run is_run keeps flow c found trusted = by_number (nat_lt flow 4294966272) refl
+-- a contract that is found stands among the flows
+listed : (contracts : List (ℕ × Contract)) (flow : ℕ) (c : Contract) → option_map (λ e. e.1) (find (λ e. nat_eq e.0 flow) contracts) ≡ Some c
+    → Contains (keys_of contracts) flow
+listed [] flow c is = absurd (none-some c is)
+listed (e ∷ contracts) flow c is = by_test (nat_eq e.0 flow) refl (listed contracts flow c)
   where
-    by_number : (b : Bool) → nat_lt flow 4294966272 ≡ b → KeepsSource t run flow c
-    by_number true low = keeps flow c (rw low found) trusted
-    by_number false high = keeps_nothing t run flow c (nobody t run is_run flow c found (rw high refl))
+    by_test : (b : Bool) → nat_eq e.0 flow ≡ b
+        → (option_map (λ x. x.1) (find (λ x. nat_eq x.0 flow) contracts) ≡ Some c → Contains (keys_of contracts) flow)
+        → Contains (e.0 ∷ keys_of contracts) flow
+    by_test true here behind = let same : e.0 ≡ flow = grind (arith, nat_tests) in (0, omega arith, same)
+    by_test false other behind =
+        let (place, short, at) = behind (rw other at is) in
+        (suc place, omega (arith, short), at)
 
-pub source_tells : (t : Table) (run : Run) → IsRun t run → (source_of_run t run ≡ None) ↔ KeepsSources t run
-source_tells t run is_run =
-    let tells = sources_tell t run 0 t.contracts in (
-      λ e flow c is trusted.
-          (by_tells t run flow c c.terms refl).0
-          (tells.0 e flow flow c (omega arith) (contract_place (nat_lt flow 4294966272) (slice_get t.contracts flow) c is)) trusted,
-      λ keeps.
-          tells.1
-          (λ place flow c at found.
-          let there : slice_get t.contracts flow ≡ Some c = ap (slice_get t.contracts) (omega (arith, at)) ∙ found in
-          (by_tells t run flow c c.terms refl).1 (each_source t run is_run keeps flow c there)),
+pub source_tells : (g : Ground) (run : Run) → (source_of_run g run ≡ None) ↔ KeepsSources g run
+source_tells g run =
+    let Keeps = λ (flow : ℕ). ForSome (contract_of g flow) (λ c. IsTrusted c.terms → KeepsSource g run flow c) in
+    let tells = none_along (over_at g run) Keeps (keys_of g.contracts)
+    (λ flow. and_then-none (λ c. over_by c.terms g run flow c) (λ c. IsTrusted c.terms → KeepsSource g run flow c) (contract_of g flow)
+    (λ c. by_tells g run flow c c.terms refl))
+    in (
+      λ e flow c is.
+          let (place, short, at) = listed g.contracts flow c is in
+          subst Keeps at (tells.0 e place flow short) c is,
+      λ keeps. tells.1 (λ place flow short c is. keeps (get_or (keys_of g.contracts) place flow) c is),
     )
 
 -- ---- what is found is never that a run is kept
 
-by-not_kept : (t : Table) (run : Run) (flow : ℕ) (c : Contract) (terms : Terms) → IsNotKept (over_by terms t run flow c)
-by-not_kept t run flow c (Trusted committed peak) =
-    first_of-not_kept (over_in t run flow c columns.Green) (over_in t run flow c columns.All) (in-not_kept columns.Green) (in-not_kept columns.All)
+by-not_kept : (g : Ground) (run : Run) (flow : ℕ) (c : Contract) (terms : Terms) → IsNotKept (over_by terms g run flow c)
+by-not_kept g run flow c (Trusted committed peak) =
+    first_of-not_kept (over_in g run flow c columns.Green) (over_in g run flow c columns.All) (in-not_kept columns.Green) (in-not_kept columns.All)
   where
-    in-not_kept : (column : Column) → IsNotKept (over_in t run flow c column)
+    in-not_kept : (column : Column) → IsNotKept (over_in g run flow c column)
     in-not_kept column =
         map-not_kept (λ p. SourceOver flow column p.packet.number)
-        (overflowing (curve_in column (source_of t.domain c)) column c (sent_in column c (passages_of flow run))) (λ p e. absurd cc)
-by-not_kept t run flow c (Policed parameters mode) = λ e. absurd cc
+        (overflowing (curve_in column (source_of g.domain c)) column c (sent_in column c (passages_of flow run))) (λ p e. absurd cc)
+by-not_kept g run flow c (Policed parameters mode) = λ e. absurd cc
 
-sources-not_kept : (t : Table) (run : Run) (n : ℕ) (cs : List Contract) → IsNotKept (sources_from t run n cs)
-unfolding sources_from
-sources-not_kept t run n [] e = absurd cc
-sources-not_kept t run n (c ∷ cs) e =
-    first_of-not_kept (over_by c.terms t run n c) (sources_from t run (suc n) cs) (by-not_kept t run n c c.terms) (sources-not_kept t run (suc n) cs) e
-
-pub source-not_kept : (t : Table) (run : Run) → IsNotKept (source_of_run t run)
-source-not_kept t run = sources-not_kept t run 0 t.contracts
+pub source-not_kept : (g : Ground) (run : Run) → IsNotKept (source_of_run g run)
+source-not_kept g run =
+    first_found-not_kept (over_at g run) (keys_of g.contracts)
+    (λ flow. and_then-not_kept (λ c. over_by c.terms g run flow c) (contract_of g flow) (λ c. by-not_kept g run flow c c.terms))

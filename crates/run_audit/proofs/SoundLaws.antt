@@ -8,7 +8,7 @@ use Rattle.std.proofs.lemmas.List.{drop_more, get_or-map, length-map, map-append
 use Rattle.std.proofs.lemmas.List.Elements.{All-push}
 use Rattle.std.proofs.lemmas.List.Folds.{Any-from_list_any, list_any_at}
 use Rattle.std.proofs.lemmas.List.Quantifiers.{all_pairs_push}
-use Rattle.ds_checker.specs.Acceptance.{Table}
+use Rattle.meter_fabric.specs.Grounds.{Ground}
 use Rattle.meter_book.specs.Replay.{Journal}
 use Rattle.meter_fabric.specs.declared.trail.Trail.{Trail}
 use Rattle.run_audit_base.specs.Runs.{Passage}
@@ -47,12 +47,12 @@ front_more : (trails : List Trail) (i : ℕ) (trail : Trail) → i < length trai
 front_more trails i trail inside is =
     ap (map passage_of) (take_more trails i trail inside ∙ ap (λ x. take i trails ++ x ∷ []) (sym is)) ∙ map-append passage_of (take i trails) (trail ∷ [])
 
-pub AreSound-more : (t : Table) (journals : List Journal) (trails : List Trail) (i : ℕ) (trail : Trail) → i < length trails → trail ≡ get_or trails i trail
-    → AreSound t journals (front_of trails i) → IsNew (front_of trails i) (passage_of trail) → IsSound t journals (passage_of trail)
-    → AreSound t journals (front_of trails (i + 1))
-AreSound-more t journals trails i trail inside is sound new own =
-    subst (AreSound t journals) (sym (front_more trails i trail inside is)) (
-      All-push (IsSound t journals) (front_of trails i) (passage_of trail) sound.0 own,
+pub AreSound-more : (g : Ground) (journals : List Journal) (trails : List Trail) (i : ℕ) (trail : Trail) → i < length trails → trail ≡ get_or trails i trail
+    → AreSound g journals (front_of trails i) → IsNew (front_of trails i) (passage_of trail) → IsSound g journals (passage_of trail)
+    → AreSound g journals (front_of trails (i + 1))
+AreSound-more g journals trails i trail inside is sound new own =
+    subst (AreSound g journals) (sym (front_more trails i trail inside is)) (
+      All-push (IsSound g journals) (front_of trails i) (passage_of trail) sound.0 own,
       all_pairs_push (λ (p q : Passage). ¬ (p.packet.number ≡ q.packet.number)) (front_of trails i) (passage_of trail) sound.1 (λ k d within. new k d within),
     )
 
@@ -62,11 +62,11 @@ pub numbers_more : (trails : List Trail) (i : ℕ) (trail : Trail) (keys more : 
 numbers_more trails i trail keys more inside is kept pushed =
     pushed ∙ ap (λ ns. ns ++ trail.packet ∷ []) kept ∙ sym (map-append number_of (front_of trails i) (passage_of trail ∷ [])) ∙ ap (map number_of) (sym (front_more trails i trail inside is))
 
-pub first_wrong : (t : Table) (journals : List Journal) (trails : List Trail) (i : ℕ) (trail : Trail) (Wrong : List Passage → Passage → Type 0)
+pub first_wrong : (g : Ground) (journals : List Journal) (trails : List Trail) (i : ℕ) (trail : Trail) (Wrong : List Passage → Passage → Type 0)
     → i < length trails → trail ≡ get_or trails i trail
-    → AreSound t journals (front_of trails i) → Wrong (front_of trails i) (passage_of trail)
-    → IsFirstWrong t (run_of journals trails) Wrong
-first_wrong t journals trails i trail Wrong inside is sound wrong =
+    → AreSound g journals (front_of trails i) → Wrong (front_of trails i) (passage_of trail)
+    → IsFirstWrong g (run_of journals trails) Wrong
+first_wrong g journals trails i trail Wrong inside is sound wrong =
     let rest : drop i trails ≡ trail ∷ drop (i + 1) trails = drop_more trails i trail inside ∙ ap (λ x. x ∷ drop (i + 1) trails) (sym is) in
     let whole : trails ≡ take i trails ++ trail ∷ drop (i + 1) trails = sym (take-append-drop i trails) ∙ ap (λ l. take i trails ++ l) rest in
     record {

@@ -1,7 +1,8 @@
 -- The overflow of sources over packets contract by contract is that of each contract by itself.
 use Rattle.std.proofs.Common.{◌≡◌, inl, inr, ℕ, zero, suc, ◌+◌, ◌*◌, ◌<◌, ◌≤◌, Bool, true, false, cond, List, [], ◌∷◌, map, get_or, take, drop, Option, None, Some, refl, sym, ap, subst, ◌∙◌, arith}
 use Rattle.std.specs.Prelude.{nat_eq, nat_le, nat_lt, ◌&&◌, ◌||◌, slice_get, option_and_then, option_map, if◌then◌else◌}
-use Rattle.std.specs.List.{All, filter}
+use Rattle.std.specs.List.{All, enumerate_from, filter}
+use Rattle.std.specs.Map.{keys_of}
 use Rattle.std.proofs.lemmas.Bool.{false≢true}
 use Rattle.std.proofs.lemmas.Bool.Decides.{nat_tests}
 use Rattle.std.proofs.lemmas.List.Elements.{All-cons, All-filter, All-head, All-tail, All-weaker, filter_passes}
@@ -15,16 +16,18 @@ use Rattle.ds_domain_base.specs.declared.contract.Contract.{Contract}
 use Rattle.ds_domain_base.specs.declared.terms.Terms.{Terms}
 use Rattle.ds_domain_base.specs.declared.terms.Terms.TheVariants.{Trusted, Policed}
 use Rattle.ds_certificate.specs.Sources.{source_of}
-use Rattle.ds_checker.specs.Acceptance.{Table}
 use Rattle.ds_checker.specs.declared.refusal.Column.{Column}
 use Rattle.ds_checker.specs.declared.refusal.Column.TheVariants as columns
+use Rattle.ds_checker.specs.Acceptance.{Table}
+use Rattle.meter_fabric.specs.Grounds.{Ground, contract_of, ground_of, most_flows}
+use Rattle.meter_fabric.proofs.GroundLaws.{found_at}
 use Rattle.meter_fabric.specs.declared.trail.Receipt.{Receipt}
 use Rattle.run_audit_base.specs.Premises.{IsTrusted}
 use Rattle.run_audit_base.specs.Runs.{IsRun, Passage, Run}
 use Rattle.run_audit_base.specs.Sendings.{passages_of, sending_by, sending_of, sent_items}
 use Rattle.run_audit.specs.Spills.{own_length, poured, spilled, spilled_by, spilled_from, spilled_in}
 use Rattle.run_audit.specs.Standings.{by_contract, stands_before}
-use Rattle.run_audit.specs.Verdicts.{counts_in, curve_in, first_of, is_begun_before, over_by, over_in, overflowing, sent_in, source_of_run, sources_from, was_sent_as}
+use Rattle.run_audit.specs.Verdicts.{counts_in, curve_in, first_of, is_begun_before, over_by, over_in, overflowing, sent_in, first_found, source_of_run, over_at, was_sent_as}
 use Rattle.run_audit.specs.declared.verdict.Verdict.TheVariants.{SourceOver}
 use Rattle.run_audit.proofs.MemberLaws.{in_filter, of_filter}
 use Rattle.run_audit.proofs.OrderLaws.{AreApart, Ascends, HasAllOf, IsOrder, in_order-ascends, in_order-is, in_order-permutes}
@@ -185,8 +188,8 @@ all_own n ps = All-weaker (λ p. is_of n p ≡ true) (λ p. p.packet.flow ≡ n)
     is : (f : ℕ) → nat_eq f n ≡ true → f ≡ n
     is f own = grind (arith, nat_tests)
 
-standing-ascends : (t : Table) (run : Run) → IsRun t run → Ascends stands_before (by_contract run.passages)
-standing-ascends t run is_run =
+standing-ascends : (g : Ground) (run : Run) → IsRun g run → Ascends stands_before (by_contract run.passages)
+standing-ascends g run is_run =
     in_order-ascends stands_before standing_order run.passages
     (λ i j d below short. either_stands (get_or run.passages i d) (get_or run.passages j d) (is_run.numbers i j d below short))
 
@@ -194,9 +197,9 @@ abbrev counted : Column → Contract → Passage → Bool
 counted column c p = was_sent_as (counts_in column) (sending_of c p)
 
 -- those of a contract that a column counts, as they stand, are those as they were sent
-sent-standing : (t : Table) (run : Run) → IsRun t run → (n : ℕ) (c : Contract) (column : Column)
+sent-standing : (g : Ground) (run : Run) → IsRun g run → (n : ℕ) (c : Contract) (column : Column)
     → filter (counted column c) (filter (is_of n) (by_contract run.passages)) ≡ sent_in column c (passages_of n run)
-sent-standing t run is_run n c column =
+sent-standing g run is_run n c column =
     let picked = counted column c in
     let standing = by_contract run.passages in
     let moved = in_order-permutes stands_before run.passages in
@@ -205,7 +208,7 @@ sent-standing t run is_run n c column =
     (AllPairs-filter (AreApart is_begun_before) (is_of n) run.passages
     (λ i j d below short. either_begun (get_or run.passages i d) (get_or run.passages j d) (is_run.numbers i j d below short))))
     (Ascends-filter is_begun_before picked (filter (is_of n) standing)
-    (ascends-begun n (filter (is_of n) standing) (all_own n standing) (Ascends-filter stands_before (is_of n) standing (standing-ascends t run is_run))))
+    (ascends-begun n (filter (is_of n) standing) (all_own n standing) (Ascends-filter stands_before (is_of n) standing (standing-ascends g run is_run))))
     (HasAllOf-filter picked (filter (is_of n) standing) (passages_of n run)
     (HasAllOf-filter (is_of n) standing run.passages (λ z there. Contains-permutation run.passages standing z moved there)))
     (HasAllOf-filter picked (passages_of n run) (filter (is_of n) standing)
@@ -284,13 +287,13 @@ shown-same f g [] (Some i) same = refl
 shown-same f g (x ∷ xs) (Some zero) same = ap Some (All-head (λ y. f y ≡ g y) x xs same)
 shown-same f g (x ∷ xs) (Some (suc i)) same = shown-same f g xs (Some i) (All-tail (λ y. f y ≡ g y) x xs same)
 
-in-standing : (t : Table) (run : Run) → IsRun t run → (n : ℕ) (c : Contract) (column : Column) → IsTrusted c.terms
-    → spilled_in t.domain c (filter (is_of n) (by_contract run.passages)) column ≡ over_in t run n c column
-in-standing t run is_run n c column trusted =
-    let curve = curve_in column (source_of t.domain c) in
+in-standing : (g : Ground) (run : Run) → IsRun g run → (n : ℕ) (c : Contract) (column : Column) → IsTrusted c.terms
+    → spilled_in g.domain c (filter (is_of n) (by_contract run.passages)) column ≡ over_in g run n c column
+in-standing g run is_run n c column trusted =
+    let curve = curve_in column (source_of g.domain c) in
     let own = filter (is_of n) (by_contract run.passages) in
     let sent = sent_in column c (passages_of n run) in
-    let same : filter (counted column c) own ≡ sent = sent-standing t run is_run n c column in
+    let same : filter (counted column c) own ≡ sent = sent-standing g run is_run n c column in
     let spills : spilled curve column c 0 0 own ≡ overflowing curve column c sent =
     spilled-is curve column c trusted 0 0 own
     ∙ ap (λ ps. option_and_then (slice_get ps) (overflow_of curve.rate curve.burst (map item_of ps))) same
@@ -303,35 +306,48 @@ in-standing t run is_run n c column trusted =
     (All-weaker (λ p. p.packet.flow ≡ n) (λ p. SourceOver p.packet.flow column p.packet.number ≡ SourceOver n column p.packet.number)
     (λ p is. ap (λ f. SourceOver f column p.packet.number) is) sent flows)
 
-by-standing : (t : Table) (run : Run) → IsRun t run → (n : ℕ) (c : Contract) (terms : Terms) → c.terms ≡ terms
-    → spilled_by terms t.domain c (filter (is_of n) (by_contract run.passages)) ≡ over_by terms t run n c
-by-standing t run is_run n c (Trusted committed peak) is =
+by-standing : (g : Ground) (run : Run) → IsRun g run → (n : ℕ) (c : Contract) (terms : Terms) → c.terms ≡ terms
+    → spilled_by terms g.domain c (filter (is_of n) (by_contract run.passages)) ≡ over_by terms g run n c
+by-standing g run is_run n c (Trusted committed peak) is =
     let trusted = subst IsTrusted (sym is) tt in
     let own = filter (is_of n) (by_contract run.passages) in
-    ap (λ green. first_of green (spilled_in t.domain c own columns.All)) (in-standing t run is_run n c columns.Green trusted)
-    ∙ ap (λ all. first_of (over_in t run n c columns.Green) all) (in-standing t run is_run n c columns.All trusted)
-by-standing t run is_run n c (Policed parameters mode) is = refl
+    ap (λ green. first_of green (spilled_in g.domain c own columns.All)) (in-standing g run is_run n c columns.Green trusted)
+    ∙ ap (λ all. first_of (over_in g run n c columns.Green) all) (in-standing g run is_run n c columns.All trusted)
+by-standing g run is_run n c (Policed parameters mode) is = refl
 
-from-standing : (t : Table) (run : Run) → IsRun t run → (n : ℕ) (cs : List Contract)
-    → spilled_from t.domain n cs (filter (is_from n) (by_contract run.passages)) ≡ sources_from t run n cs
-unfolding spilled_from sources_from
-from-standing t run is_run n [] = refl
-from-standing t run is_run n (c ∷ cs) =
+from-standing : (g : Ground) (run : Run) → IsRun g run → (n : ℕ) (cs : List Contract)
+    → ((place : ℕ) (c : Contract) → slice_get cs place ≡ Some c → contract_of g (n + place) ≡ Some c)
+    → spilled_from g.domain n cs (filter (is_from n) (by_contract run.passages)) ≡ first_found (over_at g run) (keys_of (enumerate_from n cs))
+unfolding spilled_from first_found
+from-standing g run is_run n [] known = refl
+from-standing g run is_run n (c ∷ cs) known =
     let standing = by_contract run.passages in
     let left = filter (is_from n) standing in
-    let parts = split n standing (standing-ascends t run is_run) in
-    let next : n + 1 ≡ suc n = omega arith in
-    ap (λ ps. first_of (spilled_by c.terms t.domain c ps) (spilled_from t.domain (n + 1) cs (drop (own_length n left) left))) parts.0
-    ∙ ap (λ ps. first_of (spilled_by c.terms t.domain c (filter (is_of n) standing)) (spilled_from t.domain (n + 1) cs ps)) parts.1
-    ∙ ap (λ m. first_of (spilled_by c.terms t.domain c (filter (is_of n) standing)) (spilled_from t.domain m cs (filter (is_from (suc n)) standing))) next
-    ∙ ap (λ here. first_of here (spilled_from t.domain (suc n) cs (filter (is_from (suc n)) standing))) (by-standing t run is_run n c c.terms refl)
-    ∙ ap (λ behind. first_of (over_by c.terms t run n c) behind) (from-standing t run is_run (suc n) cs)
+    let parts = split n standing (standing-ascends g run is_run) in
+    let next : suc n ≡ n + 1 = omega arith in
+    let first : n + 0 ≡ n = omega arith in
+    let own : over_at g run n ≡ over_by c.terms g run n c =
+    ap (option_and_then (λ x. over_by x.terms g run n x)) (ap (contract_of g) (sym first) ∙ known 0 c refl) in
+    ap (λ ps. first_of (spilled_by c.terms g.domain c ps) (spilled_from g.domain (n + 1) cs (drop (own_length n left) left))) parts.0
+    ∙ ap (λ ps. first_of (spilled_by c.terms g.domain c (filter (is_of n) standing)) (spilled_from g.domain (n + 1) cs ps)) parts.1
+    ∙ ap (λ m. first_of (spilled_by c.terms g.domain c (filter (is_of n) standing)) (spilled_from g.domain (n + 1) cs (filter (is_from m) standing))) next
+    ∙ ap (λ here. first_of here (spilled_from g.domain (n + 1) cs (filter (is_from (n + 1)) standing))) (by-standing g run is_run n c c.terms refl ∙ sym own)
+    ∙ ap (first_of (over_at g run n)) (from-standing g run is_run (n + 1) cs
+    (λ place x found. ap (contract_of g) (onward place) ∙ known (suc place) x found))
+  where
+    onward : (place : ℕ) → n + 1 + place ≡ n + suc place
+    onward place = omega arith
 
-pub source_of-standing : (t : Table) (run : Run) → IsRun t run → spilled_from t.domain 0 t.contracts (by_contract run.passages) ≡ source_of_run t run
+pub source_of-standing : (t : Table) (run : Run) → IsRun (ground_of t) run
+    → spilled_from t.domain 0 (take most_flows t.contracts) (by_contract run.passages) ≡ source_of_run (ground_of t) run
 source_of-standing t run is_run =
     let standing = by_contract run.passages in
-    ap (spilled_from t.domain 0 t.contracts) (sym (filter_all (is_from 0) standing (λ k d short. from_first (get_or standing k d).packet.flow)))
-    ∙ from-standing t run is_run 0 t.contracts
+    let flows = take most_flows t.contracts in
+    ap (spilled_from t.domain 0 flows) (sym (filter_all (is_from 0) standing (λ k d short. from_first (get_or standing k d).packet.flow)))
+    ∙ from-standing (ground_of t) run is_run 0 flows (λ place c found. ap (contract_of (ground_of t)) (start place) ∙ found_at t place ∙ found)
   where
     from_first : (f : ℕ) → nat_le 0 f ≡ true
     from_first f = grind (arith, nat_tests)
+
+    start : (place : ℕ) → 0 + place ≡ place
+    start place = omega arith

@@ -1,7 +1,7 @@
 -- What journals and trails say together.
 use Rattle.std.specs.Prelude.{List, map}
 use Rattle.meter_book.specs.Replay.{Journal}
-use Rattle.ds_checker.specs.Acceptance.{Table}
+use Rattle.meter_fabric.specs.Grounds.{Ground}
 use Rattle.meter_fabric.specs.Trails.{packet_of}
 use Rattle.meter_fabric.specs.declared.trail.Trail.{Trail}
 use Rattle.run_audit_base.specs.Runs.{Passage, Run}
@@ -13,7 +13,7 @@ passage_of trail = record { packet = packet_of trail; receipts = trail.receipts.
 abbrev pub run_of : List Journal → List Trail → Run
 run_of journals trails = record { journals = journals; passages = map passage_of trails }
 
--- a run, and the table that it is of
-pub record TableRun : Type 0 where
-  pub table : Table
+-- a run, and the ground that it stands on
+pub record GroundRun : Type 0 where
+  pub ground : Ground
   pub run : Run

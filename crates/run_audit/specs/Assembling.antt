@@ -2,7 +2,7 @@
 -- rows that no trail tells.
 use Rattle.std.specs.Prelude.{◌≡◌, ◌⊎◌, List, ◌∷◌, ◌++◌, All, AllPairs, Contains, IsPermutation, Some, slice_get}
 use Rattle.meter_book.specs.Replay.{Journal, journal_rows}
-use Rattle.ds_checker.specs.Acceptance.{Table}
+use Rattle.meter_fabric.specs.Grounds.{Ground}
 use Rattle.meter_fabric.specs.declared.trail.Receipt.{Receipt}
 use Rattle.run_audit_base.specs.Runs.{AreJournals, IsPassage, Passage, Run, told}
 use Rattle.run_audit.specs.declared.fault.AssembleFault.{AssembleFault}
@@ -13,24 +13,24 @@ abbrev pub IsNoted : List Journal → Receipt → Type 0
 IsNoted journals r = (j : Journal) × Contains journals j × (j.site ≡ r.site) × (slice_get (journal_rows j) r.row.place ≡ Some r.row)
 
 -- what a packet carries is what its contract has it carry, and what the journals noted
-abbrev pub IsSound : Table → List Journal → Passage → Type 0
-IsSound t journals p = IsPassage t p × All (IsNoted journals) p.receipts
+abbrev pub IsSound : Ground → List Journal → Passage → Type 0
+IsSound g journals p = IsPassage g p × All (IsNoted journals) p.receipts
 
 -- no packet of a list has the number of this one
 abbrev pub IsNew : List Passage → Passage → Type 0
 IsNew front p = All (λ q. ¬ (q.packet.number ≡ p.packet.number)) front
 
 -- each packet is sound, and has a number of its own
-abbrev pub AreSound : Table → List Journal → List Passage → Type 0
-AreSound t journals passages = All (IsSound t journals) passages × AllPairs (λ p q. ¬ (p.packet.number ≡ q.packet.number)) passages
+abbrev pub AreSound : Ground → List Journal → List Passage → Type 0
+AreSound g journals passages = All (IsSound g journals) passages × AllPairs (λ p q. ¬ (p.packet.number ≡ q.packet.number)) passages
 
 -- the first packet of a run that is not sound or not new, and those in front of it
-pub record IsFirstWrong (t : Table) (run : Run) (Wrong : List Passage → Passage → Type 0) : Type 0 where
+pub record IsFirstWrong (g : Ground) (run : Run) (Wrong : List Passage → Passage → Type 0) : Type 0 where
   pub front : List Passage
   pub passage : Passage
   pub rest : List Passage
   pub stands : run.passages ≡ front ++ passage ∷ rest
-  pub sound : AreSound t run.journals front
+  pub sound : AreSound g run.journals front
   pub wrong : Wrong front passage
 
 -- the receipts from each site are the rows of its journal
@@ -38,10 +38,10 @@ abbrev pub AreTold : Run → Type 0
 AreTold run = All (λ j. IsPermutation (told j.site run.passages) (journal_rows j)) run.journals
 
 -- What is answered where journals and trails are no run. A number that stood before counts first. Memory may run out.
-abbrev pub IsRefusal : Table → Run → AssembleFault → Type 0
-IsRefusal t run Mismatch =
-    (¬ AreJournals t run.journals)
-    ⊎ (AreJournals t run.journals × IsFirstWrong t run (λ front p. IsNew front p × ¬ IsSound t run.journals p))
-IsRefusal t run Doubled = AreJournals t run.journals × IsFirstWrong t run (λ front p. ¬ IsNew front p)
-IsRefusal t run Untold = AreJournals t run.journals × AreSound t run.journals run.passages × ¬ AreTold run
-IsRefusal t run NoMemory = Unit {0}
+abbrev pub IsRefusal : Ground → Run → AssembleFault → Type 0
+IsRefusal g run Mismatch =
+    (¬ AreJournals g run.journals)
+    ⊎ (AreJournals g run.journals × IsFirstWrong g run (λ front p. IsNew front p × ¬ IsSound g run.journals p))
+IsRefusal g run Doubled = AreJournals g run.journals × IsFirstWrong g run (λ front p. ¬ IsNew front p)
+IsRefusal g run Untold = AreJournals g run.journals × AreSound g run.journals run.passages × ¬ AreTold run
+IsRefusal g run NoMemory = Unit {0}

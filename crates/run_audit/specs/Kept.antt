@@ -1,11 +1,12 @@
 -- What the fields of a run stand for, and what they keep.
+use Rattle.meter_fabric.specs.Grounds.{ground_of}
 use Rattle.run_audit_base.specs.Runs.{IsRun}
-use Rattle.run_audit.specs.Assembled.{TableRun, run_of}
+use Rattle.run_audit.specs.Assembled.{GroundRun, run_of}
 use Rattle.run_audit.specs.declared.run.Run.TheInside as runs
 
-abbrev pub table_run_of : runs.Inside → TableRun
-table_run_of r = record { table = r.accepted.now; run = run_of r.journals.items r.trails.items }
+abbrev pub ground_run_of : runs.Inside → GroundRun
+ground_run_of r = record { ground = ground_of r.accepted.now; run = run_of r.journals.items r.trails.items }
 
--- the run is one of the table
+-- the run is one of the table, as a ground
 abbrev pub IsKept : runs.Inside → Type 0
-IsKept r = IsRun r.accepted.now (run_of r.journals.items r.trails.items)
+IsKept r = IsRun (ground_of r.accepted.now) (run_of r.journals.items r.trails.items)

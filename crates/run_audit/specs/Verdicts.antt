@@ -1,5 +1,6 @@
 -- The verdict on a run: the first premise that it broke, in the order of time, source, link and skew.
 use Rattle.std.specs.Prelude.{ℕ, suc, ◌+◌, ◌&&◌, ◌||◌, nat_eq, nat_le, nat_lt, Bool, true, false, if◌then◌else◌, List, [], ◌∷◌, filter, slice_get, option_map, option_and_then, unwrap_or, Option, None, Some}
+use Rattle.std.specs.Map.{keys_of}
 use Rattle.std.specs.Option.{option_map_or}
 use Rattle.moment_core.specs.declared.colour.Colour.{Colour}
 use Rattle.moment_core.specs.Colours.{is_green, is_in_profile}
@@ -15,10 +16,9 @@ use Rattle.ds_domain_base.specs.declared.terms.Terms.{Terms}
 use Rattle.ds_domain_base.specs.declared.terms.Terms.TheVariants.{Trusted, Policed}
 use Rattle.ds_certificate.specs.Sources.{jitter_of, source_of}
 use Rattle.ds_certificate.specs.declared.source.Source.{Source}
-use Rattle.ds_checker.specs.Acceptance.{Table}
 use Rattle.ds_checker.specs.declared.refusal.Column.{Column}
 use Rattle.ds_checker.specs.declared.refusal.Column.TheVariants.{Green, All}
-use Rattle.meter_fabric.specs.Sites.{contract_of}
+use Rattle.meter_fabric.specs.Grounds.{Ground, contract_of}
 use Rattle.meter_fabric.specs.declared.trail.Receipt.{Receipt}
 use Rattle.run_audit_base.specs.Premises.{floor_of}
 use Rattle.run_audit_base.specs.Runs.{Passage, Run}
@@ -53,8 +53,8 @@ abbrev pub by_site : List Journal → List Journal
 by_site journals = in_order (λ j k. nat_lt j.site k.site) journals
 
 -- what a test finds against a packet that has been sent, with its contract
-abbrev pub against_sent : Table → (Contract → Sending → Option Verdict) → Passage → Option Verdict
-against_sent t find p = option_and_then (λ c. option_and_then (find c) (sending_of c p)) (contract_of t p.packet.flow)
+abbrev pub against_sent : Ground → (Contract → Sending → Option Verdict) → Passage → Option Verdict
+against_sent g find p = option_and_then (λ c. option_and_then (find c) (sending_of c p)) (contract_of g p.packet.flow)
 
 -- whether a contract may send at a moment
 abbrev pub may_send : Lifetime → ℕ → Bool
@@ -64,8 +64,8 @@ may_send l moment = nat_le l.since moment && option_map_or (λ until. nat_lt mom
 abbrev pub outside : ℕ → Contract → Sending → Option Verdict
 outside packet c s = if may_send c.lifetime s.moment then None else Some (OutsideContract packet)
 
-abbrev pub time_of : Table → Run → Option Verdict
-time_of t run = first_found (λ p. against_sent t (outside p.packet.number) p) (by_number run.passages)
+abbrev pub time_of : Ground → Run → Option Verdict
+time_of g run = first_found (λ p. against_sent g (outside p.packet.number) p) (by_number run.passages)
 
 -- SOURCE: which packets a column counts, and what a source keeps in it
 abbrev pub counts_in : Column → Colour → Bool
@@ -87,24 +87,24 @@ sent_in column c passages = in_order is_begun_before (filter (λ p. was_sent_as 
 abbrev pub overflowing : Curve → Column → Contract → List Passage → Option Passage
 overflowing curve column c sent = option_and_then (slice_get sent) (overflow_of curve.rate curve.burst (sent_items (counts_in column) c sent))
 
-abbrev pub over_in : Table → Run → ℕ → Contract → Column → Option Verdict
-over_in t run flow c column =
+abbrev pub over_in : Ground → Run → ℕ → Contract → Column → Option Verdict
+over_in g run flow c column =
     option_map
     (λ p. SourceOver flow column p.packet.number)
-    (overflowing (curve_in column (source_of t.domain c)) column c (sent_in column c (passages_of flow run)))
+    (overflowing (curve_in column (source_of g.domain c)) column c (sent_in column c (passages_of flow run)))
 
 -- green packets before green and yellow ones; what is policed is not held against anything
-abbrev pub over_by : Terms → Table → Run → ℕ → Contract → Option Verdict
-over_by (Trusted committed peak) t run flow c = first_of (over_in t run flow c Green) (over_in t run flow c All)
-over_by (Policed parameters mode) t run flow c = None
+abbrev pub over_by : Terms → Ground → Run → ℕ → Contract → Option Verdict
+over_by (Trusted committed peak) g run flow c = first_of (over_in g run flow c Green) (over_in g run flow c All)
+over_by (Policed parameters mode) g run flow c = None
 
--- the contracts in order, of which the first has this number
-unfoldable pub sources_from : Table → Run → ℕ → List Contract → Option Verdict
-sources_from t run flow [] = None
-sources_from t run flow (c ∷ cs) = first_of (over_by c.terms t run flow c) (sources_from t run (suc flow) cs)
+-- of the contract of a flow, if there is one
+abbrev pub over_at : Ground → Run → ℕ → Option Verdict
+over_at g run flow = option_and_then (λ c. over_by c.terms g run flow c) (contract_of g flow)
 
-abbrev pub source_of_run : Table → Run → Option Verdict
-source_of_run t run = sources_from t run 0 t.contracts
+-- the contracts in their order
+abbrev pub source_of_run : Ground → Run → Option Verdict
+source_of_run g run = first_found (over_at g run) (keys_of g.contracts)
 
 -- LINK: whether what left at a moment arrives over a link in its time
 abbrev pub is_over : Option Link → ℕ → ℕ → Bool
@@ -124,8 +124,8 @@ untimely d hop from (to ∷ path) moment (r ∷ receipts) =
 abbrev pub delayed : Domain → ℕ → Contract → Sending → Option Verdict
 delayed d packet c s = option_map (λ hop. DelayOver packet hop) (untimely d 1 c.port c.path s.moment s.receipts)
 
-abbrev pub link_of_run : Table → Run → Option Verdict
-link_of_run t run = first_found (λ p. against_sent t (delayed t.domain p.packet.number) p) (by_number run.passages)
+abbrev pub link_of_run : Ground → Run → Option Verdict
+link_of_run g run = first_found (λ p. against_sent g (delayed g.domain p.packet.number) p) (by_number run.passages)
 
 -- SKEW: a row was metered later than the skew of its site
 abbrev pub late_row : Journal → Row → Option Verdict
@@ -135,6 +135,6 @@ abbrev pub skew_of_run : Run → Option Verdict
 skew_of_run run = first_found (λ j. first_found (late_row j) (journal_rows j)) (by_site run.journals)
 
 -- The verdict: kept, where nothing is found against any premise.
-abbrev pub verdict_of : Table → Run → Verdict
-verdict_of t run =
-    unwrap_or (first_of (time_of t run) (first_of (source_of_run t run) (first_of (link_of_run t run) (skew_of_run run)))) Kept
+abbrev pub verdict_of : Ground → Run → Verdict
+verdict_of g run =
+    unwrap_or (first_of (time_of g run) (first_of (source_of_run g run) (first_of (link_of_run g run) (skew_of_run run)))) Kept

@@ -1,4 +1,5 @@
 ghost use Rattle.std.specs.Prelude.{◌≡◌, ◌⊎◌, map, sum_by, length, AllPairs, IfErr, IfOk, OnOk};
+ghost use Rattle.meter_fabric.specs.Grounds.{ground_of};
 ghost use Rattle.run_audit_base.specs.Runs.{AreJournals, IsRun};
 ghost use Rattle.run_audit.specs.Assembled.{passage_of, run_of};
 ghost use Rattle.run_audit.specs.Assembling.{AreSound, IsFirstWrong, IsNew, IsRefusal, IsSound};
@@ -27,8 +28,8 @@ impl<'a> Run<'a> {
         journals: Vec<Journal>,
         trails: Vec<Trail>,
     ) -> Result<Run<'a>, (Vec<Journal>, Vec<Trail>, AssembleFault)>
-        ensures run { IfOk result (λ run. run ≡ record { table = accepted.now; run = run_of journals.items trails.items }) }
-        ensures refused { IfErr result (λ refused. IsRefusal accepted.now (run_of journals.items trails.items) refused.2) }
+        ensures run { IfOk result (λ run. run ≡ record { ground = ground_of accepted.now; run = run_of journals.items trails.items }) }
+        ensures refused { IfErr result (λ refused. IsRefusal (ground_of accepted.now) (run_of journals.items trails.items) refused.2) }
         ensures back { IfErr result (λ refused. (refused.0 ≡ journals) × (refused.1 ≡ trails)) }
     {
         match judge(alloc, accepted, journals.as_slice(), trails.as_slice()) {
@@ -45,8 +46,8 @@ fn judge(
     journals: &[Journal],
     trails: &[Trail],
 ) -> Result<(), AssembleFault>
-    ensures run { OnOk result (IsRun accepted.now (run_of journals.now trails.now)) }
-    ensures refused { IfErr result (λ fault. IsRefusal accepted.now (run_of journals.now trails.now) fault) }
+    ensures run { OnOk result (IsRun (ground_of accepted.now) (run_of journals.now trails.now)) }
+    ensures refused { IfErr result (λ fault. IsRefusal (ground_of accepted.now) (run_of journals.now trails.now) fault) }
 {
     let sites = sites_of(alloc, accepted, journals)?;
     judge_trails(alloc, accepted, journals, &sites, trails)?;
@@ -66,9 +67,9 @@ fn judge_trails(
     trails: &[Trail],
 ) -> Result<(), AssembleFault>
     requires places { sites.now.keys ≡ map (λ j. j.site) journals.now }
-    requires journals { AreJournals accepted.now journals.now }
-    ensures sound { OnOk result (AreSound accepted.now journals.now (map passage_of trails.now)) }
-    ensures refused { IfErr result (λ fault. IsRefusal accepted.now (run_of journals.now trails.now) fault) }
+    requires journals { AreJournals (ground_of accepted.now) journals.now }
+    ensures sound { OnOk result (AreSound (ground_of accepted.now) journals.now (map passage_of trails.now)) }
+    ensures refused { IfErr result (λ fault. IsRefusal (ground_of accepted.now) (run_of journals.now trails.now) fault) }
 {
     let mut numbers = IndexSet::new(alloc);
     for trail in trails {

@@ -1,16 +1,17 @@
 //! Whether links keep their floors and jitters.
 ghost use Rattle.std.specs.Prelude.{◌≡◌, ◌≤◌, ◌^◌, map};
 ghost use Rattle.ds_certificate.specs.Sources.{jitter_of};
+ghost use Rattle.meter_fabric.specs.Grounds.{ground_of};
 ghost use Rattle.run_audit_base.specs.Premises.{floor_of};
 ghost use Rattle.run_audit.specs.Assembled.{passage_of};
 ghost use Rattle.run_audit.specs.Hops.{delayed_hop, untimely_hop};
 ghost use Rattle.run_audit.specs.Verdicts.{against_sent, first_found, is_over};
 
-use crate::sending::{Sent, contract_of, sent_of};
+use crate::sending::{Sent, sent_of};
 use crate::verdict::Verdict;
 use ds_checker::Accepted;
 use ds_domain_base::{Contract, Domain, Link};
-use meter_fabric::Trail;
+use meter_fabric::{Trail, contract_of};
 use moment_core::Moment;
 
 /// The least delay of a link, and by how much its delays differ at most, in nanoseconds; 0 where there is none.
@@ -65,7 +66,7 @@ fn delayed(domain: &Domain, packet: u64, contract: &Contract, sent: &Sent<'_>) -
 
 /// What is found against the delays of a trail's packet.
 fn delay_of(accepted: &Accepted, trail: &Trail) -> Option<Verdict>
-    ensures { result ≡ against_sent accepted.now (delayed_hop accepted.now.domain trail.now.packet) (passage_of trail.now) }
+    ensures { result ≡ against_sent (ground_of accepted.now) (delayed_hop accepted.now.domain trail.now.packet) (passage_of trail.now) }
 {
     let contract = contract_of(accepted, trail.flow)?;
     let sent = sent_of(contract, trail)?;
@@ -74,7 +75,7 @@ fn delay_of(accepted: &Accepted, trail: &Trail) -> Option<Verdict>
 
 /// What is found first against the delays of trails' packets.
 pub(crate) fn first_delayed(accepted: &Accepted, trails: &[&Trail]) -> Option<Verdict>
-    ensures { result ≡ first_found (λ p. against_sent accepted.now (delayed_hop accepted.now.domain p.packet.number) p) (map (λ trail. passage_of trail.now) trails.now) }
+    ensures { result ≡ first_found (λ p. against_sent (ground_of accepted.now) (delayed_hop accepted.now.domain p.packet.number) p) (map (λ trail. passage_of trail.now) trails.now) }
 {
     for trail in trails {
         let found = delay_of(accepted, trail);

@@ -1,4 +1,5 @@
 ghost use Rattle.std.specs.Prelude.{◌≡◌, map};
+ghost use Rattle.meter_fabric.specs.Grounds.{ground_of};
 ghost use Rattle.run_audit_base.specs.Runs.{IsRun};
 ghost use Rattle.run_audit.specs.Assembled.{passage_of, run_of};
 
@@ -16,13 +17,13 @@ pub struct Run<'a> {
 }
 
 impl<'a> Model for Run<'a> {
-    ghost use Rattle.run_audit.specs.Assembled.{TableRun};
+    ghost use Rattle.run_audit.specs.Assembled.{GroundRun};
 
-    ghost Value = { TableRun };
+    ghost Value = { GroundRun };
 
-    ghost use Rattle.run_audit.specs.Kept.{IsKept, table_run_of};
+    ghost use Rattle.run_audit.specs.Kept.{IsKept, ground_run_of};
 
-    ghost view = { table_run_of };
+    ghost view = { ground_run_of };
 
     ghost invariant = { IsKept };
 }
@@ -30,8 +31,8 @@ impl<'a> Model for Run<'a> {
 impl<'a> Run<'a> {
     /// The run of journals and trails that are known to be one.
     pub fn of(accepted: &'a Accepted, journals: Vec<Journal>, trails: Vec<Trail>) -> Self
-        requires { IsRun accepted.now (run_of journals.items trails.items) }
-        ensures { result ≡ record { table = accepted.now; run = run_of journals.items trails.items } }
+        requires { IsRun (ground_of accepted.now) (run_of journals.items trails.items) }
+        ensures { result ≡ record { ground = ground_of accepted.now; run = run_of journals.items trails.items } }
     {
         Run {
             accepted,
@@ -42,8 +43,8 @@ impl<'a> Run<'a> {
 
     /// The table that it is a run of.
     pub fn accepted(&self) -> &'a Accepted
-        ensures value { result.now ≡ self.now.table }
-        ensures run { IsRun self.now.table self.now.run }
+        ensures value { ground_of result.now ≡ self.now.ground }
+        ensures run { IsRun self.now.ground self.now.run }
     {
         self.accepted
     }
@@ -51,7 +52,7 @@ impl<'a> Run<'a> {
     /// The journals of the sites.
     pub fn journals(&self) -> &[Journal]
         ensures value { result.now ≡ self.now.run.journals }
-        ensures run { IsRun self.now.table self.now.run }
+        ensures run { IsRun self.now.ground self.now.run }
     {
         self.journals.as_slice()
     }
@@ -59,7 +60,7 @@ impl<'a> Run<'a> {
     /// The trails of the packets.
     pub fn trails(&self) -> &[Trail]
         ensures value { map passage_of result.now ≡ self.now.run.passages }
-        ensures run { IsRun self.now.table self.now.run }
+        ensures run { IsRun self.now.ground self.now.run }
     {
         self.trails.as_slice()
     }

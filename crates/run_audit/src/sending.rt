@@ -1,13 +1,11 @@
 //! Packets as they are sent into a domain.
-ghost use Rattle.std.specs.Prelude.{◌≡◌, option_copied};
-ghost use Rattle.meter_fabric.specs.Sites.{contract_of};
+ghost use Rattle.std.specs.Prelude.{◌≡◌};
 ghost use Rattle.run_audit_base.specs.Sendings.{sending_of};
 ghost use Rattle.run_audit.specs.Edges.{edge_sending};
 ghost use Rattle.run_audit.specs.Assembled.{passage_of};
 
-use ds_checker::Accepted;
 use ds_domain_base::{Contract, Terms};
-use meter_fabric::{MOST_FLOWS, Receipt, Trail};
+use meter_fabric::{Receipt, Trail};
 use moment_core::{Colour, Moment};
 use std::marker::Model;
 
@@ -28,17 +26,6 @@ impl<'a> Model for Sent<'a> {
     ghost Value = { Sending };
 
     ghost view = { λ s. record { moment = s.moment; colour = s.colour; receipts = s.receipts.now } };
-}
-
-/// The contract of a number, if there is one.
-pub(crate) fn contract_of(accepted: &Accepted, flow: u32) -> Option<&Contract>
-    ensures { option_copied result ≡ contract_of accepted.now flow }
-{
-    if flow < MOST_FLOWS {
-        accepted.contracts().get(flow as usize)
-    } else {
-        None
-    }
 }
 
 /// The packet of a trail as it is sent under its contract: as it begins where that is trusted, else as it leaves its edge, if

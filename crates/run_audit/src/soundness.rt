@@ -1,18 +1,18 @@
 ghost use Rattle.std.specs.Prelude.{◌≡◌, ◌↔◌, ◌<◌, ◌≤◌, ℕ, length, map, slice_get, All, AllPairs, Some, IsTrue};
 ghost use Rattle.moment_core.specs.declared.colour.Colour.{Colour};
 ghost use Rattle.meter_book.specs.Replay.{journal_rows};
-ghost use Rattle.meter_fabric.specs.Sites.{contract_of, hops_along, hops_of, site_of};
+ghost use Rattle.meter_fabric.specs.Sites.{hops_along, hops_of};
 ghost use Rattle.meter_fabric.specs.Trails.{IsReceipt, IsTrail, packet_of};
 ghost use Rattle.ds_domain_base.specs.Sent.{came};
+ghost use Rattle.meter_fabric.specs.Grounds.{ground_of};
 ghost use Rattle.run_audit.specs.Assembled.{passage_of};
 ghost use Rattle.run_audit.specs.Assembling.{IsNoted, IsSound};
 
-use crate::sites::contract_of;
 use ds_checker::Accepted;
-use ds_domain_base::{Contract, Domain, Name, Terms};
+use ds_domain_base::{Contract, Domain, Terms};
 use indexmap::IndexSet;
 use meter_book::{Journal, Row};
-use meter_fabric::{Hop, Receipt, Trail};
+use meter_fabric::{Hop, Receipt, Trail, contract_of, site_of};
 use moment_core::{Colour, Moment};
 
 /// Whether a trail is of a contract that is there, is one of the first hops of its way, and holds rows of the journals.
@@ -24,7 +24,7 @@ pub(crate) fn is_sound(
 ) -> bool
     requires places { sites.now.keys ≡ map (λ j. j.site) journals.now }
     requires once { AllPairs (λ j k. ¬ (j.site ≡ k.site)) journals.now }
-    ensures { IsTrue result ↔ IsSound accepted.now journals.now (passage_of trail.now) }
+    ensures { IsTrue result ↔ IsSound (ground_of accepted.now) journals.now (passage_of trail.now) }
 {
     let domain = accepted.domain();
     match contract_of(accepted, trail.flow) {
@@ -127,12 +127,4 @@ fn meter_hop(domain: &Domain, contract: &Contract, place: usize) -> Option<Hop>
         number: place as u8 + 1,
         site: site_of(domain, *name),
     })
-}
-
-/// The number of the site of a meter; 0 where there is no meter of that name.
-fn site_of(domain: &Domain, name: Name) -> u32
-    ensures { result ≡ site_of domain.now name }
-{
-    let place = domain.meters().get_index_of(&name);
-    place.map_or(0, |place| place as u32)
 }

@@ -1,7 +1,8 @@
 //! Whether trusted sources keep their envelopes.
-ghost use Rattle.std.specs.Prelude.{◌≡◌, ◌+◌, ◌≤◌, ◌*◌, drop, length, map, nat_le, option_map};
+ghost use Rattle.std.specs.Prelude.{◌≡◌, ◌+◌, ◌≤◌, ◌*◌, drop, length, map, nat_le, option_map, take};
 ghost use Rattle.std.specs.List.{prefix_len};
 ghost use Rattle.envelope_core.specs.LeakyBucket.{filled};
+ghost use Rattle.meter_fabric.specs.Grounds.{most_flows};
 ghost use Rattle.run_audit.specs.Assembled.{passage_of};
 ghost use Rattle.run_audit.specs.Spills.{spilled, spilled_by, spilled_from, spilled_in};
 ghost use Rattle.run_audit.specs.Verdicts.{counts_in, curve_in};
@@ -11,7 +12,7 @@ use ds_certificate::Source;
 use ds_checker::{Accepted, Column};
 use ds_domain_base::{Contract, Domain, Terms};
 use envelope_core::Envelope;
-use meter_fabric::Trail;
+use meter_fabric::{Trail, flows_of};
 use moment_core::tokens::TOKEN;
 use moment_core::{Colour, Moment, PacketSize};
 
@@ -127,10 +128,11 @@ fn own_end(flow: usize, begin: usize, trails: &[&Trail]) -> usize
 
 /// What is found first against the packets of contracts, whose trails stand contract by contract.
 pub(crate) fn first_spilled(accepted: &Accepted, trails: &[&Trail]) -> Option<Verdict>
-    ensures { result ≡ spilled_from accepted.now.domain 0 accepted.now.contracts (map (λ trail. passage_of trail.now) trails.now) }
+    ensures { result ≡ spilled_from accepted.now.domain 0 (take most_flows accepted.now.contracts)
+        (map (λ trail. passage_of trail.now) trails.now) }
 {
     let mut begin = 0;
-    for (flow, contract) in accepted.contracts().iter().enumerate() {
+    for (flow, contract) in flows_of(accepted).iter().enumerate() {
         let end = own_end(flow, begin, trails);
         let found = spilled_by(accepted.domain(), contract, &trails[begin..end]);
         if found.is_some() {

@@ -1,14 +1,15 @@
 //! Whether contracts keep their time.
 ghost use Rattle.std.specs.Prelude.{◌≡◌, map, nat_lt, true};
 ghost use Rattle.std.specs.Option.{option_map_or};
+ghost use Rattle.meter_fabric.specs.Grounds.{ground_of};
 ghost use Rattle.run_audit.specs.Assembled.{passage_of};
 ghost use Rattle.run_audit.specs.Verdicts.{against_sent, first_found, may_send, outside};
 
-use crate::sending::{Sent, contract_of, sent_of};
+use crate::sending::{Sent, sent_of};
 use crate::verdict::Verdict;
 use ds_checker::Accepted;
 use ds_domain_base::{Contract, Lifetime};
-use meter_fabric::Trail;
+use meter_fabric::{Trail, contract_of};
 use moment_core::Moment;
 
 /// Whether a contract may send at a moment.
@@ -38,7 +39,7 @@ fn outside(packet: u64, contract: &Contract, sent: &Sent<'_>) -> Option<Verdict>
 
 /// What is found against the time of a trail's packet.
 fn time_of(accepted: &Accepted, trail: &Trail) -> Option<Verdict>
-    ensures { result ≡ against_sent accepted.now (outside trail.now.packet) (passage_of trail.now) }
+    ensures { result ≡ against_sent (ground_of accepted.now) (outside trail.now.packet) (passage_of trail.now) }
 {
     let contract = contract_of(accepted, trail.flow)?;
     let sent = sent_of(contract, trail)?;
@@ -47,7 +48,7 @@ fn time_of(accepted: &Accepted, trail: &Trail) -> Option<Verdict>
 
 /// What is found first against the time of trails' packets.
 pub(crate) fn first_outside(accepted: &Accepted, trails: &[&Trail]) -> Option<Verdict>
-    ensures { result ≡ first_found (λ p. against_sent accepted.now (outside p.packet.number) p) (map (λ trail. passage_of trail.now) trails.now) }
+    ensures { result ≡ first_found (λ p. against_sent (ground_of accepted.now) (outside p.packet.number) p) (map (λ trail. passage_of trail.now) trails.now) }
 {
     for trail in trails {
         let found = time_of(accepted, trail);

@@ -33,9 +33,10 @@ use Rattle.ds_certificate.specs.Columns.{Bound, all_column, green_column}
 use Rattle.ds_certificate.specs.Sources.{source_of}
 use Rattle.ds_checker.specs.Acceptance.{Carries, IsAcceptable, IsWithin, Table}
 use Rattle.ds_checker.specs.Loads.{Share, bound_into, counted, load, share_of, shares_at}
-use Rattle.meter_fabric.specs.Grounds.{Ground}
+use Rattle.meter_fabric.specs.Grounds.{Ground, ground_of}
 use Rattle.meter_fabric.specs.Openings.{meter_opening}
 use Rattle.meter_fabric.specs.declared.trail.Receipt.{Receipt}
+use Rattle.meter_fabric.proofs.GroundLaws.{place_of}
 use Rattle.run_audit_base.specs.KeptColours.{ColoursKept, StandsIn}
 use Rattle.run_audit_base.specs.Premises.{Premises}
 use Rattle.run_audit_base.specs.Runs.{IsRun, Run}
@@ -323,3 +324,7 @@ colours_kept t g run good stands is_run premises =
     over_keeps g t run
     (record { acceptable = subst (λ (d : Domain). IsAcceptable (record t { domain = d })) stands.domain good; contracts = stands.contracts })
     is_run premises
+
+-- the contracts of a table that have flows stand in it
+pub stands_in_own : (t : Table) → StandsIn t (ground_of t)
+stands_in_own t = record { domain = refl; contracts = λ flow c is. (place_of t flow c is).1 }

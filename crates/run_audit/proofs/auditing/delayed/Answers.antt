@@ -8,6 +8,6 @@ use Rattle.run_audit.proofs.auditing.delayed.Goals as goal
 pub returns : goal.returns
 returns c =
     c.first_delayed.ensures
-    ∙ ap (λ t. first_found (λ p. against_sent t (delayed_hop t.domain p.packet.number) p) (map (λ trail. passage_of trail.now) c.args.trails.now)) c.accepted.ensures.value
-    ∙ ap (λ ps. first_found (λ p. against_sent c.args.run.now.table (delayed_hop c.args.run.now.table.domain p.packet.number) p) ps) c.requires
-    ∙ link_of-hops c.args.run.now.table c.args.run.now.run c.accepted.ensures.run
+    ∙ ap (λ g. first_found (λ p. against_sent g (delayed_hop g.domain p.packet.number) p) (map (λ trail. passage_of trail.now) c.args.trails.now)) c.accepted.ensures.value
+    ∙ ap (λ ps. first_found (λ p. against_sent c.args.run.now.ground (delayed_hop c.args.run.now.ground.domain p.packet.number) p) ps) c.requires
+    ∙ link_of-hops c.args.run.now.ground c.args.run.now.run c.accepted.ensures.run
