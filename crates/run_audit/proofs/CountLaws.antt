@@ -277,7 +277,7 @@ run_counted g journals trails rows receipts good sound is_rows is_receipts same 
       journals = good;
       passages = λ k d within. (sound.0 k d within).0;
       numbers = sound.1;
-      rows = (told_exactly t (run_of journals trails) good sound).0 (both.1 ∙ sym same ∙ sym both.0);
+      rows = (told_exactly g (run_of journals trails) good sound).0 (both.1 ∙ sym same ∙ sym both.0);
     }
 
 pub untold_counted : (g : Ground) (journals : List Journal) (trails : List Trail) (rows receipts : ℕ) → AreJournals g journals → AreSound g journals (map passage_of trails)
@@ -285,4 +285,4 @@ pub untold_counted : (g : Ground) (journals : List Journal) (trails : List Trail
     → ¬ AreTold (run_of journals trails)
 untold_counted g journals trails rows receipts good sound is_rows is_receipts other all =
     let both = counted g journals trails rows receipts is_rows is_receipts in
-    other (sym both.0 ∙ sym ((told_exactly t (run_of journals trails) good sound).1 all) ∙ both.1)
+    other (sym both.0 ∙ sym ((told_exactly g (run_of journals trails) good sound).1 all) ∙ both.1)

@@ -41,7 +41,7 @@ sent_tells : (g : Ground) (run : Run) (find : ℕ → Contract → Sending → O
     → (first_found (λ p. against_sent g (find p.packet.number) p) (in_order is_numbered_before run.passages) ≡ None) ↔ ForSent g run P
 sent_tells g run find P each =
     none_in_order is_numbered_before (λ p. against_sent g (find p.packet.number) p) (λ p. ForSome (contract_of g p.packet.flow) (λ c. ForSome (sending_of c p) (P c))) run.passages
-    (λ p. against_tells t (find p.packet.number) P p (each p.packet.number))
+    (λ p. against_tells g (find p.packet.number) P p (each p.packet.number))
 
 -- ---- time
 
@@ -61,7 +61,7 @@ outside-not_kept n c s = unless-not_kept (may_send c.lifetime s.moment) (Outside
 time-not_kept : (g : Ground) (run : Run) → IsNotKept (time_of g run)
 time-not_kept g run =
     first_found-not_kept (λ p. against_sent g (outside p.packet.number) p) (in_order is_numbered_before run.passages)
-    (λ p. against-not_kept t (outside p.packet.number) p (outside-not_kept p.packet.number))
+    (λ p. against-not_kept g (outside p.packet.number) p (outside-not_kept p.packet.number))
 
 -- ---- links
 
@@ -94,7 +94,7 @@ delayed-not_kept g n c s = map-not_kept (λ hop. DelayOver n hop) (untimely g.do
 link-not_kept : (g : Ground) (run : Run) → IsNotKept (link_of_run g run)
 link-not_kept g run =
     first_found-not_kept (λ p. against_sent g (delayed g.domain p.packet.number) p) (in_order is_numbered_before run.passages)
-    (λ p. against-not_kept t (delayed g.domain p.packet.number) p (delayed-not_kept g p.packet.number))
+    (λ p. against-not_kept g (delayed g.domain p.packet.number) p (delayed-not_kept g p.packet.number))
 
 -- ---- skews
 

@@ -16,6 +16,6 @@ loop-site-preserved c site below some =
 pub returns : goal.returns
 returns c = (
   λ passed site some.
-      c.loop-site.invariant site (omega (arith, opening_below c.args.accepted.now site some, c.site_count.ensures.value, c.loop-site-test.false)) some,
+      c.loop-site.invariant site (omega (arith, opening_below c.args.accepted.now site some, c.site_count-site-end.ensures.value, c.loop-site-test.false)) some,
   λ each. refl,
 )
