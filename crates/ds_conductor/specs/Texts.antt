@@ -7,7 +7,7 @@ use Rattle.pcap_capture.specs.Frames.{FrameValue}
 use Rattle.pcap_capture.specs.declared.heading.Link.{Link}
 use Rattle.ds_domain_base.specs.declared.contract.Contract.{Contract}
 use Rattle.ds_checker.specs.Acceptance.{Table}
-use Rattle.meter_fabric.specs.Sites.{contract_of}
+use Rattle.meter_fabric.specs.Grounds.{contract_of, ground_of}
 use Rattle.frame_marker.specs.Frames.{marked_frame}
 use Rattle.ds_visits.specs.declared.sent.Sent.{Sent}
 use Rattle.ds_conductor.specs.declared.rule.RedRule.{RedRule}
@@ -29,7 +29,7 @@ text_in_class link f colour (Some c) = f.head ++ marked_frame link (code_point c
 
 -- a marked record, unless it is left out
 abbrev pub marked_text : Table → RedRule → Link → FrameValue → Sent → Colour → List ℕ
-marked_text t red link f s colour = if is_dropped red colour then [] else text_in_class link f colour (contract_of t s.flow)
+marked_text t red link f s colour = if is_dropped red colour then [] else text_in_class link f colour (contract_of (ground_of t) s.flow)
 
 -- the packet that the frame of a number sent, with its colour: the next one, if it has that number
 abbrev pub packet_at : ℕ → List (Sent × Colour) → Option (Sent × Colour)

@@ -1,5 +1,5 @@
 ghost use Rattle.std.specs.Prelude.{◌≡◌, ◌⊎◌, [], ◌++◌, drop, zip, is_ok, if◌then◌else◌, IfOk, IfErr, MatchResult, OnOk};
-ghost use Rattle.meter_fabric.specs.Sites.{contract_of};
+ghost use Rattle.meter_fabric.specs.Grounds.{contract_of, ground_of};
 ghost use Rattle.pcap_capture.specs.Counts.{next_count};
 ghost use Rattle.ds_conductor.specs.Texts.{is_dropped, packet_at, record_text, text_from, text_in_class};
 ghost use Rattle.ds_conductor.specs.Writings.{IsFrontOf, IsWrittenTo, is_write_fault};
@@ -91,7 +91,7 @@ fn add_marked(
     flow: u32,
     colour: Colour,
 ) -> Result<(), AllocError>
-    ensures { OnOk result (out.new.items ≡ out.old.items ++ text_in_class link frame colour (contract_of accepted.now flow)) }
+    ensures { OnOk result (out.new.items ≡ out.old.items ++ text_in_class link frame colour (contract_of (ground_of accepted.now) flow)) }
 {
     let (head, _moment, mut bytes) = frame.into_parts();
     if let Some(contract) = contract_of(accepted, flow) {

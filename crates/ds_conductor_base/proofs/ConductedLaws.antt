@@ -2,6 +2,7 @@
 use Rattle.std.proofs.Common.{◌≡◌, ℕ, suc, List, [], ◌∷◌, refl, subst}
 use Rattle.std.specs.Prelude.{Result, Ok, Err}
 use Rattle.ds_checker.specs.Acceptance.{Table}
+use Rattle.meter_fabric.specs.Grounds.{ground_of}
 use Rattle.run_audit_base.specs.Runs.{IsRun, Run}
 use Rattle.ds_conductor_base.specs.Conducting.{as_run, conducted, conducted_from, going_on, run_so_far}
 use Rattle.ds_conductor_base.specs.Steps.{Stage, opened, stepped}
@@ -25,10 +26,10 @@ conducted_under_way t g h index [] way done = subst (IsUnderWay t) (same_Ok g h 
 conducted_under_way t g h index (s ∷ rest) way done =
     step_by_step t g h s index (λ k. conducted_from t k (suc index) rest) (stepped t g s) way (λ k. conducted_under_way t k h (suc index) rest) refl done
 
-run_of_stage : (t : Table) (made : Result Stage ConductFault) (run : Run) → ((g : Stage) → made ≡ Ok g → IsUnderWay t g) → as_run made ≡ Ok run → IsRun t run
-run_of_stage t (Ok g) run way done = subst (IsRun t) (same_Ok (run_so_far g) run done) (run_under_way t g (way g refl))
+run_of_stage : (t : Table) (made : Result Stage ConductFault) (run : Run) → ((g : Stage) → made ≡ Ok g → IsUnderWay t g) → as_run made ≡ Ok run → IsRun (ground_of t) run
+run_of_stage t (Ok g) run way done = subst (IsRun (ground_of t)) (same_Ok (run_so_far g) run done) (run_under_way t g (way g refl))
 run_of_stage t (Err fault) run way done = absurd cc
 
-pub conducted_is_run : (t : Table) (all : List Step) (run : Run) → conducted t all ≡ Ok run → IsRun t run
+pub conducted_is_run : (t : Table) (all : List Step) (run : Run) → conducted t all ≡ Ok run → IsRun (ground_of t) run
 conducted_is_run t all run done =
     run_of_stage t (conducted_from t (opened t) 0 all) run (λ g. conducted_under_way t (opened t) g 0 all (opened_under_way t)) done

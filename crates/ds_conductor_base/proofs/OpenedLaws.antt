@@ -1,5 +1,5 @@
 -- The books before the first step: one for each site where something stands.
-use Rattle.std.proofs.Common.{◌≡◌, ◌<◌, ◌≤◌, ◌+◌, ◌-◌, ℕ, Bool, true, false, min, List, [], length, map, Option, None, Some, refl, sym, ◌∙◌, ap, arith, inl, inr}
+use Rattle.std.proofs.Common.{◌≡◌, ◌<◌, ◌≤◌, ◌+◌, ◌^◌, ◌-◌, ℕ, Bool, true, false, min, List, [], length, map, Option, None, Some, refl, sym, ◌∙◌, ap, arith, inl, inr}
 use Rattle.std.specs.Prelude.{◌⊎◌, nat_lt, option_map, slice_get, if◌then◌else◌}
 use Rattle.std.specs.List.{range_with_len}
 use Rattle.std.proofs.lemmas.Bool.Decides.{nat_tests}
@@ -8,9 +8,11 @@ use Rattle.std.proofs.lemmas.Option.{none-some, same_Some, slice_get-get_or, sli
 use Rattle.meter_book.specs.Replay.{Book, rows_of}
 use Rattle.ds_domain_base.specs.declared.contract.Contract.{Contract}
 use Rattle.ds_checker.specs.Acceptance.{Table}
-use Rattle.meter_fabric.specs.Sites.{contract_of}
-use Rattle.run_audit_base.specs.Runs.{Opening, opening_at}
-use Rattle.ds_conductor_base.specs.Steps.{book_at, book_with, opened, opened_at, site_count, some_of}
+use Rattle.meter_fabric.specs.Grounds.{contract_of, flow_count, ground_of, most_flows}
+use Rattle.meter_fabric.specs.Openings.{book_with, opening_at, site_count}
+use Rattle.meter_fabric.specs.declared.site.Opening.{Opening}
+use Rattle.meter_fabric.proofs.GroundLaws.{contract_at}
+use Rattle.ds_conductor_base.specs.Steps.{book_at, opened, opened_at, some_of}
 use Rattle.ds_conductor_base.specs.UnderWay.{opening_in}
 
 -- a table of what a function gives of the first numbers
@@ -27,40 +29,40 @@ range_past f n k past =
 
 -- ---- beyond the last site
 
-nobody_by : (low : Bool) (contracts : List Contract) (flow : ℕ) → nat_lt flow 4294966272 ≡ low → min (length contracts) 4294966272 ≤ flow
+nobody_by : (low : Bool) (contracts : List Contract) (flow : ℕ) → nat_lt flow most_flows ≡ low → min (length contracts) most_flows ≤ flow
     → (if low then slice_get contracts flow else None) ≡ None
 nobody_by false contracts flow test past = refl
 nobody_by true contracts flow test past =
-    let small : flow < 4294966272 = grind (arith, nat_tests) in
+    let small : flow < most_flows = grind (arith, nat_tests) in
     slice_get_past contracts flow (grind arith)
 
 -- there is no contract of a number beyond them
-contract_past : (t : Table) (flow : ℕ) → min (length t.contracts) 4294966272 ≤ flow → contract_of t flow ≡ None
-contract_past t flow past = nobody_by (nat_lt flow 4294966272) t.contracts flow refl past
+contract_past : (t : Table) (flow : ℕ) → min (length t.contracts) most_flows ≤ flow → contract_of (ground_of t) flow ≡ None
+contract_past t flow past = contract_at t flow ∙ nobody_by (nat_lt flow most_flows) t.contracts flow refl past
 
 -- nothing stands at a site beyond the last
-opening_past : (t : Table) (site : ℕ) → site_count t ≤ site → opening_at t site ≡ None
+opening_past : (t : Table) (site : ℕ) → site_count t ≤ site → opening_at (ground_of t) site ≡ None
 opening_past t site past =
     let behind : nat_lt site (length t.domain.meters) ≡ false = grind (arith, nat_tests, past) in
-    let flow : min (length t.contracts) 4294966272 ≤ site - length t.domain.meters = omega (arith, past) in
+    let flow : min (length t.contracts) most_flows ≤ site - length t.domain.meters = omega (arith, past) in
     rw (behind, contract_past t (site - length t.domain.meters) flow) refl
 
 -- ---- at first
 
 opened_openings_by : (t : Table) (site : ℕ) → site < site_count t ⊎ site_count t ≤ site → book_at (opened t) site ≡ opened_at t site
 opened_openings_by t site (inl short) = range_within (opened_at t) (site_count t) site short
-opened_openings_by t site (inr past) = range_past (opened_at t) (site_count t) site past ∙ sym (ap (option_map book_with) (opening_past t site past))
+opened_openings_by t site (inr past) = range_past (opened_at t) (site_count t) site past ∙ sym (ap (option_map (book_with (2 ^ 20))) (opening_past t site past))
 
 -- at each site stands the book of what opens there
 pub opened_book : (t : Table) (site : ℕ) → book_at (opened t) site ≡ opened_at t site
 opened_book t site = opened_openings_by t site (grind arith)
 
 -- which opens what stands there
-pub opening_of-opened : (found : Option Opening) → option_map opening_in (option_map book_with found) ≡ found
+pub opening_of-opened : (found : Option Opening) → option_map opening_in (option_map (book_with (2 ^ 20)) found) ≡ found
 opening_of-opened None = refl
 opening_of-opened (Some o) = refl
 
 -- and has no rows
-pub no_rows : (found : Option Opening) (b : Book) → option_map book_with found ≡ Some b → rows_of b ≡ []
+pub no_rows : (found : Option Opening) (b : Book) → option_map (book_with (2 ^ 20)) found ≡ Some b → rows_of b ≡ []
 no_rows None b is = absurd (none-some b is)
-no_rows (Some o) b is = ap rows_of (sym (same_Some (book_with o) b is))
+no_rows (Some o) b is = ap rows_of (sym (same_Some (book_with (2 ^ 20) o) b is))

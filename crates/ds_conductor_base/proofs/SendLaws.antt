@@ -12,7 +12,8 @@ use Rattle.meter_book.specs.Replay.{rows_of}
 use Rattle.ds_domain_base.specs.Sent.{came}
 use Rattle.ds_domain_base.specs.declared.contract.Contract.{Contract}
 use Rattle.ds_checker.specs.Acceptance.{Table}
-use Rattle.meter_fabric.specs.Sites.{contract_of, hops_of}
+use Rattle.meter_fabric.specs.Grounds.{contract_of, ground_of}
+use Rattle.meter_fabric.specs.Sites.{hops_of}
 use Rattle.meter_fabric.specs.Trails.{Packet}
 use Rattle.meter_fabric.specs.Travels.{Traveller}
 use Rattle.meter_fabric.proofs.TrailLaws.{IsTrail-none}
@@ -28,7 +29,7 @@ use Rattle.ds_conductor_base.proofs.ListLaws.{flat_map-push_none, same_Ok}
 abbrev pub beginning : Table → Packet → Contract → Traveller
 beginning t p c = record { packet = p; came = came c p.dscp; hops = hops_of t.domain p.flow c; receipts = [] }
 
-on_its_way : (t : Table) (p : Packet) (c : Contract) → contract_of t p.flow ≡ Some c → IsOnItsWay t (beginning t p c)
+on_its_way : (t : Table) (p : Packet) (c : Contract) → contract_of (ground_of t) p.flow ≡ Some c → IsOnItsWay t (beginning t p c)
 on_its_way t p c is = (c, is, refl, refl, IsTrail-none p p.begun (came c p.dscp) (hops_of t.domain p.flow c))
 
 -- where none has a number, each has another
@@ -45,7 +46,7 @@ told-push site ts p none =
     ap (told site) (map_push passage_of ts p) ∙ flat_map-push_none (told_by site) (map passage_of ts) (passage_of p) nothing
 
 begun_under_way : (t : Table) (g : Stage) (p : Packet) (c : Contract) → IsUnderWay t g → list_any (is_of p.number) g.travellers ≡ false
-    → contract_of t p.flow ≡ Some c → IsUnderWay t (record g { travellers = g.travellers ++ beginning t p c ∷ [] })
+    → contract_of (ground_of t) p.flow ≡ Some c → IsUnderWay t (record g { travellers = g.travellers ++ beginning t p c ∷ [] })
 begun_under_way t g p c way none is = record {
   count = way.count;
   openings = way.openings;
@@ -56,13 +57,13 @@ begun_under_way t g p c way none is = record {
 }
 
 sent_by_contract : (t : Table) (g h : Stage) (p : Packet) (found : Option Contract) → IsUnderWay t g → list_any (is_of p.number) g.travellers ≡ false
-    → contract_of t p.flow ≡ found → sent g (option_map (beginning t p) found) ≡ Ok h → IsUnderWay t h
+    → contract_of (ground_of t) p.flow ≡ found → sent g (option_map (beginning t p) found) ≡ Ok h → IsUnderWay t h
 sent_by_contract t g h p None way none is done = absurd cc
 sent_by_contract t g h p (Some c) way none is done =
     subst (IsUnderWay t) (same_Ok (record g { travellers = g.travellers ++ beginning t p c ∷ [] }) h done) (begun_under_way t g p c way none is)
 
 -- a packet that begins, if none was sent with its number
 pub sent_under_way : (t : Table) (g h : Stage) (p : Packet) (taken : Bool) → IsUnderWay t g → list_any (is_of p.number) g.travellers ≡ taken
-    → ◌≡◌ {A = Result Stage StepFault} (if taken then Err BadStep else sent g (option_map (beginning t p) (contract_of t p.flow))) (Ok h) → IsUnderWay t h
+    → ◌≡◌ {A = Result Stage StepFault} (if taken then Err BadStep else sent g (option_map (beginning t p) (contract_of (ground_of t) p.flow))) (Ok h) → IsUnderWay t h
 sent_under_way t g h p true way test done = absurd cc
-sent_under_way t g h p false way test done = sent_by_contract t g h p (contract_of t p.flow) way test refl done
+sent_under_way t g h p false way test done = sent_by_contract t g h p (contract_of (ground_of t) p.flow) way test refl done

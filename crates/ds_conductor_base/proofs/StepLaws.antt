@@ -4,7 +4,7 @@ use Rattle.std.specs.Prelude.{option_map, slice_get, OnOk, OnErr}
 use Rattle.std.proofs.lemmas.Option.{same_Some}
 use Rattle.ds_domain_base.specs.declared.contract.Contract.{Contract}
 use Rattle.ds_checker.specs.Acceptance.{Table}
-use Rattle.meter_fabric.specs.Sites.{contract_of}
+use Rattle.meter_fabric.specs.Grounds.{contract_of, ground_of}
 use Rattle.meter_fabric.specs.Trails.{Packet}
 use Rattle.meter_fabric.specs.Travels.{Traveller, begun_of}
 use Rattle.meter_fabric.specs.declared.fault.BeginFault.{BeginFault}
@@ -30,18 +30,18 @@ module _ (t : Table) (g : Stage) (flow packet size dscp moment : ℕ) where
 
   -- a number that was not
   send_new : (begun : Option Traveller) → is_some (position (is_of packet) g.travellers) ≡ false
-      → begun_of t (record { flow = flow; number = packet; size = size; dscp = dscp; begun = moment }) ≡ begun
+      → begun_of (ground_of t) (record { flow = flow; number = packet; size = size; dscp = dscp; begun = moment }) ≡ begun
       → stepped t g (Send flow packet size dscp moment) ≡ sent g begun
   unfolding stepped
   send_new begun new is = rw (list_any-position (is_of packet) g.travellers ∙ new) (ap (sent g) is)
 
   pub send_begun : (p : Traveller) → is_some (position (is_of packet) g.travellers) ≡ false
-      → begun_of t (record { flow = flow; number = packet; size = size; dscp = dscp; begun = moment }) ≡ Some p
+      → begun_of (ground_of t) (record { flow = flow; number = packet; size = size; dscp = dscp; begun = moment }) ≡ Some p
       → stepped t g (Send flow packet size dscp moment) ≡ Ok (record g { travellers = g.travellers ++ p ∷ [] })
   send_begun p new is = send_new (Some p) new is
 
   pub send_refused : (fault : BeginFault) → is_some (position (is_of packet) g.travellers) ≡ false
-      → (fault ≡ begins.UnknownFlow → contract_of t flow ≡ None)
+      → (fault ≡ begins.UnknownFlow → contract_of (ground_of t) flow ≡ None)
       → (begin_fault_of fault ≡ NoMemory) ⊎ (stepped t g (Send flow packet size dscp moment) ≡ Err (begin_fault_of fault))
   send_refused begins.UnknownFlow new unknown = inr (send_new None new (ap (option_map _) (unknown refl)))
   send_refused begins.NoMemory new unknown = inl refl
@@ -53,12 +53,12 @@ module _ (t : Table) (g : Stage) (flow packet size dscp moment : ℕ) where
   -- what is kept stays so where the packet begins
   pub send_keeps : (h : Stage) (p : Traveller) (place : ℕ) (old new : ℕ → Option ℕ) → IsUnderWay t g
       → ((n : ℕ) → old n ≡ position (is_of n) g.travellers) → is_some (position (is_of packet) g.travellers) ≡ false
-      → begun_of t (record { flow = flow; number = packet; size = size; dscp = dscp; begun = moment }) ≡ Some p
+      → begun_of (ground_of t) (record { flow = flow; number = packet; size = size; dscp = dscp; begun = moment }) ≡ Some p
       → place ≡ length g.travellers → ((n : ℕ) → new n ≡ cond (nat_eq packet n) (Some place) (old n))
       → h ≡ record g { travellers = g.travellers ++ p ∷ [] }
       → IsUnderWay t h × ((n : ℕ) → new n ≡ position (is_of n) h.travellers)
   send_keeps h p place old new way kept fresh begun last more is =
-      let number : p.packet.number ≡ packet = begun_number (contract_of t flow) p begun in
+      let number : p.packet.number ≡ packet = begun_number (contract_of (ground_of t) flow) p begun in
       let absent : is_some (old p.packet.number) ≡ false = ap (λ n. is_some (old n)) number ∙ ap is_some (kept packet) ∙ fresh in (
         stepped_under_way t g h (Send flow packet size dscp moment) way (send_begun p fresh begun ∙ ap (λ s. Ok s) (sym is)),
         λ n. places_sent old new g.travellers p place kept absent last (λ k. more k ∙ ap (λ own. cond (nat_eq own k) (Some place) (old k)) (sym number)) n

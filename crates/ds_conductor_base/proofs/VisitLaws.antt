@@ -12,13 +12,15 @@ use Rattle.meter_book.specs.declared.row.Arrival.{Arrival}
 use Rattle.meter_book.specs.declared.row.Row.{Row}
 use Rattle.meter_book.proofs.ReplayLaws.{rows_from-push}
 use Rattle.ds_checker.specs.Acceptance.{Table}
+use Rattle.meter_fabric.specs.Grounds.{ground_of}
 use Rattle.meter_fabric.specs.Trails.{arrival_at}
 use Rattle.meter_fabric.specs.Travels.{Traveller, comes_as, last_moment, next_hop, received, visit_at}
 use Rattle.meter_fabric.specs.declared.fault.VisitFault.TheVariants as visits
 use Rattle.meter_fabric.specs.declared.hop.Hop.{Hop}
 use Rattle.meter_fabric.specs.declared.trail.Receipt.{Receipt}
 use Rattle.meter_fabric.proofs.TrailLaws.{trail_of-received}
-use Rattle.run_audit_base.specs.Runs.{opening_at, told, told_by}
+use Rattle.run_audit_base.specs.Runs.{told, told_by}
+use Rattle.meter_fabric.specs.Openings.{opening_at}
 use Rattle.ds_conductor_base.specs.Conducting.{passage_of}
 use Rattle.ds_conductor_base.specs.Steps.{Stage, book_at, some_of, visited, visited_at, visited_by, visited_from, visited_next}
 use Rattle.ds_conductor_base.specs.UnderWay.{IsOnItsWay, IsUnderWay, opening_in}
@@ -96,9 +98,9 @@ book_elsewhere g place p hop b moment site other =
     ap some_of (set_elsewhere g.books hop.site site (Some (noted b (coming p hop moment))) (other_site hop.site site other))
 
 openings_by : (t : Table) (g : Stage) (place : ℕ) (p : Traveller) (hop : Hop) (b : Book) (moment site : ℕ) (here : Bool) → IsUnderWay t g → Visits g place p hop b moment
-    → nat_eq hop.site site ≡ here → option_map opening_in (book_at (stage_behind g place p hop b moment) site) ≡ opening_at t site
+    → nat_eq hop.site site ≡ here → option_map opening_in (book_at (stage_behind g place p hop b moment) site) ≡ opening_at (ground_of t) site
 openings_by t g place p hop b moment site true way visits test =
-    subst (λ n. option_map opening_in (book_at (stage_behind g place p hop b moment) n) ≡ opening_at t n) (same_site hop.site site test)
+    subst (λ n. option_map opening_in (book_at (stage_behind g place p hop b moment) n) ≡ opening_at (ground_of t) n) (same_site hop.site site test)
     (ap (option_map opening_in) (book_here g place p hop b moment visits) ∙ sym (ap (option_map opening_in) visits.book) ∙ way.openings hop.site)
 openings_by t g place p hop b moment site false way visits test =
     ap (option_map opening_in) (book_elsewhere g place p hop b moment site test) ∙ way.openings site

@@ -2,7 +2,8 @@
 use Rattle.std.specs.Prelude.{◌≡◌, ◌≤◌, ◌^◌, ℕ, nat_eq, position}
 use Rattle.indexmap.specs.IndexMap.{get}
 use Rattle.ds_checker.specs.Acceptance.{Table}
-use Rattle.ds_conductor_base.specs.Steps.{Stage, is_of, site_count}
+use Rattle.meter_fabric.specs.Openings.{site_count}
+use Rattle.ds_conductor_base.specs.Steps.{Stage, is_of}
 use Rattle.ds_conductor_base.specs.UnderWay.{IsUnderWay}
 use Rattle.ds_conductor_base.specs.declared.conductor.Conductor.TheInside as conductors
 

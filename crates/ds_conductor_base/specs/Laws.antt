@@ -1,6 +1,7 @@
 -- What steps keep, and what they make.
 use Rattle.std.specs.Prelude.{◌≡◌, List, Ok}
 use Rattle.ds_checker.specs.Acceptance.{Table}
+use Rattle.meter_fabric.specs.Grounds.{ground_of}
 use Rattle.run_audit_base.specs.Runs.{IsRun, Run}
 use Rattle.ds_conductor_base.specs.Conducting.{conducted, run_so_far}
 use Rattle.ds_conductor_base.specs.Steps.{Stage, opened, stepped}
@@ -12,8 +13,8 @@ abbrev pub StepsKeepOnTheWay : Type 0
 StepsKeepOnTheWay =
     ((t : Table) → IsUnderWay t (opened t))
     × ((t : Table) (g h : Stage) (s : Step) → IsUnderWay t g → stepped t g s ≡ Ok h → IsUnderWay t h)
-    × ((t : Table) (g : Stage) → IsUnderWay t g → IsRun t (run_so_far g))
+    × ((t : Table) (g : Stage) → IsUnderWay t g → IsRun (ground_of t) (run_so_far g))
 
 -- What a list of steps makes is a run.
 abbrev pub StepsMakeRuns : Type 0
-StepsMakeRuns = (t : Table) (all : List Step) (run : Run) → conducted t all ≡ Ok run → IsRun t run
+StepsMakeRuns = (t : Table) (all : List Step) (run : Run) → conducted t all ≡ Ok run → IsRun (ground_of t) run

@@ -3,10 +3,11 @@ use Rattle.std.specs.Prelude.{ℕ, ◌+◌, ◌^◌, nat_eq, Bool, if◌then◌e
 use Rattle.std.specs.List.{list_any, range_with_len}
 use Rattle.meter_book.specs.Replay.{Book}
 use Rattle.ds_checker.specs.Acceptance.{Table}
+use Rattle.meter_fabric.specs.Grounds.{ground_of}
 use Rattle.meter_fabric.specs.Travels.{Traveller, begun_of, next_site, visit}
 use Rattle.meter_fabric.specs.declared.fault.VisitFault.{VisitFault}
 use Rattle.meter_fabric.specs.declared.fault.VisitFault.TheVariants as visits
-use Rattle.run_audit_base.specs.Runs.{Opening, opening_at}
+use Rattle.meter_fabric.specs.Openings.{book_with, opening_at, site_count}
 use Rattle.ds_conductor_base.specs.declared.fault.StepFault.{StepFault}
 use Rattle.ds_conductor_base.specs.declared.fault.StepFault.TheVariants.{BadStep, JournalFull, NoMemory}
 use Rattle.ds_conductor_base.specs.declared.step.Step.{Step}
@@ -18,16 +19,9 @@ pub record Stage : Type 0 where
   pub travellers : List Traveller
   pub books : List (Option Book)
 
--- how many numbers sites have: one for each meter, then one for each contract
-abbrev pub site_count : Table → ℕ
-site_count t = length t.domain.meters + min (length t.contracts) 4294966272
-
 -- an empty book of what stands at a site, which takes 2^20 rows
-abbrev pub book_with : Opening → Book
-book_with o = record { opening = o.meter; skew = o.skew; capacity = 2 ^ 20; arrivals = [] }
-
 abbrev pub opened_at : Table → ℕ → Option Book
-opened_at t site = option_map book_with (opening_at t site)
+opened_at t site = option_map (book_with (2 ^ 20)) (opening_at (ground_of t) site)
 
 -- before the first step
 abbrev pub opened : Table → Stage
@@ -83,5 +77,5 @@ stepped t g (Send flow packet size dscp moment) =
     if list_any (is_of packet) g.travellers then
     Err BadStep
     else
-    sent g (begun_of t (record { flow = flow; number = packet; size = size; dscp = dscp; begun = moment }))
+    sent g (begun_of (ground_of t) (record { flow = flow; number = packet; size = size; dscp = dscp; begun = moment }))
 stepped t g (Visit packet moment) = visited_from g moment (position (is_of packet) g.travellers)

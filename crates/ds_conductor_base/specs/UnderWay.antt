@@ -4,12 +4,15 @@ use Rattle.meter_book.specs.Replay.{Book, rows_of}
 use Rattle.ds_domain_base.specs.Sent.{came}
 use Rattle.ds_domain_base.specs.declared.contract.Contract.{Contract}
 use Rattle.ds_checker.specs.Acceptance.{Table}
-use Rattle.meter_fabric.specs.Sites.{contract_of, hops_of}
+use Rattle.meter_fabric.specs.Grounds.{contract_of, ground_of}
+use Rattle.meter_fabric.specs.Sites.{hops_of}
 use Rattle.meter_fabric.specs.Trails.{IsTrail}
 use Rattle.meter_fabric.specs.Travels.{Traveller}
-use Rattle.run_audit_base.specs.Runs.{Opening, opening_at, told}
+use Rattle.run_audit_base.specs.Runs.{told}
+use Rattle.meter_fabric.specs.Openings.{opening_at, site_count}
+use Rattle.meter_fabric.specs.declared.site.Opening.{Opening}
 use Rattle.ds_conductor_base.specs.Conducting.{passage_of}
-use Rattle.ds_conductor_base.specs.Steps.{Stage, book_at, site_count}
+use Rattle.ds_conductor_base.specs.Steps.{Stage, book_at}
 
 -- the meter and the skew with which a book was opened
 abbrev pub opening_in : Book → Opening
@@ -19,14 +22,14 @@ opening_in b = record { meter = b.opening; skew = b.skew }
 abbrev pub IsOnItsWay : Table → Traveller → Type 0
 IsOnItsWay t p =
     (c : Contract)
-    × (contract_of t p.packet.flow ≡ Some c)
+    × (contract_of (ground_of t) p.packet.flow ≡ Some c)
     × (p.came ≡ came c p.packet.dscp)
     × (p.hops ≡ hops_of t.domain p.packet.flow c)
     × IsTrail p.packet p.packet.begun p.came p.hops p.receipts
 
 pub record IsUnderWay (t : Table) (g : Stage) : Type 0 where
   pub count : length g.books ≡ site_count t
-  pub openings : (site : ℕ) → option_map opening_in (book_at g site) ≡ opening_at t site
+  pub openings : (site : ℕ) → option_map opening_in (book_at g site) ≡ opening_at (ground_of t) site
   pub travellers : All (IsOnItsWay t) g.travellers
   pub numbers : AllPairs (λ p q. ¬ (p.packet.number ≡ q.packet.number)) g.travellers
   pub rows : (site : ℕ) (b : Book) → book_at g site ≡ Some b → IsPermutation (told site (map passage_of g.travellers)) (rows_of b)

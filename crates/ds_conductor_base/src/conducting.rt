@@ -1,4 +1,5 @@
 ghost use Rattle.std.specs.Prelude.{◌≡◌, ◌⊎◌, Ok, Err, IfErr, IfOk};
+ghost use Rattle.meter_fabric.specs.Grounds.{ground_of};
 ghost use Rattle.ds_conductor_base.specs.Conducting.{conducted};
 
 use crate::conductor::Conductor;
@@ -18,7 +19,7 @@ pub fn conduct<'a>(
     accepted: &'a Accepted,
     steps: &[Step],
 ) -> Result<Run<'a>, ConductFault>
-    ensures table { IfOk result (λ run. run.table ≡ accepted.now) }
+    ensures ground { IfOk result (λ run. run.ground ≡ ground_of accepted.now) }
     ensures run { IfOk result (λ run. conducted accepted.now steps.now ≡ Ok run.run) }
     ensures refused { IfErr result (λ fault. (fault ≡ ConductFault.NoMemory) ⊎ (conducted accepted.now steps.now ≡ Err fault)) }
 {

@@ -1,4 +1,5 @@
 ghost use Rattle.std.specs.Prelude.{◌≡◌, ◌⊎◌, Ok, Err, IfErr, IfOk, OnErr, OnOk};
+ghost use Rattle.meter_fabric.specs.Grounds.{ground_of};
 ghost use Rattle.ds_conductor_base.specs.Conducting.{run_so_far};
 ghost use Rattle.ds_conductor_base.specs.Steps.{opened, stepped};
 
@@ -116,7 +117,7 @@ impl<'a> Conductor<'a> {
     /// The run that the steps made: the journals of the sites in their order, and the packets as they were sent. `AllocError`
     /// where memory runs out.
     pub fn finish(self, alloc: Global) -> Result<Run<'a>, AllocError>
-        ensures { IfOk result (λ run. run ≡ record { table = self.entry.table; run = run_so_far self.entry.stage }) }
+        ensures { IfOk result (λ run. run ≡ record { ground = ground_of self.entry.table; run = run_so_far self.entry.stage }) }
     {
         let Conductor {
             accepted,

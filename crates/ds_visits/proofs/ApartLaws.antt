@@ -8,7 +8,7 @@ use Rattle.ds_domain_base.specs.declared.contract.Contract.{Contract}
 use Rattle.ds_domain_base.specs.declared.terms.Terms.{Terms}
 use Rattle.ds_domain_base.specs.declared.terms.Terms.TheVariants.{Trusted, Policed}
 use Rattle.ds_checker.specs.Acceptance.{Table}
-use Rattle.meter_fabric.specs.Sites.{contract_of}
+use Rattle.meter_fabric.specs.Grounds.{contract_of, ground_of}
 use Rattle.ds_visits.specs.Visits.{is_same, visit_to, visits_from}
 use Rattle.ds_visits.specs.Ways.{delay_over, edge_stops, stops_along, stops_at, stops_by}
 use Rattle.ds_visits.specs.declared.sent.Sent.{Sent}
@@ -119,6 +119,6 @@ unfolding visits_from IsDistinct
 visits_differ t place [] = tt
 visits_differ t place (s ∷ sent) =
     distinct_both is_same (map (visit_to place s) (stops_at t s.flow)) (visits_from t (suc place) sent)
-    (packet_differs place s (stops_at t s.flow) (stops_by-differ t.domain s.flow (contract_of t s.flow)))
+    (packet_differs place s (stops_at t s.flow) (stops_by-differ t.domain s.flow (contract_of (ground_of t) s.flow)))
     (visits_differ t (suc place) sent)
     (across place s (stops_at t s.flow) (visits_from t (suc place) sent) (placed_from t place (suc place) sent (omega arith)))

@@ -7,7 +7,7 @@ use Rattle.meter_book.specs.declared.row.Arrival.{Arrival}
 use Rattle.ds_domain_base.specs.Sent.{came}
 use Rattle.ds_domain_base.specs.declared.contract.Contract.{Contract}
 use Rattle.ds_checker.specs.Acceptance.{Table}
-use Rattle.meter_fabric.specs.Sites.{contract_of}
+use Rattle.meter_fabric.specs.Grounds.{contract_of, ground_of}
 use Rattle.ds_conductor_base.specs.Steps.{opened, some_of}
 use Rattle.ds_visits.specs.Visits.{visits_of}
 use Rattle.ds_visits.specs.declared.sent.Sent.{Sent}
@@ -24,7 +24,7 @@ came_by (Some c) dscp = came c dscp
 
 -- the colour that a packet comes in with
 abbrev pub came_of : Table → Sent → Colour
-came_of t s = came_by (contract_of t s.flow) s.dscp
+came_of t s = came_by (contract_of (ground_of t) s.flow) s.dscp
 
 -- before the first visit: empty books, and the colours that the packets come in with
 abbrev pub entered : Table → List Sent → Traffic

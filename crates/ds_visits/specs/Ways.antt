@@ -4,7 +4,8 @@ use Rattle.ds_domain_base.specs.Domains.{Domain, link_of}
 use Rattle.ds_domain_base.specs.declared.contract.Contract.{Contract}
 use Rattle.ds_domain_base.specs.declared.terms.Terms.{Terms}
 use Rattle.ds_checker.specs.Acceptance.{Table}
-use Rattle.meter_fabric.specs.Sites.{contract_of, edge_hops, site_of}
+use Rattle.meter_fabric.specs.Grounds.{contract_of, ground_of}
+use Rattle.meter_fabric.specs.Sites.{edge_hops, site_of}
 use Rattle.run_audit_base.specs.Premises.{floor_of}
 use Rattle.ds_visits.specs.declared.way.Stop.{Stop}
 
@@ -33,7 +34,7 @@ stops_by d flow (Some c) = stops_of d flow c
 
 -- those of the packets of a contract's number; none where there is no such contract
 abbrev pub stops_at : Table → ℕ → List Stop
-stops_at t flow = stops_by t.domain flow (contract_of t flow)
+stops_at t flow = stops_by t.domain flow (contract_of (ground_of t) flow)
 
 -- the stops of each contract stand at its number
 abbrev pub AreWays : Table → List (List Stop) → Type 0

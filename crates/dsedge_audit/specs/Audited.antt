@@ -3,6 +3,7 @@ use Rattle.std.specs.Prelude.{ℕ, ◌+◌, ◌-◌, nat_lt, List, [], ◌∷◌
 use Rattle.meter_book.specs.Replay.{Journal, accounts_of, journal_rows}
 use Rattle.meter_book.specs.declared.accounts.Accounts.{Accounts}
 use Rattle.ds_checker.specs.Acceptance.{Table}
+use Rattle.meter_fabric.specs.Grounds.{ground_of}
 use Rattle.dsedge_lines.specs.Answers.{Answer}
 use Rattle.dsedge_lines.specs.declared.command.Ending.{Ending}
 use Rattle.dsedge_lines.specs.declared.command.Ending.TheVariants.{Whole, Refused, BadLine, Full}
@@ -56,7 +57,7 @@ accounts_line t j = accounts_line_of (site_name t j.site) (accounts_of (journal_
 
 -- the verdict on a run, then the accounts of each site
 abbrev pub audit_text : Table → Run → List ℕ
-audit_text t run = verdict_line t (verdict_of t run) ++ flat_map (accounts_line t) run.journals
+audit_text t run = verdict_line t (verdict_of (ground_of t) run) ++ flat_map (accounts_line t) run.journals
 
 -- a run that broke a premise is answered with no
 abbrev pub ending_by : Verdict → Ending
@@ -67,7 +68,7 @@ ending_by (DelayOver packet hop) = Refused
 ending_by (Late site place late) = Refused
 
 abbrev pub audit_of : Table → Run → Answer
-audit_of t run = record { text = audit_text t run; ending = ending_by (verdict_of t run) }
+audit_of t run = record { text = audit_text t run; ending = ending_by (verdict_of (ground_of t) run) }
 
 -- nothing is answered, since a line stopped the steps
 abbrev pub stopped : Ending → Answer

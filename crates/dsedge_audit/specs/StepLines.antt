@@ -4,13 +4,14 @@ use Rattle.std.specs.Str.{bytes_eq}
 use Rattle.line_text.specs.Lines.{fields_of}
 use Rattle.line_text.specs.Numbers.{number_of}
 use Rattle.ds_domain_base.specs.declared.contract.Contract.{Contract}
+use Rattle.meter_fabric.specs.Grounds.{most_flows}
 use Rattle.ds_conductor_base.specs.declared.step.Step.{Step}
 use Rattle.ds_conductor_base.specs.declared.step.Step.TheVariants.{Send, Visit}
 
 -- the number of the contract of a name, among those of which packets can be
 abbrev pub flow_named : List Contract → List ℕ → Option ℕ
 flow_named contracts name = option_and_then
-    (λ flow. if nat_lt flow 4294966272 then Some flow else None)
+    (λ flow. if nat_lt flow most_flows then Some flow else None)
     (position (λ c. bytes_eq name c.name) contracts)
 
 -- a size is a number from 1 to 65,535

@@ -1,4 +1,5 @@
 ghost use Rattle.std.specs.Prelude.{◌≡◌, ◌++◌, ◌⊎◌, flat_map, Ok, Err, IfErr, IfOk, OnOk};
+ghost use Rattle.meter_fabric.specs.Grounds.{ground_of};
 ghost use Rattle.ds_conductor_base.specs.Conducting.{run_so_far};
 ghost use Rattle.ds_conductor_base.specs.Steps.{opened, stepped};
 ghost use Rattle.dsedge_lines.specs.Answers.{AnswersAll, behind};
@@ -70,7 +71,7 @@ impl<'a> AuditCommand<'a> {
 
     /// The run that the steps made; there are none from here on.
     fn finish(&mut self) -> Result<Run<'a>, AllocError>
-        ensures { IfOk result (λ run. run ≡ record { table = self.old.table; run = run_so_far self.old.stage }) }
+        ensures { IfOk result (λ run. run ≡ record { ground = ground_of self.old.table; run = run_so_far self.old.stage }) }
     {
         let conductor = match self.conductor.take() {
             Some(conductor) => conductor,
@@ -81,13 +82,18 @@ impl<'a> AuditCommand<'a> {
 }
 
 /// The line of a verdict on a run, then the accounts of each site.
-fn audit_text(alloc: Global, run: &Run<'_>, verdict: &Verdict) -> Result<Vec<u8>, AllocError>
+fn audit_text(
+    alloc: Global,
+    accepted: &Accepted,
+    run: &Run<'_>,
+    verdict: &Verdict,
+) -> Result<Vec<u8>, AllocError>
     ensures { IfOk result (λ text. text.items
-        ≡ verdict_line run.now.table verdict.now ++ flat_map (accounts_line run.now.table) run.now.run.journals) }
+        ≡ verdict_line accepted.now verdict.now ++ flat_map (accounts_line accepted.now) run.now.run.journals) }
 {
     let mut text = Vec::new(alloc);
-    push_verdict(&mut text, run.accepted(), verdict)?;
-    push_sites(&mut text, run.accepted(), run.journals())?;
+    push_verdict(&mut text, accepted, verdict)?;
+    push_sites(&mut text, accepted, run.journals())?;
     Ok(text)
 }
 
@@ -101,12 +107,18 @@ fn ending(verdict: &Verdict) -> Ending
     }
 }
 
-/// Judges a run, answers behind `out`, and says how the answer ends. Where memory runs out, `out` is as it was.
-fn judge(alloc: Global, run: &Run<'_>, out: &mut Vec<u8>) -> Result<Ending, AllocError>
-    ensures { AnswersAll (behind out.old.items (audit_of run.now.table run.now.run)) out.new.items result }
+/// Judges a run of a table, answers behind `out`, and says how the answer ends. Where memory runs out, `out` is as it was.
+fn judge(
+    alloc: Global,
+    accepted: &Accepted,
+    run: &Run<'_>,
+    out: &mut Vec<u8>,
+) -> Result<Ending, AllocError>
+    requires { run.now.ground ≡ ground_of accepted.now }
+    ensures { AnswersAll (behind out.old.items (audit_of accepted.now run.now.run)) out.new.items result }
 {
     let verdict = audit(alloc, run)?;
-    let text = audit_text(alloc, run, &verdict)?;
+    let text = audit_text(alloc, accepted, run, &verdict)?;
     out.extend_from_slice(text.as_slice())?;
     Ok(ending(&verdict))
 }
@@ -135,6 +147,6 @@ impl<'a> Command for AuditCommand<'a> {
     #[tactic(auto, using(crate::proofs::AuditLaws::last_line))]
     fn end(&mut self, _number: u64, out: &mut Vec<u8>) -> Result<Ending, AllocError> {
         let run = self.finish()?;
-        judge(self.alloc, &run, out)
+        judge(self.alloc, self.flows.accepted(), &run, out)
     }
 }
