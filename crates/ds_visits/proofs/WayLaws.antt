@@ -2,50 +2,29 @@
 use Rattle.std.proofs.Common.{◌≡◌, ◌⊎◌, inl, inr, ◌<◌, ◌≤◌, ◌+◌, ℕ, suc, Bool, true, false, min, List, [], ◌∷◌, ◌++◌, length, map, drop, get_or, Option, None, refl, sym, ap, ◌∙◌, arith, append_assoc, rules}
 use Rattle.std.specs.Prelude.{nat_lt, slice_get, unwrap_or, if◌then◌else◌}
 use Rattle.std.specs.List.{range_with_len}
-use Rattle.std.proofs.lemmas.Bool.Decides.{nat_tests}
 use Rattle.std.proofs.lemmas.List.{drop_all, drop_more}
-use Rattle.std.proofs.lemmas.List.FromFn.{get_or-map-range_with_len, length-map-range_with_len}
-use Rattle.std.proofs.lemmas.Option.{slice_get-get_or, slice_get_past}
-use Rattle.ds_domain_base.specs.declared.contract.Contract.{Contract}
 use Rattle.ds_checker.specs.Acceptance.{Table}
+use Rattle.meter_fabric.specs.Grounds.{flow_count}
+use Rattle.meter_fabric.proofs.GroundLaws.{contract_past}
+use Rattle.meter_fabric.proofs.RangeLaws.{range_past, range_within}
 use Rattle.ds_visits.specs.Visits.{visit_to, visits_from}
 use Rattle.ds_visits.specs.Ways.{AreWays, stops_at, stops_by}
 use Rattle.ds_visits.specs.declared.sent.Sent.{Sent}
 use Rattle.ds_visits.specs.declared.visit.Visit.{Visit}
 use Rattle.ds_visits.specs.declared.way.Stop.{Stop}
 
--- ---- beyond the last contract
+-- ---- the stops of each contract
 
-nobody_by : (low : Bool) (contracts : List Contract) (flow : ℕ) → nat_lt flow 4294966272 ≡ low → min (length contracts) 4294966272 ≤ flow
-    → (if low then slice_get contracts flow else None) ≡ None
-nobody_by false contracts flow test past = refl
-nobody_by true contracts flow test past =
-    let small : flow < 4294966272 = grind (arith, nat_tests) in
-    slice_get_past contracts flow (grind arith)
+stops_past : (t : Table) (flow : ℕ) → flow_count t ≤ flow → stops_at t flow ≡ []
+stops_past t flow past = ap (stops_by t.domain flow) (contract_past t flow past)
 
-stops_past : (t : Table) (flow : ℕ) → min (length t.contracts) 4294966272 ≤ flow → stops_at t flow ≡ []
-stops_past t flow past = ap (stops_by t.domain flow) (nobody_by (nat_lt flow 4294966272) t.contracts flow refl past)
-
--- ---- a table of what a function gives of the first numbers
-
-range_within : {X : Type 0} (f : ℕ → List X) (n k : ℕ) → k < n → unwrap_or (slice_get (map f (range_with_len 0 n)) k) [] ≡ f k
-range_within f n k short =
-    let size : length (map f (range_with_len 0 n)) ≡ n = length-map-range_with_len f 0 n in
-    let place : 0 + k ≡ k = omega arith in
-    ap (λ found. unwrap_or found []) (slice_get-get_or (map f (range_with_len 0 n)) k [] (omega (arith, short, size))) ∙ get_or-map-range_with_len f 0 n k k [] short place
-
-range_past : {X : Type 0} (f : ℕ → List X) (n k : ℕ) → n ≤ k → unwrap_or (slice_get (map f (range_with_len 0 n)) k) [] ≡ []
-range_past f n k past =
-    let size : length (map f (range_with_len 0 n)) ≡ n = length-map-range_with_len f 0 n in
-    ap (λ found. unwrap_or found []) (slice_get_past (map f (range_with_len 0 n)) k (omega (arith, past, size)))
-
-way_by : (t : Table) (count flow : ℕ) → count ≡ min (length t.contracts) 4294966272 → flow < count ⊎ count ≤ flow
+way_by : (t : Table) (count flow : ℕ) → count ≡ flow_count t → flow < count ⊎ count ≤ flow
     → unwrap_or (slice_get (map (stops_at t) (range_with_len 0 count)) flow) [] ≡ stops_at t flow
-way_by t count flow all (inl short) = range_within (stops_at t) count flow short
-way_by t count flow all (inr past) = range_past (stops_at t) count flow past ∙ sym (stops_past t flow (omega (arith, past, all)))
+way_by t count flow all (inl short) = ap (λ found. unwrap_or found []) (range_within (stops_at t) count flow short)
+way_by t count flow all (inr past) = ap (λ found. unwrap_or found []) (range_past (stops_at t) count flow past) ∙ sym (stops_past t flow (omega (arith, past, all)))
 
 -- the stops of all contracts that have a number
-pub are_ways : (t : Table) (ways : List (List Stop)) (count : ℕ) → ways ≡ map (stops_at t) (range_with_len 0 count) → count ≡ min (length t.contracts) 4294966272
+pub are_ways : (t : Table) (ways : List (List Stop)) (count : ℕ) → ways ≡ map (stops_at t) (range_with_len 0 count) → count ≡ flow_count t
     → AreWays t ways
 are_ways t ways count made all flow = ap (λ found. unwrap_or (slice_get found flow) []) made ∙ way_by t count flow all (grind arith)
 

@@ -1,10 +1,10 @@
-ghost use Rattle.std.specs.Prelude.{◌≡◌, ◌+◌, ◌*◌, ◌<◌, ◌≤◌, ◌^◌, IfOk, length, min};
+ghost use Rattle.std.specs.Prelude.{◌≡◌, ◌+◌, ◌*◌, ◌<◌, ◌≤◌, ◌^◌, IfOk, length};
 ghost use Rattle.run_audit_base.specs.Premises.{floor_of};
 ghost use Rattle.ds_visits.specs.Ways.{AreWays, stops_at, stops_of};
 
 use ds_checker::Accepted;
 use ds_domain_base::{Contract, Domain, Link};
-use meter_fabric::{Hop, MOST_FLOWS, contract_of, edge_hop, site_of};
+use meter_fabric::{Hop, contract_of, edge_hop, flow_count, site_of};
 use moment_core::Gap;
 use std::alloc::{AllocError, Global};
 use std::marker::Model;
@@ -46,20 +46,12 @@ impl Way {
 pub(crate) fn all_ways(alloc: Global, accepted: &Accepted) -> Result<Vec<Way>, AllocError>
     ensures { IfOk result (λ ways. AreWays accepted.now ways.items) }
 {
-    let count = way_count(accepted);
-    let mut ways = Vec::with_capacity(alloc, count)?;
+    let count = flow_count(accepted);
+    let mut ways = Vec::with_capacity(alloc, count as usize)?;
     for flow in 0..count {
-        ways.push(way_at(alloc, accepted, flow as u32)?)?;
+        ways.push(way_at(alloc, accepted, flow)?)?;
     }
     Ok(ways)
-}
-
-/// How many contracts packets can be of.
-fn way_count(accepted: &Accepted) -> usize
-    ensures value { result ≡ min (length accepted.now.contracts) 4294966272 }
-    ensures range { result ≤ 4294966272 }
-{
-    accepted.contracts().len().min(MOST_FLOWS as usize)
 }
 
 /// The stops of the packets of a contract's number, none where there is no such contract; `AllocError` where memory runs out.

@@ -4,10 +4,11 @@ use Rattle.std.specs.Prelude.{nat_eq, nat_lt, ◌↔◌, is_some, IsSome, option
 use Rattle.std.specs.List.{enumerate_from, find}
 use Rattle.std.proofs.lemmas.Bool.{false≢true}
 use Rattle.std.proofs.lemmas.Bool.Decides.{nat_tests}
-use Rattle.std.proofs.lemmas.List.{take_all}
+use Rattle.std.proofs.lemmas.List.{length-take, take_all}
+use Rattle.std.proofs.lemmas.Option.{slice_get_past}
 use Rattle.ds_domain_base.specs.declared.contract.Contract.{Contract}
 use Rattle.ds_checker.specs.Acceptance.{Table}
-use Rattle.meter_fabric.specs.Grounds.{Ground, contract_of, ground_of, most_flows}
+use Rattle.meter_fabric.specs.Grounds.{Ground, contract_of, flow_count, ground_of, most_flows}
 use Rattle.meter_fabric.specs.Openings.{edge_opening, opening_at}
 
 abbrev found_from : ℕ → List Contract → ℕ → Option Contract
@@ -63,6 +64,12 @@ place_of t flow c is = numbered (nat_lt flow most_flows) (slice_get t.contracts 
     numbered : (low : Bool) (found : Option Contract) → (if low then found else None) ≡ Some c → (low ≡ true) × (found ≡ Some c)
     numbered true found some = (refl, some)
     numbered false found some = absurd cc
+
+-- there is no contract of a flow past them
+pub contract_past : (t : Table) (flow : ℕ) → flow_count t ≤ flow → contract_of (ground_of t) flow ≡ None
+contract_past t flow past =
+    found_at t flow
+    ∙ slice_get_past (take most_flows t.contracts) flow (omega (arith, past, length-take most_flows t.contracts))
 
 -- behind the meters stand the edges
 pub opening_behind : (g : Ground) (site : ℕ) → length g.domain.meters ≤ site

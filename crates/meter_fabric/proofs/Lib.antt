@@ -1,3 +1,4 @@
 pub mod GroundLaws
 pub mod PathLaws
+pub mod RangeLaws
 pub mod TrailLaws

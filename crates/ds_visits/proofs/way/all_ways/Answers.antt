@@ -13,4 +13,4 @@ loop-flow-preserved c =
     ∙ sym (map-range_with_len_more (stops_at c.args.accepted.now) 0 c.loop-flow.flow c.loop-flow.flow next)
 
 pub returns : goal.returns
-returns c = are_ways c.args.accepted.now c.loop-flow.ways.items c.loop-flow.flow c.loop-flow.invariant (omega (arith, c.loop-flow-test.false, c.way_count-count.ensures.value))
+returns c = are_ways c.args.accepted.now c.loop-flow.ways.items c.loop-flow.flow c.loop-flow.invariant (omega (arith, c.loop-flow-test.false, c.flow_count-count.ensures.value))
