@@ -1,9 +1,7 @@
 -- What a contract's traffic keeps where it enters a domain, and by how much delays differ on its way.
 use Rattle.std.specs.Prelude.{ℕ, List, [], ◌∷◌, Option, None, Some}
 use Rattle.envelope_core.specs.Curve.{Curve, widened}
-use Rattle.meter_book.specs.Envelopes.{single_rate_green, single_rate_all, two_rate_green, two_rate_all, excess_rate_green, excess_rate_all}
-use Rattle.meter_book.specs.declared.any_meter.Parameters.{Parameters}
-use Rattle.meter_book.specs.declared.any_meter.Parameters.TheVariants.{SrTcm, TrTcm, Rfc4115}
+use Rattle.meter_book.specs.Envelopes.{all_output, green_output}
 use Rattle.ds_domain_base.specs.Domains.{Domain, port_of, link_of}
 use Rattle.ds_domain_base.specs.declared.contract.Contract.{Contract}
 use Rattle.ds_domain_base.specs.declared.parts.Link.{Link}
@@ -15,17 +13,6 @@ use Rattle.ds_certificate.specs.declared.source.Source.{Source}
 
 abbrev pub curve_of : Profile → Curve
 curve_of p = record { rate = p.rate; burst = p.burst }
-
--- what leaves a meter with these parameters green, and what leaves it green or yellow
-abbrev pub green_output : Parameters → Curve
-green_output (SrTcm p) = single_rate_green p
-green_output (TrTcm p) = two_rate_green p
-green_output (Rfc4115 p) = excess_rate_green p
-
-abbrev pub all_output : Parameters → Curve
-all_output (SrTcm p) = single_rate_all p
-all_output (TrTcm p) = two_rate_all p
-all_output (Rfc4115 p) = excess_rate_all p
 
 -- What traffic keeps where it enters at a port with a skew. Trusted traffic keeps what it is trusted with: green and
 -- yellow packets together the peak, or without a peak what green ones keep. Policed traffic keeps what leaves the meter at

@@ -1,12 +1,11 @@
-ghost use Rattle.std.specs.Prelude.{◌≡◌, ◌+◌, ◌*◌, ◌≤◌, ◌^◌};
+ghost use Rattle.std.specs.Prelude.{◌≡◌, ◌*◌, ◌≤◌, ◌^◌};
 ghost use Rattle.envelope_core.specs.Curve.{widened};
 ghost use Rattle.ds_domain_base.specs.Domains.{link_of, port_of};
 ghost use Rattle.ds_certificate.specs.Ranges.{IsModerate, IsModest};
-ghost use Rattle.ds_certificate.specs.Sources.{all_output, curve_of, green_output, jitter_of, skew_of, source_by, source_of};
+ghost use Rattle.ds_certificate.specs.Sources.{curve_of, jitter_of, skew_of, source_by, source_of};
 
 use ds_domain_base::{Contract, Domain, Name, Profile, Terms};
 use envelope_core::{Envelope, widen};
-use meter_book::Parameters;
 use moment_core::Gap;
 
 /// What a contract's traffic keeps where it enters a domain.
@@ -53,10 +52,13 @@ fn source_by(skew: Gap, terms: &Terms) -> Source
             green: profile(*committed),
             all: profile(*peak),
         },
-        Terms::Policed { parameters, .. } => Source {
-            green: widened(green_output(parameters.get()), skew),
-            all: widened(all_output(parameters.get()), skew),
-        },
+        Terms::Policed { parameters, .. } => {
+            let own = parameters.get();
+            Source {
+                green: widened(own.green_envelope(), skew),
+                all: widened(own.all_envelope(), skew),
+            }
+        }
     }
 }
 
@@ -67,40 +69,6 @@ fn profile(profile: Profile) -> Envelope
 {
     let Profile { rate, burst } = profile;
     Envelope::new(rate.get(), u64::from(burst)).unwrap()
-}
-
-/// What leaves a meter with these parameters green.
-fn green_output(parameters: Parameters) -> Envelope
-    ensures value { result ≡ green_output parameters }
-    ensures modest { IsModest result }
-{
-    let (rate, burst) = match parameters {
-        Parameters::SrTcm(own) => (own.committed_rate, own.committed_burst),
-        Parameters::TrTcm(own) => (own.committed_rate, own.committed_burst),
-        Parameters::Rfc4115(own) => (own.committed_rate, own.committed_burst),
-    };
-    Envelope::new(rate.get(), u64::from(burst) + 1).unwrap()
-}
-
-/// What leaves a meter with these parameters green or yellow.
-fn all_output(parameters: Parameters) -> Envelope
-    ensures value { result ≡ all_output parameters }
-    ensures modest { IsModest result }
-{
-    match parameters {
-        Parameters::SrTcm(own) => {
-            let bursts = u64::from(own.committed_burst) + u64::from(own.excess_burst);
-            Envelope::new(own.committed_rate.get(), bursts + 1).unwrap()
-        }
-        Parameters::TrTcm(own) => {
-            Envelope::new(own.peak_rate.get(), u64::from(own.peak_burst) + 1).unwrap()
-        }
-        Parameters::Rfc4115(own) => {
-            let rates = own.committed_rate.get() + own.excess_rate.get();
-            let bursts = u64::from(own.committed_burst) + u64::from(own.excess_burst);
-            Envelope::new(rates, bursts + 2).unwrap()
-        }
-    }
 }
 
 /// The envelope of traffic that kept `envelope` and was delayed by delays that differ by at most a gap.

@@ -1,5 +1,5 @@
 -- What stands against a table, part by part.
-use Rattle.std.proofs.Common.{◌≡◌, ◌∙◌, ℕ, List, Bool, false, Option, None, Some, OnErr, Result, Ok, Err, is_some, option_map, refl, subst, sym}
+use Rattle.std.proofs.Common.{◌≡◌, ◌∙◌, ℕ, List, false, Option, None, Some, OnErr, Result, Ok, Err, is_some, option_map, refl, subst, sym}
 use Rattle.std.specs.Option.{option_or}
 use Rattle.ds_domain_base.specs.declared.contract.Contract.{Contract}
 use Rattle.ds_checker.specs.Acceptance.{Table, bounds_refusal_behind, bounds_refusal_of, refusal_behind, refusal_of}

@@ -1,7 +1,6 @@
 ghost use Rattle.std.specs.Prelude.{◌≡◌, ◌+◌, ◌≤◌, ◌*◌, ◌^◌, ℕ};
 ghost use Rattle.envelope_core.specs.Curve.{widened};
 ghost use Rattle.ds_certificate.specs.Ranges.{IsModerate};
-ghost use Rattle.meter_book.specs.Limits.{all_limit, green_limit};
 ghost use Rattle.ds_checker.specs.Sums.{AreBelow, IsBelow, counted_load, no_loads, plus, with_share};
 
 use ds_certificate::{Bound, Source};
@@ -30,6 +29,16 @@ impl Model for Load {
 impl Load {
     /// Neither rate nor burst.
     const NONE: Load = Load { rate: 0, burst: 0 };
+
+    /// The rate and the burst of an envelope.
+    pub(crate) fn of(envelope: Envelope) -> Self
+        ensures { result ≡ envelope }
+    {
+        Load {
+            rate: u128::from(envelope.rate()),
+            burst: u128::from(envelope.burst()),
+        }
+    }
 
     /// The rate, in bits per second.
     pub(crate) fn rate(&self) -> u128
@@ -160,36 +169,5 @@ impl Loads {
             Parameters::SrTcm(_) | Parameters::TrTcm(_) => self.all,
             Parameters::Rfc4115(_) => self.peaked,
         }
-    }
-}
-
-/// What a meter has for green packets: its committed rate and bucket (RFC 2697, RFC 2698, RFC 4115).
-pub(crate) fn green_limit(parameters: &Parameters) -> Load
-    ensures { result ≡ green_limit parameters.now }
-{
-    let (rate, burst) = match parameters {
-        Parameters::SrTcm(own) => (own.committed_rate, own.committed_burst),
-        Parameters::TrTcm(own) => (own.committed_rate, own.committed_burst),
-        Parameters::Rfc4115(own) => (own.committed_rate, own.committed_burst),
-    };
-    Load {
-        rate: u128::from(rate.get()),
-        burst: u128::from(burst),
-    }
-}
-
-/// What a meter has for green and yellow packets: the excess bucket and the rate that fills it (RFC 2697, RFC 4115), or the
-/// peak rate and bucket (RFC 2698).
-pub(crate) fn all_limit(parameters: &Parameters) -> Load
-    ensures { result ≡ all_limit parameters.now }
-{
-    let (rate, burst) = match parameters {
-        Parameters::SrTcm(own) => (own.committed_rate, own.excess_burst),
-        Parameters::TrTcm(own) => (own.peak_rate, own.peak_burst),
-        Parameters::Rfc4115(own) => (own.excess_rate, own.excess_burst),
-    };
-    Load {
-        rate: u128::from(rate.get()),
-        burst: u128::from(burst),
     }
 }

@@ -11,7 +11,7 @@ ghost use Rattle.ds_checker.specs.Sums.{AreBelow, counted_load, no_loads, share_
 ghost use Rattle.ds_checker.specs.TableTests.{load_tests, table_tests};
 ghost use Rattle.ds_checker.specs.Tests.{first_failed};
 
-use crate::load::{Loads, Share, all_limit, green_limit};
+use crate::load::{Load, Loads, Share};
 use crate::refusal::Refusal;
 use ds_certificate::{Bound, Certificate, Source};
 use ds_domain_base::{Contract, Domain, Meter, Name};
@@ -129,8 +129,8 @@ fn meter_refusal(name: Name, meter: &Meter, loads: &Loads) -> Option<Refusal>
     let parameters = meter.parameters.get();
     let green = loads.green();
     let all = loads.counted(&parameters);
-    let green_room = green_limit(&parameters);
-    let all_room = all_limit(&parameters);
+    let green_room = Load::of(parameters.green_limit());
+    let all_room = Load::of(parameters.all_limit());
     if green.rate() > green_room.rate() {
         Some(Refusal::GreenRate {
             meter: name,

@@ -7,7 +7,7 @@ use Rattle.moment_core.specs.declared.colour.Colour.{Colour}
 use Rattle.moment_core.specs.declared.colour.Colour.TheVariants.{Green, Yellow}
 use Rattle.moment_core.specs.declared.colour.Mode.TheVariants.{Aware}
 use Rattle.moment_core.specs.Colours.{is_green, is_in_profile, is_yellow}
-use Rattle.moment_core.specs.Metering.{Departure, departures, how, opening}
+use Rattle.moment_core.specs.Metering.{Departure, departures, opening}
 use Rattle.moment_core.proofs.RoomLaws.{Keeping, input}
 use Rattle.envelope_core.specs.Curve.{Curve, KeepsCurve}
 use Rattle.srtcm_core.specs.SingleRate.{single_rate}
@@ -21,7 +21,7 @@ use Rattle.meter_book.specs.declared.any_meter.Parameters.{Parameters}
 use Rattle.meter_book.specs.declared.any_meter.Parameters.TheVariants.{SrTcm, TrTcm, Rfc4115}
 use Rattle.meter_book.specs.declared.row.Arrival.{Arrival}
 use Rattle.meter_book.specs.declared.row.Row.{Row}
-use Rattle.meter_book.specs.AnyMeter.{how_any, opening_of}
+use Rattle.meter_book.specs.AnyMeter.{how_any}
 use Rattle.meter_book.specs.KeptColours.{PeakIsKept, Stays, aware_rows, held_against_all, row_input}
 use Rattle.meter_book.specs.Laws.{departure_of}
 use Rattle.meter_book.specs.Limits.{all_limit, green_limit}
@@ -75,49 +75,26 @@ pub green_stays_green-any : (p : Parameters) (origin : ℕ) (arrivals : List Arr
     → KeepsCurve (green_limit p) (row_input is_green (aware_rows p origin arrivals)) → PeakIsKept p (aware_rows p origin arrivals)
     → Stays Green (aware_rows p origin arrivals)
 green_stays_green-any (SrTcm p) origin arrivals kept peak =
-    let m = opening_of (SrTcm p) Aware origin in
-    let offers = map offer_of arrivals in
-    let ds = departures (how single_rate) (opening single_rate p Aware origin) offers in
-    let same = departures_of_single_rate (opening single_rate p Aware origin) offers in
-    Stays-replay Green m arrivals ds same
-    (single_rates.green_stays_green p origin offers (input-replay is_green (green_limit (SrTcm p)) m arrivals ds same kept))
+    let same = departures_of_single_rate (opening single_rate p Aware origin) (map offer_of arrivals) in
+    Stays-replay Green _ arrivals _ same (single_rates.green_stays_green p origin _ (input-replay is_green (green_limit (SrTcm p)) _ arrivals _ same kept))
 green_stays_green-any (TrTcm p) origin arrivals kept peak =
-    let m = opening_of (TrTcm p) Aware origin in
-    let offers = map offer_of arrivals in
-    let ds = departures (how two_rate) (opening two_rate p Aware origin) offers in
-    let same = departures_of_two_rate (opening two_rate p Aware origin) offers in
-    Stays-replay Green m arrivals ds same
-    (two_rates.green_stays_green p origin offers (input-replay is_green (green_limit (TrTcm p)) m arrivals ds same kept) (input-replay is_in_profile (all_limit (TrTcm p)) m arrivals ds same peak))
+    let same = departures_of_two_rate (opening two_rate p Aware origin) (map offer_of arrivals) in
+    Stays-replay Green _ arrivals _ same (two_rates.green_stays_green p origin _ (input-replay is_green (green_limit (TrTcm p)) _ arrivals _ same kept)
+    (input-replay is_in_profile (all_limit (TrTcm p)) _ arrivals _ same peak))
 green_stays_green-any (Rfc4115 p) origin arrivals kept peak =
-    let m = opening_of (Rfc4115 p) Aware origin in
-    let offers = map offer_of arrivals in
-    let ds = departures (how separate_rates) (opening separate_rates p Aware origin) offers in
-    let same = departures_of_separate_rates (opening separate_rates p Aware origin) offers in
-    Stays-replay Green m arrivals ds same
-    (excess_rates.green_stays_green p origin offers (input-replay is_green (green_limit (Rfc4115 p)) m arrivals ds same kept))
+    let same = departures_of_separate_rates (opening separate_rates p Aware origin) (map offer_of arrivals) in
+    Stays-replay Green _ arrivals _ same (excess_rates.green_stays_green p origin _ (input-replay is_green (green_limit (Rfc4115 p)) _ arrivals _ same kept))
 
 pub yellow_stays_yellow-any : (p : Parameters) (origin : ℕ) (arrivals : List Arrival)
     → Stays Green (aware_rows p origin arrivals) → KeepsCurve (all_limit p) (row_input (held_against_all p) (aware_rows p origin arrivals))
     → Stays Yellow (aware_rows p origin arrivals)
 yellow_stays_yellow-any (SrTcm p) origin arrivals stays kept =
-    let m = opening_of (SrTcm p) Aware origin in
-    let offers = map offer_of arrivals in
-    let ds = departures (how single_rate) (opening single_rate p Aware origin) offers in
-    let same = departures_of_single_rate (opening single_rate p Aware origin) offers in
-    Stays-replay Yellow m arrivals ds same
-    (single_rates.yellow_stays_yellow p origin offers (input-replay is_in_profile (all_limit (SrTcm p)) m arrivals ds same kept))
+    let same = departures_of_single_rate (opening single_rate p Aware origin) (map offer_of arrivals) in
+    Stays-replay Yellow _ arrivals _ same (single_rates.yellow_stays_yellow p origin _ (input-replay is_in_profile (all_limit (SrTcm p)) _ arrivals _ same kept))
 yellow_stays_yellow-any (TrTcm p) origin arrivals stays kept =
-    let m = opening_of (TrTcm p) Aware origin in
-    let offers = map offer_of arrivals in
-    let ds = departures (how two_rate) (opening two_rate p Aware origin) offers in
-    let same = departures_of_two_rate (opening two_rate p Aware origin) offers in
-    Stays-replay Yellow m arrivals ds same
-    (two_rates.yellow_stays_yellow p origin offers (input-replay is_in_profile (all_limit (TrTcm p)) m arrivals ds same kept))
+    let same = departures_of_two_rate (opening two_rate p Aware origin) (map offer_of arrivals) in
+    Stays-replay Yellow _ arrivals _ same (two_rates.yellow_stays_yellow p origin _ (input-replay is_in_profile (all_limit (TrTcm p)) _ arrivals _ same kept))
 yellow_stays_yellow-any (Rfc4115 p) origin arrivals stays kept =
-    let m = opening_of (Rfc4115 p) Aware origin in
-    let offers = map offer_of arrivals in
-    let ds = departures (how separate_rates) (opening separate_rates p Aware origin) offers in
-    let same = departures_of_separate_rates (opening separate_rates p Aware origin) offers in
-    Stays-replay Yellow m arrivals ds same
-    (excess_rates.yellow_stays_yellow p origin offers (Keeping-replay Green m arrivals ds same stays)
-    (input-replay is_yellow (all_limit (Rfc4115 p)) m arrivals ds same kept))
+    let same = departures_of_separate_rates (opening separate_rates p Aware origin) (map offer_of arrivals) in
+    Stays-replay Yellow _ arrivals _ same (excess_rates.yellow_stays_yellow p origin _ (Keeping-replay Green _ arrivals _ same stays)
+    (input-replay is_yellow (all_limit (Rfc4115 p)) _ arrivals _ same kept))

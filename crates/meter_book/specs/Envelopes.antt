@@ -3,52 +3,44 @@ use Rattle.std.specs.Prelude.{◌+◌}
 use Rattle.moment_core.specs.declared.colour.Mode.{Mode}
 use Rattle.envelope_core.specs.Curve.{Curve}
 use Rattle.srtcm_core.specs.Sizes as single_rates
-use Rattle.srtcm_core.specs.declared.parameters.SrTcmParameters.{SrTcmParameters}
 use Rattle.trtcm_core.specs.Sizes as two_rates
-use Rattle.trtcm_core.specs.declared.parameters.TrTcmParameters.{TrTcmParameters}
 use Rattle.rfc4115_core.specs.Sizes as excess_rates
-use Rattle.rfc4115_core.specs.declared.parameters.Rfc4115Parameters.{Rfc4115Parameters}
 use Rattle.meter_book.specs.declared.any_meter.AnyMeter.{AnyMeter}
 use Rattle.meter_book.specs.declared.any_meter.AnyMeter.TheVariants as meters
+use Rattle.meter_book.specs.declared.any_meter.Parameters.{Parameters}
+use Rattle.meter_book.specs.declared.any_meter.Parameters.TheVariants.{SrTcm, TrTcm, Rfc4115}
 
 -- Tokens come whole, and a window can begin just before one: so each rate that fills a bucket adds a byte to its burst.
 
--- what leaves a single-rate meter green, and what leaves it green or yellow (RFC 2697 section 3)
-abbrev pub single_rate_green : SrTcmParameters → Curve
-single_rate_green p = record { rate = p.committed_rate; burst = p.committed_burst + 1 }
+-- what leaves a meter with these parameters green (RFC 2697 section 3, RFC 2698 section 3, RFC 4115)
+abbrev pub green_output : Parameters → Curve
+green_output (SrTcm p) = record { rate = p.committed_rate; burst = p.committed_burst + 1 }
+green_output (TrTcm p) = record { rate = p.committed_rate; burst = p.committed_burst + 1 }
+green_output (Rfc4115 p) = record { rate = p.committed_rate; burst = p.committed_burst + 1 }
 
-abbrev pub single_rate_all : SrTcmParameters → Curve
-single_rate_all p = record { rate = p.committed_rate; burst = p.committed_burst + p.excess_burst + 1 }
+-- what leaves it green or yellow: from two buckets that one rate fills (RFC 2697 section 3), from the peak bucket
+-- (RFC 2698 section 3), or from two buckets, each with its own rate (RFC 4115)
+abbrev pub all_output : Parameters → Curve
+all_output (SrTcm p) = record { rate = p.committed_rate; burst = p.committed_burst + p.excess_burst + 1 }
+all_output (TrTcm p) = record { rate = p.peak_rate; burst = p.peak_burst + 1 }
+all_output (Rfc4115 p) = record { rate = p.committed_rate + p.excess_rate; burst = p.committed_burst + p.excess_burst + 2 }
 
--- what leaves a two-rate meter green, and what leaves it green or yellow (RFC 2698 section 3)
-abbrev pub two_rate_green : TrTcmParameters → Curve
-two_rate_green p = record { rate = p.committed_rate; burst = p.committed_burst + 1 }
+-- a meter of any kind: its parameters, its mode, and its envelopes
+abbrev pub parameters_of : AnyMeter → Parameters
+parameters_of (meters.SrTcm m) = SrTcm m.parameters
+parameters_of (meters.TrTcm m) = TrTcm m.parameters
+parameters_of (meters.Rfc4115 m) = Rfc4115 m.parameters
 
-abbrev pub two_rate_all : TrTcmParameters → Curve
-two_rate_all p = record { rate = p.peak_rate; burst = p.peak_burst + 1 }
-
--- what leaves a meter with a committed and an excess rate green, and what leaves it green or yellow (RFC 4115)
-abbrev pub excess_rate_green : Rfc4115Parameters → Curve
-excess_rate_green p = record { rate = p.committed_rate; burst = p.committed_burst + 1 }
-
-abbrev pub excess_rate_all : Rfc4115Parameters → Curve
-excess_rate_all p = record { rate = p.committed_rate + p.excess_rate; burst = p.committed_burst + p.excess_burst + 2 }
-
--- a meter of any kind: its mode, and its envelopes
 abbrev pub mode_of : AnyMeter → Mode
 mode_of (meters.SrTcm m) = m.mode
 mode_of (meters.TrTcm m) = m.mode
 mode_of (meters.Rfc4115 m) = m.mode
 
 abbrev pub green_of : AnyMeter → Curve
-green_of (meters.SrTcm m) = single_rate_green m.parameters
-green_of (meters.TrTcm m) = two_rate_green m.parameters
-green_of (meters.Rfc4115 m) = excess_rate_green m.parameters
+green_of m = green_output (parameters_of m)
 
 abbrev pub all_of : AnyMeter → Curve
-all_of (meters.SrTcm m) = single_rate_all m.parameters
-all_of (meters.TrTcm m) = two_rate_all m.parameters
-all_of (meters.Rfc4115 m) = excess_rate_all m.parameters
+all_of m = all_output (parameters_of m)
 
 -- each bucket of a meter holds no more than its own size
 abbrev pub IsFit : AnyMeter → Type 0

@@ -6,7 +6,7 @@ use Rattle.moment_core.specs.Colours.{IsNoBetter, is_green, is_in_profile, outpu
 use Rattle.moment_core.specs.Excess.{Levels}
 use Rattle.moment_core.specs.Metering.{Offer, Rules, State, after, departures, how, used}
 use Rattle.moment_core.proofs.OutputLaws.{departures-same, newest-after}
-use Rattle.envelope_core.specs.Curve.{Curve, KeepsCurve}
+use Rattle.envelope_core.specs.Curve.{KeepsCurve}
 use Rattle.srtcm_core.specs.SingleRate.{single_rate}
 use Rattle.srtcm_core.specs.declared.parameters.SrTcmParameters.{SrTcmParameters}
 use Rattle.srtcm_core.proofs.OutputLaws as single_rates
@@ -22,7 +22,7 @@ use Rattle.meter_book.specs.declared.any_meter.AnyMeter.TheVariants as meters
 use Rattle.meter_book.specs.declared.any_meter.Parameters.{Parameters}
 use Rattle.meter_book.specs.declared.any_meter.Parameters.TheVariants as parameters
 use Rattle.meter_book.specs.AnyMeter.{after_any, how_any, left_of, newest_of, opening_of}
-use Rattle.meter_book.specs.Envelopes.{IsFit, all_of, excess_rate_all, excess_rate_green, green_of, mode_of, single_rate_all, single_rate_green, two_rate_all, two_rate_green}
+use Rattle.meter_book.specs.Envelopes.{IsFit, all_of, green_of, mode_of, parameters_of}
 
 -- a meter of a kind has the departures of that kind
 pub departures_of_single_rate : (m : State SrTcmParameters Levels) (offers : List Offer)
@@ -79,14 +79,13 @@ goes_on-any (meters.SrTcm m) o = newest-after single_rate m o
 goes_on-any (meters.TrTcm m) o = newest-after two_rate m o
 goes_on-any (meters.Rfc4115 m) o = newest-after separate_rates m o
 
--- and keeps its mode and its envelopes
-pub stays_itself_by : {P L : Type 0} (rules : Rules P L) (green all : P → Curve) (m : State P L) (o : Offer)
-    → ((after rules m o).mode ≡ m.mode) × (green (after rules m o).parameters ≡ green m.parameters) × (all (after rules m o).parameters ≡ all m.parameters)
+-- and keeps its mode and its parameters
+pub stays_itself_by : {P L : Type 0} (rules : Rules P L) (of_kind : P → Parameters) (m : State P L) (o : Offer)
+    → ((after rules m o).mode ≡ m.mode) × (of_kind (after rules m o).parameters ≡ of_kind m.parameters)
 unfolding after
-stays_itself_by rules green all m o = (refl, refl, refl)
+stays_itself_by rules of_kind m o = (refl, refl)
 
-pub stays_itself-any : (m : AnyMeter) (o : Offer)
-    → (mode_of (after_any m o) ≡ mode_of m) × (green_of (after_any m o) ≡ green_of m) × (all_of (after_any m o) ≡ all_of m)
-stays_itself-any (meters.SrTcm m) o = stays_itself_by single_rate single_rate_green single_rate_all m o
-stays_itself-any (meters.TrTcm m) o = stays_itself_by two_rate two_rate_green two_rate_all m o
-stays_itself-any (meters.Rfc4115 m) o = stays_itself_by separate_rates excess_rate_green excess_rate_all m o
+pub stays_itself-any : (m : AnyMeter) (o : Offer) → (mode_of (after_any m o) ≡ mode_of m) × (parameters_of (after_any m o) ≡ parameters_of m)
+stays_itself-any (meters.SrTcm m) o = stays_itself_by single_rate (λ p. parameters.SrTcm p) m o
+stays_itself-any (meters.TrTcm m) o = stays_itself_by two_rate (λ p. parameters.TrTcm p) m o
+stays_itself-any (meters.Rfc4115 m) o = stays_itself_by separate_rates (λ p. parameters.Rfc4115 p) m o

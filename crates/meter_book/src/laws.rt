@@ -4,6 +4,7 @@ ghost use Rattle.moment_core.specs.declared.colour.Mode.TheVariants.{Aware};
 ghost use Rattle.moment_core.specs.Colours.{IsNoBetter, is_green, is_in_profile, output};
 ghost use Rattle.moment_core.specs.Metering.{Offer, departures};
 ghost use Rattle.envelope_core.specs.Curve.{KeepsCurve};
+ghost use Rattle.meter_book.specs.Envelopes.{all_output, green_output};
 ghost use Rattle.meter_book.specs.KeptColours.{GreenStaysGreen, YellowStaysYellow};
 ghost use Rattle.meter_book.specs.Laws.{
   AwareRowsNeverImprove,
@@ -28,7 +29,7 @@ pub fn aware_meters_never_improve<M: Meter>()
 /// green or yellow that of all (Cruz 1991, section II).
 pub fn meters_keep_envelopes<M: Meter>()
     ensures { (m : M) (offers : List Offer) → M.fits m
-        → KeepsCurve (M.green_curve m) (output is_green (departures M.how m offers)) × KeepsCurve (M.all_curve m) (output is_in_profile (departures M.how m offers)) }
+        → KeepsCurve (green_output (M.parameters_of m)) (output is_green (departures M.how m offers)) × KeepsCurve (all_output (M.parameters_of m)) (output is_in_profile (departures M.how m offers)) }
 {}
 
 /// A meter of whatever kind that fits does so after whatever arrives.

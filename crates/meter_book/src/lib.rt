@@ -6,6 +6,7 @@ pub mod any_meter;
 pub mod book;
 pub mod journal;
 pub mod laws;
+pub mod limits;
 pub mod meter;
 pub mod metering;
 pub mod row;

@@ -1,9 +1,11 @@
-ghost use Rattle.std.specs.Prelude.{◌≡◌, ◌≤◌, ◌^◌, List};
+ghost use Rattle.std.specs.Prelude.{◌≡◌, List};
 ghost use Rattle.moment_core.specs.Colours.{IsNoBetter, is_green, is_in_profile, output};
 ghost use Rattle.moment_core.specs.Metering.{How, Offer, departures, used};
-ghost use Rattle.envelope_core.specs.Curve.{Curve, KeepsCurve};
+ghost use Rattle.envelope_core.specs.Curve.{KeepsCurve};
+ghost use Rattle.meter_book.specs.Envelopes.{all_output, green_output};
+ghost use Rattle.meter_book.specs.declared.any_meter.Parameters.{Parameters};
 
-use crate::any_meter::AnyMeter;
+use crate::any_meter::{AnyMeter, Parameters};
 use envelope_core::Envelope;
 use moment_core::{Colour, Mode, Moment, PacketSize};
 use rfc4115_core::Rfc4115;
@@ -22,9 +24,7 @@ pub trait Meter {
 
     ghost mode_of: { Self → Mode };
 
-    ghost green_curve: { Self → Curve };
-
-    ghost all_curve: { Self → Curve };
+    ghost parameters_of: { Self → Parameters };
 
     ghost fits: { Self → Type 0 };
 
@@ -42,36 +42,38 @@ pub trait Meter {
     fn mode(&self) -> Mode
         ensures { result ≡ mode_of self.now };
 
+    /// The parameters that it was made with. Its buckets are within their sizes at all times.
+    fn parameters(&self) -> Parameters
+        ensures value { result ≡ parameters_of self.now }
+        ensures fits { fits self.now };
+
     /// The envelope of what leaves it green.
     fn green_envelope(&self) -> Envelope
-        ensures curve { result ≡ green_curve self.now }
-        ensures fits { fits self.now };
+        ensures curve { result ≡ green_output (parameters_of self.now) }
+        ensures fits { fits self.now }
+    {
+        self.parameters().green_envelope()
+    }
 
     /// The envelope of what leaves it green or yellow.
     fn all_envelope(&self) -> Envelope
-        ensures curve { result ≡ all_curve self.now }
-        ensures fits { fits self.now };
+        ensures curve { result ≡ all_output (parameters_of self.now) }
+        ensures fits { fits self.now }
+    {
+        self.parameters().all_envelope()
+    }
 
     ghost never_improves: { (m : Self) (o : Offer) → mode_of m ≡ Aware → IsNoBetter o.came (how.left m o) };
 
     ghost output_keeps: { (m : Self) → fits m → (offers : List Offer)
-        → KeepsCurve (green_curve m) (output is_green (departures how m offers)) × KeepsCurve (all_curve m) (output is_in_profile (departures how m offers)) };
+        → KeepsCurve (green_output (parameters_of m)) (output is_green (departures how m offers)) × KeepsCurve (all_output (parameters_of m)) (output is_in_profile (departures how m offers)) };
 
     ghost stays_fit: { (m : Self) (o : Offer) → fits m → fits (how.after m o) };
 
     ghost goes_on: { (m : Self) (o : Offer) → how.newest (how.after m o) ≡ used (how.newest m) o.moment };
 
     ghost stays_itself: { (m : Self) (o : Offer)
-        → (mode_of (how.after m o) ≡ mode_of m) × (green_curve (how.after m o) ≡ green_curve m) × (all_curve (how.after m o) ≡ all_curve m) };
-}
-
-/// The envelope of a rate in bits per second and a burst in bytes that are in its range.
-fn envelope(rate: u64, burst: u64) -> Envelope
-    requires rate { rate ≤ 10 ^ 17 }
-    requires burst { burst ≤ 10 ^ 19 }
-    ensures { result ≡ record { rate = rate; burst = burst } }
-{
-    Envelope::new(rate, burst).unwrap()
+        → (mode_of (how.after m o) ≡ mode_of m) × (parameters_of (how.after m o) ≡ parameters_of m) };
 }
 
 impl Meter for SrTcm {
@@ -80,16 +82,14 @@ impl Meter for SrTcm {
     ghost use Rattle.srtcm_core.specs.Sizes.{IsWithinSizes};
     ghost use Rattle.srtcm_core.proofs.OutputLaws.{IsWithinSizes-after, green_keeps, in_profile_keeps};
     ghost use Rattle.srtcm_core.proofs.OutputLaws as laws;
-    ghost use Rattle.meter_book.specs.Envelopes.{single_rate_all, single_rate_green};
+    ghost use Rattle.meter_book.specs.declared.any_meter.Parameters.TheVariants as kinds;
     ghost use Rattle.meter_book.specs.OutputLaws.{goes_on_by, stays_itself_by};
 
     ghost how = { metering.how single_rate };
 
     ghost mode_of = { λ m. m.mode };
 
-    ghost green_curve = { λ m. single_rate_green m.parameters };
-
-    ghost all_curve = { λ m. single_rate_all m.parameters };
+    ghost parameters_of = { λ m. kinds.SrTcm m.parameters };
 
     ghost fits = { IsWithinSizes };
 
@@ -105,15 +105,8 @@ impl Meter for SrTcm {
         SrTcm::mode(self)
     }
 
-    fn green_envelope(&self) -> Envelope {
-        let own = self.parameters();
-        envelope(own.committed_rate.get(), u64::from(own.committed_burst) + 1)
-    }
-
-    fn all_envelope(&self) -> Envelope {
-        let own = self.parameters();
-        let bursts = u64::from(own.committed_burst) + u64::from(own.excess_burst);
-        envelope(own.committed_rate.get(), bursts + 1)
+    fn parameters(&self) -> Parameters {
+        Parameters::SrTcm(SrTcm::parameters(self))
     }
 
     ghost never_improves = { laws.never_improves };
@@ -124,7 +117,7 @@ impl Meter for SrTcm {
 
     ghost goes_on = { goes_on_by single_rate };
 
-    ghost stays_itself = { stays_itself_by single_rate single_rate_green single_rate_all };
+    ghost stays_itself = { stays_itself_by single_rate (λ p. kinds.SrTcm p) };
 }
 
 impl Meter for TrTcm {
@@ -133,16 +126,14 @@ impl Meter for TrTcm {
     ghost use Rattle.trtcm_core.specs.Sizes.{IsWithinSizes};
     ghost use Rattle.trtcm_core.proofs.OutputLaws.{IsWithinSizes-after, green_keeps, in_profile_keeps};
     ghost use Rattle.trtcm_core.proofs.OutputLaws as laws;
-    ghost use Rattle.meter_book.specs.Envelopes.{two_rate_all, two_rate_green};
+    ghost use Rattle.meter_book.specs.declared.any_meter.Parameters.TheVariants as kinds;
     ghost use Rattle.meter_book.specs.OutputLaws.{goes_on_by, stays_itself_by};
 
     ghost how = { metering.how two_rate };
 
     ghost mode_of = { λ m. m.mode };
 
-    ghost green_curve = { λ m. two_rate_green m.parameters };
-
-    ghost all_curve = { λ m. two_rate_all m.parameters };
+    ghost parameters_of = { λ m. kinds.TrTcm m.parameters };
 
     ghost fits = { IsWithinSizes };
 
@@ -158,14 +149,8 @@ impl Meter for TrTcm {
         TrTcm::mode(self)
     }
 
-    fn green_envelope(&self) -> Envelope {
-        let own = self.parameters();
-        envelope(own.committed_rate.get(), u64::from(own.committed_burst) + 1)
-    }
-
-    fn all_envelope(&self) -> Envelope {
-        let own = self.parameters();
-        envelope(own.peak_rate.get(), u64::from(own.peak_burst) + 1)
+    fn parameters(&self) -> Parameters {
+        Parameters::TrTcm(TrTcm::parameters(self))
     }
 
     ghost never_improves = { laws.never_improves };
@@ -176,7 +161,7 @@ impl Meter for TrTcm {
 
     ghost goes_on = { goes_on_by two_rate };
 
-    ghost stays_itself = { stays_itself_by two_rate two_rate_green two_rate_all };
+    ghost stays_itself = { stays_itself_by two_rate (λ p. kinds.TrTcm p) };
 }
 
 impl Meter for Rfc4115 {
@@ -185,16 +170,14 @@ impl Meter for Rfc4115 {
     ghost use Rattle.rfc4115_core.specs.Sizes.{IsWithinSizes};
     ghost use Rattle.rfc4115_core.proofs.OutputLaws.{IsWithinSizes-after, green_keeps, in_profile_keeps};
     ghost use Rattle.rfc4115_core.proofs.OutputLaws as laws;
-    ghost use Rattle.meter_book.specs.Envelopes.{excess_rate_all, excess_rate_green};
+    ghost use Rattle.meter_book.specs.declared.any_meter.Parameters.TheVariants as kinds;
     ghost use Rattle.meter_book.specs.OutputLaws.{goes_on_by, stays_itself_by};
 
     ghost how = { metering.how separate_rates };
 
     ghost mode_of = { λ m. m.mode };
 
-    ghost green_curve = { λ m. excess_rate_green m.parameters };
-
-    ghost all_curve = { λ m. excess_rate_all m.parameters };
+    ghost parameters_of = { λ m. kinds.Rfc4115 m.parameters };
 
     ghost fits = { IsWithinSizes };
 
@@ -210,15 +193,8 @@ impl Meter for Rfc4115 {
         Rfc4115::mode(self)
     }
 
-    fn green_envelope(&self) -> Envelope {
-        let own = self.parameters();
-        envelope(own.committed_rate.get(), u64::from(own.committed_burst) + 1)
-    }
-
-    fn all_envelope(&self) -> Envelope {
-        let own = self.parameters();
-        let bursts = u64::from(own.committed_burst) + u64::from(own.excess_burst);
-        envelope(own.committed_rate.get() + own.excess_rate.get(), bursts + 2)
+    fn parameters(&self) -> Parameters {
+        Parameters::Rfc4115(Rfc4115::parameters(self))
     }
 
     ghost never_improves = { laws.never_improves };
@@ -229,12 +205,12 @@ impl Meter for Rfc4115 {
 
     ghost goes_on = { goes_on_by separate_rates };
 
-    ghost stays_itself = { stays_itself_by separate_rates excess_rate_green excess_rate_all };
+    ghost stays_itself = { stays_itself_by separate_rates (λ p. kinds.Rfc4115 p) };
 }
 
 impl Meter for AnyMeter {
     ghost use Rattle.meter_book.specs.AnyMeter.{how_any};
-    ghost use Rattle.meter_book.specs.Envelopes.{IsFit, all_of, green_of};
+    ghost use Rattle.meter_book.specs.Envelopes.{IsFit};
     ghost use Rattle.meter_book.specs.Envelopes as envelopes;
     ghost use Rattle.meter_book.specs.OutputLaws.{IsFit-after, all_keeps-any, goes_on-any, green_keeps-any, never_improves-any, stays_itself-any};
 
@@ -242,9 +218,7 @@ impl Meter for AnyMeter {
 
     ghost mode_of = { envelopes.mode_of };
 
-    ghost green_curve = { green_of };
-
-    ghost all_curve = { all_of };
+    ghost parameters_of = { envelopes.parameters_of };
 
     ghost fits = { IsFit };
 
@@ -264,19 +238,11 @@ impl Meter for AnyMeter {
         }
     }
 
-    fn green_envelope(&self) -> Envelope {
+    fn parameters(&self) -> Parameters {
         match self {
-            AnyMeter::SrTcm(meter) => meter.green_envelope(),
-            AnyMeter::TrTcm(meter) => meter.green_envelope(),
-            AnyMeter::Rfc4115(meter) => meter.green_envelope(),
-        }
-    }
-
-    fn all_envelope(&self) -> Envelope {
-        match self {
-            AnyMeter::SrTcm(meter) => meter.all_envelope(),
-            AnyMeter::TrTcm(meter) => meter.all_envelope(),
-            AnyMeter::Rfc4115(meter) => meter.all_envelope(),
+            AnyMeter::SrTcm(meter) => Meter::parameters(meter),
+            AnyMeter::TrTcm(meter) => Meter::parameters(meter),
+            AnyMeter::Rfc4115(meter) => Meter::parameters(meter),
         }
     }
 

@@ -1,11 +1,17 @@
 -- A committed and an excess bucket that have enough keep the colours of packets, and what the packets take from them.
-use Rattle.std.proofs.Common.{◌≡◌, ℕ, ◌+◌, ◌≤◌, false, cond, ltb, refl, arith}
+use Rattle.std.proofs.Common.{◌≡◌, ℕ, ◌+◌, ◌≤◌, false, cond, ltb, List, refl, arith}
 use Rattle.std.proofs.lemmas.Bool.Decides.{nat_tests}
-use Rattle.moment_core.specs.Colours.{IsNoBetter, is_green, is_in_profile, is_yellow}
-use Rattle.moment_core.specs.Excess.{Levels, coloured, without}
+use Rattle.moment_core.specs.Colours.{is_green, is_in_profile, is_yellow}
+use Rattle.moment_core.specs.Conformance.{Keeps}
+use Rattle.moment_core.specs.Excess.{Levels, coloured, committed_or_excess, without}
+use Rattle.moment_core.specs.Metering.{Departure, Offer, departures, how, levels_at, opening, used}
 use Rattle.moment_core.specs.declared.colour.Colour.{Colour}
 use Rattle.moment_core.specs.declared.colour.Colour.TheVariants.{Green, Yellow, Red}
+use Rattle.moment_core.specs.declared.colour.Mode.TheVariants.{Aware}
+use Rattle.moment_core.proofs.ColourLaws.{green_falls, in_profile_falls, yellow_falls}
 use Rattle.moment_core.proofs.ExcessLaws.{no_better}
+use Rattle.moment_core.proofs.MeteringLaws.{IsFilledAt}
+use Rattle.moment_core.proofs.RoomLaws.{Along-any, Holds, IsAware, IsAware-after, Keeping, bucket_holds, departures-along, input, left_aware}
 
 pub not_short : (level size : ℕ) → size ≤ level → ltb level size ≡ false
 not_short level size h = grind (arith, nat_tests)
@@ -24,57 +30,61 @@ yellow_stays l size Green held e = absurd (cc)
 yellow_stays l size Yellow held e = rw (not_short l.excess size held) refl
 yellow_stays l size Red held e = absurd (cc)
 
-committed_pays : (l : Levels) (size : ℕ) (came left : Colour) → IsNoBetter came left
-    → l.committed ≤ (without l size left).committed + cond (is_green came) size 0
+-- a packet takes from a bucket no more than its bytes, and only where it leaves with that bucket's colour
+committed_spends : (l : Levels) (size : ℕ) (left : Colour) → l.committed ≤ (without l size left).committed + cond (is_green left) size 0
 unfolding without
-committed_pays l size Green Green worse = omega arith
-committed_pays l size Green Yellow worse = omega arith
-committed_pays l size Green Red worse = omega arith
-committed_pays l size Yellow Green worse = absurd worse
-committed_pays l size Yellow Yellow worse = omega arith
-committed_pays l size Yellow Red worse = omega arith
-committed_pays l size Red Green worse = absurd worse
-committed_pays l size Red Yellow worse = absurd worse
-committed_pays l size Red Red worse = omega arith
+committed_spends l size Green = omega arith
+committed_spends l size Yellow = omega arith
+committed_spends l size Red = omega arith
 
-both_pay : (l : Levels) (size : ℕ) (came left : Colour) → IsNoBetter came left
-    → l.committed + l.excess ≤ (without l size left).committed + (without l size left).excess + cond (is_in_profile came) size 0
+excess_spends : (l : Levels) (size : ℕ) (left : Colour) → l.excess ≤ (without l size left).excess + cond (is_yellow left) size 0
 unfolding without
-both_pay l size Green Green worse = omega arith
-both_pay l size Green Yellow worse = omega arith
-both_pay l size Green Red worse = omega arith
-both_pay l size Yellow Green worse = absurd worse
-both_pay l size Yellow Yellow worse = omega arith
-both_pay l size Yellow Red worse = omega arith
-both_pay l size Red Green worse = absurd worse
-both_pay l size Red Yellow worse = absurd worse
-both_pay l size Red Red worse = omega arith
+excess_spends l size Green = omega arith
+excess_spends l size Yellow = omega arith
+excess_spends l size Red = omega arith
 
-excess_pays : (l : Levels) (size : ℕ) (came left : Colour) → IsNoBetter came left → (came ≡ Green → left ≡ Green)
-    → l.excess ≤ (without l size left).excess + cond (is_yellow came) size 0
+both_spend : (l : Levels) (size : ℕ) (left : Colour)
+    → l.committed + l.excess ≤ (without l size left).committed + (without l size left).excess + cond (is_in_profile left) size 0
 unfolding without
-excess_pays l size Green Green worse stays = omega arith
-excess_pays l size Green Yellow worse stays = let no : Yellow ≡ Green = stays refl in absurd (cc)
-excess_pays l size Green Red worse stays = omega arith
-excess_pays l size Yellow Green worse stays = absurd worse
-excess_pays l size Yellow Yellow worse stays = omega arith
-excess_pays l size Yellow Red worse stays = omega arith
-excess_pays l size Red Green worse stays = absurd worse
-excess_pays l size Red Yellow worse stays = absurd worse
-excess_pays l size Red Red worse stays = omega arith
+both_spend l size Green = omega arith
+both_spend l size Yellow = omega arith
+both_spend l size Red = omega arith
 
 -- green packets alone take from the committed bucket, and no more than their bytes
 pub committed_drains : (l : Levels) (size : ℕ) (came : Colour)
     → l.committed ≤ (without l size (coloured l size came)).committed + cond (is_green came) size 0
-committed_drains l size came = committed_pays l size came (coloured l size came) (no_better l size came)
+committed_drains l size came =
+    let left = coloured l size came in
+    omega (arith, committed_spends l size left, green_falls size came left (no_better l size came))
 
 -- packets in profile alone take from the two buckets, and no more than their bytes
 pub both_drain : (l : Levels) (size : ℕ) (came : Colour)
     → l.committed + l.excess
     ≤ (without l size (coloured l size came)).committed + (without l size (coloured l size came)).excess + cond (is_in_profile came) size 0
-both_drain l size came = both_pay l size came (coloured l size came) (no_better l size came)
+both_drain l size came =
+    let left = coloured l size came in
+    omega (arith, both_spend l size left, in_profile_falls size came left (no_better l size came))
 
 -- where green packets stay green, yellow ones alone take from the excess bucket, and no more than their bytes
 pub excess_drains : (l : Levels) (size : ℕ) (came : Colour) → (came ≡ Green → coloured l size came ≡ Green)
     → l.excess ≤ (without l size (coloured l size came)).excess + cond (is_yellow came) size 0
-excess_drains l size came stays = excess_pays l size came (coloured l size came) (no_better l size came) stays
+excess_drains l size came stays =
+    let left = coloured l size came in
+    omega (arith, excess_spends l size left, yellow_falls size came left (no_better l size came) stays)
+
+-- so in a meter with these buckets green packets that keep the committed bucket's rate and size leave green
+pub green_stays_green : {P : Type 0} (full : P → Levels) (gain : P → ℕ → ℕ → Levels → Levels) (size rate : P → ℕ)
+    → IsFilledAt (committed_or_excess full gain) (λ l. l.committed) size rate → ((p : P) → (full p).committed ≡ size p)
+    → (p : P) (origin : ℕ) (offers : List Offer)
+    → Keeps (rate p) (size p) (input is_green (departures (how (committed_or_excess full gain)) (opening (committed_or_excess full gain) p Aware origin) offers))
+    → Keeping Green (departures (how (committed_or_excess full gain)) (opening (committed_or_excess full gain) p Aware origin) offers)
+unfolding opening
+green_stays_green full gain size rate fill is_full p origin offers kept =
+    let rules = committed_or_excess full gain in
+    let m = opening rules p Aware origin in
+    let held = bucket_holds rules (λ _ _. Unit {0}) is_green (λ l. l.committed) size rate fill is_full
+    (λ m o _ _. committed_drains (levels_at rules m (used m.newest o.moment)) o.size o.came) p origin offers (Along-any rules m offers) kept
+    in
+    departures-along rules IsAware (Holds rules is_green (λ l. l.committed)) (λ _ _. Unit {0}) (λ (d : Departure). d.came ≡ Green → d.left ≡ Green)
+    (λ m o aware held _. left_aware rules m o Green aware (green_stays (levels_at rules m (used m.newest o.moment)) o.size o.came held))
+    (IsAware-after rules) m refl offers held (Along-any rules m offers)

@@ -1,3 +1,4 @@
+pub mod ColourLaws
 pub mod ExcessLaws
 pub mod FillingLaws
 pub mod KeepingLaws

@@ -1,9 +1,12 @@
 -- How the parts of a metering step compute, over any rules.
-use Rattle.std.proofs.Common.{◌≡◌, ℕ, ◌+◌, ◌-◌, ◌*◌, ◌/◌, ◌%◌, ◌<◌, ◌≤◌, zero, suc, refl, sym, ◌∙◌, ap, arith}
+use Rattle.std.proofs.Common.{◌≡◌, ℕ, ◌+◌, ◌-◌, ◌*◌, ◌/◌, ◌<◌, ◌≤◌, zero, suc, refl, ◌∙◌, ap, arith}
 use Rattle.std.proofs.lemmas.Bool.Decides.{nat_tests}
-use Rattle.moment_core.specs.Tokens.{each_nanosecond, given, begun_token, tokens_at, with_tokens}
-use Rattle.moment_core.specs.Metering.{Offer, Rules, State, after, colour_of, levels_at, seen, used}
+use Rattle.moment_core.specs.Tokens.{each_nanosecond, given, tokens_at, with_tokens}
+use Rattle.moment_core.specs.Fillings.{IsCounted, filled_over, moved_on}
+use Rattle.moment_core.specs.Metering.{Offer, Rules, State, after, colour_of, filled, levels_at, seen, used}
 use Rattle.moment_core.specs.declared.colour.Colour.{Colour}
+use Rattle.moment_core.specs.declared.filling.Clock.{Clock}
+use Rattle.moment_core.specs.declared.filling.Filling.{Filling}
 use Rattle.moment_core.proofs.TokenLaws.{begun_token-since, each_nanosecond-with_tokens, given-since}
 
 -- the moment that is metered at is the later one
@@ -50,50 +53,62 @@ bucket_filled_to part step size rate origin same newest moment l h =
     each_nanosecond-part part step (λ t n. with_tokens size (tokens_at rate origin t) n) same newest (moment - newest) l
     ∙ filled_to size rate origin newest moment (part l) h
 
--- What a meter does that finds these levels before a packet, gives it the colour of the rules, and takes that colour's
--- bytes out: just what the token meter does.
-pub admitted-colour : {P L : Type 0} (rules : Rules P L) (m : State P L) (o : Offer) (before : L) (left : Colour)
-    → levels_at rules m (used m.newest o.moment) ≡ before → left ≡ rules.coloured before o.size (seen m.mode o.came)
-    → left ≡ colour_of rules m o
-unfolding colour_of
-admitted-colour rules m o before left filled colour = colour ∙ ap (λ l. rules.coloured l o.size (seen m.mode o.came)) (sym filled)
+-- before a packet a bucket among the levels, of some size, has the tokens of a rate
+abbrev pub IsFilledAt : {P L : Type 0} → Rules P L → (L → ℕ) → (P → ℕ) → (P → ℕ) → Type 0
+IsFilledAt {P} {L} rules level size rate = (m : State P L) (moment : ℕ)
+    → level (levels_at rules m (used m.newest moment))
+    ≡ with_tokens (size m.parameters) (given (rate m.parameters) m.origin (used m.newest moment) - given (rate m.parameters) m.origin m.newest) (level m.levels)
 
-pub admitted-after : {P L : Type 0} (rules : Rules P L) (m : State P L) (o : Offer) (before now : L) (newest : ℕ) (left : Colour)
-    → levels_at rules m (used m.newest o.moment) ≡ before → left ≡ rules.coloured before o.size (seen m.mode o.came)
-    → now ≡ rules.without before o.size left → newest ≡ used m.newest o.moment
-    → record m { newest = newest; levels = now } ≡ after rules m o
-unfolding after
-admitted-after rules m o before now newest left filled colour taken moved =
-    rw (moved, taken, ← filled, admitted-colour rules m o before left filled colour) refl
+-- where it is given those of each nanosecond
+pub filled_at : {P L : Type 0} (rules : Rules P L) (level : L → ℕ) (size rate : P → ℕ)
+    → ((p : P) (origin t : ℕ) (l : L) → level (rules.gain p origin t l) ≡ with_tokens (size p) (tokens_at (rate p) origin t) (level l))
+    → IsFilledAt rules level size rate
+unfolding levels_at
+filled_at rules level size rate each m moment =
+    let p = m.parameters in
+    bucket_filled_to level (rules.gain p m.origin) (size p) (rate p) m.origin (each p m.origin) m.newest (used m.newest moment) m.levels (newest_le-used m.newest moment)
+
+-- What a meter does that has its tokens, gives a packet the colour of the rules, and takes that colour's bytes out: just
+-- what the token meter does.
+pub admitted-colour : {P L : Type 0} (rules : Rules P L) (m before : State P L) (o : Offer) (left : Colour)
+    → before ≡ filled rules m o.moment → left ≡ rules.coloured before.levels o.size (seen before.mode o.came)
+    → left ≡ colour_of rules m o
+unfolding colour_of filled
+admitted-colour rules m before o left fill colour = colour ∙ ap (λ b. rules.coloured b.levels o.size (seen b.mode o.came)) fill
+
+pub admitted-after : {P L : Type 0} (rules : Rules P L) (m before : State P L) (o : Offer) (left : Colour) (now : L)
+    → before ≡ filled rules m o.moment → left ≡ rules.coloured before.levels o.size (seen before.mode o.came)
+    → now ≡ rules.without before.levels o.size left
+    → record before { levels = now } ≡ after rules m o
+unfolding after filled
+admitted-after rules m before o left now fill colour taken =
+    rw (taken, admitted-colour rules m before o left fill colour, fill) refl
+
+-- a clock that moved on to an arrival over a gap
+pub record IsMoved (clock now : Clock) (arrival gap : ℕ) : Type 0 where
+  pub begun : clock.origin ≤ clock.newest
+  pub moved : now ≡ moved_on clock arrival
+  pub span : gap ≡ now.newest - clock.newest
 
 -- the origin is not after the moment that is metered at
-pub origin_le-now : (origin newest moment now : ℕ) → origin ≤ newest → now ≡ used newest moment → origin ≤ now
-origin_le-now origin newest moment now begun n = rw n (omega (arith, newest_le-used newest moment))
+pub origin_le-moved : (clock now : Clock) (arrival gap : ℕ) → IsMoved clock now arrival gap → now.origin ≤ now.newest
+origin_le-moved clock now arrival gap m = rw m.moved (omega (arith, m.begun, newest_le-used clock.newest arrival))
 
--- nor is the newest moment
-pub newest_le-now : (newest moment now : ℕ) → now ≡ used newest moment → newest ≤ now
-newest_le-now newest moment now n = rw n (newest_le-used newest moment)
+-- The tokens that a bucket takes in over that gap, with the part of a token that was begun, are those that the token law
+-- gives from the newest moment to the one that is metered at.
+pub drawn-filled : (clock now : Clock) (f : Filling) (arrival gap : ℕ) → IsMoved clock now arrival gap → IsCounted clock f
+    → (f.rate * gap + f.begun) / 8000000000 ≡ given f.rate clock.origin (used clock.newest arrival) - given f.rate clock.origin clock.newest
+drawn-filled clock now f arrival gap m counted =
+    rw (counted, m.span, m.moved) (given-since f.rate clock.origin clock.newest (used clock.newest arrival) m.begun (newest_le-used clock.newest arrival))
 
--- The tokens that a meter draws with the part of a token that it kept are those that the token law gives from its newest
--- moment to the one that is metered at.
-pub drawn-used : (rate origin newest moment now gap carry : ℕ)
-    → origin ≤ newest → now ≡ used newest moment → gap ≡ now - newest → carry ≡ begun_token rate origin newest
-    → (rate * gap + carry) / 8000000000 ≡ given rate origin (used newest moment) - given rate origin newest
-drawn-used rate origin newest moment now gap carry begun n g c =
-    rw (c, g, n) (given-since rate origin newest (used newest moment) begun (newest_le-used newest moment))
+-- so its level is filled with those
+pub level-filled : (clock now : Clock) (f next : Filling) (arrival gap : ℕ) → IsMoved clock now arrival gap → IsCounted clock f → next ≡ filled_over f gap
+    → next.bucket.level ≡ with_tokens f.bucket.size (given f.rate clock.origin (used clock.newest arrival) - given f.rate clock.origin clock.newest) f.bucket.level
+level-filled clock now f next arrival gap m counted filled =
+    rw (filled, drawn-filled clock now f arrival gap m counted) refl
 
 -- and what it keeps then is the part that is begun at that moment
-pub kept-used : (rate origin newest moment now gap carry over : ℕ)
-    → origin ≤ newest → now ≡ used newest moment → gap ≡ now - newest → carry ≡ begun_token rate origin newest
-    → over ≡ (rate * gap + carry) % 8000000000
-    → over ≡ begun_token rate origin now
-kept-used rate origin newest moment now gap carry over begun n g c o =
-    rw (o, c, g) (begun_token-since rate origin newest now begun (newest_le-now newest moment now n))
-
--- a bucket that was filled up to the moment that is metered at, in the terms of its meter
-pub filled-used : (rate origin newest moment now gap carry size old new : ℕ)
-    → origin ≤ newest → now ≡ used newest moment → gap ≡ now - newest → carry ≡ begun_token rate origin newest
-    → new ≡ with_tokens size ((rate * gap + carry) / 8000000000) old
-    → new ≡ with_tokens size (given rate origin (used newest moment) - given rate origin newest) old
-filled-used rate origin newest moment now gap carry size old new begun n g c e =
-    rw (← drawn-used rate origin newest moment now gap carry begun n g c) e
+pub IsCounted-filled : (clock now : Clock) (f next : Filling) (arrival gap : ℕ) → IsMoved clock now arrival gap → IsCounted clock f → next ≡ filled_over f gap
+    → IsCounted now next
+IsCounted-filled clock now f next arrival gap m counted filled =
+    rw (filled, counted, m.span, m.moved) (begun_token-since f.rate clock.origin clock.newest (used clock.newest arrival) m.begun (newest_le-used clock.newest arrival))

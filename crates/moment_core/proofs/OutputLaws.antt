@@ -10,8 +10,8 @@ use Rattle.moment_core.specs.Metering.{Departure, How, Offer, Rules, State, afte
 use Rattle.moment_core.specs.declared.colour.Colour.{Colour}
 use Rattle.moment_core.specs.declared.colour.Mode.TheVariants.{Aware}
 use Rattle.moment_core.specs.Tokens.{given}
-use Rattle.moment_core.proofs.FillingLaws.{given-window, given-window_of_two}
-use Rattle.moment_core.proofs.MeteringLaws.{newest_le-used}
+use Rattle.moment_core.proofs.FillingLaws.{given-window, given-window_of_two, with_tokens_le, with_tokens_within}
+use Rattle.moment_core.proofs.MeteringLaws.{IsFilledAt, newest_le-used}
 use Rattle.moment_core.proofs.TokenLaws.{given-mono}
 
 -- a meter whose rules never improve a colour never does so where it heeds the colour
@@ -152,7 +152,28 @@ Keeps-one_rate rules fits picked level size rate gains within pays stays m ok of
     Keeps-Funded (given r m.origin) (given-mono r m.origin) b r (b + 1) (λ s e h. omega (arith, given-window r m.origin s e h)) picked m.newest (level m.levels)
     (departures (how rules) m offers) (funded rules fits picked level size (λ p. given (rate p)) gains within pays stays m ok offers)
 
--- and where it is filled at two, both rates, and two bytes more
+-- a bucket that a rate fills gains no more than the tokens of the rate
+pub gains_at : {P L : Type 0} (rules : Rules P L) (level : L → ℕ) (size rate : P → ℕ) → IsFilledAt rules level size rate → (m : State P L) (moment : ℕ)
+    → level (levels_at rules m (used m.newest moment)) ≤ level m.levels + (given (rate m.parameters) m.origin (used m.newest moment) - given (rate m.parameters) m.origin m.newest)
+gains_at rules level size rate fill m moment = rw (fill m moment) (with_tokens_le (size m.parameters) _ (level m.levels))
+
+-- and stays within its size
+pub fits_at : {P L : Type 0} (rules : Rules P L) (level : L → ℕ) (size rate : P → ℕ) → IsFilledAt rules level size rate → (m : State P L) (moment : ℕ)
+    → level m.levels ≤ size m.parameters → level (levels_at rules m (used m.newest moment)) ≤ size m.parameters
+fits_at rules level size rate fill m moment within = rw (fill m moment) (with_tokens_within (size m.parameters) _ (level m.levels) within)
+
+-- so what such a bucket pays for keeps its rate, and a byte more than its size as a burst
+pub Keeps-bucket : {P L : Type 0} (rules : Rules P L) (fits : State P L → Type 0) (picked : Colour → Bool) (level : L → ℕ) (size rate : P → ℕ)
+    → IsFilledAt rules level size rate
+    → ((m : State P L) → fits m → level m.levels ≤ size m.parameters)
+    → ((l : L) (bytes : ℕ) (came : Colour) → level (rules.without l bytes (rules.coloured l bytes came)) + cond (picked (rules.coloured l bytes came)) bytes 0 ≤ level l)
+    → ((m : State P L) (o : Offer) → fits m → fits (after rules m o))
+    → (m : State P L) → fits m → (offers : List Offer)
+    → Keeps (rate m.parameters) (size m.parameters + 1) (output picked (departures (how rules) m offers))
+Keeps-bucket rules fits picked level size rate fill within pays stays =
+    Keeps-one_rate rules fits picked level size rate (gains_at rules level size rate fill) (λ m moment ok. fits_at rules level size rate fill m moment (within m ok)) pays stays
+
+-- and where a fund is filled at two rates, both rates, and two bytes more
 pub Keeps-two_rates : {P L : Type 0} (rules : Rules P L) (fits : State P L → Type 0) (picked : Colour → Bool) (level : L → ℕ) (size rate other : P → ℕ)
     → ((m : State P L) (moment : ℕ) → level (levels_at rules m (used m.newest moment))
     ≤ level m.levels

@@ -1,16 +1,16 @@
 -- A bucket cannot run short while what drains it keeps an envelope of its rate and its size.
-use Rattle.std.proofs.Common.{◌≡◌, ℕ, ◌+◌, ◌-◌, ◌*◌, ◌/◌, ◌≤◌, ◌⊎◌, zero, suc, Bool, cond, List, [], ◌∷◌, map, sum_by, ap, arith, inl, inr}
+use Rattle.std.proofs.Common.{◌≡◌, ℕ, ◌+◌, ◌-◌, ◌*◌, ◌/◌, ◌≤◌, ◌⊎◌, zero, suc, Bool, cond, List, [], ◌∷◌, map, sum_by, ap, refl, arith, inl, inr}
 use Rattle.std.specs.List.{All, filter}
 use Rattle.std.proofs.lemmas.Bool.{cases_lt}
 use Rattle.std.proofs.lemmas.Bool.Decides.{nat_tests}
 use Rattle.std.proofs.lemmas.List.Elements.{All-head, All-tail}
 use Rattle.moment_core.specs.Conformance.{Keeps, size_within}
-use Rattle.moment_core.specs.Metering.{Departure, Offer, Rules, State, after, colour_of, departure, departures, how, levels_at, used}
+use Rattle.moment_core.specs.Metering.{Departure, Offer, Rules, State, after, colour_of, departure, departures, how, levels_at, opening, used}
 use Rattle.moment_core.specs.Tokens.{given, with_tokens}
 use Rattle.moment_core.specs.declared.colour.Colour.{Colour}
 use Rattle.moment_core.specs.declared.colour.Mode.TheVariants.{Aware}
 use Rattle.moment_core.proofs.FillingLaws.{div-add, with_tokens_over}
-use Rattle.moment_core.proofs.MeteringLaws.{newest_le-used}
+use Rattle.moment_core.proofs.MeteringLaws.{IsFilledAt, newest_le-used}
 use Rattle.moment_core.proofs.OutputLaws.{sum_where, weight}
 use Rattle.moment_core.proofs.TokenLaws.{given-mono, product-since, with_tokens_fits, with_tokens_full}
 
@@ -199,24 +199,6 @@ enough rules fits such picked level size spare given fills drains stays m ok (o 
 abbrev pub Keeping : Colour → List Departure → Type 0
 Keeping colour ds = All (λ (d : Departure). d.came ≡ colour → d.left ≡ colour) ds
 
--- So the packets of a colour keep it, where the rules leave it to each for which that bucket has enough with the bytes to spare.
-pub keeps_colour : {P L : Type 0} (rules : Rules P L) (fits : State P L → Type 0) (such : State P L → Offer → Type 0) (picked : Colour → Bool)
-    (level : L → ℕ) (size spare : P → ℕ) (given : P → ℕ → ℕ → ℕ)
-    → ((m : State P L) (moment : ℕ)
-    → FillsUp (given m.parameters m.origin) (size m.parameters) m.newest (level m.levels) (used m.newest moment) (level (levels_at rules m (used m.newest moment))))
-    → ((m : State P L) (o : Offer) → fits m → such m o → level (levels_at rules m (used m.newest o.moment)) ≤ level (after rules m o).levels + cond (picked o.came) o.size 0)
-    → ((m : State P L) (o : Offer) → fits m → fits (after rules m o))
-    → (colour : Colour)
-    → ((m : State P L) (o : Offer) → fits m → cond (picked o.came) o.size 0 + spare m.parameters ≤ level (levels_at rules m (used m.newest o.moment))
-    → o.came ≡ colour → colour_of rules m o ≡ colour)
-    → (m : State P L) → fits m → (offers : List Offer) → Along rules such m offers
-    → Room (given m.parameters m.origin) (size m.parameters) (spare m.parameters) picked m.newest (level m.levels) (departures (how rules) m offers)
-    → Keeping colour (departures (how rules) m offers)
-keeps_colour rules fits such picked level size spare given fills drains stays colour leaves m ok offers along room =
-    let held = enough rules fits such picked level size spare given fills drains stays m ok offers along room in
-    departures-along rules fits (λ m o. cond (picked o.came) o.size 0 + spare m.parameters ≤ level (levels_at rules m (used m.newest o.moment))) such
-    (λ (d : Departure). d.came ≡ colour → d.left ≡ colour) (λ m o fit held _. leaves m o fit held) stays m ok offers held along
-
 -- a meter that heeds the colours that packets come with
 abbrev pub IsAware : {P L : Type 0} → State P L → Type 0
 IsAware m = m.mode ≡ Aware
@@ -225,3 +207,40 @@ IsAware m = m.mode ≡ Aware
 pub IsAware-after : {P L : Type 0} (rules : Rules P L) (m : State P L) (o : Offer) → IsAware m → IsAware (after rules m o)
 unfolding after
 IsAware-after rules m o aware = aware
+
+-- in which a packet leaves with the colour that the rules give one that came as it did
+pub left_aware : {P L : Type 0} (rules : Rules P L) (m : State P L) (o : Offer) (colour : Colour) → IsAware m
+    → (o.came ≡ colour → rules.coloured (levels_at rules m (used m.newest o.moment)) o.size o.came ≡ colour)
+    → o.came ≡ colour → colour_of rules m o ≡ colour
+unfolding colour_of levels_at
+left_aware rules m o colour aware stays came = rw aware (stays came)
+
+-- and takes from a bucket what they say
+pub drains_aware : {P L : Type 0} (rules : Rules P L) (picked : Colour → Bool) (level : L → ℕ) (m : State P L) (o : Offer) → IsAware m
+    → level (levels_at rules m (used m.newest o.moment))
+    ≤ level (rules.without (levels_at rules m (used m.newest o.moment)) o.size (rules.coloured (levels_at rules m (used m.newest o.moment)) o.size o.came)) + cond (picked o.came) o.size 0
+    → level (levels_at rules m (used m.newest o.moment)) ≤ level (after rules m o).levels + cond (picked o.came) o.size 0
+unfolding after colour_of levels_at
+drains_aware rules picked level m o aware drains = rw aware drains
+
+-- before each packet a bucket has the bytes of one that came with a picked colour
+abbrev pub Holds : {P L : Type 0} → Rules P L → (Colour → Bool) → (L → ℕ) → State P L → Offer → Type 0
+Holds rules picked level m o = cond (picked o.came) o.size 0 + 0 ≤ level (levels_at rules m (used m.newest o.moment))
+
+-- A bucket of an aware meter that a rate fills has enough for the packets of a picked colour, where those keep its rate and
+-- its size, and it gives no more than their bytes.
+pub bucket_holds : {P L : Type 0} (rules : Rules P L) (such : State P L → Offer → Type 0) (picked : Colour → Bool) (level : L → ℕ) (size rate : P → ℕ)
+    → IsFilledAt rules level size rate → ((p : P) → level (rules.full p) ≡ size p)
+    → ((m : State P L) (o : Offer) → IsAware m → such m o
+    → level (levels_at rules m (used m.newest o.moment))
+    ≤ level (rules.without (levels_at rules m (used m.newest o.moment)) o.size (rules.coloured (levels_at rules m (used m.newest o.moment)) o.size o.came)) + cond (picked o.came) o.size 0)
+    → (p : P) (origin : ℕ) (offers : List Offer) → Along rules such (opening rules p Aware origin) offers
+    → Keeps (rate p) (size p) (input picked (departures (how rules) (opening rules p Aware origin) offers))
+    → Along rules (Holds rules picked level) (opening rules p Aware origin) offers
+unfolding opening
+bucket_holds rules such picked level size rate fill full drains p origin offers along kept =
+    let m = opening rules p Aware origin in
+    let room = Room-opening (rate p) origin (size p) (size p) 0 picked (departures (how rules) m offers) (omega arith) kept in
+    enough rules IsAware such picked level size (λ _. 0) (λ p. given (rate p))
+    (λ m moment. rw (fill m moment) (FillsUp-with_tokens (rate m.parameters) m.origin (size m.parameters) m.newest moment (level m.levels)))
+    (λ m o aware found. drains_aware rules picked level m o aware (drains m o aware found)) (IsAware-after rules) m refl offers along (rw (full p) room)

@@ -2,6 +2,7 @@
 use Rattle.std.specs.Prelude.{ℕ, ◌-◌, nat_lt, if◌then◌else◌}
 use Rattle.moment_core.specs.declared.colour.Colour.{Colour}
 use Rattle.moment_core.specs.declared.colour.Colour.TheVariants.{Green, Yellow, Red}
+use Rattle.moment_core.specs.Metering.{Rules}
 
 -- the levels of the two buckets, Tc and Te
 pub record Levels : Type 0 where
@@ -22,3 +23,7 @@ unfoldable pub without : Levels → ℕ → Colour → Levels
 without l size Green = record l { committed = l.committed - size }
 without l size Yellow = record l { excess = l.excess - size }
 without l size Red = l
+
+-- the rules of a meter with these two buckets, by its full buckets and what the tokens of a nanosecond do to their levels
+abbrev pub committed_or_excess : {P : Type 0} → (P → Levels) → (P → ℕ → ℕ → Levels → Levels) → Rules P Levels
+committed_or_excess full gain = record { full = full; gain = gain; coloured = coloured; without = without }

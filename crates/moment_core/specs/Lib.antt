@@ -1,6 +1,7 @@
 pub mod Colours
 pub mod Conformance
 pub mod Excess
+pub mod Fillings
 pub mod Metering
 pub mod Tokens
 pub mod Volume

@@ -57,6 +57,10 @@ after rules m o = record m {
   levels = rules.without (levels_at rules m (used m.newest o.moment)) o.size (colour_of rules m o);
 }
 
+-- the meter with the tokens of every nanosecond up to a moment or its newest one, as it is before a packet of that moment
+unfoldable pub filled : {P L : Type 0} → Rules P L → State P L → ℕ → State P L
+filled rules m moment = record m { newest = used m.newest moment; levels = levels_at rules m (used m.newest moment) }
+
 -- How meters of a kind meter, whatever their state is made of.
 pub record How (S : Type 0) : Type 0 where
   pub newest : S → ℕ

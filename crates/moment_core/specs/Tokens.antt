@@ -27,3 +27,8 @@ with_token size level = if nat_lt level size then level + 1 else level
 -- a bucket is given tokens, one by one
 unfoldable pub with_tokens : ℕ → ℕ → ℕ → ℕ
 with_tokens size count level = iterate (with_token size) count level
+
+-- what a bucket holds, and what it can hold, in bytes
+pub record Content : Type 0 where
+  pub level : ℕ
+  pub size : ℕ

@@ -1,19 +1,31 @@
-ghost use Rattle.std.specs.Prelude.{◌≡◌, ◌+◌, ◌*◌, ◌/◌, ◌%◌, ◌≤◌, ◌↔◌, IsTrue, if◌then◌else◌};
+ghost use Rattle.std.specs.Prelude.{◌≡◌, ◌+◌, ◌≤◌, ◌↔◌, IsTrue, if◌then◌else◌};
 ghost use Rattle.moment_core.specs.Excess.{coloured, without};
 ghost use Rattle.moment_core.specs.Tokens.{with_tokens};
 
 use crate::colour::Colour;
-use crate::quantity::{Gap, PacketSize, Rate};
-use crate::tokens::tokens_over;
+use crate::quantity::PacketSize;
+use std::marker::Model;
 
 /// A token bucket: its level and its size, in bytes (RFC 2697 section 3, RFC 2698 section 3).
 #[derive(Clone, Copy, Debug, PartialEq, Eq, Hash)]
 pub struct Bucket {
-    /// The tokens that it holds.
+    /// Tc, Te or Tp: the tokens that it holds, in bytes, never above its size.
     pub level: u32,
-    /// The tokens that it can hold.
+    /// CBS, EBS or PBS: the tokens that it can hold, in bytes.
     pub size: u32,
-    pub ghost within: { level ≤ size },
+}
+
+impl Model for Bucket {
+    ghost use Rattle.std.specs.Prelude.{◌≤◌};
+    ghost use Rattle.moment_core.specs.Tokens.{Content};
+
+    ghost Value = { Content };
+
+    ghost view = { λ b. record { level = b.level; size = b.size } };
+
+    ghost invariant = { λ b. b.level ≤ b.size };
+
+    ghost inverse = { λ c. record { level = c.level; size = c.size } };
 }
 
 impl Bucket {
@@ -23,6 +35,14 @@ impl Bucket {
         ensures size { result.size ≡ size }
     {
         Bucket { level: size, size }
+    }
+
+    /// The tokens that it can hold, in bytes; it never holds more.
+    pub fn size(&self) -> u32
+        ensures value { result ≡ self.now.size }
+        ensures within { self.now.level ≤ self.now.size }
+    {
+        self.size
     }
 
     /// Takes tokens in, one by one, and answers how many found it full.
@@ -36,18 +56,6 @@ impl Bucket {
         let taken = tokens.min(room);
         self.level += taken as u32;
         tokens - taken
-    }
-
-    /// Takes in the tokens that a rate gives over a gap beside the part of a token that it gave before, `carry`, and
-    /// answers how many of them found it full; from then on `carry` is the part that is over, in bit-nanoseconds.
-    pub fn fill_over(&mut self, rate: Rate, gap: Gap, carry: &mut u64) -> u128
-        ensures carry { carry.new ≡ (rate * gap + carry.old) % 8000000000 }
-        ensures level { self.new.level ≡ with_tokens self.old.size ((rate * gap + carry.old) / 8000000000) self.old.level }
-        ensures surplus { self.new.level + result ≡ self.old.level + (rate * gap + carry.old) / 8000000000 }
-        ensures size { self.new.size ≡ self.old.size }
-    {
-        let tokens = tokens_over(rate, gap, carry);
-        self.refill(tokens)
     }
 
     /// Whether it holds the tokens for so many bytes.

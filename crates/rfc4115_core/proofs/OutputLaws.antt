@@ -8,14 +8,13 @@ use Rattle.moment_core.specs.Tokens.{given}
 use Rattle.moment_core.specs.declared.colour.Mode.{Mode}
 use Rattle.moment_core.specs.declared.colour.Mode.TheVariants.{Aware}
 use Rattle.moment_core.proofs.ExcessLaws.{both_pay, committed_falls, excess_falls, green_pays, no_better}
-use Rattle.moment_core.proofs.FillingLaws.{with_tokens_le, with_tokens_within}
 use Rattle.moment_core.proofs.MeteringLaws.{newest_le-used}
 use Rattle.moment_core.proofs.OutputLaws as output_laws
 use Rattle.moment_core.proofs.TokenLaws.{given-mono}
 use Rattle.rfc4115_core.specs.declared.parameters.Rfc4115Parameters.{Rfc4115Parameters}
 use Rattle.rfc4115_core.specs.SeparateRates.{full, separate_rates}
 use Rattle.rfc4115_core.specs.Sizes.{IsWithinSizes}
-use Rattle.rfc4115_core.proofs.SeparateRatesLaws.{committed_level, excess_level}
+use Rattle.rfc4115_core.proofs.SeparateRatesLaws.{committed_filled, excess_filled}
 
 -- an aware meter never improves a colour
 pub never_improves : (m : State Rfc4115Parameters Levels) (o : Offer) → m.mode ≡ Aware → IsNoBetter o.came (colour_of separate_rates m o)
@@ -23,16 +22,6 @@ unfolding separate_rates
 never_improves m o aware = output_laws.never_improves separate_rates no_better m o aware
 
 -- what the buckets hold before a packet
-committed_gains : (m : State Rfc4115Parameters Levels) (moment : ℕ)
-    → (levels_at separate_rates m (used m.newest moment)).committed
-    ≤ m.levels.committed + (given m.parameters.committed_rate m.origin (used m.newest moment) - given m.parameters.committed_rate m.origin m.newest)
-committed_gains m moment = rw (committed_level m moment) (with_tokens_le m.parameters.committed_burst _ m.levels.committed)
-
-excess_gains : (m : State Rfc4115Parameters Levels) (moment : ℕ)
-    → (levels_at separate_rates m (used m.newest moment)).excess
-    ≤ m.levels.excess + (given m.parameters.excess_rate m.origin (used m.newest moment) - given m.parameters.excess_rate m.origin m.newest)
-excess_gains m moment = rw (excess_level m moment) (with_tokens_le m.parameters.excess_burst _ m.levels.excess)
-
 both_gain : (m : State Rfc4115Parameters Levels) (moment : ℕ)
     → (levels_at separate_rates m (used m.newest moment)).committed + (levels_at separate_rates m (used m.newest moment)).excess
     ≤ m.levels.committed + m.levels.excess
@@ -42,13 +31,15 @@ both_gain m moment =
     let later = newest_le-used m.newest moment in
     let committed_more = given-mono m.parameters.committed_rate m.origin m.newest (used m.newest moment) later in
     let excess_more = given-mono m.parameters.excess_rate m.origin m.newest (used m.newest moment) later in
-    omega (arith, committed_gains m moment, excess_gains m moment, committed_more, excess_more)
+    let committed = output_laws.gains_at separate_rates (λ l. l.committed) (λ p. p.committed_burst) (λ p. p.committed_rate) committed_filled m moment in
+    let excess = output_laws.gains_at separate_rates (λ l. l.excess) (λ p. p.excess_burst) (λ p. p.excess_rate) excess_filled m moment in
+    omega (arith, committed, excess, committed_more, excess_more)
 
 committed_fits : (m : State Rfc4115Parameters Levels) (moment : ℕ) → IsWithinSizes m → (levels_at separate_rates m (used m.newest moment)).committed ≤ m.parameters.committed_burst
-committed_fits m moment ok = rw (committed_level m moment) (with_tokens_within m.parameters.committed_burst _ m.levels.committed ok.committed)
+committed_fits m moment ok = output_laws.fits_at separate_rates (λ l. l.committed) (λ p. p.committed_burst) (λ p. p.committed_rate) committed_filled m moment ok.committed
 
 excess_fits : (m : State Rfc4115Parameters Levels) (moment : ℕ) → IsWithinSizes m → (levels_at separate_rates m (used m.newest moment)).excess ≤ m.parameters.excess_burst
-excess_fits m moment ok = rw (excess_level m moment) (with_tokens_within m.parameters.excess_burst _ m.levels.excess ok.excess)
+excess_fits m moment ok = output_laws.fits_at separate_rates (λ l. l.excess) (λ p. p.excess_burst) (λ p. p.excess_rate) excess_filled m moment ok.excess
 
 both_fit : (m : State Rfc4115Parameters Levels) (moment : ℕ) → IsWithinSizes m
     → (levels_at separate_rates m (used m.newest moment)).committed + (levels_at separate_rates m (used m.newest moment)).excess ≤ m.parameters.committed_burst + m.parameters.excess_burst
@@ -77,9 +68,9 @@ IsWithinSizes-after m o ok =
 pub green_keeps : (m : State Rfc4115Parameters Levels) → IsWithinSizes m → (offers : List Offer)
     → Keeps m.parameters.committed_rate (m.parameters.committed_burst + 1) (output is_green (departures (how separate_rates) m offers))
 unfolding separate_rates
-green_keeps m ok offers =
-    output_laws.Keeps-one_rate separate_rates IsWithinSizes is_green (λ (l : Levels). l.committed) (λ (p : Rfc4115Parameters). p.committed_burst) (λ (p : Rfc4115Parameters). p.committed_rate)
-    committed_gains committed_fits green_pays IsWithinSizes-after m ok offers
+green_keeps =
+    output_laws.Keeps-bucket separate_rates IsWithinSizes is_green (λ (l : Levels). l.committed) (λ (p : Rfc4115Parameters). p.committed_burst) (λ (p : Rfc4115Parameters). p.committed_rate)
+    committed_filled (λ m ok. ok.committed) green_pays IsWithinSizes-after
 
 -- what leaves green or yellow keeps both rates, and two bytes more than both bursts
 pub in_profile_keeps : (m : State Rfc4115Parameters Levels) → IsWithinSizes m → (offers : List Offer)

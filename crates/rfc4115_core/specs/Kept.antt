@@ -1,40 +1,42 @@
 -- What the fields of a meter stand for, and what they keep.
 use Rattle.std.specs.Prelude.{◌≡◌, ◌≤◌, refl}
+use Rattle.moment_core.specs.declared.filling.Clock.{Clock}
 use Rattle.moment_core.specs.Excess.{Levels}
+use Rattle.moment_core.specs.Fillings.{IsCounted, filling_of}
 use Rattle.moment_core.specs.Metering.{State}
-use Rattle.moment_core.specs.Tokens.{begun_token}
 use Rattle.rfc4115_core.specs.declared.meter.Rfc4115.TheInside.{Inside}
 use Rattle.rfc4115_core.specs.declared.parameters.Rfc4115Parameters.{Rfc4115Parameters}
 
 abbrev pub state_of : Inside → State Rfc4115Parameters Levels
 state_of m = record {
-  parameters = m.parameters;
+  parameters = record {
+    committed_rate = m.committed.rate;
+    committed_burst = m.committed.bucket.size;
+    excess_rate = m.excess.rate;
+    excess_burst = m.excess.bucket.size;
+  };
   mode = m.mode;
-  origin = m.origin;
-  newest = m.newest;
-  levels = record { committed = m.committed_level; excess = m.excess_level };
+  origin = m.clock.origin;
+  newest = m.clock.newest;
+  levels = record { committed = m.committed.bucket.level; excess = m.excess.bucket.level };
 }
 
--- the buckets are within their sizes, and the part of a token that is begun is counted from the origin
+-- the begun tokens are counted from the origin
 pub record IsKept (m : Inside) : Type 0 where
-  pub begun : m.origin ≤ m.newest
-  pub committed_within : m.committed_level ≤ m.parameters.committed_burst
-  pub committed_begun : m.committed_begun ≡ begun_token m.parameters.committed_rate m.origin m.newest
-  pub excess_within : m.excess_level ≤ m.parameters.excess_burst
-  pub excess_begun : m.excess_begun ≡ begun_token m.parameters.excess_rate m.origin m.newest
+  pub begun : m.clock.origin ≤ m.clock.newest
+  pub committed : IsCounted m.clock m.committed
+  pub excess : IsCounted m.clock m.excess
 
 -- a state has just one meter that stands for it
 abbrev pub fields_of : State Rfc4115Parameters Levels → Inside
-fields_of s = record {
-  parameters = s.parameters;
-  mode = s.mode;
-  origin = s.origin;
-  newest = s.newest;
-  committed_level = s.levels.committed;
-  committed_begun = begun_token s.parameters.committed_rate s.origin s.newest;
-  excess_level = s.levels.excess;
-  excess_begun = begun_token s.parameters.excess_rate s.origin s.newest;
-}
+fields_of s =
+    let clock : Clock = record { origin = s.origin; newest = s.newest } in
+    record {
+      mode = s.mode;
+      clock = clock;
+      committed = filling_of clock s.parameters.committed_rate s.parameters.committed_burst s.levels.committed;
+      excess = filling_of clock s.parameters.excess_rate s.parameters.excess_burst s.levels.excess;
+    }
 
 pub fields_of-state_of : (m : Inside) → IsKept m → fields_of (state_of m) ≡ m
-fields_of-state_of m kept = rw (← kept.committed_begun, ← kept.excess_begun) refl
+fields_of-state_of m kept = rw (← kept.committed, ← kept.excess) refl

@@ -1,23 +1,21 @@
 ghost use Rattle.std.specs.Prelude.{◌≡◌, ◌<◌, ◌^◌, Option, None, Some, IfOk, IfErr, MatchResult};
-ghost use Rattle.moment_core.specs.Metering.{after, colour_of, opening};
+ghost use Rattle.moment_core.specs.Metering.{after, colour_of, filled, opening};
 ghost use Rattle.rfc4115_core.specs.SeparateRates.{fault_of, separate_rates};
 
 use crate::parameters::{Rfc4115Fault, Rfc4115Parameters};
-use moment_core::{Bucket, Colour, Mode, Moment, PacketSize, take_committed_or_excess};
+use moment_core::{Clock, Colour, Filling, Mode, Moment, PacketSize, take_committed_or_excess};
 use std::marker::Model;
 
 /// A three-colour meter at work (RFC 4115): a committed and an excess bucket, full at the meter's origin, each filled
 /// at its own rate.
 #[derive(Clone, Copy, Debug, PartialEq, Eq, Hash)]
 pub struct Rfc4115 {
-    parameters: Rfc4115Parameters,
     mode: Mode,
-    origin: Moment,
-    newest: Moment,
-    committed_level: u32,
-    committed_begun: u64,
-    excess_level: u32,
-    excess_begun: u64,
+    clock: Clock,
+    /// CIR, CBS and Tc: the committed bucket and its rate (RFC 4115).
+    committed: Filling,
+    /// EIR, EBS and Te: the excess bucket and its rate (RFC 4115).
+    excess: Filling,
 }
 
 impl Model for Rfc4115 {
@@ -56,14 +54,10 @@ impl Rfc4115 {
         match parameters.fault() {
             Some(fault) => Err(fault),
             None => Ok(Rfc4115 {
-                parameters,
                 mode,
-                origin,
-                newest: origin,
-                committed_level: parameters.committed_burst,
-                committed_begun: 0,
-                excess_level: parameters.excess_burst,
-                excess_begun: 0,
+                clock: Clock::new(origin),
+                committed: Filling::full(parameters.committed_rate, parameters.committed_burst),
+                excess: Filling::full(parameters.excess_rate, parameters.excess_burst),
             }),
         }
     }
@@ -73,7 +67,12 @@ impl Rfc4115 {
         ensures value { result ≡ self.now.parameters }
         ensures within { IsWithinSizes self.now }
     {
-        self.parameters
+        Rfc4115Parameters {
+            committed_rate: self.committed.rate,
+            committed_burst: self.committed.bucket.size(),
+            excess_rate: self.excess.rate,
+            excess_burst: self.excess.bucket.size(),
+        }
     }
 
     /// Whether it heeds the colour that a packet comes in with.
@@ -87,7 +86,7 @@ impl Rfc4115 {
     pub fn newest(&self) -> Moment
         ensures { result ≡ self.now.newest }
     {
-        self.newest
+        self.clock.newest
     }
 
     /// Meters a packet of a moment and a size that comes in with a colour, and answers the colour that it leaves
@@ -96,24 +95,18 @@ impl Rfc4115 {
         ensures colour { result ≡ colour_of separate_rates self.old (record { moment = moment; size = size; came = colour }) }
         ensures after { self.new ≡ after separate_rates self.old (record { moment = moment; size = size; came = colour }) }
     {
-        let used = self.newest.used_for(moment);
-        let gap = used.since(self.newest);
-        let parameters = self.parameters;
-        let mut committed = Bucket {
-            level: self.committed_level,
-            size: parameters.committed_burst,
-        };
-        committed.fill_over(parameters.committed_rate, gap, &mut self.committed_begun);
-        let mut excess = Bucket {
-            level: self.excess_level,
-            size: parameters.excess_burst,
-        };
-        excess.fill_over(parameters.excess_rate, gap, &mut self.excess_begun);
+        self.fill_to(moment);
         let seen = self.mode.seen(colour);
-        let left = take_committed_or_excess(&mut committed, &mut excess, size, seen);
-        self.newest = used;
-        self.committed_level = committed.level;
-        self.excess_level = excess.level;
-        left
+        let committed = &mut self.committed.bucket;
+        take_committed_or_excess(committed, &mut self.excess.bucket, size, seen)
+    }
+
+    /// Gives each bucket the tokens of its own rate up to an arrival.
+    fn fill_to(&mut self, arrival: Moment)
+        ensures { self.new ≡ filled separate_rates self.old arrival }
+    {
+        let gap = self.clock.move_on(arrival);
+        self.committed.fill_over(gap);
+        self.excess.fill_over(gap);
     }
 }

@@ -6,13 +6,13 @@ use thiserror::Error;
 /// The parameters of a two-rate three-colour meter (RFC 4115).
 #[derive(Clone, Copy, Debug, PartialEq, Eq, Hash)]
 pub struct Rfc4115Parameters {
-    /// The committed information rate, CIR, in bits per second.
+    /// CIR, the committed information rate, in bits per second (RFC 4115).
     pub committed_rate: Rate,
-    /// The committed burst size, CBS, in bytes.
+    /// CBS, the committed burst size, in bytes (RFC 4115).
     pub committed_burst: u32,
-    /// The excess information rate, EIR, in bits per second.
+    /// EIR, the excess information rate, in bits per second (RFC 4115).
     pub excess_rate: Rate,
-    /// The excess burst size, EBS, in bytes.
+    /// EBS, the excess burst size, in bytes (RFC 4115).
     pub excess_burst: u32,
 }
 

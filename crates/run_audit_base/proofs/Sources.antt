@@ -17,7 +17,7 @@ use Rattle.moment_core.specs.Metering.{opening}
 use Rattle.envelope_core.specs.Curve.{Curve, KeepsCurve, widened}
 use Rattle.envelope_core.proofs.Windows.{Keeps-lighter, bytes_delayed, size_within_cases, size_within_inside, sum_by-mono, sum_by-none, sum_by-map, sum_by-flat_map, sum_by-filter}
 use Rattle.meter_book.specs.AnyMeter.{opening_of}
-use Rattle.meter_book.specs.Envelopes.{all_of, green_of}
+use Rattle.meter_book.specs.Envelopes.{all_of, all_output, green_of, green_output}
 use Rattle.meter_book.specs.Laws.{row_output}
 use Rattle.meter_book.specs.Replay.{Journal, journal_rows, replay}
 use Rattle.meter_book.specs.declared.any_meter.Parameters.{Parameters}
@@ -30,7 +30,7 @@ use Rattle.ds_domain_base.specs.declared.contract.Contract.{Contract}
 use Rattle.ds_domain_base.specs.declared.terms.Terms.{Terms}
 use Rattle.ds_domain_base.specs.declared.terms.Terms.TheVariants.{Trusted, Policed}
 use Rattle.ds_certificate.specs.Columns.{green_column, all_column}
-use Rattle.ds_certificate.specs.Sources.{all_output, green_output, skew_of, source_by, source_of}
+use Rattle.ds_certificate.specs.Sources.{skew_of, source_by, source_of}
 use Rattle.ds_checker.specs.Acceptance.{Table}
 use Rattle.meter_fabric.specs.Grounds.{Ground, contract_of}
 use Rattle.meter_fabric.specs.Openings.{opening_at}

@@ -3,51 +3,27 @@ use Rattle.std.proofs.Common.{◌≡◌, ℕ, ◌+◌, ◌-◌, ◌≤◌, ◌�
 use Rattle.moment_core.specs.Colours.{is_green, is_in_profile, is_yellow}
 use Rattle.moment_core.specs.Conformance.{Keeps}
 use Rattle.moment_core.specs.Excess.{Levels}
-use Rattle.moment_core.specs.Metering.{Offer, State, after, colour_of, departures, how, levels_at, opening, used}
+use Rattle.moment_core.specs.Metering.{Departure, Offer, State, after, colour_of, departures, how, levels_at, opening, used}
 use Rattle.moment_core.specs.Tokens.{given, with_tokens}
 use Rattle.moment_core.specs.declared.colour.Colour.{Colour}
 use Rattle.moment_core.specs.declared.colour.Colour.TheVariants.{Green, Yellow, Red}
 use Rattle.moment_core.specs.declared.colour.Mode.TheVariants.{Aware}
-use Rattle.moment_core.proofs.KeepingLaws.{both_drain, committed_drains, green_stays, yellow_stays}
+use Rattle.moment_core.proofs.KeepingLaws as keeping
+use Rattle.moment_core.proofs.KeepingLaws.{both_drain, yellow_stays}
 use Rattle.moment_core.proofs.MeteringLaws.{newest_le-used}
-use Rattle.moment_core.proofs.RoomLaws.{Along-any, FillsUp, FillsUp-with_tokens, IsAware, IsAware-after, Room-opening, Keeping, keeps_colour, input, with_tokens-fills, with_tokens-grows}
+use Rattle.moment_core.proofs.RoomLaws.{Along-any, FillsUp, IsAware, IsAware-after, Keeping, Room-opening, departures-along, drains_aware, enough, input, left_aware, with_tokens-fills, with_tokens-grows}
 use Rattle.moment_core.proofs.TokenLaws.{given-mono}
 use Rattle.srtcm_core.specs.declared.parameters.SrTcmParameters.{SrTcmParameters}
-use Rattle.srtcm_core.specs.SingleRate.{full, single_rate}
+use Rattle.srtcm_core.specs.SingleRate.{full, gain, single_rate}
 use Rattle.srtcm_core.specs.Sizes.{IsWithinSizes}
-use Rattle.srtcm_core.proofs.OutputLaws.{IsWithinSizes-after, IsWithinSizes-opening, committed_fits, committed_level, excess_level, gained}
-
--- ---- green
-
-committed_fills : (m : State SrTcmParameters Levels) (moment : ℕ)
-    → FillsUp (given m.parameters.committed_rate m.origin) m.parameters.committed_burst m.newest m.levels.committed (used m.newest moment)
-    (levels_at single_rate m (used m.newest moment)).committed
-unfolding gained
-committed_fills m moment =
-    rw (committed_level m moment) (FillsUp-with_tokens m.parameters.committed_rate m.origin m.parameters.committed_burst m.newest moment m.levels.committed)
-
-green_drains : (m : State SrTcmParameters Levels) (o : Offer) → IsAware m → Unit {0}
-    → (levels_at single_rate m (used m.newest o.moment)).committed ≤ (after single_rate m o).levels.committed + cond (is_green o.came) o.size 0
-unfolding after colour_of levels_at single_rate
-green_drains m o aware such = rw aware (committed_drains (levels_at single_rate m (used m.newest o.moment)) o.size o.came)
-
-green_left : (m : State SrTcmParameters Levels) (o : Offer) → IsAware m
-    → cond (is_green o.came) o.size 0 + 0 ≤ (levels_at single_rate m (used m.newest o.moment)).committed
-    → o.came ≡ Green → colour_of single_rate m o ≡ Green
-unfolding colour_of levels_at single_rate
-green_left m o aware held green = rw aware (green_stays (levels_at single_rate m (used m.newest o.moment)) o.size o.came held green)
+use Rattle.srtcm_core.proofs.OutputLaws.{IsWithinSizes-after, IsWithinSizes-opening, committed_filled, committed_fits, excess_level, gained}
 
 -- green packets that keep the committed rate and burst leave green
 pub green_stays_green : (p : SrTcmParameters) (origin : ℕ) (offers : List Offer)
     → Keeps p.committed_rate p.committed_burst (input is_green (departures (how single_rate) (opening single_rate p Aware origin) offers))
     → Keeping Green (departures (how single_rate) (opening single_rate p Aware origin) offers)
-unfolding opening single_rate full
-green_stays_green p origin offers kept =
-    let m = opening single_rate p Aware origin in
-    let ds = departures (how single_rate) m offers in
-    let room = Room-opening p.committed_rate origin p.committed_burst p.committed_burst 0 is_green ds (omega arith) kept in
-    keeps_colour single_rate IsAware (λ _ _. Unit {0}) is_green (λ (l : Levels). l.committed) (λ (p : SrTcmParameters). p.committed_burst) (λ _. 0) (λ (p : SrTcmParameters). given p.committed_rate)
-    committed_fills green_drains (IsAware-after single_rate) Green green_left m refl offers (Along-any single_rate m offers) room
+unfolding single_rate full
+green_stays_green = keeping.green_stays_green full gain (λ p. p.committed_burst) (λ p. p.committed_rate) committed_filled (λ _. refl)
 
 -- ---- yellow: the two buckets as one, which has the bytes of the committed bucket to spare
 
@@ -71,12 +47,11 @@ both_fill_to committed_size excess_size count committed excess =
 both_fill : (m : State SrTcmParameters Levels) (moment : ℕ)
     → FillsUp (given m.parameters.committed_rate m.origin) (m.parameters.committed_burst + m.parameters.excess_burst) m.newest (m.levels.committed + m.levels.excess)
     (used m.newest moment) ((levels_at single_rate m (used m.newest moment)).committed + (levels_at single_rate m (used m.newest moment)).excess)
-unfolding gained
 both_fill m moment =
     let more = given-mono m.parameters.committed_rate m.origin m.newest (used m.newest moment) (newest_le-used m.newest moment) in
     elim (both_fill_to m.parameters.committed_burst m.parameters.excess_burst (gained m moment) m.levels.committed m.levels.excess) [
-      | inl all ↦ inl (omega (arith, all, more, committed_level m moment, excess_level m moment))
-      | inr full ↦ inr (omega (arith, full, committed_level m moment, excess_level m moment))
+      | inl all ↦ inl (omega (arith, all, more, committed_filled m moment, excess_level m moment))
+      | inr full ↦ inr (omega (arith, full, committed_filled m moment, excess_level m moment))
     ]
 
 -- an aware meter whose buckets are within their sizes
@@ -87,31 +62,24 @@ record IsFit (m : State SrTcmParameters Levels) : Type 0 where
 IsFit-after : (m : State SrTcmParameters Levels) (o : Offer) → IsFit m → IsFit (after single_rate m o)
 IsFit-after m o fit = record { aware = IsAware-after single_rate m o fit.aware; within = IsWithinSizes-after m o fit.within }
 
-in_profile_drains : (m : State SrTcmParameters Levels) (o : Offer) → IsFit m → Unit {0}
-    → (levels_at single_rate m (used m.newest o.moment)).committed + (levels_at single_rate m (used m.newest o.moment)).excess
-    ≤ (after single_rate m o).levels.committed + (after single_rate m o).levels.excess + cond (is_in_profile o.came) o.size 0
-unfolding after colour_of levels_at single_rate
-in_profile_drains m o fit such = rw fit.aware (both_drain (levels_at single_rate m (used m.newest o.moment)) o.size o.came)
-
 yellow_held : (came : Colour) (size committed excess most : ℕ) → committed ≤ most → cond (is_in_profile came) size 0 + most ≤ committed + excess
     → cond (is_yellow came) size 0 ≤ excess
 yellow_held Green size committed excess most within held = omega arith
 yellow_held Yellow size committed excess most within held = omega (arith, within, held)
 yellow_held Red size committed excess most within held = omega arith
 
-yellow_left_by : (m : State SrTcmParameters Levels) (o : Offer) → IsAware m
-    → cond (is_yellow o.came) o.size 0 ≤ (levels_at single_rate m (used m.newest o.moment)).excess
-    → o.came ≡ Yellow → colour_of single_rate m o ≡ Yellow
-unfolding colour_of levels_at single_rate
-yellow_left_by m o aware held yellow = rw aware (yellow_stays (levels_at single_rate m (used m.newest o.moment)) o.size o.came held yellow)
-
-yellow_left : (m : State SrTcmParameters Levels) (o : Offer) → IsFit m
-    → cond (is_in_profile o.came) o.size 0 + m.parameters.committed_burst
+-- before each packet the two buckets have the bytes of one in profile beside those of the committed bucket
+abbrev InProfileIsHeld : State SrTcmParameters Levels → Offer → Type 0
+InProfileIsHeld m o =
+    cond (is_in_profile o.came) o.size 0 + m.parameters.committed_burst
     ≤ (levels_at single_rate m (used m.newest o.moment)).committed + (levels_at single_rate m (used m.newest o.moment)).excess
-    → o.came ≡ Yellow → colour_of single_rate m o ≡ Yellow
-yellow_left m o fit held yellow =
+
+yellow_left : (m : State SrTcmParameters Levels) (o : Offer) → IsFit m → InProfileIsHeld m o → o.came ≡ Yellow → colour_of single_rate m o ≡ Yellow
+unfolding single_rate
+yellow_left m o fit held =
     let before = levels_at single_rate m (used m.newest o.moment) in
-    yellow_left_by m o fit.aware (yellow_held o.came o.size before.committed before.excess m.parameters.committed_burst (committed_fits m o.moment fit.within) held) yellow
+    let enough = yellow_held o.came o.size before.committed before.excess m.parameters.committed_burst (committed_fits m o.moment fit.within) held in
+    left_aware single_rate m o Yellow fit.aware (yellow_stays before o.size o.came enough)
 
 -- where green and yellow packets keep the committed rate and the excess burst, yellow ones leave yellow
 pub yellow_stays_yellow : (p : SrTcmParameters) (origin : ℕ) (offers : List Offer)
@@ -123,6 +91,10 @@ yellow_stays_yellow p origin offers kept =
     let ds = departures (how single_rate) m offers in
     let fit : IsFit m = record { aware = refl; within = IsWithinSizes-opening p Aware origin } in
     let room = Room-opening p.committed_rate origin p.excess_burst (p.committed_burst + p.excess_burst) p.committed_burst is_in_profile ds (omega arith) kept in
-    keeps_colour single_rate IsFit (λ _ _. Unit {0}) is_in_profile (λ (l : Levels). l.committed + l.excess) (λ (p : SrTcmParameters). p.committed_burst + p.excess_burst)
-    (λ (p : SrTcmParameters). p.committed_burst) (λ (p : SrTcmParameters). given p.committed_rate)
-    both_fill in_profile_drains IsFit-after Yellow yellow_left m fit offers (Along-any single_rate m offers) room
+    let held = enough single_rate IsFit (λ _ _. Unit {0}) is_in_profile (λ (l : Levels). l.committed + l.excess) (λ (p : SrTcmParameters). p.committed_burst + p.excess_burst)
+    (λ (p : SrTcmParameters). p.committed_burst) (λ (p : SrTcmParameters). given p.committed_rate) both_fill
+    (λ m o fit _. drains_aware single_rate is_in_profile (λ (l : Levels). l.committed + l.excess) m o fit.aware (both_drain (levels_at single_rate m (used m.newest o.moment)) o.size o.came))
+    IsFit-after m fit offers (Along-any single_rate m offers) room
+    in
+    departures-along single_rate IsFit InProfileIsHeld (λ _ _. Unit {0}) (λ (d : Departure). d.came ≡ Yellow → d.left ≡ Yellow) (λ m o fit held _. yellow_left m o fit held)
+    IsFit-after m fit offers held (Along-any single_rate m offers)

@@ -9,6 +9,7 @@ use Rattle.moment_core.specs.declared.colour.Mode.{Mode}
 use Rattle.moment_core.specs.declared.colour.Mode.TheVariants.{Aware}
 use Rattle.moment_core.proofs.ExcessLaws.{both_pay, committed_falls, excess_falls, green_pays, no_better}
 use Rattle.moment_core.proofs.FillingLaws.{with_tokens_le, with_tokens_within}
+use Rattle.moment_core.proofs.MeteringLaws.{IsFilledAt}
 use Rattle.moment_core.proofs.OutputLaws as output_laws
 use Rattle.srtcm_core.specs.declared.parameters.SrTcmParameters.{SrTcmParameters}
 use Rattle.srtcm_core.specs.SingleRate.{full, single_rate}
@@ -21,35 +22,30 @@ unfolding single_rate
 never_improves m o aware = output_laws.never_improves single_rate no_better m o aware
 
 -- the tokens that the meter is given up to the moment that it meters at
-unfoldable pub gained : State SrTcmParameters Levels → ℕ → ℕ
+abbrev pub gained : State SrTcmParameters Levels → ℕ → ℕ
 gained m moment = given m.parameters.committed_rate m.origin (used m.newest moment) - given m.parameters.committed_rate m.origin m.newest
 
-pub committed_level : (m : State SrTcmParameters Levels) (moment : ℕ)
-    → (levels_at single_rate m (used m.newest moment)).committed ≡ with_tokens m.parameters.committed_burst (gained m moment) m.levels.committed
-unfolding closed gained
-committed_level m moment = ap (λ (l : Levels). l.committed) (levels_at-single_rate m moment)
+pub committed_filled : IsFilledAt single_rate (λ l. l.committed) (λ p. p.committed_burst) (λ p. p.committed_rate)
+unfolding closed
+committed_filled m moment = ap (λ (l : Levels). l.committed) (levels_at-single_rate m moment)
 
 pub excess_level : (m : State SrTcmParameters Levels) (moment : ℕ)
     → (levels_at single_rate m (used m.newest moment)).excess
     ≡ with_tokens m.parameters.excess_burst (m.levels.committed + gained m moment - with_tokens m.parameters.committed_burst (gained m moment) m.levels.committed) m.levels.excess
-unfolding closed gained
+unfolding closed
 excess_level m moment = ap (λ (l : Levels). l.excess) (levels_at-single_rate m moment)
 
 -- what the buckets hold before a packet
-committed_gains : (m : State SrTcmParameters Levels) (moment : ℕ)
-    → (levels_at single_rate m (used m.newest moment)).committed ≤ m.levels.committed + gained m moment
-committed_gains m moment = rw (committed_level m moment) (with_tokens_le m.parameters.committed_burst (gained m moment) m.levels.committed)
-
 both_gain : (m : State SrTcmParameters Levels) (moment : ℕ)
     → (levels_at single_rate m (used m.newest moment)).committed + (levels_at single_rate m (used m.newest moment)).excess ≤ m.levels.committed + m.levels.excess + gained m moment
 both_gain m moment =
     let committed = with_tokens_le m.parameters.committed_burst (gained m moment) m.levels.committed in
     let surplus = m.levels.committed + gained m moment - with_tokens m.parameters.committed_burst (gained m moment) m.levels.committed in
     let excess = with_tokens_le m.parameters.excess_burst surplus m.levels.excess in
-    rw (committed_level m moment, excess_level m moment) (omega (arith, committed, excess))
+    rw (excess_level m moment) (omega (arith, committed, excess, committed_filled m moment))
 
 pub committed_fits : (m : State SrTcmParameters Levels) (moment : ℕ) → IsWithinSizes m → (levels_at single_rate m (used m.newest moment)).committed ≤ m.parameters.committed_burst
-committed_fits m moment ok = rw (committed_level m moment) (with_tokens_within m.parameters.committed_burst (gained m moment) m.levels.committed ok.committed)
+committed_fits m moment ok = rw (committed_filled m moment) (with_tokens_within m.parameters.committed_burst _ m.levels.committed ok.committed)
 
 excess_fits : (m : State SrTcmParameters Levels) (moment : ℕ) → IsWithinSizes m → (levels_at single_rate m (used m.newest moment)).excess ≤ m.parameters.excess_burst
 excess_fits m moment ok = rw (excess_level m moment) (with_tokens_within m.parameters.excess_burst _ m.levels.excess ok.excess)
@@ -80,15 +76,15 @@ IsWithinSizes-after m o ok =
 -- what leaves green keeps the committed rate, and a byte more than the committed burst
 pub green_keeps : (m : State SrTcmParameters Levels) → IsWithinSizes m → (offers : List Offer)
     → Keeps m.parameters.committed_rate (m.parameters.committed_burst + 1) (output is_green (departures (how single_rate) m offers))
-unfolding single_rate gained
-green_keeps m ok offers =
-    output_laws.Keeps-one_rate single_rate IsWithinSizes is_green (λ (l : Levels). l.committed) (λ (p : SrTcmParameters). p.committed_burst) (λ (p : SrTcmParameters). p.committed_rate)
-    committed_gains committed_fits green_pays IsWithinSizes-after m ok offers
+unfolding single_rate
+green_keeps =
+    output_laws.Keeps-bucket single_rate IsWithinSizes is_green (λ (l : Levels). l.committed) (λ (p : SrTcmParameters). p.committed_burst) (λ (p : SrTcmParameters). p.committed_rate)
+    committed_filled (λ m ok. ok.committed) green_pays IsWithinSizes-after
 
 -- what leaves green or yellow keeps the committed rate, and a byte more than both bursts
 pub in_profile_keeps : (m : State SrTcmParameters Levels) → IsWithinSizes m → (offers : List Offer)
     → Keeps m.parameters.committed_rate (m.parameters.committed_burst + m.parameters.excess_burst + 1) (output is_in_profile (departures (how single_rate) m offers))
-unfolding single_rate gained
+unfolding single_rate
 in_profile_keeps m ok offers =
     output_laws.Keeps-one_rate single_rate IsWithinSizes is_in_profile (λ (l : Levels). l.committed + l.excess) (λ (p : SrTcmParameters). p.committed_burst + p.excess_burst) (λ (p : SrTcmParameters). p.committed_rate)
     both_gain both_fit both_pay IsWithinSizes-after m ok offers

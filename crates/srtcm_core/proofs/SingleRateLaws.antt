@@ -1,14 +1,14 @@
 -- The levels of a single-rate meter in closed form.
-use Rattle.std.proofs.Common.{◌≡◌, ℕ, ◌+◌, ◌-◌, ◌*◌, ◌/◌, ◌<◌, ◌≤◌, zero, suc, true, false, ltb, refl, ◌∙◌, arith, inl, inr}
+use Rattle.std.proofs.Common.{◌≡◌, ℕ, ◌+◌, ◌-◌, ◌<◌, ◌≤◌, zero, suc, true, false, ltb, refl, ◌∙◌, arith, inl, inr}
 use Rattle.std.specs.Fn.{iterate}
 use Rattle.std.proofs.lemmas.Bool.{cases_lt}
 use Rattle.std.proofs.lemmas.Bool.Decides.{nat_tests}
 use Rattle.moment_core.specs.Excess.{Levels}
 use Rattle.moment_core.specs.Metering.{State, levels_at, used}
 use Rattle.moment_core.specs.Tokens as tokens
-use Rattle.moment_core.specs.Tokens.{given, begun_token, with_tokens}
+use Rattle.moment_core.specs.Tokens.{given, with_tokens}
 use Rattle.moment_core.proofs.FillingLaws.{iterated_to, with_tokens_over}
-use Rattle.moment_core.proofs.MeteringLaws.{drawn-used, newest_le-used}
+use Rattle.moment_core.proofs.MeteringLaws.{newest_le-used}
 use Rattle.moment_core.proofs.TokenLaws.{with_token-at, with_token-below, with_tokens-none}
 use Rattle.srtcm_core.specs.declared.parameters.SrTcmParameters.{SrTcmParameters}
 use Rattle.srtcm_core.specs.SingleRate.{gain, single_rate, with_token}
@@ -92,11 +92,3 @@ unfolding closed
 levels_at-filled m moment committed surplus excess c s e =
     let rest : m.levels.committed + (given m.parameters.committed_rate m.origin (used m.newest moment) - given m.parameters.committed_rate m.origin m.newest) - committed ≡ surplus = omega arith in
     levels_at-single_rate m moment ∙ rw (← c, rest, ← e) refl
-
--- the surplus of a bucket that was filled up to the moment that is metered at, in the terms of its meter
-pub surplus-used : (rate origin newest moment now gap carry old new surplus : ℕ)
-    → origin ≤ newest → now ≡ used newest moment → gap ≡ now - newest → carry ≡ begun_token rate origin newest
-    → new + surplus ≡ old + (rate * gap + carry) / 8000000000
-    → new + surplus ≡ old + (given rate origin (used newest moment) - given rate origin newest)
-surplus-used rate origin newest moment now gap carry old new surplus begun n g c e =
-    rw (← drawn-used rate origin newest moment now gap carry begun n g c) e

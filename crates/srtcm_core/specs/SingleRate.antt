@@ -1,7 +1,7 @@
 -- The single-rate three-colour marker (RFC 2697).
 use Rattle.std.specs.Prelude.{ℕ, ◌+◌, nat_lt, nat_eq, ◌&&◌, if◌then◌else◌, Option, None, Some}
 use Rattle.std.specs.Fn.{iterate}
-use Rattle.moment_core.specs.Excess.{Levels, coloured, without}
+use Rattle.moment_core.specs.Excess.{Levels, committed_or_excess}
 use Rattle.moment_core.specs.Metering.{Rules}
 use Rattle.moment_core.specs.Tokens.{tokens_at}
 use Rattle.srtcm_core.specs.declared.parameters.SrTcmParameters.{SrTcmParameters}
@@ -32,4 +32,4 @@ unfoldable pub gain : SrTcmParameters → ℕ → ℕ → Levels → Levels
 gain p origin moment l = iterate (with_token p) (tokens_at p.committed_rate origin moment) l
 
 unfoldable pub single_rate : Rules SrTcmParameters Levels
-single_rate = record { full = full; gain = gain; coloured = coloured; without = without }
+single_rate = committed_or_excess full gain

@@ -1,22 +1,23 @@
 ghost use Rattle.std.specs.Prelude.{◌≡◌, ◌<◌, ◌^◌, Option, None, Some, IfOk, IfErr, MatchResult};
-ghost use Rattle.moment_core.specs.Metering.{after, colour_of, opening};
+ghost use Rattle.moment_core.specs.Metering.{after, colour_of, filled, opening};
 ghost use Rattle.srtcm_core.specs.SingleRate.{fault_of, single_rate};
 
 use crate::parameters::{SrTcmFault, SrTcmParameters};
-use moment_core::{Bucket, Colour, Mode, Moment, PacketSize, take_committed_or_excess};
+use moment_core::{
+    Bucket, Clock, Colour, Filling, Mode, Moment, PacketSize, take_committed_or_excess,
+};
 use std::marker::Model;
 
 /// A single-rate three-colour meter at work (RFC 2697): a committed and an excess bucket, full at the meter's origin,
 /// and one stream of tokens for both.
 #[derive(Clone, Copy, Debug, PartialEq, Eq, Hash)]
 pub struct SrTcm {
-    parameters: SrTcmParameters,
     mode: Mode,
-    origin: Moment,
-    newest: Moment,
-    committed_level: u32,
-    excess_level: u32,
-    committed_begun: u64,
+    clock: Clock,
+    /// CIR, CBS and Tc: the committed bucket and its rate (RFC 2697 section 3).
+    committed: Filling,
+    /// EBS and Te: the excess bucket, which gets the tokens that find the committed one full (RFC 2697 section 3).
+    excess: Bucket,
 }
 
 impl Model for SrTcm {
@@ -51,13 +52,10 @@ impl SrTcm {
         match parameters.fault() {
             Some(fault) => Err(fault),
             None => Ok(SrTcm {
-                parameters,
                 mode,
-                origin,
-                newest: origin,
-                committed_level: parameters.committed_burst,
-                excess_level: parameters.excess_burst,
-                committed_begun: 0,
+                clock: Clock::new(origin),
+                committed: Filling::full(parameters.committed_rate, parameters.committed_burst),
+                excess: Bucket::full(parameters.excess_burst),
             }),
         }
     }
@@ -67,7 +65,11 @@ impl SrTcm {
         ensures value { result ≡ self.now.parameters }
         ensures within { IsWithinSizes self.now }
     {
-        self.parameters
+        SrTcmParameters {
+            committed_rate: self.committed.rate,
+            committed_burst: self.committed.bucket.size(),
+            excess_burst: self.excess.size(),
+        }
     }
 
     /// Whether it heeds the colour that a packet comes in with.
@@ -81,7 +83,7 @@ impl SrTcm {
     pub fn newest(&self) -> Moment
         ensures { result ≡ self.now.newest }
     {
-        self.newest
+        self.clock.newest
     }
 
     /// Meters a packet of a moment and a size that comes in with a colour, and answers the colour that it leaves
@@ -90,28 +92,17 @@ impl SrTcm {
         ensures colour { result ≡ colour_of single_rate self.old (record { moment = moment; size = size; came = colour }) }
         ensures after { self.new ≡ after single_rate self.old (record { moment = moment; size = size; came = colour }) }
     {
-        let used = self.newest.used_for(moment);
-        let gap = used.since(self.newest);
-        let parameters = self.parameters;
-        let mut committed = Bucket {
-            level: self.committed_level,
-            size: parameters.committed_burst,
-        };
-        let surplus = committed.fill_over(
-            parameters.committed_rate,
-            gap,
-            &mut self.committed_begun,
-        );
-        let mut excess = Bucket {
-            level: self.excess_level,
-            size: parameters.excess_burst,
-        };
-        excess.refill(surplus);
+        self.fill_to(moment);
         let seen = self.mode.seen(colour);
-        let left = take_committed_or_excess(&mut committed, &mut excess, size, seen);
-        self.newest = used;
-        self.committed_level = committed.level;
-        self.excess_level = excess.level;
-        left
+        take_committed_or_excess(&mut self.committed.bucket, &mut self.excess, size, seen)
+    }
+
+    /// Gives the committed bucket its tokens up to an arrival, and the excess bucket those that find it full.
+    fn fill_to(&mut self, arrival: Moment)
+        ensures { self.new ≡ filled single_rate self.old arrival }
+    {
+        let gap = self.clock.move_on(arrival);
+        let surplus = self.committed.fill_over(gap);
+        self.excess.refill(surplus);
     }
 }

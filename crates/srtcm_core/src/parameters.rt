@@ -6,11 +6,11 @@ use thiserror::Error;
 /// The parameters of a single-rate three-colour meter (RFC 2697 section 2).
 #[derive(Clone, Copy, Debug, PartialEq, Eq, Hash)]
 pub struct SrTcmParameters {
-    /// The committed information rate, CIR, in bits per second.
+    /// CIR, the committed information rate, in bits per second (RFC 2697 section 2).
     pub committed_rate: Rate,
-    /// The committed burst size, CBS, in bytes.
+    /// CBS, the committed burst size, in bytes (RFC 2697 section 2).
     pub committed_burst: u32,
-    /// The excess burst size, EBS, in bytes.
+    /// EBS, the excess burst size, in bytes (RFC 2697 section 2).
     pub excess_burst: u32,
 }
 

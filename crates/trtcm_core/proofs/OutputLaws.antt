@@ -1,20 +1,18 @@
 -- What leaves a two-rate meter: colours that are no better than those that came, and envelopes that are kept.
-use Rattle.std.proofs.Common.{◌≡◌, ℕ, ◌+◌, ◌-◌, ◌≤◌, Bool, true, false, cond, ltb, List, refl, arith}
+use Rattle.std.proofs.Common.{◌≡◌, ℕ, ◌+◌, ◌≤◌, Bool, true, false, cond, ltb, List, refl, arith}
 use Rattle.std.proofs.lemmas.Bool.Decides.{nat_tests}
 use Rattle.moment_core.specs.Colours.{IsNoBetter, is_green, is_in_profile, output}
 use Rattle.moment_core.specs.Conformance.{Keeps}
 use Rattle.moment_core.specs.Metering.{Offer, State, after, colour_of, departures, how, levels_at, opening, used}
-use Rattle.moment_core.specs.Tokens.{given}
 use Rattle.moment_core.specs.declared.colour.Colour.{Colour}
 use Rattle.moment_core.specs.declared.colour.Colour.TheVariants.{Green, Yellow, Red}
 use Rattle.moment_core.specs.declared.colour.Mode.{Mode}
 use Rattle.moment_core.specs.declared.colour.Mode.TheVariants.{Aware}
-use Rattle.moment_core.proofs.FillingLaws.{with_tokens_le, with_tokens_within}
 use Rattle.moment_core.proofs.OutputLaws as output_laws
 use Rattle.trtcm_core.specs.declared.parameters.TrTcmParameters.{TrTcmParameters}
 use Rattle.trtcm_core.specs.Sizes.{IsWithinSizes}
 use Rattle.trtcm_core.specs.TwoRate.{Levels, coloured, full, two_rate, without}
-use Rattle.trtcm_core.proofs.TwoRateLaws.{committed_level, peak_level}
+use Rattle.trtcm_core.proofs.TwoRateLaws.{committed_filled, peak_filled}
 
 pub no_better : (l : Levels) (size : ℕ) (came : Colour) → IsNoBetter came (coloured l size came)
 unfolding coloured
@@ -91,23 +89,6 @@ peak_falls l size Green = omega arith
 peak_falls l size Yellow = omega arith
 peak_falls l size Red = omega arith
 
--- what the buckets hold before a packet
-committed_gains : (m : State TrTcmParameters Levels) (moment : ℕ)
-    → (levels_at two_rate m (used m.newest moment)).committed
-    ≤ m.levels.committed + (given m.parameters.committed_rate m.origin (used m.newest moment) - given m.parameters.committed_rate m.origin m.newest)
-committed_gains m moment = rw (committed_level m moment) (with_tokens_le m.parameters.committed_burst _ m.levels.committed)
-
-committed_fits : (m : State TrTcmParameters Levels) (moment : ℕ) → IsWithinSizes m → (levels_at two_rate m (used m.newest moment)).committed ≤ m.parameters.committed_burst
-committed_fits m moment ok = rw (committed_level m moment) (with_tokens_within m.parameters.committed_burst _ m.levels.committed ok.committed)
-
-peak_gains : (m : State TrTcmParameters Levels) (moment : ℕ)
-    → (levels_at two_rate m (used m.newest moment)).peak
-    ≤ m.levels.peak + (given m.parameters.peak_rate m.origin (used m.newest moment) - given m.parameters.peak_rate m.origin m.newest)
-peak_gains m moment = rw (peak_level m moment) (with_tokens_le m.parameters.peak_burst _ m.levels.peak)
-
-peak_fits : (m : State TrTcmParameters Levels) (moment : ℕ) → IsWithinSizes m → (levels_at two_rate m (used m.newest moment)).peak ≤ m.parameters.peak_burst
-peak_fits m moment ok = rw (peak_level m moment) (with_tokens_within m.parameters.peak_burst _ m.levels.peak ok.peak)
-
 -- the buckets of a meter are within their sizes at first
 pub IsWithinSizes-opening : (p : TrTcmParameters) (mode : Mode) (origin : ℕ) → IsWithinSizes (opening two_rate p mode origin)
 unfolding opening two_rate full
@@ -123,22 +104,22 @@ IsWithinSizes-after m o ok =
     let before = levels_at two_rate m (used m.newest o.moment) in
     let left = colour_of two_rate m o in
     record {
-      committed = through (without before o.size left).committed before.committed m.parameters.committed_burst (committed_falls before o.size left) (committed_fits m o.moment ok);
-      peak = through (without before o.size left).peak before.peak m.parameters.peak_burst (peak_falls before o.size left) (peak_fits m o.moment ok);
+      committed = through (without before o.size left).committed before.committed m.parameters.committed_burst (committed_falls before o.size left) (output_laws.fits_at two_rate (λ l. l.committed) (λ p. p.committed_burst) (λ p. p.committed_rate) committed_filled m o.moment ok.committed);
+      peak = through (without before o.size left).peak before.peak m.parameters.peak_burst (peak_falls before o.size left) (output_laws.fits_at two_rate (λ l. l.peak) (λ p. p.peak_burst) (λ p. p.peak_rate) peak_filled m o.moment ok.peak);
     }
 
 -- what leaves green keeps the committed rate, and a byte more than the committed burst
 pub green_keeps : (m : State TrTcmParameters Levels) → IsWithinSizes m → (offers : List Offer)
     → Keeps m.parameters.committed_rate (m.parameters.committed_burst + 1) (output is_green (departures (how two_rate) m offers))
 unfolding two_rate
-green_keeps m ok offers =
-    output_laws.Keeps-one_rate two_rate IsWithinSizes is_green (λ (l : Levels). l.committed) (λ (p : TrTcmParameters). p.committed_burst) (λ (p : TrTcmParameters). p.committed_rate)
-    committed_gains committed_fits green_pays IsWithinSizes-after m ok offers
+green_keeps =
+    output_laws.Keeps-bucket two_rate IsWithinSizes is_green (λ (l : Levels). l.committed) (λ (p : TrTcmParameters). p.committed_burst) (λ (p : TrTcmParameters). p.committed_rate)
+    committed_filled (λ m ok. ok.committed) green_pays IsWithinSizes-after
 
 -- what leaves green or yellow keeps the peak rate, and a byte more than the peak burst
 pub in_profile_keeps : (m : State TrTcmParameters Levels) → IsWithinSizes m → (offers : List Offer)
     → Keeps m.parameters.peak_rate (m.parameters.peak_burst + 1) (output is_in_profile (departures (how two_rate) m offers))
 unfolding two_rate
-in_profile_keeps m ok offers =
-    output_laws.Keeps-one_rate two_rate IsWithinSizes is_in_profile (λ (l : Levels). l.peak) (λ (p : TrTcmParameters). p.peak_burst) (λ (p : TrTcmParameters). p.peak_rate)
-    peak_gains peak_fits in_profile_pays IsWithinSizes-after m ok offers
+in_profile_keeps =
+    output_laws.Keeps-bucket two_rate IsWithinSizes is_in_profile (λ (l : Levels). l.peak) (λ (p : TrTcmParameters). p.peak_burst) (λ (p : TrTcmParameters). p.peak_rate)
+    peak_filled (λ m ok. ok.peak) in_profile_pays IsWithinSizes-after

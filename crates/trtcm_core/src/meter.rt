@@ -1,22 +1,20 @@
 ghost use Rattle.std.specs.Prelude.{◌≡◌, ◌<◌, ◌^◌, Option, None, Some, IfOk, IfErr, MatchResult};
-ghost use Rattle.moment_core.specs.Metering.{after, colour_of, opening};
+ghost use Rattle.moment_core.specs.Metering.{after, colour_of, filled, opening};
 ghost use Rattle.trtcm_core.specs.TwoRate.{coloured, fault_of, two_rate, without};
 
 use crate::parameters::{TrTcmFault, TrTcmParameters};
-use moment_core::{Bucket, Colour, Mode, Moment, PacketSize};
+use moment_core::{Bucket, Clock, Colour, Filling, Mode, Moment, PacketSize};
 use std::marker::Model;
 
 /// A two-rate three-colour meter at work (RFC 2698): a committed and a peak bucket, full at the meter's origin.
 #[derive(Clone, Copy, Debug, PartialEq, Eq, Hash)]
 pub struct TrTcm {
-    parameters: TrTcmParameters,
     mode: Mode,
-    origin: Moment,
-    newest: Moment,
-    committed_level: u32,
-    committed_begun: u64,
-    peak_level: u32,
-    peak_begun: u64,
+    clock: Clock,
+    /// CIR, CBS and Tc: the committed bucket and its rate (RFC 2698 section 3).
+    committed: Filling,
+    /// PIR, PBS and Tp: the peak bucket and its rate (RFC 2698 section 3).
+    peak: Filling,
 }
 
 impl Model for TrTcm {
@@ -52,14 +50,10 @@ impl TrTcm {
         match parameters.fault() {
             Some(fault) => Err(fault),
             None => Ok(TrTcm {
-                parameters,
                 mode,
-                origin,
-                newest: origin,
-                committed_level: parameters.committed_burst,
-                committed_begun: 0,
-                peak_level: parameters.peak_burst,
-                peak_begun: 0,
+                clock: Clock::new(origin),
+                committed: Filling::full(parameters.committed_rate, parameters.committed_burst),
+                peak: Filling::full(parameters.peak_rate, parameters.peak_burst),
             }),
         }
     }
@@ -69,7 +63,12 @@ impl TrTcm {
         ensures value { result ≡ self.now.parameters }
         ensures within { IsWithinSizes self.now }
     {
-        self.parameters
+        TrTcmParameters {
+            committed_rate: self.committed.rate,
+            committed_burst: self.committed.bucket.size(),
+            peak_rate: self.peak.rate,
+            peak_burst: self.peak.bucket.size(),
+        }
     }
 
     /// Whether it heeds the colour that a packet comes in with.
@@ -83,7 +82,7 @@ impl TrTcm {
     pub fn newest(&self) -> Moment
         ensures { result ≡ self.now.newest }
     {
-        self.newest
+        self.clock.newest
     }
 
     /// Meters a packet of a moment and a size that comes in with a colour, and answers the colour that it leaves
@@ -92,24 +91,23 @@ impl TrTcm {
         ensures colour { result ≡ colour_of two_rate self.old (record { moment = moment; size = size; came = colour }) }
         ensures after { self.new ≡ after two_rate self.old (record { moment = moment; size = size; came = colour }) }
     {
-        let used = self.newest.used_for(moment);
-        let gap = used.since(self.newest);
-        let parameters = self.parameters;
-        let mut committed = Bucket {
-            level: self.committed_level,
-            size: parameters.committed_burst,
-        };
-        committed.fill_over(parameters.committed_rate, gap, &mut self.committed_begun);
-        let mut peak = Bucket {
-            level: self.peak_level,
-            size: parameters.peak_burst,
-        };
-        peak.fill_over(parameters.peak_rate, gap, &mut self.peak_begun);
-        let left = take(&mut committed, &mut peak, size, self.mode.seen(colour));
-        self.newest = used;
-        self.committed_level = committed.level;
-        self.peak_level = peak.level;
-        left
+        self.fill_to(moment);
+        let seen = self.mode.seen(colour);
+        take(
+            &mut self.committed.bucket,
+            &mut self.peak.bucket,
+            size,
+            seen,
+        )
+    }
+
+    /// Gives each bucket the tokens of its own rate up to an arrival.
+    fn fill_to(&mut self, arrival: Moment)
+        ensures { self.new ≡ filled two_rate self.old arrival }
+    {
+        let gap = self.clock.move_on(arrival);
+        self.committed.fill_over(gap);
+        self.peak.fill_over(gap);
     }
 }
 

@@ -6,13 +6,13 @@ use thiserror::Error;
 /// The parameters of a two-rate three-colour meter (RFC 2698 section 2).
 #[derive(Clone, Copy, Debug, PartialEq, Eq, Hash)]
 pub struct TrTcmParameters {
-    /// The committed information rate, CIR, in bits per second.
+    /// CIR, the committed information rate, in bits per second (RFC 2698 section 2).
     pub committed_rate: Rate,
-    /// The committed burst size, CBS, in bytes.
+    /// CBS, the committed burst size, in bytes (RFC 2698 section 2).
     pub committed_burst: u32,
-    /// The peak information rate, PIR, in bits per second.
+    /// PIR, the peak information rate, in bits per second (RFC 2698 section 2).
     pub peak_rate: Rate,
-    /// The peak burst size, PBS, in bytes.
+    /// PBS, the peak burst size, in bytes (RFC 2698 section 2).
     pub peak_burst: u32,
 }
 

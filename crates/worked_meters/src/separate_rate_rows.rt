@@ -132,7 +132,7 @@ const LATE: &str = "
 4000000 1 g g
 ";
 
-/// The colours were worked out by hand from the algorithm of RFC 4115 section 2: a token a byte, at the first whole
+/// The colours were worked out by hand from the algorithm of RFC 4115: a token a byte, at the first whole
 /// nanosecond by which a rate has given it.
 #[test]
 fn colours_at_the_edges(rt: HostRuntime) -> Result<(), Fail> {

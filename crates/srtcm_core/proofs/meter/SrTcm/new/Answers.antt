@@ -5,13 +5,10 @@ use Rattle.srtcm_core.specs.SingleRate.{full, single_rate}
 use Rattle.srtcm_core.proofs.meter.SrTcm.new.Goals as goal
 
 pub invariant_of-result : goal.invariant_of-result
-invariant_of-result c = record {
-  begun = omega arith;
-  committed_within = omega arith;
-  excess_within = omega arith;
-  committed_begun = sym (begun_token-origin c.args.parameters.committed_rate c.args.origin);
-}
+invariant_of-result c =
+    let p = c.args.parameters in
+    rw (c.new.ensures, c.full.ensures) (record { begun = omega arith; committed = sym (begun_token-origin p.committed_rate c.args.origin) })
 
 pub returns-in-None : goal.returns-in-None
 unfolding opening single_rate full
-returns-in-None c = (sym c.in-None.ensures, refl)
+returns-in-None c = (sym c.in-None.ensures, rw (c.new.ensures, c.full.ensures, c.full-in-None.ensures.level, c.full-in-None.ensures.size) refl)
