@@ -1,22 +1,12 @@
-ghost use Rattle.std.specs.Prelude.{◌≡◌, ◌⊎◌, ◌^◌, ◌<◌, ◌≤◌, length, vec_len, Err, IfOk};
+ghost use Rattle.std.specs.Prelude.{◌≡◌, ◌⊎◌, ◌^◌, ◌<◌, ◌≤◌, length, Err, IfOk};
 ghost use Rattle.pcap_capture.specs.Counts.{next_count};
 
 use crate::fault::FileFault;
-use pcap_capture::Intake;
-use std::alloc::{AllocError, Global};
+use pcap_capture::{Intake, PIECE, room};
+use std::alloc::Global;
 
 /// The most bytes of a file: 16 MiB.
 pub const MOST_BYTES: usize = 1 << 24;
-
-/// The size of a piece of a file, in bytes.
-const PIECE: usize = 65536;
-
-/// So many bytes of room.
-fn room(alloc: Global, size: usize) -> Result<Vec<u8>, AllocError>
-    ensures { IfOk result (λ bytes. vec_len bytes ≡ size) }
-{
-    vec![in alloc; 0u8; size]
-}
 
 /// All bytes that an intake still gives, at most 16 MiB.
 ///

@@ -1,4 +1,4 @@
--- Lemmas on answers and on what a desk answers.
+-- Lemmas on answers, and on what is answered as a command goes on.
 pub mod AnswerLemmas
-pub mod DeskLemmas
 pub mod FirstLineLemmas
+pub mod UnderwayLemmas

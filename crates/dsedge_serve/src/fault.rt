@@ -7,9 +7,8 @@ use ds_certificate::CertificateFault;
 use ds_domain_base::{DomainFault, Kind};
 use dsedge_base::PortName;
 use dsedge_files::FileName;
-use dsedge_lines::give_all;
 use itoa::Buffer;
-use pcap_capture::{DeviceFault, Outlet, PcapFault};
+use pcap_capture::{DeviceFault, Outlet, PcapFault, give_all};
 
 /// Why the program did not do all that it was asked for.
 #[derive(Debug, Drop)]

@@ -1,7 +1,7 @@
 use Rattle.std.proofs.Common.{length-drop, ◌∙◌, append_assoc, arith, take, drop, ◌++◌, length, ◌≡◌, ◌≤◌}
 use Rattle.std.proofs.Math.Seq.{take-add}
 use Rattle.std.proofs.lemmas.List.{take_rest}
-use Rattle.dsedge_lines.proofs.hand_over.give_all.Goals as goal
+use Rattle.pcap_capture.proofs.pieces.give_all.Goals as goal
 
 pub loop-given-preserved : goal.loop-given-preserved
 loop-given-preserved g c =

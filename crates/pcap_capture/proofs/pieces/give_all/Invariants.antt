@@ -1,5 +1,5 @@
 use Rattle.std.proofs.Common.{◌≡◌, ◌-◌, ◌≤◌, ◌++◌, length, take}
-use Rattle.dsedge_lines.proofs.hand_over.give_all.Given as goal
+use Rattle.pcap_capture.proofs.pieces.give_all.Given as goal
 
 -- a front of the text is given
 abbrev pub invariant-loop-given : goal.invariant-loop-given

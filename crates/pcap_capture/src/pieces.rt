@@ -1,7 +1,18 @@
-ghost use Rattle.std.specs.Prelude.{◌≡◌, ℕ, ◌≤◌, [], ◌++◌, length, take, MatchResult, is_ok, if◌then◌else◌, OnOk};
+ghost use Rattle.std.specs.Prelude.{◌≡◌, ℕ, ◌≤◌, [], ◌++◌, length, take, vec_len, MatchResult, is_ok, if◌then◌else◌, IfOk, OnOk};
 ghost use Rattle.pcap_capture.specs.Counts.{next_count};
 
-use pcap_capture::{DeviceFault, Outlet};
+use crate::device::{DeviceFault, Outlet};
+use std::alloc::{AllocError, Global};
+
+/// The size of a piece that a device is asked for at once, in bytes.
+pub const PIECE: usize = 65536;
+
+/// Room for so many bytes, each of them 0 at first. `AllocError` where memory runs out.
+pub fn room(alloc: Global, size: usize) -> Result<Vec<u8>, AllocError>
+    ensures { IfOk result (λ bytes. vec_len bytes ≡ size) }
+{
+    vec![in alloc; 0u8; size]
+}
 
 /// Gives an outlet a whole text.
 ///

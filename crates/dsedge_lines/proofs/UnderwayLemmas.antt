@@ -1,4 +1,4 @@
--- What a desk answers, as its carry and its lines go on.
+-- What is answered as the carry and the lines go on.
 use Rattle.std.proofs.Common.{◌≡◌, ◌≢◌, ℕ, false, List, [], ◌∷◌, ◌++◌, length, refl, sym, ap, ◌∙◌, arith, append_assoc, append-nil}
 use Rattle.line_text.specs.Lines.{lines_of, has_byte}
 use Rattle.line_text.proofs.LineLemmas.{has_byte-append, lines_of-cut, lines_of-uncut, lines_of-nil}
