@@ -3,4 +3,5 @@ pub mod Answers
 pub mod Codes
 pub mod Faults
 pub mod FirstLine
+pub mod Quantities
 pub mod Underway
