@@ -1,7 +1,6 @@
 -- What was read of a capture, as far as it was read.
-use Rattle.std.proofs.Common.{◌≡◌, ℕ, zero, suc, ◌+◌, ◌-◌, ◌<◌, ◌≤◌, Bool, true, false, cond, List, [], ◌++◌, length, drop, Option, None, Some, Result, Ok, Err, add-one, append_assoc, append-nil, length-append, refl, subst, sym, ◌∙◌, ap, inl, inr, arith}
+use Rattle.std.proofs.Common.{◌≡◌, ℕ, zero, suc, ◌-◌, ◌<◌, ◌≤◌, Bool, true, false, cond, List, [], ◌++◌, length, drop, Option, None, Some, Result, Ok, Err, append_assoc, append-nil, length-append, refl, subst, sym, ◌∙◌, ap, inl, inr, arith}
 use Rattle.std.proofs.Math.ListN.{drop_of_length-le}
-use Rattle.pcap_capture.specs.Counts.{count_after, next_count}
 use Rattle.pcap_capture.specs.Frames.{FrameValue}
 use Rattle.pcap_capture.specs.Grammar.{CaptureState, IsSoFar, Next, Partial, TooLong, Whole, Reading, Stops, after_heading, after_magic, capture, continued_from, ending, fault_after, fault_in, from_next, has_version, heading_of, link_number, link_of, linked, magic_of, next_of, prepend, read_on, reading, records, records_within, versioned}
 use Rattle.pcap_capture.specs.declared.fault.PcapFault.{PcapFault}
@@ -285,13 +284,3 @@ cut bytes progress fault at found = record {
         inl refl,
       ));
 }
-
--- no call more
-pub asked_none : (count : ℕ) → count_after 0 count ≡ count
-unfolding count_after
-asked_none count = refl
-
--- one call more
-pub asked_more : (calls count : ℕ) → count_after (calls + 1) count ≡ next_count (count_after calls count)
-unfolding count_after
-asked_more calls count = rw add-one refl

@@ -2,14 +2,11 @@ ghost use Rattle.std.specs.Prelude.{◌≡◌, ℕ, ◌≤◌, ◌<◌, ◌⊎�
 ghost use Rattle.pcap_capture.specs.Counts.{count_after, next_count};
 ghost use Rattle.ds_conductor.specs.Readings.{IsEnded, IsReadOn, IsReading, IsUnderway, heading_at, is_own, is_read_fault};
 
-use pcap_capture::{Capture, Frame, Heading, Intake, PcapFault, Stage};
-use std::alloc::{AllocError, Global};
+use pcap_capture::{Capture, Frame, Heading, Intake, PIECE, PcapFault, Stage, room};
+use std::alloc::Global;
 
 /// The size of a heading, in bytes.
 const HEADING: usize = 24;
-
-/// The most bytes that are taken of a device by a call, once the heading is there.
-const PIECE: usize = 65536;
 
 /// What was read of a capture.
 #[derive(Debug, Drop)]
@@ -34,13 +31,6 @@ struct Progress {
     frames: Vec<Frame>,
 }
 
-/// So many bytes of room.
-fn room(alloc: Global, size: usize) -> Result<Vec<u8>, AllocError>
-    ensures { IfOk result (λ bytes. vec_len bytes ≡ size) }
-{
-    vec![in alloc; 0u8; size]
-}
-
 /// The heading of a capture that was read so far, once it is there.
 fn heading_by(stage: Stage) -> Option<Heading>
     ensures { result ≡ heading_at stage }
@@ -58,27 +48,6 @@ fn wanted(missing: usize) -> usize
     ensures heading { 0 < missing → result ≤ missing }
 {
     if missing > 0 { missing } else { PIECE }
-}
-
-/// Takes the next bytes of a device, and answers how many they are: 0 only at the end.
-fn take_piece<I: Intake>(intake: &mut I, buffer: &mut [u8]) -> Result<usize, PcapFault>
-    requires { 0 < length buffer.old }
-    ensures room { length buffer.new ≡ length buffer.old }
-    ensures within { IfOk result (λ taken. taken ≤ length buffer.new) }
-    ensures told { I.tells intake.old → I.tells intake.new }
-    ensures bytes { I.tells intake.old → MatchResult result
-        (λ taken. I.left intake.old ≡ take taken buffer.new ++ I.left intake.new)
-        (λ _. I.left intake.new ≡ I.left intake.old) }
-    ensures end { I.tells intake.old → IfOk result (λ taken. taken ≡ 0 → I.left intake.new ≡ []) }
-    ensures fault { IfErr result (λ fault. fault ≡ PcapFault.ReadFault) }
-    ensures failures { I.failed intake.new
-        ≡ (if is_read_fault result then next_count (I.failed intake.old) else I.failed intake.old) }
-    ensures asked { I.turns intake.new ≡ next_count (I.turns intake.old) }
-{
-    match intake.take(buffer) {
-        Ok(taken) => Ok(taken),
-        Err(_) => Err(PcapFault::ReadFault),
-    }
 }
 
 /// Reads a piece, which has no byte behind the heading as long as that is to come.
@@ -137,7 +106,9 @@ fn read_piece<I: Intake>(
     ensures asked { I.turns intake.new ≡ next_count (I.turns intake.old) }
     ensures no_write { ¬ (result ≡ Err PcapFault.WriteFault) }
 {
-    let taken = take_piece(intake, buffer)?;
+    let Ok(taken) = intake.take(buffer) else {
+        return Err(PcapFault::ReadFault);
+    };
     if taken == 0 {
         return match finish(progress) {
             Ok(()) => Ok(false),

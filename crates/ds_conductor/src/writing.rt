@@ -9,18 +9,17 @@ use crate::rule::RedRule;
 use af_marker::dscp;
 use ds_checker::Accepted;
 use ds_visits::Sent;
-use dsedge_lines::give_all;
 use frame_marker::mark_frame;
 use meter_fabric::contract_of;
 use moment_core::Colour;
-use pcap_capture::{Frame, Heading, Link, Outlet, PcapFault};
+use pcap_capture::{Frame, Heading, Link, Outlet, PcapFault, hand_over};
 use std::alloc::{AllocError, Global};
 
 /// From so many bytes on, what is collected is handed over.
 const FULL: usize = 65536;
 
 /// Hands over what is collected, and empties the collection. A fault leaves a front of it written.
-fn hand_over<O: Outlet>(outlet: &mut O, out: &mut Vec<u8>) -> Result<(), MarkFault>
+fn write_out<O: Outlet>(outlet: &mut O, out: &mut Vec<u8>) -> Result<(), MarkFault>
     ensures told { O.tells outlet.old → O.tells outlet.new }
     ensures bytes { O.tells outlet.old → MatchResult result
         (λ _. O.held outlet.new ≡ O.held outlet.old ++ out.old.items)
@@ -29,15 +28,14 @@ fn hand_over<O: Outlet>(outlet: &mut O, out: &mut Vec<u8>) -> Result<(), MarkFau
     ensures fault { IfErr result (λ fault. fault ≡ MarkFault.Capture PcapFault.WriteFault) }
     ensures failures { O.failed outlet.new ≡ (if is_ok result then O.failed outlet.old else next_count (O.failed outlet.old)) }
 {
-    let Ok(()) = give_all(outlet, out.as_slice()) else {
-        return Err(MarkFault::Capture(PcapFault::WriteFault));
-    };
-    out.clear();
-    Ok(())
+    match hand_over(outlet, out) {
+        Ok(()) => Ok(()),
+        Err(_) => Err(MarkFault::Capture(PcapFault::WriteFault)),
+    }
 }
 
 /// Hands over what is collected where there is much of it. A fault leaves a front of it written.
-fn hand_over_full<O: Outlet>(outlet: &mut O, out: &mut Vec<u8>) -> Result<(), MarkFault>
+fn write_out_full<O: Outlet>(outlet: &mut O, out: &mut Vec<u8>) -> Result<(), MarkFault>
     ensures told { O.tells outlet.old → O.tells outlet.new }
     ensures bytes { O.tells outlet.old → MatchResult result
         (λ _. IsWrittenTo out.new.items (O.held outlet.old) out.old.items (O.held outlet.new))
@@ -48,7 +46,7 @@ fn hand_over_full<O: Outlet>(outlet: &mut O, out: &mut Vec<u8>) -> Result<(), Ma
     if out.len() < FULL {
         return Ok(());
     }
-    hand_over(outlet, out)
+    write_out(outlet, out)
 }
 
 /// The packet at a place among those that are sent, with its colour, if it was sent from the frame of this number.
@@ -138,7 +136,7 @@ fn write_frame<O: Outlet>(
     let Ok(()) = add_record(out, accepted, red, link, frame, packet) else {
         return Err(MarkFault::NoMemory);
     };
-    hand_over_full(outlet, out)
+    write_out_full(outlet, out)
 }
 
 /// Writes a marked capture: its heading, and then the records of its frames, in their order. The packets that were sent from frames stand in the
@@ -174,5 +172,5 @@ pub(crate) fn write_capture<O: Outlet>(
         place += usize::from(packet.is_some());
         write_frame(outlet, &mut out, accepted, red, heading.link, frame, packet)?;
     }
-    hand_over(outlet, &mut out)
+    write_out(outlet, &mut out)
 }

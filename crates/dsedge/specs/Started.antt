@@ -8,7 +8,7 @@ use Rattle.dsedge_base.specs.Files.{files_of}
 use Rattle.dsedge_base.specs.Plans.{IsPlanOf, IsRefusalOf}
 use Rattle.dsedge_base.specs.declared.fault.UsageFault.TheVariants as usage_faults
 use Rattle.dsedge_base.specs.declared.work.Plan.{Plan}
-use Rattle.dsedge_files.specs.Readable.{texts_of}
+use Rattle.dsedge_texts.specs.Readable.{texts_of}
 use Rattle.dsedge_lines.specs.FirstLine.{after_first_line, first_line_of}
 use Rattle.dsedge_serve.specs.declared.fault.Fault.{Fault}
 use Rattle.dsedge_serve.specs.declared.fault.Fault.TheVariants.{Usage, Line, Domain, Certificate, Capture, Port, File, Read, Write, Memory, Full}

@@ -8,7 +8,7 @@ mod start;
 mod tests;
 
 use crate::start::{refuse, start};
-use dsedge_files::SystemFolder;
+use dsedge_texts::SystemFolder;
 use dsedge_lines::Words;
 use dsedge_serve::Fault;
 use pcap_capture::{ReadIntake, WriteOutlet};

@@ -6,10 +6,10 @@ ghost use Rattle.dsedge_serve.specs.Served.{IsOfWrites, IsTold};
 ghost use Rattle.dsedge.specs.Started.{AreKnown, Course, HasWords, IsCourseFrom, IsFromInput, IsRefused, IsWordless, IsWritten};
 ghost use Rattle.dsedge.specs.Started.{IsCourseOf, IsUnreadable, failures_with, input_from, is_unwritten, most_asked, status_in, told_in, words_from};
 ghost use Rattle.dsedge_base.specs.Files.{files_of};
-ghost use Rattle.dsedge_files.specs.Readable.{texts_of};
+ghost use Rattle.dsedge_texts.specs.Readable.{texts_of};
 
 use dsedge_base::{Plan, UsageFault, plan};
-use dsedge_files::{Folder, TextFault, read_texts};
+use dsedge_texts::{Folder, TextFault, read_texts};
 use dsedge_lines::{FirstLineFault, Words, first_line};
 use dsedge_serve::{Fault, serve};
 use pcap_capture::{Intake, Outlet};

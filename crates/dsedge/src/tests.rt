@@ -1,5 +1,5 @@
 use crate::start::start;
-use dsedge_files::MemoryFolder;
+use dsedge_texts::MemoryFolder;
 use pcap_capture::{SliceIntake, VecOutlet};
 use std::alloc::{AllocError, Global};
 use std::process::Abort;

@@ -1,19 +1,19 @@
 -- Steps, read field by field from the front of a line.
-use Rattle.std.proofs.Common.{◌≡◌, ◌≢◌, ℕ, ◌-◌, ◌^◌, ◌≤◌, zero, suc, Bool, true, false, ◌&&◌, ◌||◌, cond, eqb, codes, List, [], ◌∷◌, length, nat_le, Option, None, Some, refl, sym, ap, ◌∙◌, arith, inl, inr}
+use Rattle.std.proofs.Common.{◌≡◌, ◌≢◌, ℕ, ◌-◌, ◌^◌, ◌≤◌, zero, suc, Bool, true, false, ◌&&◌, ◌||◌, cond, eqb, codes, List, [], ◌∷◌, length, Option, None, Some, refl, sym, ap, ◌∙◌, arith, inl, inr}
 use Rattle.std.specs.List.{list_all, onto_first}
 use Rattle.std.specs.Char.{is_ascii_digit}
-use Rattle.std.specs.Option.{option_and_then, option_map, unwrap_or}
+use Rattle.std.specs.Option.{option_and_then, option_map}
 use Rattle.std.specs.Str.{bytes_eq}
-use Rattle.std.proofs.lemmas.Bool.{cases_eq, eq-eqb, ne_eqb, and_parts, leb-true}
-use Rattle.std.proofs.lemmas.Option.{cond_some, none-some}
+use Rattle.std.proofs.lemmas.Bool.{cases_eq, eq-eqb, ne_eqb}
 use Rattle.line_text.specs.Lines.{fields_of, has_byte}
-use Rattle.line_text.specs.Numbers.{is_number, leading_number_of, number_of, value_of}
+use Rattle.line_text.specs.Numbers.{leading_number_of, number_of}
 use Rattle.line_text.proofs.LineLemmas.{fields_of-some, fields_of-uncut}
 use Rattle.line_text.proofs.NumberLemmas.{number_of-other}
 use Rattle.ds_domain_base.specs.declared.contract.Contract.{Contract}
 use Rattle.ds_conductor_base.specs.declared.step.Step.{Step}
 use Rattle.ds_conductor_base.specs.declared.step.Step.TheVariants.{Send, Visit}
-use Rattle.dsedge_audit.specs.StepLines.{flow_named, size_in, step_of_fields}
+use Rattle.dsedge_lines.specs.Quantities.{leading_size_of, size_in}
+use Rattle.dsedge_audit.specs.StepLines.{flow_named, step_of_fields}
 
 -- what a field says that stands alone
 abbrev pub alone : {A : Type 0} → (List ℕ → Option A) → List (List ℕ) → Option A
@@ -70,32 +70,6 @@ number_alone most line = by (has_byte 32 line) refl
     by : (b : Bool) → has_byte 32 line ≡ b → number_of most line ≡ alone (number_of most) (fields_of line)
     by true e = number_of-other most line (spaced line e) ∙ sym (alone_many (number_of most) (fields_of line) (many_fields line e))
     by false e = rw (fields_of-uncut line e) refl
-
--- a number that is read is at most the most
-pub number_at_most : (most n : ℕ) (text : List ℕ) → number_of most text ≡ Some n → n ≤ most
-unfolding number_of
-number_at_most most n text e =
-    let read = cond_some _ (value_of text) n e in
-    let within = and_parts (is_number text) (nat_le (value_of text) most) read.0 in
-    let bound : value_of text ≤ most = leb-true (value_of text) most within.1 in
-    rw (← read.1) bound
-
-at_most_of : (most n : ℕ) (others more : List (List ℕ)) (o : Option ℕ) → ((m : ℕ) → o ≡ Some m → m ≤ most) → option_map {U = ℕ × List (List ℕ)} (λ m. (m, more)) o ≡ Some (n, others) → n ≤ most
-at_most_of most n others more None bound e = absurd (none-some (n, others) e)
-at_most_of most n others more (Some m) bound e =
-    let same : m ≡ n = ap (λ o. unwrap_or (option_map (λ (p : ℕ × List (List ℕ)). p.0) o) 0) e in
-    rw (← same) (bound m refl)
-
--- and so is one that is read at the front
-pub leading_at_most : (most n : ℕ) (others fields : List (List ℕ)) → leading_number_of most fields ≡ Some (n, others) → n ≤ most
-leading_at_most most n others [] e = absurd (none-some (n, others) e)
-leading_at_most most n others (field ∷ []) e = absurd (none-some (n, others) e)
-leading_at_most most n others (field ∷ next ∷ more) e =
-    at_most_of most n others (next ∷ more) (number_of most field) (λ m is. number_at_most most m field is) e
-
--- the size that the first of some fields says, and the other fields, where there are others
-abbrev pub leading_size_of : List (List ℕ) → Option (ℕ × List (List ℕ))
-leading_size_of fields = option_and_then (λ (parts : ℕ × List (List ℕ)). cond (eqb parts.0 0) None (Some parts)) (leading_number_of 65535 fields)
 
 size_led : (field : List ℕ) (rest : List (List ℕ)) (o : Option ℕ)
     → option_and_then (λ (parts : ℕ × List (List ℕ)). cond {A = Option (ℕ × List (List ℕ))} (eqb parts.0 0) None (Some parts)) (option_map (λ n. (n, rest)) o)

@@ -1,5 +1,5 @@
 -- What `audit` answers to lines of steps.
-use Rattle.std.specs.Prelude.{ℕ, ◌+◌, ◌-◌, nat_lt, List, [], ◌∷◌, ◌++◌, codes, decimal, flat_map, length, option_map, slice_get, slice_index, unwrap_or, Result, Ok, Err, if◌then◌else◌}
+use Rattle.std.specs.Prelude.{ℕ, ◌+◌, ◌-◌, nat_lt, List, [], ◌∷◌, ◌++◌, codes, flat_map, length, option_map, slice_get, slice_index, unwrap_or, Result, Ok, Err, if◌then◌else◌}
 use Rattle.meter_book.specs.Replay.{Journal, accounts_of, journal_rows}
 use Rattle.meter_book.specs.declared.accounts.Accounts.{Accounts}
 use Rattle.ds_checker.specs.Acceptance.{Table}
@@ -7,7 +7,7 @@ use Rattle.meter_fabric.specs.Grounds.{ground_of}
 use Rattle.dsedge_lines.specs.Answers.{Answer}
 use Rattle.dsedge_lines.specs.declared.command.Ending.{Ending}
 use Rattle.dsedge_lines.specs.declared.command.Ending.TheVariants.{Whole, Refused, BadLine, Full}
-use Rattle.dsedge_texts.specs.Refused.{column_text, name_of}
+use Rattle.dsedge_texts.specs.Wording.{column_text, figure, name_of}
 use Rattle.run_audit_base.specs.Runs.{Run}
 use Rattle.run_audit.specs.Verdicts.{verdict_of}
 use Rattle.run_audit.specs.declared.verdict.Verdict.{Verdict}
@@ -25,10 +25,6 @@ site_name t site =
     unwrap_or (option_map (λ entry. entry.0) (slice_get t.domain.meters site)) []
     else
     codes "edge:" ++ name_of t.contracts (site - length t.domain.meters)
-
--- a figure behind a space
-abbrev pub figure : ℕ → List ℕ
-figure number = codes " " ++ decimal number
 
 -- the line of a verdict
 abbrev pub verdict_line : Table → Verdict → List ℕ

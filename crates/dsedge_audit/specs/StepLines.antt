@@ -1,8 +1,9 @@
 -- The lines that say a step: `send CONTRACT PACKET SIZE DSCP MOMENT` and `visit PACKET MOMENT`.
-use Rattle.std.specs.Prelude.{ℕ, ◌==◌, ◌-◌, ◌^◌, nat_lt, List, [], ◌∷◌, codes, position, option_and_then, Option, None, Some, if◌then◌else◌}
+use Rattle.std.specs.Prelude.{ℕ, ◌-◌, ◌^◌, nat_lt, List, [], ◌∷◌, codes, position, option_and_then, Option, None, Some, if◌then◌else◌}
 use Rattle.std.specs.Str.{bytes_eq}
 use Rattle.line_text.specs.Lines.{fields_of}
 use Rattle.line_text.specs.Numbers.{number_of}
+use Rattle.dsedge_lines.specs.Quantities.{size_in}
 use Rattle.ds_domain_base.specs.declared.contract.Contract.{Contract}
 use Rattle.meter_fabric.specs.Grounds.{most_flows}
 use Rattle.ds_conductor_base.specs.declared.step.Step.{Step}
@@ -13,10 +14,6 @@ abbrev pub flow_named : List Contract → List ℕ → Option ℕ
 flow_named contracts name = option_and_then
     (λ flow. if nat_lt flow most_flows then Some flow else None)
     (position (λ c. bytes_eq name c.name) contracts)
-
--- a size is a number from 1 to 65,535
-abbrev pub size_in : List ℕ → Option ℕ
-size_in field = option_and_then (λ size. if size == 0 then None else Some size) (number_of 65535 field)
 
 -- packets are numbered from 0 to 2^64 - 1, code points from 0 to 63, moments are 0 to 2^63 - 1 nanoseconds
 abbrev pub send_of : List Contract → List ℕ → List ℕ → List ℕ → List ℕ → List ℕ → Option Step

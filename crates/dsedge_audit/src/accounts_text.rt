@@ -1,8 +1,9 @@
 ghost use Rattle.std.specs.Prelude.{◌≡◌, ◌++◌, OnOk, flat_map};
 ghost use Rattle.dsedge_audit.specs.Audited.{accounts_line, share_text};
 
-use crate::names::{push_figure, push_site};
+use crate::names::push_site;
 use ds_checker::Accepted;
+use dsedge_texts::push_figure;
 use meter_book::{Accounts, Journal};
 use std::alloc::AllocError;
 

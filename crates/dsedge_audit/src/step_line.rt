@@ -1,20 +1,14 @@
-ghost use Rattle.std.specs.Prelude.{◌≡◌, ◌∷◌, ◌-◌, ◌<◌, ◌^◌, ◌==◌, codes, List, ℕ, None, Some, option_and_then, option_map, if◌then◌else◌};
+ghost use Rattle.std.specs.Prelude.{◌≡◌, ◌∷◌, ◌<◌, codes, List, ℕ, Some, option_map};
 ghost use Rattle.line_text.specs.Lines.{fields_of};
-ghost use Rattle.line_text.specs.Numbers.{leading_number_of, number_of};
+ghost use Rattle.line_text.specs.Numbers.{leading_number_of};
 ghost use Rattle.ds_domain_base.specs.declared.contract.Contract.{Contract};
 ghost use Rattle.dsedge_audit.specs.StepLines.{flow_named, step_in, step_of_fields};
 
 use crate::flows::Flows;
 use af_marker::Dscp;
 use ds_conductor_base::Step;
-use line_text::{leading_number, number, split_field};
-use moment_core::{Moment, PacketSize};
-
-/// The greatest moment, in nanoseconds.
-const LAST_MOMENT: u64 = (1 << 63) - 1;
-
-/// The greatest size of a packet, in bytes.
-const LARGEST_SIZE: u64 = 65_535;
+use dsedge_lines::{leading_size, moment};
+use line_text::{leading_number, split_field};
 
 /// The greatest code point.
 const LAST_CODE_POINT: u64 = 63;
@@ -76,24 +70,6 @@ fn visit(fields: &[u8]) -> Option<Step>
     Some(Step::Visit { packet, moment })
 }
 
-/// The size of so many bytes, where there are any.
-fn size_of(bytes: u64) -> Option<PacketSize>
-    requires { bytes < 2 ^ 16 }
-    ensures { result ≡ (if bytes == 0 then None else Some bytes) }
-{
-    PacketSize::new(bytes).ok()
-}
-
-/// The size, 1 to 65,535 bytes, that the first field says, and what stands behind that field's space.
-#[tactic(auto, using(crate::proofs::StepLaws::leading_at_most))]
-fn leading_size(fields: &[u8]) -> Option<(PacketSize, &[u8])>
-    ensures { option_map (λ parts. (parts.0, fields_of parts.1.now)) result
-        ≡ option_and_then (λ parts. if parts.0 == 0 then None else Some parts) (leading_number_of 65535 (fields_of fields.now)) }
-{
-    let (bytes, rest) = leading_number(fields, LARGEST_SIZE)?;
-    Some((size_of(bytes)?, rest))
-}
-
 /// The code point of this value.
 fn code_point(value: u64) -> Dscp
     requires { value < 64 }
@@ -103,29 +79,10 @@ fn code_point(value: u64) -> Dscp
 }
 
 /// The code point, 0 to 63, that the first field says, and what stands behind that field's space.
-#[tactic(auto, using(crate::proofs::StepLaws::leading_at_most))]
+#[tactic(auto, using(dsedge_lines::proofs::QuantityLemmas::leading_at_most))]
 fn leading_code_point(fields: &[u8]) -> Option<(Dscp, &[u8])>
     ensures { option_map (λ parts. (parts.0, fields_of parts.1.now)) result ≡ leading_number_of 63 (fields_of fields.now) }
 {
     let (value, rest) = leading_number(fields, LAST_CODE_POINT)?;
     Some((code_point(value), rest))
-}
-
-/// The moment at so many nanoseconds.
-fn moment_at(nanoseconds: u64) -> Moment
-    requires { nanoseconds < 2 ^ 63 }
-    ensures { result ≡ nanoseconds }
-{
-    Moment::new(nanoseconds).unwrap()
-}
-
-/// The moment that a field says: 0 to 2^63 - 1 nanoseconds.
-#[tactic(auto, using(crate::proofs::StepLaws::number_at_most))]
-fn moment(field: &[u8]) -> Option<Moment>
-    ensures { result ≡ number_of (2 ^ 63 - 1) field.now }
-{
-    match number(field, LAST_MOMENT) {
-        Some(nanoseconds) => Some(moment_at(nanoseconds)),
-        None => None,
-    }
 }

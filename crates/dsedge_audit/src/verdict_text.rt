@@ -1,10 +1,11 @@
 ghost use Rattle.std.specs.Prelude.{◌≡◌, ◌++◌, OnOk, codes};
-ghost use Rattle.dsedge_texts.specs.Refused.{column_text, name_of};
-ghost use Rattle.dsedge_audit.specs.Audited.{figure, site_name, verdict_line};
+ghost use Rattle.dsedge_texts.specs.Wording.{column_text, figure, name_of};
+ghost use Rattle.dsedge_audit.specs.Audited.{site_name, verdict_line};
 
-use crate::names::{push_figure, push_name, push_site};
+use crate::names::push_site;
 use ds_checker::{Accepted, Column};
 use ds_domain_base::Contract;
+use dsedge_texts::{column_text, push_figure, push_name};
 use run_audit::Verdict;
 use std::alloc::AllocError;
 
@@ -57,16 +58,6 @@ fn push_source(
     push_figure(text, packet)?;
     text.push(b'\n')?;
     Ok(())
-}
-
-/// How a column is written.
-fn column_text(column: Column) -> &'static [u8]
-    ensures { result.now ≡ column_text column }
-{
-    match column {
-        Column::Green => "green".as_bytes(),
-        Column::All => "all".as_bytes(),
-    }
 }
 
 /// Appends that a packet came over the link to a hop out of its time.

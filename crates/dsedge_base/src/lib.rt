@@ -4,11 +4,9 @@
 mod command_line;
 mod fault;
 mod options;
-mod port;
 mod words;
 mod work;
 
 pub use fault::UsageFault;
-pub use port::PortName;
 pub use words::plan;
 pub use work::Plan;

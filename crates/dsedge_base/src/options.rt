@@ -4,9 +4,8 @@ ghost use Rattle.dsedge_base.specs.Options.{burst_given, burst_said, envelope_bu
 ghost use Rattle.dsedge_base.specs.Options.{origin_said, parameters_given, rate_given, rate_said, red_said, separate_rates_given, single_rate_given, table_given, two_rate_given, workers_said};
 ghost use Rattle.dsedge_base.specs.Plans.{given_by};
 
-use crate::port::PortName;
 use clap::ArgMatches;
-use dsedge_files::FileName;
+use dsedge_lines::GivenName;
 use line_text::number;
 use meter_book::{AnyMeter, Parameters};
 use moment_core::{Mode, Moment, Rate};
@@ -38,32 +37,32 @@ pub(crate) fn envelope_in(options: &ArgMatches<'_>) -> Option<(Rate, u64)>
     Some((rate, burst))
 }
 
-/// The name of a file that a word of a command gives.
-pub(crate) fn file_in<'a>(options: &ArgMatches<'a>, name: &str) -> Option<FileName<'a>>
+/// The name of a file or of a port that a word of a command gives.
+pub(crate) fn name_in<'a>(options: &ArgMatches<'a>, name: &str) -> Option<GivenName<'a>>
     ensures { result ≡ given_by (rows_of (found_of options.now)) name.now }
 {
-    Some(FileName::new(text_in(options, name)?))
+    Some(GivenName::new(text_in(options, name)?))
 }
 
 /// The files of a domain and of a certificate that the words of a command give.
 #[tactic(auto, unfolding(crate::specs::Options::table_given))]
-pub(crate) fn table_in<'a>(options: &ArgMatches<'a>) -> Option<(FileName<'a>, FileName<'a>)>
+pub(crate) fn table_in<'a>(options: &ArgMatches<'a>) -> Option<(GivenName<'a>, GivenName<'a>)>
     ensures { result ≡ table_given (given_by (rows_of (found_of options.now))) }
 {
-    let domain = file_in(options, "domain")?;
-    let certificate = file_in(options, "certificate")?;
+    let domain = name_in(options, "domain")?;
+    let certificate = name_in(options, "certificate")?;
     Some((domain, certificate))
 }
 
 /// The port, and whether red frames are kept, that the options of `mark` ask for, if they ask for one worker.
 #[tactic(auto, unfolding(crate::specs::Options::marking_given))]
-pub(crate) fn marking_in<'a>(options: &ArgMatches<'a>) -> Option<(PortName<'a>, bool)>
+pub(crate) fn marking_in<'a>(options: &ArgMatches<'a>) -> Option<(GivenName<'a>, bool)>
     ensures { result ≡ marking_given (given_by (rows_of (found_of options.now))) }
 {
-    let port = text_in(options, "port")?;
+    let port = name_in(options, "port")?;
     workers_said_by(text_in(options, "workers")?)?;
     let keeps_red = red_said_by(text_in(options, "red")?)?;
-    Some((PortName::new(port), keeps_red))
+    Some((port, keeps_red))
 }
 
 /// The meter of parameters that are those of one.

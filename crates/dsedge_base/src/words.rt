@@ -4,7 +4,7 @@ ghost use Rattle.dsedge_base.specs.Plans.{IsHelp, IsPlanOf, IsRefusalOf, given_b
 
 use crate::command_line::command_line;
 use crate::fault::UsageFault;
-use crate::options::{envelope_in, file_in, marking_in, meter_in, table_in};
+use crate::options::{envelope_in, marking_in, meter_in, name_in, table_in};
 use crate::work::Plan;
 use clap::error::ErrorKind;
 use clap::{ArgMatches, Error};
@@ -45,7 +45,7 @@ fn asked_of<'a>(name: &str, options: &ArgMatches<'a>) -> Option<Plan<'a>>
             Some(Plan::Envelope { rate, burst })
         }
         "certify" => {
-            let domain = file_in(options, "domain")?;
+            let domain = name_in(options, "domain")?;
             Some(Plan::Certify { domain })
         }
         "check" => {

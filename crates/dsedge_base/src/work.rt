@@ -1,8 +1,7 @@
 ghost use Rattle.std.specs.Prelude.{◌≡◌, IfOk};
 ghost use Rattle.dsedge_base.specs.Files.{files_of};
 
-use crate::port::PortName;
-use dsedge_files::FileName;
+use dsedge_lines::GivenName;
 use meter_book::AnyMeter;
 use moment_core::Rate;
 use std::alloc::{AllocError, Global};
@@ -24,30 +23,30 @@ pub enum Plan<'a> {
     /// Give the least certificate of a domain and its contracts.
     Certify {
         /// The file of the domain.
-        domain: FileName<'a>,
+        domain: GivenName<'a>,
     },
     /// Check a certificate of a domain and its contracts.
     Check {
         /// The file of the domain.
-        domain: FileName<'a>,
+        domain: GivenName<'a>,
         /// The file of the certificate.
-        certificate: FileName<'a>,
+        certificate: GivenName<'a>,
     },
     /// Judge the run of standard input over a domain with a certificate of its contracts.
     Audit {
         /// The file of the domain.
-        domain: FileName<'a>,
+        domain: GivenName<'a>,
         /// The file of the certificate.
-        certificate: FileName<'a>,
+        certificate: GivenName<'a>,
     },
     /// Mark the capture of standard input at a port of a domain with a certificate of its contracts.
     Mark {
         /// The file of the domain.
-        domain: FileName<'a>,
+        domain: GivenName<'a>,
         /// The file of the certificate.
-        certificate: FileName<'a>,
+        certificate: GivenName<'a>,
         /// The port that the frames come in at.
-        port: PortName<'a>,
+        port: GivenName<'a>,
         /// Whether red frames stay in the capture, or are left out.
         keeps_red: bool,
     },
@@ -55,13 +54,13 @@ pub enum Plan<'a> {
 
 impl<'a> Plan<'a> {
     /// The names of the files that are to be read, in the order of the words.
-    pub fn files(&self, alloc: Global) -> Result<Vec<FileName<'a>>, AllocError>
+    pub fn files(&self, alloc: Global) -> Result<Vec<GivenName<'a>>, AllocError>
         ensures { IfOk result (λ names. names.items ≡ files_of self.now) }
     {
         let mut names = Vec::new(alloc);
         match self {
             Plan::Help(_) | Plan::Meter(_) | Plan::Envelope { .. } => {}
-            Plan::Certify { domain } => names.push(FileName::new(domain.text()))?,
+            Plan::Certify { domain } => names.push(GivenName::new(domain.text()))?,
             Plan::Check {
                 domain,
                 certificate,
@@ -75,8 +74,8 @@ impl<'a> Plan<'a> {
                 certificate,
                 ..
             } => {
-                names.push(FileName::new(domain.text()))?;
-                names.push(FileName::new(certificate.text()))?;
+                names.push(GivenName::new(domain.text()))?;
+                names.push(GivenName::new(certificate.text()))?;
             }
         }
         Ok(names)

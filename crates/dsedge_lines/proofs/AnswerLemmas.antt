@@ -1,19 +1,9 @@
 -- An answer that is written a part at a time.
-use Rattle.std.proofs.Common.{◌≡◌, ℕ, ◌+◌, List, [], ◌++◌, take, drop, Bool, true, false, cond, ◌<◌, ◌≤◌, arith, Result, Ok, Err, MatchResult, OnErr, refl, sym, ap, ◌∙◌, append_assoc, append-nil, add-one, take-append-drop}
-use Rattle.pcap_capture.specs.Counts.{next_count, count_after}
+use Rattle.std.proofs.Common.{◌≡◌, ℕ, ◌+◌, List, [], ◌++◌, take, drop, Bool, true, false, cond, ◌<◌, ◌≤◌, arith, Result, Ok, Err, MatchResult, OnErr, sym, ap, ◌∙◌, append_assoc, append-nil, take-append-drop}
+use Rattle.pcap_capture.specs.Counts.{next_count}
 use Rattle.dsedge_lines.specs.declared.command.Ending.{Ending}
 use Rattle.dsedge_lines.specs.declared.fault.PumpFault.{PumpFault}
 use Rattle.dsedge_lines.specs.Answers.{Answer, behind, BeginsWith}
-
--- no event more
-pub count_after-none : (count : ℕ) → count_after 0 count ≡ count
-unfolding count_after
-count_after-none count = refl
-
--- one event more
-pub count_after-more : (events count : ℕ) → count_after (events + 1) count ≡ next_count (count_after events count)
-unfolding count_after
-count_after-more events count = rw add-one refl
 
 -- behind two texts, one after the other
 pub behind-append : (front back : List ℕ) (answer : Answer) → behind (front ++ back) answer ≡ behind front (behind back answer)

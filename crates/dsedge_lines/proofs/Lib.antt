@@ -1,4 +1,5 @@
--- Lemmas on answers and on what a desk answers.
+-- Lemmas on answers, on what is answered as a command goes on, and on what fields say.
 pub mod AnswerLemmas
-pub mod DeskLemmas
 pub mod FirstLineLemmas
+pub mod QuantityLemmas
+pub mod UnderwayLemmas

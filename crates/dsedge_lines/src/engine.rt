@@ -2,44 +2,33 @@ ghost use Rattle.std.specs.Prelude.{◌≡◌, ◌≢◌, ℕ, ◌+◌, ◌^◌,
 ghost use Rattle.line_text.specs.Lines.{lines_of, has_byte};
 ghost use Rattle.pcap_capture.specs.Counts.{next_count, count_after};
 ghost use Rattle.dsedge_lines.specs.Answers.{Answers, BeginsWith};
-ghost use Rattle.dsedge_lines.specs.Desks.{answer_with};
 ghost use Rattle.dsedge_lines.specs.Faults.{is_read_fault, is_write_fault};
+ghost use Rattle.dsedge_lines.specs.Underway.{answer_with};
 
 use super::command::{Command, Ending};
-use super::desk::{Desk, answer_end, answer_piece};
 use super::fault::PumpFault;
-use super::hand_over::hand_over;
-use pcap_capture::{Intake, Outlet};
-use std::alloc::{AllocError, Global};
-
-/// The size of a piece of input, in bytes.
-const PIECE: usize = 65536;
-
-/// So many bytes of room.
-fn room(alloc: Global, size: usize) -> Result<Vec<u8>, AllocError>
-    ensures { IfOk result (λ bytes. vec_len bytes ≡ size) }
-{
-    vec![in alloc; 0u8; size]
-}
+use super::progress::{Progress, answer_end, answer_piece};
+use pcap_capture::{Intake, Outlet, PIECE, hand_over, room};
+use std::alloc::Global;
 
 /// Takes a piece of the input, and answers the lines that end in it, or the end of the input.
 fn answer_next<C: Command, I: Intake>(
     command: &mut C,
-    desk: &mut Desk,
+    progress: &mut Progress,
     intake: &mut I,
     piece: &mut Vec<u8>,
 ) -> Result<Option<Ending>, PumpFault>
     requires room { 0 < vec_len piece.old }
-    requires number { desk.old.number + vec_len piece.old < 2 ^ 64 }
-    requires carried { has_byte 10 desk.old.carry.items ≡ false }
+    requires number { progress.old.number + vec_len piece.old < 2 ^ 64 }
+    requires carried { has_byte 10 progress.old.carry.items ≡ false }
     ensures room { vec_len piece.new ≡ vec_len piece.old }
     ensures number { IfOk result (λ ended. IfNone ended
-        (desk.new.number ≤ desk.old.number + vec_len piece.old)) }
-    ensures carried { IfOk result (λ ended. IfNone ended (has_byte 10 desk.new.carry.items ≡ false)) }
+        (progress.new.number ≤ progress.old.number + vec_len piece.old)) }
+    ensures carried { IfOk result (λ ended. IfNone ended (has_byte 10 progress.new.carry.items ≡ false)) }
     ensures told { I.tells intake.old → I.tells intake.new }
     ensures answer { I.tells intake.old →
-        Answers (answer_with (C.answer command.old) desk.old (I.left intake.old))
-        (answer_with (C.answer command.new) desk.new (I.left intake.new)) desk.new.out.items result }
+        Answers (answer_with (C.answer command.old) progress.old (I.left intake.old))
+        (answer_with (C.answer command.new) progress.new (I.left intake.new)) progress.new.out.items result }
     ensures asked { I.turns intake.new ≡ next_count (I.turns intake.old) }
     ensures failures { I.failed intake.new
         ≡ (if is_read_fault result then next_count (I.failed intake.old) else I.failed intake.old) }
@@ -49,12 +38,12 @@ fn answer_next<C: Command, I: Intake>(
         return Err(PumpFault::Read);
     };
     if taken == 0 {
-        return match answer_end(command, desk) {
+        return match answer_end(command, progress) {
             Ok(ending) => Ok(Some(ending)),
             Err(_) => Err(PumpFault::NoMemory),
         };
     }
-    match answer_piece(command, desk, &piece.as_slice()[..taken]) {
+    match answer_piece(command, progress, &piece.as_slice()[..taken]) {
         Ok(ended) => Ok(ended),
         Err(_) => Err(PumpFault::NoMemory),
     }
@@ -114,25 +103,25 @@ pub fn pump<C: Command, I: Intake, O: Outlet>(
     let Ok(mut piece) = room(alloc, PIECE) else {
         return Err(PumpFault::NoMemory);
     };
-    let mut desk = Desk {
+    let mut progress = Progress {
         carry: Vec::new(alloc),
         number: 1,
         out: Vec::new(alloc),
     };
     for _turn in 0..turns {
-        let Ok(()) = hand_over(outlet, &mut desk.out) else {
+        let Ok(()) = hand_over(outlet, &mut progress.out) else {
             return Err(PumpFault::Write);
         };
-        match answer_next(command, &mut desk, intake, &mut piece) {
+        match answer_next(command, &mut progress, intake, &mut piece) {
             Ok(None) => {}
-            Ok(Some(ending)) => return settle(outlet, &mut desk.out, Ok(ending)),
+            Ok(Some(ending)) => return settle(outlet, &mut progress.out, Ok(ending)),
             Err(PumpFault::NoMemory) => return settle(
                 outlet,
-                &mut desk.out,
+                &mut progress.out,
                 Err(PumpFault::NoMemory),
             ),
             Err(fault) => return Err(fault),
         }
     }
-    settle(outlet, &mut desk.out, Err(PumpFault::Read))
+    settle(outlet, &mut progress.out, Err(PumpFault::Read))
 }

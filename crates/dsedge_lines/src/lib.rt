@@ -1,15 +1,17 @@
-//! Commands that answer lines: what they read, and what they write.
+//! Commands that answer lines: what they read, and what they write; and the words that lines and commands are made of.
 #![tactic(auto)]
 
 mod command;
-mod desk;
 mod engine;
 mod fault;
-mod hand_over;
+mod given_name;
+mod progress;
+mod quantities;
 mod words;
 
 pub use command::{Command, Ending};
 pub use engine::pump;
 pub use fault::PumpFault;
-pub use hand_over::give_all;
+pub use given_name::GivenName;
+pub use quantities::{leading_moment, leading_size, moment, size};
 pub use words::{FirstLineFault, Words, first_line};

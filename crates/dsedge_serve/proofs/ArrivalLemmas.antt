@@ -1,18 +1,91 @@
--- Numbers within their ranges, and lines that say no arrival.
-use Rattle.std.proofs.Common.{◌≡◌, ℕ, ◌≤◌, List, [], ◌∷◌, length, None, Some, refl, nat_le}
-use Rattle.std.proofs.lemmas.Bool.{and_parts, leb-true}
-use Rattle.std.proofs.lemmas.Option.{cond_some}
-use Rattle.line_text.specs.Numbers.{is_number, number_of, value_of}
-use Rattle.dsedge_serve.specs.Arrivals.{sized_of_fields}
+-- The arrival that a line says, read field by field from its front, and lines that say no sized moment.
+use Rattle.std.proofs.Common.{◌≡◌, ◌≢◌, ℕ, ◌-◌, ◌^◌, Bool, true, false, cond, eqb, List, [], ◌∷◌, length, Option, None, Some, arith, refl, sym, ◌∙◌, inl, inr}
+use Rattle.std.specs.List.{onto_first}
+use Rattle.std.specs.Option.{option_and_then, option_map}
+use Rattle.std.proofs.lemmas.Bool.{cases_eq, eq-eqb, ne_eqb}
+use Rattle.line_text.specs.Lines.{fields_of}
+use Rattle.line_text.specs.Numbers.{leading_number_of, number_of}
+use Rattle.line_text.proofs.LineLemmas.{fields_of-some}
+use Rattle.meter_book.specs.declared.row.Arrival.{Arrival}
+use Rattle.dsedge_lines.specs.Quantities.{leading_size_of}
+use Rattle.dsedge_serve.specs.Arrivals.{arrival_of_fields, colour_named, sized_of_fields}
 
--- a number that is read is at most the most
-pub number_of_at_most : (most n : ℕ) (text : List ℕ) → number_of most text ≡ Some n → n ≤ most
-unfolding number_of
-number_of_at_most most n text e =
-    let read = cond_some _ (value_of text) n e in
-    let within = and_parts (is_number text) (nat_le (value_of text) most) read.0 in
-    let bound : value_of text ≤ most = leb-true (value_of text) most within.1 in
-    rw (← read.1) bound
+-- the arrival of a moment and a size whose line goes on with these fields
+abbrev pub arrival_last : ℕ → ℕ → ℕ → List (List ℕ) → Option Arrival
+arrival_last number moment size (letter ∷ []) =
+    option_and_then (λ came. Some (record { flow = 0; packet = number; hop = 0; moment = moment; size = size; came = came })) (colour_named letter)
+arrival_last number moment size _ = None
+
+abbrev pub arrival_sized : ℕ → ℕ → Option (ℕ × List (List ℕ)) → Option Arrival
+arrival_sized number moment None = None
+arrival_sized number moment (Some leading) = arrival_last number moment leading.0 leading.1
+
+abbrev pub arrival_led : ℕ → Option (ℕ × List (List ℕ)) → Option Arrival
+arrival_led number None = None
+arrival_led number (Some leading) = arrival_sized number leading.0 (leading_size_of leading.1)
+
+sized_test : (number moment size : ℕ) (last : List (List ℕ)) (zero_size : Bool)
+    → option_and_then (λ (s : ℕ). arrival_last number moment s last) (cond zero_size None (Some size))
+    ≡ arrival_sized number moment (cond {A = Option (ℕ × List (List ℕ))} zero_size None (Some (size, last)))
+sized_test number moment size last true = refl
+sized_test number moment size last false = refl
+
+sized_first : (number moment : ℕ) (o : Option ℕ) (last : List (List ℕ))
+    → option_and_then (λ (s : ℕ). arrival_last number moment s last) (option_and_then (λ s. cond (eqb s 0) None (Some s)) o)
+    ≡ arrival_sized number moment (option_and_then (λ (leading : ℕ × List (List ℕ)). cond (eqb leading.0 0) None (Some leading)) (option_map (λ n. (n, last)) o))
+sized_first number moment None last = refl
+sized_first number moment (Some size) last = sized_test number moment size last (eqb size 0)
+
+led_two : (number : ℕ) (o : Option ℕ) (second : List ℕ) → None ≡ arrival_led number (option_map (λ n. (n, second ∷ [])) o)
+led_two number None second = refl
+led_two number (Some moment) second = refl
+
+led_three : (number : ℕ) (o : Option ℕ) (second : List ℕ) (last : List (List ℕ)) → length last ≢ 0
+    → option_and_then (λ (moment : ℕ). option_and_then (λ (s : ℕ). arrival_last number moment s last) (option_and_then (λ s. cond (eqb s 0) None (Some s)) (number_of 65535 second))) o
+    ≡ arrival_led number (option_map (λ n. (n, second ∷ last)) o)
+led_three number None second last some = refl
+led_three number (Some moment) second [] some = absurd (some refl)
+led_three number (Some moment) second (third ∷ more) some = sized_first number moment (number_of 65535 second) (third ∷ more)
+
+none_before : (f : ℕ → Option Arrival) (o : Option ℕ) → ((n : ℕ) → f n ≡ None) → option_and_then f o ≡ None
+none_before f None all = refl
+none_before f (Some n) all = all n
+
+-- what fields say is what they say one after the other
+pub arrival_by_fields : (number : ℕ) (fields : List (List ℕ)) → arrival_of_fields number fields ≡ arrival_led number (leading_number_of (2 ^ 63 - 1) fields)
+arrival_by_fields number [] = refl
+arrival_by_fields number (first ∷ []) = refl
+arrival_by_fields number (first ∷ second ∷ []) = led_two number (number_of (2 ^ 63 - 1) first) second
+arrival_by_fields number (first ∷ second ∷ letter ∷ []) = led_three number (number_of (2 ^ 63 - 1) first) second (letter ∷ []) (omega arith)
+arrival_by_fields number (first ∷ second ∷ third ∷ fourth ∷ more) =
+    sym (none_before _ (number_of (2 ^ 63 - 1) first) (λ moment. none_before _ _ (λ size. refl))) ∙ led_three number (number_of (2 ^ 63 - 1) first) second (third ∷ fourth ∷ more) (omega arith)
+
+last_more : (number moment size : ℕ) (first : List ℕ) (fields : List (List ℕ)) → length fields ≢ 0 → arrival_last number moment size (first ∷ fields) ≡ None
+last_more number moment size first [] some = absurd (some refl)
+last_more number moment size first (next ∷ more) some = refl
+
+last_long : (number moment size x y : ℕ) (fields : List (List ℕ)) → arrival_last number moment size (onto_first x (onto_first y fields)) ≡ None
+last_long number moment size x y [] = refl
+last_long number moment size x y (field ∷ []) = refl
+last_long number moment size x y (field ∷ next ∷ more) = refl
+
+-- one field that is left says its colour
+pub last_letter : (number moment size : ℕ) (letter : List ℕ) → arrival_last number moment size (fields_of letter) ≡ arrival_last number moment size (letter ∷ [])
+unfolding fields_of
+last_letter number moment size [] = refl
+last_letter number moment size (x ∷ []) =
+    elim (cases_eq x 32) [
+      | inl space ↦ rw (eq-eqb x 32 space, space) refl
+      | inr differs ↦ rw (ne_eqb x 32 differs) refl
+    ]
+last_letter number moment size (x ∷ y ∷ more) =
+    elim (cases_eq x 32) [
+      | inl space ↦ rw (eq-eqb x 32 space) (last_more number moment size [] (fields_of (y ∷ more)) (fields_of-some (y ∷ more)))
+      | inr differs ↦ rw (ne_eqb x 32 differs) (elim (cases_eq y 32) [
+        | inl gap ↦ rw (eq-eqb y 32 gap) (last_more number moment size (x ∷ []) (fields_of more) (fields_of-some more))
+        | inr apart ↦ rw (ne_eqb y 32 apart) (last_long number moment size x y (fields_of more))
+      ])
+    ]
 
 -- other than two fields say no sized moment
 pub sized_of_other_fields : (fields : List (List ℕ)) → (length fields ≡ 2 → ⊥) → sized_of_fields fields ≡ None

@@ -1,5 +1,4 @@
 pub mod ArrivalLemmas
 pub mod FrontLemmas
-pub mod LeadingArrivals
 pub mod MeteredLaws
 pub mod VerdictLaws

@@ -2,6 +2,7 @@
 use Rattle.std.specs.Prelude.{ℕ, ◌==◌, ◌+◌, ◌-◌, ◌^◌, nat_lt, List, [], ◌∷◌, Option, None, Some, option_and_then, if◌then◌else◌}
 use Rattle.line_text.specs.Lines.{fields_of}
 use Rattle.line_text.specs.Numbers.{number_of}
+use Rattle.dsedge_lines.specs.Quantities.{size_in}
 use Rattle.meter_book.specs.declared.row.Arrival.{Arrival}
 use Rattle.moment_core.specs.declared.colour.Colour.{Colour}
 use Rattle.moment_core.specs.declared.colour.Colour.TheVariants.{Green, Yellow, Red}
@@ -15,10 +16,6 @@ colour_of_letter letter =
 abbrev pub colour_named : List ℕ → Option Colour
 colour_named (letter ∷ []) = colour_of_letter letter
 colour_named _ = None
-
--- a size is a number from 1 to 65,535
-abbrev pub size_in : List ℕ → Option ℕ
-size_in field = option_and_then (λ size. if size == 0 then None else Some size) (number_of 65535 field)
 
 abbrev pub arrival_of_fields : ℕ → List (List ℕ) → Option Arrival
 arrival_of_fields number (at ∷ bytes ∷ letter ∷ []) =

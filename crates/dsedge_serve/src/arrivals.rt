@@ -1,52 +1,10 @@
-ghost use Rattle.std.specs.Prelude.{◌≡◌, ◌-◌, ◌<◌, ◌^◌, ◌==◌, None, Some, if◌then◌else◌};
-ghost use Rattle.line_text.specs.Numbers.{number_of};
-ghost use Rattle.dsedge_serve.specs.Arrivals.{arrival_in, colour_named, size_in, sized_in, sized_since};
+ghost use Rattle.std.specs.Prelude.{◌≡◌};
+ghost use Rattle.dsedge_serve.specs.Arrivals.{arrival_in, colour_named, sized_in, sized_since};
 
-use line_text::{leading_number, number, two_fields};
+use dsedge_lines::{leading_moment, leading_size, moment, size};
+use line_text::two_fields;
 use meter_book::Arrival;
-use moment_core::{Colour, Moment, PacketSize};
-
-/// The greatest moment, in nanoseconds.
-const LAST_MOMENT: u64 = (1 << 63) - 1;
-
-/// The greatest size of a packet, in bytes.
-const LARGEST_SIZE: u64 = 65_535;
-
-/// The moment at so many nanoseconds.
-fn moment_at(nanoseconds: u64) -> Moment
-    requires { nanoseconds < 2 ^ 63 }
-    ensures { result ≡ nanoseconds }
-{
-    Moment::new(nanoseconds).unwrap()
-}
-
-/// The size of so many bytes, where there are any.
-fn size_of(bytes: u64) -> Option<PacketSize>
-    requires { bytes < 2 ^ 16 }
-    ensures { result ≡ (if bytes == 0 then None else Some bytes) }
-{
-    PacketSize::new(bytes).ok()
-}
-
-/// The moment that a field says: 0 to 2^63 - 1 nanoseconds.
-pub fn moment(field: &[u8]) -> Option<Moment>
-    ensures { result ≡ number_of (2 ^ 63 - 1) field.now }
-{
-    match number(field, LAST_MOMENT) {
-        Some(nanoseconds) => Some(moment_at(nanoseconds)),
-        None => None,
-    }
-}
-
-/// The size that a field says: 1 to 65,535 bytes.
-pub fn size(field: &[u8]) -> Option<PacketSize>
-    ensures { result ≡ size_in field.now }
-{
-    match number(field, LARGEST_SIZE) {
-        Some(bytes) => size_of(bytes),
-        None => None,
-    }
-}
+use moment_core::{Colour, Moment};
 
 /// The colour that a field says: `g`, `y` or `r`.
 pub fn colour(field: &[u8]) -> Option<Colour>
@@ -61,17 +19,22 @@ pub fn colour(field: &[u8]) -> Option<Colour>
 }
 
 /// The arrival that a line says, `MOMENT SIZE COLOUR`: the line's number is the packet's. Each byte is read once.
+#[tactic(auto, using(crate::proofs::ArrivalLemmas::arrival_by_fields, crate::proofs::ArrivalLemmas::last_letter), unfolding(crate::specs::Arrivals::arrival_in))]
 pub fn arrival(line_number: u64, line: &[u8]) -> Option<Arrival>
     ensures { result ≡ arrival_in line_number line.now }
 {
-    let (nanoseconds, rest) = leading_number(line, LAST_MOMENT)?;
-    let (bytes, letter) = leading_number(rest, LARGEST_SIZE)?;
+    let Some((moment, rest)) = leading_moment(line) else {
+        return None;
+    };
+    let Some((size, letter)) = leading_size(rest) else {
+        return None;
+    };
     Some(Arrival {
         flow: 0,
         packet: line_number,
         hop: 0,
-        moment: moment_at(nanoseconds),
-        size: size_of(bytes)?,
+        moment,
+        size,
         came: colour(letter)?,
     })
 }

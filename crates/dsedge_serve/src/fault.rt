@@ -5,11 +5,9 @@ ghost use Rattle.dsedge_serve.specs.Faults.{IsFrontOf, capture_fault_text, certi
 use crate::parts::give_parts;
 use ds_certificate::CertificateFault;
 use ds_domain_base::{DomainFault, Kind};
-use dsedge_base::PortName;
-use dsedge_files::FileName;
-use dsedge_lines::give_all;
+use dsedge_lines::GivenName;
 use itoa::Buffer;
-use pcap_capture::{DeviceFault, Outlet, PcapFault};
+use pcap_capture::{DeviceFault, Outlet, PcapFault, give_all};
 
 /// Why the program did not do all that it was asked for.
 #[derive(Debug, Drop)]
@@ -25,9 +23,9 @@ pub enum Fault<'a> {
     /// The capture has a fault.
     Capture(PcapFault),
     /// The domain has no port of this name.
-    Port(PortName<'a>),
+    Port(GivenName<'a>),
     /// The file of this name cannot be read, or has more than 16 MiB.
-    File(FileName<'a>),
+    File(GivenName<'a>),
     /// The input could not be read.
     Read,
     /// The output could not be written.

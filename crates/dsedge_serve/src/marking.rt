@@ -11,8 +11,7 @@ use crate::outcome::Outcome;
 use crate::report::tell_report;
 use ds_checker::Accepted;
 use ds_conductor::{MarkFault, OpenGate, RedRule, Report, mark};
-use dsedge_base::PortName;
-use dsedge_lines::PumpFault;
+use dsedge_lines::{GivenName, PumpFault};
 use dsedge_texts::{TableFault, accept};
 use pcap_capture::{DeviceFault, Intake, Outlet, PcapFault};
 use std::alloc::Global;
@@ -22,7 +21,7 @@ pub(crate) fn answer_mark<'a, I: Intake, O: Outlet>(
     alloc: Global,
     domain: &[u8],
     certificate: &[u8],
-    port: PortName<'a>,
+    port: GivenName<'a>,
     red: RedRule,
     intake: &mut I,
     output: &mut O,
@@ -43,7 +42,7 @@ pub(crate) fn answer_mark<'a, I: Intake, O: Outlet>(
 fn mark_over<'a, I: Intake, O: Outlet>(
     alloc: Global,
     accepted: &Accepted,
-    port: PortName<'a>,
+    port: GivenName<'a>,
     red: RedRule,
     intake: &mut I,
     output: &mut O,
@@ -93,19 +92,19 @@ fn capture_fault(fault: PcapFault) -> Fault<'static>
 }
 
 /// What is told where a capture was not marked to its end at a port.
-fn marking_fault<'a>(fault: MarkFault, port: &PortName<'a>) -> Fault<'a>
+fn marking_fault<'a>(fault: MarkFault, port: &GivenName<'a>) -> Fault<'a>
     ensures { result ≡ marking_fault port.now fault }
 {
     match fault {
         MarkFault::Capture(fault) => capture_fault(fault),
-        MarkFault::UnknownPort => Fault::Port(PortName::new(port.text())),
+        MarkFault::UnknownPort => Fault::Port(GivenName::new(port.text())),
         MarkFault::JournalFull => Fault::Full,
         MarkFault::NoMemory => Fault::Memory,
     }
 }
 
 /// The exit status of a marking.
-pub(crate) fn marking_status(fault: Option<MarkFault>, port: &PortName<'_>) -> u8
+pub(crate) fn marking_status(fault: Option<MarkFault>, port: &GivenName<'_>) -> u8
     ensures { result ≡ marking_status fault port.now }
 {
     match fault {
@@ -118,7 +117,7 @@ pub(crate) fn marking_status(fault: Option<MarkFault>, port: &PortName<'_>) -> u
 pub(crate) fn tell_marking<F: Outlet>(
     report: &Report,
     fault: Option<MarkFault>,
-    port: &PortName<'_>,
+    port: &GivenName<'_>,
     faults: &mut F,
 ) -> Result<(), DeviceFault>
     ensures line { F.tells faults.old → MatchResult result
@@ -136,7 +135,7 @@ pub(crate) fn tell_marking<F: Outlet>(
 /// Tells the fault of a marking, if any.
 fn tell_fault<F: Outlet>(
     fault: Option<MarkFault>,
-    port: &PortName<'_>,
+    port: &GivenName<'_>,
     faults: &mut F,
 ) -> Result<(), DeviceFault>
     ensures line { F.tells faults.old → MatchResult result

@@ -3,9 +3,8 @@ ghost use Rattle.pcap_capture.specs.Counts.{next_count};
 ghost use Rattle.dsedge_serve.specs.Faults.{IsFrontOf, notice_text};
 
 use crate::fault::Fault;
-use dsedge_lines::give_all;
 use dsedge_texts::RefusalLine;
-use pcap_capture::{DeviceFault, Outlet};
+use pcap_capture::{DeviceFault, Outlet, give_all};
 
 /// What is told of an outcome on standard error.
 #[derive(Debug, Drop)]

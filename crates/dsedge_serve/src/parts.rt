@@ -2,8 +2,7 @@ ghost use Rattle.std.specs.Prelude.{◌≡◌, ◌++◌, flat_map, MatchResult, 
 ghost use Rattle.pcap_capture.specs.Counts.{next_count};
 ghost use Rattle.dsedge_serve.specs.Faults.{IsFrontOf};
 
-use dsedge_lines::give_all;
-use pcap_capture::{DeviceFault, Outlet};
+use pcap_capture::{DeviceFault, Outlet, give_all};
 
 /// Gives an outlet texts, one behind the other.
 ///

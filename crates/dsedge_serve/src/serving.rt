@@ -22,9 +22,9 @@ use ds_conductor::RedRule;
 use ds_domain_base::{DomainFault, Kind};
 use dsedge_audit::AuditCommand;
 use dsedge_base::Plan;
-use dsedge_lines::{Command, Ending, PumpFault, give_all, pump};
+use dsedge_lines::{Command, Ending, PumpFault, pump};
 use dsedge_texts::{TableFault, accept, certify};
-use pcap_capture::{Intake, Outlet};
+use pcap_capture::{Intake, Outlet, give_all};
 use std::alloc::Global;
 
 /// By how many calls of `take` an input is read at most; the next is answered as a read fault.

@@ -1,3 +1,5 @@
--- Lemmas on certificates of domain texts.
+-- Lemmas on files, on their texts, and on certificates of domain texts.
 pub mod FittingLaws
+pub mod FolderLemmas
 pub mod ShapeLemmas
+pub mod TextLemmas

@@ -1,4 +1,6 @@
--- What the program answers to the texts of files.
+-- What files hold, and what the program answers to their texts.
 pub mod Accepted
 pub mod Certified
+pub mod Readable
 pub mod Refused
+pub mod Wording

@@ -1,23 +1,14 @@
 -- How the checker's refusal is written: its number, its name and its figures.
-use Rattle.std.specs.Prelude.{ℕ, List, [], ◌++◌, codes, decimal, slice_get}
-use Rattle.std.specs.Option.{option_map_or}
+use Rattle.std.specs.Prelude.{ℕ, List, [], ◌++◌, codes, decimal}
 use Rattle.ds_domain_base.specs.declared.contract.Contract.{Contract}
 use Rattle.ds_checker.specs.declared.refusal.Column.{Column}
-use Rattle.ds_checker.specs.declared.refusal.Column.TheVariants.{Green, All}
 use Rattle.ds_checker.specs.declared.refusal.Refusal.{Refusal}
 use Rattle.ds_checker.specs.declared.refusal.Refusal.TheVariants as refusals
+use Rattle.dsedge_texts.specs.Wording.{column_text, figure, name_of}
 
--- the name of the contract of a number
-abbrev pub name_of : List Contract → ℕ → List ℕ
-name_of contracts number = option_map_or (λ c. c.name) (slice_get contracts number) []
-
-abbrev pub column_text : Column → List ℕ
-column_text Green = codes "green"
-column_text All = codes "all"
-
--- two figures, each behind a space
+-- two figures
 abbrev pub figures_text : ℕ → ℕ → List ℕ
-figures_text needed given = codes " " ++ decimal needed ++ codes " " ++ decimal given
+figures_text needed given = figure needed ++ figure given
 
 -- the number and the name of a refusal
 abbrev pub test_text : Refusal → List ℕ
@@ -47,7 +38,7 @@ abbrev pub place_text : List Contract → Refusal → List ℕ
 place_text contracts (refusals.Shape number) = decimal number
 place_text contracts (refusals.FirstBound number column needed given) = name_of contracts number ++ column_figures_text column needed given
 place_text contracts (refusals.HopBound number hop column needed given) =
-    name_of contracts number ++ codes " " ++ decimal hop ++ column_figures_text column needed given
+    name_of contracts number ++ figure hop ++ column_figures_text column needed given
 place_text contracts (refusals.GreenRate meter needed available) = meter ++ figures_text needed available
 place_text contracts (refusals.GreenBurst meter needed available) = meter ++ figures_text needed available
 place_text contracts (refusals.AllRate meter needed available) = meter ++ figures_text needed available

@@ -1,10 +1,24 @@
-//! What the program answers to the texts of files.
+//! Files by their names, read whole or refused, and what the program answers to their texts.
 #![tactic(auto)]
 
 mod accepting;
 mod certifying;
+mod fault;
+mod folder;
+mod memory;
 mod refusing;
+mod system;
+mod texts;
+mod whole;
+mod wording;
 
 pub use accepting::{TableFault, accept};
 pub use certifying::certify;
+pub use fault::{FileFault, TextFault};
+pub use folder::Folder;
+pub use memory::MemoryFolder;
 pub use refusing::RefusalLine;
+pub use system::SystemFolder;
+pub use texts::read_texts;
+pub use whole::{MOST_BYTES, read_whole};
+pub use wording::{column_text, push_figure, push_name};

@@ -1,6 +1,7 @@
-ghost use Rattle.std.specs.Prelude.{◌≡◌, ◌++◌, IfOk, OnOk, codes, decimal};
-ghost use Rattle.dsedge_texts.specs.Refused.{column_figures_text, column_text, figures_text, meter_place_text, name_of, place_text, refusal_line, test_text};
+ghost use Rattle.std.specs.Prelude.{◌≡◌, ◌++◌, IfOk, OnOk};
+ghost use Rattle.dsedge_texts.specs.Refused.{column_figures_text, figures_text, meter_place_text, place_text, refusal_line, test_text};
 
+use crate::wording::{column_text, push_figure, push_name};
 use ds_checker::{Column, Refusal};
 use ds_domain::{Contract, Name};
 use itoa::Buffer;
@@ -87,7 +88,7 @@ fn push_place(
             given,
         } => {
             push_name(text, contracts, contract)?;
-            push_hop(text, hop)?;
+            push_figure(text, hop as u64)?;
             push_column(text, column, needed, given)
         }
         Refusal::GreenRate { .. }
@@ -130,26 +131,6 @@ fn push_meter_place(text: &mut Vec<u8>, refusal: &Refusal) -> Result<(), AllocEr
     }
 }
 
-/// Appends the name of the contract of a number; nothing where there is none.
-fn push_name(text: &mut Vec<u8>, contracts: &[Contract], number: usize) -> Result<(), AllocError>
-    ensures { OnOk result (text.new.items ≡ text.old.items ++ name_of contracts.now number) }
-{
-    match contracts.get(number) {
-        Some(contract) => text.extend_from_slice(contract.name.bytes()),
-        None => Ok(()),
-    }
-}
-
-/// How a column is written.
-fn column_text(column: Column) -> &'static [u8]
-    ensures { result.now ≡ column_text column }
-{
-    match column {
-        Column::Green => "green".as_bytes(),
-        Column::All => "all".as_bytes(),
-    }
-}
-
 /// Appends two figures, each behind a space.
 fn push_figures(text: &mut Vec<u8>, needed: u128, given: u128) -> Result<(), AllocError>
     ensures { OnOk result (text.new.items ≡ text.old.items ++ figures_text needed given) }
@@ -158,14 +139,6 @@ fn push_figures(text: &mut Vec<u8>, needed: u128, given: u128) -> Result<(), All
     text.extend_from_slice(Buffer::new().format(needed).as_bytes())?;
     text.push(b' ')?;
     text.extend_from_slice(Buffer::new().format(given).as_bytes())
-}
-
-/// Appends the number of a hop, behind a space.
-fn push_hop(text: &mut Vec<u8>, hop: usize) -> Result<(), AllocError>
-    ensures { OnOk result (text.new.items ≡ text.old.items ++ codes " " ++ decimal hop) }
-{
-    text.push(b' ')?;
-    push_number(text, hop as u64)
 }
 
 /// Appends a column and two figures, behind a space.

@@ -1,3 +1,4 @@
+pub mod CountLaws
 pub mod CutLaws
 pub mod GrammarLaws
 pub mod HeadingLaws

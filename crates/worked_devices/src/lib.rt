@@ -1,4 +1,4 @@
-//! Worked rows of the libraries below: what lines, devices, captures and files give in their public calls.
+//! Worked rows of the libraries below: what lines, devices and captures give in their public calls.
 //! They stand here, and not beside those calls, since a crate with tests is proved twice.
 #![tactic(auto)]
 
@@ -8,7 +8,5 @@ mod answer_rows;
 mod capture_rows;
 #[cfg(test)]
 mod device_rows;
-#[cfg(test)]
-mod file_rows;
 #[cfg(test)]
 mod line_rows;

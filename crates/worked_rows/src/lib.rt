@@ -1,4 +1,4 @@
-//! Worked rows of the libraries below: what lines of words, and texts of domains and of certificates give in their public calls.
+//! Worked rows of the libraries below: what lines of words, files, and texts of domains and of certificates give in their public calls.
 //! They stand here, and not beside those calls, since a crate with tests is proved twice.
 #![tactic(auto)]
 
@@ -8,6 +8,8 @@ mod certificate_rows;
 mod checker_rows;
 #[cfg(test)]
 mod domain_rows;
+#[cfg(test)]
+mod file_rows;
 #[cfg(test)]
 mod plan_rows;
 #[cfg(test)]

@@ -1,5 +1,5 @@
-use dsedge_base::{Plan, PortName, UsageFault, plan};
-use dsedge_files::FileName;
+use dsedge_base::{Plan, UsageFault, plan};
+use dsedge_lines::GivenName;
 use meter_book::{AnyMeter, Parameters};
 use moment_core::{Mode, Moment, Rate};
 use rfc4115_core::Rfc4115Parameters;
@@ -155,7 +155,7 @@ fn certificates(rt: HostRuntime) -> Result<(), Fail> {
         ("certify domain.toml", "domain.toml"),
         ("certify -- --kind", "--kind"),
     ] {
-        let domain = FileName::new(name);
+        let domain = GivenName::new(name);
         expect_plan(&rt, rt.alloc(), line, &Plan::Certify { domain })?;
     }
     Ok(())
@@ -164,25 +164,25 @@ fn certificates(rt: HostRuntime) -> Result<(), Fail> {
 /// The plan of a check of two files.
 fn check_of_two() -> Plan<'static> {
     Plan::Check {
-        domain: FileName::new("domain.toml"),
-        certificate: FileName::new("domain.cert"),
+        domain: GivenName::new("domain.toml"),
+        certificate: GivenName::new("domain.cert"),
     }
 }
 
 /// The plan of an audit over the same files.
 fn audit_of_two() -> Plan<'static> {
     Plan::Audit {
-        domain: FileName::new("domain.toml"),
-        certificate: FileName::new("domain.cert"),
+        domain: GivenName::new("domain.toml"),
+        certificate: GivenName::new("domain.cert"),
     }
 }
 
 /// The plan of a mark over the same files.
 fn mark_over_two(keeps_red: bool) -> Plan<'static> {
     Plan::Mark {
-        domain: FileName::new("domain.toml"),
-        certificate: FileName::new("domain.cert"),
-        port: PortName::new("p"),
+        domain: GivenName::new("domain.toml"),
+        certificate: GivenName::new("domain.cert"),
+        port: GivenName::new("p"),
         keeps_red,
     }
 }

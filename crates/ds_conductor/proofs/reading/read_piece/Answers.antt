@@ -1,8 +1,8 @@
-use Rattle.std.proofs.lemmas.Result.{err_from_is_err_and}
+use Rattle.std.proofs.Common.{refl}
+use Rattle.pcap_capture.specs.declared.fault.PcapFault.TheVariants.{ReadFault}
 use Rattle.ds_conductor.proofs.ReadingLaws.{failed}
 use Rattle.ds_conductor.proofs.reading.read_piece.Goals as goal
 
-pub returns-in_err-taken-clause-read : goal.returns-in_err-taken-clause-read
-returns-in_err-taken-clause-read g c = λ bytes tells at.
-    let p = err_from_is_err_and c.from_residual.result c.from_residual.ensures.1 in
-    rw (p.1, p.2) (failed bytes _ _ c.args.progress.now c.in_err-taken.field-0.0 at (c.in_err-taken.ensures.bytes tells) c.in_err-taken.ensures.fault)
+pub returns-in_default-clause-read : goal.returns-in_default-clause-read
+returns-in_default-clause-read g c = λ bytes tells at.
+    failed bytes _ _ c.args.progress.now ReadFault at (c.in_default.ensures.bytes tells) refl

@@ -1,7 +1,8 @@
 use Rattle.std.proofs.Common.{refl, sym, ap, ◌∙◌, arith, rules}
 use Rattle.pcap_capture.specs.Counts.{next_count}
+use Rattle.pcap_capture.proofs.CountLaws.{count_after-more, count_after-none}
 use Rattle.pcap_capture.specs.declared.fault.PcapFault.TheVariants.{ReadFault}
-use Rattle.ds_conductor.proofs.ReadingLaws.{asked_more, asked_none, failed, starved}
+use Rattle.ds_conductor.proofs.ReadingLaws.{failed, starved}
 use Rattle.ds_conductor.proofs.reading.read_pieces.Goals as goal
 
 pub returns-in_default-clause-read : goal.returns-in_default-clause-read
@@ -13,7 +14,7 @@ loop-turn-init g c = record {
   missing = c.requires;
   told = λ tells. tells;
   failed = refl;
-  asked = sym (asked_none _);
+  asked = sym (count_after-none _);
   read = λ bytes tells at. at;
 }
 
@@ -26,7 +27,7 @@ loop-turn-preserved g c =
       missing = omega (arith, next.missing, was.missing);
       told = λ tells. next.told (was.told tells);
       failed = next.failures ∙ was.failed;
-      asked = next.asked ∙ ap next_count was.asked ∙ sym (asked_more c.loop-turn._turn _);
+      asked = next.asked ∙ ap next_count was.asked ∙ sym (count_after-more c.loop-turn._turn _);
       read = λ bytes tells at. rw c.in-Ok-true.field-0-test at (next.read bytes (was.told tells) (was.read bytes tells at));
     }
 

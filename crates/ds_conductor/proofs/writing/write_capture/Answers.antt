@@ -62,4 +62,4 @@ returns-clause-bytes g c = λ tells.
     let number = c.loop-number.number-iterator.count in
     let text = text_from c.args.accepted.now c.args.red c.args.heading.now.link number in
     let nothing = ap (λ frames. text frames coloured) ended ∙ text_from-none c.args.accepted.now c.args.red c.args.heading.now.link number coloured in
-    written_last c.hand_over.result c.loop-number.out.items _ _ _ _ _ (was.bytes tells) (ap (λ it. c.loop-number.out.items ++ it) nothing) (c.hand_over.ensures.bytes (was.told tells))
+    written_last c.write_out.result c.loop-number.out.items _ _ _ _ _ (was.bytes tells) (ap (λ it. c.loop-number.out.items ++ it) nothing) (c.write_out.ensures.bytes (was.told tells))

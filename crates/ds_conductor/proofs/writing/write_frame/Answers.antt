@@ -8,4 +8,4 @@ returns-in_default-clause-bytes g c = λ tells.
     IsFrontOf-none (g.O.Outlet.held c.args.outlet.now) (c.args.out.now.items ++ record_text c.args.accepted.now c.args.red c.args.link c.args.frame c.args.packet)
 
 pub returns-clause-bytes : goal.returns-clause-bytes
-returns-clause-bytes g c = λ tells. rw (← c.in-Ok.ensures) (c.hand_over_full.ensures.bytes tells)
+returns-clause-bytes g c = λ tells. rw (← c.in-Ok.ensures) (c.write_out_full.ensures.bytes tells)

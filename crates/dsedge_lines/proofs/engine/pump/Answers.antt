@@ -2,8 +2,9 @@ use Rattle.std.proofs.Common.{◌≡◌, ◌+◌, ◌≤◌, [], ◌++◌, refl,
 use Rattle.line_text.specs.Lines.{lines_of}
 use Rattle.line_text.proofs.LineLemmas.{has_byte-nil}
 use Rattle.pcap_capture.specs.Counts.{next_count}
+use Rattle.pcap_capture.proofs.CountLaws.{count_after-none, count_after-more}
 use Rattle.dsedge_lines.specs.Answers.{behind}
-use Rattle.dsedge_lines.proofs.AnswerLemmas.{count_after-none, count_after-more, behind-handed, BeginsWith-behind, BeginsWith-whole, BeginsWith-given, held-append, front-settled, turn-le, next_count-true, next_count-false, stays-false}
+use Rattle.dsedge_lines.proofs.AnswerLemmas.{behind-handed, BeginsWith-behind, BeginsWith-whole, BeginsWith-given, held-append, front-settled, turn-le, next_count-true, next_count-false, stays-false}
 use Rattle.dsedge_lines.proofs.engine.pump.Goals as goal
 
 pub returns-in_default-clause-asked : goal.returns-in_default-clause-asked
@@ -30,7 +31,7 @@ loop-turn-preserved g c =
     record {
       room = size;
       number =
-          let count : c.answer_next.new.desk.number ≤ c.loop-turn.desk.number + vec_len c.loop-turn.piece = rw c.in-Ok-None.field-0-is at next.number in
+          let count : c.answer_next.new.progress.number ≤ c.loop-turn.progress.number + vec_len c.loop-turn.piece = rw c.in-Ok-None.field-0-is at next.number in
           omega (arith, count, was.room, was.number);
       carried = rw c.in-Ok-None.field-0-is at next.carried;
       told = λ tells. next.told (was.told tells);
@@ -40,8 +41,8 @@ loop-turn-preserved g c =
       asked = next.asked ∙ ap next_count was.asked ∙ sym (count_after-more c.loop-turn._turn _);
       answer = λ tells tells_outlet.
           let now = was.answer tells tells_outlet in
-          let out = c.loop-turn.desk.out.items in
-          let handed = behind-handed now.0 out c.hand_over.new.out.items (g.C.Command.answer c.loop-turn.command c.loop-turn.desk.number (lines_of (c.loop-turn.desk.carry.items ++ g.I.Intake.left c.loop-turn.intake))) _ now.2 c.in-Ok-hand_over.ensures.emptied in
+          let out = c.loop-turn.progress.out.items in
+          let handed = behind-handed now.0 out c.hand_over.new.out.items (g.C.Command.answer c.loop-turn.command c.loop-turn.progress.number (lines_of (c.loop-turn.progress.carry.items ++ g.I.Intake.left c.loop-turn.intake))) _ now.2 c.in-Ok-hand_over.ensures.emptied in
           let on = rw c.in-Ok-None.field-0-is at (next.answer (was.told tells)) in (
             now.0 ++ out,
             held-append _ _ _ now.0 out now.1 (c.in-Ok-hand_over.ensures.bytes (was.told_outlet tells_outlet)),
@@ -53,8 +54,8 @@ pub returns-in_default-hand_over-clause-front : goal.returns-in_default-hand_ove
 returns-in_default-hand_over-clause-front g c = λ tells tells_outlet.
     let was = c.loop-turn.invariant in
     let now = was.answer tells tells_outlet in
-    let out = c.loop-turn.desk.out.items in
-    let answer = g.C.Command.answer c.loop-turn.command c.loop-turn.desk.number (lines_of (c.loop-turn.desk.carry.items ++ g.I.Intake.left c.loop-turn.intake)) in
+    let out = c.loop-turn.progress.out.items in
+    let answer = g.C.Command.answer c.loop-turn.command c.loop-turn.progress.number (lines_of (c.loop-turn.progress.carry.items ++ g.I.Intake.left c.loop-turn.intake)) in
     let given = c.in_default-hand_over.ensures.bytes (was.told_outlet tells_outlet) in
     (_, BeginsWith-given now.0 out (behind out answer) _ given.0 (BeginsWith-behind out answer _ refl) now.2, held-append _ _ _ now.0 _ now.1 given.1)
 
@@ -63,11 +64,11 @@ returns-in-Ok-Some-clause-front g c = λ tells tells_outlet.
     let was = c.loop-turn.invariant in
     let handed_over = c.in-Ok-hand_over.ensures in
     let now = was.answer tells tells_outlet in
-    let out = c.loop-turn.desk.out.items in
-    let answer = g.C.Command.answer c.loop-turn.command c.loop-turn.desk.number (lines_of (c.loop-turn.desk.carry.items ++ g.I.Intake.left c.loop-turn.intake)) in
+    let out = c.loop-turn.progress.out.items in
+    let answer = g.C.Command.answer c.loop-turn.command c.loop-turn.progress.number (lines_of (c.loop-turn.progress.carry.items ++ g.I.Intake.left c.loop-turn.intake)) in
     let whole = behind c.hand_over.new.out.items answer in
     let handed = behind-handed now.0 out c.hand_over.new.out.items answer _ now.2 handed_over.emptied in
-    let begins = BeginsWith-whole c.answer_next.new.desk.out.items c.in-Ok-Some.ending whole (rw c.in-Ok-Some.field-0-is at (c.in-Ok-Some.ensures.answer (was.told tells))) in
+    let begins = BeginsWith-whole c.answer_next.new.progress.out.items c.in-Ok-Some.ending whole (rw c.in-Ok-Some.field-0-is at (c.in-Ok-Some.ensures.answer (was.told tells))) in
     front-settled c.settle.result _ _ _ (now.0 ++ out) _ whole _ (c.settle.ensures.bytes (handed_over.told (was.told_outlet tells_outlet)))
     (held-append _ _ _ now.0 out now.1 (handed_over.bytes (was.told_outlet tells_outlet))) begins handed
 
@@ -80,8 +81,8 @@ returns-in-Err-NoMemory-clause-front g c = λ tells tells_outlet.
     let was = c.loop-turn.invariant in
     let handed_over = c.in-Ok-hand_over.ensures in
     let now = was.answer tells tells_outlet in
-    let out = c.loop-turn.desk.out.items in
-    let answer = g.C.Command.answer c.loop-turn.command c.loop-turn.desk.number (lines_of (c.loop-turn.desk.carry.items ++ g.I.Intake.left c.loop-turn.intake)) in
+    let out = c.loop-turn.progress.out.items in
+    let answer = g.C.Command.answer c.loop-turn.command c.loop-turn.progress.number (lines_of (c.loop-turn.progress.carry.items ++ g.I.Intake.left c.loop-turn.intake)) in
     let whole = behind c.hand_over.new.out.items answer in
     let handed = behind-handed now.0 out c.hand_over.new.out.items answer _ now.2 handed_over.emptied in
     front-settled c.settle-in-Err-NoMemory.result _ _ _ (now.0 ++ out) _ whole _ (c.settle-in-Err-NoMemory.ensures.bytes (handed_over.told (was.told_outlet tells_outlet)))
@@ -100,8 +101,8 @@ returns-in-Err g c =
       whole = λ tells tells_outlet. tt;
       front = λ tells tells_outlet.
           let now = was.answer tells tells_outlet in
-          let out = c.loop-turn.desk.out.items in
-          let answer = g.C.Command.answer c.loop-turn.command c.loop-turn.desk.number (lines_of (c.loop-turn.desk.carry.items ++ g.I.Intake.left c.loop-turn.intake)) in
+          let out = c.loop-turn.progress.out.items in
+          let answer = g.C.Command.answer c.loop-turn.command c.loop-turn.progress.number (lines_of (c.loop-turn.progress.carry.items ++ g.I.Intake.left c.loop-turn.intake)) in
           let handed = behind-handed now.0 out c.hand_over.new.out.items answer _ now.2 handed_over.emptied in
           (now.0 ++ out, BeginsWith-behind (now.0 ++ out) (behind c.hand_over.new.out.items answer) _ handed, held-append _ _ _ now.0 out now.1 (handed_over.bytes (was.told_outlet tells_outlet)));
       write = stays-false _ _ next.input (handed_over.failures ∙ was.failed_outlet);
@@ -114,6 +115,6 @@ pub returns-clause-front : goal.returns-clause-front
 returns-clause-front g c = λ tells tells_outlet.
     let was = c.loop-turn.invariant in
     let now = was.answer tells tells_outlet in
-    let out = c.loop-turn.desk.out.items in
-    let answer = g.C.Command.answer c.loop-turn.command c.loop-turn.desk.number (lines_of (c.loop-turn.desk.carry.items ++ g.I.Intake.left c.loop-turn.intake)) in
+    let out = c.loop-turn.progress.out.items in
+    let answer = g.C.Command.answer c.loop-turn.command c.loop-turn.progress.number (lines_of (c.loop-turn.progress.carry.items ++ g.I.Intake.left c.loop-turn.intake)) in
     front-settled c.settle-2.result _ _ _ now.0 out (behind out answer) _ (c.settle-2.ensures.bytes (was.told_outlet tells_outlet)) now.1 (BeginsWith-behind out answer _ refl) now.2

@@ -2,8 +2,9 @@ use Rattle.std.proofs.Common.{◌≡◌, ◌+◌, ◌≤◌, [], ◌∷◌, ◌+
 use Rattle.std.proofs.lemmas.List.{length_push}
 use Rattle.line_text.proofs.LineLemmas.{has_byte-nil}
 use Rattle.pcap_capture.specs.Counts.{next_count}
+use Rattle.pcap_capture.proofs.CountLaws.{count_after-none, count_after-more}
 use Rattle.dsedge_lines.specs.FirstLine.{first_line_of, after_first_line}
-use Rattle.dsedge_lines.proofs.AnswerLemmas.{count_after-none, count_after-more, turn-le}
+use Rattle.dsedge_lines.proofs.AnswerLemmas.{turn-le}
 use Rattle.dsedge_lines.proofs.FirstLineLemmas.{first_line_of-cut, after_first_line-cut, first_line_of-uncut, after_first_line-uncut, first_line_of-long, has_byte-push, most_bytes, too_many_bytes}
 use Rattle.dsedge_lines.proofs.words.read_line.Goals as goal
 

@@ -1,3 +1,0 @@
--- Lemmas on files and their texts.
-pub mod FolderLemmas
-pub mod TextLemmas

@@ -1,2 +1,0 @@
--- What files hold.
-pub mod Readable

@@ -1,0 +1,14 @@
+use Rattle.std.proofs.Common.{◌≡◌, [], length, arith}
+use Rattle.std.proofs.lemmas.Bool.Decides.{nat_tests}
+use Rattle.line_text.specs.Lines.{lines_of}
+use Rattle.line_text.proofs.LineLemmas.{lines_of-cut}
+use Rattle.dsedge_lines.proofs.UnderwayLemmas.{nil-from_length}
+use Rattle.dsedge_lines.proofs.progress.answer_line.Goals as goal
+
+pub returns-clause-answer : goal.returns-clause-answer
+returns-clause-answer g c = λ later.
+    let carry = c.args.progress.now.carry in
+    let counted = carry.ok.0 in
+    let none : length carry.items ≡ 0 = grind (arith, nat_tests) in
+    let nothing : carry.items ≡ [] = nil-from_length carry.items none in
+    rw (nothing, lines_of-cut c.args.rest.now later c.requires.one_line) (c.line-answered.ensures (lines_of later))

@@ -1,0 +1,112 @@
+ghost use Rattle.std.specs.Prelude.{◌≡◌, ℕ, ◌+◌, ◌^◌, ◌<◌, ◌≤◌, false, List, [], ◌∷◌, ◌++◌, length, IfOk, IfNone};
+ghost use Rattle.line_text.specs.Lines.{has_byte};
+ghost use Rattle.dsedge_lines.specs.Answers.{Answers, AnswersAll};
+ghost use Rattle.dsedge_lines.specs.Underway.{answer_with};
+
+use super::command::{Command, Ending};
+use line_text::cut;
+use std::alloc::AllocError;
+
+/// How far a command has answered its input, and what is under way.
+#[derive(Debug, Drop)]
+pub struct Progress {
+    /// What came of a line that has not ended.
+    pub carry: Vec<u8>,
+    /// The number of that line, from 1.
+    pub number: u64,
+    /// What is answered and not yet handed over.
+    pub out: Vec<u8>,
+}
+
+/// Answers the line that is carried over and ends with `rest`.
+fn answer_carried<C: Command>(
+    command: &mut C,
+    progress: &mut Progress,
+    rest: &[u8],
+) -> Result<Option<Ending>, AllocError>
+    requires number { progress.old.number + 1 < 2 ^ 64 }
+    requires carried { has_byte 10 progress.old.carry.items ≡ false }
+    requires one_line { has_byte 10 rest.now ≡ false }
+    ensures answer { (later : List ℕ) →
+        Answers (answer_with (C.answer command.old) progress.old (rest.now ++ 10 ∷ later))
+        (answer_with (C.answer command.new) progress.new later) progress.new.out.items result }
+    ensures carried { IfOk result (λ ended. IfNone ended (progress.new.carry.items ≡ [])) }
+    ensures number { IfOk result (λ ended. IfNone ended (progress.new.number ≡ progress.old.number + 1)) }
+{
+    progress.carry.extend_from_slice(rest)?;
+    let answered = command.line(
+        progress.number,
+        progress.carry.as_slice(),
+        &mut progress.out,
+    );
+    progress.carry.clear();
+    progress.number += 1;
+    answered
+}
+
+/// Answers the line that begins with what is carried over, if anything is, and ends with `rest`.
+fn answer_line<C: Command>(
+    command: &mut C,
+    progress: &mut Progress,
+    rest: &[u8],
+) -> Result<Option<Ending>, AllocError>
+    requires number { progress.old.number + 1 < 2 ^ 64 }
+    requires carried { has_byte 10 progress.old.carry.items ≡ false }
+    requires one_line { has_byte 10 rest.now ≡ false }
+    ensures answer { (later : List ℕ) →
+        Answers (answer_with (C.answer command.old) progress.old (rest.now ++ 10 ∷ later))
+        (answer_with (C.answer command.new) progress.new later) progress.new.out.items result }
+    ensures carried { IfOk result (λ ended. IfNone ended (progress.new.carry.items ≡ [])) }
+    ensures number { IfOk result (λ ended. IfNone ended (progress.new.number ≡ progress.old.number + 1)) }
+{
+    if !progress.carry.is_empty() {
+        return answer_carried(command, progress, rest);
+    }
+    let answered = command.line(progress.number, rest, &mut progress.out);
+    progress.number += 1;
+    answered
+}
+
+/// Answers the lines that end in a piece, and carries the rest of it over.
+pub fn answer_piece<C: Command>(
+    command: &mut C,
+    progress: &mut Progress,
+    piece: &[u8],
+) -> Result<Option<Ending>, AllocError>
+    requires number { progress.old.number + length piece.now < 2 ^ 64 }
+    requires carried { has_byte 10 progress.old.carry.items ≡ false }
+    ensures answer { (later : List ℕ) →
+        Answers (answer_with (C.answer command.old) progress.old (piece.now ++ later))
+        (answer_with (C.answer command.new) progress.new later) progress.new.out.items result }
+    ensures carried { IfOk result (λ ended. IfNone ended (has_byte 10 progress.new.carry.items ≡ false)) }
+    ensures number { IfOk result (λ ended. IfNone ended
+        (progress.new.number ≤ progress.old.number + length piece.now)) }
+{
+    let mut rest = piece;
+    while let Some((line, later)) = cut(rest, b'\n') {
+        match answer_line(command, progress, line)? {
+            Some(ending) => return Ok(Some(ending)),
+            None => rest = later,
+        }
+    }
+    progress.carry.extend_from_slice(rest)?;
+    Ok(None)
+}
+
+/// Answers the line that is carried over, if anything is, and then the end of the input.
+pub fn answer_end<C: Command>(
+    command: &mut C,
+    progress: &mut Progress,
+) -> Result<Ending, AllocError>
+    requires number { progress.old.number + 1 < 2 ^ 64 }
+    requires carried { has_byte 10 progress.old.carry.items ≡ false }
+    ensures { AnswersAll (answer_with (C.answer command.old) progress.old []) progress.new.out.items result }
+{
+    if progress.carry.is_empty() {
+        return command.end(progress.number, &mut progress.out);
+    }
+    match answer_line(command, progress, b"")? {
+        Some(ending) => Ok(ending),
+        None => command.end(progress.number, &mut progress.out),
+    }
+}

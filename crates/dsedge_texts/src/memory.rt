@@ -1,0 +1,56 @@
+ghost use Rattle.std.specs.Prelude.{◌≡◌, ◌^◌, ◌≤◌, length, IfOk, option_map};
+ghost use Rattle.dsedge_texts.specs.Readable.{held_by};
+
+use crate::fault::FileFault;
+use crate::folder::Folder;
+use crate::whole::MOST_BYTES;
+use std::alloc::{AllocError, Global};
+
+/// Files in memory, each a name and what its file holds; of two with one name the first counts.
+#[derive(Clone, Copy, Debug)]
+pub struct MemoryFolder<'a> {
+    /// The files.
+    pub files: &'a [(&'a str, &'a [u8])],
+}
+
+impl<'a> MemoryFolder<'a> {
+    /// What the file of a name holds, if there is one.
+    fn file(&self, name: &str) -> Option<&'a [u8]>
+        ensures { option_map (λ bytes. bytes.now) result ≡ held_by self.now.files.now name.now }
+    {
+        for (own, bytes) in self.files {
+            if *own == name {
+                return Some(*bytes);
+            }
+        }
+        None
+    }
+}
+
+/// A copy of bytes.
+fn copied(alloc: Global, bytes: &[u8]) -> Result<Vec<u8>, AllocError>
+    ensures { IfOk result (λ copy. copy.items ≡ bytes.now) }
+{
+    let mut copy = Vec::new(alloc);
+    copy.extend_from_slice(bytes)?;
+    Ok(copy)
+}
+
+impl Folder for MemoryFolder<'_> {
+    ghost tells = { λ _. Unit {0} };
+
+    ghost holds = { λ folder name. held_by folder.files.now name };
+
+    fn read(&self, alloc: Global, name: &str) -> Result<Vec<u8>, FileFault> {
+        let Some(bytes) = self.file(name) else {
+            return Err(FileFault::Unreadable);
+        };
+        if bytes.len() > MOST_BYTES {
+            return Err(FileFault::Unreadable);
+        }
+        match copied(alloc, bytes) {
+            Ok(copy) => Ok(copy),
+            Err(_) => Err(FileFault::NoMemory),
+        }
+    }
+}

@@ -1,0 +1,39 @@
+ghost use Rattle.std.specs.Prelude.{◌≡◌, ◌++◌, OnOk};
+ghost use Rattle.dsedge_texts.specs.Wording.{column_text, figure, name_of};
+
+use ds_checker::Column;
+use ds_domain::Contract;
+use line_text::push_number;
+use std::alloc::AllocError;
+
+/// Appends the name of the contract of a number; nothing where there is none.
+pub fn push_name(
+    text: &mut Vec<u8>,
+    contracts: &[Contract],
+    number: usize,
+) -> Result<(), AllocError>
+    ensures { OnOk result (text.new.items ≡ text.old.items ++ name_of contracts.now number) }
+{
+    match contracts.get(number) {
+        Some(contract) => text.extend_from_slice(contract.name.bytes()),
+        None => Ok(()),
+    }
+}
+
+/// How a column is written.
+pub fn column_text(column: Column) -> &'static [u8]
+    ensures { result.now ≡ column_text column }
+{
+    match column {
+        Column::Green => "green".as_bytes(),
+        Column::All => "all".as_bytes(),
+    }
+}
+
+/// Appends a figure, behind a space.
+pub fn push_figure(text: &mut Vec<u8>, number: u64) -> Result<(), AllocError>
+    ensures { OnOk result (text.new.items ≡ text.old.items ++ figure number) }
+{
+    text.push(b' ')?;
+    push_number(text, number)
+}

@@ -1,0 +1,82 @@
+use dsedge_lines::GivenName;
+use dsedge_texts::{
+    FileFault, Folder, MemoryFolder, SystemFolder, TextFault, read_texts, read_whole,
+};
+use pcap_capture::SliceIntake;
+use std::alloc::Global;
+use std::process::Abort;
+use std::test::Fail;
+
+/// Two files.
+const FILES: [(&str, &[u8]); 2] = [("one", b"first"), ("two", b"")];
+
+/// Expects what two files hold, in the order of their names.
+fn expect_texts(
+    rt: &impl Abort,
+    alloc: Global,
+    (one, other): (&str, &str),
+    wanted: (&[u8], &[u8]),
+) -> Result<(), Fail> {
+    let asked = [GivenName::new(one), GivenName::new(other)];
+    match read_texts(alloc, &MemoryFolder { files: &FILES }, &asked) {
+        Ok(texts) => {
+            assert_eq!(rt; texts.len(), 2);
+            assert_eq!(rt; (texts[0].as_slice(), texts[1].as_slice()), wanted);
+            Ok(())
+        }
+        Err(_) => Err(Fail::from("a file without a text")),
+    }
+}
+
+/// Expects which of two files is the first that is none.
+fn expect_none(
+    rt: &impl Abort,
+    alloc: Global,
+    (one, other): (&str, &str),
+    wanted: &str,
+) -> Result<(), Fail> {
+    let asked = [GivenName::new(one), GivenName::new(other)];
+    match read_texts(alloc, &MemoryFolder { files: &FILES }, &asked) {
+        Err(TextFault::File(name)) => {
+            assert_eq!(rt; name.text(), wanted);
+            Ok(())
+        }
+        Err(TextFault::NoMemory) => Err(Fail::from("no memory")),
+        Ok(_texts) => Err(Fail::from("no file without a text")),
+    }
+}
+
+#[test]
+fn texts_in_order(rt: HostRuntime) -> Result<(), Fail> {
+    expect_texts(&rt, rt.alloc(), ("two", "one"), (b"", b"first"))?;
+    expect_none(&rt, rt.alloc(), ("one", "three"), "three")?;
+    expect_none(&rt, rt.alloc(), ("four", "three"), "four")
+}
+
+#[test]
+fn a_file_that_is_none(rt: HostRuntime) {
+    let folder = MemoryFolder { files: &FILES };
+    let fault = folder.read(rt.alloc(), "One").err();
+    assert_eq!(rt; fault, Some(FileFault::Unreadable));
+}
+
+#[test]
+fn all_bytes_of_an_intake_that_gives_few_at_a_time(rt: HostRuntime) -> Result<(), Fail> {
+    let mut intake = SliceIntake {
+        most: 2,
+        ..SliceIntake::new(b"first")
+    };
+    let bytes = read_whole(rt.alloc(), &mut intake)?;
+    assert_eq!(rt; bytes.as_slice(), b"first".as_slice());
+    Ok(())
+}
+
+#[test]
+fn a_file_of_the_system(rt: HostRuntime) -> Result<(), Fail> {
+    let folder = SystemFolder::new(&rt);
+    let text = folder.read(rt.alloc(), "/proc/version")?;
+    assert!(rt; text.as_slice().starts_with(b"Linux"));
+    let fault = folder.read(rt.alloc(), "/proc/version/none").err();
+    assert_eq!(rt; fault, Some(FileFault::Unreadable));
+    Ok(())
+}
