@@ -2,7 +2,7 @@
 use Rattle.std.specs.Prelude.{ℕ, List, [], ◌∷◌, Option, None, Some}
 use Rattle.envelope_core.specs.Curve.{Curve, widened}
 use Rattle.meter_book.specs.Envelopes.{all_output, green_output}
-use Rattle.ds_domain_base.specs.Domains.{Domain, port_of, link_of}
+use Rattle.ds_domain_base.specs.Domains.{Domain, jitter_of, link_of, port_of, skew_of}
 use Rattle.ds_domain_base.specs.declared.contract.Contract.{Contract}
 use Rattle.ds_domain_base.specs.declared.parts.Link.{Link}
 use Rattle.ds_domain_base.specs.declared.parts.Port.{Port}
@@ -21,15 +21,6 @@ abbrev pub source_by : ℕ → Terms → Source
 source_by skew (Trusted committed None) = record { green = curve_of committed; all = curve_of committed }
 source_by skew (Trusted committed (Some peak)) = record { green = curve_of committed; all = curve_of peak }
 source_by skew (Policed parameters mode) = record { green = widened skew (green_output parameters); all = widened skew (all_output parameters) }
-
--- the skew of a port, and the jitter of a link; 0 where there is none
-abbrev pub skew_of : Option Port → ℕ
-skew_of None = 0
-skew_of (Some port) = port.skew
-
-abbrev pub jitter_of : Option Link → ℕ
-jitter_of None = 0
-jitter_of (Some link) = link.jitter
 
 -- what a contract's traffic keeps where it enters a domain
 unfoldable pub source_of : Domain → Contract → Source

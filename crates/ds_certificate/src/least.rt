@@ -7,7 +7,7 @@ ghost use Rattle.ds_certificate.specs.Ranges.{IsModerate, IsWithin};
 use crate::bound::Bound;
 use crate::certificate::{Bounds, Certificate};
 use crate::fault::CertificateFault;
-use crate::source::{Source, jitter};
+use crate::source::Source;
 use ds_domain_base::{Contract, Domain, fits};
 use moment_core::{Gap, bytes_over_ceil};
 use std::alloc::{AllocError, Global};
@@ -41,7 +41,7 @@ pub fn make(
 }
 
 /// Whether a contract fits a domain.
-fn is_fit(domain: &Domain, contract: &Contract) -> bool
+pub fn is_fit(domain: &Domain, contract: &Contract) -> bool
     ensures { result ≡ fits domain.now contract.now }
 {
     fits(domain, contract).is_ok()
@@ -59,7 +59,7 @@ fn least_bounds(alloc: Global, domain: &Domain, contract: &Contract) -> Result<B
     hops.push(last)?;
     let mut from = &contract.port;
     for to in path {
-        let next = delayed(&source, jitter(domain, *from, *to), last);
+        let next = delayed(&source, domain.jitter(*from, *to), last);
         hops.push(next)?;
         last = next;
         from = to;

@@ -1,8 +1,8 @@
 ghost use Rattle.std.specs.Prelude.{◌≡◌, ◌*◌, ◌≤◌, ◌^◌};
 ghost use Rattle.envelope_core.specs.Curve.{widened};
-ghost use Rattle.ds_domain_base.specs.Domains.{link_of, port_of};
+ghost use Rattle.ds_domain_base.specs.Domains.{port_of, skew_of};
 ghost use Rattle.ds_certificate.specs.Ranges.{IsModerate, IsModest};
-ghost use Rattle.ds_certificate.specs.Sources.{curve_of, jitter_of, skew_of, source_by, source_of};
+ghost use Rattle.ds_certificate.specs.Sources.{curve_of, source_by, source_of};
 
 use ds_domain_base::{Contract, Domain, Name, Profile, Terms};
 use envelope_core::{Envelope, widen};
@@ -26,7 +26,7 @@ impl Source {
         ensures value { result ≡ source_of domain.now contract.now }
         ensures moderate { IsModerate result }
     {
-        let skew = skew(domain, contract.port);
+        let skew = domain.port_skew(contract.port);
         source_by(skew, &contract.terms)
     }
 }
@@ -80,26 +80,4 @@ fn widened(envelope: Envelope, gap: Gap) -> Envelope
     ensures moderate { (result.rate ≤ 2 * 10 ^ 13) × (result.burst ≤ 5 * 10 ^ 13) }
 {
     widen(envelope, gap).unwrap()
-}
-
-/// The skew of the port of a name; none where the domain has no such port.
-fn skew(domain: &Domain, name: Name) -> Gap
-    ensures value { result ≡ skew_of (port_of domain.now name) }
-    ensures range { result ≤ 10 ^ 10 }
-{
-    match domain.port(name) {
-        Some(port) => port.skew.gap(),
-        None => Gap::NONE,
-    }
-}
-
-/// The jitter of the link from a name to a name; none where the domain has no such link.
-pub fn jitter(domain: &Domain, from: Name, to: Name) -> Gap
-    ensures value { result ≡ jitter_of (link_of domain.now from to) }
-    ensures range { result ≤ 10 ^ 10 }
-{
-    match domain.link(from, to) {
-        Some(link) => link.jitter.gap(),
-        None => Gap::NONE,
-    }
 }

@@ -7,8 +7,8 @@ ghost use Rattle.ds_checker.specs.Tests.{first_failed};
 ghost use Rattle.ds_checker.specs.declared.refusal.Refusal.TheVariants.{Shape};
 
 use crate::refusal::{Column, Refusal};
-use ds_certificate::{Bound, Bounds, Certificate, Source, jitter};
-use ds_domain_base::{Contract, Domain, fits};
+use ds_certificate::{Bound, Bounds, Certificate, Source, is_fit};
+use ds_domain_base::{Contract, Domain};
 use envelope_core::Envelope;
 use moment_core::{Gap, bytes_over_ceil};
 
@@ -40,13 +40,6 @@ fn has_shape(domain: &Domain, contract: &Contract, bounds: &Bounds) -> bool
     ensures { result ≡ (fits domain.now contract.now && nat_eq (length bounds.now) (suc (length contract.now.path))) }
 {
     is_fit(domain, contract) && bounds.hops().len() == contract.path.meters().len() + 1
-}
-
-/// Whether a contract fits the domain.
-fn is_fit(domain: &Domain, contract: &Contract) -> bool
-    ensures { result ≡ fits domain.now contract.now }
-{
-    fits(domain, contract).is_ok()
 }
 
 /// The refusal of the first bound that is too low, contract by contract, hop by hop, green packets before all. It looks as far
@@ -120,7 +113,7 @@ fn hops_refusal(
     let mut from = contract.port;
     let mut before = first;
     for (index, (to, bound)) in contract.path.meters().iter().zip(behind).enumerate() {
-        let jitter = jitter(domain, from, *to);
+        let jitter = domain.jitter(from, *to);
         let refusal = hop_refusal(number, index + 1, source, jitter, before, *bound);
         if refusal.is_some() {
             return refusal;

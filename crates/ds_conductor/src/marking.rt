@@ -13,8 +13,9 @@ use crate::sending::{Sending, send_frames};
 use crate::writing::write_capture;
 use ds_checker::Accepted;
 use ds_domain_base::Name;
-use ds_visits::{Gate, VisitsFault, colours};
+use ds_visits::{Gate, colours};
 use frame_marker::PortClassifier;
+use meter_book::NoteFault;
 use pcap_capture::{Frame, Heading, Intake, Link, Outlet, PcapFault};
 use std::alloc::{AllocError, Global};
 
@@ -151,8 +152,8 @@ fn mark_frames<O: Outlet, G: Gate>(
     };
     let records = frames.len() as u64;
     match colours(alloc, accepted, sending.sent.as_slice(), gate) {
-        Err(VisitsFault::NoMemory) => Err((Report::nothing(), MarkFault::NoMemory)),
-        Err(VisitsFault::JournalFull) => {
+        Err(NoteFault::NoMemory) => Err((Report::nothing(), MarkFault::NoMemory)),
+        Err(NoteFault::JournalFull) => {
             Err((unmarked_report(&sending, records), MarkFault::JournalFull))
         }
         Ok(colours) => {

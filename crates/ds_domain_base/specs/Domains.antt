@@ -35,6 +35,20 @@ same_ends a b = bytes_eq a.0 b.0 && bytes_eq a.1 b.1
 abbrev pub link_of : Domain → List ℕ → List ℕ → Option Link
 link_of d from to = lookup (same_ends (from, to)) d.links
 
+-- what delays of a link are at least, and by how much they differ at most; 0 where there is no link
+abbrev pub floor_of : Option Link → ℕ
+floor_of None = 0
+floor_of (Some link) = link.floor
+
+abbrev pub jitter_of : Option Link → ℕ
+jitter_of None = 0
+jitter_of (Some link) = link.jitter
+
+-- the skew of a port; 0 where there is none
+abbrev pub skew_of : Option Port → ℕ
+skew_of None = 0
+skew_of (Some port) = port.skew
+
 abbrev pub is_meter : Domain → List ℕ → Bool
 is_meter d name = is_some (meter_of d name)
 

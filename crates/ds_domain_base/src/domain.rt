@@ -1,7 +1,7 @@
-ghost use Rattle.std.specs.Prelude.{◌≡◌, ◌⊎◌, ◌++◌, List, ℕ, None, Some, position, IfOk, IfErr, OnOk, OnErr, if◌then◌else◌};
+ghost use Rattle.std.specs.Prelude.{◌≡◌, ◌≤◌, ◌^◌, ◌⊎◌, ◌++◌, List, ℕ, None, Some, position, IfOk, IfErr, OnOk, OnErr, if◌then◌else◌};
 ghost use Rattle.std.specs.Map.{keys_of};
 ghost use Rattle.std.specs.Str.{bytes_eq};
-ghost use Rattle.ds_domain_base.specs.Domains.{bare, is_meter, is_port, is_taken, link_fault, link_of, meter_fault, meter_of, port_fault, port_of, with_link, with_meter, with_port};
+ghost use Rattle.ds_domain_base.specs.Domains.{bare, floor_of, is_meter, is_port, is_taken, jitter_of, link_fault, link_of, meter_fault, meter_of, port_fault, port_of, skew_of, with_link, with_meter, with_port};
 ghost use Rattle.ds_domain_base.specs.Faults.{no_memory};
 ghost use Rattle.ds_domain_base.specs.Kept.{IsDomain};
 
@@ -9,6 +9,7 @@ use crate::fault::{DomainFault, Field, Kind, Section};
 use crate::name::Name;
 use crate::parts::{Link, Meter, Port};
 use indexmap::IndexMap;
+use moment_core::Gap;
 use std::alloc::Global;
 use std::hash::Hash;
 use std::marker::Model;
@@ -76,6 +77,39 @@ impl Domain {
         ensures { result ≡ link_of self.now from to }
     {
         self.links.get(&(from, to)).copied()
+    }
+
+    /// What delays of the link from a name to a name are at least; none where there is no such link.
+    pub fn floor(&self, from: Name, to: Name) -> Gap
+        ensures value { result ≡ floor_of (link_of self.now from to) }
+        ensures range { result ≤ 10 ^ 10 }
+    {
+        match self.link(from, to) {
+            Some(link) => link.floor.gap(),
+            None => Gap::NONE,
+        }
+    }
+
+    /// By how much delays of the link from a name to a name differ at most; none where there is no such link.
+    pub fn jitter(&self, from: Name, to: Name) -> Gap
+        ensures value { result ≡ jitter_of (link_of self.now from to) }
+        ensures range { result ≤ 10 ^ 10 }
+    {
+        match self.link(from, to) {
+            Some(link) => link.jitter.gap(),
+            None => Gap::NONE,
+        }
+    }
+
+    /// The skew of the port of a name; none where there is no such port.
+    pub fn port_skew(&self, name: Name) -> Gap
+        ensures value { result ≡ skew_of (port_of self.now name) }
+        ensures range { result ≤ 10 ^ 10 }
+    {
+        match self.port(name) {
+            Some(port) => port.skew.gap(),
+            None => Gap::NONE,
+        }
     }
 
     /// The place of the meter of a name among the meters, from 0.

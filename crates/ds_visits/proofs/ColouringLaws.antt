@@ -8,8 +8,8 @@ use Rattle.ds_checker.specs.Acceptance.{Table}
 use Rattle.ds_conductor_base.specs.Steps.{opened}
 use Rattle.ds_visits.specs.Passing.{Traffic, came_of, colours_of, entered, passed, passed_all}
 use Rattle.ds_visits.specs.Visits.{visits_of}
-use Rattle.ds_visits.specs.declared.fault.VisitsFault.{VisitsFault}
-use Rattle.ds_visits.specs.declared.fault.VisitsFault.TheVariants.{JournalFull, NoMemory}
+use Rattle.meter_book.specs.declared.book.NoteFault.{NoteFault}
+use Rattle.meter_book.specs.declared.book.NoteFault.TheVariants.{JournalFull, NoMemory}
 use Rattle.ds_visits.specs.declared.sent.Sent.{Sent}
 use Rattle.ds_visits.specs.declared.visit.Visit.{Visit}
 
@@ -41,7 +41,7 @@ module _ (sent : List Sent) where
       left_visits g index v all within is ∙ ap (option_and_then (λ h. passed_all sent h (drop (index + 1) all))) full
 
   -- one that is refused
-  pub visits_refused : (g first : Traffic) (index : ℕ) (v : Visit) (all : List Visit) (fault : VisitsFault) → index < length all → v ≡ get_or all index v
+  pub visits_refused : (g first : Traffic) (index : ℕ) (v : Visit) (all : List Visit) (fault : NoteFault) → index < length all → v ≡ get_or all index v
       → passed_all sent g (drop index all) ≡ passed_all sent first all
       → (fault ≡ NoMemory) ⊎ ((fault ≡ JournalFull) × (passed sent g v ≡ None))
       → (fault ≡ NoMemory) ⊎ ((fault ≡ JournalFull) × (passed_all sent first all ≡ None))
@@ -70,7 +70,7 @@ module _ (t : Table) (sent : List Sent) (books : List (Option Book)) (colours : 
   pub colours_made : (g : Traffic) → passed_all sent (record { books = books; colours = colours }) visits ≡ Some g → colours_of t sent ≡ Some g.colours
   colours_made g made = colours_are (Some g) made
 
-  pub colours_refused : (fault : VisitsFault)
+  pub colours_refused : (fault : NoteFault)
       → (fault ≡ NoMemory) ⊎ ((fault ≡ JournalFull) × (passed_all sent (record { books = books; colours = colours }) visits ≡ None))
       → (fault ≡ NoMemory) ⊎ ((fault ≡ JournalFull) × (colours_of t sent ≡ None))
   colours_refused fault (inl memory) = inl memory

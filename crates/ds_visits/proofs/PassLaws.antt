@@ -8,8 +8,8 @@ use Rattle.meter_book.specs.declared.row.Arrival.{Arrival}
 use Rattle.ds_conductor_base.specs.Steps.{some_of}
 use Rattle.ds_visits.specs.Noting.{noted_there}
 use Rattle.ds_visits.specs.Passing.{Traffic, arrival_of, passed, passed_by}
-use Rattle.ds_visits.specs.declared.fault.VisitsFault.{VisitsFault}
-use Rattle.ds_visits.specs.declared.fault.VisitsFault.TheVariants.{JournalFull, NoMemory}
+use Rattle.meter_book.specs.declared.book.NoteFault.{NoteFault}
+use Rattle.meter_book.specs.declared.book.NoteFault.TheVariants.{JournalFull, NoMemory}
 use Rattle.ds_visits.specs.declared.sent.Sent.{Sent}
 use Rattle.ds_visits.specs.declared.visit.Visit.{Visit}
 
@@ -79,13 +79,13 @@ module _ (sent : List Sent) (g : Traffic) (v : Visit) where
   module _ (b : Option Book) (s : Sent) (came : Colour) (book : slice_get g.books v.hop.site ≡ Some b) (packet : slice_get sent v.place ≡ Some s)
       (colour : slice_get g.colours v.place ≡ Some came) where
     -- there the packet is noted, or the journal is full
-    pub passed_done : {A : Type 0} (new : Option Book) (left : Colour) (result : Result A VisitsFault)
+    pub passed_done : {A : Type 0} (new : Option Book) (left : Colour) (result : Result A NoteFault)
         → OnOk result (noted_there b (arrival_of s v came) ≡ Some (new, left))
         → OnOk result (passed sent g v ≡ Some (record { books = slice_set g.books v.hop.site new; colours = slice_set g.colours v.place left }))
     passed_done new left (Ok x) done = passed_noting b s came book packet colour ∙ ap behind done
     passed_done new left (Err fault) done = done
 
-    pub passed_refused : {A : Type 0} (result : Result A VisitsFault)
+    pub passed_refused : {A : Type 0} (result : Result A NoteFault)
         → IfErr result (λ fault. (fault ≡ NoMemory) ⊎ ((fault ≡ JournalFull) × (noted_there b (arrival_of s v came) ≡ None)))
         → IfErr result (λ fault. (fault ≡ NoMemory) ⊎ ((fault ≡ JournalFull) × (passed sent g v ≡ None)))
     passed_refused (Ok x) refused = refused

@@ -1,5 +1,4 @@
 -- The visits of packets where each link takes its floor, and the colours that the packets leave with.
-pub mod Faults
 pub mod Laws
 pub mod Noting
 pub mod Passing

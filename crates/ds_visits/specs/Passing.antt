@@ -1,8 +1,8 @@
 -- What visits make of the books of the sites, and of the colours that packets carry.
-use Rattle.std.specs.Prelude.{ℕ, nat_eq, List, [], ◌∷◌, length, map, slice_get, slice_set, option_map, option_and_then, Option, None, Some, if◌then◌else◌}
+use Rattle.std.specs.Prelude.{ℕ, List, [], ◌∷◌, map, slice_get, slice_set, option_map, option_and_then, Option, None, Some, if◌then◌else◌}
 use Rattle.moment_core.specs.declared.colour.Colour.{Colour}
 use Rattle.moment_core.specs.declared.colour.Colour.TheVariants.{Red}
-use Rattle.meter_book.specs.Replay.{Book, next_row, noted}
+use Rattle.meter_book.specs.Replay.{Book, is_full, next_row, noted}
 use Rattle.meter_book.specs.declared.row.Arrival.{Arrival}
 use Rattle.ds_domain_base.specs.Sent.{came}
 use Rattle.ds_domain_base.specs.declared.contract.Contract.{Contract}
@@ -37,7 +37,7 @@ arrival_of s v came = record { flow = s.flow; packet = s.packet; hop = v.hop.num
 -- a book notes the arrival, and the packet carries on the colour that it leaves with; a book with as many rows as it takes stops all
 abbrev pub noting : Traffic → Visit → Book → Arrival → Option Traffic
 noting g v b a =
-    if nat_eq (length b.arrivals) b.capacity then
+    if is_full b then
     None
     else
     Some (record {

@@ -1,12 +1,11 @@
 -- The way of a contract's packets where each link takes its floor.
 use Rattle.std.specs.Prelude.{◌≡◌, ℕ, suc, ◌+◌, List, [], ◌∷◌, ◌++◌, map, slice_get, unwrap_or, Option, None, Some}
-use Rattle.ds_domain_base.specs.Domains.{Domain, link_of}
+use Rattle.ds_domain_base.specs.Domains.{Domain, floor_of, link_of}
 use Rattle.ds_domain_base.specs.declared.contract.Contract.{Contract}
 use Rattle.ds_domain_base.specs.declared.terms.Terms.{Terms}
 use Rattle.ds_checker.specs.Acceptance.{Table}
 use Rattle.meter_fabric.specs.Grounds.{contract_of, ground_of}
 use Rattle.meter_fabric.specs.Sites.{edge_hops, site_of}
-use Rattle.run_audit_base.specs.Premises.{floor_of}
 use Rattle.ds_visits.specs.declared.way.Stop.{Stop}
 
 -- what is policed comes to its edge when it is sent

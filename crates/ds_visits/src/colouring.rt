@@ -2,13 +2,12 @@ ghost use Rattle.std.specs.Prelude.{◌≡◌, ◌⊎◌, None, Some, IfErr, IfO
 ghost use Rattle.ds_visits.specs.Noting.{noted_there};
 ghost use Rattle.ds_visits.specs.Passing.{arrival_of, came_of, colours_of, passed, passed_all};
 
-use crate::fault::VisitsFault;
 use crate::gate::Gate;
 use crate::sent::Sent;
 use crate::visit::{Visit, visits};
 use ds_checker::Accepted;
 use ds_conductor_base::opened_books;
-use meter_book::{Arrival, MeterBook};
+use meter_book::{Arrival, MeterBook, NoteFault};
 use meter_fabric::contract_of;
 use moment_core::Colour;
 use std::alloc::{AllocError, Global};
@@ -22,9 +21,9 @@ pub fn colours<G: Gate>(
     accepted: &Accepted,
     sent: &[Sent],
     gate: &G,
-) -> Result<Vec<Colour>, VisitsFault>
+) -> Result<Vec<Colour>, NoteFault>
     ensures colours { IfOk result (λ colours. colours_of accepted.now sent.now ≡ Some colours.items) }
-    ensures refused { IfErr result (λ fault. (fault ≡ VisitsFault.NoMemory) ⊎ ((fault ≡ VisitsFault.JournalFull) × (colours_of accepted.now sent.now ≡ None))) }
+    ensures refused { IfErr result (λ fault. (fault ≡ NoteFault.NoMemory) ⊎ ((fault ≡ NoteFault.JournalFull) × (colours_of accepted.now sent.now ≡ None))) }
 {
     let mut books = opened_books(alloc, accepted)?;
     let mut colours = entered(alloc, accepted, sent)?;
@@ -63,9 +62,9 @@ fn pass_all<G: Gate>(
     colours: &mut Vec<Colour>,
     visits: &[Visit],
     gate: &G,
-) -> Result<(), VisitsFault>
+) -> Result<(), NoteFault>
     ensures done { OnOk result (passed_all sent.now (record { books = books.old.items; colours = colours.old.items }) visits.now ≡ Some (record { books = books.new.items; colours = colours.new.items })) }
-    ensures refused { IfErr result (λ fault. (fault ≡ VisitsFault.NoMemory) ⊎ ((fault ≡ VisitsFault.JournalFull) × (passed_all sent.now (record { books = books.old.items; colours = colours.old.items }) visits.now ≡ None))) }
+    ensures refused { IfErr result (λ fault. (fault ≡ NoteFault.NoMemory) ⊎ ((fault ≡ NoteFault.JournalFull) × (passed_all sent.now (record { books = books.old.items; colours = colours.old.items }) visits.now ≡ None))) }
 {
     for (index, visit) in visits.iter().enumerate() {
         let number = index as u64 + 1;
@@ -84,9 +83,9 @@ fn pass(
     books: &mut Vec<Option<MeterBook>>,
     colours: &mut Vec<Colour>,
     visit: Visit,
-) -> Result<(), VisitsFault>
+) -> Result<(), NoteFault>
     ensures done { OnOk result (passed sent.now (record { books = books.old.items; colours = colours.old.items }) visit ≡ Some (record { books = books.new.items; colours = colours.new.items })) }
-    ensures refused { IfErr result (λ fault. (fault ≡ VisitsFault.NoMemory) ⊎ ((fault ≡ VisitsFault.JournalFull) × (passed sent.now (record { books = books.old.items; colours = colours.old.items }) visit ≡ None))) }
+    ensures refused { IfErr result (λ fault. (fault ≡ NoteFault.NoMemory) ⊎ ((fault ≡ NoteFault.JournalFull) × (passed sent.now (record { books = books.old.items; colours = colours.old.items }) visit ≡ None))) }
 {
     let Some(packet) = sent.get(visit.place) else {
         return Ok(());
@@ -108,9 +107,9 @@ fn pass_at(
     colour: &mut Colour,
     packet: Sent,
     visit: Visit,
-) -> Result<(), VisitsFault>
+) -> Result<(), NoteFault>
     ensures done { OnOk result (noted_there book.old (arrival_of packet visit colour.old) ≡ Some (book.new, colour.new)) }
-    ensures refused { IfErr result (λ fault. (fault ≡ VisitsFault.NoMemory) ⊎ ((fault ≡ VisitsFault.JournalFull) × (noted_there book.old (arrival_of packet visit colour.old) ≡ None))) }
+    ensures refused { IfErr result (λ fault. (fault ≡ NoteFault.NoMemory) ⊎ ((fault ≡ NoteFault.JournalFull) × (noted_there book.old (arrival_of packet visit colour.old) ≡ None))) }
 {
     match book {
         None => Ok(()),

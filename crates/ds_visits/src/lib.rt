@@ -2,7 +2,6 @@
 #![tactic(auto)]
 
 pub mod colouring;
-pub mod fault;
 pub mod gate;
 pub mod laws;
 pub mod sent;
@@ -10,7 +9,6 @@ pub mod visit;
 pub mod way;
 
 pub use colouring::colours;
-pub use fault::VisitsFault;
 pub use gate::{Gate, OpenGate};
 pub use sent::Sent;
 pub use visit::{Visit, visits};

@@ -1,9 +1,8 @@
 ghost use Rattle.std.specs.Prelude.{◌≡◌, ◌+◌, ◌*◌, ◌<◌, ◌≤◌, ◌^◌, IfOk, length};
-ghost use Rattle.run_audit_base.specs.Premises.{floor_of};
 ghost use Rattle.ds_visits.specs.Ways.{AreWays, stops_at, stops_of};
 
 use ds_checker::Accepted;
-use ds_domain_base::{Contract, Domain, Link};
+use ds_domain_base::{Contract, Domain};
 use meter_fabric::{Hop, contract_of, edge_hop, flow_count, site_of};
 use moment_core::Gap;
 use std::alloc::{AllocError, Global};
@@ -88,7 +87,7 @@ fn stops_of(
     let mut delay = Gap::NONE;
     for to in path {
         number += 1;
-        delay = longer(delay, domain.link(from, *to));
+        delay = longer(delay, domain.floor(from, *to));
         let site = site_of(domain, *to);
         let hop = Hop { number, site };
         stops.push(Stop { hop, delay })?;
@@ -98,21 +97,10 @@ fn stops_of(
 }
 
 /// A delay and then that of a link.
-fn longer(delay: Gap, link: Option<Link>) -> Gap
-    requires { delay ≤ 16 * 10 ^ 10 }
-    ensures value { result ≡ delay + floor_of link }
-    ensures range { result ≤ delay + 10 ^ 10 }
+fn longer(delay: Gap, floor: Gap) -> Gap
+    requires delay { delay ≤ 16 * 10 ^ 10 }
+    requires floor { floor ≤ 10 ^ 10 }
+    ensures { result ≡ delay + floor }
 {
-    Gap::new(delay.get() + floor_of(link)).unwrap()
-}
-
-/// The least delay of a link, in nanoseconds; 0 where there is none.
-fn floor_of(link: Option<Link>) -> u64
-    ensures value { result ≡ floor_of link }
-    ensures range { result ≤ 10 ^ 10 }
-{
-    match link {
-        Some(link) => link.floor.get(),
-        None => 0,
-    }
+    Gap::new(delay.get() + floor.get()).unwrap()
 }

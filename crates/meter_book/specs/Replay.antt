@@ -1,5 +1,5 @@
 -- The replay of a list of arrivals through a meter, and the accounts of its rows.
-use Rattle.std.specs.Prelude.{ℕ, Bool, ◌+◌, ◌-◌, List, [], ◌∷◌, ◌++◌, length, count_by, sum_by, if◌then◌else◌}
+use Rattle.std.specs.Prelude.{ℕ, Bool, ◌+◌, ◌-◌, List, [], ◌∷◌, ◌++◌, length, nat_eq, count_by, sum_by, if◌then◌else◌}
 use Rattle.moment_core.specs.declared.colour.Colour.{Colour}
 use Rattle.moment_core.specs.Colours.{is_green, is_yellow, is_red}
 use Rattle.moment_core.specs.Metering.{Offer, used}
@@ -62,6 +62,10 @@ pub record Book : Type 0 where
   pub skew : ℕ
   pub capacity : ℕ
   pub arrivals : List Arrival
+
+-- it has as many rows as it takes
+abbrev pub is_full : Book → Bool
+is_full b = nat_eq (length b.arrivals) b.capacity
 
 -- its rows
 abbrev pub rows_of : Book → List Row

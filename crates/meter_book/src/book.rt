@@ -8,7 +8,7 @@ use crate::row::{Arrival, Row};
 use crate::stored_row::{StoredRow, row_among};
 use crate::tally::Tallies;
 use moment_core::Gap;
-use std::alloc::Global;
+use std::alloc::{AllocError, Global};
 use std::marker::Model;
 use thiserror::Error;
 
@@ -33,6 +33,16 @@ impl NoteFault {
             NoteFault::JournalFull => 1,
             NoteFault::NoMemory => 2,
         }
+    }
+}
+
+impl From<AllocError> for NoteFault {
+    ghost use Rattle.meter_book.specs.declared.book.NoteFault.TheVariants.{NoMemory};
+
+    ghost from_gives = { λ _ fault. fault ≡ NoMemory };
+
+    fn from(_error: AllocError) -> Self {
+        NoteFault::NoMemory
     }
 }
 
@@ -99,7 +109,7 @@ impl MeterBook {
         if self.rows.len() == self.capacity as usize {
             return Err(NoteFault::JournalFull);
         }
-        self.rows.reserve(1).map_err(|_| NoteFault::NoMemory)?;
+        self.rows.reserve(1)?;
         let place = self.rows.len() as u64;
         let row = self.meter.row(place, arrival);
         self.tallies.add(row.left, row.size);

@@ -3,11 +3,10 @@ use Rattle.std.specs.Prelude.{◌^◌, ℕ, ◌+◌, ◌-◌, nat_lt, [], length
 use Rattle.moment_core.specs.declared.colour.Mode.TheVariants.{Aware}
 use Rattle.meter_book.specs.AnyMeter.{opening_of}
 use Rattle.meter_book.specs.Replay.{Book}
-use Rattle.ds_domain_base.specs.Domains.{Domain, port_of}
+use Rattle.ds_domain_base.specs.Domains.{Domain, port_of, skew_of}
 use Rattle.ds_domain_base.specs.Sent.{edge_of}
 use Rattle.ds_domain_base.specs.declared.contract.Contract.{Contract}
 use Rattle.ds_domain_base.specs.declared.parts.Meter.{Meter}
-use Rattle.ds_certificate.specs.Sources.{skew_of}
 use Rattle.ds_checker.specs.Acceptance.{Table}
 use Rattle.meter_fabric.specs.Grounds.{Ground, contract_of, flow_count}
 use Rattle.meter_fabric.specs.declared.site.Opening.{Opening}

@@ -1,7 +1,7 @@
 -- A traveller: a packet on its way, the hops of its way, and what it carried away from those that it has visited.
-use Rattle.std.specs.Prelude.{ℕ, ◌-◌, nat_eq, nat_lt, List, [], ◌∷◌, ◌++◌, length, slice_get, option_map, unwrap_or, Option, None, Some, Result, Ok, Err, if◌then◌else◌}
+use Rattle.std.specs.Prelude.{ℕ, ◌-◌, nat_lt, List, [], ◌∷◌, ◌++◌, length, slice_get, option_map, unwrap_or, Option, None, Some, Result, Ok, Err, if◌then◌else◌}
 use Rattle.moment_core.specs.declared.colour.Colour.{Colour}
-use Rattle.meter_book.specs.Replay.{Book, next_row, noted}
+use Rattle.meter_book.specs.Replay.{Book, is_full, next_row, noted}
 use Rattle.meter_book.specs.declared.row.Arrival.{Arrival}
 use Rattle.meter_book.specs.declared.row.Row.{Row}
 use Rattle.ds_domain_base.specs.Sent.{came}
@@ -57,7 +57,7 @@ visit_at None t b moment = Err PathEnded
 visit_at (Some hop) t b moment =
     if nat_lt moment (last_moment t) then
     Err BeforeLast
-    else if nat_eq (length b.arrivals) b.capacity then
+    else if is_full b then
     Err JournalFull
     else
     Ok (noting t b hop (arrival_at t.packet hop moment (comes_as t)))

@@ -1,6 +1,4 @@
 ghost use Rattle.std.specs.Prelude.{◌≡◌, ◌≤◌, ◌^◌, length, min, option_and_then, option_copied, slice_get, take};
-ghost use Rattle.ds_certificate.specs.Sources.{skew_of};
-ghost use Rattle.ds_domain_base.specs.Domains.{port_of};
 ghost use Rattle.meter_fabric.specs.Grounds.{contract_of, flow_count, ground_of, most_flows};
 ghost use Rattle.meter_fabric.specs.Openings.{book_with, edge_opening, opening_at, site_count};
 ghost use Rattle.meter_fabric.specs.Sites.{site_of};
@@ -62,18 +60,8 @@ fn edge_opening(domain: &Domain, contract: &Contract) -> Option<Opening>
     ensures { result ≡ edge_opening domain.now contract.now }
 {
     let meter = contract.edge()?;
-    let skew = port_skew(domain, contract.port);
+    let skew = domain.port_skew(contract.port);
     Some(Opening { meter, skew })
-}
-
-/// The skew of the port of a name; none where the domain has no such port.
-fn port_skew(domain: &Domain, name: Name) -> Gap
-    ensures { result ≡ skew_of (port_of domain.now name) }
-{
-    match domain.port(name) {
-        Some(port) => port.skew.gap(),
-        None => Gap::NONE,
-    }
 }
 
 /// How many contracts of a table packets can be of.

@@ -5,13 +5,12 @@ use Rattle.std.specs.List.{All}
 use Rattle.std.specs.Option.{ForSome, option_map_or}
 use Rattle.meter_book.specs.Replay.{Journal, journal_rows}
 use Rattle.meter_book.specs.declared.row.Row.{Row}
-use Rattle.ds_domain_base.specs.Domains.{Domain, link_of}
+use Rattle.ds_domain_base.specs.Domains.{Domain, floor_of, jitter_of, link_of}
 use Rattle.ds_domain_base.specs.declared.contract.Contract.{Contract}
 use Rattle.ds_domain_base.specs.declared.parts.Link.{Link}
-use Rattle.ds_certificate.specs.Sources.{jitter_of}
 use Rattle.meter_fabric.specs.Grounds.{Ground, contract_of}
 use Rattle.meter_fabric.specs.declared.trail.Receipt.{Receipt}
-use Rattle.run_audit_base.specs.Premises.{IsInTime, IsOver, IsTimely, KeepsLinks, KeepsSkews, KeepsTime, Premises, floor_of}
+use Rattle.run_audit_base.specs.Premises.{IsInTime, IsOver, IsTimely, KeepsLinks, KeepsSkews, KeepsTime, Premises}
 use Rattle.run_audit_base.specs.Runs.{IsRun, Passage, Run}
 use Rattle.run_audit_base.specs.Sendings.{ForSent, Sending, sending_of}
 use Rattle.run_audit.specs.Orders.{in_order}

@@ -8,19 +8,18 @@ use Rattle.envelope_core.specs.Curve.{Curve}
 use Rattle.envelope_core.specs.LeakyBucket.{overflow_of}
 use Rattle.meter_book.specs.Replay.{Journal, journal_rows}
 use Rattle.meter_book.specs.declared.row.Row.{Row}
-use Rattle.ds_domain_base.specs.Domains.{Domain, link_of}
+use Rattle.ds_domain_base.specs.Domains.{Domain, floor_of, jitter_of, link_of}
 use Rattle.ds_domain_base.specs.declared.contract.Contract.{Contract}
 use Rattle.ds_domain_base.specs.declared.quantity.Lifetime.{Lifetime}
 use Rattle.ds_domain_base.specs.declared.parts.Link.{Link}
 use Rattle.ds_domain_base.specs.declared.terms.Terms.{Terms}
 use Rattle.ds_domain_base.specs.declared.terms.Terms.TheVariants.{Trusted, Policed}
-use Rattle.ds_certificate.specs.Sources.{jitter_of, source_of}
+use Rattle.ds_certificate.specs.Sources.{source_of}
 use Rattle.ds_certificate.specs.declared.source.Source.{Source}
 use Rattle.ds_checker.specs.declared.refusal.Column.{Column}
 use Rattle.ds_checker.specs.declared.refusal.Column.TheVariants.{Green, All}
 use Rattle.meter_fabric.specs.Grounds.{Ground, contract_of}
 use Rattle.meter_fabric.specs.declared.trail.Receipt.{Receipt}
-use Rattle.run_audit_base.specs.Premises.{floor_of}
 use Rattle.run_audit_base.specs.Runs.{Passage, Run}
 use Rattle.run_audit_base.specs.Sendings.{Sending, passages_of, sending_of, sent_items}
 use Rattle.run_audit.specs.Orders.{in_order}

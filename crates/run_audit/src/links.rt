@@ -1,8 +1,7 @@
 //! Whether links keep their floors and jitters.
-ghost use Rattle.std.specs.Prelude.{◌≡◌, ◌≤◌, ◌^◌, map};
-ghost use Rattle.ds_certificate.specs.Sources.{jitter_of};
+ghost use Rattle.std.specs.Prelude.{◌≡◌, map};
+ghost use Rattle.ds_domain_base.specs.Domains.{link_of};
 ghost use Rattle.meter_fabric.specs.Grounds.{ground_of};
-ghost use Rattle.run_audit_base.specs.Premises.{floor_of};
 ghost use Rattle.run_audit.specs.Assembled.{passage_of};
 ghost use Rattle.run_audit.specs.Hops.{delayed_hop, untimely_hop};
 ghost use Rattle.run_audit.specs.Verdicts.{against_sent, first_found, is_over};
@@ -10,29 +9,16 @@ ghost use Rattle.run_audit.specs.Verdicts.{against_sent, first_found, is_over};
 use crate::sending::{Sent, sent_of};
 use crate::verdict::Verdict;
 use ds_checker::Accepted;
-use ds_domain_base::{Contract, Domain, Link};
+use ds_domain_base::{Contract, Domain, Name};
 use meter_fabric::{Trail, contract_of};
 use moment_core::Moment;
 
-/// The least delay of a link, and by how much its delays differ at most, in nanoseconds; 0 where there is none.
-fn delays_of(link: Option<Link>) -> (u64, u64)
-    ensures floor { result.0 ≡ floor_of link }
-    ensures jitter { result.1 ≡ jitter_of link }
-    ensures range { (result.0 ≤ 10 ^ 10) × (result.1 ≤ 10 ^ 10) }
+/// Whether what left a name at a moment arrives over the link to a name in its time.
+fn is_over(domain: &Domain, from: Name, to: Name, moment: Moment, arrival: Moment) -> bool
+    ensures { result ≡ is_over (link_of domain.now from to) moment arrival }
 {
-    match link {
-        Some(link) => (link.floor.get(), link.jitter.get()),
-        None => (0, 0),
-    }
-}
-
-/// Whether what left at a moment arrives over a link in its time.
-fn is_over(link: Option<Link>, moment: Moment, arrival: Moment) -> bool
-    ensures { result ≡ is_over link moment arrival }
-{
-    let (floor, jitter) = delays_of(link);
-    let earliest = moment.get() + floor;
-    let latest = earliest + jitter;
+    let earliest = moment.get() + domain.floor(from, to).get();
+    let latest = earliest + domain.jitter(from, to).get();
     let arrival = arrival.get();
     earliest <= arrival && arrival <= latest
 }
@@ -45,7 +31,7 @@ fn untimely_hop(domain: &Domain, contract: &Contract, sent: &Sent<'_>) -> Option
     let mut moment = sent.moment;
     for (to, receipt) in contract.path.meters().iter().zip(sent.receipts) {
         let arrival = receipt.row.arrival;
-        if !is_over(domain.link(from, *to), moment, arrival) {
+        if !is_over(domain, from, *to, moment, arrival) {
             return Some(receipt.row.hop);
         }
         from = *to;

@@ -24,13 +24,13 @@ use Rattle.meter_book.specs.declared.any_meter.Parameters.{Parameters}
 use Rattle.meter_book.specs.declared.any_meter.Parameters.TheVariants.{SrTcm, TrTcm, Rfc4115}
 use Rattle.meter_book.specs.declared.row.Row.{Row}
 use Rattle.meter_book.proofs.RowLaws.{opened_rows_keep}
-use Rattle.ds_domain_base.specs.Domains.{Domain, port_of}
+use Rattle.ds_domain_base.specs.Domains.{Domain, port_of, skew_of}
 use Rattle.ds_domain_base.specs.Sent.{came, has_peak, shown}
 use Rattle.ds_domain_base.specs.declared.contract.Contract.{Contract}
 use Rattle.ds_domain_base.specs.declared.terms.Terms.{Terms}
 use Rattle.ds_domain_base.specs.declared.terms.Terms.TheVariants.{Trusted, Policed}
 use Rattle.ds_certificate.specs.Columns.{green_column, all_column}
-use Rattle.ds_certificate.specs.Sources.{skew_of, source_by, source_of}
+use Rattle.ds_certificate.specs.Sources.{source_by, source_of}
 use Rattle.ds_checker.specs.Acceptance.{Table}
 use Rattle.meter_fabric.specs.Grounds.{Ground, contract_of}
 use Rattle.meter_fabric.specs.Openings.{opening_at}

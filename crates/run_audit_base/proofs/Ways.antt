@@ -10,16 +10,16 @@ use Rattle.std.proofs.lemmas.Slice.Eq.{bytes_eq-Decides}
 use Rattle.moment_core.specs.Conformance.{size_within, Keeps}
 use Rattle.moment_core.specs.Volume.{bytes_over}
 use Rattle.envelope_core.proofs.Windows.{IsDelayed, Keeps-delayed, Keeps-looser, sum_by-mono, sum_by-none, sum_by-map, sum_by-flat_map}
-use Rattle.ds_domain_base.specs.Domains.{Domain, link_of}
+use Rattle.ds_domain_base.specs.Domains.{Domain, floor_of, jitter_of, link_of}
 use Rattle.ds_domain_base.specs.Fitting.{repeats}
 use Rattle.ds_certificate.specs.Bounds.{Grows}
 use Rattle.ds_certificate.specs.Columns.{Bound, Column}
-use Rattle.ds_certificate.specs.Sources.{jitter_of, jitters_along}
+use Rattle.ds_certificate.specs.Sources.{jitters_along}
 use Rattle.ds_certificate.specs.declared.source.Source.{Source}
 use Rattle.ds_checker.specs.Loads.{bound_into}
 use Rattle.meter_fabric.specs.Sites.{site_of}
 use Rattle.meter_fabric.specs.declared.trail.Receipt.{Receipt}
-use Rattle.run_audit_base.specs.Premises.{IsOver, floor_of}
+use Rattle.run_audit_base.specs.Premises.{IsOver}
 
 -- a row of a site is used when it arrives, or by the skew later
 abbrev pub IsUsed : ℕ → ℕ → Receipt → Type 0

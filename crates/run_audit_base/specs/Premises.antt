@@ -5,12 +5,12 @@ use Rattle.std.specs.Option.{ForSome}
 use Rattle.moment_core.specs.Colours.{is_green, is_in_profile}
 use Rattle.envelope_core.specs.Curve.{KeepsCurve}
 use Rattle.meter_book.specs.Replay.{journal_rows}
-use Rattle.ds_domain_base.specs.Domains.{Domain, link_of}
+use Rattle.ds_domain_base.specs.Domains.{Domain, floor_of, jitter_of, link_of}
 use Rattle.ds_domain_base.specs.declared.contract.Contract.{Contract}
 use Rattle.ds_domain_base.specs.declared.parts.Link.{Link}
 use Rattle.ds_domain_base.specs.declared.terms.Terms.{Terms}
 use Rattle.ds_domain_base.specs.declared.terms.Terms.TheVariants.{Trusted, Policed}
-use Rattle.ds_certificate.specs.Sources.{jitter_of, source_of}
+use Rattle.ds_certificate.specs.Sources.{source_of}
 use Rattle.meter_fabric.specs.Grounds.{Ground, contract_of}
 use Rattle.meter_fabric.specs.declared.trail.Receipt.{Receipt}
 use Rattle.run_audit_base.specs.Runs.{Run}
@@ -29,11 +29,6 @@ abbrev pub KeepsSource : Ground → Run → ℕ → Contract → Type 0
 KeepsSource g run flow c =
     KeepsCurve (source_of g.domain c).green (sent_items is_green c (passages_of flow run))
     × KeepsCurve (source_of g.domain c).all (sent_items is_in_profile c (passages_of flow run))
-
--- the least delay of a link; 0 where there is none
-abbrev pub floor_of : Option Link → ℕ
-floor_of None = 0
-floor_of (Some link) = link.floor
 
 -- what left at a moment arrives over a link after its floor at the least, and by its jitter later at the most
 abbrev pub IsOver : Option Link → ℕ → ℕ → Type 0

@@ -1,6 +1,5 @@
 use Rattle.std.proofs.Common.{◌+◌, ◌++◌, arith, ap, sym, ◌∙◌}
 use Rattle.std.proofs.lemmas.List.{drop_all}
-use Rattle.run_audit_base.specs.Premises.{floor_of}
 use Rattle.ds_visits.specs.Ways.{stops_along}
 use Rattle.ds_visits.proofs.StopLaws.{stop_more, stops_along-none}
 use Rattle.ds_visits.proofs.way.stops_of.Goals as goal
@@ -8,10 +7,10 @@ use Rattle.ds_visits.proofs.way.stops_of.Goals as goal
 pub loop-to-preserved : goal.loop-to-preserved
 loop-to-preserved c = record {
   counted = omega arith;
-  reached = omega (arith, c.loop-to.invariant.reached, c.longer-delay.ensures.range);
+  reached = omega (arith, c.loop-to.invariant.reached, c.longer-delay.ensures, c.floor.ensures.range);
   value = stop_more c.loop-to.stops.items c.push-in-loop-to.new.self.items _ c.args.domain.now (c.loop-to.number + 1) c.loop-to.to-index c.site_of-site.result
       c.loop-to.from c.to-item.result c.loop-to.delay c.longer-delay.result c.meters-path.result.now
-      c.loop-to-test.true c.to-item.is c.site_of-site.ensures (c.longer-delay.ensures.value ∙ ap (λ link. c.loop-to.delay + floor_of link) c.link.ensures)
+      c.loop-to-test.true c.to-item.is c.site_of-site.ensures (c.longer-delay.ensures ∙ ap (λ floor. c.loop-to.delay + floor) c.floor.ensures.value)
       c.in_ok-push-2.ensures.items c.loop-to.invariant.value;
 }
 
