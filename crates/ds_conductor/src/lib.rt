@@ -3,6 +3,7 @@
 //! The calls of steps (`ds_conductor_base`) and of the gate round visits (`ds_visits`) stand here too, by one name for all callers.
 #![tactic(auto)]
 
+pub mod fault;
 pub mod marking;
 pub mod reading;
 pub mod report;
