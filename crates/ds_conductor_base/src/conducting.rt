@@ -19,7 +19,7 @@ pub fn conduct<'a>(
     accepted: &'a Accepted,
     steps: &[Step],
 ) -> Result<Run<'a>, ConductFault>
-    ensures ground { IfOk result (λ run. run.ground ≡ ground_of accepted.now) }
+    ensures basis { IfOk result (λ run. run.basis ≡ ground_of accepted.now) }
     ensures run { IfOk result (λ run. conducted accepted.now steps.now ≡ Ok run.run) }
     ensures refused { IfErr result (λ fault. (fault ≡ ConductFault.NoMemory) ⊎ (conducted accepted.now steps.now ≡ Err fault)) }
 {

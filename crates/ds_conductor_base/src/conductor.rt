@@ -117,7 +117,7 @@ impl<'a> Conductor<'a> {
     /// The run that the steps made: the journals of the sites in their order, and the packets as they were sent. `AllocError`
     /// where memory runs out.
     pub fn finish(self, alloc: Global) -> Result<Run<'a>, AllocError>
-        ensures { IfOk result (λ run. run ≡ record { ground = ground_of self.entry.table; run = run_so_far self.entry.stage }) }
+        ensures { IfOk result (λ run. run ≡ record { basis = ground_of self.entry.table; run = run_so_far self.entry.stage }) }
     {
         let Conductor {
             accepted,

@@ -71,7 +71,7 @@ impl<'a> AuditCommand<'a> {
 
     /// The run that the steps made; there are none from here on.
     fn finish(&mut self) -> Result<Run<'a>, AllocError>
-        ensures { IfOk result (λ run. run ≡ record { ground = ground_of self.old.table; run = run_so_far self.old.stage }) }
+        ensures { IfOk result (λ run. run ≡ record { basis = ground_of self.old.table; run = run_so_far self.old.stage }) }
     {
         let conductor = match self.conductor.take() {
             Some(conductor) => conductor,
@@ -114,7 +114,7 @@ fn judge(
     run: &Run<'_>,
     out: &mut Vec<u8>,
 ) -> Result<Ending, AllocError>
-    requires { run.now.ground ≡ ground_of accepted.now }
+    requires { run.now.basis ≡ ground_of accepted.now }
     ensures { AnswersAll (behind out.old.items (audit_of accepted.now run.now.run)) out.new.items result }
 {
     let verdict = audit(alloc, run)?;

@@ -15,5 +15,5 @@ run_of journals trails = record { journals = journals; passages = map passage_of
 
 -- a run, and the ground that it stands on
 pub record GroundRun : Type 0 where
-  pub ground : Ground
+  pub basis : Ground
   pub run : Run

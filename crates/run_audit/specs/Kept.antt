@@ -5,7 +5,7 @@ use Rattle.run_audit.specs.Assembled.{GroundRun, run_of}
 use Rattle.run_audit.specs.declared.run.Run.TheInside as runs
 
 abbrev pub ground_run_of : runs.Inside → GroundRun
-ground_run_of r = record { ground = ground_of r.accepted.now; run = run_of r.journals.items r.trails.items }
+ground_run_of r = record { basis = ground_of r.accepted.now; run = run_of r.journals.items r.trails.items }
 
 -- the run is one of the table, as a ground
 abbrev pub IsKept : runs.Inside → Type 0

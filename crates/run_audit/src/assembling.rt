@@ -28,7 +28,7 @@ impl<'a> Run<'a> {
         journals: Vec<Journal>,
         trails: Vec<Trail>,
     ) -> Result<Run<'a>, (Vec<Journal>, Vec<Trail>, AssembleFault)>
-        ensures run { IfOk result (λ run. run ≡ record { ground = ground_of accepted.now; run = run_of journals.items trails.items }) }
+        ensures run { IfOk result (λ run. run ≡ record { basis = ground_of accepted.now; run = run_of journals.items trails.items }) }
         ensures refused { IfErr result (λ refused. IsRefusal (ground_of accepted.now) (run_of journals.items trails.items) refused.2) }
         ensures back { IfErr result (λ refused. (refused.0 ≡ journals) × (refused.1 ≡ trails)) }
     {

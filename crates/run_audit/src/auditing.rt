@@ -25,9 +25,9 @@ use std::alloc::{AllocError, Global};
 /// any order, in which trusted sources keep their buckets, links keep their jitter and meters their skew, every packet sent
 /// within its committed contract leaves every meter green and none within its peak contract leaves one red.
 pub fn audit(alloc: Global, run: &Run<'_>) -> Result<Verdict, AllocError>
-    ensures verdict { IfOk result (λ verdict. verdict ≡ verdict_of run.now.ground run.now.run) }
-    ensures kept { IfOk result (λ verdict. (verdict ≡ Verdict.Kept) ↔ Premises run.now.ground run.now.run) }
-    ensures colours { IfOk result (λ verdict. verdict ≡ Verdict.Kept → ColoursKept run.now.ground run.now.run) }
+    ensures verdict { IfOk result (λ verdict. verdict ≡ verdict_of run.now.basis run.now.run) }
+    ensures kept { IfOk result (λ verdict. (verdict ≡ Verdict.Kept) ↔ Premises run.now.basis run.now.run) }
+    ensures colours { IfOk result (λ verdict. verdict ≡ Verdict.Kept → ColoursKept run.now.basis run.now.run) }
 {
     // what is accepted is acceptable: the law of colours rests on that
     let _acceptable = run.accepted().domain();
@@ -37,7 +37,7 @@ pub fn audit(alloc: Global, run: &Run<'_>) -> Result<Verdict, AllocError>
 
 /// What is found first against a run.
 fn first_broken(alloc: Global, run: &Run<'_>) -> Result<Option<Verdict>, AllocError>
-    ensures { IfOk result (λ found. found ≡ first_of (time_of run.now.ground run.now.run) (first_of (source_of_run run.now.ground run.now.run) (first_of (link_of_run run.now.ground run.now.run) (skew_of_run run.now.run)))) }
+    ensures { IfOk result (λ found. found ≡ first_of (time_of run.now.basis run.now.run) (first_of (source_of_run run.now.basis run.now.run) (first_of (link_of_run run.now.basis run.now.run) (skew_of_run run.now.run)))) }
 {
     let trails = by_number(alloc, run)?;
     let outside = outside(run, trails.as_slice());
@@ -58,14 +58,14 @@ fn first_broken(alloc: Global, run: &Run<'_>) -> Result<Option<Verdict>, AllocEr
 /// What is found against the time of contracts.
 fn outside(run: &Run<'_>, trails: &[&Trail]) -> Option<Verdict>
     requires { map (λ trail. passage_of trail.now) trails.now ≡ by_number run.now.run.passages }
-    ensures { result ≡ time_of run.now.ground run.now.run }
+    ensures { result ≡ time_of run.now.basis run.now.run }
 {
     first_outside(run.accepted(), trails)
 }
 
 /// What is found against the envelopes of trusted sources.
 fn over(alloc: Global, run: &Run<'_>) -> Result<Option<Verdict>, AllocError>
-    ensures { IfOk result (λ found. found ≡ source_of_run run.now.ground run.now.run) }
+    ensures { IfOk result (λ found. found ≡ source_of_run run.now.basis run.now.run) }
 {
     let trails = by_contract(alloc, run)?;
     Ok(first_spilled(run.accepted(), trails.as_slice()))
@@ -74,7 +74,7 @@ fn over(alloc: Global, run: &Run<'_>) -> Result<Option<Verdict>, AllocError>
 /// What is found against the floors and jitters of links.
 fn delayed(run: &Run<'_>, trails: &[&Trail]) -> Option<Verdict>
     requires { map (λ trail. passage_of trail.now) trails.now ≡ by_number run.now.run.passages }
-    ensures { result ≡ link_of_run run.now.ground run.now.run }
+    ensures { result ≡ link_of_run run.now.basis run.now.run }
 {
     first_delayed(run.accepted(), trails)
 }

@@ -32,7 +32,7 @@ impl<'a> Run<'a> {
     /// The run of journals and trails that are known to be one.
     pub fn of(accepted: &'a Accepted, journals: Vec<Journal>, trails: Vec<Trail>) -> Self
         requires { IsRun (ground_of accepted.now) (run_of journals.items trails.items) }
-        ensures { result ≡ record { ground = ground_of accepted.now; run = run_of journals.items trails.items } }
+        ensures { result ≡ record { basis = ground_of accepted.now; run = run_of journals.items trails.items } }
     {
         Run {
             accepted,
@@ -43,8 +43,8 @@ impl<'a> Run<'a> {
 
     /// The table that it is a run of.
     pub fn accepted(&self) -> &'a Accepted
-        ensures value { ground_of result.now ≡ self.now.ground }
-        ensures run { IsRun self.now.ground self.now.run }
+        ensures value { ground_of result.now ≡ self.now.basis }
+        ensures run { IsRun self.now.basis self.now.run }
     {
         self.accepted
     }
@@ -52,7 +52,7 @@ impl<'a> Run<'a> {
     /// The journals of the sites.
     pub fn journals(&self) -> &[Journal]
         ensures value { result.now ≡ self.now.run.journals }
-        ensures run { IsRun self.now.ground self.now.run }
+        ensures run { IsRun self.now.basis self.now.run }
     {
         self.journals.as_slice()
     }
@@ -60,7 +60,7 @@ impl<'a> Run<'a> {
     /// The trails of the packets.
     pub fn trails(&self) -> &[Trail]
         ensures value { map passage_of result.now ≡ self.now.run.passages }
-        ensures run { IsRun self.now.ground self.now.run }
+        ensures run { IsRun self.now.basis self.now.run }
     {
         self.trails.as_slice()
     }

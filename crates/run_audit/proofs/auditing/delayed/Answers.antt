@@ -9,5 +9,5 @@ pub returns : goal.returns
 returns c =
     c.first_delayed.ensures
     ∙ ap (λ g. first_found (λ p. against_sent g (delayed_hop g.domain p.packet.number) p) (map (λ trail. passage_of trail.now) c.args.trails.now)) c.accepted.ensures.value
-    ∙ ap (λ ps. first_found (λ p. against_sent c.args.run.now.ground (delayed_hop c.args.run.now.ground.domain p.packet.number) p) ps) c.requires
-    ∙ link_of-hops c.args.run.now.ground c.args.run.now.run c.accepted.ensures.run
+    ∙ ap (λ ps. first_found (λ p. against_sent c.args.run.now.basis (delayed_hop c.args.run.now.basis.domain p.packet.number) p) ps) c.requires
+    ∙ link_of-hops c.args.run.now.basis c.args.run.now.run c.accepted.ensures.run
