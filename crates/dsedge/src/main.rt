@@ -8,9 +8,9 @@ mod start;
 mod tests;
 
 use crate::start::{refuse, start};
-use dsedge_texts::SystemFolder;
 use dsedge_lines::Words;
 use dsedge_serve::Fault;
+use dsedge_texts::SystemFolder;
 use pcap_capture::{ReadIntake, WriteOutlet};
 use std::env;
 use std::io::{Error, ErrorKind};

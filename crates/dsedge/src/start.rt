@@ -9,9 +9,9 @@ ghost use Rattle.dsedge_base.specs.Files.{files_of};
 ghost use Rattle.dsedge_texts.specs.Readable.{texts_of};
 
 use dsedge_base::{Plan, UsageFault, plan};
-use dsedge_texts::{Folder, TextFault, read_texts};
 use dsedge_lines::{FirstLineFault, Words, first_line};
 use dsedge_serve::{Fault, serve};
+use dsedge_texts::{Folder, TextFault, read_texts};
 use pcap_capture::{Intake, Outlet};
 use std::alloc::Global;
 
