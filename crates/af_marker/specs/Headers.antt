@@ -1,10 +1,12 @@
 -- The IPv4 header (RFC 791 section 3.1) and its code point (RFC 2474 section 3).
-use Rattle.std.specs.Prelude.{ℕ, ◌+◌, ◌*◌, ◌/◌, ◌%◌, Bool, not, nat_eq, nat_le, nat_lt, ◌&&◌, ◌||◌, if◌then◌else◌, List, length, take, drop, slice_index, Option, None, Some, Result, Ok, Err}
+use Rattle.std.specs.Prelude.{ℕ, ◌+◌, ◌*◌, ◌/◌, ◌%◌, Bool, not, nat_eq, nat_le, nat_lt, ◌&&◌, ◌||◌, if◌then◌else◌, List}
+use Rattle.std.specs.Prelude.{length, take, drop, slice_index, Option, None, Some, Result, Ok, Err}
 use Rattle.byteorder.specs.Endian.{big_number}
 use Rattle.af_marker.specs.declared.ipv4.Header.{Header}
 use Rattle.af_marker.specs.declared.ipv4.HeaderFault.{HeaderFault}
 use Rattle.af_marker.specs.declared.ipv4.HeaderFault.TheVariants.{NotIpv4, ShortHeader, BadLength}
-use Rattle.af_marker.specs.Fields.{flags_and_offset, options, protocol_field, source_address, target_address, total_length_field, type_of_service, version_and_length}
+use Rattle.af_marker.specs.Fields.{flags_and_offset, options, protocol_field, source_address, target_address}
+use Rattle.af_marker.specs.Fields.{total_length_field, type_of_service, version_and_length}
 use Rattle.af_marker.specs.Checksums.{ones_sum, words}
 
 -- the version, in the upper half of its byte

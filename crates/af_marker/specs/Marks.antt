@@ -21,4 +21,7 @@ checksum_of bytes = 65535 - ones_sum (words (take (header_length bytes) (with_ch
 -- a header with another code point; its checksum is brought up to it where it was right, and stays where it was not
 unfoldable pub marked : ℕ → List ℕ → List ℕ
 marked dscp bytes =
-    if is_verified bytes then with_checksum (checksum_of (with_dscp dscp bytes)) (with_dscp dscp bytes) else with_dscp dscp bytes
+    if is_verified bytes then
+    with_checksum (checksum_of (with_dscp dscp bytes)) (with_dscp dscp bytes)
+    else
+    with_dscp dscp bytes

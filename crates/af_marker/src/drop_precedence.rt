@@ -28,7 +28,8 @@ pub fn dscp(class: Class, colour: Colour) -> Dscp
 #[tactic(auto, using(crate::proofs::CodePointLaws::is_green, crate::proofs::CodePointLaws::is_yellow, crate::proofs::CodePointLaws::is_red, crate::proofs::CodePointLaws::has_no_colour))]
 pub fn colour_of(class: Class, dscp: Dscp) -> Option<Colour>
     ensures value { result ≡ colour_at class dscp }
-    ensures exact { MatchOption result ((colour : Colour) → dscp ≡ code_point class colour → ⊥) (λ colour. dscp ≡ code_point class colour) }
+    ensures exact { MatchOption result ((colour : Colour) → dscp ≡ code_point class colour → ⊥)
+        (λ colour. dscp ≡ code_point class colour) }
 {
     let first = 8 * class.get() + 2;
     match dscp.get() {

@@ -44,9 +44,12 @@ fn set_dscp(bytes: &mut [u8], header_bytes: usize, verified: bool, dscp: Dscp)
 pub fn remark(bytes: &mut [u8], dscp: Dscp) -> Result<Header, HeaderFault>
     ensures answer { result ≡ header_of bytes.old }
     ensures marked { MatchResult result (λ _. bytes.new ≡ marked dscp bytes.old) (λ _. bytes.new ≡ bytes.old) }
-    ensures verifies { IfOk result (λ before. IsTrue before.verified → header_of bytes.new ≡ Ok (record before { dscp = dscp })) }
-    ensures apart { (place : ℕ) → place ≢ 1 → place ≢ 10 → place ≢ 11 → slice_index bytes.new place ≡ slice_index bytes.old place }
-    ensures last_counts { IfOk result (λ before. IsTrue before.verified → (last : ℕ) → marked last bytes.new ≡ marked last bytes.old) }
+    ensures verifies { IfOk result (λ before. IsTrue before.verified → header_of bytes.new
+        ≡ Ok (record before { dscp = dscp })) }
+    ensures apart { (place : ℕ) → place ≢ 1 → place ≢ 10 → place ≢ 11 → slice_index bytes.new place
+        ≡ slice_index bytes.old place }
+    ensures last_counts { IfOk result (λ before. IsTrue before.verified → (last : ℕ) → marked last bytes.new
+        ≡ marked last bytes.old) }
 {
     let before = header(bytes)?;
     set_dscp(bytes, before.length, before.verified, dscp);

@@ -81,7 +81,8 @@ fn fields_of_header(bytes: &[u8]) -> Header
 #[tactic(auto, unfolding(crate::specs::Headers::header_of, crate::specs::Headers::fields_of, crate::specs::Headers::fault_of))]
 pub fn header(bytes: &[u8]) -> Result<Header, HeaderFault>
     ensures value { result ≡ header_of bytes.now }
-    ensures lengths { IfOk result (λ read. (20 ≤ read.length) × (read.length ≤ length bytes.now) × (read.length ≤ read.total)) }
+    ensures lengths { IfOk result (λ read. (20 ≤ read.length) × (read.length ≤ length bytes.now)
+        × (read.length ≤ read.total)) }
 {
     match fault_of_header(bytes) {
         Some(fault) => Err(fault),

@@ -26,7 +26,8 @@ unfoldable pub Grows : Column → Source → List ℕ → Bound → List Bound �
 Grows column s [] before bounds = ⊤
 Grows column s (jitter ∷ jitters) before [] = ⊤
 Grows column s (jitter ∷ jitters) before (bound ∷ bounds) =
-    (column.bound before + bytes_over (column.envelope s).rate jitter ≤ column.bound bound) × Grows column s jitters bound bounds
+    (column.bound before + bytes_over (column.envelope s).rate jitter ≤ column.bound bound)
+        × Grows column s jitters bound bounds
 
 abbrev pub MeetsIn : Column → Source → List ℕ → List Bound → Type 0
 MeetsIn column s jitters [] = ⊤
@@ -38,7 +39,8 @@ Meets d c bounds = InEach (λ column. MeetsIn column (source_of d c) (jitters_of
 
 -- a certificate that says enough of each contract: what the meters make of it is left open
 abbrev pub IsCertificate : Domain → List Contract → List (List Bound) → Type 0
-IsCertificate d contracts certificate = AllZip (λ c bounds. HasShape d c bounds × Meets d c bounds) contracts certificate
+IsCertificate d contracts certificate =
+    AllZip (λ c bounds. HasShape d c bounds × Meets d c bounds) contracts certificate
 
 -- no bound is above the other's, in no column
 abbrev pub IsAtMost : Bound → Bound → Type 0

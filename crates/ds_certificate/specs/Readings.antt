@@ -1,5 +1,6 @@
 -- What a certificate's text says of contracts, or its first fault.
-use Rattle.std.specs.Prelude.{ℕ, zero, suc, ◌+◌, ◌^◌, ◌&&◌, nat_eq, is_some, List, [], ◌∷◌, length, Option, None, Some, Result, Ok, Err, if◌then◌else◌}
+use Rattle.std.specs.Prelude.{ℕ, zero, suc, ◌+◌, ◌^◌, ◌&&◌, nat_eq, is_some, List, [], ◌∷◌, length, Option, None, Some}
+use Rattle.std.specs.Prelude.{Result, Ok, Err, if◌then◌else◌}
 use Rattle.std.specs.Str.{bytes_eq}
 use Rattle.line_text.specs.Lines.{fields_of, lines_of}
 use Rattle.line_text.specs.Numbers.{is_number, number_of, value_of}
@@ -39,7 +40,10 @@ bound_of None all = Err Range
 abbrev pub said_of : List ℕ → ℕ → Option Entry → Result Bound CertificateFault
 said_of name hop None = Err Text
 said_of name hop (Some e) =
-    if bytes_eq e.name name && nat_eq (value_of e.hop) hop then bound_of (number_of (10 ^ 15) e.green) (number_of (10 ^ 15) e.all) else Err Shape
+    if bytes_eq e.name name && nat_eq (value_of e.hop) hop then
+    bound_of (number_of (10 ^ 15) e.green) (number_of (10 ^ 15) e.all)
+    else
+    Err Shape
 
 unfoldable pub bound_in : List ℕ → ℕ → List ℕ → Result Bound CertificateFault
 bound_in name hop line = said_of name hop (entry_in line)
@@ -64,11 +68,13 @@ abbrev pub ending_in : List (List ℕ) → Result (List (List Bound)) Certificat
 ending_in [] = Ok []
 ending_in (line ∷ lines) = Err (if is_some (entry_in line) then Shape else Text)
 
-abbrev pub row_onto : List Bound → Result (List (List Bound)) CertificateFault → Result (List (List Bound)) CertificateFault
+abbrev pub row_onto : List Bound → Result (List (List Bound)) CertificateFault
+    → Result (List (List Bound)) CertificateFault
 row_onto bounds (Err fault) = Err fault
 row_onto bounds (Ok rows) = Ok (bounds ∷ rows)
 
-abbrev pub and_then : Result Read CertificateFault → (List (List ℕ) → Result (List (List Bound)) CertificateFault) → Result (List (List Bound)) CertificateFault
+abbrev pub and_then : Result Read CertificateFault → (List (List ℕ) → Result (List (List Bound)) CertificateFault)
+    → Result (List (List Bound)) CertificateFault
 and_then (Err fault) later = Err fault
 and_then (Ok read) later = row_onto read.0 (later read.1)
 

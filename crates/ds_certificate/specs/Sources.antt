@@ -15,12 +15,13 @@ abbrev pub curve_of : Profile → Curve
 curve_of p = record { rate = p.rate; burst = p.burst }
 
 -- What traffic keeps where it enters at a port with a skew. Trusted traffic keeps what it is trusted with: green and
--- yellow packets together the peak, or without a peak what green ones keep. Policed traffic keeps what leaves the meter at
--- the edge, widened by the skew.
+-- yellow packets together the peak, or without a peak what green ones keep. Policed traffic keeps what leaves the meter
+-- at the edge, widened by the skew.
 abbrev pub source_by : ℕ → Terms → Source
 source_by skew (Trusted committed None) = record { green = curve_of committed; all = curve_of committed }
 source_by skew (Trusted committed (Some peak)) = record { green = curve_of committed; all = curve_of peak }
-source_by skew (Policed parameters mode) = record { green = widened skew (green_output parameters); all = widened skew (all_output parameters) }
+source_by skew (Policed parameters mode) =
+    record { green = widened skew (green_output parameters); all = widened skew (all_output parameters) }
 
 -- what a contract's traffic keeps where it enters a domain
 unfoldable pub source_of : Domain → Contract → Source

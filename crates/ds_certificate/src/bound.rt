@@ -4,7 +4,8 @@ ghost use Rattle.std.specs.Result.{OkIff};
 use moment_core::OutOfRange;
 use std::marker::Model;
 
-/// A bound on the burst of a contract's green packets, and on that of its green and yellow ones, in bytes: each 0 to 10^15.
+/// A bound on the burst of a contract's green packets, and on that of its green and yellow ones, in bytes: each 0 to
+/// 10^15.
 #[derive(Clone, Copy, Debug, PartialEq, Eq, Hash)]
 pub struct Bound {
     green: u64,

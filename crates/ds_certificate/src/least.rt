@@ -14,8 +14,9 @@ use std::alloc::{AllocError, Global};
 
 /// The least certificate of some contracts in a domain: no certificate of theirs has a bound below its own.
 ///
-/// Each contract's first bound is the burst that its traffic enters with, and each next one is larger by what its rate gives
-/// over the jitter of the link between, a begun byte counted whole (Cruz 1991, section II). No bound leaves its range.
+/// Each contract's first bound is the burst that its traffic enters with, and each next one is larger by what its rate
+/// gives over the jitter of the link between, a begun byte counted whole (Cruz 1991, section II). No bound leaves its
+/// range.
 ///
 /// Refused: `Shape` where a contract does not fit the domain, `NoMemory` where memory runs out.
 pub fn make(

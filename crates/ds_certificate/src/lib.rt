@@ -1,4 +1,5 @@
-//! Certificates of a domain: bounds on the bursts of each contract at each hop of its path, the least ones, and their text.
+//! Certificates of a domain: bounds on the bursts of each contract at each hop of its path, the least ones, and their
+//! text.
 #![tactic(auto)]
 
 pub mod bound;

@@ -1,4 +1,5 @@
-ghost use Rattle.std.specs.Prelude.{◌≡◌, ◌∷◌, [], ◌+◌, ◌≤◌, ◌^◌, ◌&&◌, ◌⊎◌, ⊤, length, nat_eq, None, Some, Ok, Err, IsTrue, IfOk, IfErr, MatchOption, MatchResult};
+ghost use Rattle.std.specs.Prelude.{◌≡◌, ◌∷◌, [], ◌+◌, ◌≤◌, ◌^◌, ◌&&◌, ◌⊎◌, ⊤, length, nat_eq, None, Some, Ok, Err};
+ghost use Rattle.std.specs.Prelude.{IsTrue, IfOk, IfErr, MatchOption, MatchResult};
 ghost use Rattle.std.specs.List.{list_all};
 ghost use Rattle.std.specs.Char.{is_ascii_digit};
 ghost use Rattle.ds_domain_base.specs.Names.{is_name};
@@ -17,12 +18,12 @@ use std::alloc::Global;
 /// The most digits that a number may have.
 const MOST_DIGITS: usize = 20;
 
-/// The certificate of some contracts that a text says: the heading `dscert 1`, and then for each contract and hop in turn a
-/// line `NAME HOP GREEN ALL`. LF ends a line, and the last may lack it.
+/// The certificate of some contracts that a text says: the heading `dscert 1`, and then for each contract and hop in
+/// turn a line `NAME HOP GREEN ALL`. LF ends a line, and the last may lack it.
 ///
-/// Lines are judged in order. Refused: `Text` at a line that is not of that form, `Shape` at one that is not of the contract
-/// or the hop whose turn it is, or where lines are missing, `Range` at a bound above 10^15, and `NoMemory` where memory runs
-/// out.
+/// Lines are judged in order. Refused: `Text` at a line that is not of that form, `Shape` at one that is not of the
+/// contract or the hop whose turn it is, or where lines are missing, `Range` at a bound above 10^15, and `NoMemory`
+/// where memory runs out.
 #[tactic(auto, unfolding(crate::specs::Readings::certificate_in))]
 pub fn read(
     alloc: Global,
@@ -91,7 +92,8 @@ fn bounds_in<'a>(
     contract: &Contract,
 ) -> Result<(Bounds, &'a [u8]), CertificateFault>
     ensures bounds { IfOk result (λ read.
-        bounds_in contract.now.name 0 (length contract.now.path + 1) (lines_of text.now) ≡ Ok (read.0, lines_of read.1.now)) }
+        bounds_in contract.now.name 0 (length contract.now.path + 1) (lines_of text.now)
+        ≡ Ok (read.0, lines_of read.1.now)) }
     ensures refused { IfErr result (λ fault. (fault ≡ CertificateFault.NoMemory)
         ⊎ (bounds_in contract.now.name 0 (length contract.now.path + 1) (lines_of text.now) ≡ Err fault)) }
 {
@@ -155,7 +157,8 @@ struct Entry<'a> {
 /// The fields of a line, where it has the form of one of a bound.
 fn entry_in<'a>(line: &'a [u8]) -> Option<Entry<'a>>
     ensures fields { MatchOption result (entry_in line.now ≡ None)
-        (λ e. entry_in line.now ≡ Some (record { name = e.name.now; hop = e.hop.now; green = e.green.now; all = e.all.now })) }
+        (λ e. entry_in line.now
+        ≡ Some (record { name = e.name.now; hop = e.hop.now; green = e.green.now; all = e.all.now })) }
     ensures hop { MatchOption result ⊤ (λ e. IsTrue (is_number e.hop.now)) }
 {
     let (name, rest) = split_field(line);

@@ -18,9 +18,9 @@ pub struct Source {
 }
 
 impl Source {
-    /// What a contract's traffic keeps where it enters a domain (Cruz 1991, section II): for a trusted contract what it is
-    /// trusted with, for a policed one what leaves the meter at its edge, widened by the port's skew. A port that the domain
-    /// lacks counts as one without skew.
+    /// What a contract's traffic keeps where it enters a domain (Cruz 1991, section II): for a trusted contract what it
+    /// is trusted with, for a policed one what leaves the meter at its edge, widened by the port's skew. A port that
+    /// the domain lacks counts as one without skew.
     #[tactic(auto, unfolding(crate::specs::Sources::source_of))]
     pub fn of(domain: &Domain, contract: &Contract) -> Self
         ensures value { result ≡ source_of domain.now contract.now }

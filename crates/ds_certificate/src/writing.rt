@@ -1,4 +1,5 @@
-ghost use Rattle.std.specs.Prelude.{◌≡◌, ℕ, ◌++◌, ◌∷◌, [], ◌⊎◌, ◌<◌, ◌^◌, suc, false, IsTrue, List, length, nat_eq, Ok, IfOk, IfErr, OnOk};
+ghost use Rattle.std.specs.Prelude.{◌≡◌, ℕ, ◌++◌, ◌∷◌, [], ◌⊎◌, ◌<◌, ◌^◌, suc, false, IsTrue, List, length, nat_eq, Ok};
+ghost use Rattle.std.specs.Prelude.{IfOk, IfErr, OnOk};
 ghost use Rattle.line_text.specs.Lines.{has_byte, lines_of};
 ghost use Rattle.ds_certificate.specs.Readings.{bound_in, bounds_in, certificate_in};
 ghost use Rattle.ds_certificate.specs.Texts.{ended, is_shaped, line_of, lines_from, text_of};
@@ -10,11 +11,11 @@ use ds_domain_base::{Contract, Name};
 use line_text::push_number;
 use std::alloc::{AllocError, Global};
 
-/// The text of a certificate of some contracts: a heading, and for each contract and hop in turn a line `NAME HOP GREEN ALL`,
-/// each ended by LF. What is written so reads as the same certificate.
+/// The text of a certificate of some contracts: a heading, and for each contract and hop in turn a line `NAME HOP GREEN
+/// ALL`, each ended by LF. What is written so reads as the same certificate.
 ///
-/// Refused: `Shape` where the bounds are not one more for each contract than its path has meters, `NoMemory` where memory
-/// runs out.
+/// Refused: `Shape` where the bounds are not one more for each contract than its path has meters, `NoMemory` where
+/// memory runs out.
 pub fn write(
     alloc: Global,
     certificate: &Certificate,
@@ -24,7 +25,8 @@ pub fn write(
     ensures shape { IfOk result (λ _. IsTrue (is_shaped contracts.now certificate.now)) }
     ensures reads { IfOk result (λ text. certificate_in contracts.now text.items ≡ Ok certificate.now) }
     // A wrong shape is told without memory.
-    ensures refused { IfErr result (λ fault. ((fault ≡ CertificateFault.NoMemory) × IsTrue (is_shaped contracts.now certificate.now))
+    ensures refused { IfErr result
+        (λ fault. ((fault ≡ CertificateFault.NoMemory) × IsTrue (is_shaped contracts.now certificate.now))
         ⊎ ((fault ≡ CertificateFault.Shape) × (is_shaped contracts.now certificate.now ≡ false))) }
 {
     if !is_shaped(contracts, certificate.bounds()) {
@@ -61,7 +63,8 @@ fn is_long(bounds: &Bounds, contract: &Contract) -> bool
 fn push_bounds(text: &mut Vec<u8>, name: Name, bounds: &Bounds) -> Result<(), AllocError>
     ensures lines { OnOk result (text.new.items ≡ text.old.items ++ ended (lines_from name 0 bounds.now)) }
     ensures reads { OnOk result ((later : List ℕ) →
-        bounds_in name 0 (length bounds.now) (lines_of (ended (lines_from name 0 bounds.now) ++ later)) ≡ Ok (bounds.now, lines_of later)) }
+        bounds_in name 0 (length bounds.now) (lines_of (ended (lines_from name 0 bounds.now) ++ later))
+        ≡ Ok (bounds.now, lines_of later)) }
 {
     let mut hop = 0;
     for bound in bounds.hops() {

@@ -31,7 +31,8 @@ IsWithin limit brought = (brought.rate ≤ limit.rate) × (brought.burst ≤ lim
 
 -- a meter has enough for what is brought to it
 abbrev pub Carries : Meter → List Share → Type 0
-Carries m shares = IsWithin (green_limit m.parameters) (green_load m shares) × IsWithin (all_limit m.parameters) (all_load m shares)
+Carries m shares =
+    IsWithin (green_limit m.parameters) (green_load m shares) × IsWithin (all_limit m.parameters) (all_load m shares)
 
 -- Acceptable: the certificate says enough of each contract, and each meter has enough for what is brought to it.
 abbrev pub IsAcceptable : Table → Type 0
@@ -51,7 +52,8 @@ bounds_refusal_of t = bounds_refusal_behind t (misfit 0 t.domain t.contracts t.c
 abbrev pub refusal_behind : Table → Option ℕ → Option Refusal
 refusal_behind t (Some number) = Some (Shape number)
 refusal_behind t None =
-    first_failed (bound_tests 0 t.domain t.contracts t.certificate ++ table_tests t.domain t.contracts t.certificate t.domain.meters)
+    first_failed (bound_tests 0 t.domain t.contracts t.certificate
+        ++ table_tests t.domain t.contracts t.certificate t.domain.meters)
 
 abbrev pub refusal_of : Table → Option Refusal
 refusal_of t = refusal_behind t (misfit 0 t.domain t.contracts t.certificate)

@@ -13,14 +13,17 @@ use Rattle.ds_checker.specs.declared.refusal.Column.{Column}
 use Rattle.ds_checker.specs.declared.refusal.Column.TheVariants.{Green, All}
 use Rattle.ds_checker.specs.declared.refusal.Refusal.TheVariants.{FirstBound, HopBound}
 
--- The least contract, of which the first has this number, that does not fit, or that has not one bound more than its path
--- has meters. What is too many on either side counts as the next.
+-- The least contract, of which the first has this number, that does not fit, or that has not one bound more than its
+-- path has meters. What is too many on either side counts as the next.
 unfoldable pub misfit : ℕ → Domain → List Contract → List (List Bound) → Option ℕ
 misfit number d [] [] = None
 misfit number d [] (bounds ∷ rows) = Some number
 misfit number d (c ∷ contracts) [] = Some number
 misfit number d (c ∷ contracts) (bounds ∷ rows) =
-    if fits d c && nat_eq (length bounds) (suc (length c.path)) then misfit (suc number) d contracts rows else Some number
+    if fits d c && nat_eq (length bounds) (suc (length c.path)) then
+    misfit (suc number) d contracts rows
+    else
+    Some number
 
 -- a test in each column, green before all
 abbrev pub in_both : (Column → Test) → List Test
@@ -50,7 +53,8 @@ hop_tests number hop s jitters before bounds = []
 
 abbrev pub tests_along : ℕ → Source → List ℕ → List Bound → List Test
 tests_along number s jitters [] = []
-tests_along number s jitters (first ∷ bounds) = in_both (first_test number s first) ++ hop_tests number 1 s jitters first bounds
+tests_along number s jitters (first ∷ bounds) =
+    in_both (first_test number s first) ++ hop_tests number 1 s jitters first bounds
 
 -- contract by contract, of which the first has this number
 unfoldable pub bound_tests : ℕ → Domain → List Contract → List (List Bound) → List Test

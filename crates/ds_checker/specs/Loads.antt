@@ -1,5 +1,6 @@
 -- What contracts bring to a meter, and what of it is held against what the meter has.
-use Rattle.std.specs.Prelude.{ℕ, Bool, List, [], ◌∷◌, ◌++◌, drop, filter, map, option_map, option_to_list, Option, None, Some, if◌then◌else◌}
+use Rattle.std.specs.Prelude.{ℕ, Bool, List, [], ◌∷◌, ◌++◌, drop, filter, map, option_map, option_to_list, Option, None}
+use Rattle.std.specs.Prelude.{Some, if◌then◌else◌}
 use Rattle.std.specs.List.{list_any}
 use Rattle.std.specs.Str.{bytes_eq}
 use Rattle.envelope_core.specs.Curve.{Curve, total, widened}
@@ -43,8 +44,8 @@ kept column share = record { rate = (column.envelope share.source).rate; burst =
 abbrev pub load : Column → ℕ → List Share → Curve
 load column skew shares = total (map (λ share. widened skew (kept column share)) shares)
 
--- The shares that are held against what a meter has for green and yellow packets. With a single rate all of them, if one
--- may send yellow packets, else none; with a committed and an excess rate those that may.
+-- The shares that are held against what a meter has for green and yellow packets. With a single rate all of them, if
+-- one may send yellow packets, else none; with a committed and an excess rate those that may.
 abbrev pub counted : Parameters → List Share → List Share
 counted (SrTcm p) shares = if list_any (λ share. share.has_peak) shares then shares else []
 counted (TrTcm p) shares = shares

@@ -1,5 +1,6 @@
 -- What is added up for each meter, share by share.
-use Rattle.std.specs.Prelude.{ℕ, Bool, false, ◌+◌, ◌^◌, ◌≤◌, ◌||◌, List, [], ◌∷◌, fold, option_map, option_to_list, Option, if◌then◌else◌}
+use Rattle.std.specs.Prelude.{ℕ, Bool, false, ◌+◌, ◌^◌, ◌≤◌, ◌||◌, List, [], ◌∷◌, fold, option_map, option_to_list}
+use Rattle.std.specs.Prelude.{Option, if◌then◌else◌}
 use Rattle.envelope_core.specs.Curve.{Curve, widened}
 use Rattle.meter_book.specs.declared.any_meter.Parameters.{Parameters}
 use Rattle.meter_book.specs.declared.any_meter.Parameters.TheVariants.{SrTcm, TrTcm, Rfc4115}
@@ -30,11 +31,13 @@ with_share loads share = record {
 
 -- the share of a path, if it leads to a meter
 abbrev pub share_by : Source → Bool → Option Bound → List Share
-share_by source has_peak into = option_to_list (option_map (λ bound. record { source = source; bound = bound; has_peak = has_peak }) into)
+share_by source has_peak into =
+    option_to_list (option_map (λ bound. record { source = source; bound = bound; has_peak = has_peak }) into)
 
 -- meter by meter with the shares that are brought to its name
 unfoldable pub with_brought : (List ℕ → List Share) → List (List ℕ) → List Loads → List Loads
-with_brought brought (name ∷ names) (loads ∷ rest) = fold with_share loads (brought name) ∷ with_brought brought names rest
+with_brought brought (name ∷ names) (loads ∷ rest) =
+    fold with_share loads (brought name) ∷ with_brought brought names rest
 with_brought brought names loads = []
 
 -- no number is above a limit
@@ -42,7 +45,8 @@ abbrev pub IsBelow : ℕ → Curve → Type 0
 IsBelow most curve = (curve.rate ≤ most) × (curve.burst ≤ most)
 
 abbrev pub AreBelow : ℕ → Loads → Type 0
-AreBelow most loads = (loads.skew ≤ 10 ^ 10) × IsBelow most loads.green × IsBelow most loads.all × IsBelow most loads.peaked
+AreBelow most loads =
+    (loads.skew ≤ 10 ^ 10) × IsBelow most loads.green × IsBelow most loads.all × IsBelow most loads.peaked
 
 -- what is held against a meter's limit of green and yellow packets
 abbrev pub counted_load : Parameters → Loads → Curve

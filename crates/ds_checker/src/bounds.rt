@@ -1,7 +1,8 @@
 ghost use Rattle.std.specs.Prelude.{◌≡◌, ◌&&◌, ◌∷◌, ◌≤◌, ◌^◌, [], suc, length, nat_eq, option_map};
 ghost use Rattle.ds_certificate.specs.Bounds.{fits};
 ghost use Rattle.ds_certificate.specs.Sources.{jitters_of, source_of};
-ghost use Rattle.ds_checker.specs.BoundTests.{bound_tests, first_test, hop_test, hop_tests, in_both, misfit, tests_along};
+ghost use Rattle.ds_checker.specs.BoundTests.{bound_tests, first_test, hop_test, hop_tests, in_both, misfit};
+ghost use Rattle.ds_checker.specs.BoundTests.{tests_along};
 ghost use Rattle.ds_checker.specs.Refusals.{named};
 ghost use Rattle.ds_checker.specs.Tests.{first_failed};
 ghost use Rattle.ds_checker.specs.declared.refusal.Refusal.TheVariants.{Shape};
@@ -12,8 +13,9 @@ use ds_domain_base::{Contract, Domain};
 use envelope_core::Envelope;
 use moment_core::{Gap, bytes_over_ceil};
 
-/// The refusal of a certificate that has not the shape of its contracts: the least contract that does not fit the domain, or
-/// that has not one bound more than its path has meters; where there are too many lists of bounds, the number of contracts.
+/// The refusal of a certificate that has not the shape of its contracts: the least contract that does not fit the
+/// domain, or that has not one bound more than its path has meters; where there are too many lists of bounds, the
+/// number of contracts.
 pub(crate) fn shape_refusal(
     domain: &Domain,
     contracts: &[Contract],
@@ -42,8 +44,9 @@ fn has_shape(domain: &Domain, contract: &Contract, bounds: &Bounds) -> bool
     is_fit(domain, contract) && bounds.hops().len() == contract.path.meters().len() + 1
 }
 
-/// The refusal of the first bound that is too low, contract by contract, hop by hop, green packets before all. It looks as far
-/// as there are both contracts and bounds; whether there is one list of bounds for each is a question of `shape_refusal`.
+/// The refusal of the first bound that is too low, contract by contract, hop by hop, green packets before all. It looks
+/// as far as there are both contracts and bounds; whether there is one list of bounds for each is a question of
+/// `shape_refusal`.
 pub(crate) fn bounds_refusal(
     domain: &Domain,
     contracts: &[Contract],
@@ -67,7 +70,8 @@ fn contract_refusal(
     contract: &Contract,
     bounds: &Bounds,
 ) -> Option<Refusal>
-    ensures { result ≡ first_failed (tests_along number (source_of domain.now contract.now) (jitters_of domain.now contract.now) bounds.now) }
+    ensures { result ≡ first_failed
+        (tests_along number (source_of domain.now contract.now) (jitters_of domain.now contract.now) bounds.now) }
 {
     let (first, behind) = bounds.hops().split_first()?;
     let source = Source::of(domain, contract);
@@ -108,7 +112,8 @@ fn hops_refusal(
     first: Bound,
     behind: &[Bound],
 ) -> Option<Refusal>
-    ensures { result ≡ first_failed (hop_tests number 1 source.now (jitters_of domain.now contract.now) first behind.now) }
+    ensures { result ≡ first_failed
+        (hop_tests number 1 source.now (jitters_of domain.now contract.now) first behind.now) }
 {
     let mut from = contract.port;
     let mut before = first;
@@ -140,8 +145,8 @@ fn hop_refusal(
     green.or(all)
 }
 
-/// The refusal of a bound behind a link in a column, where it is below the one before it and what the rate gives over the
-/// link's jitter, a begun byte counted whole.
+/// The refusal of a bound behind a link in a column, where it is below the one before it and what the rate gives over
+/// the link's jitter, a begun byte counted whole.
 #[tactic(auto, using(crate::proofs::BoundLaws::bytes_over_fits))]
 fn hop_refusal_in(
     column: Column,

@@ -31,7 +31,8 @@ impl Model for Accepted {
 
     ghost view = { λ a. record { domain = a.domain; contracts = a.contracts.items; certificate = a.certificate } };
 
-    ghost invariant = { λ a. IsAcceptable (record { domain = a.domain; contracts = a.contracts.items; certificate = a.certificate }) };
+    ghost invariant = { λ a. IsAcceptable
+        (record { domain = a.domain; contracts = a.contracts.items; certificate = a.certificate }) };
 }
 
 impl Accepted {

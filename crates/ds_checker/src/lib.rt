@@ -1,4 +1,5 @@
-//! The checker: whether a certificate is acceptable for a domain and its contracts, and where not, the first test that fails.
+//! The checker: whether a certificate is acceptable for a domain and its contracts, and where not, the first test that
+//! fails.
 #![tactic(auto)]
 
 pub mod acceptance;

@@ -54,8 +54,8 @@ impl Load {
         self.burst
     }
 
-    /// With traffic whose rate is that of an envelope, and whose burst at most a bound, delayed by delays that differ by at
-    /// most a skew.
+    /// With traffic whose rate is that of an envelope, and whose burst at most a bound, delayed by delays that differ
+    /// by at most a skew.
     #[tactic(auto, using(ds_certificate::proofs::Volumes::bytes_over_most))]
     fn with(self, envelope: Envelope, bound: u64, skew: Gap) -> Load
         requires room { IsBelow (2 ^ 121) self }
@@ -159,8 +159,8 @@ impl Loads {
     }
 
     /// What is held against a meter's rate and bucket of green and yellow packets. With a single rate it is what all
-    /// contracts bring, if one may send yellow packets, else nothing; with a committed and a peak rate what all bring; with a
-    /// committed and an excess rate what those bring that may send yellow packets.
+    /// contracts bring, if one may send yellow packets, else nothing; with a committed and a peak rate what all bring;
+    /// with a committed and an excess rate what those bring that may send yellow packets.
     pub(crate) fn counted(&self, parameters: &Parameters) -> Load
         ensures { result ≡ counted_load parameters.now self.now }
     {

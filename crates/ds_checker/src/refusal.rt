@@ -14,13 +14,14 @@ pub enum Column {
     All,
 }
 
-/// Why a certificate is not acceptable: the first test that fails, in the order below, with what it needs and what there is.
+/// Why a certificate is not acceptable: the first test that fails, in the order below, with what it needs and what
+/// there is.
 ///
 /// Contracts count from 0. Rates are in bits per second, bursts in bytes.
 #[derive(Clone, Copy, Debug, PartialEq, Eq, Drop, Error)]
 pub enum Refusal {
-    /// A contract does not fit the domain, or it has not one bound more than its path has meters; or there are more lists of
-    /// bounds than contracts, where the number is that of the contracts.
+    /// A contract does not fit the domain, or it has not one bound more than its path has meters; or there are more
+    /// lists of bounds than contracts, where the number is that of the contracts.
     #[error("the certificate is not of these contracts")]
     Shape {
         /// The least contract of which this holds.

@@ -17,8 +17,8 @@ use ds_certificate::{Bound, Certificate, Source};
 use ds_domain_base::{Contract, Domain, Meter, Name};
 use std::alloc::{AllocError, Global};
 
-/// The first meter test that fails, if one does, of a certificate that has the shape of its contracts; `AllocError` where
-/// memory runs out.
+/// The first meter test that fails, if one does, of a certificate that has the shape of its contracts; `AllocError`
+/// where memory runs out.
 pub(crate) fn table_refusal(
     alloc: Global,
     domain: &Domain,
@@ -26,7 +26,8 @@ pub(crate) fn table_refusal(
     certificate: &Certificate,
 ) -> Result<Option<Refusal>, AllocError>
     requires { misfit 0 domain.now contracts.now certificate.now ≡ None }
-    ensures { IfOk result (λ refusal. refusal ≡ first_failed (table_tests domain.now contracts.now certificate.now domain.now.meters)) }
+    ensures { IfOk result
+        (λ refusal. refusal ≡ first_failed (table_tests domain.now contracts.now certificate.now domain.now.meters)) }
 {
     let sums = gathered(alloc, domain, contracts, certificate)?;
     for ((name, meter), loads) in domain.meters().iter().zip(&sums) {
@@ -45,7 +46,8 @@ fn gathered(
     certificate: &Certificate,
 ) -> Result<Vec<Loads>, AllocError>
     requires { misfit 0 domain.now contracts.now certificate.now ≡ None }
-    ensures { IfOk result (λ sums. sums.items ≡ with_brought (λ name. shares_at domain.now name contracts.now certificate.now)
+    ensures { IfOk result
+        (λ sums. sums.items ≡ with_brought (λ name. shares_at domain.now name contracts.now certificate.now)
         (keys_of domain.now.meters) (map (λ entry. no_loads entry.1.skew) domain.now.meters)) }
 {
     let mut sums = unloaded(alloc, domain)?;
@@ -75,8 +77,10 @@ fn add_contract(sums: &mut [Loads], domain: &Domain, contract: &Contract, bounds
     requires apart { IsDistinct bytes_eq (keys_of domain.now.meters) }
     requires places { length sums.old ≡ length domain.now.meters }
     requires room { AllByRecursion (AreBelow (2 ^ 120)) sums.old }
-    ensures value { sums.new ≡ with_brought (λ name. share_of domain.now name contract.now bounds.now) (keys_of domain.now.meters) sums.old }
-    ensures range { (most : ℕ) → AllByRecursion (AreBelow most) sums.old → AllByRecursion (AreBelow (most + 32 * 10 ^ 15)) sums.new }
+    ensures value { sums.new ≡ with_brought (λ name. share_of domain.now name contract.now bounds.now)
+        (keys_of domain.now.meters) sums.old }
+    ensures range { (most : ℕ) → AllByRecursion (AreBelow most) sums.old
+        → AllByRecursion (AreBelow (most + 32 * 10 ^ 15)) sums.new }
 {
     let source = Source::of(domain, contract);
     let has_peak = contract.terms.has_peak();
@@ -91,7 +95,8 @@ fn add_contract(sums: &mut [Loads], domain: &Domain, contract: &Contract, bounds
     );
 }
 
-/// Adds what is brought to each meter of a path, by the bounds of the hops into them. Names that are no meter's are passed.
+/// Adds what is brought to each meter of a path, by the bounds of the hops into them. Names that are no meter's are
+/// passed.
 fn add_path(
     sums: &mut [Loads],
     domain: &Domain,
@@ -106,8 +111,10 @@ fn add_path(
     requires apart { IsDistinct bytes_eq (keys_of domain.now.meters) }
     requires places { length sums.old ≡ length domain.now.meters }
     requires room { AllByRecursion (AreBelow (2 ^ 120)) sums.old }
-    ensures value { sums.new ≡ with_brought (λ name. share_by source.now has_peak (bound_into name path.now bounds.now)) (keys_of domain.now.meters) sums.old }
-    ensures range { (most : ℕ) → AllByRecursion (AreBelow most) sums.old → AllByRecursion (AreBelow (most + 32 * 10 ^ 15)) sums.new }
+    ensures value { sums.new ≡ with_brought (λ name. share_by source.now has_peak (bound_into name path.now bounds.now))
+        (keys_of domain.now.meters) sums.old }
+    ensures range { (most : ℕ) → AllByRecursion (AreBelow most) sums.old
+        → AllByRecursion (AreBelow (most + 32 * 10 ^ 15)) sums.new }
 {
     for (name, bound) in path.iter().zip(bounds) {
         let share = Share {
@@ -124,7 +131,8 @@ fn add_path(
 /// The first test that fails, if one does, of what is brought to a meter.
 #[tactic(auto, unfolding(crate::specs::Tests::first_failed))]
 fn meter_refusal(name: Name, meter: &Meter, loads: &Loads) -> Option<Refusal>
-    ensures { result ≡ first_failed (load_tests name meter.now loads.now.green (counted_load meter.now.parameters loads.now)) }
+    ensures { result ≡ first_failed
+        (load_tests name meter.now loads.now.green (counted_load meter.now.parameters loads.now)) }
 {
     let parameters = meter.parameters.get();
     let green = loads.green();

@@ -1,5 +1,6 @@
 -- The marked capture, as a function of the bytes of a capture.
-use Rattle.std.specs.Prelude.{◌≡◌, ◌⊎◌, ◌^◌, ℕ, List, [], ◌++◌, zip, Bool, true, false, Option, None, Some, Result, Ok, Err}
+use Rattle.std.specs.Prelude.{◌≡◌, ◌⊎◌, ◌^◌, ℕ, List, [], ◌++◌, zip, Bool, true, false, Option, None, Some, Result, Ok}
+use Rattle.std.specs.Prelude.{Err}
 use Rattle.moment_core.specs.declared.colour.Colour.{Colour}
 use Rattle.pcap_capture.specs.Counts.{count_after, next_count}
 use Rattle.pcap_capture.specs.Frames.{FrameValue}
@@ -34,7 +35,8 @@ abbrev pub see : Table → List ℕ → Link → List ℕ → Sight
 see t port link bytes = sight_of t.contracts port link bytes
 
 -- frames behind their heading, marked with the colours that their packets left with
-abbrev pub marking_with : Table → List ℕ → RedRule → Heading → List FrameValue → List Sent → Option (List Colour) → Marking
+abbrev pub marking_with : Table → List ℕ → RedRule → Heading → List FrameValue → List Sent → Option (List Colour)
+    → Marking
 marking_with t port red heading frames sent None =
     record { text = []; report = unmarked_report (see t port heading.link) frames; is_full = true }
 marking_with t port red heading frames sent (Some colours) = record {
@@ -73,18 +75,21 @@ pub record IsWhole (m : Marking) (report : Report) (before after : List ℕ) : T
   pub told : report ≡ m.report
   pub room : m.is_full ≡ false
 
--- What was written of frames, and what is told of them: all; or a front, with the whole report, where the device failed or memory ran out on the
--- way; or nothing, where a journal was full, or where memory ran out before, and then nothing is told either.
+-- What was written of frames, and what is told of them: all; or a front, with the whole report, where the device failed
+-- or memory ran out on the way; or nothing, where a journal was full, or where memory ran out before, and then nothing
+-- is told either.
 abbrev pub IsPassed : Marking → List ℕ → List ℕ → Result Report (Report × MarkFault) → Type 0
 IsPassed m before after (Ok report) = IsWhole m report before after
-IsPassed m before after (Err (report, marks.Capture fault)) = (fault ≡ pcaps.WriteFault) × IsFrontOf before m.text after × (report ≡ m.report)
+IsPassed m before after (Err (report, marks.Capture fault)) =
+    (fault ≡ pcaps.WriteFault) × IsFrontOf before m.text after × (report ≡ m.report)
 IsPassed m before after (Err (report, marks.UnknownPort)) = ⊥
 IsPassed m before after (Err (report, marks.JournalFull)) = (after ≡ before) × (report ≡ m.report) × (m.is_full ≡ true)
 IsPassed m before after (Err (report, marks.NoMemory)) =
     ((after ≡ before) × (report ≡ nothing_read)) ⊎ (IsFrontOf before m.text after × (report ≡ m.report))
 
 -- the same of the bytes that a device gave, which still has these
-pub record IsPassedOf (marked : List ℕ → Marking) (bytes more before after : List ℕ) (answer : Result Report (Report × MarkFault)) : Type 0 where
+pub record IsPassedOf (marked : List ℕ → Marking) (bytes more before after : List ℕ)
+    (answer : Result Report (Report × MarkFault)) : Type 0 where
   pub read : List ℕ
   pub front : bytes ≡ read ++ more
   pub passed : IsPassed (marked read) before after answer
@@ -97,38 +102,54 @@ pub record IsWholeSoFar (marked : List ℕ → Marking) (bytes more before after
   pub whole : IsWhole (marked read) report before after
 
 -- The marking of the bytes of a capture was written whole, and this fault stands in them, or none.
-pub record IsWholeWith (marked : List ℕ → Marking) (bytes before after : List ℕ) (report : Report) (fault : Option PcapFault) : Type 0 where
+pub record IsWholeWith (marked : List ℕ → Marking) (bytes before after : List ℕ) (report : Report)
+    (fault : Option PcapFault) : Type 0 where
   pub whole : IsWhole (marked bytes) report before after
   pub stands : fault_in bytes ≡ fault
 
 -- what was written, by the fault of the capture that came
 abbrev pub IsMarkedBut : (List ℕ → Marking) → List ℕ → List ℕ → List ℕ → List ℕ → Report → PcapFault → Type 0
-IsMarkedBut marked bytes more before after report pcaps.NotPcap = IsWholeWith marked bytes before after report (Some pcaps.NotPcap)
-IsMarkedBut marked bytes more before after report pcaps.IsPcapng = IsWholeWith marked bytes before after report (Some pcaps.IsPcapng)
-IsMarkedBut marked bytes more before after report pcaps.BadVersion = IsWholeWith marked bytes before after report (Some pcaps.BadVersion)
-IsMarkedBut marked bytes more before after report (pcaps.LinkType number) = IsWholeWith marked bytes before after report (Some (pcaps.LinkType number))
-IsMarkedBut marked bytes more before after report (pcaps.RecordTooLong count) = IsWholeWith marked bytes before after report (Some (pcaps.RecordTooLong count))
-IsMarkedBut marked bytes more before after report pcaps.Truncated = IsWholeWith marked bytes before after report (Some pcaps.Truncated)
+IsMarkedBut marked bytes more before after report pcaps.NotPcap =
+    IsWholeWith marked bytes before after report (Some pcaps.NotPcap)
+IsMarkedBut marked bytes more before after report pcaps.IsPcapng =
+    IsWholeWith marked bytes before after report (Some pcaps.IsPcapng)
+IsMarkedBut marked bytes more before after report pcaps.BadVersion =
+    IsWholeWith marked bytes before after report (Some pcaps.BadVersion)
+IsMarkedBut marked bytes more before after report (pcaps.LinkType number) =
+    IsWholeWith marked bytes before after report (Some (pcaps.LinkType number))
+IsMarkedBut marked bytes more before after report (pcaps.RecordTooLong count) =
+    IsWholeWith marked bytes before after report (Some (pcaps.RecordTooLong count))
+IsMarkedBut marked bytes more before after report pcaps.Truncated =
+    IsWholeWith marked bytes before after report (Some pcaps.Truncated)
 IsMarkedBut marked bytes more before after report pcaps.ReadFault = IsWholeSoFar marked bytes more before after report
-IsMarkedBut marked bytes more before after report pcaps.WriteFault = IsPassedOf marked bytes more before after (Err (report, marks.Capture pcaps.WriteFault))
+IsMarkedBut marked bytes more before after report pcaps.WriteFault =
+    IsPassedOf marked bytes more before after (Err (report, marks.Capture pcaps.WriteFault))
 IsMarkedBut marked bytes more before after report pcaps.NoMemory = ⊥
-IsMarkedBut marked bytes more before after report pcaps.Failed = IsWholeWith marked bytes before after report (Some pcaps.Failed)
+IsMarkedBut marked bytes more before after report pcaps.Failed =
+    IsWholeWith marked bytes before after report (Some pcaps.Failed)
 
--- What was written behind what stood, and what is answered, for the bytes that a device had and those that it still has: all of the marked
--- capture, up to its end or to the first fault that stands in it; or all of what the device gave before it failed; or a front; or nothing.
-abbrev pub IsMarkedAs : (List ℕ → Marking) → List ℕ → List ℕ → List ℕ → List ℕ → Result Report (Report × MarkFault) → Type 0
+-- What was written behind what stood, and what is answered, for the bytes that a device had and those that it still
+-- has: all of the marked capture, up to its end or to the first fault that stands in it; or all of what the device gave
+-- before it failed; or a front; or nothing.
+abbrev pub IsMarkedAs : (List ℕ → Marking) → List ℕ → List ℕ → List ℕ → List ℕ → Result Report (Report × MarkFault)
+    → Type 0
 IsMarkedAs marked bytes more before after (Ok report) = IsWholeWith marked bytes before after report None
-IsMarkedAs marked bytes more before after (Err (report, marks.Capture fault)) = IsMarkedBut marked bytes more before after report fault
+IsMarkedAs marked bytes more before after (Err (report, marks.Capture fault)) =
+    IsMarkedBut marked bytes more before after report fault
 IsMarkedAs marked bytes more before after (Err (report, marks.UnknownPort)) = ⊥
-IsMarkedAs marked bytes more before after (Err (report, marks.JournalFull)) = IsPassedOf marked bytes more before after (Err (report, marks.JournalFull))
-IsMarkedAs marked bytes more before after (Err (report, marks.NoMemory)) = IsPassedOf marked bytes more before after (Err (report, marks.NoMemory))
+IsMarkedAs marked bytes more before after (Err (report, marks.JournalFull)) =
+    IsPassedOf marked bytes more before after (Err (report, marks.JournalFull))
+IsMarkedAs marked bytes more before after (Err (report, marks.NoMemory)) =
+    IsPassedOf marked bytes more before after (Err (report, marks.NoMemory))
 
 -- nothing was written, since there is no such port
 abbrev pub IsWithoutPort : List ℕ → List ℕ → Result Report (Report × MarkFault) → Type 0
 IsWithoutPort before after answer = (after ≡ before) × (answer ≡ Err (nothing_read, marks.UnknownPort))
 
--- What `mark` wrote, and what it answers: an unknown port is told before anything is read, and else the capture is marked at the port.
-abbrev pub IsMarked : Table → List ℕ → RedRule → List ℕ → List ℕ → List ℕ → List ℕ → Result Report (Report × MarkFault) → Type 0
+-- What `mark` wrote, and what it answers: an unknown port is told before anything is read, and else the capture is
+-- marked at the port.
+abbrev pub IsMarked : Table → List ℕ → RedRule → List ℕ → List ℕ → List ℕ → List ℕ → Result Report (Report × MarkFault)
+    → Type 0
 IsMarked t port red bytes more before after answer =
     ((is_port t.domain port ≡ false) × IsWithoutPort before after answer)
     ⊎ ((is_port t.domain port ≡ true) × IsMarkedAs (marking_in t port red) bytes more before after answer)
@@ -178,10 +199,11 @@ is_read_whole (Err (report, marks.UnknownPort)) = true
 is_read_whole (Err (report, marks.JournalFull)) = false
 is_read_whole (Err (report, marks.NoMemory)) = false
 
--- A read fault is answered only where the device failed once, or was asked 2^32 times; a capture that was read whole comes from a device that did
--- not fail.
+-- A read fault is answered only where the device failed once, or was asked 2^32 times; a capture that was read whole
+-- comes from a device that did not fail.
 pub record IsOfReads (answer : Result Report (Report × MarkFault)) (failed now asked_before asked : ℕ) : Type 0 where
-  pub failed_or_spent : is_unread answer ≡ true → (now ≡ next_count failed) ⊎ ((now ≡ failed) × (asked ≡ count_after (2 ^ 32) asked_before))
+  pub failed_or_spent : is_unread answer ≡ true → (now ≡ next_count failed)
+      ⊎ ((now ≡ failed) × (asked ≡ count_after (2 ^ 32) asked_before))
   pub unfailed : is_read_whole answer ≡ true → now ≡ failed
 
 -- the answer to frames that were marked, by what ended the reading of their capture

@@ -1,9 +1,12 @@
 -- What is read of a capture that a device gives.
-use Rattle.std.specs.Prelude.{◌≡◌, ◌≢◌, ◌⊎◌, ℕ, ◌-◌, Bool, true, false, List, [], ◌++◌, length, Option, None, Some, Result, Ok, Err}
+use Rattle.std.specs.Prelude.{◌≡◌, ◌≢◌, ◌⊎◌, ℕ, ◌-◌, Bool, true, false, List, [], ◌++◌, length, Option, None, Some}
+use Rattle.std.specs.Prelude.{Result, Ok, Err}
 use Rattle.pcap_capture.specs.Frames.{FrameValue}
 use Rattle.pcap_capture.specs.Grammar.{IsSoFar, capture, fault_in, heading_of}
 use Rattle.pcap_capture.specs.declared.fault.PcapFault.{PcapFault}
-use Rattle.pcap_capture.specs.declared.fault.PcapFault.TheVariants.{NotPcap, IsPcapng, BadVersion, LinkType, RecordTooLong, Truncated, ReadFault, WriteFault, NoMemory, Failed}
+use Rattle.pcap_capture.specs.declared.fault.PcapFault.TheVariants.{NotPcap, IsPcapng, BadVersion, LinkType}
+use Rattle.pcap_capture.specs.declared.fault.PcapFault.TheVariants.{RecordTooLong, Truncated, ReadFault, WriteFault}
+use Rattle.pcap_capture.specs.declared.fault.PcapFault.TheVariants.{NoMemory, Failed}
 use Rattle.pcap_capture.specs.declared.heading.Heading.{Heading}
 use Rattle.pcap_capture.specs.declared.stage.Stage.{Stage}
 use Rattle.pcap_capture.specs.declared.stage.Stage.TheVariants.{Opening, Records, Broken}
@@ -18,17 +21,19 @@ heading_in bytes (Some heading) = heading_of bytes ≡ Some (Ok heading)
 abbrev pub IsHeadingTold : List ℕ → Option Heading → Option PcapFault → Type 0
 IsHeadingTold read heading fault = heading_in read heading ⊎ ((heading ≡ None) × (fault ≡ Some NoMemory))
 
--- All of a capture was read, up to its end or to the first fault that stands in it; or the device failed behind some of its bytes; or memory
--- ran out.
+-- All of a capture was read, up to its end or to the first fault that stands in it; or the device failed behind some of
+-- its bytes; or memory ran out.
 abbrev pub IsReadTo : List ℕ → List ℕ → List FrameValue → Option PcapFault → Type 0
 IsReadTo read more frames None = (more ≡ []) × (frames ≡ (capture read).frames) × (fault_in read ≡ None)
 IsReadTo read more frames (Some fault) =
     ((fault ≡ ReadFault) × (frames ≡ (capture read).frames) × ((capture read).fault ≡ None))
     ⊎ ((fault ≡ NoMemory) × ((others : List FrameValue) × (frames ++ others ≡ (capture read).frames)))
-    ⊎ ((frames ≡ (capture (read ++ more)).frames) × (fault_in (read ++ more) ≡ Some fault) × ((more ≡ []) ⊎ ((capture read).fault ≡ Some fault)))
+    ⊎ ((frames ≡ (capture (read ++ more)).frames) × (fault_in (read ++ more) ≡ Some fault)
+        × ((more ≡ []) ⊎ ((capture read).fault ≡ Some fault)))
 
 -- what was read of bytes: the front of them, its heading, its frames, and what ended the reading
-pub record IsReading (bytes more : List ℕ) (heading : Option Heading) (frames : List FrameValue) (fault : Option PcapFault) : Type 0 where
+pub record IsReading (bytes more : List ℕ) (heading : Option Heading) (frames : List FrameValue)
+    (fault : Option PcapFault) : Type 0 where
   pub read : List ℕ
   pub front : bytes ≡ read ++ more
   pub told : IsHeadingTold read heading fault
@@ -40,8 +45,8 @@ heading_at Opening = None
 heading_at (Records heading) = Some heading
 heading_at Broken = None
 
--- what was read of bytes in which no fault was found so far: the front of them, the heading once it is there, how many bytes of it are still to
--- come, and the frames
+-- what was read of bytes in which no fault was found so far: the front of them, the heading once it is there, how many
+-- bytes of it are still to come, and the frames
 pub record IsUnderway (bytes more : List ℕ) (progress : Progress) : Type 0 where
   pub read : List ℕ
   pub front : bytes ≡ read ++ more

@@ -14,8 +14,8 @@ sent_by Unmatched number moment = []
 sent_by (Matched flow header) number moment =
     record { flow = flow; packet = number; size = header.total; dscp = header.dscp; moment = moment } ∷ []
 
--- The packets of the frames that contracts take, each with the number of its record, at the greatest stamp so far. The first frame has this
--- number, and the greatest stamp before it is this moment.
+-- The packets of the frames that contracts take, each with the number of its record, at the greatest stamp so far. The
+-- first frame has this number, and the greatest stamp before it is this moment.
 unfoldable pub sent_from : (List ℕ → Sight) → ℕ → ℕ → List FrameValue → List Sent
 sent_from see number newest [] = []
 sent_from see number newest (f ∷ frames) =

@@ -12,7 +12,8 @@ tally_of picked coloured = record { packets = packets_as picked coloured; bytes 
 
 -- one packet more, if it is picked
 abbrev pub grown : Tally → Bool → ℕ → Tally
-grown t picked size = record { packets = t.packets + (if picked then 1 else 0); bytes = t.bytes + (if picked then size else 0) }
+grown t picked size =
+    record { packets = t.packets + (if picked then 1 else 0); bytes = t.bytes + (if picked then size else 0) }
 
 -- no more than so many packets are counted, and each has at most 65,535 bytes
 pub record IsWithin (most : ℕ) (t : Tally) : Type 0 where

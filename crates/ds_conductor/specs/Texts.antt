@@ -29,7 +29,8 @@ text_in_class link f colour (Some c) = f.head ++ marked_frame link (code_point c
 
 -- a marked record, unless it is left out
 abbrev pub marked_text : Table → RedRule → Link → FrameValue → Sent → Colour → List ℕ
-marked_text t red link f s colour = if is_dropped red colour then [] else text_in_class link f colour (contract_of (ground_of t) s.flow)
+marked_text t red link f s colour =
+    if is_dropped red colour then [] else text_in_class link f colour (contract_of (ground_of t) s.flow)
 
 -- the packet that the frame of a number sent, with its colour: the next one, if it has that number
 abbrev pub packet_at : ℕ → List (Sent × Colour) → Option (Sent × Colour)
@@ -41,8 +42,8 @@ abbrev pub record_text : Table → RedRule → Link → FrameValue → Option (S
 record_text t red link f None = plain_text f
 record_text t red link f (Some (s, colour)) = marked_text t red link f s colour
 
--- The records of frames, of which the first has this number: those that a packet was sent from are marked with its colour, the others are as
--- they came.
+-- The records of frames, of which the first has this number: those that a packet was sent from are marked with its
+-- colour, the others are as they came.
 unfoldable pub text_from : Table → RedRule → Link → ℕ → List FrameValue → List (Sent × Colour) → List ℕ
 text_from t red link number [] coloured = []
 text_from t red link number (f ∷ frames) [] = plain_text f ++ text_from t red link (suc number) frames []

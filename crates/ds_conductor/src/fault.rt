@@ -22,7 +22,8 @@ pub enum MarkFault {
 }
 
 impl MarkFault {
-    /// The fault's number: 1 for a fault of the capture, 2 for an unknown port, 3 for a full journal, 4 for want of memory.
+    /// The fault's number: 1 for a fault of the capture, 2 for an unknown port, 3 for a full journal, 4 for want of
+    /// memory.
     pub fn code(&self) -> u8
         ensures { result ≡ code_of self.now }
     {

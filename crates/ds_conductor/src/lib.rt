@@ -1,6 +1,8 @@
-//! Captures whose frames are marked by the colours that their packets leave a domain's meters with (RFC 2475 section 2.3.3, RFC 2597).
+//! Captures whose frames are marked by the colours that their packets leave a domain's meters with (RFC 2475 section
+//! 2.3.3, RFC 2597).
 //!
-//! The calls of steps (`ds_conductor_base`) and of the gate round visits (`ds_visits`) stand here too, by one name for all callers.
+//! The calls of steps (`ds_conductor_base`) and of the gate round visits (`ds_visits`) stand here too, by one name for
+//! all callers.
 #![tactic(auto)]
 
 pub mod fault;

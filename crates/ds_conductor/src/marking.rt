@@ -1,8 +1,11 @@
 ghost use Rattle.std.specs.Prelude.{◌≡◌, ℕ, true, false, List, Err, Some, IfErr, IfOk, if◌then◌else◌};
 ghost use Rattle.pcap_capture.specs.Counts.{next_count};
 ghost use Rattle.ds_domain_base.specs.Domains.{is_port};
-ghost use Rattle.ds_conductor.specs.Markings.{IsMarked, IsMarkedAs, IsOfReads, IsPassed, answer_of, is_read_whole, is_starved, is_unread, is_unwritten, marking_in, marking_of, marking_told, see};
+ghost use Rattle.ds_conductor.specs.Markings.{IsMarked, IsMarkedAs, IsOfReads, IsPassed, answer_of, is_read_whole};
+ghost use Rattle.ds_conductor.specs.Markings.{is_starved, is_unread, is_unwritten, marking_in, marking_of};
+ghost use Rattle.ds_conductor.specs.Markings.{marking_told, see};
 ghost use Rattle.ds_conductor.specs.Readings.{IsReading};
+ghost use Rattle.ds_conductor.specs.Reports.{nothing_read};
 ghost use Rattle.ds_conductor.specs.Sendings.{IsSending};
 
 use crate::fault::MarkFault;
@@ -22,15 +25,19 @@ use std::alloc::{AllocError, Global};
 /// By how many calls of `take` a capture is read at most; the next is answered as a read fault.
 const TURNS: u64 = 1 << 32;
 
-/// Marks a capture: each IPv4 frame that a contract of the port takes passes the meters of its contract's path, and leaves with the code point of its
-/// contract's class and the colour of its last meter (RFC 2597 section 6), or under `RedRule::Drop` not at all where that is red.
+/// Marks a capture: each IPv4 frame that a contract of the port takes passes the meters of its contract's path, and
+/// leaves with the code point of its contract's class and the colour of its last meter (RFC 2597 section 6), or under
+/// `RedRule::Drop` not at all where that is red.
 ///
-/// The whole capture is read first. A frame is sent at the greatest stamp so far and comes to each hop after the floors of the links; the visits are made in the order
-/// of moment, record and hop, on books of 2^20 rows, the gate being called round each with worker 0. Then the capture is written: its heading and
-/// each record as they came but for the marks.
+/// The whole capture is read first. A frame is sent at the greatest stamp so far and comes to each hop after the floors
+/// of the links; the visits are made in the order of moment, record and hop, on books of 2^20 rows, the gate being
+/// called round each with worker 0. Then the capture is written: its heading and each record as they came but for the
+/// marks.
 ///
-/// Refused, with the report of what was read: `UnknownPort` (nothing is read); `JournalFull` where a site is visited more than 2^20 times (nothing is written); `NoMemory` (a front is written, or nothing with a report of nothing);
-/// `Capture` with the first fault that stands in the capture, or a read fault, where every record before it is written, or with a write fault, where a front is written.
+/// Refused, with the report of what was read: `UnknownPort` exactly where the domain has no port of that name (nothing
+/// is read); `JournalFull` where a site is visited more than 2^20 times (nothing is written); `NoMemory` (a front is
+/// written, or nothing with a report of nothing); `Capture` with the first fault that stands in the capture, or a read
+/// fault, where every record before it is written, or with a write fault, where a front is written.
 pub fn mark<I: Intake, O: Outlet, G: Gate>(
     alloc: Global,
     accepted: &Accepted,
@@ -43,11 +50,18 @@ pub fn mark<I: Intake, O: Outlet, G: Gate>(
 ) -> Result<Report, (Report, MarkFault)>
     requires one { workers ≡ 1 }
     ensures marked { I.tells intake.old → O.tells outlet.old →
-        IsMarked accepted.now port.now red (I.left intake.old) (I.left intake.new) (O.held outlet.old) (O.held outlet.new) result }
-    ensures untouched { is_port accepted.now.domain port.now ≡ false → (intake.new ≡ intake.old) × (outlet.new ≡ outlet.old) }
+        IsMarked accepted.now port.now red (I.left intake.old) (I.left intake.new) (O.held outlet.old)
+        (O.held outlet.new) result }
+    ensures unknown { is_port accepted.now.domain port.now ≡ false → result
+        ≡ Err (nothing_read, MarkFault.UnknownPort) }
+    ensures known { is_port accepted.now.domain port.now ≡ true
+        → IfErr result (λ refused. ¬ (refused.1 ≡ MarkFault.UnknownPort)) }
+    ensures untouched { is_port accepted.now.domain port.now ≡ false → (intake.new ≡ intake.old)
+        × (outlet.new ≡ outlet.old) }
     ensures writes { O.failed outlet.new
         ≡ (if is_unwritten result then next_count (O.failed outlet.old) else O.failed outlet.old) }
-    ensures reads { IsOfReads result (I.failed intake.old) (I.failed intake.new) (I.turns intake.old) (I.turns intake.new) }
+    ensures reads { IsOfReads result (I.failed intake.old) (I.failed intake.new) (I.turns intake.old)
+        (I.turns intake.new) }
 {
     let Some(port) = accepted.domain().port_named(port) else {
         return Err((Report::nothing(), MarkFault::UnknownPort));
@@ -67,10 +81,12 @@ fn mark_reading<O: Outlet, G: Gate>(
     gate: &G,
 ) -> Result<Report, (Report, MarkFault)>
     requires { ¬ (reading.fault ≡ Some PcapFault.WriteFault) }
-    ensures marked { O.tells outlet.old → (bytes more : List ℕ) → IsReading bytes more reading.heading reading.frames.items reading.fault →
+    ensures marked { O.tells outlet.old → (bytes more : List ℕ)
+        → IsReading bytes more reading.heading reading.frames.items reading.fault →
         IsMarkedAs (marking_in accepted.now port red) bytes more (O.held outlet.old) (O.held outlet.new) result }
     ensures writes { O.failed outlet.new
         ≡ (if is_unwritten result then next_count (O.failed outlet.old) else O.failed outlet.old) }
+    ensures known { IfErr result (λ refused. ¬ (refused.1 ≡ MarkFault.UnknownPort)) }
     ensures unread { is_unread result ≡ true → reading.fault ≡ Some PcapFault.ReadFault }
     ensures read { is_read_whole result ≡ true → ¬ (reading.fault ≡ Some PcapFault.ReadFault) }
 {
@@ -117,9 +133,11 @@ fn mark_behind<O: Outlet, G: Gate>(
     gate: &G,
 ) -> Result<Report, (Report, MarkFault)>
     ensures passed { O.tells outlet.old →
-        IsPassed (marking_told accepted.now port red heading frames.items) (O.held outlet.old) (O.held outlet.new) result }
+        IsPassed (marking_told accepted.now port red heading frames.items) (O.held outlet.old) (O.held outlet.new)
+        result }
     ensures writes { O.failed outlet.new
         ≡ (if is_unwritten result then next_count (O.failed outlet.old) else O.failed outlet.old) }
+    ensures known { IfErr result (λ refused. ¬ (refused.1 ≡ MarkFault.UnknownPort)) }
     ensures read { is_unread result ≡ false }
     ensures stopped { IfErr result (λ refusal. is_read_whole (Err refusal) ≡ false) }
 {
@@ -141,9 +159,11 @@ fn mark_frames<O: Outlet, G: Gate>(
     gate: &G,
 ) -> Result<Report, (Report, MarkFault)>
     ensures passed { O.tells outlet.old →
-        IsPassed (marking_of accepted.now port red heading.now frames.items) (O.held outlet.old) (O.held outlet.new) result }
+        IsPassed (marking_of accepted.now port red heading.now frames.items) (O.held outlet.old) (O.held outlet.new)
+        result }
     ensures writes { O.failed outlet.new
         ≡ (if is_unwritten result then next_count (O.failed outlet.old) else O.failed outlet.old) }
+    ensures known { IfErr result (λ refused. ¬ (refused.1 ≡ MarkFault.UnknownPort)) }
     ensures read { is_unread result ≡ false }
     ensures stopped { IfErr result (λ refusal. is_read_whole (Err refusal) ≡ false) }
 {

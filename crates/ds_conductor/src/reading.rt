@@ -1,6 +1,8 @@
-ghost use Rattle.std.specs.Prelude.{◌≡◌, ℕ, ◌≤◌, ◌<◌, ◌⊎◌, ◌^◌, false, true, List, [], ◌++◌, length, take, vec_len, None, Some, Err, IfErr, IfOk, MatchResult, if◌then◌else◌};
+ghost use Rattle.std.specs.Prelude.{◌≡◌, ℕ, ◌≤◌, ◌<◌, ◌⊎◌, ◌^◌, false, true, List, [], ◌++◌, length, take, vec_len};
+ghost use Rattle.std.specs.Prelude.{None, Some, Err, IfErr, IfOk, MatchResult, if◌then◌else◌};
 ghost use Rattle.pcap_capture.specs.Counts.{count_after, next_count};
-ghost use Rattle.ds_conductor.specs.Readings.{IsEnded, IsReadOn, IsReading, IsUnderway, heading_at, is_own, is_read_fault};
+ghost use Rattle.ds_conductor.specs.Readings.{IsEnded, IsReadOn, IsReading, IsUnderway, heading_at, is_own};
+ghost use Rattle.ds_conductor.specs.Readings.{is_read_fault};
 
 use pcap_capture::{Capture, Frame, Heading, Intake, PIECE, PcapFault, Stage, room};
 use std::alloc::Global;
@@ -87,7 +89,8 @@ fn finish(progress: &mut Progress) -> Result<(), PcapFault>
     }
 }
 
-/// Takes a piece of a device and reads it, or ends the capture where no byte is left. Answers whether there was a piece.
+/// Takes a piece of a device and reads it, or ends the capture where no byte is left. Answers whether there was a
+/// piece.
 fn read_piece<I: Intake>(
     alloc: Global,
     intake: &mut I,
@@ -153,13 +156,16 @@ fn read_pieces<I: Intake>(
     Err(PcapFault::ReadFault)
 }
 
-/// Reads a capture to its end or its first fault, by at most `turns` calls of `take`, the next being answered as a read fault.
+/// Reads a capture to its end or its first fault, by at most `turns` calls of `take`, the next being answered as a read
+/// fault.
 ///
 /// The heading is taken by calls of their own, so that it is known when a record behind it is at fault.
 pub(crate) fn read_capture<I: Intake>(alloc: Global, intake: &mut I, turns: u64) -> Reading
     requires { turns ≤ 2 ^ 32 }
-    ensures read { I.tells intake.old → IsReading (I.left intake.old) (I.left intake.new) result.heading result.frames.items result.fault }
-    // A read fault is answered only where the device failed once or was asked as often as it may be, and no other where it failed.
+    ensures read { I.tells intake.old → IsReading (I.left intake.old) (I.left intake.new) result.heading
+        result.frames.items result.fault }
+    // A read fault is answered only where the device failed once or was asked as often as it may be, and no other where
+    // it failed.
     ensures failed { result.fault ≡ Some PcapFault.ReadFault → (I.failed intake.new ≡ next_count (I.failed intake.old))
         ⊎ ((I.failed intake.new ≡ I.failed intake.old) × (I.turns intake.new ≡ count_after turns (I.turns intake.old))) }
     ensures unfailed { ¬ (result.fault ≡ Some PcapFault.ReadFault) → I.failed intake.new ≡ I.failed intake.old }

@@ -50,7 +50,8 @@ impl Report {
 
 /// The report of so many frames none of which could be marked.
 pub(crate) fn unmarked_report(sending: &Sending, records: u64) -> Report
-    ensures { (see : List ℕ → Sight) (frames : List FrameValue) → IsSending see frames sending.now → length frames ≡ records
+    ensures { (see : List ℕ → Sight) (frames : List FrameValue) → IsSending see frames sending.now → length frames
+        ≡ records
         → result ≡ unmarked_report see frames }
 {
     Report {
@@ -79,7 +80,8 @@ pub(crate) fn marked_report(
     rule: RedRule,
     colours: &[Colour],
 ) -> Report
-    ensures { (see : List ℕ → Sight) (frames : List FrameValue) → IsSending see frames sending.now → length frames ≡ records
+    ensures { (see : List ℕ → Sight) (frames : List FrameValue) → IsSending see frames sending.now → length frames
+        ≡ records
         → result ≡ report_of see rule frames (zip sending.now.sent.items colours.now) }
 {
     let sent = sending.sent.as_slice();

@@ -31,9 +31,11 @@ impl Sending {
         requires skipped { self.old.skipped < u64.MAX }
         requires unverified { self.old.unverified < u64.MAX }
         ensures sent { OnOk result (self.new.sent.items ≡ self.old.sent.items ++ sent_by sight number moment) }
-        ensures unmatched { OnOk result (self.new.unmatched ≡ self.old.unmatched + (if is_unmatched sight then 1 else 0)) }
+        ensures unmatched { OnOk result
+            (self.new.unmatched ≡ self.old.unmatched + (if is_unmatched sight then 1 else 0)) }
         ensures skipped { OnOk result (self.new.skipped ≡ self.old.skipped + (if is_skipped sight then 1 else 0)) }
-        ensures unverified { OnOk result (self.new.unverified ≡ self.old.unverified + (if is_unverified sight then 1 else 0)) }
+        ensures unverified { OnOk result
+            (self.new.unverified ≡ self.old.unverified + (if is_unverified sight then 1 else 0)) }
     {
         match sight {
             Sight::Skipped => self.skipped += 1,
@@ -62,8 +64,9 @@ fn later(newest: Moment, moment: Moment) -> Moment
     newest.max(moment)
 }
 
-/// The packets that the frames of a capture send at a port: each at the greatest stamp so far, since stamps may fall and time does not.
-/// A packet's size is its header's total length, however much of it was captured. `AllocError` where memory runs out.
+/// The packets that the frames of a capture send at a port: each at the greatest stamp so far, since stamps may fall
+/// and time does not. A packet's size is its header's total length, however much of it was captured. `AllocError` where
+/// memory runs out.
 pub(crate) fn send_frames(
     alloc: Global,
     classifier: &PortClassifier,

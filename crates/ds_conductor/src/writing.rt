@@ -1,4 +1,5 @@
-ghost use Rattle.std.specs.Prelude.{◌≡◌, ◌⊎◌, [], ◌++◌, drop, zip, is_ok, if◌then◌else◌, IfOk, IfErr, MatchResult, OnOk};
+ghost use Rattle.std.specs.Prelude.{◌≡◌, ◌⊎◌, [], ◌++◌, drop, zip, is_ok, if◌then◌else◌, IfOk, IfErr, MatchResult};
+ghost use Rattle.std.specs.Prelude.{OnOk};
 ghost use Rattle.meter_fabric.specs.Grounds.{contract_of, ground_of};
 ghost use Rattle.pcap_capture.specs.Counts.{next_count};
 ghost use Rattle.ds_conductor.specs.Texts.{is_dropped, packet_at, record_text, text_from, text_in_class};
@@ -26,7 +27,8 @@ fn write_out<O: Outlet>(outlet: &mut O, out: &mut Vec<u8>) -> Result<(), MarkFau
         (λ _. IsFrontOf (O.held outlet.old) out.old.items (O.held outlet.new)) }
     ensures emptied { OnOk result (out.new.items ≡ []) }
     ensures fault { IfErr result (λ fault. fault ≡ MarkFault.Capture PcapFault.WriteFault) }
-    ensures failures { O.failed outlet.new ≡ (if is_ok result then O.failed outlet.old else next_count (O.failed outlet.old)) }
+    ensures failures { O.failed outlet.new
+        ≡ (if is_ok result then O.failed outlet.old else next_count (O.failed outlet.old)) }
 {
     match hand_over(outlet, out) {
         Ok(()) => Ok(()),
@@ -41,7 +43,8 @@ fn write_out_full<O: Outlet>(outlet: &mut O, out: &mut Vec<u8>) -> Result<(), Ma
         (λ _. IsWrittenTo out.new.items (O.held outlet.old) out.old.items (O.held outlet.new))
         (λ _. IsFrontOf (O.held outlet.old) out.old.items (O.held outlet.new)) }
     ensures fault { IfErr result (λ fault. fault ≡ MarkFault.Capture PcapFault.WriteFault) }
-    ensures failures { O.failed outlet.new ≡ (if is_ok result then O.failed outlet.old else next_count (O.failed outlet.old)) }
+    ensures failures { O.failed outlet.new
+        ≡ (if is_ok result then O.failed outlet.old else next_count (O.failed outlet.old)) }
 {
     if out.len() < FULL {
         return Ok(());
@@ -89,7 +92,8 @@ fn add_marked(
     flow: u32,
     colour: Colour,
 ) -> Result<(), AllocError>
-    ensures { OnOk result (out.new.items ≡ out.old.items ++ text_in_class link frame colour (contract_of (ground_of accepted.now) flow)) }
+    ensures { OnOk result
+        (out.new.items ≡ out.old.items ++ text_in_class link frame colour (contract_of (ground_of accepted.now) flow)) }
 {
     let (head, _moment, mut bytes) = frame.into_parts();
     if let Some(contract) = contract_of(accepted, flow) {
@@ -98,7 +102,8 @@ fn add_marked(
     add_bytes(out, &head, bytes.as_slice())
 }
 
-/// Adds the record of a frame to a text: marked with the colour of the packet that was sent from it, unless it is left out, or as it came where none was.
+/// Adds the record of a frame to a text: marked with the colour of the packet that was sent from it, unless it is left
+/// out, or as it came where none was.
 fn add_record(
     out: &mut Vec<u8>,
     accepted: &Accepted,
@@ -116,7 +121,8 @@ fn add_record(
     }
 }
 
-/// Collects the record of a frame, and hands over what is collected where that is much. A fault leaves a front of it written.
+/// Collects the record of a frame, and hands over what is collected where that is much. A fault leaves a front of it
+/// written.
 fn write_frame<O: Outlet>(
     outlet: &mut O,
     out: &mut Vec<u8>,
@@ -128,10 +134,14 @@ fn write_frame<O: Outlet>(
 ) -> Result<(), MarkFault>
     ensures told { O.tells outlet.old → O.tells outlet.new }
     ensures bytes { O.tells outlet.old → MatchResult result
-        (λ _. IsWrittenTo out.new.items (O.held outlet.old) (out.old.items ++ record_text accepted.now red link frame packet) (O.held outlet.new))
-        (λ _. IsFrontOf (O.held outlet.old) (out.old.items ++ record_text accepted.now red link frame packet) (O.held outlet.new)) }
-    ensures fault { IfErr result (λ fault. (fault ≡ MarkFault.Capture PcapFault.WriteFault) ⊎ (fault ≡ MarkFault.NoMemory)) }
-    ensures failures { O.failed outlet.new ≡ (if is_write_fault result then next_count (O.failed outlet.old) else O.failed outlet.old) }
+        (λ _. IsWrittenTo out.new.items (O.held outlet.old)
+        (out.old.items ++ record_text accepted.now red link frame packet) (O.held outlet.new))
+        (λ _. IsFrontOf (O.held outlet.old) (out.old.items ++ record_text accepted.now red link frame packet)
+        (O.held outlet.new)) }
+    ensures fault { IfErr result (λ fault. (fault ≡ MarkFault.Capture PcapFault.WriteFault)
+        ⊎ (fault ≡ MarkFault.NoMemory)) }
+    ensures failures { O.failed outlet.new
+        ≡ (if is_write_fault result then next_count (O.failed outlet.old) else O.failed outlet.old) }
 {
     let Ok(()) = add_record(out, accepted, red, link, frame, packet) else {
         return Err(MarkFault::NoMemory);
@@ -139,13 +149,15 @@ fn write_frame<O: Outlet>(
     write_out_full(outlet, out)
 }
 
-/// Writes a marked capture: its heading, and then the records of its frames, in their order. The packets that were sent from frames stand in the
-/// order of these, each with the number of its frame, counted from 0, and `colours` has the colours that they left with.
+/// Writes a marked capture: its heading, and then the records of its frames, in their order. The packets that were sent
+/// from frames stand in the order of these, each with the number of its frame, counted from 0, and `colours` has the
+/// colours that they left with.
 ///
-/// A frame that a packet was sent from is marked with the code point of the packet's colour in the class of its contract, or left out where that is
-/// red and `red` says so; any other stands as it came.
+/// A frame that a packet was sent from is marked with the code point of the packet's colour in the class of its
+/// contract, or left out where that is red and `red` says so; any other stands as it came.
 ///
-/// Refused: `Capture(WriteFault)` exactly where the device failed, and `NoMemory`. A front of the marked capture is then written.
+/// Refused: `Capture(WriteFault)` exactly where the device failed, and `NoMemory`. A front of the marked capture is
+/// then written.
 pub(crate) fn write_capture<O: Outlet>(
     alloc: Global,
     accepted: &Accepted,
@@ -157,10 +169,14 @@ pub(crate) fn write_capture<O: Outlet>(
     outlet: &mut O,
 ) -> Result<(), MarkFault>
     ensures bytes { O.tells outlet.old → (
-        let text = heading.now.bytes ++ text_from accepted.now red heading.now.link 0 frames.items (zip sent.now colours.now) in
-        MatchResult result (λ _. O.held outlet.new ≡ O.held outlet.old ++ text) (λ _. IsFrontOf (O.held outlet.old) text (O.held outlet.new))) }
-    ensures fault { IfErr result (λ fault. (fault ≡ MarkFault.Capture PcapFault.WriteFault) ⊎ (fault ≡ MarkFault.NoMemory)) }
-    ensures failures { O.failed outlet.new ≡ (if is_write_fault result then next_count (O.failed outlet.old) else O.failed outlet.old) }
+        let text = heading.now.bytes
+        ++ text_from accepted.now red heading.now.link 0 frames.items (zip sent.now colours.now) in
+        MatchResult result (λ _. O.held outlet.new ≡ O.held outlet.old ++ text)
+        (λ _. IsFrontOf (O.held outlet.old) text (O.held outlet.new))) }
+    ensures fault { IfErr result (λ fault. (fault ≡ MarkFault.Capture PcapFault.WriteFault)
+        ⊎ (fault ≡ MarkFault.NoMemory)) }
+    ensures failures { O.failed outlet.new
+        ≡ (if is_write_fault result then next_count (O.failed outlet.old) else O.failed outlet.old) }
 {
     let mut out = Vec::new(alloc);
     let Ok(()) = out.extend_from_slice(&heading.bytes) else {

@@ -40,7 +40,8 @@ abbrev pub going_on : ℕ → (Stage → Result Stage ConductFault) → Result S
 going_on index rest (Ok g) = rest g
 going_on index rest (Err fault) = Err (fault_at index fault)
 
--- all steps one after the other, of which the first has this index, or what stands against the first that cannot be made
+-- all steps one after the other, of which the first has this index, or what stands against the first that cannot be
+-- made
 unfoldable pub conducted_from : Table → Stage → ℕ → List Step → Result Stage ConductFault
 conducted_from t g index [] = Ok g
 conducted_from t g index (s ∷ rest) = going_on index (λ h. conducted_from t h (suc index) rest) (stepped t g s)

@@ -18,8 +18,8 @@ stage_of c = record { travellers = c.travellers.items; books = c.books.items }
 abbrev pub conduct_of : conductors.Inside → Conduct
 conduct_of c = record { table = c.accepted.now; stage = stage_of c }
 
--- the packets are on the ways of their contracts, the place that is kept of a number is that of its packet, and the numbers of
--- sites have 32 bits
+-- the packets are on the ways of their contracts, the place that is kept of a number is that of its packet, and the
+-- numbers of sites have 32 bits
 pub record IsConductor (c : conductors.Inside) : Type 0 where
   pub under_way : IsUnderWay c.accepted.now (stage_of c)
   pub places : (number : ℕ) → get nat_eq c.places number ≡ position (is_of number) c.travellers.items

@@ -1,5 +1,6 @@
 -- What a step makes of packets on their way and of the books of the sites.
-use Rattle.std.specs.Prelude.{ℕ, ◌+◌, ◌^◌, nat_eq, Bool, if◌then◌else◌, List, [], ◌∷◌, ◌++◌, length, map, min, position, slice_get, slice_set, option_map, Option, None, Some, Result, Ok, Err}
+use Rattle.std.specs.Prelude.{ℕ, ◌+◌, ◌^◌, nat_eq, Bool, if◌then◌else◌, List, [], ◌∷◌, ◌++◌, length, map, min, position}
+use Rattle.std.specs.Prelude.{slice_get, slice_set, option_map, Option, None, Some, Result, Ok, Err}
 use Rattle.std.specs.List.{list_any, range_with_len}
 use Rattle.meter_book.specs.Replay.{Book}
 use Rattle.ds_checker.specs.Acceptance.{Table}
@@ -13,8 +14,8 @@ use Rattle.ds_conductor_base.specs.declared.fault.StepFault.TheVariants.{BadStep
 use Rattle.ds_conductor_base.specs.declared.step.Step.{Step}
 use Rattle.ds_conductor_base.specs.declared.step.Step.TheVariants.{Send, Visit}
 
--- the packets on their way, in the order in which they were sent, and the books of the sites, each at its number; where a site has
--- no meter, as at a trusted contract's number, there is no book
+-- the packets on their way, in the order in which they were sent, and the books of the sites, each at its number; where
+-- a site has no meter, as at a trusted contract's number, there is no book
 pub record Stage : Type 0 where
   pub travellers : List Traveller
   pub books : List (Option Book)
@@ -71,7 +72,8 @@ abbrev pub visited_from : Stage → ℕ → Option ℕ → Result Stage StepFaul
 visited_from g moment None = Err BadStep
 visited_from g moment (Some place) = visited_by g moment place (slice_get g.travellers place)
 
--- A step: a packet begins, if none was sent with its number, or the packet of a number comes to its next site at a moment.
+-- A step: a packet begins, if none was sent with its number, or the packet of a number comes to its next site at a
+-- moment.
 unfoldable pub stepped : Table → Stage → Step → Result Stage StepFault
 stepped t g (Send flow packet size dscp moment) =
     if list_any (is_of packet) g.travellers then

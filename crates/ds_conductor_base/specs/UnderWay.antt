@@ -32,4 +32,5 @@ pub record IsUnderWay (t : Table) (g : Stage) : Type 0 where
   pub openings : (site : ℕ) → option_map opening_in (book_at g site) ≡ opening_at (ground_of t) site
   pub travellers : All (IsOnItsWay t) g.travellers
   pub numbers : AllPairs (λ p q. ¬ (p.packet.number ≡ q.packet.number)) g.travellers
-  pub rows : (site : ℕ) (b : Book) → book_at g site ≡ Some b → IsPermutation (told site (map passage_of g.travellers)) (rows_of b)
+  pub rows : (site : ℕ) (b : Book) → book_at g site ≡ Some b
+      → IsPermutation (told site (map passage_of g.travellers)) (rows_of b)

@@ -38,8 +38,8 @@ impl<'a> Model for Conductor<'a> {
 }
 
 impl<'a> Conductor<'a> {
-    /// Before the first step: an empty book for each meter, and for the edge of each policed contract. `AllocError` where
-    /// memory runs out.
+    /// Before the first step: an empty book for each meter, and for the edge of each policed contract. `AllocError`
+    /// where memory runs out.
     pub fn new(alloc: Global, accepted: &'a Accepted) -> Result<Self, AllocError>
         ensures { IfOk result (λ conductor. conductor ≡ record { table = accepted.now; stage = opened accepted.now }) }
     {
@@ -54,13 +54,14 @@ impl<'a> Conductor<'a> {
 
     /// Makes a step: a packet begins its way, or comes to its next site.
     ///
-    /// Refused: `BadStep` where there is no contract of the packet's number, where the packet was sent before, or never, where
-    /// its path has ended, or where the moment is before its last one; else `JournalFull` where the book of its next site has
-    /// 2^20 rows; `NoMemory` where memory runs out. All is then as it was.
+    /// Refused: `BadStep` where there is no contract of the packet's number, where the packet was sent before, or
+    /// never, where its path has ended, or where the moment is before its last one; else `JournalFull` where the book
+    /// of its next site has 2^20 rows; `NoMemory` where memory runs out. All is then as it was.
     pub fn step(&mut self, step: Step) -> Result<(), StepFault>
         ensures table { self.new.table ≡ self.old.table }
         ensures done { OnOk result (stepped self.old.table self.old.stage step ≡ Ok self.new.stage) }
-        ensures refused { IfErr result (λ fault. (fault ≡ StepFault.NoMemory) ⊎ (stepped self.old.table self.old.stage step ≡ Err fault)) }
+        ensures refused { IfErr result (λ fault. (fault ≡ StepFault.NoMemory)
+            ⊎ (stepped self.old.table self.old.stage step ≡ Err fault)) }
         ensures unchanged { OnErr result (self.new ≡ self.old) }
     {
         match step {
@@ -85,8 +86,10 @@ impl<'a> Conductor<'a> {
         moment: Moment,
     ) -> Result<(), StepFault>
         ensures table { self.new.table ≡ self.old.table }
-        ensures done { OnOk result (stepped self.old.table self.old.stage (Step.Send flow packet size dscp moment) ≡ Ok self.new.stage) }
-        ensures refused { IfErr result (λ fault. (fault ≡ StepFault.NoMemory) ⊎ (stepped self.old.table self.old.stage (Step.Send flow packet size dscp moment) ≡ Err fault)) }
+        ensures done { OnOk result (stepped self.old.table self.old.stage (Step.Send flow packet size dscp moment)
+            ≡ Ok self.new.stage) }
+        ensures refused { IfErr result (λ fault. (fault ≡ StepFault.NoMemory)
+            ⊎ (stepped self.old.table self.old.stage (Step.Send flow packet size dscp moment) ≡ Err fault)) }
         ensures unchanged { OnErr result (self.new ≡ self.old) }
     {
         if self.places.contains_key(&packet) {
@@ -104,8 +107,10 @@ impl<'a> Conductor<'a> {
     /// Lets the packet of a number come to its next site.
     fn visit(&mut self, packet: u64, moment: Moment) -> Result<(), StepFault>
         ensures table { self.new.table ≡ self.old.table }
-        ensures done { OnOk result (stepped self.old.table self.old.stage (Step.Visit packet moment) ≡ Ok self.new.stage) }
-        ensures refused { IfErr result (λ fault. (fault ≡ StepFault.NoMemory) ⊎ (stepped self.old.table self.old.stage (Step.Visit packet moment) ≡ Err fault)) }
+        ensures done { OnOk result (stepped self.old.table self.old.stage (Step.Visit packet moment)
+            ≡ Ok self.new.stage) }
+        ensures refused { IfErr result (λ fault. (fault ≡ StepFault.NoMemory)
+            ⊎ (stepped self.old.table self.old.stage (Step.Visit packet moment) ≡ Err fault)) }
         ensures unchanged { OnErr result (self.new ≡ self.old) }
     {
         let Some(place) = self.places.get(&packet).copied() else {
@@ -114,10 +119,11 @@ impl<'a> Conductor<'a> {
         visit_next(&mut self.travellers, &mut self.books, place, moment)
     }
 
-    /// The run that the steps made: the journals of the sites in their order, and the packets as they were sent. `AllocError`
-    /// where memory runs out.
+    /// The run that the steps made: the journals of the sites in their order, and the packets as they were sent.
+    /// `AllocError` where memory runs out.
     pub fn finish(self, alloc: Global) -> Result<Run<'a>, AllocError>
-        ensures { IfOk result (λ run. run ≡ record { basis = ground_of self.entry.table; run = run_so_far self.entry.stage }) }
+        ensures { IfOk result
+            (λ run. run ≡ record { basis = ground_of self.entry.table; run = run_so_far self.entry.stage }) }
     {
         let Conductor {
             accepted,

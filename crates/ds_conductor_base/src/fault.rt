@@ -9,8 +9,8 @@ use thiserror::Error;
 /// Why a step was not made.
 #[derive(Clone, Copy, Debug, PartialEq, Eq, Hash, Drop, Error)]
 pub enum StepFault {
-    /// There is no contract of that number, the packet was sent before or never, its path has ended, or the moment is before
-    /// its last one.
+    /// There is no contract of that number, the packet was sent before or never, its path has ended, or the moment is
+    /// before its last one.
     #[error("the step cannot be made")]
     BadStep,
     /// The journal of the site has as many rows as it can take.
@@ -48,8 +48,8 @@ impl StepFault {
 /// Why a list of steps makes no run: the first step that could not be made, by its index from 0.
 #[derive(Clone, Copy, Debug, PartialEq, Eq, Hash, Drop, Error)]
 pub enum ConductFault {
-    /// There is no contract of that number, the packet was sent before or never, its path has ended, or the moment is before
-    /// its last one.
+    /// There is no contract of that number, the packet was sent before or never, its path has ended, or the moment is
+    /// before its last one.
     #[error("the step of index {0} cannot be made")]
     BadStep(usize),
     /// The journal of the site has as many rows as it can take.

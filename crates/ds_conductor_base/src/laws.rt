@@ -1,14 +1,14 @@
 //! What steps make, proved as the contracts of functions that do nothing.
 ghost use Rattle.ds_conductor_base.specs.Laws.{StepsKeepOnTheWay, StepsMakeRuns};
 
-/// Before the first step, packets are on the ways of their contracts and the books of the sites have the rows that they carry;
-/// each step that is made keeps it so; and what has been made so far is then a run.
+/// Before the first step, packets are on the ways of their contracts and the books of the sites have the rows that they
+/// carry; each step that is made keeps it so; and what has been made so far is then a run.
 pub fn every_step_keeps_on_the_way()
     ensures { StepsKeepOnTheWay }
 {}
 
-/// Whatever steps are made, and in whatever order, they make a run: each journal is the replay of what arrived at its site,
-/// each packet carries the receipts of the first hops of its way, and the two tell the same rows.
+/// Whatever steps are made, and in whatever order, they make a run: each journal is the replay of what arrived at its
+/// site, each packet carries the receipts of the first hops of its way, and the two tell the same rows.
 pub fn steps_make_runs()
     ensures { StepsMakeRuns }
 {}

@@ -16,9 +16,15 @@ pub(crate) fn visit_next(
     place: usize,
     moment: Moment,
 ) -> Result<(), StepFault>
-    ensures done { OnOk result (visited_by (record { travellers = travellers.old.items; books = books.old.items }) moment place (slice_get travellers.old.items place) ≡ Ok (record { travellers = travellers.new.items; books = books.new.items })) }
-    ensures refused { IfErr result (λ fault. (fault ≡ StepFault.NoMemory) ⊎ (visited_by (record { travellers = travellers.old.items; books = books.old.items }) moment place (slice_get travellers.old.items place) ≡ Err fault)) }
-    ensures unchanged { OnErr result ((travellers.new.items ≡ travellers.old.items) × (books.new.items ≡ books.old.items)) }
+    ensures done { OnOk result
+        (visited_by (record { travellers = travellers.old.items; books = books.old.items }) moment place
+        (slice_get travellers.old.items place)
+        ≡ Ok (record { travellers = travellers.new.items; books = books.new.items })) }
+    ensures refused { IfErr result (λ fault. (fault ≡ StepFault.NoMemory)
+        ⊎ (visited_by (record { travellers = travellers.old.items; books = books.old.items }) moment place
+        (slice_get travellers.old.items place) ≡ Err fault)) }
+    ensures unchanged { OnErr result ((travellers.new.items ≡ travellers.old.items)
+        × (books.new.items ≡ books.old.items)) }
 {
     let Some(traveller) = travellers.get_mut(place) else {
         return Err(StepFault::BadStep);
@@ -39,7 +45,8 @@ fn visit_there(
     moment: Moment,
 ) -> Result<(), StepFault>
     ensures done { OnOk result (visit_there traveller.old book.old moment ≡ Ok (traveller.new, book.new)) }
-    ensures refused { IfErr result (λ fault. (fault ≡ StepFault.NoMemory) ⊎ (visit_there traveller.old book.old moment ≡ Err fault)) }
+    ensures refused { IfErr result (λ fault. (fault ≡ StepFault.NoMemory)
+        ⊎ (visit_there traveller.old book.old moment ≡ Err fault)) }
     ensures unchanged { OnErr result ((traveller.new ≡ traveller.old) × (book.new ≡ book.old)) }
 {
     match book {

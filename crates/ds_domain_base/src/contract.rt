@@ -33,8 +33,8 @@ pub struct Contract {
 }
 
 impl Contract {
-    /// The colour that a packet with a code point comes in with: the one that the code point shows in the contract's class,
-    /// any other code point being red. Yellow is red for a trusted contract without a peak.
+    /// The colour that a packet with a code point comes in with: the one that the code point shows in the contract's
+    /// class, any other code point being red. Yellow is red for a trusted contract without a peak.
     #[tactic(auto, unfolding(crate::specs::Sent::came))]
     pub fn came(&self, dscp: Dscp) -> Colour
         ensures { result ≡ came self.now dscp }

@@ -1,7 +1,10 @@
-ghost use Rattle.std.specs.Prelude.{◌≡◌, ◌≤◌, ◌^◌, ◌⊎◌, ◌++◌, List, ℕ, None, Some, position, IfOk, IfErr, OnOk, OnErr, if◌then◌else◌};
+ghost use Rattle.std.specs.Prelude.{◌≡◌, ◌≤◌, ◌^◌, ◌⊎◌, ◌++◌, List, ℕ, None, Some, position, IfOk, IfErr, OnOk, OnErr};
+ghost use Rattle.std.specs.Prelude.{if◌then◌else◌};
 ghost use Rattle.std.specs.Map.{keys_of};
 ghost use Rattle.std.specs.Str.{bytes_eq};
-ghost use Rattle.ds_domain_base.specs.Domains.{bare, floor_of, is_meter, is_port, is_taken, jitter_of, link_fault, link_of, meter_fault, meter_of, port_fault, port_of, skew_of, with_link, with_meter, with_port};
+ghost use Rattle.ds_domain_base.specs.Domains.{bare, floor_of, is_meter, is_port, is_taken, jitter_of, link_fault};
+ghost use Rattle.ds_domain_base.specs.Domains.{link_of, meter_fault, meter_of, port_fault, port_of, skew_of, with_link};
+ghost use Rattle.ds_domain_base.specs.Domains.{with_meter, with_port};
 ghost use Rattle.ds_domain_base.specs.Faults.{no_memory};
 ghost use Rattle.ds_domain_base.specs.Kept.{IsDomain};
 
@@ -34,7 +37,8 @@ impl Model for Domain {
 
     ghost view = { λ d. record { meters = d.meters.entries; ports = d.ports.entries; links = d.links.entries } };
 
-    ghost invariant = { λ d. IsDomain (record { meters = d.meters.entries; ports = d.ports.entries; links = d.links.entries }) };
+    ghost invariant = { λ d. IsDomain
+        (record { meters = d.meters.entries; ports = d.ports.entries; links = d.links.entries }) };
 }
 
 impl Domain {
@@ -160,8 +164,8 @@ impl Domain {
 
     /// Adds a meter behind the others.
     ///
-    /// Refused, and unchanged: `Range` where there are as many as there may be, `Twice` where the name is taken, `NoMemory`
-    /// where memory runs out.
+    /// Refused, and unchanged: `Range` where there are as many as there may be, `Twice` where the name is taken,
+    /// `NoMemory` where memory runs out.
     pub fn add_meter(&mut self, name: Name, meter: Meter) -> Result<(), DomainFault>
         ensures added { OnOk result (self.new ≡ with_meter self.old name meter) }
         ensures good { OnOk result (meter_fault self.old name ≡ None) }
@@ -181,8 +185,8 @@ impl Domain {
 
     /// Adds a port behind the others.
     ///
-    /// Refused, and unchanged: `Range` where there are as many as there may be, `Twice` where the name is taken, `NoMemory`
-    /// where memory runs out.
+    /// Refused, and unchanged: `Range` where there are as many as there may be, `Twice` where the name is taken,
+    /// `NoMemory` where memory runs out.
     pub fn add_port(&mut self, name: Name, port: Port) -> Result<(), DomainFault>
         ensures added { OnOk result (self.new ≡ with_port self.old name port) }
         ensures good { OnOk result (port_fault self.old name ≡ None) }
@@ -202,13 +206,14 @@ impl Domain {
 
     /// Adds a link behind the others, from the meter or port of a text to the meter of a text.
     ///
-    /// Refused, and unchanged: `Range` where there are as many as there may be, `Twice` where there is one from the same to
-    /// the same, `UnknownName` where `from` names no meter and no port, and then where `to` names no meter, `NoMemory` where
-    /// memory runs out.
+    /// Refused, and unchanged: `Range` where there are as many as there may be, `Twice` where there is one from the
+    /// same to the same, `UnknownName` where `from` names no meter and no port, and then where `to` names no meter,
+    /// `NoMemory` where memory runs out.
     pub fn add_link(&mut self, from: &str, to: &str, link: Link) -> Result<(), DomainFault>
         ensures added { OnOk result (self.new ≡ with_link self.old from.now to.now link) }
         ensures good { OnOk result (link_fault self.old from.now to.now ≡ None) }
-        ensures refused { IfErr result (λ fault. (fault ≡ no_memory) ⊎ (link_fault self.old from.now to.now ≡ Some fault)) }
+        ensures refused { IfErr result
+            (λ fault. (fault ≡ no_memory) ⊎ (link_fault self.old from.now to.now ≡ Some fault)) }
         ensures unchanged { OnErr result (self.new ≡ self.old) }
     {
         let place = self.links.len();

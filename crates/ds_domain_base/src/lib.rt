@@ -1,5 +1,5 @@
-//! The values of a domain: names, meters, ports, links and contracts that cannot be wrong, the faults that refuse others,
-//! and which contract fits a domain.
+//! The values of a domain: names, meters, ports, links and contracts that cannot be wrong, the faults that refuse
+//! others, and which contract fits a domain.
 #![tactic(auto)]
 
 pub mod contract;

@@ -1,5 +1,6 @@
 -- Prefixes of IPv4 addresses, as `10.0.1.0/24`.
-use Rattle.std.specs.Prelude.{ℕ, nat_lt, Bool, ◌==◌, ◌&&◌, if◌then◌else◌, List, [], ◌∷◌, length, slice_index, Option, None, Some, option_map, option_and_then}
+use Rattle.std.specs.Prelude.{ℕ, nat_lt, Bool, ◌==◌, ◌&&◌, if◌then◌else◌, List, [], ◌∷◌, length, slice_index, Option}
+use Rattle.std.specs.Prelude.{None, Some, option_map, option_and_then}
 use Rattle.std.specs.Int.{from_be_bytes, w32}
 use Rattle.line_text.specs.Numbers.{number_of}
 
@@ -11,7 +12,8 @@ found >>= next = option_and_then next found
 -- what stands before the first `mark` of a text, and what behind it
 unfoldable pub cut_at : ℕ → List ℕ → Option (List ℕ × List ℕ)
 cut_at mark [] = None
-cut_at mark (byte ∷ text) = if byte == mark then Some ([], text) else option_map (λ parts. (byte ∷ parts.0, parts.1)) (cut_at mark text)
+cut_at mark (byte ∷ text) =
+    if byte == mark then Some ([], text) else option_map (λ parts. (byte ∷ parts.0, parts.1)) (cut_at mark text)
 
 -- a '0' (48) with more behind it
 abbrev pub has_leading_zero : List ℕ → Bool

@@ -1,5 +1,6 @@
 -- What the value at a key says, on the document that a text stands for.
-use Rattle.std.specs.Prelude.{ℕ, ℤ, pos, negsuc, nat_le, ◌&&◌, if◌then◌else◌, List, [], ◌∷◌, Option, None, Some, Result, Ok, Err, option_map}
+use Rattle.std.specs.Prelude.{ℕ, ℤ, pos, negsuc, nat_le, ◌&&◌, if◌then◌else◌, List, [], ◌∷◌, Option, None, Some, Result}
+use Rattle.std.specs.Prelude.{Ok, Err, option_map}
 use Rattle.toml.specs.Data.{Data, Items, no_items, item, Members, get_member, as_integer, as_str, as_array, as_table}
 use Rattle.ds_domain_text.specs.declared.flaw.Flaw.{Flaw}
 use Rattle.ds_domain_text.specs.declared.flaw.Flaw.TheVariants.{Misfit, OutOfRange}
@@ -56,7 +57,8 @@ prefix_in value = text_in value >>= (λ text. or_fail (prefix_of text) OutOfRang
 
 -- two whole numbers, and nothing else
 abbrev pub two_numbers : Items → Option (ℤ × ℤ)
-two_numbers (item low (item high no_items)) = and_then (as_integer low) (λ a. option_map (λ b. (a, b)) (as_integer high))
+two_numbers (item low (item high no_items)) =
+    and_then (as_integer low) (λ a. option_map (λ b. (a, b)) (as_integer high))
 two_numbers _ = None
 
 -- a range of ports: `[low, high]`, each from 0 to 65535, low at most high

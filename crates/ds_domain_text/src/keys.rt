@@ -2,7 +2,8 @@ ghost use Rattle.std.specs.Prelude.{◌≡◌, ◌≤◌, ◌⊎◌, map, option
 ghost use Rattle.toml.specs.Data.{get_member};
 ghost use Rattle.toml.specs.View.{table_view, view};
 ghost use Rattle.ds_domain_text.specs.Steps.{lent, lent_if_there};
-ghost use Rattle.ds_domain_text.specs.Values.{number_in, optional, port_range_in, prefix_in, required, tables_at, text_in, texts_in};
+ghost use Rattle.ds_domain_text.specs.Values.{number_in, optional, port_range_in, prefix_in, required, tables_at};
+ghost use Rattle.ds_domain_text.specs.Values.{text_in, texts_in};
 
 use crate::flaw::Flaw;
 use crate::values::{number, port_range, prefix, tables, text, texts};
@@ -65,8 +66,10 @@ pub fn optional_text<'a>(table: &'a Table, key: &str) -> Result<Option<&'a str>,
 /// An array of texts, which must be there.
 #[tactic(auto, unfolding(crate::specs::Values::required))]
 pub fn required_texts<'a>(alloc: Global, table: &'a Table, key: &str) -> Result<Vec<&'a str>, Flaw>
-    ensures ok { IfOk result (λ v. required texts_in key.now (table_view table.now) ≡ Ok (map (λ text. text.now) v.items)) }
-    ensures refused { IfErr result (λ flaw. (flaw ≡ Flaw.NoMemory) ⊎ (required texts_in key.now (table_view table.now) ≡ Err flaw)) }
+    ensures ok { IfOk result (λ v. required texts_in key.now (table_view table.now)
+        ≡ Ok (map (λ text. text.now) v.items)) }
+    ensures refused { IfErr result
+        (λ flaw. (flaw ≡ Flaw.NoMemory) ⊎ (required texts_in key.now (table_view table.now) ≡ Err flaw)) }
 {
     match value_at(table, key) {
         Some(value) => texts(alloc, value),
@@ -77,8 +80,10 @@ pub fn required_texts<'a>(alloc: Global, table: &'a Table, key: &str) -> Result<
 /// An array of tables; none where it is absent.
 #[tactic(auto, unfolding(crate::specs::Values::tables_at))]
 pub fn tables_at<'a>(alloc: Global, table: &'a Table, key: &str) -> Result<Vec<&'a Table>, Flaw>
-    ensures ok { IfOk result (λ v. tables_at key.now (table_view table.now) ≡ Ok (map (λ table. table_view table.now) v.items)) }
-    ensures refused { IfErr result (λ flaw. (flaw ≡ Flaw.NoMemory) ⊎ (tables_at key.now (table_view table.now) ≡ Err flaw)) }
+    ensures ok { IfOk result (λ v. tables_at key.now (table_view table.now)
+        ≡ Ok (map (λ table. table_view table.now) v.items)) }
+    ensures refused { IfErr result
+        (λ flaw. (flaw ≡ Flaw.NoMemory) ⊎ (tables_at key.now (table_view table.now) ≡ Err flaw)) }
 {
     match value_at(table, key) {
         Some(value) => tables(alloc, value),

@@ -1,7 +1,8 @@
 ghost use Rattle.std.specs.Prelude.{◌≡◌, ◌≤◌, ◌⊎◌, map, IfErr, IfOk};
 ghost use Rattle.toml.specs.View.{items_view, table_view, view};
 ghost use Rattle.ds_domain_text.specs.Steps.{lent};
-ghost use Rattle.ds_domain_text.specs.Values.{number_in, port_range_in, prefix_in, tables_in, text_in, texts_in, two_numbers, within};
+ghost use Rattle.ds_domain_text.specs.Values.{number_in, port_range_in, prefix_in, tables_in, text_in, texts_in};
+ghost use Rattle.ds_domain_text.specs.Values.{two_numbers, within};
 
 use crate::flaw::Flaw;
 use crate::prefix::prefix_of;

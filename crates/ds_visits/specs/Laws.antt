@@ -7,4 +7,5 @@ use Rattle.ds_visits.specs.declared.sent.Sent.{Sent}
 
 -- Each packet leaves with one colour.
 abbrev pub OneColourEach : Type 0
-OneColourEach = (t : Table) (sent : List Sent) (colours : List Colour) → colours_of t sent ≡ Some colours → length colours ≡ length sent
+OneColourEach = (t : Table) (sent : List Sent) (colours : List Colour) → colours_of t sent ≡ Some colours
+    → length colours ≡ length sent

@@ -4,7 +4,8 @@ use Rattle.moment_core.specs.declared.colour.Colour.{Colour}
 use Rattle.meter_book.specs.Replay.{Book, is_full, next_row, noted}
 use Rattle.meter_book.specs.declared.row.Arrival.{Arrival}
 
--- the book behind the arrival, and the colour that the packet leaves with; None where the book has as many rows as it takes
+-- the book behind the arrival, and the colour that the packet leaves with; None where the book has as many rows as it
+-- takes
 abbrev pub noted_by : Book → Arrival → Option (Option Book × Colour)
 noted_by b a = if is_full b then None else Some (Some (noted b a), (next_row b a).left)
 

@@ -1,5 +1,6 @@
 -- The visits that packets make, in order.
-use Rattle.std.specs.Prelude.{ℕ, suc, ◌+◌, ◌-◌, ◌^◌, min, nat_eq, nat_lt, Bool, true, ◌&&◌, ◌||◌, List, [], ◌∷◌, ◌++◌, map}
+use Rattle.std.specs.Prelude.{ℕ, suc, ◌+◌, ◌-◌, ◌^◌, min, nat_eq, nat_lt, Bool, true, ◌&&◌, ◌||◌, List, [], ◌∷◌, ◌++◌}
+use Rattle.std.specs.Prelude.{map}
 use Rattle.ds_checker.specs.Acceptance.{Table}
 use Rattle.run_audit.specs.Orders.{in_order}
 use Rattle.ds_visits.specs.Ways.{stops_at}
@@ -24,7 +25,8 @@ visits_from t place (s ∷ sent) = map (visit_to place s) (stops_at t s.flow) ++
 abbrev pub is_before : Visit → Visit → Bool
 is_before v w =
     nat_lt v.moment w.moment
-    || nat_eq v.moment w.moment && (nat_lt v.place w.place || nat_eq v.place w.place && nat_lt v.hop.number w.hop.number)
+    || nat_eq v.moment w.moment
+        && (nat_lt v.place w.place || nat_eq v.place w.place && nat_lt v.hop.number w.hop.number)
 
 -- all visits of packets, in their order
 unfoldable pub visits_of : Table → List Sent → List Visit

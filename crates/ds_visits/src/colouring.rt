@@ -12,8 +12,9 @@ use meter_fabric::contract_of;
 use moment_core::Colour;
 use std::alloc::{AllocError, Global};
 
-/// The colours with which packets leave their last meters, in the order of `sent`: each packet comes in with the colour of its code point in its contract's
-/// class, and every visit is noted by the book of its site, in the order of `visits`. Each book takes 2^20 rows. The gate is called round each visit, with worker 0.
+/// The colours with which packets leave their last meters, in the order of `sent`: each packet comes in with the colour
+/// of its code point in its contract's class, and every visit is noted by the book of its site, in the order of
+/// `visits`. Each book takes 2^20 rows. The gate is called round each visit, with worker 0.
 ///
 /// Refused: `JournalFull` where a site is visited more than 2^20 times, `NoMemory` where memory runs out.
 pub fn colours<G: Gate>(
@@ -23,7 +24,8 @@ pub fn colours<G: Gate>(
     gate: &G,
 ) -> Result<Vec<Colour>, NoteFault>
     ensures colours { IfOk result (λ colours. colours_of accepted.now sent.now ≡ Some colours.items) }
-    ensures refused { IfErr result (λ fault. (fault ≡ NoteFault.NoMemory) ⊎ ((fault ≡ NoteFault.JournalFull) × (colours_of accepted.now sent.now ≡ None))) }
+    ensures refused { IfErr result (λ fault. (fault ≡ NoteFault.NoMemory)
+        ⊎ ((fault ≡ NoteFault.JournalFull) × (colours_of accepted.now sent.now ≡ None))) }
 {
     let mut books = opened_books(alloc, accepted)?;
     let mut colours = entered(alloc, accepted, sent)?;
@@ -63,8 +65,12 @@ fn pass_all<G: Gate>(
     visits: &[Visit],
     gate: &G,
 ) -> Result<(), NoteFault>
-    ensures done { OnOk result (passed_all sent.now (record { books = books.old.items; colours = colours.old.items }) visits.now ≡ Some (record { books = books.new.items; colours = colours.new.items })) }
-    ensures refused { IfErr result (λ fault. (fault ≡ NoteFault.NoMemory) ⊎ ((fault ≡ NoteFault.JournalFull) × (passed_all sent.now (record { books = books.old.items; colours = colours.old.items }) visits.now ≡ None))) }
+    ensures done { OnOk result
+        (passed_all sent.now (record { books = books.old.items; colours = colours.old.items }) visits.now
+        ≡ Some (record { books = books.new.items; colours = colours.new.items })) }
+    ensures refused { IfErr result (λ fault. (fault ≡ NoteFault.NoMemory)
+        ⊎ ((fault ≡ NoteFault.JournalFull)
+        × (passed_all sent.now (record { books = books.old.items; colours = colours.old.items }) visits.now ≡ None))) }
 {
     for (index, visit) in visits.iter().enumerate() {
         let number = index as u64 + 1;
@@ -84,8 +90,11 @@ fn pass(
     colours: &mut Vec<Colour>,
     visit: Visit,
 ) -> Result<(), NoteFault>
-    ensures done { OnOk result (passed sent.now (record { books = books.old.items; colours = colours.old.items }) visit ≡ Some (record { books = books.new.items; colours = colours.new.items })) }
-    ensures refused { IfErr result (λ fault. (fault ≡ NoteFault.NoMemory) ⊎ ((fault ≡ NoteFault.JournalFull) × (passed sent.now (record { books = books.old.items; colours = colours.old.items }) visit ≡ None))) }
+    ensures done { OnOk result (passed sent.now (record { books = books.old.items; colours = colours.old.items }) visit
+        ≡ Some (record { books = books.new.items; colours = colours.new.items })) }
+    ensures refused { IfErr result (λ fault. (fault ≡ NoteFault.NoMemory)
+        ⊎ ((fault ≡ NoteFault.JournalFull)
+        × (passed sent.now (record { books = books.old.items; colours = colours.old.items }) visit ≡ None))) }
 {
     let Some(packet) = sent.get(visit.place) else {
         return Ok(());
@@ -109,7 +118,8 @@ fn pass_at(
     visit: Visit,
 ) -> Result<(), NoteFault>
     ensures done { OnOk result (noted_there book.old (arrival_of packet visit colour.old) ≡ Some (book.new, colour.new)) }
-    ensures refused { IfErr result (λ fault. (fault ≡ NoteFault.NoMemory) ⊎ ((fault ≡ NoteFault.JournalFull) × (noted_there book.old (arrival_of packet visit colour.old) ≡ None))) }
+    ensures refused { IfErr result (λ fault. (fault ≡ NoteFault.NoMemory)
+        ⊎ ((fault ≡ NoteFault.JournalFull) × (noted_there book.old (arrival_of packet visit colour.old) ≡ None))) }
 {
     match book {
         None => Ok(()),

@@ -1,4 +1,5 @@
-//! Visits of packets along their contracts' paths, where each link takes its floor, and the colours that the packets leave with.
+//! Visits of packets along their contracts' paths, where each link takes its floor, and the colours that the packets
+//! leave with.
 #![tactic(auto)]
 
 pub mod colouring;

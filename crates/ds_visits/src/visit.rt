@@ -86,8 +86,8 @@ fn later(moment: Moment, delay: Gap) -> Moment
     Moment::new(nanoseconds.min(last)).unwrap()
 }
 
-/// Brings visits in their order, where no two are those of one packet to one hop. Visits that stand in order already are only
-/// read.
+/// Brings visits in their order, where no two are those of one packet to one hop. Visits that stand in order already
+/// are only read.
 fn bring_in_order(visits: &mut [Visit])
     requires { IsDistinct is_same visits.old }
     ensures order { visits.new ≡ in_order is_before visits.old }

@@ -53,7 +53,8 @@ pub(crate) fn all_ways(alloc: Global, accepted: &Accepted) -> Result<Vec<Way>, A
     Ok(ways)
 }
 
-/// The stops of the packets of a contract's number, none where there is no such contract; `AllocError` where memory runs out.
+/// The stops of the packets of a contract's number, none where there is no such contract; `AllocError` where memory
+/// runs out.
 fn way_at(alloc: Global, accepted: &Accepted, flow: u32) -> Result<Way, AllocError>
     ensures { IfOk result (λ way. way ≡ stops_at accepted.now flow) }
 {
@@ -64,8 +65,8 @@ fn way_at(alloc: Global, accepted: &Accepted, flow: u32) -> Result<Way, AllocErr
     Ok(Way { stops })
 }
 
-/// The stops of the packets of a contract: its edge where it is policed, then the meters of its path; `AllocError` where
-/// memory runs out.
+/// The stops of the packets of a contract: its edge where it is policed, then the meters of its path; `AllocError`
+/// where memory runs out.
 fn stops_of(
     alloc: Global,
     domain: &Domain,

@@ -1,5 +1,6 @@
 -- How the program starts: the words of its command, its input, and what becomes of them.
-use Rattle.std.specs.Prelude.{◌≡◌, ℕ, ◌<◌, ◌≤◌, ◌⊎◌, Bool, true, false, List, [], ◌∷◌, length, Option, Ok, Err, if◌then◌else◌}
+use Rattle.std.specs.Prelude.{◌≡◌, ℕ, ◌<◌, ◌≤◌, ◌⊎◌, Bool, true, false, List, [], ◌∷◌, length, Option, Ok, Err}
+use Rattle.std.specs.Prelude.{if◌then◌else◌}
 use Rattle.std.specs.List.{Contains}
 use Rattle.std.specs.Str.{IsUtf8}
 use Rattle.line_text.specs.Lines.{fields_of}
@@ -11,7 +12,8 @@ use Rattle.dsedge_base.specs.declared.work.Plan.{Plan}
 use Rattle.dsedge_texts.specs.Readable.{texts_of}
 use Rattle.dsedge_lines.specs.FirstLine.{after_first_line, first_line_of}
 use Rattle.dsedge_serve.specs.declared.fault.Fault.{Fault}
-use Rattle.dsedge_serve.specs.declared.fault.Fault.TheVariants.{Usage, Line, Domain, Certificate, Capture, Port, File, Read, Write, Memory, Full}
+use Rattle.dsedge_serve.specs.declared.fault.Fault.TheVariants.{Usage, Line, Domain, Certificate, Capture, Port, File}
+use Rattle.dsedge_serve.specs.declared.fault.Fault.TheVariants.{Read, Write, Memory, Full}
 use Rattle.dsedge_serve.specs.declared.outcome.Outcome.{Outcome}
 use Rattle.dsedge_serve.specs.Faults.{fault_text, status_of}
 use Rattle.dsedge_serve.specs.Served.{IsAnswered, IsOfInput, is_output_fault, status_after, told_after}
@@ -80,7 +82,8 @@ IsRefused words Full = ⊥
 
 -- Why there is no plan: there are no words, or those that there are have none.
 abbrev pub IsRefusalFrom : List (List ℕ) → List ℕ → Fault → Type 0
-IsRefusalFrom given bytes fault = IsWordless given bytes fault ⊎ (HasWords given bytes × IsRefused (words_from given bytes) fault)
+IsRefusalFrom given bytes fault =
+    IsWordless given bytes fault ⊎ (HasWords given bytes × IsRefused (words_from given bytes) fault)
 
 -- whether a fault says that the input could not be read
 abbrev pub is_read : Fault → Bool
@@ -100,8 +103,8 @@ is_read Full = false
 abbrev pub failures_with : Fault → ℕ → ℕ
 failures_with fault failed = if is_read fault then next_count failed else failed
 
--- Why not all files of a plan were read: the first of them that cannot be, which is known where they tell what they hold; memory
--- may run out.
+-- Why not all files of a plan were read: the first of them that cannot be, which is known where they tell what they
+-- hold; memory may run out.
 abbrev pub IsUnreadable : Type 0 → (List ℕ → Option (List ℕ)) → List (List ℕ) → Fault → Type 0
 IsUnreadable tells holds names (File name) = Contains names name × (tells → texts_of holds names ≡ Err name)
 IsUnreadable tells holds names Memory = Unit {0}
@@ -115,8 +118,8 @@ IsUnreadable tells holds names Read = ⊥
 IsUnreadable tells holds names Write = ⊥
 IsUnreadable tells holds names Full = ⊥
 
--- how a start went: refused with a fault before anything was read but the words, or a plan with a fault of its files, or a plan was
--- served with the texts of its files, with an outcome
+-- how a start went: refused with a fault before anything was read but the words, or a plan with a fault of its files,
+-- or a plan was served with the texts of its files, with an outcome
 pub data Course : Type 0 where
   Refused : Fault → Course
   Unread : Plan → Fault → Course
@@ -140,17 +143,21 @@ IsCourseFrom given bytes (Refused fault) = IsRefusalFrom given bytes fault
 IsCourseFrom given bytes (Unread plan fault) = IsPlanFrom given bytes plan
 IsCourseFrom given bytes (Served plan texts outcome) = IsPlanFrom given bytes plan
 
--- A plan is served with the texts of its files, as many as it names, and with no others where the files tell what they hold.
+-- A plan is served with the texts of its files, as many as it names, and with no others where the files tell what they
+-- hold.
 abbrev pub IsCourseOf : Type 0 → (List ℕ → Option (List ℕ)) → Course → Type 0
 IsCourseOf tells holds (Refused fault) = Unit {0}
 IsCourseOf tells holds (Unread plan fault) = IsUnreadable tells holds (files_of plan) fault
-IsCourseOf tells holds (Served plan texts outcome) = (length texts ≡ length (files_of plan)) × (tells → texts_of holds (files_of plan) ≡ Ok texts)
+IsCourseOf tells holds (Served plan texts outcome) =
+    (length texts ≡ length (files_of plan)) × (tells → texts_of holds (files_of plan) ≡ Ok texts)
 
--- What was written, where the devices tell their bytes: the answer to the input, which still has more, or a front of it; a refusal writes nothing.
+-- What was written, where the devices tell their bytes: the answer to the input, which still has more, or a front of
+-- it; a refusal writes nothing.
 abbrev pub IsWritten : Course → Type 0 → List ℕ → List ℕ → List ℕ → List ℕ → Type 0
 IsWritten (Refused fault) tells input more before after = after ≡ before
 IsWritten (Unread plan fault) tells input more before after = after ≡ before
-IsWritten (Served plan texts outcome) tells input more before after = tells → IsAnswered plan texts input more outcome before after
+IsWritten (Served plan texts outcome) tells input more before after =
+    tells → IsAnswered plan texts input more outcome before after
 
 -- whether a start went so that the output could not be written
 abbrev pub is_unwritten : Course → Bool

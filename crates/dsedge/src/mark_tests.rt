@@ -59,7 +59,8 @@ fn capture(alloc: Global, parts: &[&[u8]]) -> Result<Vec<u8>, AllocError> {
     Ok(all)
 }
 
-/// `mark` with words behind its files on a capture, over the domain of that contract with bursts and its least certificate.
+/// `mark` with words behind its files on a capture, over the domain of that contract with bursts and its least
+/// certificate.
 fn run_mark(alloc: Global, bursts: &str, words: &str, given: &[u8]) -> Result<Done, Fail> {
     let contract = format!(in alloc; "{UDP}{bursts}")?;
     let domain = domain_text(alloc, (500_000, 0), 1_000_000, contract.as_str())?;

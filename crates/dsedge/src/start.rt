@@ -3,8 +3,10 @@ ghost use Rattle.dsedge_base.specs.Plans.{IsPlanOf};
 ghost use Rattle.pcap_capture.specs.Counts.{count_after};
 ghost use Rattle.dsedge_serve.specs.Faults.{fault_text, status_of};
 ghost use Rattle.dsedge_serve.specs.Served.{IsOfWrites, IsTold};
-ghost use Rattle.dsedge.specs.Started.{AreKnown, Course, HasWords, IsCourseFrom, IsFromInput, IsRefused, IsWordless, IsWritten};
-ghost use Rattle.dsedge.specs.Started.{IsCourseOf, IsUnreadable, failures_with, input_from, is_unwritten, most_asked, status_in, told_in, words_from};
+ghost use Rattle.dsedge.specs.Started.{AreKnown, Course, HasWords, IsCourseFrom, IsFromInput, IsRefused, IsWordless};
+ghost use Rattle.dsedge.specs.Started.{IsWritten};
+ghost use Rattle.dsedge.specs.Started.{IsCourseOf, IsUnreadable, failures_with, input_from, is_unwritten, most_asked};
+ghost use Rattle.dsedge.specs.Started.{status_in, told_in, words_from};
 ghost use Rattle.dsedge_base.specs.Files.{files_of};
 ghost use Rattle.dsedge_texts.specs.Readable.{texts_of};
 
@@ -19,7 +21,8 @@ use std::alloc::Global;
 pub fn refuse<F: Outlet>(fault: &Fault<'_>, faults: &mut F) -> u8
     ensures status { result ≡ status_of fault.now }
     ensures told { F.tells faults.old →
-        IsTold (fault_text fault.now) (F.held faults.old) (F.held faults.new) (F.failed faults.old) (F.failed faults.new) }
+        IsTold (fault_text fault.now) (F.held faults.old) (F.held faults.new) (F.failed faults.old)
+        (F.failed faults.new) }
 {
     let _told = fault.tell(faults);
     fault.status()
@@ -108,7 +111,8 @@ pub fn start<D: Folder, I: Intake, O: Outlet, F: Outlet>(
         (course : Course) × (result ≡ status_in course)
         × (AreKnown texts (I.tells intake.old) → IsCourseFrom texts (I.left intake.old) course)
         × IsCourseOf (D.tells folder.now) (D.holds folder.now) course
-        × IsWritten course (I.tells intake.old × O.tells output.old) (input_from texts (I.left intake.old)) (I.left intake.new)
+        × IsWritten course (I.tells intake.old × O.tells output.old) (input_from texts (I.left intake.old))
+        (I.left intake.new)
         (O.held output.old) (O.held output.new)
         × (F.tells faults.old →
         IsTold (told_in course) (F.held faults.old) (F.held faults.new) (F.failed faults.old) (F.failed faults.new))

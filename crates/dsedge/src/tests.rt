@@ -87,14 +87,25 @@ fn colours_and_accounts(rt: HostRuntime) -> Result<(), Fail> {
 }
 
 /// Lines that are no arrival, the empty one first.
-const NO_ARRIVALS: &str = "\n0 0 g\n0 1 g\r\n0  1 g\n\x200 1 g\n0 1 g\x20\n0 1\n0 1 g 2\n0 1 b\n0 1 green\n\
+const NO_ARRIVALS: &str =
+    "\n0 0 g\n0 1 g\r\n0  1 g\n\x200 1 g\n0 1 g\x20\n0 1\n0 1 g 2\n0 1 b\n0 1 green\n\
     0 65536 g\n9223372036854775808 1 g\n000000000000000000000 1 g\n-1 1 g\n+1 1 g\nx 1 g";
 
 fn expect_no_arrival(rt: &impl Abort, alloc: Global, line: &str) -> Result<(), Fail> {
     let first = format!(in alloc; "{line}\n0 1 g\n")?;
-    expect(rt, alloc, (BLIND, first.as_str()), ("", "dsedge: line 1\n", 3))?;
+    expect(
+        rt,
+        alloc,
+        (BLIND, first.as_str()),
+        ("", "dsedge: line 1\n", 3),
+    )?;
     let second = format!(in alloc; "0 1 g\n{line}\n")?;
-    expect(rt, alloc, (BLIND, second.as_str()), ("green\n", "dsedge: line 2\n", 3))
+    expect(
+        rt,
+        alloc,
+        (BLIND, second.as_str()),
+        ("green\n", "dsedge: line 2\n", 3),
+    )
 }
 
 #[test]
@@ -154,7 +165,12 @@ fn lines_that_are_no_sized_moment(rt: HostRuntime) -> Result<(), Fail> {
     for line in NO_SIZED_MOMENTS.split('\n') {
         let input = format!(in rt.alloc(); "5 1\n{line}\n")?;
         let words = "envelope --rate 1 --burst 10";
-        expect(&rt, rt.alloc(), (words, input.as_str()), ("", "dsedge: line 2\n", 3))?;
+        expect(
+            &rt,
+            rt.alloc(),
+            (words, input.as_str()),
+            ("", "dsedge: line 2\n", 3),
+        )?;
     }
     Ok(())
 }
@@ -268,7 +284,8 @@ pbs = 3000
 protocol = 17
 "#;
 
-/// The text of a domain of one meter with a skew, behind a port with a skew and a link with a jitter, and of one contract.
+/// The text of a domain of one meter with a skew, behind a port with a skew and a link with a jitter, and of one
+/// contract.
 pub(crate) fn domain_text(
     alloc: Global,
     (meter_skew, port_skew): (u64, u64),
@@ -560,7 +577,8 @@ fn run_audit(alloc: Global, domain: &str, certificate: &[u8], steps: &str) -> Re
     run_on_table(alloc, words, domain, certificate, steps.as_bytes())
 }
 
-/// Expects of `audit` on steps, over a domain with its least certificate, how the output begins, what is told, and a status.
+/// Expects of `audit` on steps, over a domain with its least certificate, how the output begins, what is told, and a
+/// status.
 fn expect_of_audit(
     rt: &impl Abort,
     alloc: Global,

@@ -1,5 +1,6 @@
 -- What `audit` answers to lines of steps.
-use Rattle.std.specs.Prelude.{ℕ, ◌+◌, ◌-◌, nat_lt, List, [], ◌∷◌, ◌++◌, codes, flat_map, length, option_map, slice_get, slice_index, unwrap_or, Result, Ok, Err, if◌then◌else◌}
+use Rattle.std.specs.Prelude.{ℕ, ◌+◌, ◌-◌, nat_lt, List, [], ◌∷◌, ◌++◌, codes, flat_map, length, option_map, slice_get}
+use Rattle.std.specs.Prelude.{slice_index, unwrap_or, Result, Ok, Err, if◌then◌else◌}
 use Rattle.meter_book.specs.Replay.{Journal, accounts_of, journal_rows}
 use Rattle.meter_book.specs.declared.accounts.Accounts.{Accounts}
 use Rattle.ds_checker.specs.Acceptance.{Table}
@@ -77,11 +78,12 @@ going_on number later (Err BadStep) = stopped (BadLine number)
 going_on number later (Err JournalFull) = stopped Full
 going_on number later (Err NoMemory) = stopped (BadLine number)
 
--- The answer to lines from a number on, behind the steps so far: each line says a step that can be made, and at the end the run
--- is judged.
+-- The answer to lines from a number on, behind the steps so far: each line says a step that can be made, and at the end
+-- the run is judged.
 unfoldable pub audit_from : Table → Stage → ℕ → List (List ℕ) → Answer
 audit_from t g number [] = audit_of t (run_so_far g)
 audit_from t g number (line ∷ lines) =
     unwrap_or
-    (option_map (λ s. going_on number (λ h. audit_from t h (number + 1) lines) (stepped t g s)) (step_in t.contracts line))
+    (option_map (λ s. going_on number (λ h. audit_from t h (number + 1) lines) (stepped t g s))
+        (step_in t.contracts line))
     (stopped (BadLine number))

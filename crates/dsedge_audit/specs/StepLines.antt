@@ -1,5 +1,6 @@
 -- The lines that say a step: `send CONTRACT PACKET SIZE DSCP MOMENT` and `visit PACKET MOMENT`.
-use Rattle.std.specs.Prelude.{ℕ, ◌-◌, ◌^◌, nat_lt, List, [], ◌∷◌, codes, position, option_and_then, Option, None, Some, if◌then◌else◌}
+use Rattle.std.specs.Prelude.{ℕ, ◌-◌, ◌^◌, nat_lt, List, [], ◌∷◌, codes, position, option_and_then, Option, None, Some}
+use Rattle.std.specs.Prelude.{if◌then◌else◌}
 use Rattle.std.specs.Str.{bytes_eq}
 use Rattle.line_text.specs.Lines.{fields_of}
 use Rattle.line_text.specs.Numbers.{number_of}
@@ -23,11 +24,13 @@ send_of contracts name number bytes point at =
     option_and_then (λ size.
     option_and_then (λ dscp.
     option_and_then (λ moment. Some (Send flow packet size dscp moment))
-    (number_of (2 ^ 63 - 1) at)) (number_of 63 point)) (size_in bytes)) (number_of (2 ^ 64 - 1) number)) (flow_named contracts name)
+    (number_of (2 ^ 63 - 1) at)) (number_of 63 point)) (size_in bytes)) (number_of (2 ^ 64 - 1) number))
+        (flow_named contracts name)
 
 abbrev pub visit_of : List ℕ → List ℕ → Option Step
 visit_of number at =
-    option_and_then (λ packet. option_and_then (λ moment. Some (Visit packet moment)) (number_of (2 ^ 63 - 1) at)) (number_of (2 ^ 64 - 1) number)
+    option_and_then (λ packet. option_and_then (λ moment. Some (Visit packet moment)) (number_of (2 ^ 63 - 1) at))
+        (number_of (2 ^ 64 - 1) number)
 
 abbrev pub step_of_fields : List Contract → List (List ℕ) → Option Step
 step_of_fields contracts (verb ∷ number ∷ at ∷ []) = if bytes_eq verb (codes "visit") then visit_of number at else None

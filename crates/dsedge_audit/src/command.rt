@@ -16,8 +16,8 @@ use run_audit::{Run, Verdict, audit};
 use std::alloc::{AllocError, Global};
 use std::marker::Model;
 
-/// The command `audit`: each line is a step, and at the end it answers with the verdict on the run and with the accounts of
-/// each site.
+/// The command `audit`: each line is a step, and at the end it answers with the verdict on the run and with the
+/// accounts of each site.
 ///
 /// The conductor is handed over at the end of the run; where there is none, no step was made yet.
 #[derive(Drop)]
@@ -56,7 +56,8 @@ impl<'a> AuditCommand<'a> {
     fn make(&mut self, step: Step) -> Result<(), StepFault>
         ensures table { self.new.table ≡ self.old.table }
         ensures done { OnOk result (stepped self.old.table self.old.stage step ≡ Ok self.new.stage) }
-        ensures refused { IfErr result (λ fault. (fault ≡ StepFault.NoMemory) ⊎ (stepped self.old.table self.old.stage step ≡ Err fault)) }
+        ensures refused { IfErr result (λ fault. (fault ≡ StepFault.NoMemory)
+            ⊎ (stepped self.old.table self.old.stage step ≡ Err fault)) }
     {
         match &mut self.conductor {
             Some(conductor) => conductor.step(step),
@@ -71,7 +72,8 @@ impl<'a> AuditCommand<'a> {
 
     /// The run that the steps made; there are none from here on.
     fn finish(&mut self) -> Result<Run<'a>, AllocError>
-        ensures { IfOk result (λ run. run ≡ record { basis = ground_of self.old.table; run = run_so_far self.old.stage }) }
+        ensures { IfOk result
+            (λ run. run ≡ record { basis = ground_of self.old.table; run = run_so_far self.old.stage }) }
     {
         let conductor = match self.conductor.take() {
             Some(conductor) => conductor,
@@ -107,7 +109,8 @@ fn ending(verdict: &Verdict) -> Ending
     }
 }
 
-/// Judges a run of a table, answers behind `out`, and says how the answer ends. Where memory runs out, `out` is as it was.
+/// Judges a run of a table, answers behind `out`, and says how the answer ends. Where memory runs out, `out` is as it
+/// was.
 fn judge(
     alloc: Global,
     accepted: &Accepted,

@@ -26,7 +26,8 @@ impl<'a> Model for Flows<'a> {
 }
 
 impl<'a> Flows<'a> {
-    /// The contracts of a table by their names; of those with the same name the first. `AllocError` where memory runs out.
+    /// The contracts of a table by their names; of those with the same name the first. `AllocError` where memory runs
+    /// out.
     pub fn new(alloc: Global, accepted: &'a Accepted) -> Result<Self, AllocError>
         ensures { IfOk result (λ flows. flows ≡ accepted.now) }
     {

@@ -13,8 +13,8 @@ use line_text::{leading_number, split_field};
 /// The greatest code point.
 const LAST_CODE_POINT: u64 = 63;
 
-/// The step that a line says, `send CONTRACT PACKET SIZE DSCP MOMENT` or `visit PACKET MOMENT`, with the name of a contract of
-/// this table.
+/// The step that a line says, `send CONTRACT PACKET SIZE DSCP MOMENT` or `visit PACKET MOMENT`, with the name of a
+/// contract of this table.
 #[tactic(auto, using(crate::proofs::StepLaws::other_verb), unfolding(crate::specs::StepLines::step_in))]
 pub fn step(flows: &Flows<'_>, line: &[u8]) -> Option<Step>
     ensures { result ≡ step_in flows.now.contracts line.now }
@@ -81,7 +81,8 @@ fn code_point(value: u64) -> Dscp
 /// The code point, 0 to 63, that the first field says, and what stands behind that field's space.
 #[tactic(auto, using(dsedge_lines::proofs::QuantityLemmas::leading_at_most))]
 fn leading_code_point(fields: &[u8]) -> Option<(Dscp, &[u8])>
-    ensures { option_map (λ parts. (parts.0, fields_of parts.1.now)) result ≡ leading_number_of 63 (fields_of fields.now) }
+    ensures { option_map (λ parts. (parts.0, fields_of parts.1.now)) result
+        ≡ leading_number_of 63 (fields_of fields.now) }
 {
     let (value, rest) = leading_number(fields, LAST_CODE_POINT)?;
     Some((code_point(value), rest))

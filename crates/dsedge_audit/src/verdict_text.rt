@@ -49,7 +49,8 @@ fn push_source(
     packet: u64,
 ) -> Result<(), AllocError>
     ensures { OnOk result (text.new.items
-        ≡ text.old.items ++ codes "source-over " ++ name_of contracts.now flow ++ codes " " ++ column_text column ++ figure packet ++ codes "\n") }
+        ≡ text.old.items ++ codes "source-over " ++ name_of contracts.now flow ++ codes " " ++ column_text column
+        ++ figure packet ++ codes "\n") }
 {
     text.extend_from_slice(b"source-over ")?;
     push_name(text, contracts, flow as usize)?;
@@ -62,7 +63,8 @@ fn push_source(
 
 /// Appends that a packet came over the link to a hop out of its time.
 fn push_delay(text: &mut Vec<u8>, packet: u64, hop: u8) -> Result<(), AllocError>
-    ensures { OnOk result (text.new.items ≡ text.old.items ++ codes "delay-over" ++ figure packet ++ figure hop ++ codes "\n") }
+    ensures { OnOk result (text.new.items ≡ text.old.items ++ codes "delay-over" ++ figure packet ++ figure hop
+        ++ codes "\n") }
 {
     text.extend_from_slice(b"delay-over")?;
     push_figure(text, packet)?;

@@ -1,5 +1,6 @@
 -- What the options of a command say, by the texts that they were given.
-use Rattle.std.specs.Prelude.{ℕ, ◌-◌, ◌^◌, Bool, true, false, ◌&&◌, ◌||◌, nat_le, List, codes, Option, None, Some, is_some, if◌then◌else◌}
+use Rattle.std.specs.Prelude.{ℕ, ◌-◌, ◌^◌, Bool, true, false, ◌&&◌, ◌||◌, nat_le, List, codes, Option, None, Some}
+use Rattle.std.specs.Prelude.{is_some, if◌then◌else◌}
 use Rattle.std.specs.Str.{bytes_eq}
 use Rattle.line_text.specs.Numbers.{number_of}
 use Rattle.moment_core.specs.declared.colour.Mode.{Mode}
@@ -69,7 +70,8 @@ burst_given given name = given name >>= burst_said
 
 -- the parameters of a single-rate meter (RFC 2697 section 2), with no option of another kind beside them
 unfoldable pub single_rate_given : Given → Option SrTcmParameters
-single_rate_given given = if is_given given (codes "pir") || (is_given given (codes "pbs") || is_given given (codes "eir")) then None else do
+single_rate_given given =
+    if is_given given (codes "pir") || (is_given given (codes "pbs") || is_given given (codes "eir")) then None else do
   cir ← rate_given given (codes "cir")
   cbs ← burst_given given (codes "cbs")
   ebs ← burst_given given (codes "ebs")

@@ -50,7 +50,8 @@ IsPlanOf words (Envelope rate burst) = IsWellFormed words × (asked_by words ≡
 IsPlanOf words (Certify domain) = IsWellFormed words × (asked_by words ≡ Some (Certify domain))
 IsPlanOf words (Check domain certificate) = IsWellFormed words × (asked_by words ≡ Some (Check domain certificate))
 IsPlanOf words (Audit domain certificate) = IsWellFormed words × (asked_by words ≡ Some (Audit domain certificate))
-IsPlanOf words (Mark domain certificate port keeps_red) = IsWellFormed words × (asked_by words ≡ Some (Mark domain certificate port keeps_red))
+IsPlanOf words (Mark domain certificate port keeps_red) =
+    IsWellFormed words × (asked_by words ≡ Some (Mark domain certificate port keeps_red))
 
 -- something other than a wish for help stands against the form of the words
 abbrev pub IsMalformed : List Text → Type 0

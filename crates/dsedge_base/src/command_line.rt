@@ -1,7 +1,8 @@
 ghost use Rattle.std.specs.Prelude.{◌≡◌, IfOk, true, false};
 ghost use Rattle.clap.specs.Words.{app_of, rule_of};
 ghost use Rattle.clap.specs.declared.builder.command.Command.TheViews.{out-Command as fields_of};
-ghost use Rattle.dsedge_base.specs.CommandLine.{audit, certify, check, dsedge, envelope, mark, meter, on_table, optional, positional, program, required};
+ghost use Rattle.dsedge_base.specs.CommandLine.{audit, certify, check, dsedge, envelope, mark, meter, on_table};
+ghost use Rattle.dsedge_base.specs.CommandLine.{optional, positional, program, required};
 
 use clap::{Arg, Command};
 use std::alloc::{AllocError, Global};

@@ -16,12 +16,14 @@ pub record BeginsWith (answer : Answer) (front : List ℕ) : Type 0 where
   pub more : List ℕ
   pub whole : answer.text ≡ front ++ more
 
--- what a call did that answers a front of the input behind a text, which is now `text`: the whole answer goes on as `on`,
--- or ends here, or begins with the text where the call failed
+-- what a call did that answers a front of the input behind a text, which is now `text`: the whole answer goes on as
+-- `on`, or ends here, or begins with the text where the call failed
 abbrev pub Answers : {E : Type 0} → Answer → Answer → List ℕ → Result (Option Ending) E → Type 0
 Answers whole on text result =
-    MatchResult result (λ ended. MatchOption ended (on ≡ whole) (λ ending. record { text = text; ending = ending } ≡ whole)) (λ _. BeginsWith whole text)
+    MatchResult result (λ ended. MatchOption ended (on ≡ whole) (λ ending. record { text = text; ending = ending }
+        ≡ whole)) (λ _. BeginsWith whole text)
 
 -- what a call did that answers all that is left
 abbrev pub AnswersAll : {E : Type 0} → Answer → List ℕ → Result Ending E → Type 0
-AnswersAll whole text result = MatchResult result (λ ending. record { text = text; ending = ending } ≡ whole) (λ _. BeginsWith whole text)
+AnswersAll whole text result =
+    MatchResult result (λ ending. record { text = text; ending = ending } ≡ whole) (λ _. BeginsWith whole text)

@@ -8,4 +8,5 @@ size_in field = option_and_then (λ size. if size == 0 then None else Some size)
 
 -- the size that the first of some fields says, and the other fields, where there are others
 abbrev pub leading_size_of : List (List ℕ) → Option (ℕ × List (List ℕ))
-leading_size_of fields = option_and_then (λ leading. if leading.0 == 0 then None else Some leading) (leading_number_of 65535 fields)
+leading_size_of fields =
+    option_and_then (λ leading. if leading.0 == 0 then None else Some leading) (leading_number_of 65535 fields)

@@ -6,4 +6,5 @@ use Rattle.dsedge_lines.specs.declared.progress.Progress.{Progress}
 
 -- behind what is answered and not yet handed over, the answer to the lines of what is carried over and of these bytes
 abbrev pub answer_with : (ℕ → List (List ℕ) → Answer) → Progress → List ℕ → Answer
-answer_with answer progress bytes = behind progress.out.items (answer progress.number (lines_of (progress.carry.items ++ bytes)))
+answer_with answer progress bytes =
+    behind progress.out.items (answer progress.number (lines_of (progress.carry.items ++ bytes)))

@@ -1,4 +1,5 @@
-ghost use Rattle.std.specs.Prelude.{◌≡◌, ◌≢◌, ℕ, ◌+◌, ◌^◌, ◌<◌, ◌≤◌, ◌⊎◌, true, false, List, [], ◌++◌, take, vec_len, Err, MatchResult, IfOk, IfNone, OnErr, if◌then◌else◌};
+ghost use Rattle.std.specs.Prelude.{◌≡◌, ◌≢◌, ℕ, ◌+◌, ◌^◌, ◌<◌, ◌≤◌, ◌⊎◌, true, false, List, [], ◌++◌, take, vec_len};
+ghost use Rattle.std.specs.Prelude.{Err, MatchResult, IfOk, IfNone, OnErr, if◌then◌else◌};
 ghost use Rattle.line_text.specs.Lines.{lines_of, has_byte};
 ghost use Rattle.pcap_capture.specs.Counts.{next_count, count_after};
 ghost use Rattle.dsedge_lines.specs.Answers.{Answers, BeginsWith};

@@ -1,4 +1,5 @@
-ghost use Rattle.std.specs.Prelude.{◌≡◌, ℕ, ◌≤◌, ◌<◌, ◌⊎◌, false, [], ◌++◌, List, length, map, string_bytes, ◌∷◌, IfOk, MatchOption, is_ok, Err, if◌then◌else◌};
+ghost use Rattle.std.specs.Prelude.{◌≡◌, ℕ, ◌≤◌, ◌<◌, ◌⊎◌, false, [], ◌++◌, List, length, map, string_bytes, ◌∷◌, IfOk};
+ghost use Rattle.std.specs.Prelude.{MatchOption, is_ok, Err, if◌then◌else◌};
 ghost use Rattle.std.specs.Str.{IsUtf8};
 ghost use Rattle.line_text.specs.Lines.{fields_of};
 ghost use Rattle.pcap_capture.specs.Counts.{next_count, count_after};

@@ -1,5 +1,6 @@
 -- The lines that say an arrival, and those that say a sized moment.
-use Rattle.std.specs.Prelude.{ℕ, ◌==◌, ◌+◌, ◌-◌, ◌^◌, nat_lt, List, [], ◌∷◌, Option, None, Some, option_and_then, if◌then◌else◌}
+use Rattle.std.specs.Prelude.{ℕ, ◌==◌, ◌+◌, ◌-◌, ◌^◌, nat_lt, List, [], ◌∷◌, Option, None, Some, option_and_then}
+use Rattle.std.specs.Prelude.{if◌then◌else◌}
 use Rattle.line_text.specs.Lines.{fields_of}
 use Rattle.line_text.specs.Numbers.{number_of}
 use Rattle.dsedge_lines.specs.Quantities.{size_in}
@@ -10,7 +11,10 @@ use Rattle.moment_core.specs.declared.colour.Colour.TheVariants.{Green, Yellow, 
 -- the colour of a letter: g is 103, y is 121, r is 114
 abbrev pub colour_of_letter : ℕ → Option Colour
 colour_of_letter letter =
-    if letter == 103 then Some Green else if letter == 121 then Some Yellow else if letter == 114 then Some Red else None
+    if letter == 103 then
+    Some Green
+    else
+    if letter == 121 then Some Yellow else if letter == 114 then Some Red else None
 
 -- a field that is one letter names a colour
 abbrev pub colour_named : List ℕ → Option Colour
@@ -21,7 +25,8 @@ abbrev pub arrival_of_fields : ℕ → List (List ℕ) → Option Arrival
 arrival_of_fields number (at ∷ bytes ∷ letter ∷ []) =
     option_and_then (λ moment.
     option_and_then (λ size.
-    option_and_then (λ came. Some (record { flow = 0; packet = number; hop = 0; moment = moment; size = size; came = came }))
+    option_and_then (λ came. Some
+        (record { flow = 0; packet = number; hop = 0; moment = moment; size = size; came = came }))
     (colour_named letter)) (size_in bytes)) (number_of (2 ^ 63 - 1) at)
 arrival_of_fields number _ = None
 
@@ -40,7 +45,8 @@ arrivals_from number (line ∷ lines) = onto (arrival_in number line) (arrivals_
 
 abbrev pub sized_of_fields : List (List ℕ) → Option (ℕ × ℕ)
 sized_of_fields (at ∷ bytes ∷ []) =
-    option_and_then (λ moment. option_and_then (λ size. Some (moment, size)) (size_in bytes)) (number_of (2 ^ 63 - 1) at)
+    option_and_then (λ moment. option_and_then (λ size. Some (moment, size)) (size_in bytes))
+        (number_of (2 ^ 63 - 1) at)
 sized_of_fields _ = None
 
 -- the sized moment that a line says: moment and size, one space apart

@@ -9,7 +9,8 @@ use Rattle.ds_certificate.specs.declared.fault.CertificateFault.TheVariants as c
 use Rattle.pcap_capture.specs.declared.fault.PcapFault.{PcapFault}
 use Rattle.pcap_capture.specs.declared.fault.PcapFault.TheVariants as pcaps
 use Rattle.dsedge_serve.specs.declared.fault.Fault.{Fault}
-use Rattle.dsedge_serve.specs.declared.fault.Fault.TheVariants.{Usage, Line, Domain, Certificate, Capture, Port, File, Read, Write, Memory, Full}
+use Rattle.dsedge_serve.specs.declared.fault.Fault.TheVariants.{Usage, Line, Domain, Certificate, Capture, Port, File}
+use Rattle.dsedge_serve.specs.declared.fault.Fault.TheVariants.{Read, Write, Memory, Full}
 use Rattle.dsedge_serve.specs.declared.notice.Notice.{Notice}
 use Rattle.dsedge_serve.specs.declared.notice.Notice.TheVariants as notices
 
@@ -34,7 +35,8 @@ text_or_dash (letter ∷ letters) = letter ∷ letters
 -- what is wrong with a domain, and where: CODE KIND SECTION INDEX FIELD
 abbrev pub domain_fault_text : DomainFault → List ℕ
 domain_fault_text fault =
-    decimal (kind_code fault.kind) ++ codes " " ++ kind_text fault.kind ++ codes " " ++ section_text fault.section ++ codes " "
+    decimal (kind_code fault.kind) ++ codes " " ++ kind_text fault.kind ++ codes " " ++ section_text fault.section
+        ++ codes " "
     ++ decimal fault.index ++ codes " " ++ text_or_dash (field_text fault.field)
 
 -- what is wrong with a certificate: CODE KIND

@@ -1,5 +1,6 @@
 -- What `mark` writes and tells.
-use Rattle.std.specs.Prelude.{◌≡◌, ◌⊎◌, ℕ, Bool, true, false, List, [], ◌∷◌, ◌++◌, flat_map, Option, None, Some, Result, Ok, Err, codes, decimal, slice_index}
+use Rattle.std.specs.Prelude.{◌≡◌, ◌⊎◌, ℕ, Bool, true, false, List, [], ◌∷◌, ◌++◌, flat_map, Option, None, Some, Result}
+use Rattle.std.specs.Prelude.{Ok, Err, codes, decimal, slice_index}
 use Rattle.pcap_capture.specs.declared.fault.PcapFault.{PcapFault}
 use Rattle.pcap_capture.specs.declared.fault.PcapFault.TheVariants as pcaps
 use Rattle.ds_conductor.specs.Markings.{IsMarked}
@@ -105,11 +106,13 @@ refusal_outcome (tables.Certificate fault) = Ok (Uncertified fault)
 refusal_outcome tables.NoMemory = Err pump_faults.NoMemory
 
 -- The capture of an accepted table was marked, with this report and this fault.
-abbrev pub IsMarkedOver : Result Table TableFault → List ℕ → RedRule → List ℕ → List ℕ → Report → Option MarkFault → List ℕ → List ℕ → Type 0
+abbrev pub IsMarkedOver : Result Table TableFault → List ℕ → RedRule → List ℕ → List ℕ → Report → Option MarkFault
+    → List ℕ → List ℕ → Type 0
 IsMarkedOver found port red bytes more report fault before after =
     (table : Table) × (found ≡ Ok table) × IsMarked table port red bytes more before after (marking_answer report fault)
 
 -- Nothing was written: no table is accepted, for what stands against it; or memory ran out.
 abbrev pub IsUnmarked : Result Table TableFault → Result Conclusion PumpFault → List ℕ → List ℕ → Type 0
 IsUnmarked found outcome before after =
-    (after ≡ before) × ((outcome ≡ Err pump_faults.NoMemory) ⊎ ((fault : TableFault) × (found ≡ Err fault) × (outcome ≡ refusal_outcome fault)))
+    (after ≡ before) × ((outcome ≡ Err pump_faults.NoMemory)
+        ⊎ ((fault : TableFault) × (found ≡ Err fault) × (outcome ≡ refusal_outcome fault)))

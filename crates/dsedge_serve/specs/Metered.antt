@@ -1,5 +1,6 @@
 -- What `meter` answers to lines of arrivals.
-use Rattle.std.specs.Prelude.{ℕ, ◌+◌, ◌-◌, nat_lt, List, [], ◌++◌, length, take, flat_map, codes, decimal, slice_index, if◌then◌else◌}
+use Rattle.std.specs.Prelude.{ℕ, ◌+◌, ◌-◌, nat_lt, List, [], ◌++◌, length, take, flat_map, codes, decimal, slice_index}
+use Rattle.std.specs.Prelude.{if◌then◌else◌}
 use Rattle.moment_core.specs.declared.colour.Colour.{Colour}
 use Rattle.moment_core.specs.declared.colour.Colour.TheVariants.{Green, Yellow, Red}
 use Rattle.meter_book.specs.declared.accounts.Accounts.{Accounts}
@@ -32,8 +33,8 @@ accounts_text_of a =
     ++ account_line (codes "yellow") (slice_index a.packets 1) (slice_index a.bytes 1)
     ++ account_line (codes "red") (slice_index a.packets 2) (slice_index a.bytes 2)
 
--- how an answer to so many lines ends that begins at a line's number, where so many of them say arrivals before any says none,
--- and there is room for so many
+-- how an answer to so many lines ends that begins at a line's number, where so many of them say arrivals before any
+-- says none, and there is room for so many
 unfoldable pub ending_of : ℕ → ℕ → ℕ → ℕ → Ending
 ending_of number room arrivals lines =
     if nat_lt room arrivals then Full else if nat_lt arrivals lines then BadLine (number + arrivals) else Whole
@@ -43,8 +44,8 @@ abbrev pub closing : Ending → List Row → List ℕ
 closing Whole rows = accounts_text_of (accounts_of rows)
 closing _ rows = []
 
--- The answer of a book to so many lines from a number on, which say these arrivals before any says none: a colour for each
--- arrival that there is room for, and the accounts of the whole book where every line was answered.
+-- The answer of a book to so many lines from a number on, which say these arrivals before any says none: a colour for
+-- each arrival that there is room for, and the accounts of the whole book where every line was answered.
 unfoldable pub answer_to : Book → ℕ → ℕ → List Arrival → Answer
 answer_to book number lines arrivals =
     let room = book.capacity - length book.arrivals in

@@ -1,5 +1,6 @@
 -- What the program does for a plan.
-use Rattle.std.specs.Prelude.{◌≡◌, ◌⊎◌, ◌^◌, ℕ, Bool, true, false, if◌then◌else◌, List, [], ◌∷◌, ◌++◌, Option, None, Some, Result, Ok, Err, IfOk, OnErr, codes, string_bytes}
+use Rattle.std.specs.Prelude.{◌≡◌, ◌⊎◌, ◌^◌, ℕ, Bool, true, false, if◌then◌else◌, List, [], ◌∷◌, ◌++◌, Option, None}
+use Rattle.std.specs.Prelude.{Some, Result, Ok, Err, IfOk, OnErr, codes, string_bytes}
 use Rattle.std.specs.Option.{option_map_or}
 use Rattle.line_text.specs.Lines.{lines_of}
 use Rattle.dsedge_serve.specs.Books.{fresh_book}
@@ -51,8 +52,8 @@ abbrev pub reply_by : Result (List ℕ) DomainFault → Reply
 reply_by (Ok text) = whole_text text
 reply_by (Err fault) = record { text = []; conclusion = Unsound fault }
 
--- A table is accepted, or the checker's line is the reply; the fault of a text ends it before anything is written. Want of
--- memory stands in no text.
+-- A table is accepted, or the checker's line is the reply; the fault of a text ends it before anything is written. Want
+-- of memory stands in no text.
 abbrev pub reply_on : Result Table TableFault → Reply
 reply_on (Ok table) = whole_text (codes "accepted\n")
 reply_on (Err (tables.Refused line)) = record { text = line; conclusion = Ended endings.Refused }
@@ -60,8 +61,8 @@ reply_on (Err (tables.Domain fault)) = record { text = []; conclusion = Unsound 
 reply_on (Err (tables.Certificate fault)) = record { text = []; conclusion = Uncertified fault }
 reply_on (Err tables.NoMemory) = whole_text []
 
--- The run that lines say is judged over an accepted table; where the checker refuses the table, or a text has a fault, that ends
--- it before anything is written. Want of memory stands in no text.
+-- The run that lines say is judged over an accepted table; where the checker refuses the table, or a text has a fault,
+-- that ends it before anything is written. Want of memory stands in no text.
 abbrev pub reply_over : Result Table TableFault → List (List ℕ) → Reply
 reply_over (Ok table) lines = reply_of (audit_from table (opened table) 1 lines)
 reply_over (Err (tables.Refused line)) lines = record { text = []; conclusion = Unaccepted line }
@@ -89,23 +90,30 @@ IsReplied reply (Answered outcome) before after = IsServed reply outcome before 
 IsReplied reply (Marked report fault port) before after = ⊥
 
 -- a capture was marked at this port of a table, if that is accepted
-abbrev pub IsMarkedAt : Result Table TableFault → List ℕ → RedRule → List ℕ → List ℕ → Outcome → List ℕ → List ℕ → Type 0
+abbrev pub IsMarkedAt : Result Table TableFault → List ℕ → RedRule → List ℕ → List ℕ → Outcome → List ℕ → List ℕ
+    → Type 0
 IsMarkedAt found port red bytes more (Answered outcome) before after = IsUnmarked found outcome before after
-IsMarkedAt found port red bytes more (Marked report fault name) before after = (name ≡ port) × IsMarkedOver found port red bytes more report fault before after
+IsMarkedAt found port red bytes more (Marked report fault name) before after =
+    (name ≡ port) × IsMarkedOver found port red bytes more report fault before after
 
--- What a plan asks for was written, for the texts of its files and the bytes that the input had, of which it still has more.
+-- What a plan asks for was written, for the texts of its files and the bytes that the input had, of which it still has
+-- more.
 abbrev pub IsAnswered : Plan → List (List ℕ) → List ℕ → List ℕ → Outcome → List ℕ → List ℕ → Type 0
-IsAnswered (Help text) texts bytes more outcome before after = IsReplied (whole_text (string_bytes text)) outcome before after
-IsAnswered (Meter meter) texts bytes more outcome before after = IsReplied (reply_of (answer_of (fresh_book meter) 1 (lines_of bytes))) outcome before after
+IsAnswered (Help text) texts bytes more outcome before after =
+    IsReplied (whole_text (string_bytes text)) outcome before after
+IsAnswered (Meter meter) texts bytes more outcome before after =
+    IsReplied (reply_of (answer_of (fresh_book meter) 1 (lines_of bytes))) outcome before after
 IsAnswered (Envelope rate burst) texts bytes more outcome before after =
     IsReplied (reply_of (verdict_on (envelope_for rate burst) (lines_of bytes))) outcome before after
-IsAnswered (Certify domain) texts bytes more outcome before after = IsReplied (reply_by (certified (first_text texts))) outcome before after
+IsAnswered (Certify domain) texts bytes more outcome before after =
+    IsReplied (reply_by (certified (first_text texts))) outcome before after
 IsAnswered (Check domain certificate) texts bytes more outcome before after =
     IsReplied (reply_on (accepted_in (first_text texts) (second_text texts))) outcome before after
 IsAnswered (Audit domain certificate) texts bytes more outcome before after =
     IsReplied (reply_over (accepted_in (first_text texts) (second_text texts)) (lines_of bytes)) outcome before after
 IsAnswered (Mark domain certificate port keeps_red) texts bytes more outcome before after =
-    IsMarkedAt (accepted_in (first_text texts) (second_text texts)) port (rule_said keeps_red) bytes more outcome before after
+    IsMarkedAt (accepted_in (first_text texts) (second_text texts)) port (rule_said keeps_red) bytes more outcome before
+        after
 
 -- what there is to tell of an outcome
 abbrev pub notice_of : Result Conclusion PumpFault → Option Notice
@@ -139,15 +147,18 @@ told_of outcome = option_map_or notice_text (notice_of outcome) []
 
 -- A text was written behind what stood; or a front of it, where the device failed.
 abbrev pub IsTold : List ℕ → List ℕ → List ℕ → ℕ → ℕ → Type 0
-IsTold text before after failed now = (after ≡ before ++ text) ⊎ (IsFrontOf before text after × (now ≡ next_count failed))
+IsTold text before after failed now =
+    (after ≡ before ++ text) ⊎ (IsFrontOf before text after × (now ≡ next_count failed))
 
 -- a write fault is an outcome where the output failed once, and no other outcome is one where it failed
 abbrev pub IsOfWrites : Bool → ℕ → ℕ → Type 0
 IsOfWrites fault failed now = now ≡ (if fault then next_count failed else failed)
 
--- a read fault is an outcome only where the input failed once, or was asked 2^32 times; no other outcome is one where it failed
+-- a read fault is an outcome only where the input failed once, or was asked 2^32 times; no other outcome is one where
+-- it failed
 pub record IsOfReads (fault : Bool) (failed now asked_before asked : ℕ) : Type 0 where
-  pub failed_or_spent : fault ≡ true → (now ≡ next_count failed) ⊎ ((now ≡ failed) × (asked ≡ count_after (2 ^ 32) asked_before))
+  pub failed_or_spent : fault ≡ true → (now ≡ next_count failed)
+      ⊎ ((now ≡ failed) × (asked ≡ count_after (2 ^ 32) asked_before))
   pub else_unfailed : fault ≡ false → now ≡ failed
 
 -- whether the output could not be written
@@ -157,8 +168,10 @@ is_output_fault (Marked report fault port) = is_unwritten (marking_answer report
 
 -- a read fault comes only where the input failed once, or was asked 2^32 times
 abbrev pub IsOfInput : Outcome → ℕ → ℕ → ℕ → ℕ → Type 0
-IsOfInput (Answered outcome) failed now asked_before asked = IsOfReads (is_read_fault outcome) failed now asked_before asked
-IsOfInput (Marked report fault port) failed now asked_before asked = IsOfCaptureReads (marking_answer report fault) failed now asked_before asked
+IsOfInput (Answered outcome) failed now asked_before asked =
+    IsOfReads (is_read_fault outcome) failed now asked_before asked
+IsOfInput (Marked report fault port) failed now asked_before asked =
+    IsOfCaptureReads (marking_answer report fault) failed now asked_before asked
 
 -- the exit status of a plan that went so
 abbrev pub status_after : Outcome → ℕ

@@ -1,5 +1,6 @@
 -- What `envelope` answers to lines of sized moments.
-use Rattle.std.specs.Prelude.{ℕ, ◌+◌, ◌^◌, nat_lt, min, List, [], ◌++◌, length, codes, decimal, Option, None, Some, if◌then◌else◌}
+use Rattle.std.specs.Prelude.{ℕ, ◌+◌, ◌^◌, nat_lt, min, List, [], ◌++◌, length, codes, decimal, Option, None, Some}
+use Rattle.std.specs.Prelude.{if◌then◌else◌}
 use Rattle.dsedge_lines.specs.Answers.{Answer}
 use Rattle.dsedge_lines.specs.declared.command.Ending.{Ending}
 use Rattle.dsedge_lines.specs.declared.command.Ending.TheVariants.{Whole, Refused, BadLine}
@@ -33,7 +34,8 @@ verdict_to envelope before number lines items =
 
 -- the answer to lines from a number on, behind sized moments of which the last was at the newest moment
 abbrev pub verdict_behind : Curve → List (ℕ × ℕ) → ℕ → ℕ → List (List ℕ) → Answer
-verdict_behind envelope before newest number lines = verdict_to envelope before number (length lines) (sized_from newest lines)
+verdict_behind envelope before newest number lines =
+    verdict_to envelope before number (length lines) (sized_from newest lines)
 
 -- the answer to all lines
 abbrev pub verdict_on : Curve → List (List ℕ) → Answer

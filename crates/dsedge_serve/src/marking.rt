@@ -1,6 +1,7 @@
 ghost use Rattle.std.specs.Prelude.{◌≡◌, ◌++◌, Ok, MatchResult, is_ok, if◌then◌else◌};
 ghost use Rattle.dsedge_serve.specs.Faults.{IsFrontOf};
-ghost use Rattle.dsedge_serve.specs.Marked.{capture_fault, marking_fault, marking_fault_text, marking_status, marking_told, refusal_outcome};
+ghost use Rattle.dsedge_serve.specs.Marked.{capture_fault, marking_fault, marking_fault_text, marking_status};
+ghost use Rattle.dsedge_serve.specs.Marked.{marking_told, refusal_outcome};
 ghost use Rattle.dsedge_serve.specs.Served.{IsMarkedAt, IsOfInput, IsOfWrites, is_output_fault};
 ghost use Rattle.dsedge_texts.specs.Accepted.{accepted_in};
 ghost use Rattle.pcap_capture.specs.Counts.{next_count};
@@ -27,10 +28,12 @@ pub(crate) fn answer_mark<'a, I: Intake, O: Outlet>(
     output: &mut O,
 ) -> Outcome<'a>
     ensures served { I.tells intake.old → O.tells output.old →
-        IsMarkedAt (accepted_in domain.now certificate.now) port.entry red (I.left intake.old) (I.left intake.new) result
+        IsMarkedAt (accepted_in domain.now certificate.now) port.entry red (I.left intake.old) (I.left intake.new)
+        result
         (O.held output.old) (O.held output.new) }
     ensures writes { IsOfWrites (is_output_fault result) (O.failed output.old) (O.failed output.new) }
-    ensures reads { IsOfInput result (I.failed intake.old) (I.failed intake.new) (I.turns intake.old) (I.turns intake.new) }
+    ensures reads { IsOfInput result (I.failed intake.old) (I.failed intake.new) (I.turns intake.old)
+        (I.turns intake.new) }
 {
     match accept(alloc, domain, certificate) {
         Ok(accepted) => mark_over(alloc, &accepted, port, red, intake, output),
@@ -48,9 +51,11 @@ fn mark_over<'a, I: Intake, O: Outlet>(
     output: &mut O,
 ) -> Outcome<'a>
     ensures served { I.tells intake.old → O.tells output.old →
-        IsMarkedAt (Ok accepted.now) port.entry red (I.left intake.old) (I.left intake.new) result (O.held output.old) (O.held output.new) }
+        IsMarkedAt (Ok accepted.now) port.entry red (I.left intake.old) (I.left intake.new) result (O.held output.old)
+        (O.held output.new) }
     ensures writes { IsOfWrites (is_output_fault result) (O.failed output.old) (O.failed output.new) }
-    ensures reads { IsOfInput result (I.failed intake.old) (I.failed intake.new) (I.turns intake.old) (I.turns intake.new) }
+    ensures reads { IsOfInput result (I.failed intake.old) (I.failed intake.new) (I.turns intake.old)
+        (I.turns intake.new) }
 {
     match mark(
         alloc,

@@ -1,7 +1,9 @@
 ghost use Rattle.std.specs.Prelude.{◌≡◌, false, length, map};
 ghost use Rattle.dsedge_base.specs.Files.{files_of};
 ghost use Rattle.dsedge_lines.specs.Faults.{is_read_fault, is_write_fault};
-ghost use Rattle.dsedge_serve.specs.Served.{IsAnswered, IsOfInput, IsOfReads, IsOfWrites, IsServed, IsTold, Reply, is_output_fault, notice_of, reply_by, reply_of, reply_on, reply_over, status_after, status_for, told_after, told_of};
+ghost use Rattle.dsedge_serve.specs.Served.{IsAnswered, IsOfInput, IsOfReads, IsOfWrites, IsServed, IsTold, Reply};
+ghost use Rattle.dsedge_serve.specs.Served.{is_output_fault, notice_of, reply_by, reply_of, reply_on, reply_over};
+ghost use Rattle.dsedge_serve.specs.Served.{status_after, status_for, told_after, told_of};
 ghost use Rattle.dsedge_serve.specs.Marked.{rule_said};
 ghost use Rattle.dsedge_serve.specs.declared.outcome.Outcome.{Outcome};
 ghost use Rattle.ds_conductor_base.specs.Steps.{opened};
@@ -38,7 +40,8 @@ fn answer_lines<C: Command, I: Intake, O: Outlet>(
     output: &mut O,
 ) -> Result<Conclusion, PumpFault>
     ensures served { I.tells intake.old → O.tells output.old →
-        IsServed (reply_of (C.answer command.old 1 (lines_of (I.left intake.old)))) result (O.held output.old) (O.held output.new) }
+        IsServed (reply_of (C.answer command.old 1 (lines_of (I.left intake.old)))) result (O.held output.old)
+        (O.held output.new) }
     ensures writes { IsOfWrites (is_write_fault result) (O.failed output.old) (O.failed output.new) }
     ensures reads { IsOfReads (is_read_fault result) (I.failed intake.old) (I.failed intake.new)
         (I.turns intake.old) (I.turns intake.new) }
@@ -56,7 +59,8 @@ fn answer_text<O: Outlet>(
     output: &mut O,
 ) -> Result<Conclusion, PumpFault>
     ensures served { O.tells output.old →
-        IsServed (record { text = text.now; conclusion = Conclusion.Ended ending }) result (O.held output.old) (O.held output.new) }
+        IsServed (record { text = text.now; conclusion = Conclusion.Ended ending }) result (O.held output.old)
+        (O.held output.new) }
     ensures writes { IsOfWrites (is_write_fault result) (O.failed output.old) (O.failed output.new) }
     ensures reads { is_read_fault result ≡ false }
 {
@@ -164,7 +168,8 @@ fn answer<'a, I: Intake, O: Outlet>(
         IsAnswered plan.entry (map (λ text. text.items) texts.now) (I.left intake.old) (I.left intake.new) result
         (O.held output.old) (O.held output.new) }
     ensures writes { IsOfWrites (is_output_fault result) (O.failed output.old) (O.failed output.new) }
-    ensures reads { IsOfInput result (I.failed intake.old) (I.failed intake.new) (I.turns intake.old) (I.turns intake.new) }
+    ensures reads { IsOfInput result (I.failed intake.old) (I.failed intake.new) (I.turns intake.old)
+        (I.turns intake.new) }
 {
     match plan {
         Plan::Help(text) => {
@@ -270,7 +275,8 @@ fn status_after(outcome: &Outcome<'_>) -> u8
 /// Tells how a plan went, where there is anything to tell. A failure to write there is passed over.
 fn tell_after<F: Outlet>(outcome: Outcome<'_>, faults: &mut F)
     ensures { F.tells faults.old →
-        IsTold (told_after outcome.entry) (F.held faults.old) (F.held faults.new) (F.failed faults.old) (F.failed faults.new) }
+        IsTold (told_after outcome.entry) (F.held faults.old) (F.held faults.new) (F.failed faults.old)
+        (F.failed faults.new) }
 {
     match outcome {
         Outcome::Answered(outcome) => tell(outcome, faults),

@@ -36,7 +36,8 @@ meter_place_text refusal = []
 -- where it is, and its figures
 abbrev pub place_text : List Contract → Refusal → List ℕ
 place_text contracts (refusals.Shape number) = decimal number
-place_text contracts (refusals.FirstBound number column needed given) = name_of contracts number ++ column_figures_text column needed given
+place_text contracts (refusals.FirstBound number column needed given) =
+    name_of contracts number ++ column_figures_text column needed given
 place_text contracts (refusals.HopBound number hop column needed given) =
     name_of contracts number ++ figure hop ++ column_figures_text column needed given
 place_text contracts (refusals.GreenRate meter needed available) = meter ++ figures_text needed available
@@ -47,4 +48,5 @@ place_text contracts refusals.NoMemory = []
 
 -- the line of a refusal
 abbrev pub refusal_line : List Contract → Refusal → List ℕ
-refusal_line contracts refusal = codes "refused " ++ test_text refusal ++ codes " " ++ place_text contracts refusal ++ codes "\n"
+refusal_line contracts refusal =
+    codes "refused " ++ test_text refusal ++ codes " " ++ place_text contracts refusal ++ codes "\n"

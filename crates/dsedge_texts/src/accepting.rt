@@ -24,11 +24,13 @@ pub enum TableFault {
 
 /// The domain, the contracts and the certificate that two texts say, where the certificate is acceptable.
 ///
-/// Refused: `Domain` with the first fault of the domain text, `Certificate` with that of the certificate text, `Refused` with
-/// the line of the first test of the checker that fails, in this order; `NoMemory` where memory runs out.
+/// Refused: `Domain` with the first fault of the domain text, `Certificate` with that of the certificate text,
+/// `Refused` with the line of the first test of the checker that fails, in this order; `NoMemory` where memory runs
+/// out.
 pub fn accept(alloc: Global, domain: &[u8], certificate: &[u8]) -> Result<Accepted, TableFault>
     ensures ok { IfOk result (λ accepted. accepted_in domain.now certificate.now ≡ Ok accepted) }
-    ensures refused { IfErr result (λ fault. (fault ≡ TableFault.NoMemory) ⊎ (accepted_in domain.now certificate.now ≡ Err fault)) }
+    ensures refused { IfErr result (λ fault. (fault ≡ TableFault.NoMemory)
+        ⊎ (accepted_in domain.now certificate.now ≡ Err fault)) }
 {
     match parse(alloc, domain) {
         Ok((domain, contracts)) => accept_parsed(alloc, domain, contracts, certificate),

@@ -15,8 +15,8 @@ pub trait Folder {
 
     /// All bytes of the file of a name.
     ///
-    /// Refused: `Unreadable` where there is no such file, it cannot be read, or it has more than 16 MiB; `NoMemory` where
-    /// memory runs out.
+    /// Refused: `Unreadable` where there is no such file, it cannot be read, or it has more than 16 MiB; `NoMemory`
+    /// where memory runs out.
     fn read(&self, alloc: Global, name: &str) -> Result<Vec<u8>, FileFault>
         ensures within { IfOk result (λ bytes. length bytes.items ≤ 2 ^ 24) }
         ensures bytes { tells self.now → IfOk result (λ bytes.

@@ -1,5 +1,6 @@
 ghost use Rattle.std.specs.Prelude.{◌≡◌, ◌++◌, IfOk, OnOk};
-ghost use Rattle.dsedge_texts.specs.Refused.{column_figures_text, figures_text, meter_place_text, place_text, refusal_line, test_text};
+ghost use Rattle.dsedge_texts.specs.Refused.{column_figures_text, figures_text, meter_place_text, place_text};
+ghost use Rattle.dsedge_texts.specs.Refused.{refusal_line, test_text};
 
 use crate::wording::{column_text, push_figure, push_name};
 use ds_checker::{Column, Refusal};

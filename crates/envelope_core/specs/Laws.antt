@@ -50,16 +50,19 @@ DelaysWiden =
 
 -- the order in which sized moments are listed does not matter
 abbrev pub OrderIsFree : Type 0
-OrderIsFree = (rate burst : ℕ) (items others : List (ℕ × ℕ)) → IsPermutation items others → Keeps rate burst items → Keeps rate burst others
+OrderIsFree = (rate burst : ℕ) (items others : List (ℕ × ℕ)) → IsPermutation items others → Keeps rate burst items
+    → Keeps rate burst others
 
 -- a part of a flow keeps what the whole keeps
 abbrev pub PartsKeep : Type 0
 PartsKeep =
-    (rate burst : ℕ) (whole part rest : List (ℕ × ℕ)) → IsPermutation whole (part ++ rest) → Keeps rate burst whole → Keeps rate burst part
+    (rate burst : ℕ) (whole part rest : List (ℕ × ℕ)) → IsPermutation whole (part ++ rest) → Keeps rate burst whole
+        → Keeps rate burst part
 
 -- what passes a test keeps what the whole keeps
 abbrev pub SelectionsKeep : Type 0
-SelectionsKeep = (rate burst : ℕ) (test : ℕ × ℕ → Bool) (items : List (ℕ × ℕ)) → Keeps rate burst items → Keeps rate burst (filter test items)
+SelectionsKeep = (rate burst : ℕ) (test : ℕ × ℕ → Bool) (items : List (ℕ × ℕ)) → Keeps rate burst items
+    → Keeps rate burst (filter test items)
 
 -- an envelope with no less rate and no less burst is kept too
 abbrev pub LooserEnvelopesAreKept : Type 0
@@ -70,13 +73,14 @@ LooserEnvelopesAreKept =
     → Keeps rate burst items
     → Keeps more_rate more_burst items
 
--- An index is the first at which sized moments leave an envelope: those before it keep it, and with its own they do not.
+-- An index is the first at which sized moments leave an envelope: those before it keep it, and with its own they do
+-- not.
 abbrev pub IsFirstBeyond : ℕ → ℕ → List (ℕ × ℕ) → ℕ → Type 0
 IsFirstBeyond rate burst items index =
     (index < length items) × Keeps rate burst (take index items) × ¬ Keeps rate burst (take (index + 1) items)
 
--- Over sized moments in order a leaky bucket takes all in exactly where they keep its rate and its depth, and overflows only
--- at the first at which they do not.
+-- Over sized moments in order a leaky bucket takes all in exactly where they keep its rate and its depth, and overflows
+-- only at the first at which they do not.
 abbrev pub BucketsTell : Type 0
 BucketsTell =
     (rate burst : ℕ) (items : List (ℕ × ℕ))

@@ -17,11 +17,11 @@ pub fn in_order(items: &[(Moment, u32)]) -> bool
 }
 
 /// Whether sized moments (bytes), in order of time, keep an envelope: in each window from one moment to another, both
-/// included, there are at most the burst and what the rate gives over the window's length (Cruz 1991, section II). Err is
-/// the least index at which the items up to it and itself do not keep it.
+/// included, there are at most the burst and what the rate gives over the window's length (Cruz 1991, section II). Err
+/// is the least index at which the items up to it and itself do not keep it.
 ///
-/// One pass, with the backlog of a link of this rate in bit-nanoseconds: 8 000 000 000 of them are a byte, so nothing is
-/// divided and nothing rounded.
+/// One pass, with the backlog of a link of this rate in bit-nanoseconds: 8 000 000 000 of them are a byte, so nothing
+/// is divided and nothing rounded.
 pub fn keeps(items: &[(Moment, u32)], envelope: Envelope) -> Result<(), usize>
     requires { IsInOrder items.now }
     ensures kept { IsOk result ↔ KeepsCurve envelope items.now }

@@ -65,7 +65,8 @@ impl Envelope {
 
     /// The envelope of two flows that merge, or None where its rate or its burst leaves its range.
     fn plus(self, other: Envelope) -> Option<Envelope>
-        ensures { SomeIff result ((self.rate + other.rate ≤ 10 ^ 17) × (self.burst + other.burst ≤ 10 ^ 19)) (record { rate = self.rate + other.rate; burst = self.burst + other.burst }) }
+        ensures { SomeIff result ((self.rate + other.rate ≤ 10 ^ 17) × (self.burst + other.burst ≤ 10 ^ 19))
+            (record { rate = self.rate + other.rate; burst = self.burst + other.burst }) }
     {
         let burst = self.burst.checked_add(other.burst)?;
         Envelope::new(self.rate + other.rate, burst).ok()

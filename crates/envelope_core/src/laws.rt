@@ -20,8 +20,8 @@ pub fn flows_add()
     ensures { FlowsAdd }
 {}
 
-/// Delays that differ by at most a jitter widen the burst by what the rate gives over the jitter, rounded up, even where
-/// packets overtake one another (Cruz 1991, section II).
+/// Delays that differ by at most a jitter widen the burst by what the rate gives over the jitter, rounded up, even
+/// where packets overtake one another (Cruz 1991, section II).
 pub fn delays_widen()
     ensures { DelaysWiden }
 {}
@@ -46,8 +46,8 @@ pub fn looser_envelopes_are_kept()
     ensures { LooserEnvelopesAreKept }
 {}
 
-/// Over sized moments in order, a leaky bucket overflows exactly where they leave the envelope of its rate and its depth,
-/// and first at the packet at which they do (Turner 1986; Cruz 1991, section II).
+/// Over sized moments in order, a leaky bucket overflows exactly where they leave the envelope of its rate and its
+/// depth, and first at the packet at which they do (Turner 1986; Cruz 1991, section II).
 pub fn buckets_tell()
     ensures { BucketsTell }
 {}

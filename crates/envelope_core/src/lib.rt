@@ -1,5 +1,5 @@
-//! Envelopes of traffic, a rate and a burst: the exact test whether sized moments keep one, how one is widened and added,
-//! and the laws that hold whatever the order of the moments (Cruz 1991, section II).
+//! Envelopes of traffic, a rate and a burst: the exact test whether sized moments keep one, how one is widened and
+//! added, and the laws that hold whatever the order of the moments (Cruz 1991, section II).
 #![tactic(auto)]
 
 pub mod conformance;

@@ -1,5 +1,6 @@
 -- Which rules hold of a packet, and which rule is the first that does.
-use Rattle.std.specs.Prelude.{ℕ, ◌-◌, ◌/◌, ◌^◌, Bool, true, false, nat_eq, nat_le, ◌&&◌, List, position, Option, None, Some}
+use Rattle.std.specs.Prelude.{ℕ, ◌-◌, ◌/◌, ◌^◌, Bool, true, false, nat_eq, nat_le, ◌&&◌, List, position, Option, None}
+use Rattle.std.specs.Prelude.{Some}
 use Rattle.flow_classifier.specs.Parts.{PrefixValue, PortRangeValue}
 use Rattle.flow_classifier.specs.declared.key.Key.{Key}
 use Rattle.flow_classifier.specs.declared.rule.Rule.{Rule}
@@ -19,7 +20,8 @@ is_in_range picked range None = false
 is_in_range picked range (Some ports) = nat_le range.low (picked ports) && nat_le (picked ports) range.high
 
 abbrev pub addresses_hold : Rule → Key → Bool
-addresses_hold rule key = holds_where_given is_in_prefix rule.source key.source && holds_where_given is_in_prefix rule.target key.target
+addresses_hold rule key =
+    holds_where_given is_in_prefix rule.source key.source && holds_where_given is_in_prefix rule.target key.target
 
 abbrev pub ports_hold : Rule → Key → Bool
 ports_hold rule key =
@@ -27,7 +29,8 @@ ports_hold rule key =
     && holds_where_given (is_in_range (λ ports. ports.1)) rule.target_ports key.ports
 
 abbrev pub numbers_hold : Rule → Key → Bool
-numbers_hold rule key = holds_where_given nat_eq rule.protocol key.protocol && holds_where_given nat_eq rule.dscp key.dscp
+numbers_hold rule key =
+    holds_where_given nat_eq rule.protocol key.protocol && holds_where_given nat_eq rule.dscp key.dscp
 
 -- each part of the rule that is given holds
 abbrev pub holds : Rule → Key → Bool

@@ -1,5 +1,6 @@
 ghost use Rattle.std.specs.Prelude.{◌≡◌, nat_le, ◌&&◌};
-ghost use Rattle.flow_classifier.specs.Matching.{addresses_hold, first_match_of, holds, is_in_prefix, numbers_hold, ports_hold};
+ghost use Rattle.flow_classifier.specs.Matching.{addresses_hold, first_match_of, holds, is_in_prefix, numbers_hold};
+ghost use Rattle.flow_classifier.specs.Matching.{ports_hold};
 
 use crate::key::Key;
 use crate::rule::{PortRange, Prefix, Rule};

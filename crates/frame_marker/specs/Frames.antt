@@ -27,7 +27,8 @@ marked_by (Err fault) dscp packet = packet
 
 abbrev pub marked_behind : Option ℕ → ℕ → List ℕ → List ℕ
 marked_behind None dscp bytes = bytes
-marked_behind (Some start) dscp bytes = take start bytes ++ marked_by (header_of (drop start bytes)) dscp (drop start bytes)
+marked_behind (Some start) dscp bytes =
+    take start bytes ++ marked_by (header_of (drop start bytes)) dscp (drop start bytes)
 
 -- a frame whose packet has another code point; what stands before the packet stays as it is (RFC 2474 section 3)
 unfoldable pub marked_frame : Link → ℕ → List ℕ → List ℕ

@@ -18,7 +18,8 @@ key_of h = record { source = h.source; target = h.target; protocol = h.protocol;
 abbrev pub takes : List ℕ → Key → Contract → Bool
 takes port key c = bytes_eq port c.port && holds c.rule key
 
--- The number of the first contract of a port whose rule holds of a packet. Only the first 2^32 - 1024 contracts have packets.
+-- The number of the first contract of a port whose rule holds of a packet. Only the first 2^32 - 1024 contracts have
+-- packets.
 unfoldable pub flow_of : List Contract → List ℕ → Key → Option ℕ
 flow_of contracts port key = position (takes port key) (take 4294966272 contracts)
 

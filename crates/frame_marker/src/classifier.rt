@@ -36,7 +36,8 @@ impl Model for PortClassifier {
 impl PortClassifier {
     /// Takes the rules of the contracts of a port together; `AllocError` where memory runs out.
     pub fn new(alloc: Global, contracts: &[Contract], port: Name) -> Result<Self, AllocError>
-        ensures { IfOk result (λ classifier. (link : Link) (bytes : List ℕ) → sight_at classifier link bytes ≡ sight_of contracts.now port link bytes) }
+        ensures { IfOk result (λ classifier. (link : Link) (bytes : List ℕ) → sight_at classifier link bytes
+            ≡ sight_of contracts.now port link bytes) }
     {
         let heeded = &contracts[..MOST_CONTRACTS.min(contracts.len())];
         let mut flows = Vec::new(alloc);

@@ -4,8 +4,8 @@ ghost use Rattle.frame_marker.specs.Frames.{header_in, marked_frame};
 use af_marker::{Dscp, Header, header, remark};
 use pcap_capture::Link;
 
-/// The header of the IPv4 packet in a frame (RFC 791 section 3.1); `None` where the frame has no packet of IPv4, or one whose
-/// header cannot be read.
+/// The header of the IPv4 packet in a frame (RFC 791 section 3.1); `None` where the frame has no packet of IPv4, or one
+/// whose header cannot be read.
 #[tactic(auto, unfolding(crate::specs::Frames::header_in))]
 pub fn header_in(link: Link, bytes: &[u8]) -> Option<Header>
     ensures { result ≡ header_in link bytes.now }
@@ -14,8 +14,8 @@ pub fn header_in(link: Link, bytes: &[u8]) -> Option<Header>
     header(&bytes[start..]).ok()
 }
 
-/// Puts a code point into the packet of a frame (RFC 2474 section 3), where it has a header that can be read; a header whose checksum was
-/// right gets the right new one. Else the frame stays as it is.
+/// Puts a code point into the packet of a frame (RFC 2474 section 3), where it has a header that can be read; a header
+/// whose checksum was right gets the right new one. Else the frame stays as it is.
 #[tactic(auto, unfolding(crate::specs::Frames::marked_frame))]
 pub fn mark_frame(link: Link, bytes: &mut [u8], dscp: Dscp)
     ensures { bytes.new ≡ marked_frame link dscp bytes.old }

@@ -23,7 +23,8 @@ green_output (Rfc4115 p) = record { rate = p.committed_rate; burst = p.committed
 abbrev pub all_output : Parameters → Curve
 all_output (SrTcm p) = record { rate = p.committed_rate; burst = p.committed_burst + p.excess_burst + 1 }
 all_output (TrTcm p) = record { rate = p.peak_rate; burst = p.peak_burst + 1 }
-all_output (Rfc4115 p) = record { rate = p.committed_rate + p.excess_rate; burst = p.committed_burst + p.excess_burst + 2 }
+all_output (Rfc4115 p) =
+    record { rate = p.committed_rate + p.excess_rate; burst = p.committed_burst + p.excess_burst + 2 }
 
 -- a meter of any kind: its parameters, its mode, and its envelopes
 abbrev pub parameters_of : AnyMeter → Parameters

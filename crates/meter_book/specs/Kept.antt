@@ -38,7 +38,8 @@ row_at place s = record {
 
 -- what of a stored row is the arrival
 abbrev pub arrival_stored : StoredRow → Arrival
-arrival_stored s = record { flow = s.flow; packet = s.packet; hop = s.hop; moment = s.arrival; size = s.size; came = s.came }
+arrival_stored s =
+    record { flow = s.flow; packet = s.packet; hop = s.hop; moment = s.arrival; size = s.size; came = s.came }
 
 abbrev pub arrivals_of : List StoredRow → List Arrival
 arrivals_of rows = map arrival_stored rows
@@ -46,7 +47,8 @@ arrivals_of rows = map arrival_stored rows
 abbrev pub book_of : book.Inside → Book
 book_of b = record { opening = b.opening; skew = b.skew; capacity = b.capacity; arrivals = arrivals_of b.rows.items }
 
--- what is stored is the rows of the replay, the meter is where the replay left it, and the sums are the sums of the rows
+-- what is stored is the rows of the replay, the meter is where the replay left it, and the sums are the sums of the
+-- rows
 pub record IsBook (b : book.Inside) : Type 0 where
   pub replayed : b.rows.items ≡ map stored_of (replay b.opening (arrivals_of b.rows.items))
   pub meter : b.meter ≡ meter_after b.opening (arrivals_of b.rows.items)

@@ -25,18 +25,18 @@ row_input picked rows = map (λ r. (r.used, r.size)) (filter (λ r. picked r.cam
 abbrev pub Stays : Colour → List Row → Type 0
 Stays colour rows = All (λ r. r.came ≡ colour → r.left ≡ colour) rows
 
--- With a committed and a peak rate a green packet takes its bytes from the peak bucket too, as a yellow one does
--- (RFC 2698 section 3): there what came green or yellow must keep what the meter has for both. The other meters have no such
+-- With a committed and a peak rate a green packet takes its bytes from the peak bucket too, as a yellow one does (RFC
+-- 2698 section 3): there what came green or yellow must keep what the meter has for both. The other meters have no such
 -- bucket.
 abbrev pub PeakIsKept : Parameters → List Row → Type 0
 PeakIsKept (SrTcm p) rows = Unit {0}
 PeakIsKept (TrTcm p) rows = KeepsCurve (all_limit (TrTcm p)) (row_input is_in_profile rows)
 PeakIsKept (Rfc4115 p) rows = Unit {0}
 
--- Which packets are held against what a meter has for green and yellow ones. With a single rate they are both, since the
--- excess bucket gets only the tokens that the committed one has no room for (RFC 2697 section 3). With a peak rate they are
--- both, since both take from the peak bucket (RFC 2698 section 3). With an excess rate they are the yellow ones, which alone
--- take from the excess bucket where green ones leave green (RFC 4115).
+-- Which packets are held against what a meter has for green and yellow ones. With a single rate they are both, since
+-- the excess bucket gets only the tokens that the committed one has no room for (RFC 2697 section 3). With a peak rate
+-- they are both, since both take from the peak bucket (RFC 2698 section 3). With an excess rate they are the yellow
+-- ones, which alone take from the excess bucket where green ones leave green (RFC 4115).
 abbrev pub held_against_all : Parameters → Colour → Bool
 held_against_all (SrTcm p) = is_in_profile
 held_against_all (TrTcm p) = is_in_profile
@@ -50,8 +50,8 @@ GreenStaysGreen =
     → PeakIsKept p (aware_rows p origin arrivals)
     → Stays Green (aware_rows p origin arrivals)
 
--- and where every green packet leaves green, it lets every yellow one through as yellow, if what is held against it keeps
--- what the meter has for green and yellow ones
+-- and where every green packet leaves green, it lets every yellow one through as yellow, if what is held against it
+-- keeps what the meter has for green and yellow ones
 abbrev pub YellowStaysYellow : Type 0
 YellowStaysYellow =
     (p : Parameters) (origin : ℕ) (arrivals : List Arrival)

@@ -33,25 +33,30 @@ row_output picked rows = map (λ r. (r.used, r.size)) (filter (λ r. picked r.le
 
 -- the rows of a replay are the departures of the meter
 abbrev pub RowsAreDepartures : Type 0
-RowsAreDepartures = (m : AnyMeter) (arrivals : List Arrival) → map departure_of (replay m arrivals) ≡ departures how_any m (map offer_of arrivals)
+RowsAreDepartures = (m : AnyMeter) (arrivals : List Arrival) → map departure_of (replay m arrivals)
+    ≡ departures how_any m (map offer_of arrivals)
 
 -- what left green keeps the envelope of green, and what left green or yellow that of all, by the moments metered at
 abbrev pub RowsKeepEnvelopes : Type 0
 RowsKeepEnvelopes =
     (m : AnyMeter) (arrivals : List Arrival)
     → IsFit m
-    → KeepsCurve (green_of m) (row_output is_green (replay m arrivals)) × KeepsCurve (all_of m) (row_output is_in_profile (replay m arrivals))
+    → KeepsCurve (green_of m) (row_output is_green (replay m arrivals))
+        × KeepsCurve (all_of m) (row_output is_in_profile (replay m arrivals))
 
 -- so the rows of a meter that opened keep its envelopes
 abbrev pub OpenedRowsKeepEnvelopes : Type 0
 OpenedRowsKeepEnvelopes =
     (p : Parameters) (mode : Mode) (origin : ℕ) (arrivals : List Arrival)
-    → KeepsCurve (green_of (opening_of p mode origin)) (row_output is_green (replay (opening_of p mode origin) arrivals))
-    × KeepsCurve (all_of (opening_of p mode origin)) (row_output is_in_profile (replay (opening_of p mode origin) arrivals))
+    → KeepsCurve (green_of (opening_of p mode origin))
+        (row_output is_green (replay (opening_of p mode origin) arrivals))
+    × KeepsCurve (all_of (opening_of p mode origin))
+        (row_output is_in_profile (replay (opening_of p mode origin) arrivals))
 
 -- in the rows of an aware meter no packet leaves with a better colour than it came with
 abbrev pub AwareRowsNeverImprove : Type 0
-AwareRowsNeverImprove = (m : AnyMeter) (arrivals : List Arrival) → mode_of m ≡ Aware → All (λ r. IsNoBetter r.came r.left) (replay m arrivals)
+AwareRowsNeverImprove = (m : AnyMeter) (arrivals : List Arrival) → mode_of m ≡ Aware
+    → All (λ r. IsNoBetter r.came r.left) (replay m arrivals)
 
 -- no row was metered before the row in front of it
 abbrev pub RowsStandInOrder : Type 0

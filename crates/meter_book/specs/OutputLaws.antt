@@ -38,7 +38,8 @@ departures_of_two_rate m offers =
 pub departures_of_separate_rates : (m : State Rfc4115Parameters Levels) (offers : List Offer)
     → departures how_any (meters.Rfc4115 m) offers ≡ departures (how separate_rates) m offers
 departures_of_separate_rates m offers =
-    departures-same (λ s. meters.Rfc4115 s) (how separate_rates) how_any (λ s. refl) (λ s o. refl) (λ s o. refl) m offers
+    departures-same (λ s. meters.Rfc4115 s) (how separate_rates) how_any (λ s. refl) (λ s o. refl) (λ s o. refl) m
+        offers
 
 -- an aware meter never improves a colour
 pub never_improves-any : (m : AnyMeter) (o : Offer) → mode_of m ≡ Aware → IsNoBetter o.came (left_of m o)
@@ -47,16 +48,23 @@ never_improves-any (meters.TrTcm m) o aware = two_rates.never_improves m o aware
 never_improves-any (meters.Rfc4115 m) o aware = excess_rates.never_improves m o aware
 
 -- what leaves green keeps the envelope of green
-pub green_keeps-any : (m : AnyMeter) → IsFit m → (offers : List Offer) → KeepsCurve (green_of m) (output is_green (departures how_any m offers))
-green_keeps-any (meters.SrTcm m) fit offers = rw (departures_of_single_rate m offers) (single_rates.green_keeps m fit offers)
+pub green_keeps-any : (m : AnyMeter) → IsFit m → (offers : List Offer)
+    → KeepsCurve (green_of m) (output is_green (departures how_any m offers))
+green_keeps-any (meters.SrTcm m) fit offers =
+    rw (departures_of_single_rate m offers) (single_rates.green_keeps m fit offers)
 green_keeps-any (meters.TrTcm m) fit offers = rw (departures_of_two_rate m offers) (two_rates.green_keeps m fit offers)
-green_keeps-any (meters.Rfc4115 m) fit offers = rw (departures_of_separate_rates m offers) (excess_rates.green_keeps m fit offers)
+green_keeps-any (meters.Rfc4115 m) fit offers =
+    rw (departures_of_separate_rates m offers) (excess_rates.green_keeps m fit offers)
 
 -- what leaves green or yellow keeps the envelope of all
-pub all_keeps-any : (m : AnyMeter) → IsFit m → (offers : List Offer) → KeepsCurve (all_of m) (output is_in_profile (departures how_any m offers))
-all_keeps-any (meters.SrTcm m) fit offers = rw (departures_of_single_rate m offers) (single_rates.in_profile_keeps m fit offers)
-all_keeps-any (meters.TrTcm m) fit offers = rw (departures_of_two_rate m offers) (two_rates.in_profile_keeps m fit offers)
-all_keeps-any (meters.Rfc4115 m) fit offers = rw (departures_of_separate_rates m offers) (excess_rates.in_profile_keeps m fit offers)
+pub all_keeps-any : (m : AnyMeter) → IsFit m → (offers : List Offer)
+    → KeepsCurve (all_of m) (output is_in_profile (departures how_any m offers))
+all_keeps-any (meters.SrTcm m) fit offers =
+    rw (departures_of_single_rate m offers) (single_rates.in_profile_keeps m fit offers)
+all_keeps-any (meters.TrTcm m) fit offers =
+    rw (departures_of_two_rate m offers) (two_rates.in_profile_keeps m fit offers)
+all_keeps-any (meters.Rfc4115 m) fit offers =
+    rw (departures_of_separate_rates m offers) (excess_rates.in_profile_keeps m fit offers)
 
 -- a meter that opens fits
 pub IsFit-opening : (p : Parameters) (mode : Mode) (origin : ℕ) → IsFit (opening_of p mode origin)
@@ -71,7 +79,8 @@ IsFit-after (meters.TrTcm m) o fit = two_rates.IsWithinSizes-after m o fit
 IsFit-after (meters.Rfc4115 m) o fit = excess_rates.IsWithinSizes-after m o fit
 
 -- a meter moves on to the moment that it meters at
-pub goes_on_by : {P L : Type 0} (rules : Rules P L) (m : State P L) (o : Offer) → (after rules m o).newest ≡ used m.newest o.moment
+pub goes_on_by : {P L : Type 0} (rules : Rules P L) (m : State P L) (o : Offer) → (after rules m o).newest
+    ≡ used m.newest o.moment
 goes_on_by rules m o = newest-after rules m o
 
 pub goes_on-any : (m : AnyMeter) (o : Offer) → newest_of (after_any m o) ≡ used (newest_of m) o.moment
@@ -85,7 +94,8 @@ pub stays_itself_by : {P L : Type 0} (rules : Rules P L) (of_kind : P → Parame
 unfolding after
 stays_itself_by rules of_kind m o = (refl, refl)
 
-pub stays_itself-any : (m : AnyMeter) (o : Offer) → (mode_of (after_any m o) ≡ mode_of m) × (parameters_of (after_any m o) ≡ parameters_of m)
+pub stays_itself-any : (m : AnyMeter) (o : Offer) → (mode_of (after_any m o) ≡ mode_of m)
+    × (parameters_of (after_any m o) ≡ parameters_of m)
 stays_itself-any (meters.SrTcm m) o = stays_itself_by single_rate (λ p. parameters.SrTcm p) m o
 stays_itself-any (meters.TrTcm m) o = stays_itself_by two_rate (λ p. parameters.TrTcm p) m o
 stays_itself-any (meters.Rfc4115 m) o = stays_itself_by separate_rates (λ p. parameters.Rfc4115 p) m o

@@ -18,7 +18,8 @@ tallies_of rows = record {
 -- one packet more of a colour
 abbrev pub with_packet : Tallies → Colour → ℕ → Tallies
 with_packet t Green size = record t { green = record { packets = t.green.packets + 1; bytes = t.green.bytes + size } }
-with_packet t Yellow size = record t { yellow = record { packets = t.yellow.packets + 1; bytes = t.yellow.bytes + size } }
+with_packet t Yellow size =
+    record t { yellow = record { packets = t.yellow.packets + 1; bytes = t.yellow.bytes + size } }
 with_packet t Red size = record t { red = record { packets = t.red.packets + 1; bytes = t.red.bytes + size } }
 
 -- a packet has at most 65,535 bytes

@@ -22,14 +22,16 @@ use crate::meter::Meter;
 /// Whatever arrives at an aware meter of whatever kind, no packet leaves with a better colour than it came with
 /// (RFC 2697 section 3).
 pub fn aware_meters_never_improve<M: Meter>()
-    ensures { (m : M) (offers : List Offer) → M.mode_of m ≡ Aware → All (λ d. IsNoBetter d.came d.left) (departures M.how m offers) }
+    ensures { (m : M) (offers : List Offer) → M.mode_of m ≡ Aware
+        → All (λ d. IsNoBetter d.came d.left) (departures M.how m offers) }
 {}
 
 /// Whatever arrives at a meter of whatever kind, what leaves it green keeps its envelope of green, and what leaves it
 /// green or yellow that of all (Cruz 1991, section II).
 pub fn meters_keep_envelopes<M: Meter>()
     ensures { (m : M) (offers : List Offer) → M.fits m
-        → KeepsCurve (green_output (M.parameters_of m)) (output is_green (departures M.how m offers)) × KeepsCurve (all_output (M.parameters_of m)) (output is_in_profile (departures M.how m offers)) }
+        → KeepsCurve (green_output (M.parameters_of m)) (output is_green (departures M.how m offers))
+        × KeepsCurve (all_output (M.parameters_of m)) (output is_in_profile (departures M.how m offers)) }
 {}
 
 /// A meter of whatever kind that fits does so after whatever arrives.
@@ -73,15 +75,15 @@ pub fn meters_stay_fit()
     ensures { MetersStayFit }
 {}
 
-/// A packet that comes green to an aware meter leaves it green, where green packets keep the committed rate and burst, and
-/// with two rates also green and yellow ones together the peak rate and burst (RFC 2697 section 3, RFC 2698 section 3,
-/// RFC 4115).
+/// A packet that comes green to an aware meter leaves it green, where green packets keep the committed rate and burst,
+/// and with two rates also green and yellow ones together the peak rate and burst (RFC 2697 section 3, RFC 2698 section
+/// 3, RFC 4115).
 pub fn green_stays_green()
     ensures { GreenStaysGreen }
 {}
 
-/// A packet that comes yellow to an aware meter leaves it yellow, where green packets leave green and what is held against
-/// the bucket for yellow ones keeps its rate and its burst (RFC 2697 section 3, RFC 2698 section 3, RFC 4115).
+/// A packet that comes yellow to an aware meter leaves it yellow, where green packets leave green and what is held
+/// against the bucket for yellow ones keeps its rate and its burst (RFC 2697 section 3, RFC 2698 section 3, RFC 4115).
 pub fn yellow_stays_yellow()
     ensures { YellowStaysYellow }
 {}

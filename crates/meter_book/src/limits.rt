@@ -6,7 +6,8 @@ use crate::any_meter::Parameters;
 use envelope_core::Envelope;
 
 impl Parameters {
-    /// What a meter with these parameters has for green packets: in each kind CIR and CBS (RFC 2697, RFC 2698, RFC 4115).
+    /// What a meter with these parameters has for green packets: in each kind CIR and CBS (RFC 2697, RFC 2698, RFC
+    /// 4115).
     pub fn green_limit(self) -> Envelope
         ensures value { result ≡ green_limit self }
         ensures range { (result.rate ≤ 10 ^ 13) × (result.burst < 2 ^ 32) }
@@ -19,7 +20,8 @@ impl Parameters {
         envelope(rate.get(), u64::from(burst))
     }
 
-    /// What it has for green and yellow packets: CIR and EBS (RFC 2697), PIR and PBS (RFC 2698), or EIR and EBS (RFC 4115).
+    /// What it has for green and yellow packets: CIR and EBS (RFC 2697), PIR and PBS (RFC 2698), or EIR and EBS (RFC
+    /// 4115).
     pub fn all_limit(self) -> Envelope
         ensures value { result ≡ all_limit self }
         ensures range { (result.rate ≤ 10 ^ 13) × (result.burst < 2 ^ 32) }
@@ -32,8 +34,8 @@ impl Parameters {
         envelope(rate.get(), u64::from(burst))
     }
 
-    /// The envelope of what leaves it green: a byte more than what it has for green packets (RFC 2697, RFC 2698, RFC 4115;
-    /// Cruz 1991, section II).
+    /// The envelope of what leaves it green: a byte more than what it has for green packets (RFC 2697, RFC 2698, RFC
+    /// 4115; Cruz 1991, section II).
     pub fn green_envelope(&self) -> Envelope
         ensures value { result ≡ green_output self.now }
         ensures range { (result.rate ≤ 2 * 10 ^ 13) × (result.burst ≤ 2 ^ 34) }
@@ -42,8 +44,8 @@ impl Parameters {
         envelope(green.rate(), green.burst() + 1)
     }
 
-    /// The envelope of what leaves it green or yellow: what its buckets hold and are given together, and a byte more for
-    /// each rate that fills one (RFC 2697, RFC 2698, RFC 4115; Cruz 1991, section II).
+    /// The envelope of what leaves it green or yellow: what its buckets hold and are given together, and a byte more
+    /// for each rate that fills one (RFC 2697, RFC 2698, RFC 4115; Cruz 1991, section II).
     pub fn all_envelope(&self) -> Envelope
         ensures value { result ≡ all_output self.now }
         ensures range { (result.rate ≤ 2 * 10 ^ 13) × (result.burst ≤ 2 ^ 34) }

@@ -66,7 +66,8 @@ pub trait Meter {
     ghost never_improves: { (m : Self) (o : Offer) → mode_of m ≡ Aware → IsNoBetter o.came (how.left m o) };
 
     ghost output_keeps: { (m : Self) → fits m → (offers : List Offer)
-        → KeepsCurve (green_output (parameters_of m)) (output is_green (departures how m offers)) × KeepsCurve (all_output (parameters_of m)) (output is_in_profile (departures how m offers)) };
+        → KeepsCurve (green_output (parameters_of m)) (output is_green (departures how m offers))
+        × KeepsCurve (all_output (parameters_of m)) (output is_in_profile (departures how m offers)) };
 
     ghost stays_fit: { (m : Self) (o : Offer) → fits m → fits (how.after m o) };
 
@@ -212,7 +213,8 @@ impl Meter for AnyMeter {
     ghost use Rattle.meter_book.specs.AnyMeter.{how_any};
     ghost use Rattle.meter_book.specs.Envelopes.{IsFit};
     ghost use Rattle.meter_book.specs.Envelopes as envelopes;
-    ghost use Rattle.meter_book.specs.OutputLaws.{IsFit-after, all_keeps-any, goes_on-any, green_keeps-any, never_improves-any, stays_itself-any};
+    ghost use Rattle.meter_book.specs.OutputLaws.{IsFit-after, all_keeps-any, goes_on-any, green_keeps-any};
+    ghost use Rattle.meter_book.specs.OutputLaws.{never_improves-any, stays_itself-any};
 
     ghost how = { how_any };
 

@@ -68,7 +68,8 @@ impl Tallies {
 
     /// The sums as accounts.
     pub fn accounts(&self) -> Accounts
-        ensures packets { result.packets ≡ self.now.green.packets ∷ self.now.yellow.packets ∷ self.now.red.packets ∷ [] }
+        ensures packets { result.packets ≡ self.now.green.packets ∷ self.now.yellow.packets ∷ self.now.red.packets
+            ∷ [] }
         ensures bytes { result.bytes ≡ self.now.green.bytes ∷ self.now.yellow.bytes ∷ self.now.red.bytes ∷ [] }
     {
         Accounts {

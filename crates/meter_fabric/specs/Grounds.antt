@@ -14,8 +14,8 @@ pub record Ground : Type 0 where
 abbrev pub contract_of : Ground → ℕ → Option Contract
 contract_of g flow = option_map (λ entry. entry.1) (find (λ entry. nat_eq entry.0 flow) g.contracts)
 
--- How many contracts of a table packets can be of: the first 2^32 - 1024. A domain has at most 1024 meters, so the number of each
--- edge behind them has 32 bits.
+-- How many contracts of a table packets can be of: the first 2^32 - 1024. A domain has at most 1024 meters, so the
+-- number of each edge behind them has 32 bits.
 abbrev pub most_flows : ℕ
 most_flows = 4294966272
 

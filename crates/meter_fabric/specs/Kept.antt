@@ -5,7 +5,8 @@ use Rattle.meter_fabric.specs.Travels.{Traveller}
 use Rattle.meter_fabric.specs.declared.traveller.Traveller.TheInside as traveller
 
 abbrev pub traveller_of : traveller.Inside → Traveller
-traveller_of t = record { packet = packet_of t.trail; came = t.came; hops = t.hops.items; receipts = t.trail.receipts.items }
+traveller_of t =
+    record { packet = packet_of t.trail; came = t.came; hops = t.hops.items; receipts = t.trail.receipts.items }
 
 -- the receipts are a trail along the hops, and there is room for one of each hop
 pub record IsTraveller (t : traveller.Inside) : Type 0 where

@@ -1,5 +1,6 @@
 -- What stands at the sites before the first packet.
-use Rattle.std.specs.Prelude.{◌^◌, ℕ, ◌+◌, ◌-◌, nat_lt, [], length, slice_get, option_and_then, option_map, Option, if◌then◌else◌}
+use Rattle.std.specs.Prelude.{◌^◌, ℕ, ◌+◌, ◌-◌, nat_lt, [], length, slice_get, option_and_then, option_map, Option}
+use Rattle.std.specs.Prelude.{if◌then◌else◌}
 use Rattle.moment_core.specs.declared.colour.Mode.TheVariants.{Aware}
 use Rattle.meter_book.specs.AnyMeter.{opening_of}
 use Rattle.meter_book.specs.Replay.{Book}
@@ -17,7 +18,8 @@ meter_opening m = record { meter = opening_of m.parameters Aware m.origin; skew 
 
 -- at the edge of a policed contract its own meter, and the skew of its port
 abbrev pub edge_opening : Domain → Contract → Option Opening
-edge_opening d c = option_map (λ m. record { meter = m; skew = skew_of (port_of d c.port) }) (edge_of c.terms c.lifetime.since)
+edge_opening d c =
+    option_map (λ m. record { meter = m; skew = skew_of (port_of d c.port) }) (edge_of c.terms c.lifetime.since)
 
 -- what stands at the site of a number, if there is anything: first the meters, then the edges by their flows
 abbrev pub opening_at : Ground → ℕ → Option Opening

@@ -38,7 +38,8 @@ arrival_at p hop moment came = record {
 
 -- what of a row is the arrival
 abbrev pub arrival_of : Row → Arrival
-arrival_of r = record { flow = r.flow; packet = r.packet; hop = r.hop; moment = r.arrival; size = r.size; came = r.came }
+arrival_of r =
+    record { flow = r.flow; packet = r.packet; hop = r.hop; moment = r.arrival; size = r.size; came = r.came }
 
 -- a receipt of a packet's arrival at a hop, with a colour and not before a moment
 pub record IsReceipt (p : Packet) (since : ℕ) (came : Colour) (hop : Hop) (r : Receipt) : Type 0 where
@@ -46,8 +47,10 @@ pub record IsReceipt (p : Packet) (since : ℕ) (came : Colour) (hop : Hop) (r :
   pub arrival : arrival_of r.row ≡ arrival_at p hop r.row.arrival came
   pub in_time : since ≤ r.row.arrival
 
--- The receipts are those of the first hops in order. The packet comes to each as it left the one before, and not earlier.
+-- The receipts are those of the first hops in order. The packet comes to each as it left the one before, and not
+-- earlier.
 unfoldable pub IsTrail : Packet → ℕ → Colour → List Hop → List Receipt → Type 0
 IsTrail p since came hops [] = ⊤
 IsTrail p since came [] (r ∷ receipts) = ⊥
-IsTrail p since came (hop ∷ hops) (r ∷ receipts) = IsReceipt p since came hop r × IsTrail p r.row.arrival r.row.left hops receipts
+IsTrail p since came (hop ∷ hops) (r ∷ receipts) =
+    IsReceipt p since came hop r × IsTrail p r.row.arrival r.row.left hops receipts

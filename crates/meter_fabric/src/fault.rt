@@ -56,8 +56,8 @@ pub enum VisitFault {
 }
 
 impl VisitFault {
-    /// The fault's number: 1 for a path that has ended, 2 for a full journal, 3 for want of memory, 4 for a moment before
-    /// the last one.
+    /// The fault's number: 1 for a path that has ended, 2 for a full journal, 3 for want of memory, 4 for a moment
+    /// before the last one.
     pub fn code(&self) -> u8
         ensures { result ≡ visit_code self.now }
     {

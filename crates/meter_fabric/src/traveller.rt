@@ -1,7 +1,8 @@
 ghost use Rattle.std.specs.Prelude.{◌≡◌, ◌↔◌, None, Some, Ok, IfOk, IfErr, OnOk, OnErr, IsErrOf};
 ghost use Rattle.meter_fabric.specs.Grounds.{contract_of, ground_of};
 ghost use Rattle.meter_fabric.specs.Trails.{IsReceipt, IsTrail, arrival_at, packet_of};
-ghost use Rattle.meter_fabric.specs.Travels.{begun_of, comes_as, last_moment, next_hop, next_site, received, refusal_of, visit};
+ghost use Rattle.meter_fabric.specs.Travels.{begun_of, comes_as, last_moment, next_hop, next_site, received};
+ghost use Rattle.meter_fabric.specs.Travels.{refusal_of, visit};
 
 use crate::fault::{BeginFault, VisitFault};
 use crate::hop::{Hop, hops_of};
@@ -16,8 +17,8 @@ use std::marker::Model;
 
 /// A packet on its way, with the hops of its way and a receipt of each that it has visited.
 ///
-/// At all times its receipts are those of its first hops in order: each is of the hop's site and of this packet, which came
-/// in with the colour that it left the hop before with, and not before it arrived there.
+/// At all times its receipts are those of its first hops in order: each is of the hop's site and of this packet, which
+/// came in with the colour that it left the hop before with, and not before it arrived there.
 #[derive(Debug, Drop)]
 pub struct Traveller {
     trail: Trail,
@@ -40,8 +41,8 @@ impl Model for Traveller {
 impl Traveller {
     /// A packet of a contract at its beginning, with room for a receipt of each hop of its way.
     ///
-    /// Refused: `UnknownFlow` exactly where there is no contract of that number (none has one from `MOST_FLOWS` on), else
-    /// `NoMemory` where memory runs out.
+    /// Refused: `UnknownFlow` exactly where there is no contract of that number (none has one from `MOST_FLOWS` on),
+    /// else `NoMemory` where memory runs out.
     pub fn begin(
         alloc: Global,
         accepted: &Accepted,
@@ -122,12 +123,12 @@ impl Traveller {
             .map_or(first, |receipt| receipt.row.left)
     }
 
-    /// Visits a book at a moment, which should be the book of `next_site()`: the book notes the packet's arrival with the
-    /// colour of `comes_as()`, and the traveller keeps the row as one receipt more.
+    /// Visits a book at a moment, which should be the book of `next_site()`: the book notes the packet's arrival with
+    /// the colour of `comes_as()`, and the traveller keeps the row as one receipt more.
     ///
-    /// Refused, in this order: `PathEnded` at the end of its way, `BeforeLast` where the moment is before `last_moment()`,
-    /// `JournalFull` where the book has as many rows as it can take, `NoMemory` where memory runs out. Traveller and book are
-    /// then unchanged.
+    /// Refused, in this order: `PathEnded` at the end of its way, `BeforeLast` where the moment is before
+    /// `last_moment()`, `JournalFull` where the book has as many rows as it can take, `NoMemory` where memory runs out.
+    /// Traveller and book are then unchanged.
     pub fn step(
         mut self,
         book: &mut MeterBook,
@@ -186,7 +187,8 @@ impl Traveller {
     /// Keeps one receipt more: the row at the site of its next hop.
     fn receive(&mut self, hop: Hop, row: Row)
         requires next { next_hop self.old ≡ Some hop }
-        requires own { IsReceipt self.old.packet (last_moment self.old) (comes_as self.old) hop (record { site = hop.site; row = row }) }
+        requires own { IsReceipt self.old.packet (last_moment self.old) (comes_as self.old) hop
+            (record { site = hop.site; row = row }) }
         ensures { self.new ≡ received self.old hop row }
     {
         let site = hop.site;

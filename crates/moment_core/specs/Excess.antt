@@ -24,6 +24,7 @@ without l size Green = record l { committed = l.committed - size }
 without l size Yellow = record l { excess = l.excess - size }
 without l size Red = l
 
--- the rules of a meter with these two buckets, by its full buckets and what the tokens of a nanosecond do to their levels
+-- the rules of a meter with these two buckets, by its full buckets and what the tokens of a nanosecond do to their
+-- levels
 abbrev pub committed_or_excess : {P : Type 0} → (P → Levels) → (P → ℕ → ℕ → Levels → Levels) → Rules P Levels
 committed_or_excess full gain = record { full = full; gain = gain; coloured = coloured; without = without }

@@ -30,7 +30,8 @@ pub record Rules (P L : Type 0) : Type 0 where
 
 -- a meter as it begins: full buckets at its origin (RFC 2697 section 3, RFC 2698 section 3)
 unfoldable pub opening : {P L : Type 0} → Rules P L → P → Mode → ℕ → State P L
-opening rules p mode origin = record { parameters = p; mode = mode; origin = origin; newest = origin; levels = rules.full p }
+opening rules p mode origin =
+    record { parameters = p; mode = mode; origin = origin; newest = origin; levels = rules.full p }
 
 -- a meter never goes back: a packet is metered at its moment or at the newest one, whichever is later
 unfoldable pub used : ℕ → ℕ → ℕ
@@ -57,7 +58,8 @@ after rules m o = record m {
   levels = rules.without (levels_at rules m (used m.newest o.moment)) o.size (colour_of rules m o);
 }
 
--- the meter with the tokens of every nanosecond up to a moment or its newest one, as it is before a packet of that moment
+-- the meter with the tokens of every nanosecond up to a moment or its newest one, as it is before a packet of that
+-- moment
 unfoldable pub filled : {P L : Type 0} → Rules P L → State P L → ℕ → State P L
 filled rules m moment = record m { newest = used m.newest moment; levels = levels_at rules m (used m.newest moment) }
 
@@ -71,7 +73,8 @@ pub record How (S : Type 0) : Type 0 where
 abbrev pub how : {P L : Type 0} → Rules P L → How (State P L)
 how rules = record { newest = λ m. m.newest; left = colour_of rules; after = after rules }
 
--- a packet as it leaves a meter: the moment that it was metered at, its size, and the colours that it came and left with
+-- a packet as it leaves a meter: the moment that it was metered at, its size, and the colours that it came and left
+-- with
 pub record Departure : Type 0 where
   pub used : ℕ
   pub size : ℕ

@@ -2,8 +2,8 @@
 use Rattle.std.specs.Prelude.{ℕ, ◌+◌, ◌-◌, ◌*◌, ◌/◌, ◌%◌, zero, suc, nat_lt, if◌then◌else◌}
 use Rattle.std.specs.Fn.{iterate}
 
--- A token is a byte. A rate in bits per second gives one in 8 000 000 000 bit-nanoseconds (RFC 2697 section 3,
--- RFC 2698 section 3: the rates are measured in bytes per second), counted from the origin, so that no fraction is lost.
+-- A token is a byte. A rate in bits per second gives one in 8 000 000 000 bit-nanoseconds (RFC 2697 section 3, RFC 2698
+-- section 3: the rates are measured in bytes per second), counted from the origin, so that no fraction is lost.
 unfoldable pub given : ℕ → ℕ → ℕ → ℕ
 given rate origin moment = rate * (moment - origin) / 8000000000
 

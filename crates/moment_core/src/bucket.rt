@@ -79,9 +79,9 @@ impl Bucket {
     }
 }
 
-/// Takes a packet's bytes out of the bucket that its colour names, and answers that colour: green where it is seen green
-/// and the committed bucket has enough, else yellow where it is not seen red and the excess bucket has enough, else red
-/// (RFC 2697 section 3, RFC 4115).
+/// Takes a packet's bytes out of the bucket that its colour names, and answers that colour: green where it is seen
+/// green and the committed bucket has enough, else yellow where it is not seen red and the excess bucket has enough,
+/// else red (RFC 2697 section 3, RFC 4115).
 #[tactic(auto, unfolding(crate::specs::Excess::coloured, crate::specs::Excess::without))]
 pub fn take_committed_or_excess(
     committed: &mut Bucket,

@@ -29,8 +29,8 @@ pub fn tokens_between(rate: Rate, origin: Moment, begin: Moment, end: Moment) ->
 }
 
 /// The whole tokens that a rate gives over a gap beside the part of a token that it gave before, `carry`; from then on
-/// `carry` is the part that is over, in bit-nanoseconds. So no fraction is lost from one gap to the next. One division, in
-/// 64 bits where the bit-nanoseconds fit them.
+/// `carry` is the part that is over, in bit-nanoseconds. So no fraction is lost from one gap to the next. One division,
+/// in 64 bits where the bit-nanoseconds fit them.
 pub fn tokens_over(rate: Rate, gap: Gap, carry: &mut u64) -> u128
     ensures tokens { result ≡ (rate * gap + carry.old) / 8000000000 }
     ensures carry { carry.new ≡ (rate * gap + carry.old) % 8000000000 }

@@ -1,7 +1,9 @@
 -- The numbers of the faults.
 use Rattle.std.specs.Prelude.{ℕ}
 use Rattle.pcap_capture.specs.declared.fault.PcapFault.{PcapFault}
-use Rattle.pcap_capture.specs.declared.fault.PcapFault.TheVariants.{NotPcap, IsPcapng, BadVersion, LinkType, RecordTooLong, Truncated, ReadFault, WriteFault, NoMemory, Failed}
+use Rattle.pcap_capture.specs.declared.fault.PcapFault.TheVariants.{NotPcap, IsPcapng, BadVersion, LinkType}
+use Rattle.pcap_capture.specs.declared.fault.PcapFault.TheVariants.{RecordTooLong, Truncated, ReadFault, WriteFault}
+use Rattle.pcap_capture.specs.declared.fault.PcapFault.TheVariants.{NoMemory, Failed}
 
 abbrev pub code_of : PcapFault → ℕ
 code_of NotPcap = 1

@@ -1,9 +1,12 @@
 -- The classic capture format: which frames stand in a list of bytes, and the first fault, if any.
-use Rattle.std.specs.Prelude.{◌≡◌, ◌⊎◌, ℕ, zero, suc, ◌+◌, ◌-◌, ◌*◌, ◌%◌, min, Bool, nat_eq, nat_lt, ◌&&◌, if◌then◌else◌, List, [], ◌∷◌, ◌++◌, length, take, drop, Option, None, Some, Result, Ok, Err}
+use Rattle.std.specs.Prelude.{◌≡◌, ◌⊎◌, ℕ, zero, suc, ◌+◌, ◌-◌, ◌*◌, ◌%◌, min, Bool, nat_eq, nat_lt, ◌&&◌}
+use Rattle.std.specs.Prelude.{if◌then◌else◌, List, [], ◌∷◌, ◌++◌, length, take, drop, Option, None, Some, Result, Ok}
+use Rattle.std.specs.Prelude.{Err}
 use Rattle.byteorder.specs.Endian.{big_number, little_number}
 use Rattle.pcap_capture.specs.Frames.{FrameValue}
 use Rattle.pcap_capture.specs.declared.fault.PcapFault.{PcapFault}
-use Rattle.pcap_capture.specs.declared.fault.PcapFault.TheVariants.{NotPcap, IsPcapng, BadVersion, LinkType, RecordTooLong, Truncated, NoMemory, Failed}
+use Rattle.pcap_capture.specs.declared.fault.PcapFault.TheVariants.{NotPcap, IsPcapng, BadVersion, LinkType}
+use Rattle.pcap_capture.specs.declared.fault.PcapFault.TheVariants.{RecordTooLong, Truncated, NoMemory, Failed}
 use Rattle.pcap_capture.specs.declared.heading.Endianness.{Endianness}
 use Rattle.pcap_capture.specs.declared.heading.Endianness.TheVariants.{Big, Little}
 use Rattle.pcap_capture.specs.declared.heading.Heading.{Heading}
@@ -31,7 +34,10 @@ magic_of bytes =
 -- the link types that are read, by their numbers
 unfoldable pub link_of : ℕ → Option Link
 link_of kind =
-    if nat_eq kind 1 then Some Ethernet else if nat_eq kind 101 then Some RawIp else if nat_eq kind 228 then Some Ipv4 else None
+    if nat_eq kind 1 then
+    Some Ethernet
+    else
+    if nat_eq kind 101 then Some RawIp else if nat_eq kind 228 then Some Ipv4 else None
 
 -- the low 16 bits of the heading's last word
 abbrev pub link_number : Endianness → List ℕ → ℕ
@@ -72,7 +78,8 @@ nanoseconds Nanoseconds = 1
 
 -- the moment of a record: its seconds, and its fraction, whatever that is
 abbrev pub moment_of : Heading → List ℕ → ℕ
-moment_of heading bytes = number heading.order 4 bytes * 1000000000 + number heading.order 4 (drop 4 bytes) * nanoseconds heading.unit
+moment_of heading bytes =
+    number heading.order 4 bytes * 1000000000 + number heading.order 4 (drop 4 bytes) * nanoseconds heading.unit
 
 -- what stands at the front of a list of bytes: less than a record, one with more bytes than are read, or a frame and
 -- what comes after it
@@ -82,7 +89,9 @@ pub data Next : Type 0 where
   Whole : FrameValue → List ℕ → Next
 
 abbrev pub frame_of : Heading → List ℕ → FrameValue
-frame_of heading bytes = record { head = take 16 bytes; moment = moment_of heading bytes; bytes = take (captured heading bytes) (drop 16 bytes) }
+frame_of heading bytes =
+    record { head = take 16 bytes; moment = moment_of heading bytes; bytes = take (captured heading bytes)
+    (drop 16 bytes) }
 
 unfoldable pub next_of : Heading → List ℕ → Next
 next_of heading bytes =
@@ -184,7 +193,8 @@ continued read more = continued_from read.fault read more
 
 -- Frames and a state are what the grammar makes of the bytes so far, behind frames that were there before.
 abbrev pub IsSoFar : List ℕ → List FrameValue → CaptureState → List FrameValue → Type 0
-IsSoFar bytes before state frames = record { frames = frames; fault = None; state = state } ≡ prepend before (capture bytes)
+IsSoFar bytes before state frames =
+    record { frames = frames; fault = None; state = state } ≡ prepend before (capture bytes)
 
 -- a fault that ends a reading: its own, with all its frames, or want of memory, with some of its first frames
 abbrev pub Stops : Reading → List FrameValue → PcapFault → Type 0

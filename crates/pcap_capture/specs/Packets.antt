@@ -1,5 +1,6 @@
 -- Where the IPv4 packet starts in the bytes of a frame.
-use Rattle.std.specs.Prelude.{ℕ, zero, suc, ◌+◌, Bool, nat_eq, nat_lt, ◌||◌, if◌then◌else◌, List, length, drop, Option, None, Some}
+use Rattle.std.specs.Prelude.{ℕ, zero, suc, ◌+◌, Bool, nat_eq, nat_lt, ◌||◌, if◌then◌else◌, List, length, drop, Option}
+use Rattle.std.specs.Prelude.{None, Some}
 use Rattle.byteorder.specs.Endian.{big_number}
 use Rattle.pcap_capture.specs.declared.heading.Link.{Link}
 use Rattle.pcap_capture.specs.declared.heading.Link.TheVariants.{Ethernet, RawIp, Ipv4}

@@ -139,8 +139,8 @@ fn after_magic_number(bytes: &[u8], order: Endianness, unit: TimeUnit) -> Result
 
 /// The heading at the front of a capture; `None` where more of it is to come.
 ///
-/// Refused: `NotPcap` or `IsPcapng` by the first four bytes, as soon as they are there; then, once all 24 bytes are there,
-/// `BadVersion` for another version than 2.4, and `LinkType` for a link type that is not read.
+/// Refused: `NotPcap` or `IsPcapng` by the first four bytes, as soon as they are there; then, once all 24 bytes are
+/// there, `BadVersion` for another version than 2.4, and `LinkType` for a link type that is not read.
 #[tactic(auto, unfolding(crate::specs::Grammar::heading_of))]
 pub(crate) fn heading_at_front(bytes: &[u8]) -> Option<Result<Heading, PcapFault>>
     ensures { result ≡ heading_of bytes.now }

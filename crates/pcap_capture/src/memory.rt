@@ -1,4 +1,5 @@
-ghost use Rattle.std.specs.Prelude.{◌≡◌, ◌+◌, ◌-◌, ◌^◌, ◌↔◌, ◌⊎◌, ◌++◌, ◌<◌, ◌≤◌, [], length, vec_len, vec_capacity, take, min, max, is_ok, if◌then◌else◌, IfOk, IsErr, OnErr, MatchResult};
+ghost use Rattle.std.specs.Prelude.{◌≡◌, ◌+◌, ◌-◌, ◌^◌, ◌↔◌, ◌⊎◌, ◌++◌, ◌<◌, ◌≤◌, [], length, vec_len, vec_capacity};
+ghost use Rattle.std.specs.Prelude.{take, min, max, is_ok, if◌then◌else◌, IfOk, IsErr, OnErr, MatchResult};
 ghost use Rattle.pcap_capture.specs.Counts.{next_count};
 
 use super::device::{DeviceFault, Intake, Outlet};
@@ -44,18 +45,20 @@ impl Intake for SliceIntake<'_> {
 
     ghost turns = { λ intake. intake.turns };
 
-    /// The call `fails_at` fails, and no other. Every other call gives as many bytes as there are, as there is room for, and
-    /// as one may give.
+    /// The call `fails_at` fails, and no other. Every other call gives as many bytes as there are, as there is room
+    /// for, and as one may give.
     fn take(&mut self, buffer: &mut [u8]) -> Result<usize, DeviceFault>
         ensures within { IfOk result (λ taken. taken ≤ length buffer.new) }
         ensures end { IfOk result (λ taken. taken ≡ 0 → 0 < length buffer.new → self.new.bytes.now ≡ []) }
         ensures asked { self.new.turns ≡ next_count self.old.turns }
         ensures fails { IsErr result ↔ (self.old.fails_at ≡ Some self.new.turns) }
-        ensures taken { IfOk result (λ taken. taken ≡ min (max self.old.most 1) (min (length self.old.bytes.now) (length buffer.old))) }
+        ensures taken { IfOk result
+            (λ taken. taken ≡ min (max self.old.most 1) (min (length self.old.bytes.now) (length buffer.old))) }
         ensures bytes { MatchResult result
             (λ taken. self.old.bytes.now ≡ take taken buffer.new ++ self.new.bytes.now)
             (λ _. self.new.bytes.now ≡ self.old.bytes.now) }
-        ensures failures { self.new.failures ≡ (if is_ok result then self.old.failures else next_count self.old.failures) }
+        ensures failures { self.new.failures
+            ≡ (if is_ok result then self.old.failures else next_count self.old.failures) }
         ensures settings { (self.new.most ≡ self.old.most) × (self.new.fails_at ≡ self.old.fails_at) }
     {
         self.turns = self.turns.wrapping_add(1);
@@ -115,8 +118,8 @@ impl Outlet for VecOutlet {
 
     ghost failed = { λ outlet. outlet.failures };
 
-    /// The call `fails_at` fails, and else none but one that had to grow what it holds. Every other call takes the whole
-    /// piece, or as many bytes as one may take.
+    /// The call `fails_at` fails, and else none but one that had to grow what it holds. Every other call takes the
+    /// whole piece, or as many bytes as one may take.
     fn give(&mut self, piece: &[u8]) -> Result<usize, DeviceFault>
         ensures within { IfOk result (λ given. given ≤ length piece.now) }
         ensures moves { IfOk result (λ given. 0 < length piece.now → 0 < given) }
@@ -127,7 +130,8 @@ impl Outlet for VecOutlet {
         ensures bytes { MatchResult result
             (λ given. self.new.bytes.items ≡ self.old.bytes.items ++ take given piece.now)
             (λ _. self.new.bytes.items ≡ self.old.bytes.items) }
-        ensures failures { self.new.failures ≡ (if is_ok result then self.old.failures else next_count self.old.failures) }
+        ensures failures { self.new.failures
+            ≡ (if is_ok result then self.old.failures else next_count self.old.failures) }
         ensures asked { self.new.turns ≡ next_count self.old.turns }
         ensures settings { (self.new.most ≡ self.old.most) × (self.new.fails_at ≡ self.old.fails_at) }
     {

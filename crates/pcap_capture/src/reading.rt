@@ -1,6 +1,7 @@
 ghost use Rattle.std.specs.Prelude.{◌≡◌, ℕ, List, ◌++◌, [], None, Some, IfErr, IfOk, OnOk, MatchResult};
 ghost use Rattle.pcap_capture.specs.Frames.{FrameValue};
-ghost use Rattle.pcap_capture.specs.Grammar.{CaptureState, IsSettled, IsSoFar, Reading, continued, Stops, broken, capture, ending, fault_in, heading_of, prepend, reading};
+ghost use Rattle.pcap_capture.specs.Grammar.{CaptureState, IsSettled, IsSoFar, Reading, continued, Stops, broken};
+ghost use Rattle.pcap_capture.specs.Grammar.{capture, ending, fault_in, heading_of, prepend, reading};
 
 use crate::fault::PcapFault;
 use crate::frame::Frame;
@@ -52,8 +53,11 @@ impl Capture {
     ) -> Result<(), PcapFault>
         ensures ok { OnOk result (record { frames = out.new.items; fault = None; state = self.new }
             ≡ prepend out.old.items (reading self.old piece.now)) }
-        ensures err { IfErr result (λ fault. (self.new ≡ broken) × Stops (prepend out.old.items (reading self.old piece.now)) out.new.items fault) }
-        ensures so_far { (bytes : List ℕ) (before : List FrameValue) → IsSoFar bytes before self.old out.old.items → MatchResult result
+        ensures err { IfErr result
+            (λ fault. (self.new ≡ broken) × Stops (prepend out.old.items (reading self.old piece.now)) out.new.items
+            fault) }
+        ensures so_far { (bytes : List ℕ) (before : List FrameValue) → IsSoFar bytes before self.old out.old.items
+            → MatchResult result
             (λ _. IsSoFar (bytes ++ piece.now) before self.new out.new.items)
             (λ fault. Stops (prepend before (capture (bytes ++ piece.now))) out.new.items fault) }
     {
@@ -68,7 +72,9 @@ impl Capture {
     ) -> Result<(), PcapFault>
         ensures ok { OnOk result (record { frames = out.new.items; fault = None; state = self.new }
             ≡ prepend out.old.items (reading self.old piece.now)) }
-        ensures err { IfErr result (λ fault. (self.new ≡ broken) × Stops (prepend out.old.items (reading self.old piece.now)) out.new.items fault) }
+        ensures err { IfErr result
+            (λ fault. (self.new ≡ broken) × Stops (prepend out.old.items (reading self.old piece.now)) out.new.items
+            fault) }
     {
         let read = match self.stage {
             Stage::Opening => read_heading(alloc, &mut self.rest, piece, out),
@@ -99,7 +105,8 @@ impl Capture {
         ensures state { MatchResult result
             (λ _. (ending self.old ≡ None) × (self.new ≡ self.old))
             (λ fault. (ending self.old ≡ Some fault) × (self.new ≡ broken)) }
-        ensures so_far { (bytes : List ℕ) (before frames : List FrameValue) → IsSoFar bytes before self.old frames → MatchResult result
+        ensures so_far { (bytes : List ℕ) (before frames : List FrameValue) → IsSoFar bytes before self.old frames
+            → MatchResult result
             (λ _. fault_in bytes ≡ None)
             (λ fault. fault_in bytes ≡ Some fault) }
     {
@@ -137,10 +144,16 @@ fn read_heading(
     out: &mut Vec<Frame>,
 ) -> Result<Stage, PcapFault>
     requires { heading_of rest.old.items ≡ None }
-    ensures ok { IfOk result (λ stage. record { frames = out.new.items; fault = None; state = record { stage = stage; rest = rest.new.items } }
+    ensures ok { IfOk result
+        (λ stage. record {
+          frames = out.new.items;
+          fault = None;
+          state = record { stage = stage; rest = rest.new.items };
+        }
         ≡ prepend out.old.items (capture (rest.old.items ++ piece.now))) }
     ensures settled { IfOk result (λ stage. IsSettled stage rest.new.items) }
-    ensures err { IfErr result (λ fault. Stops (prepend out.old.items (capture (rest.old.items ++ piece.now))) out.new.items fault) }
+    ensures err { IfErr result
+        (λ fault. Stops (prepend out.old.items (capture (rest.old.items ++ piece.now))) out.new.items fault) }
 {
     let Ok(left) = draw(rest, piece, 24) else {
         return Err(PcapFault::NoMemory);
@@ -159,5 +172,6 @@ fn read_heading(
 /// A law of captures: the frames, the fault and how it goes on are the same wherever the bytes are cut.
 #[tactic(auto, using(crate::proofs::CutLaws::reading_cut))]
 pub fn wherever_it_is_cut()
-    ensures { (state : CaptureState) (front back : List ℕ) → reading state (front ++ back) ≡ continued (reading state front) back }
+    ensures { (state : CaptureState) (front back : List ℕ)
+        → reading state (front ++ back) ≡ continued (reading state front) back }
 {}

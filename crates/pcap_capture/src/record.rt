@@ -10,7 +10,8 @@ use std::alloc::{AllocError, Global};
 /// The most captured bytes of a record that is read.
 const MOST_CAPTURED: u32 = 262_144;
 
-/// The bytes of the record at the front: 16 where no more is known of it, since its own sixteen bytes are not all there.
+/// The bytes of the record at the front: 16 where no more is known of it, since its own sixteen bytes are not all
+/// there.
 ///
 /// Refused: `RecordTooLong` for more than 262,144 captured bytes.
 #[tactic(auto, unfolding(crate::specs::Grammar::record_size))]
@@ -77,8 +78,10 @@ fn complete_body<'a>(
     requires room { (size : ℕ) → record_size heading.now rest.old.items ≡ Ok size → length rest.old.items ≤ size }
     ensures ok { IfOk result (λ left. prepend out.new.items (records heading.now (rest.new.items ++ left.now))
         ≡ prepend out.old.items (records heading.now (rest.old.items ++ piece.now))) }
-    ensures settled { IfOk result (λ left. (rest.new.items ≡ []) ⊎ ((left.now ≡ []) × (next_of heading.now rest.new.items ≡ Partial))) }
-    ensures err { IfErr result (λ fault. Stops (prepend out.old.items (records heading.now (rest.old.items ++ piece.now))) out.new.items fault) }
+    ensures settled { IfOk result
+        (λ left. (rest.new.items ≡ []) ⊎ ((left.now ≡ []) × (next_of heading.now rest.new.items ≡ Partial))) }
+    ensures err { IfErr result
+        (λ fault. Stops (prepend out.old.items (records heading.now (rest.old.items ++ piece.now))) out.new.items fault) }
 {
     let size = size_of_record(heading, rest)?;
     let Ok(left) = draw(rest, piece, size) else {
@@ -103,8 +106,10 @@ fn complete<'a>(
     requires { next_of heading.now rest.old.items ≡ Partial }
     ensures ok { IfOk result (λ left. prepend out.new.items (records heading.now (rest.new.items ++ left.now))
         ≡ prepend out.old.items (records heading.now (rest.old.items ++ piece.now))) }
-    ensures settled { IfOk result (λ left. (rest.new.items ≡ []) ⊎ ((left.now ≡ []) × (next_of heading.now rest.new.items ≡ Partial))) }
-    ensures err { IfErr result (λ fault. Stops (prepend out.old.items (records heading.now (rest.old.items ++ piece.now))) out.new.items fault) }
+    ensures settled { IfOk result
+        (λ left. (rest.new.items ≡ []) ⊎ ((left.now ≡ []) × (next_of heading.now rest.new.items ≡ Partial))) }
+    ensures err { IfErr result
+        (λ fault. Stops (prepend out.old.items (records heading.now (rest.old.items ++ piece.now))) out.new.items fault) }
 {
     let Ok(left) = draw(rest, piece, 16) else {
         return Err(PcapFault::NoMemory);
@@ -125,7 +130,8 @@ fn take_whole<'a>(
     ensures ok { IfOk result (λ left. prepend out.new.items (records heading.now left.now)
         ≡ prepend out.old.items (records heading.now piece.now)) }
     ensures settled { IfOk result (λ left. next_of heading.now left.now ≡ Partial) }
-    ensures err { IfErr result (λ fault. Stops (prepend out.old.items (records heading.now piece.now)) out.new.items fault) }
+    ensures err { IfErr result
+        (λ fault. Stops (prepend out.old.items (records heading.now piece.now)) out.new.items fault) }
 {
     let mut left = piece;
     loop {
@@ -148,10 +154,17 @@ pub(crate) fn read_whole(
     out: &mut Vec<Frame>,
 ) -> Result<(), PcapFault>
     requires { rest.old.items ≡ [] }
-    ensures ok { OnOk result (record { frames = out.new.items; fault = None; state = record { stage = Stage.Records heading.now; rest = rest.new.items } }
+    ensures ok { OnOk result
+        (record {
+          frames = out.new.items;
+          fault = None;
+          state =
+              record { stage = Stage.Records heading.now; rest = rest.new.items };
+        }
         ≡ prepend out.old.items (records heading.now piece.now)) }
     ensures settled { OnOk result (next_of heading.now rest.new.items ≡ Partial) }
-    ensures err { IfErr result (λ fault. Stops (prepend out.old.items (records heading.now piece.now)) out.new.items fault) }
+    ensures err { IfErr result
+        (λ fault. Stops (prepend out.old.items (records heading.now piece.now)) out.new.items fault) }
 {
     let left = take_whole(alloc, heading, piece, out)?;
     rest.extend_from_slice(left)
@@ -167,10 +180,17 @@ pub(crate) fn read_records(
     out: &mut Vec<Frame>,
 ) -> Result<(), PcapFault>
     requires { next_of heading.now rest.old.items ≡ Partial }
-    ensures ok { OnOk result (record { frames = out.new.items; fault = None; state = record { stage = Stage.Records heading.now; rest = rest.new.items } }
+    ensures ok { OnOk result
+        (record {
+          frames = out.new.items;
+          fault = None;
+          state =
+              record { stage = Stage.Records heading.now; rest = rest.new.items };
+        }
         ≡ prepend out.old.items (records heading.now (rest.old.items ++ piece.now))) }
     ensures settled { OnOk result (next_of heading.now rest.new.items ≡ Partial) }
-    ensures err { IfErr result (λ fault. Stops (prepend out.old.items (records heading.now (rest.old.items ++ piece.now))) out.new.items fault) }
+    ensures err { IfErr result
+        (λ fault. Stops (prepend out.old.items (records heading.now (rest.old.items ++ piece.now))) out.new.items fault) }
 {
     if rest.is_empty() {
         return read_whole(alloc, heading, rest, piece, out);

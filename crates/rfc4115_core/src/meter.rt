@@ -92,8 +92,10 @@ impl Rfc4115 {
     /// Meters a packet of a moment and a size that comes in with a colour, and answers the colour that it leaves
     /// with (RFC 4115). A moment before the newest one counts as the newest.
     pub fn admit(&mut self, moment: Moment, size: PacketSize, colour: Colour) -> Colour
-        ensures colour { result ≡ colour_of separate_rates self.old (record { moment = moment; size = size; came = colour }) }
-        ensures after { self.new ≡ after separate_rates self.old (record { moment = moment; size = size; came = colour }) }
+        ensures colour { result
+            ≡ colour_of separate_rates self.old (record { moment = moment; size = size; came = colour }) }
+        ensures after { self.new
+            ≡ after separate_rates self.old (record { moment = moment; size = size; came = colour }) }
     {
         self.fill_to(moment);
         let seen = self.mode.seen(colour);

@@ -1,5 +1,5 @@
--- What stands against journals and trails: in this order, a mismatch of the journals, then the first trail that is wrong, then
--- rows that no trail tells.
+-- What stands against journals and trails: in this order, a mismatch of the journals, then the first trail that is
+-- wrong, then rows that no trail tells.
 use Rattle.std.specs.Prelude.{◌≡◌, ◌⊎◌, List, ◌∷◌, ◌++◌, All, AllPairs, Contains, IsPermutation, Some, slice_get}
 use Rattle.meter_book.specs.Replay.{Journal, journal_rows}
 use Rattle.meter_fabric.specs.Grounds.{Ground}
@@ -10,7 +10,8 @@ use Rattle.run_audit.specs.declared.fault.AssembleFault.TheVariants.{Mismatch, U
 
 -- a receipt's row stands in a journal of its site, at its place
 abbrev pub IsNoted : List Journal → Receipt → Type 0
-IsNoted journals r = (j : Journal) × Contains journals j × (j.site ≡ r.site) × (slice_get (journal_rows j) r.row.place ≡ Some r.row)
+IsNoted journals r =
+    (j : Journal) × Contains journals j × (j.site ≡ r.site) × (slice_get (journal_rows j) r.row.place ≡ Some r.row)
 
 -- what a packet carries is what its contract has it carry, and what the journals noted
 abbrev pub IsSound : Ground → List Journal → Passage → Type 0
@@ -22,7 +23,8 @@ IsNew front p = All (λ q. ¬ (q.packet.number ≡ p.packet.number)) front
 
 -- each packet is sound, and has a number of its own
 abbrev pub AreSound : Ground → List Journal → List Passage → Type 0
-AreSound g journals passages = All (IsSound g journals) passages × AllPairs (λ p q. ¬ (p.packet.number ≡ q.packet.number)) passages
+AreSound g journals passages =
+    All (IsSound g journals) passages × AllPairs (λ p q. ¬ (p.packet.number ≡ q.packet.number)) passages
 
 -- the first packet of a run that is not sound or not new, and those in front of it
 pub record IsFirstWrong (g : Ground) (run : Run) (Wrong : List Passage → Passage → Type 0) : Type 0 where

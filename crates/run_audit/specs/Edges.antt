@@ -6,4 +6,5 @@ use Rattle.run_audit_base.specs.Sendings.{Sending}
 -- a policed packet is sent by its edge, whose receipt is its first
 abbrev pub edge_sending : List Receipt → Option Sending
 edge_sending [] = None
-edge_sending (edge ∷ receipts) = Some (record { moment = edge.row.arrival; colour = edge.row.left; receipts = receipts })
+edge_sending (edge ∷ receipts) =
+    Some (record { moment = edge.row.arrival; colour = edge.row.left; receipts = receipts })

@@ -13,7 +13,10 @@ unfoldable pub untimely_hop : Domain → List ℕ → List (List ℕ) → ℕ �
 untimely_hop d from path moment [] = None
 untimely_hop d from [] moment (r ∷ receipts) = None
 untimely_hop d from (to ∷ path) moment (r ∷ receipts) =
-    if is_over (link_of d from to) moment r.row.arrival then untimely_hop d to path r.row.arrival receipts else Some r.row.hop
+    if is_over (link_of d from to) moment r.row.arrival then
+    untimely_hop d to path r.row.arrival receipts
+    else
+    Some r.row.hop
 
 abbrev pub delayed_hop : Domain → ℕ → Contract → Sending → Option Verdict
 delayed_hop d packet c s = option_map (λ hop. DelayOver packet hop) (untimely_hop d c.port c.path s.moment s.receipts)

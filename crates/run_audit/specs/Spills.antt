@@ -1,5 +1,6 @@
 -- The overflow of a source's bucket, over packets that stand contract by contract as they are sent.
-use Rattle.std.specs.Prelude.{ℕ, ◌+◌, ◌*◌, nat_le, nat_lt, if◌then◌else◌, List, [], ◌∷◌, take, drop, option_map, Option, None, Some}
+use Rattle.std.specs.Prelude.{ℕ, ◌+◌, ◌*◌, nat_le, nat_lt, if◌then◌else◌, List, [], ◌∷◌, take, drop, option_map, Option}
+use Rattle.std.specs.Prelude.{None, Some}
 use Rattle.std.specs.List.{prefix_len}
 use Rattle.envelope_core.specs.Curve.{Curve}
 use Rattle.envelope_core.specs.LeakyBucket.{filled}
@@ -20,8 +21,8 @@ use Rattle.run_audit.specs.declared.verdict.Verdict.TheVariants.{SourceOver}
 abbrev pub poured : Curve → ℕ → ℕ → Passage → ℕ
 poured curve level since p = filled curve.rate level since (p.packet.begun, p.packet.size)
 
--- The packet at which the bucket of a trusted contract overflows for the first time, which had a level at a moment. Packets that
--- a column does not count pass it by.
+-- The packet at which the bucket of a trusted contract overflows for the first time, which had a level at a moment.
+-- Packets that a column does not count pass it by.
 unfoldable pub spilled : Curve → Column → Contract → ℕ → ℕ → List Passage → Option Passage
 spilled curve column c level since [] = None
 spilled curve column c level since (p ∷ ps) =
@@ -33,7 +34,8 @@ spilled curve column c level since (p ∷ ps) =
 
 abbrev pub spilled_in : Domain → Contract → List Passage → Column → Option Verdict
 spilled_in d c own column =
-    option_map (λ p. SourceOver p.packet.flow column p.packet.number) (spilled (curve_in column (source_of d c)) column c 0 0 own)
+    option_map (λ p. SourceOver p.packet.flow column p.packet.number)
+        (spilled (curve_in column (source_of d c)) column c 0 0 own)
 
 abbrev pub spilled_by : Terms → Domain → Contract → List Passage → Option Verdict
 spilled_by (Trusted committed peak) d c own = first_of (spilled_in d c own Green) (spilled_in d c own All)
@@ -47,4 +49,5 @@ own_length flow passages = prefix_len (λ p. nat_le p.packet.flow flow) passages
 unfoldable pub spilled_from : Domain → ℕ → List Contract → List Passage → Option Verdict
 spilled_from d flow [] passages = None
 spilled_from d flow (c ∷ cs) passages =
-    first_of (spilled_by c.terms d c (take (own_length flow passages) passages)) (spilled_from d (flow + 1) cs (drop (own_length flow passages) passages))
+    first_of (spilled_by c.terms d c (take (own_length flow passages) passages))
+        (spilled_from d (flow + 1) cs (drop (own_length flow passages) passages))

@@ -1,5 +1,6 @@
 -- The verdict on a run: the first premise that it broke, in the order of time, source, link and skew.
-use Rattle.std.specs.Prelude.{ℕ, suc, ◌+◌, ◌&&◌, ◌||◌, nat_eq, nat_le, nat_lt, Bool, true, false, if◌then◌else◌, List, [], ◌∷◌, filter, slice_get, option_map, option_and_then, unwrap_or, Option, None, Some}
+use Rattle.std.specs.Prelude.{ℕ, suc, ◌+◌, ◌&&◌, ◌||◌, nat_eq, nat_le, nat_lt, Bool, true, false, if◌then◌else◌, List}
+use Rattle.std.specs.Prelude.{[], ◌∷◌, filter, slice_get, option_map, option_and_then, unwrap_or, Option, None, Some}
 use Rattle.std.specs.Map.{keys_of}
 use Rattle.std.specs.Option.{option_map_or}
 use Rattle.moment_core.specs.declared.colour.Colour.{Colour}
@@ -80,11 +81,13 @@ was_sent_as picked sending = option_map_or (λ s. picked s.colour) sending false
 
 -- the packets of a contract that a column counts, as they were sent
 abbrev pub sent_in : Column → Contract → List Passage → List Passage
-sent_in column c passages = in_order is_begun_before (filter (λ p. was_sent_as (counts_in column) (sending_of c p)) passages)
+sent_in column c passages =
+    in_order is_begun_before (filter (λ p. was_sent_as (counts_in column) (sending_of c p)) passages)
 
 -- The packet with which a contract's bucket overflows for the first time.
 abbrev pub overflowing : Curve → Column → Contract → List Passage → Option Passage
-overflowing curve column c sent = option_and_then (slice_get sent) (overflow_of curve.rate curve.burst (sent_items (counts_in column) c sent))
+overflowing curve column c sent =
+    option_and_then (slice_get sent) (overflow_of curve.rate curve.burst (sent_items (counts_in column) c sent))
 
 abbrev pub over_in : Ground → Run → ℕ → Contract → Column → Option Verdict
 over_in g run flow c column =
@@ -110,7 +113,8 @@ abbrev pub is_over : Option Link → ℕ → ℕ → Bool
 is_over link moment arrival =
     nat_le (moment + floor_of link) arrival && nat_le arrival (moment + floor_of link + jitter_of link)
 
--- the first hop to which a packet at a name at a moment did not go on in time, along a path to the first hop of this number
+-- the first hop to which a packet at a name at a moment did not go on in time, along a path to the first hop of this
+-- number
 unfoldable pub untimely : Domain → ℕ → List ℕ → List (List ℕ) → ℕ → List Receipt → Option ℕ
 untimely d hop from path moment [] = None
 untimely d hop from [] moment (r ∷ receipts) = None
@@ -136,4 +140,5 @@ skew_of_run run = first_found (λ j. first_found (late_row j) (journal_rows j)) 
 -- The verdict: kept, where nothing is found against any premise.
 abbrev pub verdict_of : Ground → Run → Verdict
 verdict_of g run =
-    unwrap_or (first_of (time_of g run) (first_of (source_of_run g run) (first_of (link_of_run g run) (skew_of_run run)))) Kept
+    unwrap_or (first_of (time_of g run)
+        (first_of (source_of_run g run) (first_of (link_of_run g run) (skew_of_run run)))) Kept

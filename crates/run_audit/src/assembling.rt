@@ -17,19 +17,21 @@ use std::alloc::Global;
 impl<'a> Run<'a> {
     /// The run of an accepted table that journals and trails tell, which may stand in any order.
     ///
-    /// Refused, and handed back, in this order: `Mismatch` where the journals are not one for each site (a meter, or the edge
-    /// of a policed contract) with the meter and the skew that it opens with; then for the first trail that is wrong
-    /// `Doubled` where a trail in front of it has its packet's number, else `Mismatch` where there is no contract of its
-    /// number, or its receipts are not rows of the journals that a packet of the contract carries away from its first hops;
-    /// then `Untold` where a row of a journal is told by no trail. `NoMemory` where memory runs out.
+    /// Refused, and handed back, in this order: `Mismatch` where the journals are not one for each site (a meter, or
+    /// the edge of a policed contract) with the meter and the skew that it opens with; then for the first trail that is
+    /// wrong `Doubled` where a trail in front of it has its packet's number, else `Mismatch` where there is no contract
+    /// of its number, or its receipts are not rows of the journals that a packet of the contract carries away from its
+    /// first hops; then `Untold` where a row of a journal is told by no trail. `NoMemory` where memory runs out.
     pub fn assemble(
         alloc: Global,
         accepted: &'a Accepted,
         journals: Vec<Journal>,
         trails: Vec<Trail>,
     ) -> Result<Run<'a>, (Vec<Journal>, Vec<Trail>, AssembleFault)>
-        ensures run { IfOk result (λ run. run ≡ record { basis = ground_of accepted.now; run = run_of journals.items trails.items }) }
-        ensures refused { IfErr result (λ refused. IsRefusal (ground_of accepted.now) (run_of journals.items trails.items) refused.2) }
+        ensures run { IfOk result
+            (λ run. run ≡ record { basis = ground_of accepted.now; run = run_of journals.items trails.items }) }
+        ensures refused { IfErr result
+            (λ refused. IsRefusal (ground_of accepted.now) (run_of journals.items trails.items) refused.2) }
         ensures back { IfErr result (λ refused. (refused.0 ≡ journals) × (refused.1 ≡ trails)) }
     {
         match judge(alloc, accepted, journals.as_slice(), trails.as_slice()) {

@@ -2,7 +2,8 @@ ghost use Rattle.std.specs.Prelude.{◌≡◌, ◌↔◌, IfOk, map};
 ghost use Rattle.run_audit_base.specs.KeptColours.{ColoursKept};
 ghost use Rattle.run_audit_base.specs.Premises.{Premises};
 ghost use Rattle.run_audit.specs.Assembled.{passage_of};
-ghost use Rattle.run_audit.specs.Verdicts.{by_number, first_of, link_of_run, skew_of_run, source_of_run, time_of, verdict_of};
+ghost use Rattle.run_audit.specs.Verdicts.{by_number, first_of, link_of_run, skew_of_run, source_of_run, time_of};
+ghost use Rattle.run_audit.specs.Verdicts.{verdict_of};
 
 use crate::links::first_delayed;
 use crate::orders::{by_contract, by_number, by_site};
@@ -16,14 +17,15 @@ use std::alloc::{AllocError, Global};
 
 /// Judges a run: whether it kept what its table rests on, or the first premise that it broke, with its place.
 ///
-/// Premises are judged in this order: the time of contracts (packets by their numbers), the envelopes of trusted sources
-/// (contracts in order, green packets before green and yellow ones, each as they were sent), the floors and jitters of links
-/// (packets by their numbers, hops in order), and the skews of meters (sites and places in order). `AllocError` where memory
-/// runs out.
+/// Premises are judged in this order: the time of contracts (packets by their numbers), the envelopes of trusted
+/// sources (contracts in order, green packets before green and yellow ones, each as they were sent), the floors and
+/// jitters of links (packets by their numbers, hops in order), and the skews of meters (sites and places in order).
+/// `AllocError` where memory runs out.
 ///
-/// Where the checker accepts a domain, its contracts and their certificate, then in every run of its meters by any workers in
-/// any order, in which trusted sources keep their buckets, links keep their jitter and meters their skew, every packet sent
-/// within its committed contract leaves every meter green and none within its peak contract leaves one red.
+/// Where the checker accepts a domain, its contracts and their certificate, then in every run of its meters by any
+/// workers in any order, in which trusted sources keep their buckets, links keep their jitter and meters their skew,
+/// every packet sent within its committed contract leaves every meter green and none within its peak contract leaves
+/// one red.
 pub fn audit(alloc: Global, run: &Run<'_>) -> Result<Verdict, AllocError>
     ensures verdict { IfOk result (λ verdict. verdict ≡ verdict_of run.now.basis run.now.run) }
     ensures kept { IfOk result (λ verdict. (verdict ≡ Verdict.Kept) ↔ Premises run.now.basis run.now.run) }
@@ -37,7 +39,10 @@ pub fn audit(alloc: Global, run: &Run<'_>) -> Result<Verdict, AllocError>
 
 /// What is found first against a run.
 fn first_broken(alloc: Global, run: &Run<'_>) -> Result<Option<Verdict>, AllocError>
-    ensures { IfOk result (λ found. found ≡ first_of (time_of run.now.basis run.now.run) (first_of (source_of_run run.now.basis run.now.run) (first_of (link_of_run run.now.basis run.now.run) (skew_of_run run.now.run)))) }
+    ensures { IfOk result
+        (λ found. found ≡ first_of (time_of run.now.basis run.now.run)
+        (first_of (source_of_run run.now.basis run.now.run)
+        (first_of (link_of_run run.now.basis run.now.run) (skew_of_run run.now.run)))) }
 {
     let trails = by_number(alloc, run)?;
     let outside = outside(run, trails.as_slice());

@@ -7,8 +7,8 @@ use thiserror::Error;
 /// Why journals and trails are not those of a run.
 #[derive(Clone, Copy, Debug, PartialEq, Eq, Hash, Drop, Error)]
 pub enum AssembleFault {
-    /// The journals are not one for each site, each opened with what stands there; or a trail is of no contract, or holds
-    /// what its packet did not carry away.
+    /// The journals are not one for each site, each opened with what stands there; or a trail is of no contract, or
+    /// holds what its packet did not carry away.
     #[error("a journal or a trail does not match")]
     Mismatch,
     /// A row of a journal is told by no trail.

@@ -52,7 +52,8 @@ fn delayed(domain: &Domain, packet: u64, contract: &Contract, sent: &Sent<'_>) -
 
 /// What is found against the delays of a trail's packet.
 fn delay_of(accepted: &Accepted, trail: &Trail) -> Option<Verdict>
-    ensures { result ≡ against_sent (ground_of accepted.now) (delayed_hop accepted.now.domain trail.now.packet) (passage_of trail.now) }
+    ensures { result ≡ against_sent (ground_of accepted.now) (delayed_hop accepted.now.domain trail.now.packet)
+        (passage_of trail.now) }
 {
     let contract = contract_of(accepted, trail.flow)?;
     let sent = sent_of(contract, trail)?;
@@ -61,7 +62,9 @@ fn delay_of(accepted: &Accepted, trail: &Trail) -> Option<Verdict>
 
 /// What is found first against the delays of trails' packets.
 pub(crate) fn first_delayed(accepted: &Accepted, trails: &[&Trail]) -> Option<Verdict>
-    ensures { result ≡ first_found (λ p. against_sent (ground_of accepted.now) (delayed_hop accepted.now.domain p.packet.number) p) (map (λ trail. passage_of trail.now) trails.now) }
+    ensures { result ≡ first_found
+        (λ p. against_sent (ground_of accepted.now) (delayed_hop accepted.now.domain p.packet.number) p)
+        (map (λ trail. passage_of trail.now) trails.now) }
 {
     for trail in trails {
         let found = delay_of(accepted, trail);

@@ -28,7 +28,8 @@ pub(crate) fn by_number<'a>(alloc: Global, run: &'a Run<'_>) -> Result<Vec<&'a T
 
 /// The trails of a run contract by contract, each contract's as they are sent.
 pub(crate) fn by_contract<'a>(alloc: Global, run: &'a Run<'_>) -> Result<Vec<&'a Trail>, AllocError>
-    ensures { IfOk result (λ trails. map (λ trail. passage_of trail.now) trails.items ≡ by_contract run.now.run.passages) }
+    ensures { IfOk result (λ trails. map (λ trail. passage_of trail.now) trails.items
+        ≡ by_contract run.now.run.passages) }
 {
     let mut trails = all_trails(alloc, run.trails())?;
     trails.sort_by_key(|trail| (trail.flow, trail.begun.get(), trail.packet))?;

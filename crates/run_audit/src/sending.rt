@@ -28,8 +28,8 @@ impl<'a> Model for Sent<'a> {
     ghost view = { λ s. record { moment = s.moment; colour = s.colour; receipts = s.receipts.now } };
 }
 
-/// The packet of a trail as it is sent under its contract: as it begins where that is trusted, else as it leaves its edge, if
-/// it has come there.
+/// The packet of a trail as it is sent under its contract: as it begins where that is trusted, else as it leaves its
+/// edge, if it has come there.
 pub(crate) fn sent_of<'a>(contract: &Contract, trail: &'a Trail) -> Option<Sent<'a>>
     ensures { result ≡ sending_of contract.now (passage_of trail.now) }
 {

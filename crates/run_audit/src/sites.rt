@@ -52,7 +52,8 @@ fn is_own(accepted: &Accepted, journal: &Journal) -> bool
 
 /// Whether each site at which something stands is among these.
 fn has_each(accepted: &Accepted, sites: &IndexSet<u32>) -> bool
-    ensures { IsTrue result ↔ ((site : ℕ) → IsSome (opening_at (ground_of accepted.now) site) → Contains sites.now.keys site) }
+    ensures { IsTrue result
+        ↔ ((site : ℕ) → IsSome (opening_at (ground_of accepted.now) site) → Contains sites.now.keys site) }
 {
     for site in 0..site_count(accepted) {
         if !is_met(accepted, sites, site as u32) {

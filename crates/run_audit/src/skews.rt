@@ -37,7 +37,8 @@ fn late_in(journal: &Journal) -> Option<Verdict>
 
 /// What is found first against the rows of journals.
 pub(crate) fn first_late(journals: &[&Journal]) -> Option<Verdict>
-    ensures { result ≡ first_found (λ j. first_found (late_row j) (journal_rows j)) (map (λ journal. journal.now) journals.now) }
+    ensures { result ≡ first_found (λ j. first_found (late_row j) (journal_rows j))
+        (map (λ journal. journal.now) journals.now) }
 {
     for journal in journals {
         let late = late_in(journal);

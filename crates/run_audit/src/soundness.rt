@@ -70,7 +70,8 @@ fn is_row(journal: &Journal, row: Row) -> bool
 fn is_trail(domain: &Domain, contract: &Contract, trail: &Trail) -> bool
     requires numbered { trail.now.flow < 4294966272 }
     requires short { length contract.now.path ≤ 16 }
-    ensures { IsTrue result ↔ IsTrail (packet_of trail.now) trail.now.begun (came contract.now trail.now.dscp) (hops_of domain.now trail.now.flow contract.now) trail.now.receipts.items }
+    ensures { IsTrue result ↔ IsTrail (packet_of trail.now) trail.now.begun (came contract.now trail.now.dscp)
+        (hops_of domain.now trail.now.flow contract.now) trail.now.receipts.items }
 {
     let mut since = trail.begun;
     let mut came = contract.came(trail.dscp);

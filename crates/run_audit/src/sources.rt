@@ -50,15 +50,16 @@ fn filled(envelope: Envelope, level: u128, since: u64, moment: Moment, size: Pac
     level.saturating_sub(drained) + BYTE * u128::from(size.get())
 }
 
-/// The first of a trusted contract's packets, as they were sent, at which a bucket overflows into which those that a column
-/// counts are poured: its depth is the burst, and it drains at the rate.
+/// The first of a trusted contract's packets, as they were sent, at which a bucket overflows into which those that a
+/// column counts are poured: its depth is the burst, and it drains at the rate.
 fn spilled<'a>(
     envelope: Envelope,
     column: Column,
     contract: &Contract,
     trails: &[&'a Trail],
 ) -> Option<&'a Trail>
-    ensures { option_map (λ trail. passage_of trail.now) result ≡ spilled envelope column contract.now 0 0 (map (λ trail. passage_of trail.now) trails.now) }
+    ensures { option_map (λ trail. passage_of trail.now) result
+        ≡ spilled envelope column contract.now 0 0 (map (λ trail. passage_of trail.now) trails.now) }
 {
     let depth = BYTE * u128::from(envelope.burst());
     let mut level = 0;
@@ -95,10 +96,11 @@ fn spilled_in(
     }
 }
 
-/// What is found against a contract's packets: in the green column, else in that of green and yellow ones; nothing where it is
-/// policed.
+/// What is found against a contract's packets: in the green column, else in that of green and yellow ones; nothing
+/// where it is policed.
 fn spilled_by(domain: &Domain, contract: &Contract, own: &[&Trail]) -> Option<Verdict>
-    ensures { result ≡ spilled_by contract.now.terms domain.now contract.now (map (λ trail. passage_of trail.now) own.now) }
+    ensures { result ≡ spilled_by contract.now.terms domain.now contract.now
+        (map (λ trail. passage_of trail.now) own.now) }
 {
     match contract.terms {
         Terms::Trusted { .. } => {

@@ -48,7 +48,8 @@ fn time_of(accepted: &Accepted, trail: &Trail) -> Option<Verdict>
 
 /// What is found first against the time of trails' packets.
 pub(crate) fn first_outside(accepted: &Accepted, trails: &[&Trail]) -> Option<Verdict>
-    ensures { result ≡ first_found (λ p. against_sent (ground_of accepted.now) (outside p.packet.number) p) (map (λ trail. passage_of trail.now) trails.now) }
+    ensures { result ≡ first_found (λ p. against_sent (ground_of accepted.now) (outside p.packet.number) p)
+        (map (λ trail. passage_of trail.now) trails.now) }
 {
     for trail in trails {
         let found = time_of(accepted, trail);

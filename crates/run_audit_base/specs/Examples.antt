@@ -1,5 +1,5 @@
--- The least domain with a packet: a port, a link, a meter and a contract that is trusted. Its one packet of 100 bytes, sent
--- green at moment 0, is all that it ever carries.
+-- The least domain with a packet: a port, a link, a meter and a contract that is trusted. Its one packet of 100 bytes,
+-- sent green at moment 0, is all that it ever carries.
 use Rattle.std.specs.Prelude.{ℕ, List, [], ◌∷◌, None}
 use Rattle.moment_core.specs.declared.colour.Colour.TheVariants.{Green}
 use Rattle.moment_core.specs.declared.colour.Mode.TheVariants.{Aware}
@@ -43,7 +43,8 @@ small_contract = record {
   path = meter_name ∷ [];
   class = 1;
   lifetime = record { since = 0; until = None };
-  rule = record { source = None; target = None; protocol = None; source_ports = None; target_ports = None; dscp = None };
+  rule = record { source = None; target = None; protocol = None; source_ports = None; target_ports = None; dscp =
+      None };
 }
 
 abbrev pub small_bound : Bound
@@ -77,4 +78,5 @@ small_run = record { journals = small_journal ∷ []; passages = small_passage �
 
 -- it meets all that is asked of a run
 abbrev pub SmallRunIsKept : Type 0
-SmallRunIsKept = IsAcceptable small_table × IsRun (ground_of small_table) small_run × Premises (ground_of small_table) small_run
+SmallRunIsKept =
+    IsAcceptable small_table × IsRun (ground_of small_table) small_run × Premises (ground_of small_table) small_run

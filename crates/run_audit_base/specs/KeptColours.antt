@@ -19,4 +19,5 @@ pub record StandsIn (t : Table) (g : Ground) : Type 0 where
 -- Where a table is acceptable, each run of contracts that stand in it that meets the premises keeps the colours.
 abbrev pub EveryRunKeepsColours : Type 0
 EveryRunKeepsColours =
-    (t : Table) (g : Ground) (run : Run) → IsAcceptable t → StandsIn t g → IsRun g run → Premises g run → ColoursKept g run
+    (t : Table) (g : Ground) (run : Run) → IsAcceptable t → StandsIn t g → IsRun g run → Premises g run
+        → ColoursKept g run

@@ -1,5 +1,5 @@
--- What a run is taken to keep: contracts their time, trusted sources their buckets, links their jitter, and meters their
--- skew.
+-- What a run is taken to keep: contracts their time, trusted sources their buckets, links their jitter, and meters
+-- their skew.
 use Rattle.std.specs.Prelude.{◌≡◌, ℕ, ◌+◌, ◌<◌, ◌≤◌, ⊤, List, [], ◌∷◌, All, Option, None, Some}
 use Rattle.std.specs.Option.{ForSome}
 use Rattle.moment_core.specs.Colours.{is_green, is_in_profile}
@@ -38,7 +38,8 @@ IsOver link moment arrival = (moment + floor_of link ≤ arrival) × (arrival �
 unfoldable pub IsTimely : Domain → List ℕ → List (List ℕ) → ℕ → List Receipt → Type 0
 IsTimely d from path moment [] = ⊤
 IsTimely d from [] moment (r ∷ receipts) = ⊤
-IsTimely d from (to ∷ path) moment (r ∷ receipts) = IsOver (link_of d from to) moment r.row.arrival × IsTimely d to path r.row.arrival receipts
+IsTimely d from (to ∷ path) moment (r ∷ receipts) =
+    IsOver (link_of d from to) moment r.row.arrival × IsTimely d to path r.row.arrival receipts
 
 -- contracts keep their time: each packet is sent when its contract may send
 abbrev pub KeepsTime : Ground → Run → Type 0
@@ -46,7 +47,8 @@ KeepsTime g run = ForSent g run IsInTime
 
 -- trusted sources keep their envelopes
 abbrev pub KeepsSources : Ground → Run → Type 0
-KeepsSources g run = (flow : ℕ) (c : Contract) → contract_of g flow ≡ Some c → IsTrusted c.terms → KeepsSource g run flow c
+KeepsSources g run =
+    (flow : ℕ) (c : Contract) → contract_of g flow ≡ Some c → IsTrusted c.terms → KeepsSource g run flow c
 
 -- links keep their floors and jitters
 abbrev pub KeepsLinks : Ground → Run → Type 0

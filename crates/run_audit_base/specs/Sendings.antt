@@ -16,10 +16,11 @@ pub record Sending : Type 0 where
   pub colour : Colour
   pub receipts : List Receipt
 
--- What is trusted is sent as it begins. What is policed is sent by its edge: at its arrival there, with the colour that it
--- left with. Before that it has not been sent.
+-- What is trusted is sent as it begins. What is policed is sent by its edge: at its arrival there, with the colour that
+-- it left with. Before that it has not been sent.
 abbrev pub sending_by : Terms → Colour → ℕ → List Receipt → Option Sending
-sending_by (Trusted committed peak) colour begun receipts = Some (record { moment = begun; colour = colour; receipts = receipts })
+sending_by (Trusted committed peak) colour begun receipts =
+    Some (record { moment = begun; colour = colour; receipts = receipts })
 sending_by (Policed parameters mode) colour begun [] = None
 sending_by (Policed parameters mode) colour begun (edge ∷ receipts) =
     Some (record { moment = edge.row.arrival; colour = edge.row.left; receipts = receipts })

@@ -2,9 +2,10 @@
 ghost use Rattle.run_audit_base.specs.Examples.{SmallRunIsKept};
 ghost use Rattle.run_audit_base.specs.KeptColours.{EveryRunKeepsColours};
 
-/// Where the checker accepts a domain, its contracts and their certificate, then in every run of its meters by any workers in
-/// any order, in which trusted sources keep their buckets, links keep their jitter and meters their skew, every packet sent
-/// within its committed contract leaves every meter green and none within its peak contract leaves one red.
+/// Where the checker accepts a domain, its contracts and their certificate, then in every run of its meters by any
+/// workers in any order, in which trusted sources keep their buckets, links keep their jitter and meters their skew,
+/// every packet sent within its committed contract leaves every meter green and none within its peak contract leaves
+/// one red.
 ///
 /// A run has no order of its own: its journals are what each meter saw, and its packets what each of them carried away
 /// (RFC 2475 section 2.3.3; Cruz 1991, section II).

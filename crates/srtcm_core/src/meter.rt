@@ -89,7 +89,8 @@ impl SrTcm {
     /// Meters a packet of a moment and a size that comes in with a colour, and answers the colour that it leaves
     /// with (RFC 2697 section 3). A moment before the newest one counts as the newest.
     pub fn admit(&mut self, moment: Moment, size: PacketSize, colour: Colour) -> Colour
-        ensures colour { result ≡ colour_of single_rate self.old (record { moment = moment; size = size; came = colour }) }
+        ensures colour { result
+            ≡ colour_of single_rate self.old (record { moment = moment; size = size; came = colour }) }
         ensures after { self.new ≡ after single_rate self.old (record { moment = moment; size = size; came = colour }) }
     {
         self.fill_to(moment);

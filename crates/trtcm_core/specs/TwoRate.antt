@@ -8,7 +8,8 @@ use Rattle.trtcm_core.specs.declared.parameters.TrTcmParameters.{TrTcmParameters
 use Rattle.trtcm_core.specs.declared.parameters.TrTcmFault.{TrTcmFault}
 use Rattle.trtcm_core.specs.declared.parameters.TrTcmFault.TheVariants.{SizeZero, PeakBelowCommitted}
 
--- what the standard asks of the parameters (RFC 2698 section 2): bursts above 0, and a peak rate not below the committed rate
+-- what the standard asks of the parameters (RFC 2698 section 2): bursts above 0, and a peak rate not below the
+-- committed rate
 abbrev pub fault_of : TrTcmParameters → Option TrTcmFault
 fault_of p =
     if nat_eq p.committed_burst 0 || nat_eq p.peak_burst 0 then
@@ -41,7 +42,8 @@ coloured l size Green = if nat_lt l.peak size then Red else if nat_lt l.committe
 coloured l size Yellow = if nat_lt l.peak size then Red else Yellow
 coloured l size Red = Red
 
--- a green packet takes its bytes from both buckets, a yellow one from the peak bucket, a red one from none (RFC 2698 section 3)
+-- a green packet takes its bytes from both buckets, a yellow one from the peak bucket, a red one from none (RFC 2698
+-- section 3)
 unfoldable pub without : Levels → ℕ → Colour → Levels
 without l size Green = record { committed = l.committed - size; peak = l.peak - size }
 without l size Yellow = record l { peak = l.peak - size }

@@ -6,4 +6,8 @@ use Rattle.dsedge_lines.specs.Answers.{Answer, behind}
 -- `ok` to each line, and then the number of a line to come; an empty line is bad
 abbrev pub sample_answer : ℕ → List (List ℕ) → Answer
 sample_answer number [] = record { text = decimal number; ending = Whole }
-sample_answer number (line ∷ lines) = if length line == 0 then record { text = []; ending = BadLine number } else behind (codes "ok ") (sample_answer (number + 1) lines)
+sample_answer number (line ∷ lines) =
+    if length line == 0 then
+    record { text = []; ending = BadLine number }
+    else
+    behind (codes "ok ") (sample_answer (number + 1) lines)

@@ -35,8 +35,8 @@ fn expect(
     Ok(())
 }
 
-/// A contract of 8,000 bit/s and 500 bytes, and a meter of a committed and an excess rate of 8,000 bit/s each, with 500 bytes
-/// and 1,000 more.
+/// A contract of 8,000 bit/s and 500 bytes, and a meter of a committed and an excess rate of 8,000 bit/s each, with 500
+/// bytes and 1,000 more.
 const EXCESS_RATE: &str = r#"
 [[meter]]
 name = "m"

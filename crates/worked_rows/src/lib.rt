@@ -1,5 +1,5 @@
-//! Worked rows of the libraries below: what lines of words, files, and texts of domains and of certificates give in their public calls.
-//! They stand here, and not beside those calls, since a crate with tests is proved twice.
+//! Worked rows of the libraries below: what lines of words, files, and texts of domains and of certificates give in
+//! their public calls. They stand here, and not beside those calls, since a crate with tests is proved twice.
 #![tactic(auto)]
 
 #[cfg(test)]

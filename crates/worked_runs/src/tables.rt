@@ -6,8 +6,8 @@ use std::alloc::Global;
 use std::test::Fail;
 use trtcm_core::TrTcmParameters;
 
-/// A meter `m` of 24 Mbit/s and 13,500 bytes, committed and peak, with a skew of 500 µs; a port `p` without skew; and a link
-/// between them with a jitter of 1 ms.
+/// A meter `m` of 24 Mbit/s and 13,500 bytes, committed and peak, with a skew of 500 µs; a port `p` without skew; and a
+/// link between them with a jitter of 1 ms.
 const WAY: &str = r#"
 [[meter]]
 name = "m"
