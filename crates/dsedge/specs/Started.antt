@@ -16,7 +16,7 @@ use Rattle.dsedge_serve.specs.declared.fault.Fault.TheVariants.{Usage, Line, Dom
 use Rattle.dsedge_serve.specs.declared.fault.Fault.TheVariants.{Read, Write, Memory, Full}
 use Rattle.dsedge_serve.specs.declared.outcome.Outcome.{Outcome}
 use Rattle.dsedge_serve.specs.Faults.{fault_text, status_of}
-use Rattle.dsedge_serve.specs.Served.{IsAnswered, IsOfInput, is_output_fault, status_after, told_after}
+use Rattle.dsedge_serve.specs.Served.{IsAnswered, IsForeseen, IsOfInput, is_output_fault, status_after, told_after}
 
 -- the words of a command: those given, or where there are none, those of the first line of the input
 abbrev pub words_from : List (List ℕ) → List ℕ → List (List ℕ)
@@ -144,12 +144,14 @@ IsCourseFrom given bytes (Unread plan fault) = IsPlanFrom given bytes plan
 IsCourseFrom given bytes (Served plan texts outcome) = IsPlanFrom given bytes plan
 
 -- A plan is served with the texts of its files, as many as it names, and with no others where the files tell what they
--- hold.
+-- hold. What its files settle of its outcome is so whatever the devices do.
 abbrev pub IsCourseOf : Type 0 → (List ℕ → Option (List ℕ)) → Course → Type 0
 IsCourseOf tells holds (Refused fault) = Unit {0}
 IsCourseOf tells holds (Unread plan fault) = IsUnreadable tells holds (files_of plan) fault
 IsCourseOf tells holds (Served plan texts outcome) =
-    (length texts ≡ length (files_of plan)) × (tells → texts_of holds (files_of plan) ≡ Ok texts)
+    (length texts ≡ length (files_of plan))
+    × (tells → texts_of holds (files_of plan) ≡ Ok texts)
+    × IsForeseen plan texts outcome
 
 -- What was written, where the devices tell their bytes: the answer to the input, which still has more, or a front of
 -- it; a refusal writes nothing.

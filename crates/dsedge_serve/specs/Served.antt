@@ -1,14 +1,17 @@
 -- What the program does for a plan.
 use Rattle.std.specs.Prelude.{◌≡◌, ◌⊎◌, ◌^◌, ℕ, Bool, true, false, if◌then◌else◌, List, [], ◌∷◌, ◌++◌, Option, None}
-use Rattle.std.specs.Prelude.{Some, Result, Ok, Err, IfOk, OnErr, codes, string_bytes}
+use Rattle.std.specs.Prelude.{⊤, Some, Result, Ok, Err, IfErr, IfOk, OnErr, codes, string_bytes}
 use Rattle.std.specs.Option.{option_map_or}
 use Rattle.line_text.specs.Lines.{lines_of}
 use Rattle.dsedge_serve.specs.Books.{fresh_book}
 use Rattle.pcap_capture.specs.Counts.{count_after, next_count}
 use Rattle.dsedge_base.specs.declared.work.Plan.{Plan}
 use Rattle.dsedge_base.specs.declared.work.Plan.TheVariants.{Audit, Certify, Check, Envelope, Help, Mark, Meter}
+use Rattle.ds_domain_base.specs.Domains.{is_port}
 use Rattle.ds_domain_base.specs.declared.fault.DomainFault.{DomainFault}
 use Rattle.ds_conductor.specs.Markings.{IsOfReads as IsOfCaptureReads, is_unwritten}
+use Rattle.ds_conductor.specs.Reports.{nothing_read}
+use Rattle.ds_conductor.specs.declared.fault.MarkFault.TheVariants as marks
 use Rattle.ds_conductor.specs.declared.rule.RedRule.{RedRule}
 use Rattle.dsedge_lines.specs.Answers.{Answer}
 use Rattle.dsedge_lines.specs.declared.command.Ending.TheVariants as endings
@@ -26,7 +29,8 @@ use Rattle.dsedge_serve.specs.declared.conclusion.Conclusion.{Conclusion}
 use Rattle.dsedge_serve.specs.declared.conclusion.Conclusion.TheVariants.{Ended, Unaccepted, Uncertified, Unsound}
 use Rattle.dsedge_serve.specs.declared.fault.Fault.TheVariants as faults
 use Rattle.dsedge_serve.specs.Faults.{IsFrontOf, notice_text, status_of}
-use Rattle.dsedge_serve.specs.Marked.{IsMarkedOver, IsUnmarked, marking_answer, marking_status, marking_told, rule_said}
+use Rattle.dsedge_serve.specs.Marked.{IsMarkedOver, IsUnmarked, marking_answer, marking_status, marking_told, refusal_outcome}
+use Rattle.dsedge_serve.specs.Marked.{rule_said}
 use Rattle.dsedge_serve.specs.Metered.{answer_of}
 use Rattle.dsedge_serve.specs.declared.notice.Notice.{Notice}
 use Rattle.dsedge_serve.specs.declared.notice.Notice.TheVariants as notices
@@ -114,6 +118,32 @@ IsAnswered (Audit domain certificate) texts bytes more outcome before after =
 IsAnswered (Mark domain certificate port keeps_red) texts bytes more outcome before after =
     IsMarkedAt (accepted_in (first_text texts) (second_text texts)) port (rule_said keeps_red) bytes more outcome before
         after
+
+-- the outcome that is known before a device is touched, or want of memory
+abbrev pub IsSettled : Outcome → Outcome → Type 0
+IsSettled known outcome = (outcome ≡ known) ⊎ (outcome ≡ Answered (Err pump_faults.NoMemory))
+
+-- Where a run's or a marking's table is not accepted, the outcome is settled whatever the devices do; and so it is where
+-- the table has no port of the name.
+abbrev pub IsRefusedBefore : Result Table TableFault → Outcome → Type 0
+IsRefusedBefore found outcome = IfErr found (λ fault. IsSettled (Answered (refusal_outcome fault)) outcome)
+
+abbrev pub IsPortlessBefore : Result Table TableFault → List ℕ → Outcome → Type 0
+IsPortlessBefore found port outcome = IfOk found
+    (λ t. is_port t.domain port ≡ false → IsSettled (Marked nothing_read (Some marks.UnknownPort) port) outcome)
+
+-- what is settled of a plan's outcome, for the texts of its files
+abbrev pub IsForeseen : Plan → List (List ℕ) → Outcome → Type 0
+IsForeseen (Help text) texts outcome = ⊤
+IsForeseen (Meter meter) texts outcome = ⊤
+IsForeseen (Envelope rate burst) texts outcome = ⊤
+IsForeseen (Certify domain) texts outcome = ⊤
+IsForeseen (Check domain certificate) texts outcome = ⊤
+IsForeseen (Audit domain certificate) texts outcome =
+    IsRefusedBefore (accepted_in (first_text texts) (second_text texts)) outcome
+IsForeseen (Mark domain certificate port keeps_red) texts outcome =
+    IsRefusedBefore (accepted_in (first_text texts) (second_text texts)) outcome
+    × IsPortlessBefore (accepted_in (first_text texts) (second_text texts)) port outcome
 
 -- what there is to tell of an outcome
 abbrev pub notice_of : Result Conclusion PumpFault → Option Notice

@@ -1,8 +1,11 @@
-ghost use Rattle.std.specs.Prelude.{◌≡◌, ◌++◌, Ok, MatchResult, is_ok, if◌then◌else◌};
+ghost use Rattle.std.specs.Prelude.{◌≡◌, ◌++◌, false, Some, Ok, MatchResult, is_ok, if◌then◌else◌};
+ghost use Rattle.ds_conductor.specs.Reports.{nothing_read};
+ghost use Rattle.ds_domain_base.specs.Domains.{is_port};
 ghost use Rattle.dsedge_serve.specs.Faults.{IsFrontOf};
 ghost use Rattle.dsedge_serve.specs.Marked.{capture_fault, marking_fault, marking_fault_text, marking_status};
 ghost use Rattle.dsedge_serve.specs.Marked.{marking_told, refusal_outcome};
-ghost use Rattle.dsedge_serve.specs.Served.{IsMarkedAt, IsOfInput, IsOfWrites, is_output_fault};
+ghost use Rattle.dsedge_serve.specs.Served.{IsMarkedAt, IsOfInput, IsOfWrites, IsPortlessBefore, IsRefusedBefore};
+ghost use Rattle.dsedge_serve.specs.Served.{is_output_fault};
 ghost use Rattle.dsedge_texts.specs.Accepted.{accepted_in};
 ghost use Rattle.pcap_capture.specs.Counts.{next_count};
 
@@ -31,6 +34,8 @@ pub(crate) fn answer_mark<'a, I: Intake, O: Outlet>(
         IsMarkedAt (accepted_in domain.now certificate.now) port.entry red (I.left intake.old) (I.left intake.new)
         result
         (O.held output.old) (O.held output.new) }
+    ensures refused { IsRefusedBefore (accepted_in domain.now certificate.now) result }
+    ensures unknown { IsPortlessBefore (accepted_in domain.now certificate.now) port.entry result }
     ensures writes { IsOfWrites (is_output_fault result) (O.failed output.old) (O.failed output.new) }
     ensures reads { IsOfInput result (I.failed intake.old) (I.failed intake.new) (I.turns intake.old)
         (I.turns intake.new) }
@@ -53,6 +58,8 @@ fn mark_over<'a, I: Intake, O: Outlet>(
     ensures served { I.tells intake.old → O.tells output.old →
         IsMarkedAt (Ok accepted.now) port.entry red (I.left intake.old) (I.left intake.new) result (O.held output.old)
         (O.held output.new) }
+    ensures unknown { is_port accepted.now.domain port.entry ≡ false
+        → result ≡ Outcome.Marked nothing_read (Some MarkFault.UnknownPort) port.entry }
     ensures writes { IsOfWrites (is_output_fault result) (O.failed output.old) (O.failed output.new) }
     ensures reads { IsOfInput result (I.failed intake.old) (I.failed intake.new) (I.turns intake.old)
         (I.turns intake.new) }

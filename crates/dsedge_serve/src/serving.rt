@@ -1,6 +1,7 @@
 ghost use Rattle.std.specs.Prelude.{◌≡◌, false, length, map};
 ghost use Rattle.dsedge_base.specs.Files.{files_of};
 ghost use Rattle.dsedge_lines.specs.Faults.{is_read_fault, is_write_fault};
+ghost use Rattle.dsedge_serve.specs.Served.{IsForeseen, IsRefusedBefore};
 ghost use Rattle.dsedge_serve.specs.Served.{IsAnswered, IsOfInput, IsOfReads, IsOfWrites, IsServed, IsTold, Reply};
 ghost use Rattle.dsedge_serve.specs.Served.{is_output_fault, notice_of, reply_by, reply_of, reply_on, reply_over};
 ghost use Rattle.dsedge_serve.specs.Served.{status_after, status_for, told_after, told_of};
@@ -125,6 +126,7 @@ fn answer_audit<I: Intake, O: Outlet>(
     ensures served { I.tells intake.old → O.tells output.old →
         IsServed (reply_over (accepted_in domain.now certificate.now) (lines_of (I.left intake.old))) result
         (O.held output.old) (O.held output.new) }
+    ensures refused { IsRefusedBefore (accepted_in domain.now certificate.now) (Outcome.Answered result) }
     ensures writes { IsOfWrites (is_write_fault result) (O.failed output.old) (O.failed output.new) }
     ensures reads { IsOfReads (is_read_fault result) (I.failed intake.old) (I.failed intake.new)
         (I.turns intake.old) (I.turns intake.new) }
@@ -167,6 +169,7 @@ fn answer<'a, I: Intake, O: Outlet>(
     ensures served { I.tells intake.old → O.tells output.old →
         IsAnswered plan.entry (map (λ text. text.items) texts.now) (I.left intake.old) (I.left intake.new) result
         (O.held output.old) (O.held output.new) }
+    ensures foreseen { IsForeseen plan.entry (map (λ text. text.items) texts.now) result }
     ensures writes { IsOfWrites (is_output_fault result) (O.failed output.old) (O.failed output.new) }
     ensures reads { IsOfInput result (I.failed intake.old) (I.failed intake.new) (I.turns intake.old)
         (I.turns intake.new) }
@@ -306,7 +309,8 @@ pub fn serve<I: Intake, O: Outlet, F: Outlet>(
         × (F.tells faults.old →
         IsTold (told_after outcome) (F.held faults.old) (F.held faults.new) (F.failed faults.old) (F.failed faults.new))
         × IsOfWrites (is_output_fault outcome) (O.failed output.old) (O.failed output.new)
-        × IsOfInput outcome (I.failed intake.old) (I.failed intake.new) (I.turns intake.old) (I.turns intake.new) }
+        × IsOfInput outcome (I.failed intake.old) (I.failed intake.new) (I.turns intake.old) (I.turns intake.new)
+        × IsForeseen plan.entry (map (λ text. text.items) texts.now) outcome }
 {
     let outcome = answer(alloc, plan, texts, intake, output);
     let status = status_after(&outcome);

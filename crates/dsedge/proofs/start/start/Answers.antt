@@ -59,6 +59,7 @@ returns-in-Ok-texts_for-clause-course g c =
       (
         length-map slice.result.now (λ text. text.items) ∙ ap length slice.ensures.value ∙ read.count,
         λ tells. read.texts tells ∙ ap (λ all. Ok (map (λ text. text.items) all)) (sym slice.ensures.value),
+        served.6,
       ),
       λ tell. subst Q (c.in-Ok.ensures.input tell.0) (served.2 (c.in-Ok.ensures.told tell.0) tell.1),
       served.3,
