@@ -8,8 +8,6 @@ use Rattle.moment_core.specs.Metering.{Departure, Offer, departures, how, levels
 use Rattle.moment_core.specs.declared.colour.Colour.{Colour}
 use Rattle.moment_core.specs.declared.colour.Colour.TheVariants.{Green, Yellow, Red}
 use Rattle.moment_core.specs.declared.colour.Mode.TheVariants.{Aware}
-use Rattle.moment_core.proofs.ColourLaws.{green_falls, in_profile_falls, yellow_falls}
-use Rattle.moment_core.proofs.ExcessLaws.{no_better}
 use Rattle.moment_core.proofs.MeteringLaws.{IsFilledAt}
 use Rattle.moment_core.proofs.RoomLaws.{Along-any, Holds, IsAware, IsAware-after, Keeping, bucket_holds, departures-along, input, left_aware}
 
@@ -30,47 +28,30 @@ yellow_stays l size Green held e = absurd (cc)
 yellow_stays l size Yellow held e = rw (not_short l.excess size held) refl
 yellow_stays l size Red held e = absurd (cc)
 
--- a packet takes from a bucket no more than its bytes, and only where it leaves with that bucket's colour
-committed_spends : (l : Levels) (size : ℕ) (left : Colour) → l.committed ≤ (without l size left).committed + cond (is_green left) size 0
-unfolding without
-committed_spends l size Green = omega arith
-committed_spends l size Yellow = omega arith
-committed_spends l size Red = omega arith
-
-excess_spends : (l : Levels) (size : ℕ) (left : Colour) → l.excess ≤ (without l size left).excess + cond (is_yellow left) size 0
-unfolding without
-excess_spends l size Green = omega arith
-excess_spends l size Yellow = omega arith
-excess_spends l size Red = omega arith
-
-both_spend : (l : Levels) (size : ℕ) (left : Colour)
-    → l.committed + l.excess ≤ (without l size left).committed + (without l size left).excess + cond (is_in_profile left) size 0
-unfolding without
-both_spend l size Green = omega arith
-both_spend l size Yellow = omega arith
-both_spend l size Red = omega arith
-
 -- green packets alone take from the committed bucket, and no more than their bytes
 pub committed_drains : (l : Levels) (size : ℕ) (came : Colour)
     → l.committed ≤ (without l size (coloured l size came)).committed + cond (is_green came) size 0
-committed_drains l size came =
-    let left = coloured l size came in
-    omega (arith, committed_spends l size left, green_falls size came left (no_better l size came))
+unfolding coloured without
+committed_drains l size Green = grind (arith, nat_tests)
+committed_drains l size Yellow = grind (arith, nat_tests)
+committed_drains l size Red = omega arith
 
 -- packets in profile alone take from the two buckets, and no more than their bytes
 pub both_drain : (l : Levels) (size : ℕ) (came : Colour)
     → l.committed + l.excess
     ≤ (without l size (coloured l size came)).committed + (without l size (coloured l size came)).excess + cond (is_in_profile came) size 0
-both_drain l size came =
-    let left = coloured l size came in
-    omega (arith, both_spend l size left, in_profile_falls size came left (no_better l size came))
+unfolding coloured without
+both_drain l size Green = grind (arith, nat_tests)
+both_drain l size Yellow = grind (arith, nat_tests)
+both_drain l size Red = omega arith
 
 -- where green packets stay green, yellow ones alone take from the excess bucket, and no more than their bytes
 pub excess_drains : (l : Levels) (size : ℕ) (came : Colour) → (came ≡ Green → coloured l size came ≡ Green)
     → l.excess ≤ (without l size (coloured l size came)).excess + cond (is_yellow came) size 0
-excess_drains l size came stays =
-    let left = coloured l size came in
-    omega (arith, excess_spends l size left, yellow_falls size came left (no_better l size came) stays)
+unfolding coloured without
+excess_drains l size Green stays = rw (stays refl) (omega arith)
+excess_drains l size Yellow stays = grind (arith, nat_tests)
+excess_drains l size Red stays = omega arith
 
 -- so in a meter with these buckets green packets that keep the committed bucket's rate and size leave green
 pub green_stays_green : {P : Type 0} (full : P → Levels) (gain : P → ℕ → ℕ → Levels → Levels) (size rate : P → ℕ)

@@ -1,4 +1,3 @@
-pub mod ColourLaws
 pub mod ExcessLaws
 pub mod FillingLaws
 pub mod KeepingLaws

@@ -162,6 +162,13 @@ pub fits_at : {P L : Type 0} (rules : Rules P L) (level : L → ℕ) (size rate 
     → level m.levels ≤ size m.parameters → level (levels_at rules m (used m.newest moment)) ≤ size m.parameters
 fits_at rules level size rate fill m moment within = rw (fill m moment) (with_tokens_within (size m.parameters) _ (level m.levels) within)
 
+-- also after a packet, where that leaves it with no more than it had
+pub fits_after : {P L : Type 0} (rules : Rules P L) (level : L → ℕ) (most : P → ℕ) → ((l : L) (bytes : ℕ) (left : Colour) → level (rules.without l bytes left) ≤ level l)
+    → (m : State P L) (o : Offer) → level (levels_at rules m (used m.newest o.moment)) ≤ most m.parameters → level (after rules m o).levels ≤ most m.parameters
+unfolding after
+fits_after rules level most falls m o within =
+    omega (arith, within, falls (levels_at rules m (used m.newest o.moment)) o.size (colour_of rules m o))
+
 -- so what such a bucket pays for keeps its rate, and a byte more than its size as a burst
 pub Keeps-bucket : {P L : Type 0} (rules : Rules P L) (fits : State P L → Type 0) (picked : Colour → Bool) (level : L → ℕ) (size rate : P → ℕ)
     → IsFilledAt rules level size rate

@@ -2,7 +2,7 @@
 use Rattle.std.proofs.Common.{◌≡◌, ℕ, ◌+◌, ◌-◌, ◌≤◌, List, arith}
 use Rattle.moment_core.specs.Colours.{IsNoBetter, is_green, is_in_profile, output}
 use Rattle.moment_core.specs.Conformance.{Keeps}
-use Rattle.moment_core.specs.Excess.{Levels, without}
+use Rattle.moment_core.specs.Excess.{Levels}
 use Rattle.moment_core.specs.Metering.{Offer, State, after, colour_of, departures, how, levels_at, opening, used}
 use Rattle.moment_core.specs.Tokens.{given}
 use Rattle.moment_core.specs.declared.colour.Mode.{Mode}
@@ -50,19 +50,13 @@ pub IsWithinSizes-opening : (p : Rfc4115Parameters) (mode : Mode) (origin : ℕ)
 unfolding opening separate_rates full
 IsWithinSizes-opening p mode origin = record { committed = omega arith; excess = omega arith }
 
-through : (a b c : ℕ) → a ≤ b → b ≤ c → a ≤ c
-through a b c h k = omega arith
-
 -- and stay within them
 pub IsWithinSizes-after : (m : State Rfc4115Parameters Levels) (o : Offer) → IsWithinSizes m → IsWithinSizes (after separate_rates m o)
 unfolding after separate_rates
-IsWithinSizes-after m o ok =
-    let before = levels_at separate_rates m (used m.newest o.moment) in
-    let left = colour_of separate_rates m o in
-    record {
-      committed = through (without before o.size left).committed before.committed m.parameters.committed_burst (committed_falls before o.size left) (committed_fits m o.moment ok);
-      excess = through (without before o.size left).excess before.excess m.parameters.excess_burst (excess_falls before o.size left) (excess_fits m o.moment ok);
-    }
+IsWithinSizes-after m o ok = record {
+  committed = output_laws.fits_after separate_rates (λ l. l.committed) (λ p. p.committed_burst) committed_falls m o (committed_fits m o.moment ok);
+  excess = output_laws.fits_after separate_rates (λ l. l.excess) (λ p. p.excess_burst) excess_falls m o (excess_fits m o.moment ok);
+}
 
 -- what leaves green keeps the committed rate, and a byte more than the committed burst
 pub green_keeps : (m : State Rfc4115Parameters Levels) → IsWithinSizes m → (offers : List Offer)

@@ -1,17 +1,16 @@
 -- An aware two-rate meter keeps the colours of traffic that keeps what its buckets have.
 use Rattle.std.proofs.Common.{◌≡◌, ℕ, ◌+◌, ◌≤◌, cond, List, refl, arith}
+use Rattle.std.proofs.lemmas.Bool.Decides.{nat_tests}
 use Rattle.moment_core.specs.Colours.{is_green, is_in_profile}
 use Rattle.moment_core.specs.Conformance.{Keeps}
 use Rattle.moment_core.specs.Metering.{Departure, Offer, State, colour_of, departures, how, levels_at, opening, used}
 use Rattle.moment_core.specs.declared.colour.Colour.{Colour}
 use Rattle.moment_core.specs.declared.colour.Colour.TheVariants.{Green, Yellow, Red}
 use Rattle.moment_core.specs.declared.colour.Mode.TheVariants.{Aware}
-use Rattle.moment_core.proofs.ColourLaws.{green_falls, in_profile_falls}
 use Rattle.moment_core.proofs.KeepingLaws.{not_short}
 use Rattle.moment_core.proofs.RoomLaws.{Along, Along-any, Holds, IsAware, IsAware-after, Keeping, bucket_holds, departures-along, input, left_aware}
 use Rattle.trtcm_core.specs.declared.parameters.TrTcmParameters.{TrTcmParameters}
 use Rattle.trtcm_core.specs.TwoRate.{Levels, coloured, full, two_rate, without}
-use Rattle.trtcm_core.proofs.OutputLaws.{no_better}
 use Rattle.trtcm_core.proofs.TwoRateLaws.{committed_filled, peak_filled}
 
 -- ---- buckets that have enough, and what packets take from them
@@ -31,30 +30,19 @@ yellow_stays l size Green held e = absurd (cc)
 yellow_stays l size Yellow held e = rw (not_short l.peak size (omega (arith, held))) refl
 yellow_stays l size Red held e = absurd (cc)
 
--- a packet takes from a bucket no more than its bytes, and only where it leaves with that bucket's colours
-committed_spends : (l : Levels) (size : ℕ) (left : Colour) → l.committed ≤ (without l size left).committed + cond (is_green left) size 0
-unfolding without
-committed_spends l size Green = omega arith
-committed_spends l size Yellow = omega arith
-committed_spends l size Red = omega arith
-
-peak_spends : (l : Levels) (size : ℕ) (left : Colour) → l.peak ≤ (without l size left).peak + cond (is_in_profile left) size 0
-unfolding without
-peak_spends l size Green = omega arith
-peak_spends l size Yellow = omega arith
-peak_spends l size Red = omega arith
-
 -- green packets alone take from the committed bucket, and no more than their bytes
 committed_drains : (l : Levels) (size : ℕ) (came : Colour) → l.committed ≤ (without l size (coloured l size came)).committed + cond (is_green came) size 0
-committed_drains l size came =
-    let left = coloured l size came in
-    omega (arith, committed_spends l size left, green_falls size came left (no_better l size came))
+unfolding coloured without
+committed_drains l size Green = grind (arith, nat_tests)
+committed_drains l size Yellow = grind (arith, nat_tests)
+committed_drains l size Red = omega arith
 
 -- packets in profile alone take from the peak bucket, and no more than their bytes
 peak_drains : (l : Levels) (size : ℕ) (came : Colour) → l.peak ≤ (without l size (coloured l size came)).peak + cond (is_in_profile came) size 0
-peak_drains l size came =
-    let left = coloured l size came in
-    omega (arith, peak_spends l size left, in_profile_falls size came left (no_better l size came))
+unfolding coloured without
+peak_drains l size Green = grind (arith, nat_tests)
+peak_drains l size Yellow = grind (arith, nat_tests)
+peak_drains l size Red = omega arith
 
 -- ---- the meter
 
