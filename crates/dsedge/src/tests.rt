@@ -294,22 +294,11 @@ pub(crate) fn domain_text(
 ) -> Result<String, AllocError> {
     format!(in alloc;
         r#"
-[[meter]]
-name = "m"
-kind = "trtcm"
-cir = 24000000
-cbs = 13500
-pir = 24000000
-pbs = 13500
-skew = {meter_skew}
-[[port]]
-name = "p"
-skew = {port_skew}
-[[link]]
-from = "p"
-to = "m"
-floor = 0
-jitter = {jitter}
+meter = [
+    {{ name = "m", kind = "trtcm", cir = 24000000, cbs = 13500, pir = 24000000, pbs = 13500, skew = {meter_skew} }},
+]
+port = [{{ name = "p", skew = {port_skew} }}]
+link = [{{ from = "p", to = "m", floor = 0, jitter = {jitter} }}]
 [[contract]]{contract}"#
     )
 }
@@ -387,22 +376,9 @@ fn faults_of_domains_and_files(rt: HostRuntime) -> Result<(), Fail> {
 fn three_contracts(alloc: Global, rate: u64, burst: u64) -> Result<String, AllocError> {
     format!(in alloc;
         r#"
-[[meter]]
-name = "m"
-kind = "trtcm"
-cir = {rate}
-cbs = {burst}
-pir = 24000000
-pbs = 13500
-skew = 500000
-[[port]]
-name = "p"
-skew = 0
-[[link]]
-from = "p"
-to = "m"
-floor = 0
-jitter = 1000000
+meter = [{{ name = "m", kind = "trtcm", cir = {rate}, cbs = {burst}, pir = 24000000, pbs = 13500, skew = 500000 }}]
+port = [{{ name = "p", skew = 0 }}]
+link = [{{ from = "p", to = "m", floor = 0, jitter = 1000000 }}]
 [[contract]]{TRUSTED}
 [[contract]]
 name = "b"
@@ -493,21 +469,9 @@ fn bounds_that_are_too_low(rt: HostRuntime) -> Result<(), Fail> {
 fn single_rate(alloc: Global, peak: &str) -> Result<String, AllocError> {
     format!(in alloc;
         r#"
-[[meter]]
-name = "m"
-kind = "srtcm"
-cir = 8000
-cbs = 500
-ebs = 1000
-skew = 0
-[[port]]
-name = "p"
-skew = 0
-[[link]]
-from = "p"
-to = "m"
-floor = 0
-jitter = 0
+meter = [{{ name = "m", kind = "srtcm", cir = 8000, cbs = 500, ebs = 1000, skew = 0 }}]
+port = [{{ name = "p", skew = 0 }}]
+link = [{{ from = "p", to = "m", floor = 0, jitter = 0 }}]
 [[contract]]
 name = "a"
 kind = "trusted"

@@ -7,22 +7,9 @@ use std::test::Fail;
 
 /// A domain of a trusted contract `a` of 8 Mbit/s and 3,000 bytes over one meter.
 const ALONE: &str = r#"
-[[meter]]
-name = "m"
-kind = "trtcm"
-cir = 24000000
-cbs = 13500
-pir = 24000000
-pbs = 13500
-skew = 500000
-[[port]]
-name = "p"
-skew = 0
-[[link]]
-from = "p"
-to = "m"
-floor = 0
-jitter = 0
+meter = [{ name = "m", kind = "trtcm", cir = 24000000, cbs = 13500, pir = 24000000, pbs = 13500, skew = 500000 }]
+port = [{ name = "p", skew = 0 }]
+link = [{ from = "p", to = "m", floor = 0, jitter = 0 }]
 [[contract]]
 name = "a"
 kind = "trusted"
@@ -35,22 +22,9 @@ cbs = 3000
 
 /// The same contract over a meter of another name.
 const ELSEWHERE: &str = r#"
-[[meter]]
-name = "n"
-kind = "trtcm"
-cir = 24000000
-cbs = 13500
-pir = 24000000
-pbs = 13500
-skew = 500000
-[[port]]
-name = "p"
-skew = 0
-[[link]]
-from = "p"
-to = "n"
-floor = 0
-jitter = 0
+meter = [{ name = "n", kind = "trtcm", cir = 24000000, cbs = 13500, pir = 24000000, pbs = 13500, skew = 500000 }]
+port = [{ name = "p", skew = 0 }]
+link = [{ from = "p", to = "n", floor = 0, jitter = 0 }]
 [[contract]]
 name = "a"
 kind = "trusted"

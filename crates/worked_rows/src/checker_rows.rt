@@ -38,22 +38,9 @@ fn expect(
 /// A contract of 8,000 bit/s and 500 bytes, and a meter of a committed and an excess rate of 8,000 bit/s each, with 500
 /// bytes and 1,000 more.
 const EXCESS_RATE: &str = r#"
-[[meter]]
-name = "m"
-kind = "rfc4115"
-cir = 8000
-cbs = 500
-eir = 8000
-ebs = 1000
-skew = 0
-[[port]]
-name = "p"
-skew = 0
-[[link]]
-from = "p"
-to = "m"
-floor = 0
-jitter = 0
+meter = [{ name = "m", kind = "rfc4115", cir = 8000, cbs = 500, eir = 8000, ebs = 1000, skew = 0 }]
+port = [{ name = "p", skew = 0 }]
+link = [{ from = "p", to = "m", floor = 0, jitter = 0 }]
 [[contract]]
 name = "a"
 kind = "trusted"
@@ -97,22 +84,9 @@ fn a_peak_is_held_against_the_excess_rate_and_bucket(rt: HostRuntime) -> Result<
 
 /// A contract of 8,000 bit/s and 500 bytes behind a link with a jitter of 2 ms, which adds 2 bytes.
 const JITTERED: &str = r#"
-[[meter]]
-name = "m"
-kind = "trtcm"
-cir = 8000000
-cbs = 13500
-pir = 8000000
-pbs = 13500
-skew = 0
-[[port]]
-name = "p"
-skew = 0
-[[link]]
-from = "p"
-to = "m"
-floor = 0
-jitter = 2000000
+meter = [{ name = "m", kind = "trtcm", cir = 8000000, cbs = 13500, pir = 8000000, pbs = 13500, skew = 0 }]
+port = [{ name = "p", skew = 0 }]
+link = [{ from = "p", to = "m", floor = 0, jitter = 2000000 }]
 [[contract]]
 name = "a"
 kind = "trusted"
@@ -147,22 +121,9 @@ fn bounds_that_are_too_low(rt: HostRuntime) -> Result<(), Fail> {
 
 /// A meter of 24 Mbit/s and 4,499 bytes with a skew of 500 µs, and a link to it without jitter.
 const SKEWED: &str = r#"
-[[meter]]
-name = "m"
-kind = "trtcm"
-cir = 24000000
-cbs = 4499
-pir = 24000000
-pbs = 4499
-skew = 500000
-[[port]]
-name = "p"
-skew = 0
-[[link]]
-from = "p"
-to = "m"
-floor = 0
-jitter = 0
+meter = [{ name = "m", kind = "trtcm", cir = 24000000, cbs = 4499, pir = 24000000, pbs = 4499, skew = 500000 }]
+port = [{ name = "p", skew = 0 }]
+link = [{ from = "p", to = "m", floor = 0, jitter = 0 }]
 "#;
 
 /// A contract of 24 Mbit/s and 3,000 bytes.

@@ -9,24 +9,9 @@ use trtcm_core::TrTcmParameters;
 /// A meter `m` of 24 Mbit/s and 13,500 bytes, committed and peak, with a skew of 500 µs; a port `p` without skew; and a
 /// link between them with a jitter of 1 ms.
 const WAY: &str = r#"
-[[meter]]
-name = "m"
-kind = "trtcm"
-cir = 24000000
-cbs = 13500
-pir = 24000000
-pbs = 13500
-skew = 500000
-
-[[port]]
-name = "p"
-skew = 0
-
-[[link]]
-from = "p"
-to = "m"
-floor = 0
-jitter = 1000000
+meter = [{ name = "m", kind = "trtcm", cir = 24000000, cbs = 13500, pir = 24000000, pbs = 13500, skew = 500000 }]
+port = [{ name = "p", skew = 0 }]
+link = [{ from = "p", to = "m", floor = 0, jitter = 1000000 }]
 "#;
 
 /// The table that a domain text says with a certificate text.
