@@ -1,5 +1,5 @@
 -- The small run meets all that is asked of a run.
-use Rattle.std.proofs.Common.{◌≡◌, ℕ, ◌-◌, ◌≤◌, zero, suc, Bool, true, false, [], ◌∷◌, refl, sym, ◌∙◌, ap, subst, arith, Some, None, inl, inr}
+use Rattle.std.proofs.Common.{◌≡◌, ℕ, ◌-◌, ◌≤◌, zero, suc, false, List, [], ◌∷◌, refl, sym, ◌∙◌, ap, subst, arith, Some, None, inl, inr}
 use Rattle.std.specs.Prelude.{nat_eq, nat_lt, is_some, option_and_then, IsPermutation, IsSome}
 use Rattle.std.specs.List.{All, AllPairs, Contains}
 use Rattle.std.proofs.lemmas.List.Elements.{All-cons, All-nil}
@@ -11,31 +11,64 @@ use Rattle.std.specs.Option.{ForSome}
 use Rattle.moment_core.specs.Conformance.{Keeps}
 use Rattle.moment_core.specs.Metering.{opening, used}
 use Rattle.envelope_core.proofs.Windows.{size_within_cases}
-use Rattle.meter_book.specs.Replay.{journal_rows, row_of}
+use Rattle.meter_book.specs.Replay.{Journal, journal_rows, row_of}
+use Rattle.meter_book.specs.declared.any_meter.Parameters.{Parameters}
 use Rattle.ds_domain_base.specs.Fitting.{lacks_link, names_unknown, repeats}
 use Rattle.ds_domain_base.specs.Sent.{came}
 use Rattle.ds_domain_base.specs.declared.contract.Contract.{Contract}
+use Rattle.ds_domain_base.specs.declared.terms.Terms.{Terms}
 use Rattle.ds_certificate.specs.Bounds.{Grows, IsCertificate}
+use Rattle.ds_certificate.specs.Columns.{Bound}
 use Rattle.ds_certificate.specs.Sources.{jitters_along, source_of}
 use Rattle.ds_checker.specs.Acceptance.{Carries}
 use Rattle.ds_checker.specs.Loads.{bound_into, shares_at}
 use Rattle.af_marker.specs.CodePoints.{colour_at}
-use Rattle.meter_fabric.specs.Grounds.{contract_of, ground_of}
+use Rattle.meter_fabric.specs.Grounds.{Ground, contract_of, ground_of}
 use Rattle.meter_fabric.specs.Openings.{edge_opening, opening_at}
 use Rattle.meter_fabric.specs.Sites.{hops_along}
 use Rattle.meter_fabric.specs.Trails.{IsTrail}
-use Rattle.run_audit_base.specs.Examples.{SmallRunIsKept, meter_name, port_name, small_arrival, small_bound, small_contract, small_domain, small_journal, small_meter, small_parameters, small_passage, small_run, small_table}
+use Rattle.run_audit_base.specs.Examples.{SmallRunIsKept, arrival_as_hop, contract_on, domain_with, meter_name, port_name, small_bound, small_journal, small_meter, small_parameters, small_passage, small_run, small_table, small_terms, table_with}
 use Rattle.run_audit_base.specs.Premises.{IsInTime, IsTimely, KeepsSource, Premises}
-use Rattle.run_audit_base.specs.Runs.{IsPassage, IsRun, told}
+use Rattle.run_audit_base.specs.Runs.{IsPassage, IsRun, Passage, told}
 use Rattle.run_audit_base.specs.Sendings.{ForSent, Sending, sending_of}
 
+-- ---- the least domain, whatever its meter and the terms of its contract
+
 -- what holds of the only thing of a list
-only : {X : Type 0} (P : X → Type 0) (x : X) → P x → All P (x ∷ [])
+pub only : {X : Type 0} (P : X → Type 0) (x : X) → P x → All P (x ∷ [])
 only P x holds = All-cons P x [] holds (All-nil P)
 
 -- no two things stand in it
-only_pairs : {X : Type 0} (R : X → X → Type 0) (x : X) → AllPairs R (x ∷ [])
+pub only_pairs : {X : Type 0} (R : X → X → Type 0) (x : X) → AllPairs R (x ∷ [])
 only_pairs R x i j d first second = absurd (omega (arith, first, second))
+
+-- there is no other contract, and so no other edge
+pub nobody : (parameters : Parameters) (terms : Terms) (bound : Bound) (flow : ℕ)
+    → contract_of (ground_of (table_with parameters terms bound)) (suc flow) ≡ None
+nobody parameters terms bound flow =
+    let other : nat_eq 0 (suc flow) ≡ false = grind (arith, nat_tests) in
+    rw other refl
+
+pub no_site : (parameters : Parameters) (terms : Terms) (bound : Bound) (flow : ℕ)
+    → opening_at (ground_of (table_with parameters terms bound)) (suc (suc flow)) ≡ None
+no_site parameters terms bound flow =
+    let behind : nat_lt (suc (suc flow)) 1 ≡ false = grind (arith, nat_tests) in
+    let edge : suc (suc flow) - 1 ≡ suc flow = omega arith in
+    rw behind (rw edge (ap (option_and_then (edge_opening (domain_with parameters))) (nobody parameters terms bound flow)))
+
+-- what holds of the only packet of a run as it was sent
+pub only_sent : (g : Ground) (journals : List Journal) (p : Passage) (c : Contract) (s : Sending) (P : Contract → Sending → Type 0)
+    → contract_of g p.packet.flow ≡ Some c → sending_of c p ≡ Some s → P c s
+    → ForSent g (record { journals = journals; passages = p ∷ [] }) P
+only_sent g journals p c s P there sent holds =
+    only (λ q. ForSome (contract_of g q.packet.flow) (λ d. ForSome (sending_of d q) (P d))) p
+    (λ d is t told.
+    let contract : c ≡ d = same_Some c d (sym there ∙ is) in
+    subst (λ (x : Contract). sending_of x p ≡ Some t → P x t) contract
+    (λ own. subst (P c) (same_Some s t (sym sent ∙ own)) holds)
+    told)
+
+-- ---- the small run
 
 Keeps-one : (rate burst moment size : ℕ) → size ≤ burst → Keeps rate burst ((moment, size) ∷ [])
 Keeps-one rate burst moment size small start end ordered =
@@ -44,39 +77,26 @@ Keeps-one rate burst moment size small start end ordered =
       | inr outside ↦ omega (arith, outside.1)
     ]
 
-small_certificate : IsCertificate small_domain (small_contract ∷ []) ((small_bound ∷ small_bound ∷ []) ∷ [])
+small_certificate : IsCertificate small_table.domain small_table.contracts small_table.certificate
 unfolding lacks_link names_unknown repeats Grows jitters_along source_of
 small_certificate = (((refl, refl), ((omega arith, (omega arith, tt)), (omega arith, (omega arith, tt)))), tt)
 
-small_carries : All (λ entry. Carries entry.1 (shares_at small_domain entry.0 (small_contract ∷ []) ((small_bound ∷ small_bound ∷ []) ∷ []))) small_domain.meters
+small_carries : All (λ entry. Carries entry.1 (shares_at small_table.domain entry.0 small_table.contracts small_table.certificate)) small_table.domain.meters
 unfolding shares_at bound_into source_of
 small_carries =
-    only (λ entry. Carries entry.1 (shares_at small_domain entry.0 (small_contract ∷ []) ((small_bound ∷ small_bound ∷ []) ∷ [])))
+    only (λ entry. Carries entry.1 (shares_at small_table.domain entry.0 small_table.contracts small_table.certificate))
     (meter_name, record { parameters = small_parameters; skew = 0; origin = 0 })
     ((omega arith, omega arith), (omega arith, omega arith))
 
 small_trail : IsPassage (ground_of small_table) small_passage
 unfolding hops_along IsTrail came colour_at
-small_trail = (small_contract, refl, (record { site = refl; arrival = refl; in_time = omega arith }, tt))
+small_trail = (contract_on small_terms, refl, (record { site = refl; arrival = refl; in_time = omega arith }, tt))
 
--- there is no other contract, no edge, and no site but the meter's
-nobody : (flow : ℕ) → contract_of (ground_of small_table) (suc flow) ≡ None
-nobody flow =
-    let other : nat_eq 0 (suc flow) ≡ false = grind (arith, nat_tests) in
-    rw other refl
-
-no_edge : (flow : ℕ) → option_and_then (edge_opening small_domain) (contract_of (ground_of small_table) flow) ≡ None
-no_edge zero = refl
-no_edge (suc flow) = ap (option_and_then (edge_opening small_domain)) (nobody flow)
-
-no_site : (site : ℕ) → opening_at (ground_of small_table) (suc site) ≡ None
-no_site site =
-    let behind : nat_lt (suc site) 1 ≡ false = grind (arith, nat_tests) in
-    rw behind (no_edge (suc site - 1))
-
+-- there is no site but the meter's: a trusted contract has no edge
 small_sites : (site : ℕ) → IsSome (opening_at (ground_of small_table) site) → Contains (0 ∷ []) site
 small_sites zero there = (0, omega arith, refl)
-small_sites (suc site) there = absurd (false≢true (sym (ap is_some (no_site site)) ∙ there))
+small_sites (suc zero) there = absurd (false≢true there)
+small_sites (suc (suc flow)) there = absurd (false≢true (sym (ap is_some (no_site small_parameters small_terms small_bound flow)) ∙ there))
 
 small_is_run : IsRun (ground_of small_table) small_run
 small_is_run = record {
@@ -92,39 +112,35 @@ small_is_run = record {
 
 -- what holds of the packet as it was sent
 small_sent : (P : Contract → Sending → Type 0)
-    → P small_contract (record { moment = 0; colour = came small_contract 10; receipts = small_passage.receipts })
+    → P (contract_on small_terms) (record { moment = 0; colour = came (contract_on small_terms) 10; receipts = small_passage.receipts })
     → ForSent (ground_of small_table) small_run P
 small_sent P holds =
-    only (λ p. ForSome (contract_of (ground_of small_table) p.packet.flow) (λ c. ForSome (sending_of c p) (P c))) small_passage
-    (λ c is s sent.
-    let contract : small_contract ≡ c = same_Some small_contract c is in
-    subst (λ (x : Contract). sending_of x small_passage ≡ Some s → P x s) contract
-    (λ own. subst (P small_contract) (same_Some (record { moment = 0; colour = came small_contract 10; receipts = small_passage.receipts }) s own) holds)
-    sent)
+    only_sent (ground_of small_table) (small_journal ∷ []) small_passage (contract_on small_terms)
+    (record { moment = 0; colour = came (contract_on small_terms) 10; receipts = small_passage.receipts }) P refl refl holds
 
-small_keeps : KeepsSource (ground_of small_table) small_run 0 small_contract
+small_keeps : KeepsSource (ground_of small_table) small_run 0 (contract_on small_terms)
 unfolding source_of came colour_at
 small_keeps = (Keeps-one 8000 1500 0 100 (omega arith), Keeps-one 8000 1500 0 100 (omega arith))
 
 small_source : (flow : ℕ) (c : Contract) → contract_of (ground_of small_table) flow ≡ Some c → KeepsSource (ground_of small_table) small_run flow c
 small_source zero c is =
-    let contract : small_contract ≡ c = same_Some small_contract c is in
+    let contract : contract_on small_terms ≡ c = same_Some (contract_on small_terms) c is in
     subst (KeepsSource (ground_of small_table) small_run 0) contract small_keeps
-small_source (suc flow) c is = absurd (none-some c (sym (nobody flow) ∙ is))
+small_source (suc flow) c is = absurd (none-some c (sym (nobody small_parameters small_terms small_bound flow) ∙ is))
 
-small_way : IsTimely small_domain port_name small_contract.path 0 small_passage.receipts
+small_way : IsTimely small_table.domain port_name (meter_name ∷ []) 0 small_passage.receipts
 unfolding IsTimely
 small_way = ((omega arith, omega arith), tt)
 
 small_late : All (λ r. r.late ≤ 0) (journal_rows small_journal)
 unfolding used opening
-small_late = only (λ r. r.late ≤ 0) (row_of small_meter 0 small_arrival) (omega arith)
+small_late = only (λ r. r.late ≤ 0) (row_of small_meter 0 (arrival_as_hop 1)) (omega arith)
 
 small_premises : Premises (ground_of small_table) small_run
 small_premises = record {
   time = small_sent IsInTime (omega arith, λ until is. absurd (none-some until is));
   source = λ flow c is trusted. small_source flow c is;
-  link = small_sent (λ c s. IsTimely small_domain c.port c.path s.moment s.receipts) small_way;
+  link = small_sent (λ c s. IsTimely small_table.domain c.port c.path s.moment s.receipts) small_way;
   skew = only (λ j. All (λ r. r.late ≤ j.skew) (journal_rows j)) small_journal small_late;
 }
 

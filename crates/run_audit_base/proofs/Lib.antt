@@ -5,5 +5,6 @@ pub mod Journals
 pub mod Loads
 pub mod Passages
 pub mod Places
+pub mod PolicedExampleLaws
 pub mod Sources
 pub mod Ways

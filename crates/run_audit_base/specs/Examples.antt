@@ -1,5 +1,5 @@
--- The least domain with a packet: a port, a link, a meter and a contract that is trusted. Its one packet of 100 bytes,
--- sent green at moment 0, is all that it ever carries.
+-- The least domain with a packet: a port, a link, a meter and a contract. Its one packet of 100 bytes, sent green at
+-- moment 0, is all that it ever carries. Here the contract is trusted.
 use Rattle.std.specs.Prelude.{ℕ, List, [], ◌∷◌, None}
 use Rattle.moment_core.specs.declared.colour.Colour.TheVariants.{Green}
 use Rattle.moment_core.specs.declared.colour.Mode.TheVariants.{Aware}
@@ -11,10 +11,12 @@ use Rattle.meter_book.specs.declared.any_meter.Parameters.TheVariants.{TrTcm}
 use Rattle.meter_book.specs.declared.row.Arrival.{Arrival}
 use Rattle.ds_domain_base.specs.Domains.{Domain}
 use Rattle.ds_domain_base.specs.declared.contract.Contract.{Contract}
+use Rattle.ds_domain_base.specs.declared.terms.Terms.{Terms}
 use Rattle.ds_domain_base.specs.declared.terms.Terms.TheVariants.{Trusted}
 use Rattle.ds_certificate.specs.Columns.{Bound}
 use Rattle.ds_checker.specs.Acceptance.{IsAcceptable, Table}
 use Rattle.meter_fabric.specs.Grounds.{ground_of}
+use Rattle.meter_fabric.specs.Trails.{Packet}
 use Rattle.run_audit_base.specs.Premises.{Premises}
 use Rattle.run_audit_base.specs.Runs.{IsRun, Passage, Run}
 
@@ -25,53 +27,73 @@ port_name = 112 ∷ []
 abbrev pub meter_name : List ℕ
 meter_name = 109 ∷ []
 
-abbrev pub small_parameters : Parameters
-small_parameters = TrTcm (record { committed_rate = 8000; committed_burst = 1500; peak_rate = 8000; peak_burst = 1500 })
-
-abbrev pub small_domain : Domain
-small_domain = record {
-  meters = (meter_name, record { parameters = small_parameters; skew = 0; origin = 0 }) ∷ [];
+-- the domain, whose meter has these parameters
+abbrev pub domain_with : Parameters → Domain
+domain_with parameters = record {
+  meters = (meter_name, record { parameters = parameters; skew = 0; origin = 0 }) ∷ [];
   ports = (port_name, record { skew = 0 }) ∷ [];
   links = ((port_name, meter_name), record { floor = 0; jitter = 0 }) ∷ [];
 }
 
-abbrev pub small_contract : Contract
-small_contract = record {
+-- the contract, from the port to the meter, on these terms
+abbrev pub contract_on : Terms → Contract
+contract_on terms = record {
   name = 99 ∷ [];
-  terms = Trusted (record { rate = 8000; burst = 1500 }) None;
+  terms = terms;
   port = port_name;
   path = meter_name ∷ [];
   class = 1;
   lifetime = record { since = 0; until = None };
-  rule = record { source = None; target = None; protocol = None; source_ports = None; target_ports = None; dscp =
-      None };
+  rule = record {
+    source = None;
+    target = None;
+    protocol = None;
+    source_ports = None;
+    target_ports = None;
+    dscp = None;
+  };
 }
+
+-- the domain and the contract, with one bound for the port and for the meter
+abbrev pub table_with : Parameters → Terms → Bound → Table
+table_with parameters terms bound = record {
+  domain = domain_with parameters;
+  contracts = contract_on terms ∷ [];
+  certificate = (bound ∷ bound ∷ []) ∷ [];
+}
+
+-- the packet, with code point AF11
+abbrev pub small_packet : Packet
+small_packet = record { flow = 0; number = 0; size = 100; dscp = 10; begun = 0 }
+
+-- it comes green to the hop of a number
+abbrev pub arrival_as_hop : ℕ → Arrival
+arrival_as_hop number = record { flow = 0; packet = 0; hop = number; moment = 0; size = 100; came = Green }
+
+abbrev pub small_parameters : Parameters
+small_parameters = TrTcm (record { committed_rate = 8000; committed_burst = 1500; peak_rate = 8000; peak_burst = 1500 })
+
+abbrev pub small_terms : Terms
+small_terms = Trusted (record { rate = 8000; burst = 1500 }) None
 
 abbrev pub small_bound : Bound
 small_bound = record { green = 1500; all = 1500 }
 
 abbrev pub small_table : Table
-small_table = record {
-  domain = small_domain;
-  contracts = small_contract ∷ [];
-  certificate = (small_bound ∷ small_bound ∷ []) ∷ [];
-}
+small_table = table_with small_parameters small_terms small_bound
 
 abbrev pub small_meter : AnyMeter
 small_meter = opening_of small_parameters Aware 0
 
-abbrev pub small_arrival : Arrival
-small_arrival = record { flow = 0; packet = 0; hop = 1; moment = 0; size = 100; came = Green }
-
--- the packet, with code point AF11, and its receipt of the meter
+-- the packet and its receipt of the meter
 abbrev pub small_passage : Passage
 small_passage = record {
-  packet = record { flow = 0; number = 0; size = 100; dscp = 10; begun = 0 };
-  receipts = record { site = 0; row = row_of small_meter 0 small_arrival } ∷ [];
+  packet = small_packet;
+  receipts = record { site = 0; row = row_of small_meter 0 (arrival_as_hop 1) } ∷ [];
 }
 
 abbrev pub small_journal : Journal
-small_journal = record { site = 0; opening = small_meter; skew = 0; arrivals = small_arrival ∷ [] }
+small_journal = record { site = 0; opening = small_meter; skew = 0; arrivals = arrival_as_hop 1 ∷ [] }
 
 abbrev pub small_run : Run
 small_run = record { journals = small_journal ∷ []; passages = small_passage ∷ [] }

@@ -20,4 +20,4 @@ pub record StandsIn (t : Table) (g : Ground) : Type 0 where
 abbrev pub EveryRunKeepsColours : Type 0
 EveryRunKeepsColours =
     (t : Table) (g : Ground) (run : Run) → IsAcceptable t → StandsIn t g → IsRun g run → Premises g run
-        → ColoursKept g run
+    → ColoursKept g run

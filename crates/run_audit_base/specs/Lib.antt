@@ -1,5 +1,6 @@
 pub mod Examples
 pub mod KeptColours
+pub mod PolicedExample
 pub mod Premises
 pub mod Runs
 pub mod Sendings

@@ -1,6 +1,6 @@
 -- What a run is taken to keep: contracts their time, trusted sources their buckets, links their jitter, and meters
 -- their skew.
-use Rattle.std.specs.Prelude.{◌≡◌, ℕ, ◌+◌, ◌<◌, ◌≤◌, ⊤, List, [], ◌∷◌, All, Option, None, Some}
+use Rattle.std.specs.Prelude.{◌≡◌, ℕ, ◌+◌, ◌<◌, ◌≤◌, ⊤, List, [], ◌∷◌, All, Option, Some}
 use Rattle.std.specs.Option.{ForSome}
 use Rattle.moment_core.specs.Colours.{is_green, is_in_profile}
 use Rattle.envelope_core.specs.Curve.{KeepsCurve}

@@ -1,6 +1,7 @@
 //! The law of colours, proved as the contract of a function that does nothing.
 ghost use Rattle.run_audit_base.specs.Examples.{SmallRunIsKept};
 ghost use Rattle.run_audit_base.specs.KeptColours.{EveryRunKeepsColours};
+ghost use Rattle.run_audit_base.specs.PolicedExample.{PolicedRunIsKept};
 
 /// Where the checker accepts a domain, its contracts and their certificate, then in every run of its meters by any
 /// workers in any order, in which trusted sources keep their buckets, links keep their jitter and meters their skew,
@@ -16,4 +17,10 @@ pub fn every_run_keeps_colours()
 /// What is asked of a run can be met: a packet of 100 bytes passes the only meter of a domain.
 pub fn small_run_is_kept()
     ensures { SmallRunIsKept }
+{}
+
+/// It can be met where the contract is policed, too: the packet passes an edge and then a meter, both of the single
+/// rate (RFC 2697).
+pub fn policed_run_is_kept()
+    ensures { PolicedRunIsKept }
 {}
