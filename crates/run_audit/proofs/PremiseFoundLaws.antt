@@ -1,5 +1,5 @@
 -- Where nothing is found along a list, nothing is found at any of its elements, in whatever order they stand.
-use Rattle.std.proofs.Common.{arith, ◌≡◌, ℕ, ◌<◌, ◌≤◌, ◌↔◌, Bool, true, false, List, [], ◌∷◌, Option, None, Some, refl}
+use Rattle.std.proofs.Common.{arith, ◌≡◌, ℕ, ◌<◌, ◌≤◌, ◌↔◌, Bool, true, false, List, [], ◌∷◌, Option, None, Some, refl, sym, ap, subst, ◌∙◌}
 use Rattle.std.specs.Prelude.{◌&&◌, nat_le, nat_lt, option_map, option_and_then, unwrap_or, if◌then◌else◌}
 use Rattle.std.specs.List.{All}
 use Rattle.std.specs.Option.{ForSome, option_map_or}
@@ -10,7 +10,7 @@ use Rattle.std.proofs.lemmas.Option.{same_Some}
 use Rattle.run_audit.specs.Orders.{in_order}
 use Rattle.run_audit.specs.Verdicts.{first_found, first_of}
 use Rattle.run_audit.specs.declared.verdict.Verdict.{Verdict}
-use Rattle.run_audit.specs.declared.verdict.Verdict.TheVariants.{Kept}
+use Rattle.run_audit.specs.declared.verdict.Verdict.TheVariants.{DelayOver, Kept, Late, OutsideContract, SourceOver}
 use Rattle.run_audit.proofs.OrderLaws.{in_order-permutes}
 
 -- ---- what tests tell
@@ -90,36 +90,61 @@ none_in_order before find P xs each =
       λ all. none.1 (All-permutation P xs (in_order before xs) moved all),
     )
 
--- ---- what is found is never that a run is kept
+-- ---- what is found is of its premise
 
-abbrev pub IsNotKept : Option Verdict → Type 0
-IsNotKept o = ¬ (o ≡ Some Kept)
+-- the premise that a verdict is of, in their order
+abbrev pub premise_of : Verdict → ℕ
+premise_of Kept = 0
+premise_of (OutsideContract packet) = 1
+premise_of (SourceOver flow column packet) = 2
+premise_of (DelayOver packet hop) = 3
+premise_of (Late site place late) = 4
 
-pub first_of-not_kept : (a b : Option Verdict) → IsNotKept a → IsNotKept b → IsNotKept (first_of a b)
-first_of-not_kept None b here behind = behind
-first_of-not_kept (Some x) b here behind = here
+-- what holds of a verdict, if there is one
+abbrev pub Gives : (Verdict → Type 0) → Option Verdict → Type 0
+Gives P o = (v : Verdict) → o ≡ Some v → P v
 
-pub first_found-not_kept : {A : Type 0} (find : A → Option Verdict) (xs : List A) → ((x : A) → IsNotKept (find x)) → IsNotKept (first_found find xs)
+abbrev pub IsOf : ℕ → Option Verdict → Type 0
+IsOf premise = Gives (λ v. premise_of v ≡ premise)
+
+pub first_of-gives : (P : Verdict → Type 0) (a b : Option Verdict) → Gives P a → Gives P b → Gives P (first_of a b)
+first_of-gives P None b here behind = behind
+first_of-gives P (Some x) b here behind = here
+
+pub first_found-gives : {A : Type 0} (P : Verdict → Type 0) (find : A → Option Verdict) (xs : List A) → ((x : A) → Gives P (find x)) → Gives P (first_found find xs)
 unfolding first_found
-first_found-not_kept find [] each e = absurd cc
-first_found-not_kept find (x ∷ xs) each e = first_of-not_kept (find x) (first_found find xs) (each x) (first_found-not_kept find xs each) e
+first_found-gives P find [] each v e = absurd cc
+first_found-gives P find (x ∷ xs) each v e = first_of-gives P (find x) (first_found find xs) (each x) (first_found-gives P find xs each) v e
 
-pub and_then-not_kept : {A : Type 0} (f : A → Option Verdict) (o : Option A) → ((x : A) → IsNotKept (f x)) → IsNotKept (option_and_then f o)
-and_then-not_kept f None each e = absurd cc
-and_then-not_kept f (Some x) each e = each x e
+pub and_then-gives : {A : Type 0} (P : Verdict → Type 0) (f : A → Option Verdict) (o : Option A) → ((x : A) → Gives P (f x)) → Gives P (option_and_then f o)
+and_then-gives P f None each v e = absurd cc
+and_then-gives P f (Some x) each v e = each x v e
 
-pub map-not_kept : {A : Type 0} (f : A → Verdict) (o : Option A) → ((x : A) → ¬ (f x ≡ Kept)) → IsNotKept (option_map f o)
-map-not_kept f None each e = absurd cc
-map-not_kept f (Some x) each e = each x (same_Some (f x) Kept e)
+pub map-gives : {A : Type 0} (P : Verdict → Type 0) (f : A → Verdict) (o : Option A) → ((x : A) → P (f x)) → Gives P (option_map f o)
+map-gives P f None each v e = absurd cc
+map-gives P f (Some x) each v e = subst P (same_Some (f x) v e) (each x)
 
-pub unless-not_kept : (b : Bool) (v : Verdict) → ¬ (v ≡ Kept) → IsNotKept (if b then None else Some v)
-unless-not_kept true v other e = absurd cc
-unless-not_kept false v other e = other (same_Some v Kept e)
+pub unless-gives : (P : Verdict → Type 0) (b : Bool) (w : Verdict) → P w → Gives P (if b then None else Some w)
+unless-gives P true w holds v e = absurd cc
+unless-gives P false w holds v e = subst P (same_Some w v e) holds
 
--- so the verdict is that it is kept where nothing is found
-pub kept_is_none : (o : Option Verdict) → IsNotKept o → (unwrap_or o Kept ≡ Kept) ↔ (o ≡ None)
+-- of two parts one gives a verdict of a premise, where the other gives none
+pub first_gave : (premise : ℕ) (a b : Option Verdict) (v : Verdict) → Gives (λ w. ¬ (premise_of w ≡ premise)) b → premise_of v ≡ premise → first_of a b ≡ Some v → a ≡ Some v
+first_gave premise None b v other own e = absurd (other v e own)
+first_gave premise (Some x) b v other own e = e
+
+pub rest_gave : (premise : ℕ) (a b : Option Verdict) (v : Verdict) → Gives (λ w. ¬ (premise_of w ≡ premise)) a → premise_of v ≡ premise → first_of a b ≡ Some v → b ≡ Some v
+rest_gave premise None b v other own e = e
+rest_gave premise (Some x) b v other own e = absurd (other v e own)
+
+pub of_another : (premise other : ℕ) (o : Option Verdict) → ¬ (other ≡ premise) → IsOf other o → Gives (λ w. ¬ (premise_of w ≡ premise)) o
+of_another premise other o apart is_of v e same = apart (sym (is_of v e) ∙ same)
+
+-- the verdict is that a run is kept where nothing is found, and else what is found
+pub kept_is_none : (o : Option Verdict) → Gives (λ w. ¬ (premise_of w ≡ 0)) o → (unwrap_or o Kept ≡ Kept) ↔ (o ≡ None)
 kept_is_none None other = (λ e. refl, λ e. refl)
-kept_is_none (Some v) other = (λ e. absurd (other (again v e)), λ e. absurd cc)
-  where
-    again : (v : Verdict) → v ≡ Kept → Some v ≡ Some Kept
-    again v e = rw e refl
+kept_is_none (Some v) other = (λ e. absurd (other v refl (ap premise_of e)), λ e. absurd cc)
+
+pub verdict_found : (o : Option Verdict) (v : Verdict) → ¬ (premise_of v ≡ 0) → unwrap_or o Kept ≡ v → o ≡ Some v
+verdict_found None v other e = absurd (other (ap premise_of (sym e)))
+verdict_found (Some w) v other e = ap Some e

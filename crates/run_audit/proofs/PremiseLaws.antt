@@ -1,6 +1,11 @@
 -- The verdict on a run is that it is kept exactly where it meets the premises.
-use Rattle.std.proofs.Common.{◌≡◌, ℕ, suc, ◌+◌, ◌<◌, ◌≤◌, ◌↔◌, true, List, [], ◌∷◌, Option, None, refl}
-use Rattle.std.specs.Prelude.{nat_le, nat_lt, option_and_then}
+use Rattle.std.proofs.Common.{◌≡◌, ℕ, suc, ◌+◌, ◌<◌, ◌≤◌, ◌↔◌, true, List, [], ◌∷◌, Option, None, refl, ⊎_elim, get_or, sym, ap, subst, ◌∙◌, arith, Some}
+use Rattle.std.specs.Prelude.{nat_le, nat_lt, option_and_then, Contains}
+use Rattle.std.proofs.lemmas.Bool.{false≢true}
+use Rattle.std.proofs.lemmas.Bool.Decides.{nat_tests}
+use Rattle.std.proofs.lemmas.List.Elements.{All-contains}
+use Rattle.std.proofs.lemmas.List.Sorted.{Contains-permutation, IsPermutation-sym}
+use Rattle.std.proofs.lemmas.Option.{none-some}
 use Rattle.std.specs.List.{All}
 use Rattle.std.specs.Option.{ForSome, option_map_or}
 use Rattle.meter_book.specs.Replay.{Journal, journal_rows}
@@ -13,12 +18,16 @@ use Rattle.meter_fabric.specs.declared.trail.Receipt.{Receipt}
 use Rattle.run_audit_base.specs.Premises.{IsInTime, IsOver, IsTimely, KeepsLinks, KeepsSkews, KeepsTime, Premises}
 use Rattle.run_audit_base.specs.Runs.{IsRun, Passage, Run}
 use Rattle.run_audit_base.specs.Sendings.{ForSent, Sending, sending_of}
+use Rattle.run_audit.specs.Laws.{IsLeastWithout, IsSentSo}
 use Rattle.run_audit.specs.Orders.{in_order}
 use Rattle.run_audit.specs.Verdicts.{against_sent, delayed, first_found, first_of, is_numbered_before, is_over, late_row, link_of_run, may_send, outside, skew_of_run, source_of_run, time_of, untimely, verdict_of}
 use Rattle.run_audit.specs.declared.verdict.Verdict.{Verdict}
-use Rattle.run_audit.specs.declared.verdict.Verdict.TheVariants.{Kept, OutsideContract, DelayOver, Late}
-use Rattle.run_audit.proofs.PremiseFoundLaws.{IsNotKept, and_tells, and_then-none, and_then-not_kept, first_found-not_kept, first_of-none, first_of-not_kept, if_tells, iff_trans, kept_is_none, le_tells, lt_tells, map-none, map-not_kept, none_along, none_in_order, some_tells, unless-not_kept, unless_tells}
-use Rattle.run_audit.proofs.PremiseSourceLaws.{source-not_kept, source_tells}
+use Rattle.run_audit.specs.declared.verdict.Verdict.TheVariants.{Kept, OutsideContract, SourceOver, DelayOver, Late}
+use Rattle.run_audit.proofs.MemberLaws.{front_or_rest, in_front, in_rest}
+use Rattle.run_audit.proofs.OrderLaws.{Ascends, in_order-ascends, in_order-permutes}
+use Rattle.run_audit.proofs.SortLaws.{either_way, key_order}
+use Rattle.run_audit.proofs.PremiseFoundLaws.{Gives, IsOf, and_tells, and_then-gives, and_then-none, first_found-gives, first_gave, first_of-gives, first_of-none, if_tells, iff_trans, kept_is_none, le_tells, lt_tells, map-gives, map-none, none_along, none_in_order, of_another, premise_of, rest_gave, some_tells, unless-gives, unless_tells, verdict_found}
+use Rattle.run_audit.proofs.PremiseSourceLaws.{source-gives, source_tells}
 
 -- ---- packets that were sent
 
@@ -29,10 +38,10 @@ against_tells g find P p each =
     and_then-none (λ c. option_and_then (find c) (sending_of c p)) (λ c. ForSome (sending_of c p) (P c)) (contract_of g p.packet.flow)
     (λ c. and_then-none (find c) (P c) (sending_of c p) (each c))
 
-against-not_kept : (g : Ground) (find : Contract → Sending → Option Verdict) (p : Passage) → ((c : Contract) (s : Sending) → IsNotKept (find c s)) → IsNotKept (against_sent g find p)
-against-not_kept g find p each =
-    and_then-not_kept (λ c. option_and_then (find c) (sending_of c p)) (contract_of g p.packet.flow)
-    (λ c. and_then-not_kept (find c) (sending_of c p) (each c))
+against-gives : (P : Verdict → Type 0) (g : Ground) (find : Contract → Sending → Option Verdict) (p : Passage) → ((c : Contract) (s : Sending) → Gives P (find c s)) → Gives P (against_sent g find p)
+against-gives P g find p each =
+    and_then-gives P (λ c. option_and_then (find c) (sending_of c p)) (contract_of g p.packet.flow)
+    (λ c. and_then-gives P (find c) (sending_of c p) (each c))
 
 -- nothing is found against the packets of a run where each that was sent is as it should be
 sent_tells : (g : Ground) (run : Run) (find : ℕ → Contract → Sending → Option Verdict) (P : Contract → Sending → Type 0)
@@ -54,13 +63,14 @@ outside_tells n c s =
 time_tells : (g : Ground) (run : Run) → (time_of g run ≡ None) ↔ KeepsTime g run
 time_tells g run = sent_tells g run outside IsInTime outside_tells
 
-outside-not_kept : (n : ℕ) (c : Contract) (s : Sending) → IsNotKept (outside n c s)
-outside-not_kept n c s = unless-not_kept (may_send c.lifetime s.moment) (OutsideContract n) (λ e. absurd cc)
+-- what is found is of that packet
+pub outside-gives : (n : ℕ) (c : Contract) (s : Sending) → Gives (λ v. v ≡ OutsideContract n) (outside n c s)
+outside-gives n c s = unless-gives (λ v. v ≡ OutsideContract n) (may_send c.lifetime s.moment) (OutsideContract n) refl
 
-time-not_kept : (g : Ground) (run : Run) → IsNotKept (time_of g run)
-time-not_kept g run =
-    first_found-not_kept (λ p. against_sent g (outside p.packet.number) p) (in_order is_numbered_before run.passages)
-    (λ p. against-not_kept g (outside p.packet.number) p (outside-not_kept p.packet.number))
+time-gives : (g : Ground) (run : Run) → IsOf 1 (time_of g run)
+time-gives g run =
+    first_found-gives (λ v. premise_of v ≡ 1) (λ p. against_sent g (outside p.packet.number) p) (in_order is_numbered_before run.passages)
+    (λ p. against-gives (λ v. premise_of v ≡ 1) g (outside p.packet.number) p (λ c s v e. ap premise_of (outside-gives p.packet.number c s v e)))
 
 -- ---- links
 
@@ -87,13 +97,17 @@ delayed_tells g n c s =
 link_tells : (g : Ground) (run : Run) → (link_of_run g run ≡ None) ↔ KeepsLinks g run
 link_tells g run = sent_tells g run (delayed g.domain) (λ c s. IsTimely g.domain c.port c.path s.moment s.receipts) (delayed_tells g)
 
-delayed-not_kept : (g : Ground) (n : ℕ) (c : Contract) (s : Sending) → IsNotKept (delayed g.domain n c s)
-delayed-not_kept g n c s = map-not_kept (λ hop. DelayOver n hop) (untimely g.domain 1 c.port c.path s.moment s.receipts) (λ hop e. absurd cc)
+-- what a verdict on a delay is of
+abbrev pub IsDelayOf : ℕ → Verdict → Type 0
+IsDelayOf n v = (hop : ℕ) × (v ≡ DelayOver n hop)
 
-link-not_kept : (g : Ground) (run : Run) → IsNotKept (link_of_run g run)
-link-not_kept g run =
-    first_found-not_kept (λ p. against_sent g (delayed g.domain p.packet.number) p) (in_order is_numbered_before run.passages)
-    (λ p. against-not_kept g (delayed g.domain p.packet.number) p (delayed-not_kept g p.packet.number))
+pub delayed-gives : (g : Ground) (n : ℕ) (c : Contract) (s : Sending) → Gives (IsDelayOf n) (delayed g.domain n c s)
+delayed-gives g n c s = map-gives (IsDelayOf n) (λ hop. DelayOver n hop) (untimely g.domain 1 c.port c.path s.moment s.receipts) (λ hop. (hop, refl))
+
+link-gives : (g : Ground) (run : Run) → IsOf 3 (link_of_run g run)
+link-gives g run =
+    first_found-gives (λ v. premise_of v ≡ 3) (λ p. against_sent g (delayed g.domain p.packet.number) p) (in_order is_numbered_before run.passages)
+    (λ p. against-gives (λ v. premise_of v ≡ 3) g (delayed g.domain p.packet.number) p (λ c s v e. ap premise_of (delayed-gives g p.packet.number c s v e).1))
 
 -- ---- skews
 
@@ -105,13 +119,13 @@ skew_tells run =
     none_in_order (λ j k. nat_lt j.site k.site) (λ j. first_found (late_row j) (journal_rows j)) (λ j. All (λ r. r.late ≤ j.skew) (journal_rows j)) run.journals
     (λ j. none_along (late_row j) (λ r. r.late ≤ j.skew) (journal_rows j) (late_tells j))
 
-late-not_kept : (j : Journal) (r : Row) → IsNotKept (late_row j r)
-late-not_kept j r = unless-not_kept (nat_le r.late j.skew) (Late j.site r.place r.late) (λ e. absurd cc)
+late-gives : (j : Journal) (r : Row) → IsOf 4 (late_row j r)
+late-gives j r = unless-gives (λ v. premise_of v ≡ 4) (nat_le r.late j.skew) (Late j.site r.place r.late) refl
 
-skew-not_kept : (run : Run) → IsNotKept (skew_of_run run)
-skew-not_kept run =
-    first_found-not_kept (λ j. first_found (late_row j) (journal_rows j)) (in_order (λ j k. nat_lt j.site k.site) run.journals)
-    (λ j. first_found-not_kept (late_row j) (journal_rows j) (late-not_kept j))
+skew-gives : (run : Run) → IsOf 4 (skew_of_run run)
+skew-gives run =
+    first_found-gives (λ v. premise_of v ≡ 4) (λ j. first_found (late_row j) (journal_rows j)) (in_order (λ j k. nat_lt j.site k.site) run.journals)
+    (λ j. first_found-gives (λ v. premise_of v ≡ 4) (late_row j) (journal_rows j) (late-gives j))
 
 -- ---- all of them
 
@@ -119,11 +133,16 @@ skew-not_kept run =
 abbrev found_in : Ground → Run → Option Verdict
 found_in g run = first_of (time_of g run) (first_of (source_of_run g run) (first_of (link_of_run g run) (skew_of_run run)))
 
-found-not_kept : (g : Ground) (run : Run) → IsNotKept (found_in g run)
-found-not_kept g run =
-    first_of-not_kept (time_of g run) (first_of (source_of_run g run) (first_of (link_of_run g run) (skew_of_run run))) (time-not_kept g run)
-    (first_of-not_kept (source_of_run g run) (first_of (link_of_run g run) (skew_of_run run)) (source-not_kept g run)
-    (first_of-not_kept (link_of_run g run) (skew_of_run run) (link-not_kept g run) (skew-not_kept run)))
+found-other : (g : Ground) (run : Run) → Gives (λ w. ¬ (premise_of w ≡ 0)) (found_in g run)
+found-other g run =
+    let P = λ (w : Verdict). ¬ (premise_of w ≡ 0) in
+    first_of-gives P (time_of g run) (first_of (source_of_run g run) (first_of (link_of_run g run) (skew_of_run run)))
+    (of_another 0 1 (time_of g run) (λ e. omega (arith, e)) (time-gives g run))
+    (first_of-gives P (source_of_run g run) (first_of (link_of_run g run) (skew_of_run run))
+    (of_another 0 2 (source_of_run g run) (λ e. omega (arith, e)) (source-gives g run))
+    (first_of-gives P (link_of_run g run) (skew_of_run run)
+    (of_another 0 3 (link_of_run g run) (λ e. omega (arith, e)) (link-gives g run))
+    (of_another 0 4 (skew_of_run run) (λ e. omega (arith, e)) (skew-gives run))))
 
 found_tells : (g : Ground) (run : Run) → (found_in g run ≡ None) ↔ Premises g run
 found_tells g run =
@@ -151,4 +170,100 @@ found_tells g run =
     )
 
 pub kept_is_premises : (g : Ground) (run : Run) → IsRun g run → (verdict_of g run ≡ Kept) ↔ Premises g run
-kept_is_premises g run is_run = iff_trans (kept_is_none (found_in g run) (found-not_kept g run)) (found_tells g run)
+kept_is_premises g run is_run = iff_trans (kept_is_none (found_in g run) (found-other g run)) (found_tells g run)
+
+-- ---- the least packet that broke a premise
+
+-- what is found first along a list that ascends by a key, and that nothing is found at lesser keys
+least_found : {A : Type 0} (key : A → ℕ) (find : A → Option Verdict) (xs : List A) (v : Verdict) → Ascends (λ x y. nat_lt (key x) (key y)) xs → first_found find xs ≡ Some v
+    → (x : A) × Contains xs x × (find x ≡ Some v) × ((y : A) → Contains xs y → key y < key x → find y ≡ None)
+unfolding first_found Ascends
+least_found key find [] v rises e = absurd cc
+least_found {A} key find (x ∷ xs) v rises e = by_look (find x) refl e (least_found key find xs v rises.1)
+  where
+    lesser : (m n : ℕ) → nat_lt m n ≡ true → ¬ (n < m)
+    lesser m n first below = false≢true (sym (grind (arith, nat_tests)) ∙ first)
+
+    none_before : (y : A) → Contains (x ∷ xs) y → key y < key x → find y ≡ None
+    none_before y has below =
+        ⊎_elim
+        (λ same. absurd (omega (arith, below, ap key same)))
+        (λ rest. absurd (lesser (key x) (key y) (All-contains (λ z. nat_lt (key x) (key z) ≡ true) xs y rises.0 rest) below))
+        (front_or_rest x y xs has)
+
+    by_look : (here : Option Verdict) → find x ≡ here → first_of here (first_found find xs) ≡ Some v
+        → (first_found find xs ≡ Some v → (z : A) × Contains xs z × (find z ≡ Some v) × ((y : A) → Contains xs y → key y < key z → find y ≡ None))
+        → (z : A) × Contains (x ∷ xs) z × (find z ≡ Some v) × ((y : A) → Contains (x ∷ xs) y → key y < key z → find y ≡ None)
+    by_look (Some w) is found behind = (x, in_front x xs, is ∙ found, none_before)
+    by_look None is found behind =
+        let (z, has, own, least) = behind found in (
+          z,
+          in_rest x z xs has,
+          own,
+          λ y has_y below. ⊎_elim (λ same. ap find (sym same) ∙ is) (λ rest. least y rest below) (front_or_rest x y xs has_y),
+        )
+
+numbers_ascend : (g : Ground) (run : Run) → IsRun g run → Ascends is_numbered_before (in_order is_numbered_before run.passages)
+numbers_ascend g run is_run =
+    in_order-ascends is_numbered_before (key_order (λ (p : Passage). p.packet.number)) run.passages
+    (λ i j d below short. either_way (get_or run.passages i d).packet.number (get_or run.passages j d).packet.number (is_run.numbers i j d below short))
+
+-- the packet at which a test finds something first, where it tells a packet by its number
+least_without : (g : Ground) (run : Run) → IsRun g run → (find : ℕ → Contract → Sending → Option Verdict) (P : Contract → Sending → Type 0) (Tells : ℕ → Verdict → Type 0) (number : ℕ) (v : Verdict)
+    → ((n : ℕ) (c : Contract) (s : Sending) → (find n c s ≡ None) ↔ P c s)
+    → ((n : ℕ) (c : Contract) (s : Sending) → Gives (Tells n) (find n c s))
+    → ((n : ℕ) → Tells n v → n ≡ number)
+    → first_found (λ p. against_sent g (find p.packet.number) p) (in_order is_numbered_before run.passages) ≡ Some v
+    → IsLeastWithout run (IsSentSo g P) number
+least_without g run is_run find P Tells number v each gives names e =
+    let test = λ (p : Passage). against_sent g (find p.packet.number) p in
+    let sorted = in_order is_numbered_before run.passages in
+    let (p, has, found, least) = least_found (λ (p : Passage). p.packet.number) test sorted v (numbers_ascend g run is_run) e in
+    let tells = λ (q : Passage). against_tells g (find q.packet.number) P q (each q.packet.number) in
+    let moved = in_order-permutes is_numbered_before run.passages in
+    let named = names p.packet.number (against-gives (Tells p.packet.number) g (find p.packet.number) p (gives p.packet.number) v found) in
+    record {
+      passage = p;
+      there = Contains-permutation sorted run.passages p (IsPermutation-sym run.passages sorted moved) has;
+      named = named;
+      broken = λ holds. none-some v (sym ((tells p).1 holds) ∙ found);
+      least = λ q there below. (tells q).0 (least q (Contains-permutation run.passages sorted q moved there) (omega (arith, below, named)));
+    }
+
+packet_of : Verdict → ℕ
+packet_of Kept = 0
+packet_of (OutsideContract packet) = packet
+packet_of (SourceOver flow column packet) = packet
+packet_of (DelayOver packet hop) = packet
+packet_of (Late site place late) = place
+
+pub least_is_told : (g : Ground) (run : Run) (number : ℕ) → IsRun g run
+    → (verdict_of g run ≡ OutsideContract number → IsLeastWithout run (IsSentSo g IsInTime) number)
+    × ((hop : ℕ) → verdict_of g run ≡ DelayOver number hop
+    → IsLeastWithout run (IsSentSo g (λ c s. IsTimely g.domain c.port c.path s.moment s.receipts)) number)
+unfolding packet_of
+least_is_told g run number is_run = (
+  λ e.
+      let v = OutsideContract number in
+      let found = verdict_found (found_in g run) v (λ none. omega (arith, none)) e in
+      let time = first_gave 1 (time_of g run) rest v (first_of-gives (λ w. ¬ (premise_of w ≡ 1)) (source_of_run g run) (first_of (link_of_run g run) (skew_of_run run))
+      (of_another 1 2 (source_of_run g run) (λ same. omega (arith, same)) (source-gives g run)) (later 1 (λ same. omega (arith, same)) (λ same. omega (arith, same)))) refl found in
+      least_without g run is_run outside IsInTime (λ n w. w ≡ OutsideContract n) number v outside_tells outside-gives
+      (λ n told. sym (ap packet_of told)) time,
+  λ hop e.
+      let v = DelayOver number hop in
+      let found = verdict_found (found_in g run) v (λ none. omega (arith, none)) e in
+      let behind = rest_gave 3 (time_of g run) rest v (of_another 3 1 (time_of g run) (λ same. omega (arith, same)) (time-gives g run)) refl found in
+      let links = rest_gave 3 (source_of_run g run) (first_of (link_of_run g run) (skew_of_run run)) v (of_another 3 2 (source_of_run g run) (λ same. omega (arith, same)) (source-gives g run)) refl behind in
+      let link = first_gave 3 (link_of_run g run) (skew_of_run run) v (of_another 3 4 (skew_of_run run) (λ same. omega (arith, same)) (skew-gives run)) refl links in
+      least_without g run is_run (delayed g.domain) (λ c s. IsTimely g.domain c.port c.path s.moment s.receipts) IsDelayOf number v (delayed_tells g) (delayed-gives g)
+      (λ n told. sym (ap packet_of told.1)) link,
+)
+  where
+    rest : Option Verdict
+    rest = first_of (source_of_run g run) (first_of (link_of_run g run) (skew_of_run run))
+
+    later : (premise : ℕ) → ¬ (3 ≡ premise) → ¬ (4 ≡ premise) → Gives (λ w. ¬ (premise_of w ≡ premise)) (first_of (link_of_run g run) (skew_of_run run))
+    later premise link skew =
+        first_of-gives (λ w. ¬ (premise_of w ≡ premise)) (link_of_run g run) (skew_of_run run)
+        (of_another premise 3 (link_of_run g run) link (link-gives g run)) (of_another premise 4 (skew_of_run run) skew (skew-gives run))

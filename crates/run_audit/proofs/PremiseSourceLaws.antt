@@ -35,7 +35,7 @@ use Rattle.run_audit.specs.Verdicts.{counts_in, curve_in, is_begun_before, over_
 use Rattle.run_audit.specs.declared.verdict.Verdict.TheVariants.{SourceOver}
 use Rattle.run_audit.proofs.FoundLaws.{is_there}
 use Rattle.run_audit.proofs.OrderLaws.{in_order-permutes}
-use Rattle.run_audit.proofs.PremiseFoundLaws.{IsNotKept, and_then-none, and_then-not_kept, first_found-not_kept, first_of-none, first_of-not_kept, iff_trans, map-none, map-not_kept, none_along}
+use Rattle.run_audit.proofs.PremiseFoundLaws.{IsOf, and_then-gives, and_then-none, first_found-gives, first_of-gives, first_of-none, iff_trans, map-gives, map-none, none_along, premise_of}
 
 -- ---- a list in an order that follows a key does not fall in that key
 
@@ -234,19 +234,19 @@ source_tells g run =
       λ keeps. tells.1 (λ place flow short c is. keeps (get_or (keys_of g.contracts) place flow) c is),
     )
 
--- ---- what is found is never that a run is kept
+-- ---- what is found is of the sources
 
-by-not_kept : (g : Ground) (run : Run) (flow : ℕ) (c : Contract) (terms : Terms) → IsNotKept (over_by terms g run flow c)
-by-not_kept g run flow c (Trusted committed peak) =
-    first_of-not_kept (over_in g run flow c columns.Green) (over_in g run flow c columns.All) (in-not_kept columns.Green) (in-not_kept columns.All)
+by-gives : (g : Ground) (run : Run) (flow : ℕ) (c : Contract) (terms : Terms) → IsOf 2 (over_by terms g run flow c)
+by-gives g run flow c (Trusted committed peak) =
+    first_of-gives (λ v. premise_of v ≡ 2) (over_in g run flow c columns.Green) (over_in g run flow c columns.All) (in-gives columns.Green) (in-gives columns.All)
   where
-    in-not_kept : (column : Column) → IsNotKept (over_in g run flow c column)
-    in-not_kept column =
-        map-not_kept (λ p. SourceOver flow column p.packet.number)
-        (overflowing (curve_in column (source_of g.domain c)) column c (sent_in column c (passages_of flow run))) (λ p e. absurd cc)
-by-not_kept g run flow c (Policed parameters mode) = λ e. absurd cc
+    in-gives : (column : Column) → IsOf 2 (over_in g run flow c column)
+    in-gives column =
+        map-gives (λ v. premise_of v ≡ 2) (λ p. SourceOver flow column p.packet.number)
+        (overflowing (curve_in column (source_of g.domain c)) column c (sent_in column c (passages_of flow run))) (λ p. refl)
+by-gives g run flow c (Policed parameters mode) = λ v e. absurd cc
 
-pub source-not_kept : (g : Ground) (run : Run) → IsNotKept (source_of_run g run)
-source-not_kept g run =
-    first_found-not_kept (over_at g run) (keys_of g.contracts)
-    (λ flow. and_then-not_kept (λ c. over_by c.terms g run flow c) (contract_of g flow) (λ c. by-not_kept g run flow c c.terms))
+pub source-gives : (g : Ground) (run : Run) → IsOf 2 (source_of_run g run)
+source-gives g run =
+    first_found-gives (λ v. premise_of v ≡ 2) (over_at g run) (keys_of g.contracts)
+    (λ flow. and_then-gives (λ v. premise_of v ≡ 2) (λ c. over_by c.terms g run flow c) (contract_of g flow) (λ c. by-gives g run flow c c.terms))

@@ -81,7 +81,7 @@ key_order key = record {
     through : (m n o : ℕ) → nat_lt m n ≡ true → nat_lt n o ≡ true → nat_lt m o ≡ true
     through m n o first next = grind (arith, nat_tests)
 
-either_way : (m n : ℕ) → ¬ (m ≡ n) → (nat_lt m n ≡ true) ⊎ (nat_lt n m ≡ true)
+pub either_way : (m n : ℕ) → ¬ (m ≡ n) → (nat_lt m n ≡ true) ⊎ (nat_lt n m ≡ true)
 either_way m n apart = by_test (nat_lt m n) refl
   where
     by_test : (b : Bool) → nat_lt m n ≡ b → (nat_lt m n ≡ true) ⊎ (nat_lt n m ≡ true)
