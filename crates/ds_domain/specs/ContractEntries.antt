@@ -15,7 +15,8 @@ use Rattle.ds_domain_base.specs.declared.fault.Section.TheVariants as sections
 use Rattle.ds_domain_base.specs.declared.terms.Terms.{Terms}
 use Rattle.ds_domain_text.specs.Steps.{◌>>=◌}
 use Rattle.ds_domain_text.specs.Values.{required, texts_in}
-use Rattle.ds_domain.specs.Keys.{fault_here, moment_at, name_at, number_at, only, optional_moment_at, refused_if, text_at, told}
+use Rattle.ds_domain.specs.Keys.{fault_here, refused_if, told}
+use Rattle.ds_domain.specs.Keys.{moment_at, name_at, number_at, only, optional_moment_at, text_at}
 use Rattle.ds_domain.specs.Kinds.{contract_fields, contract_kind_at, terms_fields}
 use Rattle.ds_domain.specs.Parts.{refused_by}
 use Rattle.ds_domain.specs.Rules.{rule_at}

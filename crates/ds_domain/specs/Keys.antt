@@ -58,7 +58,8 @@ unfoldable pub number_at : Place → Field → ℕ → ℕ → Members → Resul
 number_at place field least most members = told place field (required (number_in least most) (field_text field) members)
 
 unfoldable pub optional_number_at : Place → Field → ℕ → ℕ → Members → Result (Option ℕ) DomainFault
-optional_number_at place field least most members = told place field (optional (number_in least most) (field_text field) members)
+optional_number_at place field least most members =
+    told place field (optional (number_in least most) (field_text field) members)
 
 -- a rate in bits per second, a burst in bytes, and a delay or a skew in nanoseconds
 unfoldable pub rate_at : Place → Field → Members → Result ℕ DomainFault

@@ -28,7 +28,8 @@ meter_kind_of text =
 
 -- the kind of contract that a text names
 unfoldable pub contract_kind_of : List ℕ → Option ContractKind
-contract_kind_of text = if bytes_eq text (codes "trusted") then Some Trusted else option_map Policed (meter_kind_of text)
+contract_kind_of text =
+    if bytes_eq text (codes "trusted") then Some Trusted else option_map Policed (meter_kind_of text)
 
 -- the mode that a text names
 unfoldable pub mode_of : List ℕ → Option Mode
@@ -56,7 +57,8 @@ mode_if_told place None = Ok modes.Aware
 mode_if_told place (Some text) = meant place fields.Mode mode_of text
 
 unfoldable pub optional_mode_at : Place → Members → Result Mode DomainFault
-optional_mode_at place members = told place fields.Mode (optional text_in (field_text fields.Mode) members) >>= mode_if_told place
+optional_mode_at place members =
+    told place fields.Mode (optional text_in (field_text fields.Mode) members) >>= mode_if_told place
 
 -- the keys of the parameters of a meter of a kind, in order
 abbrev pub parameter_fields : MeterKind → List Field

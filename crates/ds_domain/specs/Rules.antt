@@ -20,10 +20,14 @@ as_port_range ends = record { low = ends.0; high = ends.1 }
 
 -- a prefix, and a range of ports, each of which may be absent
 unfoldable pub prefix_at : Place → Field → Members → Result (Option PrefixValue) DomainFault
-prefix_at place field members = told place field (optional prefix_in (field_text field) members) >>= (λ parts. Ok (option_map as_prefix parts))
+prefix_at place field members =
+    told place field (optional prefix_in (field_text field) members)
+    >>= (λ parts. Ok (option_map as_prefix parts))
 
 unfoldable pub port_range_at : Place → Field → Members → Result (Option PortRangeValue) DomainFault
-port_range_at place field members = told place field (optional port_range_in (field_text field) members) >>= (λ ends. Ok (option_map as_port_range ends))
+port_range_at place field members =
+    told place field (optional port_range_in (field_text field) members)
+    >>= (λ ends. Ok (option_map as_port_range ends))
 
 -- the rule, key by key; what is absent holds of every packet
 unfoldable pub rule_at : Place → Members → Result Rule DomainFault
@@ -34,4 +38,11 @@ rule_at place members = do
   source_ports ← port_range_at place fields.Sport members
   target_ports ← port_range_at place fields.Dport members
   dscp ← optional_number_at place fields.Dscp 0 63 members
-  Ok (record { source = source; target = target; protocol = protocol; source_ports = source_ports; target_ports = target_ports; dscp = dscp })
+  Ok (record {
+    source = source;
+    target = target;
+    protocol = protocol;
+    source_ports = source_ports;
+    target_ports = target_ports;
+    dscp = dscp;
+  })

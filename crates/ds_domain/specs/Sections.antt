@@ -23,5 +23,6 @@ unfoldable pub few : Field → ℕ → List Members → Result (Unit {0}) Domain
 few field most tables = refused_if (nat_lt most (length tables)) (fault_here top kinds.Range field)
 
 -- the entries of a section, which are not looked at where there are too many
-unfoldable pub section_in : {D : Type 0} → Field → ℕ → (D → Members → Result D DomainFault) → D → List Members → Result D DomainFault
+unfoldable pub section_in : {D : Type 0} → Field → ℕ
+    → (D → Members → Result D DomainFault) → D → List Members → Result D DomainFault
 section_in field most with_entry d tables = few field most tables >>= (λ _. in_turn with_entry d tables)

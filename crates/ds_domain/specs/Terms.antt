@@ -43,7 +43,8 @@ parameters_at place Rfc4115 members = do
   cbs ← burst_at place fields.Cbs members
   eir ← rate_at place fields.Eir members
   ebs ← burst_at place fields.Ebs members
-  Ok (parameters.Rfc4115 (record { committed_rate = cir; committed_burst = cbs; excess_rate = eir; excess_burst = ebs }))
+  Ok (parameters.Rfc4115
+      (record { committed_rate = cir; committed_burst = cbs; excess_rate = eir; excess_burst = ebs }))
 
 -- the field that is named where the meter's standard refuses parameters
 abbrev pub refused_field : MeterFault → Field

@@ -71,7 +71,8 @@ pub(crate) fn contract_keys<'a>(
     table: &'a Table,
 ) -> Result<ContractKeys<'a>, DomainFault>
     ensures ok { IfOk result (λ keys. contract_text place (table_view table.now) ≡ Ok (text_of keys)) }
-    ensures refused { IfErr result (λ fault. (fault ≡ no_memory) ⊎ (contract_text place (table_view table.now) ≡ Err fault)) }
+    ensures refused { IfErr result (λ fault. (fault ≡ no_memory)
+        ⊎ (contract_text place (table_view table.now) ≡ Err fault)) }
 {
     let (kind, name) = contract_head(place, table)?;
     let port = text_at(place, table, Field::Port)?;

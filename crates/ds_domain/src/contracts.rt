@@ -1,15 +1,17 @@
-ghost use Rattle.std.specs.Prelude.{◌≡◌, ◌⊎◌, [], false, map, true, Err, IfErr, IfOk, MatchOption, None, Ok, OnOk, Some};
+ghost use Rattle.std.specs.Prelude.{◌≡◌, ◌⊎◌, [], false, map, true};
+ghost use Rattle.std.specs.Prelude.{Err, IfErr, IfOk, MatchOption, None, Ok, OnOk, Some};
 ghost use Rattle.toml.specs.View.{table_view};
 ghost use Rattle.ds_domain_base.specs.Faults.{no_memory};
 ghost use Rattle.ds_domain_base.specs.Fitting.{names_unknown, way_fault};
-ghost use Rattle.ds_domain.specs.ContractEntries.{contract_of, contract_terms, has_name, next_contract, with_contract_of};
+ghost use Rattle.ds_domain.specs.ContractEntries.{contract_of, contract_terms, has_name};
+ghost use Rattle.ds_domain.specs.ContractEntries.{next_contract, with_contract_of};
 ghost use Rattle.ds_domain.specs.ContractViews.{text_parts};
 ghost use Rattle.ds_domain.specs.Sections.{in_turn, section_in};
 
 use crate::contract_keys::{ContractRest, contract_keys};
 use crate::contract_list::ContractList;
 use crate::place::Place;
-use crate::sections::few;
+use crate::sections::Entries;
 use ds_domain_base::{
     Contract, Domain, DomainFault, Field, Kind, Lifetime, MOST_HOPS, Name, Path, Section, Terms,
     fits,
@@ -53,8 +55,8 @@ fn meters_named(
     Ok(Some(names))
 }
 
-/// The port and the path of a contract, by the names that the domain has; refused are names that it lacks, and a path of
-/// no meter or of more than 16.
+/// The port and the path of a contract, by the names that the domain has; refused are names that it lacks, and a path
+/// of no meter or of more than 16.
 fn way_named(
     alloc: Global,
     domain: &Domain,
@@ -64,7 +66,8 @@ fn way_named(
 ) -> Result<(Name, Path), DomainFault>
     requires { place.section ≡ Section.Contract }
     ensures named { IfOk result (λ way. (way.0 ≡ port.now) × (way.1 ≡ map (λ text. text.now) path.now)) }
-    ensures refused { IfErr result (λ fault. (fault ≡ no_memory) ⊎ (way_fault place.index domain.now port.now (map (λ text. text.now) path.now) ≡ Some fault)) }
+    ensures refused { IfErr result (λ fault. (fault ≡ no_memory)
+        ⊎ (way_fault place.index domain.now port.now (map (λ text. text.now) path.now) ≡ Some fault)) }
 {
     let Some(port) = domain.port_named(port) else {
         return Err(place.fault(Kind::UnknownName, Field::Port));
@@ -80,8 +83,10 @@ fn way_named(
 
 /// A contract, where it fits the domain; else its first fault at its place.
 fn fitting(domain: &Domain, place: Place, contract: Contract) -> Result<Contract, DomainFault>
-    ensures fits { IfOk result (λ own. (own ≡ contract) × (way_fault place.index domain.now contract.port contract.path ≡ None)) }
-    ensures refused { IfErr result (λ fault. way_fault place.index domain.now contract.port contract.path ≡ Some fault) }
+    ensures fits { IfOk result (λ own. (own ≡ contract)
+        × (way_fault place.index domain.now contract.port contract.path ≡ None)) }
+    ensures refused { IfErr result (λ fault.
+        way_fault place.index domain.now contract.port contract.path ≡ Some fault) }
 {
     match fits(domain, &contract) {
         Ok(()) => Ok(contract),
@@ -92,8 +97,8 @@ fn fitting(domain: &Domain, place: Place, contract: Contract) -> Result<Contract
     }
 }
 
-/// The terms and the lifetime of the next contract; refused are a name that a contract before has, parameters that are not
-/// those of a meter, and an end below the beginning.
+/// The terms and the lifetime of the next contract; refused are a name that a contract before has, parameters that are
+/// not those of a meter, and an end below the beginning.
 #[tactic(auto, unfolding(crate::specs::ContractEntries::contract_terms))]
 fn contract_terms(
     done: &ContractList,
@@ -121,7 +126,15 @@ fn assembled(
     way: (Name, Path),
     rest: &ContractRest,
 ) -> Contract
-    ensures { result ≡ record { name = name; terms = judged.0; port = way.0; path = way.1; class = rest.now.class; lifetime = judged.1; rule = rest.now.rule } }
+    ensures { result ≡ record {
+      name = name;
+      terms = judged.0;
+      port = way.0;
+      path = way.1;
+      class = rest.now.class;
+      lifetime = judged.1;
+      rule = rest.now.rule;
+    } }
 {
     let (terms, lifetime) = judged;
     let (port, path) = way;
@@ -147,9 +160,11 @@ fn contract_of(
     path: &[&str],
     rest: &ContractRest,
 ) -> Result<Contract, DomainFault>
-    ensures ok { IfOk result (λ contract. contract_of domain.now done.now (text_parts name port.now path.now rest.now) ≡ Ok contract) }
+    ensures ok { IfOk result (λ contract.
+        contract_of domain.now done.now (text_parts name port.now path.now rest.now) ≡ Ok contract) }
     ensures apart { IfOk result (λ contract. has_name done.now contract.name ≡ false) }
-    ensures refused { IfErr result (λ fault. (fault ≡ no_memory) ⊎ (contract_of domain.now done.now (text_parts name port.now path.now rest.now) ≡ Err fault)) }
+    ensures refused { IfErr result (λ fault. (fault ≡ no_memory)
+        ⊎ (contract_of domain.now done.now (text_parts name port.now path.now rest.now) ≡ Err fault)) }
 {
     let judged = contract_terms(done, name, rest)?;
     let way = way_named(alloc, domain, next_contract(done), port, path)?;
@@ -160,52 +175,51 @@ fn contract_of(
     )
 }
 
-/// Adds a contract behind the others.
-#[tactic(auto, unfolding(crate::specs::ContractEntries::with_contract_of))]
-fn add_contract(
+/// The contracts of a domain.
+#[derive(Drop)]
+struct Contracts<'a> {
+    /// For the names of the contract that is read.
     alloc: Global,
-    domain: &Domain,
-    done: &mut ContractList,
-    table: &Table,
-) -> Result<(), DomainFault>
-    ensures added { OnOk result (with_contract_of domain.now done.old (table_view table.now) ≡ Ok done.new) }
-    ensures refused { IfErr result (λ fault. (fault ≡ no_memory) ⊎ (with_contract_of domain.now done.old (table_view table.now) ≡ Err fault)) }
-{
-    let keys = contract_keys(alloc, next_contract(done), table)?;
-    let path = keys.path.as_slice();
-    let contract = contract_of(alloc, domain, done, keys.name, keys.port, path, &keys.rest)?;
-    done.push(contract)
+    /// The domain.
+    domain: &'a Domain,
 }
 
-/// Adds contracts behind the others, one after the other.
-fn add_each_contract(
-    alloc: Global,
-    domain: &Domain,
-    done: &mut ContractList,
-    tables: &[&Table],
-) -> Result<(), DomainFault>
-    ensures added { OnOk result (in_turn (with_contract_of domain.now) done.old (map (λ table. table_view table.now) tables.now) ≡ Ok done.new) }
-    ensures refused { IfErr result (λ fault. (fault ≡ no_memory) ⊎ (in_turn (with_contract_of domain.now) done.old (map (λ table. table_view table.now) tables.now) ≡ Err fault)) }
-{
-    for table in tables {
-        add_contract(alloc, domain, done, table)?;
+impl Entries for Contracts<'_> {
+    type Whole = ContractList;
+
+    ghost with_entry = { λ c. with_contract_of c.domain.now };
+
+    #[tactic(auto, unfolding(crate::specs::ContractEntries::with_contract_of))]
+    fn add(&self, done: &mut ContractList, table: &Table) -> Result<(), DomainFault> {
+        let keys = contract_keys(self.alloc, next_contract(done), table)?;
+        let path = keys.path.as_slice();
+        let contract = contract_of(
+            self.alloc,
+            self.domain,
+            done,
+            keys.name,
+            keys.port,
+            path,
+            &keys.rest,
+        )?;
+        done.push(contract)
     }
-    Ok(())
 }
 
 /// The contracts of a section; `Range` where there are too many, before any is looked at.
-#[tactic(auto, unfolding(crate::specs::Sections::section_in))]
 pub(crate) fn contracts_of(
     alloc: Global,
     domain: &Domain,
     tables: &[&Table],
 ) -> Result<Vec<Contract>, DomainFault>
-    ensures ok { IfOk result (λ contracts. section_in Field.Contract 4096 (with_contract_of domain.now) [] (map (λ table. table_view table.now) tables.now) ≡ Ok contracts.items) }
+    ensures ok { IfOk result (λ contracts. section_in Field.Contract 4096 (with_contract_of domain.now) []
+        (map (λ table. table_view table.now) tables.now) ≡ Ok contracts.items) }
     ensures refused { IfErr result (λ fault. (fault ≡ no_memory)
-        ⊎ (section_in Field.Contract 4096 (with_contract_of domain.now) [] (map (λ table. table_view table.now) tables.now) ≡ Err fault)) }
+        ⊎ (section_in Field.Contract 4096 (with_contract_of domain.now) []
+        (map (λ table. table_view table.now) tables.now) ≡ Err fault)) }
 {
-    few(Field::Contract, MOST_CONTRACTS, tables)?;
     let mut done = ContractList::new(alloc);
-    add_each_contract(alloc, domain, &mut done, tables)?;
+    let entries = Contracts { alloc, domain };
+    entries.add_section(Field::Contract, MOST_CONTRACTS, &mut done, tables)?;
     Ok(done.into_contracts())
 }

@@ -1,7 +1,8 @@
 ghost use Rattle.std.specs.Prelude.{◌≡◌, ◌≤◌, ◌++◌, IfOk, IfSome};
 ghost use Rattle.toml.specs.View.{table_view};
 ghost use Rattle.ds_domain_text.specs.Steps.{lent};
-ghost use Rattle.ds_domain.specs.Keys.{burst_at, delay_at, has_only, is_key_of, moment_at, name_at, number_at, only, optional_moment_at, optional_number_at, rate_at, text_at};
+ghost use Rattle.ds_domain.specs.Keys.{burst_at, delay_at, has_only, is_key_of, moment_at, name_at, number_at};
+ghost use Rattle.ds_domain.specs.Keys.{only, optional_moment_at, optional_number_at, rate_at, text_at};
 
 use crate::place::Place;
 use ds_domain_base::{Delay, DomainFault, Field, Kind, Name};

@@ -1,6 +1,7 @@
 ghost use Rattle.std.specs.Prelude.{◌≡◌};
 ghost use Rattle.toml.specs.View.{table_view};
-ghost use Rattle.ds_domain.specs.Kinds.{contract_kind_at, contract_kind_of, meter_kind_at, meter_kind_of, mode_at, mode_of, optional_mode_at, parameter_fields, terms_fields};
+ghost use Rattle.ds_domain.specs.Kinds.{contract_kind_at, contract_kind_of, meter_kind_at, meter_kind_of};
+ghost use Rattle.ds_domain.specs.Kinds.{mode_at, mode_of, optional_mode_at, parameter_fields, terms_fields};
 
 use crate::keys::text_at;
 use crate::place::Place;

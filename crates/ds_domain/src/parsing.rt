@@ -2,13 +2,14 @@ ghost use Rattle.std.specs.Prelude.{◌≡◌, ◌⊎◌, map, Err, IfErr, IfOk,
 ghost use Rattle.std.specs.Str.{IsUtf8};
 ghost use Rattle.toml.specs.View.{table_view};
 ghost use Rattle.ds_domain_base.specs.Faults.{no_memory};
-ghost use Rattle.ds_domain.specs.DomainTexts.{document_of, domain_of, no_text, parse_of, section_of, sections_of, top_of};
+ghost use Rattle.ds_domain.specs.DomainTexts.{document_of, domain_of, no_text, parse_of};
+ghost use Rattle.ds_domain.specs.DomainTexts.{section_of, sections_of, top_of};
 ghost use Rattle.ds_domain.specs.SectionViews.{tables_of};
 
 use crate::contracts::contracts_of;
 use crate::keys::{only, optional_number_at};
-use crate::parts::{add_links, add_meters, add_ports};
-use crate::sections::top;
+use crate::parts::{Links, Meters, Ports};
+use crate::sections::{Entries, top};
 use ds_domain_base::{Contract, Domain, DomainFault, Field, Kind, Section};
 use ds_domain_text::keys::tables_at;
 use std::alloc::Global;
@@ -38,14 +39,15 @@ pub(crate) struct Sections<'a> {
 
 /// The domain and the contracts that a domain text says.
 ///
-/// The text is TOML of at most four arrays of tables, `meter`, `port`, `link` and `contract`, and of a `version` that is 1.
-/// Refused is a text that is not so, with its first fault: first the text as a whole, then its top, then the meters, ports,
-/// links and contracts, each in the order of the text. `NoMemory` where memory runs out.
+/// The text is TOML of at most four arrays of tables, `meter`, `port`, `link` and `contract`, and of a `version` that
+/// is 1. Refused is a text that is not so, with its first fault: first the text as a whole, then its top, then the
+/// meters, ports, links and contracts, each in the order of the text. `NoMemory` where memory runs out.
 #[tactic(auto, unfolding(crate::specs::DomainTexts::parse_of))]
 pub fn parse(alloc: Global, bytes: &[u8]) -> Result<(Domain, Vec<Contract>), DomainFault>
     ensures ok { IfOk result (λ parsed. parse_of bytes.now ≡ Ok (parsed.0, parsed.1.items)) }
     // Bytes that are no text are told without memory.
-    ensures refused { IfErr result (λ fault. ((fault ≡ no_memory) × IsUtf8 bytes.now) ⊎ (parse_of bytes.now ≡ Err fault)) }
+    ensures refused { IfErr result (λ fault. ((fault ≡ no_memory) × IsUtf8 bytes.now)
+        ⊎ (parse_of bytes.now ≡ Err fault)) }
 {
     let Ok(text) = std::str::from_utf8(bytes) else {
         return Err(no_text());
@@ -73,10 +75,8 @@ fn document_of(alloc: Global, table: &Table) -> Result<(Domain, Vec<Contract>), 
     top_of(table)?;
     let sections = sections_of(alloc, table)?;
     let domain = domain_of(alloc, &sections)?;
-    match contracts_of(alloc, &domain, sections.contracts.as_slice()) {
-        Ok(contracts) => Ok((domain, contracts)),
-        Err(fault) => Err(fault),
-    }
+    let contracts = contracts_of(alloc, &domain, sections.contracts.as_slice())?;
+    Ok((domain, contracts))
 }
 
 /// Refuses an unknown key at the top, and another version than 1.
@@ -96,8 +96,10 @@ fn section_of<'a>(
     table: &'a Table,
     field: Field,
 ) -> Result<Vec<&'a Table>, DomainFault>
-    ensures ok { IfOk result (λ tables. section_of field (table_view table.now) ≡ Ok (map (λ table. table_view table.now) tables.items)) }
-    ensures refused { IfErr result (λ fault. (fault ≡ no_memory) ⊎ (section_of field (table_view table.now) ≡ Err fault)) }
+    ensures ok { IfOk result (λ tables. section_of field (table_view table.now)
+        ≡ Ok (map (λ table. table_view table.now) tables.items)) }
+    ensures refused { IfErr result (λ fault. (fault ≡ no_memory)
+        ⊎ (section_of field (table_view table.now) ≡ Err fault)) }
 {
     match tables_at(alloc, table, field.text()) {
         Ok(tables) => Ok(tables),
@@ -130,8 +132,11 @@ fn domain_of(alloc: Global, sections: &Sections<'_>) -> Result<Domain, DomainFau
     ensures refused { IfErr result (λ fault. (fault ≡ no_memory) ⊎ (domain_of (tables_of sections.now) ≡ Err fault)) }
 {
     let mut domain = Domain::new(alloc);
-    add_meters(&mut domain, sections.meters.as_slice())?;
-    add_ports(&mut domain, sections.ports.as_slice())?;
-    add_links(&mut domain, sections.links.as_slice())?;
+    let meters = sections.meters.as_slice();
+    Meters.add_section(Field::Meter, Domain::MOST_METERS, &mut domain, meters)?;
+    let ports = sections.ports.as_slice();
+    Ports.add_section(Field::Port, Domain::MOST_PORTS, &mut domain, ports)?;
+    let links = sections.links.as_slice();
+    Links.add_section(Field::Link, Domain::MOST_LINKS, &mut domain, links)?;
     Ok(domain)
 }

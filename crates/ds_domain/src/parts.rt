@@ -1,13 +1,11 @@
-ghost use Rattle.std.specs.Prelude.{◌≡◌, ◌⊎◌, map, Err, IfErr, Ok, OnOk};
+ghost use Rattle.std.specs.Prelude.{◌≡◌};
 ghost use Rattle.toml.specs.View.{table_view};
-ghost use Rattle.ds_domain_base.specs.Faults.{no_memory};
 ghost use Rattle.ds_domain.specs.Parts.{meter_keys, with_link_of, with_meter_of, with_port_of};
-ghost use Rattle.ds_domain.specs.Sections.{in_turn, section_in};
 
 use crate::keys::{delay_at, moment_at, name_at, only, text_at};
 use crate::kinds::{meter_kind_at, optional_mode_at};
 use crate::place::Place;
-use crate::sections::few;
+use crate::sections::Entries;
 use crate::terms::sound;
 use ds_domain_base::{Delay, Domain, DomainFault, Field, Kind, Link, Meter, Name, Port, Section};
 use meter_book::Parameters;
@@ -65,124 +63,76 @@ fn meter_keys(place: Place, table: &Table) -> Result<MeterKeys, DomainFault>
     })
 }
 
-/// Adds a meter behind the others.
-#[tactic(auto, unfolding(crate::specs::Parts::with_meter_of))]
-fn add_meter(domain: &mut Domain, table: &Table) -> Result<(), DomainFault>
-    ensures added { OnOk result (with_meter_of domain.old (table_view table.now) ≡ Ok domain.new) }
-    ensures refused { IfErr result (λ fault. (fault ≡ no_memory) ⊎ (with_meter_of domain.old (table_view table.now) ≡ Err fault)) }
-{
-    let place = Place {
-        section: Section::Meter,
-        index: domain.meters().len(),
-    };
-    let keys = meter_keys(place, table)?;
-    if domain.is_taken(keys.name) {
-        return Err(place.fault(Kind::Twice, Field::Name));
+/// The meters of a domain.
+pub(crate) struct Meters;
+
+impl Entries for Meters {
+    type Whole = Domain;
+
+    ghost with_entry = { λ _. with_meter_of };
+
+    #[tactic(auto, unfolding(crate::specs::Parts::with_meter_of))]
+    fn add(&self, domain: &mut Domain, table: &Table) -> Result<(), DomainFault> {
+        let place = Place {
+            section: Section::Meter,
+            index: domain.meters().len(),
+        };
+        let keys = meter_keys(place, table)?;
+        if domain.is_taken(keys.name) {
+            return Err(place.fault(Kind::Twice, Field::Name));
+        }
+        if keys.mode == Mode::Blind {
+            return Err(place.fault(Kind::BlindInside, Field::Mode));
+        }
+        let meter = Meter {
+            parameters: sound(place, keys.parameters)?,
+            skew: keys.skew,
+            origin: keys.origin,
+        };
+        domain.add_meter(keys.name, meter)
     }
-    if keys.mode == Mode::Blind {
-        return Err(place.fault(Kind::BlindInside, Field::Mode));
+}
+
+/// The ports of a domain.
+pub(crate) struct Ports;
+
+impl Entries for Ports {
+    type Whole = Domain;
+
+    ghost with_entry = { λ _. with_port_of };
+
+    #[tactic(auto, unfolding(crate::specs::Parts::with_port_of))]
+    fn add(&self, domain: &mut Domain, table: &Table) -> Result<(), DomainFault> {
+        let place = Place {
+            section: Section::Port,
+            index: domain.ports().len(),
+        };
+        only(place, table, &PORT_FIELDS, &[])?;
+        let name = name_at(place, table)?;
+        let skew = delay_at(place, table, Field::Skew)?;
+        domain.add_port(name, Port { skew })
     }
-    let meter = Meter {
-        parameters: sound(place, keys.parameters)?,
-        skew: keys.skew,
-        origin: keys.origin,
-    };
-    domain.add_meter(keys.name, meter)
 }
 
-/// Adds a port behind the others.
-#[tactic(auto, unfolding(crate::specs::Parts::with_port_of))]
-fn add_port(domain: &mut Domain, table: &Table) -> Result<(), DomainFault>
-    ensures added { OnOk result (with_port_of domain.old (table_view table.now) ≡ Ok domain.new) }
-    ensures refused { IfErr result (λ fault. (fault ≡ no_memory) ⊎ (with_port_of domain.old (table_view table.now) ≡ Err fault)) }
-{
-    let place = Place {
-        section: Section::Port,
-        index: domain.ports().len(),
-    };
-    only(place, table, &PORT_FIELDS, &[])?;
-    let name = name_at(place, table)?;
-    let skew = delay_at(place, table, Field::Skew)?;
-    domain.add_port(name, Port { skew })
-}
+/// The links of a domain.
+pub(crate) struct Links;
 
-/// Adds a link behind the others.
-#[tactic(auto, unfolding(crate::specs::Parts::with_link_of))]
-fn add_link(domain: &mut Domain, table: &Table) -> Result<(), DomainFault>
-    ensures added { OnOk result (with_link_of domain.old (table_view table.now) ≡ Ok domain.new) }
-    ensures refused { IfErr result (λ fault. (fault ≡ no_memory) ⊎ (with_link_of domain.old (table_view table.now) ≡ Err fault)) }
-{
-    let place = Place {
-        section: Section::Link,
-        index: domain.links().len(),
-    };
-    only(place, table, &LINK_FIELDS, &[])?;
-    let from = text_at(place, table, Field::From)?;
-    let to = text_at(place, table, Field::To)?;
-    let floor = delay_at(place, table, Field::Floor)?;
-    let jitter = delay_at(place, table, Field::Jitter)?;
-    domain.add_link(from, to, Link { floor, jitter })
-}
+impl Entries for Links {
+    type Whole = Domain;
 
-/// Adds the meters of a section behind the others; `Range` where there are too many, before any is looked at.
-#[tactic(auto, unfolding(crate::specs::Sections::section_in))]
-pub(crate) fn add_meters(domain: &mut Domain, tables: &[&Table]) -> Result<(), DomainFault>
-    ensures added { OnOk result (section_in Field.Meter 1024 with_meter_of domain.old (map (λ table. table_view table.now) tables.now) ≡ Ok domain.new) }
-    ensures refused { IfErr result (λ fault. (fault ≡ no_memory) ⊎ (section_in Field.Meter 1024 with_meter_of domain.old (map (λ table. table_view table.now) tables.now) ≡ Err fault)) }
-{
-    few(Field::Meter, Domain::MOST_METERS, tables)?;
-    add_each_meter(domain, tables)
-}
+    ghost with_entry = { λ _. with_link_of };
 
-/// Adds meters behind the others, one after the other.
-fn add_each_meter(domain: &mut Domain, tables: &[&Table]) -> Result<(), DomainFault>
-    ensures added { OnOk result (in_turn with_meter_of domain.old (map (λ table. table_view table.now) tables.now) ≡ Ok domain.new) }
-    ensures refused { IfErr result (λ fault. (fault ≡ no_memory) ⊎ (in_turn with_meter_of domain.old (map (λ table. table_view table.now) tables.now) ≡ Err fault)) }
-{
-    for table in tables {
-        add_meter(domain, table)?;
+    #[tactic(auto, unfolding(crate::specs::Parts::with_link_of))]
+    fn add(&self, domain: &mut Domain, table: &Table) -> Result<(), DomainFault> {
+        let place = Place {
+            section: Section::Link,
+            index: domain.links().len(),
+        };
+        only(place, table, &LINK_FIELDS, &[])?;
+        let from = text_at(place, table, Field::From)?;
+        let to = text_at(place, table, Field::To)?;
+        let floor = delay_at(place, table, Field::Floor)?;
+        let jitter = delay_at(place, table, Field::Jitter)?;
+        domain.add_link(from, to, Link { floor, jitter })
     }
-    Ok(())
-}
-
-/// Adds the ports of a section behind the others; `Range` where there are too many, before any is looked at.
-#[tactic(auto, unfolding(crate::specs::Sections::section_in))]
-pub(crate) fn add_ports(domain: &mut Domain, tables: &[&Table]) -> Result<(), DomainFault>
-    ensures added { OnOk result (section_in Field.Port 1024 with_port_of domain.old (map (λ table. table_view table.now) tables.now) ≡ Ok domain.new) }
-    ensures refused { IfErr result (λ fault. (fault ≡ no_memory) ⊎ (section_in Field.Port 1024 with_port_of domain.old (map (λ table. table_view table.now) tables.now) ≡ Err fault)) }
-{
-    few(Field::Port, Domain::MOST_PORTS, tables)?;
-    add_each_port(domain, tables)
-}
-
-/// Adds ports behind the others, one after the other.
-fn add_each_port(domain: &mut Domain, tables: &[&Table]) -> Result<(), DomainFault>
-    ensures added { OnOk result (in_turn with_port_of domain.old (map (λ table. table_view table.now) tables.now) ≡ Ok domain.new) }
-    ensures refused { IfErr result (λ fault. (fault ≡ no_memory) ⊎ (in_turn with_port_of domain.old (map (λ table. table_view table.now) tables.now) ≡ Err fault)) }
-{
-    for table in tables {
-        add_port(domain, table)?;
-    }
-    Ok(())
-}
-
-/// Adds the links of a section behind the others; `Range` where there are too many, before any is looked at.
-#[tactic(auto, unfolding(crate::specs::Sections::section_in))]
-pub(crate) fn add_links(domain: &mut Domain, tables: &[&Table]) -> Result<(), DomainFault>
-    ensures added { OnOk result (section_in Field.Link 65536 with_link_of domain.old (map (λ table. table_view table.now) tables.now) ≡ Ok domain.new) }
-    ensures refused { IfErr result (λ fault. (fault ≡ no_memory) ⊎ (section_in Field.Link 65536 with_link_of domain.old (map (λ table. table_view table.now) tables.now) ≡ Err fault)) }
-{
-    few(Field::Link, Domain::MOST_LINKS, tables)?;
-    add_each_link(domain, tables)
-}
-
-/// Adds links behind the others, one after the other.
-fn add_each_link(domain: &mut Domain, tables: &[&Table]) -> Result<(), DomainFault>
-    ensures added { OnOk result (in_turn with_link_of domain.old (map (λ table. table_view table.now) tables.now) ≡ Ok domain.new) }
-    ensures refused { IfErr result (λ fault. (fault ≡ no_memory) ⊎ (in_turn with_link_of domain.old (map (λ table. table_view table.now) tables.now) ≡ Err fault)) }
-{
-    for table in tables {
-        add_link(domain, table)?;
-    }
-    Ok(())
 }

@@ -22,8 +22,8 @@ impl Place {
         DomainFault::new(kind, self.section, self.index, field)
     }
 
-    /// The fault that the flaw of a key is: `Field` where the key is missing or of another type, `Range` where its value
-    /// is out of range.
+    /// The fault that the flaw of a key is: `Field` where the key is missing or of another type, `Range` where its
+    /// value is out of range.
     pub(crate) fn flaw(self, flaw: Flaw, field: Field) -> DomainFault
         ensures { result ≡ fault_of_flaw self field flaw }
     {

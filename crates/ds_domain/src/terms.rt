@@ -136,8 +136,8 @@ fn peak_at(place: Place, table: &Table) -> Result<Option<Profile>, DomainFault>
     }
 }
 
-/// The parameters, where the meter's standard does not refuse them: `Range` at `cbs` for a burst of 0, and at `pir` for a
-/// peak rate below the committed rate.
+/// The parameters, where the meter's standard does not refuse them: `Range` at `cbs` for a burst of 0, and at `pir`
+/// for a peak rate below the committed rate.
 #[tactic(auto, unfolding(crate::specs::Terms::sound))]
 pub(crate) fn sound(place: Place, parameters: Parameters) -> Result<SoundParameters, DomainFault>
     ensures { result ≡ sound place parameters }

@@ -5,7 +5,7 @@ use Rattle.ds_domain_base.specs.Domains.{link_fault}
 use Rattle.ds_domain_base.specs.Faults.{no_memory}
 use Rattle.ds_domain.specs.Keys.{has_only, only, text_at}
 use Rattle.ds_domain.specs.Parts.{with_link_of}
-use Rattle.ds_domain.proofs.parts.add_link.Goals as goal
+use Rattle.ds_domain.proofs.parts.LinksEntries.add.Goals as goal
 
 pub returns-clause-refused : goal.returns-clause-refused
 unfolding with_link_of only has_only text_at
