@@ -1,15 +1,26 @@
 -- What a list of steps makes is a run.
-use Rattle.std.proofs.Common.{◌≡◌, ℕ, suc, List, [], ◌∷◌, refl, subst}
-use Rattle.std.specs.Prelude.{Result, Ok, Err}
+use Rattle.std.proofs.Common.{◌≡◌, ℕ, suc, Bool, true, false, List, [], ◌∷◌, ◌++◌, map, Option, None, Some, refl, sym, ap, subst, ◌∙◌, append-nil, append_assoc}
+use Rattle.std.specs.Prelude.{Result, Ok, Err, option_map, position, if◌then◌else◌}
+use Rattle.std.specs.List.{flat_map, list_any}
+use Rattle.std.proofs.lemmas.List.{map_push}
+use Rattle.std.proofs.lemmas.Option.{same_Some}
+use Rattle.ds_domain_base.specs.declared.contract.Contract.{Contract}
+use Rattle.meter_fabric.specs.Trails.{Packet}
+use Rattle.meter_fabric.specs.Travels.{Traveller, begun_of}
 use Rattle.ds_checker.specs.Acceptance.{Table}
-use Rattle.meter_fabric.specs.Grounds.{ground_of}
+use Rattle.meter_fabric.specs.Grounds.{contract_of, ground_of}
 use Rattle.run_audit_base.specs.Runs.{IsRun, Run}
-use Rattle.ds_conductor_base.specs.Conducting.{as_run, conducted, conducted_from, going_on, run_so_far}
-use Rattle.ds_conductor_base.specs.Steps.{Stage, opened, stepped}
+use Rattle.ds_conductor_base.specs.Conducting.{as_run, conducted, conducted_from, going_on, passage_of, run_so_far}
+use Rattle.ds_conductor_base.specs.Steps.{Stage, is_of, opened, sent, stepped, visited_from}
+use Rattle.ds_conductor_base.specs.Laws.{sent_by}
 use Rattle.ds_conductor_base.specs.UnderWay.{IsUnderWay}
 use Rattle.ds_conductor_base.specs.declared.fault.ConductFault.{ConductFault}
 use Rattle.ds_conductor_base.specs.declared.fault.StepFault.{StepFault}
+use Rattle.ds_conductor_base.specs.declared.fault.StepFault.TheVariants.{BadStep}
 use Rattle.ds_conductor_base.specs.declared.step.Step.{Step}
+use Rattle.ds_conductor_base.specs.declared.step.Step.TheVariants.{Send, Visit}
+use Rattle.ds_conductor_base.proofs.PlaceLaws.{packets_in, packets_visited}
+use Rattle.ds_conductor_base.proofs.SendLaws.{beginning}
 use Rattle.ds_conductor_base.proofs.ListLaws.{same_Ok}
 use Rattle.ds_conductor_base.proofs.UnderWayLaws.{opened_under_way, run_under_way, stepped_under_way}
 
@@ -33,3 +44,63 @@ run_of_stage t (Err fault) run way done = absurd cc
 pub conducted_is_run : (t : Table) (all : List Step) (run : Run) → conducted t all ≡ Ok run → IsRun (ground_of t) run
 conducted_is_run t all run done =
     run_of_stage t (conducted_from t (opened t) 0 all) run (λ g. conducted_under_way t (opened t) g 0 all (opened_under_way t)) done
+
+-- ---- the packets that were sent
+
+sent-packets : (g h : Stage) (p : Packet) (found : Option Traveller) → ((t : Traveller) → found ≡ Some t → t.packet ≡ p) → sent g found ≡ Ok h
+    → packets_in h.travellers ≡ packets_in g.travellers ++ p ∷ []
+sent-packets g h p None own done = absurd cc
+sent-packets g h p (Some t) own done =
+    let same : h.travellers ≡ g.travellers ++ t ∷ [] = cc in
+    ap packets_in same ∙ map_push (λ (u : Traveller). u.packet) g.travellers t ∙ ap (λ q. packets_in g.travellers ++ q ∷ []) (own t refl)
+
+send-packets : (g h : Stage) (p : Packet) (taken : Bool) (found : Option Traveller) → ((t : Traveller) → found ≡ Some t → t.packet ≡ p)
+    → ◌≡◌ {A = Result Stage StepFault} (if taken then Err BadStep else sent g found) (Ok h)
+    → packets_in h.travellers ≡ packets_in g.travellers ++ p ∷ []
+send-packets g h p true found own done = absurd cc
+send-packets g h p false found own done = sent-packets g h p found own done
+
+begun-packet : (t : Table) (p : Packet) (found : Option Contract) (u : Traveller) → option_map (beginning t p) found ≡ Some u → u.packet ≡ p
+begun-packet t p None u is = absurd cc
+begun-packet t p (Some c) u is = ap (λ (v : Traveller). v.packet) (sym (same_Some (beginning t p c) u is))
+
+visited-packets : (g h : Stage) (moment : ℕ) (place : Option ℕ) → visited_from g moment place ≡ Ok h → packets_in h.travellers ≡ packets_in g.travellers
+visited-packets g h moment None done = absurd cc
+visited-packets g h moment (Some place) done = packets_visited g h moment place done
+
+stepped-packets : (t : Table) (g h : Stage) (s : Step) → stepped t g s ≡ Ok h → packets_in h.travellers ≡ packets_in g.travellers ++ sent_by s
+unfolding stepped
+stepped-packets t g h (Send flow packet size dscp moment) done =
+    let p : Packet = record { flow = flow; number = packet; size = size; dscp = dscp; begun = moment } in
+    send-packets g h p (list_any (is_of packet) g.travellers) (begun_of (ground_of t) p) (begun-packet t p (contract_of (ground_of t) flow)) done
+stepped-packets t g h (Visit packet moment) done =
+    visited-packets g h moment (position (is_of packet) g.travellers) done ∙ sym (append-nil (packets_in g.travellers))
+
+going-packets : (t : Table) (g h : Stage) (s : Step) (index : ℕ) (rest : Stage → Result Stage ConductFault) (made : Result Stage StepFault) (more : List Packet)
+    → ((k : Stage) → rest k ≡ Ok h → packets_in h.travellers ≡ packets_in k.travellers ++ more)
+    → stepped t g s ≡ made → going_on index rest made ≡ Ok h → packets_in h.travellers ≡ packets_in g.travellers ++ (sent_by s ++ more)
+going-packets t g h s index rest (Ok k) more onward step done =
+    onward k done ∙ ap (λ ps. ps ++ more) (stepped-packets t g k s step) ∙ append_assoc (packets_in g.travellers) (sent_by s) more
+going-packets t g h s index rest (Err fault) more onward step done = absurd cc
+
+conducted-packets : (t : Table) (g h : Stage) (index : ℕ) (all : List Step) → conducted_from t g index all ≡ Ok h
+    → packets_in h.travellers ≡ packets_in g.travellers ++ flat_map sent_by all
+unfolding conducted_from
+conducted-packets t g h index [] done = ap (λ (k : Stage). packets_in k.travellers) (sym (same_Ok g h done)) ∙ sym (append-nil (packets_in g.travellers))
+conducted-packets t g h index (s ∷ rest) done =
+    going-packets t g h s index (λ k. conducted_from t k (suc index) rest) (stepped t g s) (flat_map sent_by rest)
+    (λ k. conducted-packets t k h (suc index) rest) refl done
+
+shown-packets : (ts : List Traveller) → map (λ p. p.packet) (map passage_of ts) ≡ packets_in ts
+shown-packets [] = refl
+shown-packets (t ∷ ts) = ap (λ ps. t.packet ∷ ps) (shown-packets ts)
+
+run-packets : (t : Table) (all : List Step) (made : Result Stage ConductFault) (run : Run) → conducted_from t (opened t) 0 all ≡ made → as_run made ≡ Ok run
+    → map (λ p. p.packet) run.passages ≡ flat_map sent_by all
+run-packets t all (Ok g) run is done =
+    ap (λ (r : Run). map (λ p. p.packet) r.passages) (sym (same_Ok (run_so_far g) run done))
+    ∙ shown-packets g.travellers ∙ conducted-packets t (opened t) g 0 all is
+run-packets t all (Err fault) run is done = absurd cc
+
+pub packets_are_sent : (t : Table) (all : List Step) (run : Run) → conducted t all ≡ Ok run → map (λ p. p.packet) run.passages ≡ flat_map sent_by all
+packets_are_sent t all run done = run-packets t all (conducted_from t (opened t) 0 all) run refl done

@@ -1,12 +1,12 @@
 -- The places of packets among those on their way: one more, and one that goes on.
-use Rattle.std.proofs.Common.{◌≡◌, ◌+◌, ℕ, zero, suc, Bool, true, false, cond, nat_eq, nat_lt, List, [], ◌∷◌, ◌++◌, length, set, Option, None, Some, Result, Ok, Err, position, is_some, refl, sym, ◌∙◌, ap, arith}
+use Rattle.std.proofs.Common.{◌≡◌, ◌+◌, ℕ, zero, suc, Bool, true, false, cond, nat_eq, nat_lt, List, [], ◌∷◌, ◌++◌, length, map, set, Option, None, Some, Result, Ok, Err, position, is_some, refl, sym, ◌∙◌, ap, arith}
 use Rattle.std.specs.Prelude.{◌||◌, option_map, slice_get, if◌then◌else◌}
 use Rattle.std.specs.List.{list_any, position_or_len}
 use Rattle.std.proofs.lemmas.Bool.{false≢true}
 use Rattle.std.proofs.lemmas.Bool.Decides.{nat_tests}
 use Rattle.std.proofs.lemmas.Option.{same_Some}
 use Rattle.meter_book.specs.Replay.{Book}
-use Rattle.meter_fabric.specs.Trails.{arrival_at}
+use Rattle.meter_fabric.specs.Trails.{Packet, arrival_at}
 use Rattle.meter_fabric.specs.Travels.{Traveller, comes_as, last_moment, next_hop, next_site, noting, visit, visit_at}
 use Rattle.meter_fabric.specs.declared.fault.VisitFault.{VisitFault}
 use Rattle.meter_fabric.specs.declared.fault.VisitFault.TheVariants as visits
@@ -62,16 +62,6 @@ module _ {X : Type 0} (p : X → Bool) where
       ∙ push_by (p x) (p y) (position p xs) (length xs)
       ∙ ap (λ (own : Option ℕ). cond (is_some own) own (cond (p y) (Some (suc (length xs))) None)) (sym (position-cons x xs))
 
-  -- with another in the place of one of which the test says the same
-  pub position-set : (xs : List X) (i : ℕ) (x y : X) → slice_get xs i ≡ Some x → p y ≡ p x → position p (set xs i y) ≡ position p xs
-  position-set [] i x y there same = refl
-  position-set (z ∷ xs) zero x y there same =
-      position-cons y xs ∙ ap (λ b. cond b (Some 0) (option_map (λ i. 1 + i) (position p xs))) (same ∙ sym (ap p (same_Some z x there)))
-      ∙ sym (position-cons z xs)
-  position-set (z ∷ xs) (suc i) x y there same =
-      position-cons z (set xs i y) ∙ ap (λ rest. cond (p z) (Some 0) (option_map (λ i. 1 + i) rest)) (position-set xs i x y there same)
-      ∙ sym (position-cons z xs)
-
 -- ---- one more packet
 
 same_number : (a b : ℕ) → nat_eq a b ≡ true → a ≡ b
@@ -105,34 +95,57 @@ visit_at-packet : (hop : Option Hop) (t : Traveller) (b : Book) (moment : ℕ) (
 visit_at-packet None t b moment done is = absurd cc
 visit_at-packet (Some hop) t b moment done is = ap (λ (d : Traveller × Book). d.0.packet) (sym (taken (nat_lt moment (last_moment t)) (nat_eq (length b.arrivals) b.capacity) visits.BeforeLast visits.JournalFull (noting t b hop (arrival_at t.packet hop moment (comes_as t))) done is))
 
-module _ (g h : Stage) (place n : ℕ) where
-  visited-places : (t : Traveller) (site : ℕ) (result : Result (Traveller × Book) VisitFault)
+-- the packets of travellers
+abbrev pub packets_in : List Traveller → List Packet
+packets_in ts = map (λ t. t.packet) ts
+
+-- a packet that stays itself keeps its place
+packets-set : (ts : List Traveller) (i : ℕ) (t u : Traveller) → slice_get ts i ≡ Some t → u.packet ≡ t.packet → packets_in (set ts i u) ≡ packets_in ts
+packets-set [] i t u there same = refl
+packets-set (x ∷ ts) zero t u there same = ap (λ p. p ∷ packets_in ts) (same ∙ ap (λ (y : Traveller). y.packet) (sym (same_Some x t there)))
+packets-set (x ∷ ts) (suc i) t u there same = ap (λ ps. x.packet ∷ ps) (packets-set ts i t u there same)
+
+module _ (g h : Stage) (place : ℕ) where
+  visited-packets : (t : Traveller) (site : ℕ) (result : Result (Traveller × Book) VisitFault)
       → ((done : Traveller × Book) → result ≡ Ok done → done.0.packet ≡ t.packet) → slice_get g.travellers place ≡ Some t
-      → visited g place site result ≡ Ok h → position (is_of n) h.travellers ≡ position (is_of n) g.travellers
-  visited-places t site (Ok done) kept there is =
+      → visited g place site result ≡ Ok h → packets_in h.travellers ≡ packets_in g.travellers
+  visited-packets t site (Ok done) kept there is =
       let same : h.travellers ≡ set g.travellers place done.0 = cc in
-      rw same (position-set (is_of n) g.travellers place t done.0 there (ap (λ packet. nat_eq packet.number n) (kept done refl)))
-  visited-places t site (Err visits.PathEnded) kept there is = absurd cc
-  visited-places t site (Err visits.BeforeLast) kept there is = absurd cc
-  visited-places t site (Err visits.JournalFull) kept there is = absurd cc
-  visited-places t site (Err visits.NoMemory) kept there is = absurd cc
+      rw same (packets-set g.travellers place t done.0 there (kept done refl))
+  visited-packets t site (Err visits.PathEnded) kept there is = absurd cc
+  visited-packets t site (Err visits.BeforeLast) kept there is = absurd cc
+  visited-packets t site (Err visits.JournalFull) kept there is = absurd cc
+  visited-packets t site (Err visits.NoMemory) kept there is = absurd cc
 
-  visited_at-places : (t : Traveller) (moment site : ℕ) (found : Option Book) → slice_get g.travellers place ≡ Some t
-      → visited_at g place t moment site found ≡ Ok h → position (is_of n) h.travellers ≡ position (is_of n) g.travellers
-  visited_at-places t moment site None there is = absurd cc
-  visited_at-places t moment site (Some b) there is = visited-places t site (visit t b moment) (visit_at-packet (next_hop t) t b moment) there is
+  visited_at-packets : (t : Traveller) (moment site : ℕ) (found : Option Book) → slice_get g.travellers place ≡ Some t
+      → visited_at g place t moment site found ≡ Ok h → packets_in h.travellers ≡ packets_in g.travellers
+  visited_at-packets t moment site None there is = absurd cc
+  visited_at-packets t moment site (Some b) there is = visited-packets t site (visit t b moment) (visit_at-packet (next_hop t) t b moment) there is
 
-  visited_next-places : (t : Traveller) (moment : ℕ) (site : Option ℕ) → slice_get g.travellers place ≡ Some t
-      → visited_next g place t moment site ≡ Ok h → position (is_of n) h.travellers ≡ position (is_of n) g.travellers
-  visited_next-places t moment None there is = absurd cc
-  visited_next-places t moment (Some site) there is = visited_at-places t moment site (book_at g site) there is
+  visited_next-packets : (t : Traveller) (moment : ℕ) (site : Option ℕ) → slice_get g.travellers place ≡ Some t
+      → visited_next g place t moment site ≡ Ok h → packets_in h.travellers ≡ packets_in g.travellers
+  visited_next-packets t moment None there is = absurd cc
+  visited_next-packets t moment (Some site) there is = visited_at-packets t moment site (book_at g site) there is
 
-  visited_by-places : (found : Option Traveller) (moment : ℕ) → slice_get g.travellers place ≡ found → visited_by g moment place found ≡ Ok h
-      → position (is_of n) h.travellers ≡ position (is_of n) g.travellers
-  visited_by-places None moment there is = absurd cc
-  visited_by-places (Some t) moment there is = visited_next-places t moment (next_site t) there is
+  visited_by-packets : (found : Option Traveller) (moment : ℕ) → slice_get g.travellers place ≡ found → visited_by g moment place found ≡ Ok h
+      → packets_in h.travellers ≡ packets_in g.travellers
+  visited_by-packets None moment there is = absurd cc
+  visited_by-packets (Some t) moment there is = visited_next-packets t moment (next_site t) there is
 
--- the packets keep their places
+-- a visit changes no packet, so the packets keep their places
+pub packets_visited : (g h : Stage) (moment place : ℕ) → visited_by g moment place (slice_get g.travellers place) ≡ Ok h
+    → packets_in h.travellers ≡ packets_in g.travellers
+packets_visited g h moment place is = visited_by-packets g h place (slice_get g.travellers place) moment refl is
+
+position-packets : (n : ℕ) (ts : List Traveller) → position (is_of n) ts ≡ position (λ p. nat_eq p.number n) (packets_in ts)
+position-packets n [] = refl
+position-packets n (t ∷ ts) =
+    position-cons (is_of n) t ts ∙ ap (λ rest. cond (is_of n t) (Some 0) (option_map (λ i. 1 + i) rest)) (position-packets n ts)
+    ∙ sym (position-cons (λ (p : Packet). nat_eq p.number n) t.packet (packets_in ts))
+
 pub places_visited : (g h : Stage) (moment place n : ℕ) → visited_by g moment place (slice_get g.travellers place) ≡ Ok h
     → position (is_of n) h.travellers ≡ position (is_of n) g.travellers
-places_visited g h moment place n is = visited_by-places g h place n (slice_get g.travellers place) moment refl is
+places_visited g h moment place n is =
+    position-packets n h.travellers
+    ∙ ap (position (λ p. nat_eq p.number n)) (packets_visited g h moment place is)
+    ∙ sym (position-packets n g.travellers)

@@ -1,5 +1,5 @@
 //! What steps make, proved as the contracts of functions that do nothing.
-ghost use Rattle.ds_conductor_base.specs.Laws.{StepsKeepOnTheWay, StepsMakeRuns};
+ghost use Rattle.ds_conductor_base.specs.Laws.{PacketsAreThoseSent, StepsKeepOnTheWay, StepsMakeRuns};
 
 /// Before the first step, packets are on the ways of their contracts and the books of the sites have the rows that they
 /// carry; each step that is made keeps it so; and what has been made so far is then a run.
@@ -11,4 +11,9 @@ pub fn every_step_keeps_on_the_way()
 /// site, each packet carries the receipts of the first hops of its way, and the two tell the same rows.
 pub fn steps_make_runs()
     ensures { StepsMakeRuns }
+{}
+
+/// The packets of the run that a list of steps makes are those that it sends, in its order.
+pub fn packets_are_those_sent()
+    ensures { PacketsAreThoseSent }
 {}
