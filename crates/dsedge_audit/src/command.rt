@@ -147,7 +147,6 @@ impl<'a> Command for AuditCommand<'a> {
         }
     }
 
-    #[tactic(auto, using(crate::proofs::AuditLaws::last_line))]
     fn end(&mut self, _number: u64, out: &mut Vec<u8>) -> Result<Ending, AllocError> {
         let accepted = self.flows.accepted();
         let run = self.finish()?;
