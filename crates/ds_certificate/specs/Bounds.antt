@@ -27,7 +27,7 @@ Grows column s [] before bounds = ⊤
 Grows column s (jitter ∷ jitters) before [] = ⊤
 Grows column s (jitter ∷ jitters) before (bound ∷ bounds) =
     (column.bound before + bytes_over (column.envelope s).rate jitter ≤ column.bound bound)
-        × Grows column s jitters bound bounds
+    × Grows column s jitters bound bounds
 
 abbrev pub MeetsIn : Column → Source → List ℕ → List Bound → Type 0
 MeetsIn column s jitters [] = ⊤

@@ -53,7 +53,7 @@ abbrev pub refusal_behind : Table → Option ℕ → Option Refusal
 refusal_behind t (Some number) = Some (Shape number)
 refusal_behind t None =
     first_failed (bound_tests 0 t.domain t.contracts t.certificate
-        ++ table_tests t.domain t.contracts t.certificate t.domain.meters)
+    ++ table_tests t.domain t.contracts t.certificate t.domain.meters)
 
 abbrev pub refusal_of : Table → Option Refusal
 refusal_of t = refusal_behind t (misfit 0 t.domain t.contracts t.certificate)

@@ -29,7 +29,7 @@ IsReadTo read more frames (Some fault) =
     ((fault ≡ ReadFault) × (frames ≡ (capture read).frames) × ((capture read).fault ≡ None))
     ⊎ ((fault ≡ NoMemory) × ((others : List FrameValue) × (frames ++ others ≡ (capture read).frames)))
     ⊎ ((frames ≡ (capture (read ++ more)).frames) × (fault_in (read ++ more) ≡ Some fault)
-        × ((more ≡ []) ⊎ ((capture read).fault ≡ Some fault)))
+    × ((more ≡ []) ⊎ ((capture read).fault ≡ Some fault)))
 
 -- what was read of bytes: the front of them, its heading, its frames, and what ended the reading
 pub record IsReading (bytes more : List ℕ) (heading : Option Heading) (frames : List FrameValue)

@@ -26,7 +26,7 @@ abbrev pub is_before : Visit → Visit → Bool
 is_before v w =
     nat_lt v.moment w.moment
     || nat_eq v.moment w.moment
-        && (nat_lt v.place w.place || nat_eq v.place w.place && nat_lt v.hop.number w.hop.number)
+    && (nat_lt v.place w.place || nat_eq v.place w.place && nat_lt v.hop.number w.hop.number)
 
 -- all visits of packets, in their order
 unfoldable pub visits_of : Table → List Sent → List Visit

@@ -85,5 +85,5 @@ audit_from t g number [] = audit_of t (run_so_far g)
 audit_from t g number (line ∷ lines) =
     unwrap_or
     (option_map (λ s. going_on number (λ h. audit_from t h (number + 1) lines) (stepped t g s))
-        (step_in t.contracts line))
+    (step_in t.contracts line))
     (stopped (BadLine number))

@@ -8,4 +8,4 @@ use Rattle.dsedge_audit.specs.declared.flows.Flows.TheInside as flows
 abbrev pub IsFlows : flows.Inside → Type 0
 IsFlows f =
     (name : List ℕ) → lookup (λ key. bytes_eq name key.now) f.places.entries
-        ≡ position (λ c. bytes_eq name c.name) f.accepted.now.contracts
+    ≡ position (λ c. bytes_eq name c.name) f.accepted.now.contracts

@@ -25,12 +25,12 @@ send_of contracts name number bytes point at =
     option_and_then (λ dscp.
     option_and_then (λ moment. Some (Send flow packet size dscp moment))
     (number_of (2 ^ 63 - 1) at)) (number_of 63 point)) (size_in bytes)) (number_of (2 ^ 64 - 1) number))
-        (flow_named contracts name)
+    (flow_named contracts name)
 
 abbrev pub visit_of : List ℕ → List ℕ → Option Step
 visit_of number at =
     option_and_then (λ packet. option_and_then (λ moment. Some (Visit packet moment)) (number_of (2 ^ 63 - 1) at))
-        (number_of (2 ^ 64 - 1) number)
+    (number_of (2 ^ 64 - 1) number)
 
 abbrev pub step_of_fields : List Contract → List (List ℕ) → Option Step
 step_of_fields contracts (verb ∷ number ∷ at ∷ []) = if bytes_eq verb (codes "visit") then visit_of number at else None

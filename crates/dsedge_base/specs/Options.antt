@@ -72,10 +72,10 @@ burst_given given name = given name >>= burst_said
 unfoldable pub single_rate_given : Given → Option SrTcmParameters
 single_rate_given given =
     if is_given given (codes "pir") || (is_given given (codes "pbs") || is_given given (codes "eir")) then None else do
-  cir ← rate_given given (codes "cir")
-  cbs ← burst_given given (codes "cbs")
-  ebs ← burst_given given (codes "ebs")
-  Some (record { committed_rate = cir; committed_burst = cbs; excess_burst = ebs })
+      cir ← rate_given given (codes "cir")
+      cbs ← burst_given given (codes "cbs")
+      ebs ← burst_given given (codes "ebs")
+      Some (record { committed_rate = cir; committed_burst = cbs; excess_burst = ebs })
 
 -- the parameters of a two-rate meter (RFC 2698 section 2), likewise
 unfoldable pub two_rate_given : Given → Option TrTcmParameters

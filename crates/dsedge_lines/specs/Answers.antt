@@ -21,7 +21,7 @@ pub record BeginsWith (answer : Answer) (front : List ℕ) : Type 0 where
 abbrev pub Answers : {E : Type 0} → Answer → Answer → List ℕ → Result (Option Ending) E → Type 0
 Answers whole on text result =
     MatchResult result (λ ended. MatchOption ended (on ≡ whole) (λ ending. record { text = text; ending = ending }
-        ≡ whole)) (λ _. BeginsWith whole text)
+    ≡ whole)) (λ _. BeginsWith whole text)
 
 -- what a call did that answers all that is left
 abbrev pub AnswersAll : {E : Type 0} → Answer → List ℕ → Result Ending E → Type 0

@@ -26,7 +26,7 @@ arrival_of_fields number (at ∷ bytes ∷ letter ∷ []) =
     option_and_then (λ moment.
     option_and_then (λ size.
     option_and_then (λ came. Some
-        (record { flow = 0; packet = number; hop = 0; moment = moment; size = size; came = came }))
+    (record { flow = 0; packet = number; hop = 0; moment = moment; size = size; came = came }))
     (colour_named letter)) (size_in bytes)) (number_of (2 ^ 63 - 1) at)
 arrival_of_fields number _ = None
 
@@ -46,7 +46,7 @@ arrivals_from number (line ∷ lines) = onto (arrival_in number line) (arrivals_
 abbrev pub sized_of_fields : List (List ℕ) → Option (ℕ × ℕ)
 sized_of_fields (at ∷ bytes ∷ []) =
     option_and_then (λ moment. option_and_then (λ size. Some (moment, size)) (size_in bytes))
-        (number_of (2 ^ 63 - 1) at)
+    (number_of (2 ^ 63 - 1) at)
 sized_of_fields _ = None
 
 -- the sized moment that a line says: moment and size, one space apart

@@ -36,7 +36,7 @@ text_or_dash (letter ∷ letters) = letter ∷ letters
 abbrev pub domain_fault_text : DomainFault → List ℕ
 domain_fault_text fault =
     decimal (kind_code fault.kind) ++ codes " " ++ kind_text fault.kind ++ codes " " ++ section_text fault.section
-        ++ codes " "
+    ++ codes " "
     ++ decimal fault.index ++ codes " " ++ text_or_dash (field_text fault.field)
 
 -- what is wrong with a certificate: CODE KIND

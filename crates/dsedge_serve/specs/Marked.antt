@@ -115,4 +115,4 @@ IsMarkedOver found port red bytes more report fault before after =
 abbrev pub IsUnmarked : Result Table TableFault → Result Conclusion PumpFault → List ℕ → List ℕ → Type 0
 IsUnmarked found outcome before after =
     (after ≡ before) × ((outcome ≡ Err pump_faults.NoMemory)
-        ⊎ ((fault : TableFault) × (found ≡ Err fault) × (outcome ≡ refusal_outcome fault)))
+    ⊎ ((fault : TableFault) × (found ≡ Err fault) × (outcome ≡ refusal_outcome fault)))

@@ -117,7 +117,7 @@ IsAnswered (Audit domain certificate) texts bytes more outcome before after =
     IsReplied (reply_over (accepted_in (first_text texts) (second_text texts)) (lines_of bytes)) outcome before after
 IsAnswered (Mark domain certificate port keeps_red) texts bytes more outcome before after =
     IsMarkedAt (accepted_in (first_text texts) (second_text texts)) port (rule_said keeps_red) bytes more outcome before
-        after
+    after
 
 -- the outcome that is known before a device is touched, or want of memory
 abbrev pub IsSettled : Outcome → Outcome → Type 0

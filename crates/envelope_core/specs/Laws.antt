@@ -57,7 +57,7 @@ OrderIsFree = (rate burst : ℕ) (items others : List (ℕ × ℕ)) → IsPermut
 abbrev pub PartsKeep : Type 0
 PartsKeep =
     (rate burst : ℕ) (whole part rest : List (ℕ × ℕ)) → IsPermutation whole (part ++ rest) → Keeps rate burst whole
-        → Keeps rate burst part
+    → Keeps rate burst part
 
 -- what passes a test keeps what the whole keeps
 abbrev pub SelectionsKeep : Type 0

@@ -42,16 +42,16 @@ RowsKeepEnvelopes =
     (m : AnyMeter) (arrivals : List Arrival)
     → IsFit m
     → KeepsCurve (green_of m) (row_output is_green (replay m arrivals))
-        × KeepsCurve (all_of m) (row_output is_in_profile (replay m arrivals))
+    × KeepsCurve (all_of m) (row_output is_in_profile (replay m arrivals))
 
 -- so the rows of a meter that opened keep its envelopes
 abbrev pub OpenedRowsKeepEnvelopes : Type 0
 OpenedRowsKeepEnvelopes =
     (p : Parameters) (mode : Mode) (origin : ℕ) (arrivals : List Arrival)
     → KeepsCurve (green_of (opening_of p mode origin))
-        (row_output is_green (replay (opening_of p mode origin) arrivals))
+    (row_output is_green (replay (opening_of p mode origin) arrivals))
     × KeepsCurve (all_of (opening_of p mode origin))
-        (row_output is_in_profile (replay (opening_of p mode origin) arrivals))
+    (row_output is_in_profile (replay (opening_of p mode origin) arrivals))
 
 -- in the rows of an aware meter no packet leaves with a better colour than it came with
 abbrev pub AwareRowsNeverImprove : Type 0

@@ -39,7 +39,7 @@ pub departures_of_separate_rates : (m : State Rfc4115Parameters Levels) (offers 
     → departures how_any (meters.Rfc4115 m) offers ≡ departures (how separate_rates) m offers
 departures_of_separate_rates m offers =
     departures-same (λ s. meters.Rfc4115 s) (how separate_rates) how_any (λ s. refl) (λ s o. refl) (λ s o. refl) m
-        offers
+    offers
 
 -- an aware meter never improves a colour
 pub never_improves-any : (m : AnyMeter) (o : Offer) → mode_of m ≡ Aware → IsNoBetter o.came (left_of m o)

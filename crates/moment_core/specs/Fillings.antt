@@ -12,8 +12,11 @@ moved_on clock arrival = record clock { newest = used clock.newest arrival }
 -- a bucket after a gap: it took in the whole tokens of its rate, and the part that is over is begun
 abbrev pub filled_over : Filling → ℕ → Filling
 filled_over f gap = record {
-  bucket = record { level = with_tokens f.bucket.size ((f.rate * gap + f.begun) / 8000000000) f.bucket.level; size =
-      f.bucket.size };
+  bucket = record {
+    level = with_tokens f.bucket.size ((f.rate * gap + f.begun) / 8000000000) f.bucket.level;
+    size =
+        f.bucket.size;
+  };
   rate = f.rate;
   begun = (f.rate * gap + f.begun) % 8000000000;
 }
@@ -25,8 +28,12 @@ IsCounted clock f = f.begun ≡ begun_token f.rate clock.origin clock.newest
 -- so a rate, a size and a level say all of a bucket that is filled
 abbrev pub filling_of : Clock → ℕ → ℕ → ℕ → Filling
 filling_of clock rate size level =
-    record { bucket = record { level = level; size = size }; rate = rate; begun = begun_token rate clock.origin
-    clock.newest }
+    record {
+      bucket = record { level = level; size = size };
+      rate = rate;
+      begun = begun_token rate clock.origin
+          clock.newest;
+    }
 
 pub filling_of-same : (clock : Clock) (f : Filling) → IsCounted clock f
     → filling_of clock f.rate f.bucket.size f.bucket.level ≡ f

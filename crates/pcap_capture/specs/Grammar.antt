@@ -90,8 +90,12 @@ pub data Next : Type 0 where
 
 abbrev pub frame_of : Heading → List ℕ → FrameValue
 frame_of heading bytes =
-    record { head = take 16 bytes; moment = moment_of heading bytes; bytes = take (captured heading bytes)
-    (drop 16 bytes) }
+    record {
+      head = take 16 bytes;
+      moment = moment_of heading bytes;
+      bytes = take (captured heading bytes)
+          (drop 16 bytes);
+    }
 
 unfoldable pub next_of : Heading → List ℕ → Next
 next_of heading bytes =

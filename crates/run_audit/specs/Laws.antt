@@ -31,4 +31,4 @@ abbrev pub TheLeastPacketIsTold : Type 0
 TheLeastPacketIsTold = (g : Ground) (run : Run) (number : ℕ) → IsRun g run
     → (verdict_of g run ≡ OutsideContract number → IsLeastWithout run (IsSentSo g IsInTime) number)
     × ((hop : ℕ) → verdict_of g run ≡ DelayOver number hop
-        → IsLeastWithout run (IsSentSo g (λ c s. IsTimely g.domain c.port c.path s.moment s.receipts)) number)
+    → IsLeastWithout run (IsSentSo g (λ c s. IsTimely g.domain c.port c.path s.moment s.receipts)) number)

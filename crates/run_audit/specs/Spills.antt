@@ -35,7 +35,7 @@ spilled curve column c level since (p ∷ ps) =
 abbrev pub spilled_in : Domain → Contract → List Passage → Column → Option Verdict
 spilled_in d c own column =
     option_map (λ p. SourceOver p.packet.flow column p.packet.number)
-        (spilled (curve_in column (source_of d c)) column c 0 0 own)
+    (spilled (curve_in column (source_of d c)) column c 0 0 own)
 
 abbrev pub spilled_by : Terms → Domain → Contract → List Passage → Option Verdict
 spilled_by (Trusted committed peak) d c own = first_of (spilled_in d c own Green) (spilled_in d c own All)
@@ -50,4 +50,4 @@ unfoldable pub spilled_from : Domain → ℕ → List Contract → List Passage 
 spilled_from d flow [] passages = None
 spilled_from d flow (c ∷ cs) passages =
     first_of (spilled_by c.terms d c (take (own_length flow passages) passages))
-        (spilled_from d (flow + 1) cs (drop (own_length flow passages) passages))
+    (spilled_from d (flow + 1) cs (drop (own_length flow passages) passages))

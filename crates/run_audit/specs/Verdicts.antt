@@ -141,4 +141,4 @@ skew_of_run run = first_found (λ j. first_found (late_row j) (journal_rows j)) 
 abbrev pub verdict_of : Ground → Run → Verdict
 verdict_of g run =
     unwrap_or (first_of (time_of g run)
-        (first_of (source_of_run g run) (first_of (link_of_run g run) (skew_of_run run)))) Kept
+    (first_of (source_of_run g run) (first_of (link_of_run g run) (skew_of_run run)))) Kept

@@ -9,8 +9,12 @@ use Rattle.srtcm_core.specs.declared.parameters.SrTcmParameters.{SrTcmParameters
 
 abbrev pub state_of : Inside → State SrTcmParameters Levels
 state_of m = record {
-  parameters = record { committed_rate = m.committed.rate; committed_burst = m.committed.bucket.size; excess_burst =
-      m.excess.size };
+  parameters = record {
+    committed_rate = m.committed.rate;
+    committed_burst = m.committed.bucket.size;
+    excess_burst =
+        m.excess.size;
+  };
   mode = m.mode;
   origin = m.clock.origin;
   newest = m.clock.newest;
