@@ -14,8 +14,7 @@ abbrev pub filled_over : Filling → ℕ → Filling
 filled_over f gap = record {
   bucket = record {
     level = with_tokens f.bucket.size ((f.rate * gap + f.begun) / 8000000000) f.bucket.level;
-    size =
-        f.bucket.size;
+    size = f.bucket.size;
   };
   rate = f.rate;
   begun = (f.rate * gap + f.begun) % 8000000000;
@@ -31,8 +30,7 @@ filling_of clock rate size level =
     record {
       bucket = record { level = level; size = size };
       rate = rate;
-      begun = begun_token rate clock.origin
-          clock.newest;
+      begun = begun_token rate clock.origin clock.newest;
     }
 
 pub filling_of-same : (clock : Clock) (f : Filling) → IsCounted clock f
