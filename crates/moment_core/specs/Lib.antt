@@ -1,4 +1,5 @@
 pub mod Colours
+pub mod Columns
 pub mod Conformance
 pub mod Excess
 pub mod Fillings

@@ -11,10 +11,12 @@
 //! - a colour-blind meter sees green (section 3) → `Metering.seen` → `Mode::seen`
 //! - the colours of a committed and an excess bucket (RFC 2697 section 3, RFC 4115) → `Excess.coloured`,
 //!   `Excess.without` → `take_committed_or_excess`
+//! - which packets an envelope or a bound speaks of → `Columns.counts` → `Column::counts`
 #![tactic(auto)]
 
 pub mod bucket;
 pub mod colour;
+pub mod column;
 pub mod filling;
 pub mod quantity;
 pub mod tokens;
@@ -22,6 +24,7 @@ pub mod volume;
 
 pub use bucket::{Bucket, take_committed_or_excess};
 pub use colour::{Colour, Mode};
+pub use column::Column;
 pub use filling::{Clock, Filling};
 pub use quantity::{Gap, Moment, OutOfRange, PacketSize, Rate};
 pub use tokens::{tokens_between, tokens_given, tokens_over};
