@@ -1,7 +1,7 @@
 -- What a packet does to a committed and an excess bucket.
 use Rattle.std.proofs.Common.{◌≡◌, ℕ, ◌+◌, ◌≤◌, true, false, cond, ltb, refl, arith}
 use Rattle.std.proofs.lemmas.Bool.Decides.{nat_tests}
-use Rattle.moment_core.specs.Colours.{IsNoBetter, is_green, is_in_profile}
+use Rattle.moment_core.specs.Colours.{IsNoBetter, is_green, is_in_profile, is_yellow}
 use Rattle.moment_core.specs.Excess.{Levels, coloured, without}
 use Rattle.moment_core.specs.declared.colour.Colour.{Colour}
 use Rattle.moment_core.specs.declared.colour.Colour.TheVariants.{Green, Yellow, Red}
@@ -20,6 +20,14 @@ unfolding coloured without
 green_pays l size Green = grind (arith, nat_tests)
 green_pays l size Yellow = grind (arith, nat_tests)
 green_pays l size Red = omega arith
+
+-- yellow packets are paid out of the excess bucket
+pub yellow_pays : (l : Levels) (size : ℕ) (came : Colour)
+    → (without l size (coloured l size came)).excess + cond (is_yellow (coloured l size came)) size 0 ≤ l.excess
+unfolding coloured without
+yellow_pays l size Green = grind (arith, nat_tests)
+yellow_pays l size Yellow = grind (arith, nat_tests)
+yellow_pays l size Red = omega arith
 
 -- packets in profile are paid out of both
 pub both_pay : (l : Levels) (size : ℕ) (came : Colour)

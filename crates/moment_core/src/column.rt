@@ -7,6 +7,8 @@ pub enum Column {
     Green,
     /// Green and yellow packets.
     All,
+    /// Yellow packets.
+    Excess,
 }
 
 impl Column {
@@ -14,7 +16,7 @@ impl Column {
     ghost use Rattle.moment_core.specs.Columns.{counts, each_column};
 
     /// Every column, in the order in which they are judged.
-    pub const EACH: [Column; 2] = [Column::Green, Column::All];
+    pub const EACH: [Column; 3] = [Column::Green, Column::All, Column::Excess];
 
     /// Whether it speaks of packets of a colour.
     pub fn counts(self, colour: Colour) -> bool
@@ -23,6 +25,7 @@ impl Column {
         match self {
             Column::Green => colour == Colour::Green,
             Column::All => colour != Colour::Red,
+            Column::Excess => colour == Colour::Yellow,
         }
     }
 }

@@ -1,13 +1,13 @@
 -- What leaves a meter with two separate rates: colours that are no better than those that came, and envelopes that are kept.
 use Rattle.std.proofs.Common.{◌≡◌, ℕ, ◌+◌, ◌-◌, ◌≤◌, List, arith}
-use Rattle.moment_core.specs.Colours.{IsNoBetter, is_green, is_in_profile, output}
+use Rattle.moment_core.specs.Colours.{IsNoBetter, is_green, is_in_profile, is_yellow, output}
 use Rattle.moment_core.specs.Conformance.{Keeps}
 use Rattle.moment_core.specs.Excess.{Levels}
 use Rattle.moment_core.specs.Metering.{Offer, State, after, colour_of, departures, how, levels_at, opening, used}
 use Rattle.moment_core.specs.Tokens.{given}
 use Rattle.moment_core.specs.declared.colour.Mode.{Mode}
 use Rattle.moment_core.specs.declared.colour.Mode.TheVariants.{Aware}
-use Rattle.moment_core.proofs.ExcessLaws.{both_pay, committed_falls, excess_falls, green_pays, no_better}
+use Rattle.moment_core.proofs.ExcessLaws.{both_pay, committed_falls, excess_falls, green_pays, no_better, yellow_pays}
 use Rattle.moment_core.proofs.MeteringLaws.{newest_le-used}
 use Rattle.moment_core.proofs.OutputLaws as output_laws
 use Rattle.moment_core.proofs.TokenLaws.{given-mono}
@@ -74,3 +74,11 @@ unfolding separate_rates
 in_profile_keeps m ok offers =
     output_laws.Keeps-two_rates separate_rates IsWithinSizes is_in_profile (λ (l : Levels). l.committed + l.excess) (λ (p : Rfc4115Parameters). p.committed_burst + p.excess_burst) (λ (p : Rfc4115Parameters). p.committed_rate)
     (λ (p : Rfc4115Parameters). p.excess_rate) both_gain both_fit both_pay IsWithinSizes-after m ok offers
+
+-- what leaves yellow keeps the excess rate, and a byte more than the excess burst
+pub yellow_keeps : (m : State Rfc4115Parameters Levels) → IsWithinSizes m → (offers : List Offer)
+    → Keeps m.parameters.excess_rate (m.parameters.excess_burst + 1) (output is_yellow (departures (how separate_rates) m offers))
+unfolding separate_rates
+yellow_keeps =
+    output_laws.Keeps-bucket separate_rates IsWithinSizes is_yellow (λ (l : Levels). l.excess) (λ (p : Rfc4115Parameters). p.excess_burst) (λ (p : Rfc4115Parameters). p.excess_rate)
+    excess_filled (λ m ok. ok.excess) yellow_pays IsWithinSizes-after

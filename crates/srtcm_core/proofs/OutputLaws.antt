@@ -1,16 +1,17 @@
 -- What leaves a single-rate meter: colours that are no better than those that came, and envelopes that are kept.
 use Rattle.std.proofs.Common.{◌≡◌, ℕ, ◌+◌, ◌-◌, ◌≤◌, List, ap, arith}
-use Rattle.moment_core.specs.Colours.{IsNoBetter, is_green, is_in_profile, output}
+use Rattle.moment_core.specs.Colours.{IsNoBetter, is_green, is_in_profile, is_yellow, output}
 use Rattle.moment_core.specs.Conformance.{Keeps}
 use Rattle.moment_core.specs.Excess.{Levels}
 use Rattle.moment_core.specs.Metering.{Offer, State, after, colour_of, departures, how, levels_at, opening, used}
 use Rattle.moment_core.specs.Tokens.{given, with_tokens}
 use Rattle.moment_core.specs.declared.colour.Mode.{Mode}
 use Rattle.moment_core.specs.declared.colour.Mode.TheVariants.{Aware}
-use Rattle.moment_core.proofs.ExcessLaws.{both_pay, committed_falls, excess_falls, green_pays, no_better}
+use Rattle.moment_core.proofs.ExcessLaws.{both_pay, committed_falls, excess_falls, green_pays, no_better, yellow_pays}
 use Rattle.moment_core.proofs.FillingLaws.{with_tokens_le, with_tokens_within}
 use Rattle.moment_core.proofs.MeteringLaws.{IsFilledAt}
 use Rattle.moment_core.proofs.OutputLaws as output_laws
+use Rattle.moment_core.proofs.RoomLaws.{with_tokens-grows}
 use Rattle.srtcm_core.specs.declared.parameters.SrTcmParameters.{SrTcmParameters}
 use Rattle.srtcm_core.specs.SingleRate.{full, single_rate}
 use Rattle.srtcm_core.specs.Sizes.{IsWithinSizes}
@@ -34,6 +35,14 @@ pub excess_level : (m : State SrTcmParameters Levels) (moment : ℕ)
     ≡ with_tokens m.parameters.excess_burst (m.levels.committed + gained m moment - with_tokens m.parameters.committed_burst (gained m moment) m.levels.committed) m.levels.excess
 unfolding closed
 excess_level m moment = ap (λ (l : Levels). l.excess) (levels_at-single_rate m moment)
+
+-- the excess bucket gains no more than the tokens, of which it is given those that the committed one has no room for
+excess_gains : (m : State SrTcmParameters Levels) (moment : ℕ) → (levels_at single_rate m (used m.newest moment)).excess ≤ m.levels.excess + gained m moment
+excess_gains m moment =
+    let kept = with_tokens-grows m.parameters.committed_burst (gained m moment) m.levels.committed in
+    let surplus = m.levels.committed + gained m moment - with_tokens m.parameters.committed_burst (gained m moment) m.levels.committed in
+    let excess = with_tokens_le m.parameters.excess_burst surplus m.levels.excess in
+    rw (excess_level m moment) (omega (arith, kept, excess))
 
 -- what the buckets hold before a packet
 both_gain : (m : State SrTcmParameters Levels) (moment : ℕ)
@@ -82,3 +91,11 @@ unfolding single_rate
 in_profile_keeps m ok offers =
     output_laws.Keeps-one_rate single_rate IsWithinSizes is_in_profile (λ (l : Levels). l.committed + l.excess) (λ (p : SrTcmParameters). p.committed_burst + p.excess_burst) (λ (p : SrTcmParameters). p.committed_rate)
     both_gain both_fit both_pay IsWithinSizes-after m ok offers
+
+-- what leaves yellow keeps the committed rate, and a byte more than the excess burst
+pub yellow_keeps : (m : State SrTcmParameters Levels) → IsWithinSizes m → (offers : List Offer)
+    → Keeps m.parameters.committed_rate (m.parameters.excess_burst + 1) (output is_yellow (departures (how single_rate) m offers))
+unfolding single_rate
+yellow_keeps =
+    output_laws.Keeps-one_rate single_rate IsWithinSizes is_yellow (λ (l : Levels). l.excess) (λ (p : SrTcmParameters). p.excess_burst) (λ (p : SrTcmParameters). p.committed_rate)
+    excess_gains excess_fits yellow_pays IsWithinSizes-after

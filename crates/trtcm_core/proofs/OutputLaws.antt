@@ -1,7 +1,7 @@
 -- What leaves a two-rate meter: colours that are no better than those that came, and envelopes that are kept.
 use Rattle.std.proofs.Common.{◌≡◌, ℕ, ◌+◌, ◌≤◌, true, false, cond, ltb, List, arith}
 use Rattle.std.proofs.lemmas.Bool.Decides.{nat_tests}
-use Rattle.moment_core.specs.Colours.{IsNoBetter, is_green, is_in_profile, output}
+use Rattle.moment_core.specs.Colours.{IsNoBetter, is_green, is_in_profile, is_yellow, output}
 use Rattle.moment_core.specs.Conformance.{Keeps}
 use Rattle.moment_core.specs.Metering.{Offer, State, after, colour_of, departures, how, opening}
 use Rattle.moment_core.specs.declared.colour.Colour.{Colour}
@@ -36,6 +36,12 @@ unfolding coloured without
 in_profile_pays l size Green = grind (arith, nat_tests)
 in_profile_pays l size Yellow = grind (arith, nat_tests)
 in_profile_pays l size Red = omega arith
+
+yellow_pays : (l : Levels) (size : ℕ) (came : Colour) → (without l size (coloured l size came)).peak + cond (is_yellow (coloured l size came)) size 0 ≤ l.peak
+unfolding coloured without
+yellow_pays l size Green = grind (arith, nat_tests)
+yellow_pays l size Yellow = grind (arith, nat_tests)
+yellow_pays l size Red = omega arith
 
 committed_falls : (l : Levels) (size : ℕ) (left : Colour) → (without l size left).committed ≤ l.committed
 unfolding without
@@ -80,3 +86,11 @@ unfolding two_rate
 in_profile_keeps =
     output_laws.Keeps-bucket two_rate IsWithinSizes is_in_profile (λ (l : Levels). l.peak) (λ (p : TrTcmParameters). p.peak_burst) (λ (p : TrTcmParameters). p.peak_rate)
     peak_filled (λ m ok. ok.peak) in_profile_pays IsWithinSizes-after
+
+-- what leaves yellow keeps the peak rate, and a byte more than the peak burst
+pub yellow_keeps : (m : State TrTcmParameters Levels) → IsWithinSizes m → (offers : List Offer)
+    → Keeps m.parameters.peak_rate (m.parameters.peak_burst + 1) (output is_yellow (departures (how two_rate) m offers))
+unfolding two_rate
+yellow_keeps =
+    output_laws.Keeps-bucket two_rate IsWithinSizes is_yellow (λ (l : Levels). l.peak) (λ (p : TrTcmParameters). p.peak_burst) (λ (p : TrTcmParameters). p.peak_rate)
+    peak_filled (λ m ok. ok.peak) yellow_pays IsWithinSizes-after
