@@ -7,6 +7,7 @@ use Rattle.moment_core.specs.declared.colour.Colour.{Colour}
 use Rattle.moment_core.specs.declared.colour.Colour.TheVariants.{Green, Yellow}
 use Rattle.moment_core.specs.declared.colour.Mode.TheVariants.{Aware}
 use Rattle.moment_core.specs.Colours.{is_green, is_in_profile, is_yellow}
+use Rattle.moment_core.specs.Columns.{counts}
 use Rattle.moment_core.specs.Metering.{Departure, departures, opening}
 use Rattle.moment_core.proofs.RoomLaws.{Keeping, input}
 use Rattle.envelope_core.specs.Curve.{Curve, KeepsCurve}
@@ -22,9 +23,9 @@ use Rattle.meter_book.specs.declared.any_meter.Parameters.TheVariants.{SrTcm, Tr
 use Rattle.meter_book.specs.declared.row.Arrival.{Arrival}
 use Rattle.meter_book.specs.declared.row.Row.{Row}
 use Rattle.meter_book.specs.AnyMeter.{how_any}
-use Rattle.meter_book.specs.KeptColours.{PeakIsKept, Stays, aware_rows, held_against_all, row_input}
+use Rattle.meter_book.specs.KeptColours.{PeakIsKept, Stays, aware_rows, row_input}
 use Rattle.meter_book.specs.Laws.{departure_of}
-use Rattle.meter_book.specs.Limits.{all_limit, green_limit}
+use Rattle.meter_book.specs.Limits.{all_limit, green_limit, held_column}
 use Rattle.meter_book.specs.OutputLaws.{departures_of_separate_rates, departures_of_single_rate, departures_of_two_rate}
 use Rattle.meter_book.specs.Replay.{offer_of, replay}
 use Rattle.meter_book.proofs.RowLaws.{departures_of-rows_from}
@@ -86,7 +87,7 @@ green_stays_green-any (Rfc4115 p) origin arrivals kept peak =
     Stays-replay Green _ arrivals _ same (excess_rates.green_stays_green p origin _ (input-replay is_green (green_limit (Rfc4115 p)) _ arrivals _ same kept))
 
 pub yellow_stays_yellow-any : (p : Parameters) (origin : ℕ) (arrivals : List Arrival)
-    → Stays Green (aware_rows p origin arrivals) → KeepsCurve (all_limit p) (row_input (held_against_all p) (aware_rows p origin arrivals))
+    → Stays Green (aware_rows p origin arrivals) → KeepsCurve (all_limit p) (row_input (counts (held_column p)) (aware_rows p origin arrivals))
     → Stays Yellow (aware_rows p origin arrivals)
 yellow_stays_yellow-any (SrTcm p) origin arrivals stays kept =
     let same = departures_of_single_rate (opening single_rate p Aware origin) (map offer_of arrivals) in

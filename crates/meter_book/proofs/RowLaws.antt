@@ -1,21 +1,24 @@
 -- The rows of a replay as the departures of its meter.
-use Rattle.std.proofs.Common.{◌≡◌, ℕ, ◌+◌, ◌≤◌, zero, suc, Bool, true, false, List, [], ◌∷◌, map, refl, sym, ◌∙◌, ap, arith}
+use Rattle.std.proofs.Common.{◌≡◌, ℕ, ◌+◌, ◌≤◌, zero, suc, Bool, true, false, List, [], ◌∷◌, map, refl, sym, ◌∙◌, ap, subst, arith}
 use Rattle.std.specs.List.{All, AllPairs}
 use Rattle.moment_core.specs.declared.colour.Colour.{Colour}
 use Rattle.moment_core.specs.declared.colour.Mode.{Mode}
 use Rattle.moment_core.specs.declared.colour.Mode.TheVariants.{Aware}
-use Rattle.moment_core.specs.Colours.{IsNoBetter, is_green, is_in_profile, output}
-use Rattle.moment_core.specs.Metering.{departures}
+use Rattle.moment_core.specs.declared.column.Column.{Column}
+use Rattle.moment_core.specs.Colours.{IsNoBetter, output}
+use Rattle.moment_core.specs.Columns.{counts}
+use Rattle.moment_core.specs.Metering.{departures, opening}
 use Rattle.moment_core.proofs.MeteringLaws.{newest_le-used}
 use Rattle.envelope_core.specs.Curve.{KeepsCurve}
 use Rattle.meter_book.specs.declared.any_meter.AnyMeter.{AnyMeter}
 use Rattle.meter_book.specs.declared.any_meter.Parameters.{Parameters}
+use Rattle.meter_book.specs.declared.any_meter.Parameters.TheVariants.{SrTcm, TrTcm, Rfc4115}
 use Rattle.meter_book.specs.declared.row.Arrival.{Arrival}
 use Rattle.meter_book.specs.declared.row.Row.{Row}
 use Rattle.meter_book.specs.AnyMeter.{after_any, how_any, newest_of, opening_of}
-use Rattle.meter_book.specs.Envelopes.{IsFit, all_of, green_of, mode_of}
+use Rattle.meter_book.specs.Envelopes.{IsFit, mode_of, output_in, parameters_of}
 use Rattle.meter_book.specs.Laws.{departure_of, row_output}
-use Rattle.meter_book.specs.OutputLaws.{IsFit-after, IsFit-opening, all_keeps-any, goes_on-any, green_keeps-any, never_improves-any, stays_itself-any}
+use Rattle.meter_book.specs.OutputLaws.{IsFit-after, IsFit-opening, goes_on-any, never_improves-any, output_keeps-any, stays_itself-any}
 use Rattle.meter_book.specs.Replay.{meter_after, offer_of, replay, row_of, rows_from}
 
 pub departures_of-rows_from : (m : AnyMeter) (place : ℕ) (arrivals : List Arrival)
@@ -40,17 +43,22 @@ pub row_output-replay : (picked : Colour → Bool) (m : AnyMeter) (arrivals : Li
 row_output-replay picked m arrivals =
     sym (output_of-rows picked (replay m arrivals)) ∙ ap (output picked) (departures_of-rows_from m 0 arrivals)
 
-pub rows_keep : (m : AnyMeter) (arrivals : List Arrival) → IsFit m
-    → KeepsCurve (green_of m) (row_output is_green (replay m arrivals)) × KeepsCurve (all_of m) (row_output is_in_profile (replay m arrivals))
-rows_keep m arrivals fit = (
-  rw (row_output-replay is_green m arrivals) (green_keeps-any m fit (map offer_of arrivals)),
-  rw (row_output-replay is_in_profile m arrivals) (all_keeps-any m fit (map offer_of arrivals)),
-)
+pub rows_keep : (m : AnyMeter) (arrivals : List Arrival) (column : Column) → IsFit m
+    → KeepsCurve (output_in column (parameters_of m)) (row_output (counts column) (replay m arrivals))
+rows_keep m arrivals column fit = rw (row_output-replay (counts column) m arrivals) (output_keeps-any m fit (map offer_of arrivals) column)
 
-pub opened_rows_keep : (p : Parameters) (mode : Mode) (origin : ℕ) (arrivals : List Arrival)
-    → KeepsCurve (green_of (opening_of p mode origin)) (row_output is_green (replay (opening_of p mode origin) arrivals))
-    × KeepsCurve (all_of (opening_of p mode origin)) (row_output is_in_profile (replay (opening_of p mode origin) arrivals))
-opened_rows_keep p mode origin arrivals = rows_keep (opening_of p mode origin) arrivals (IsFit-opening p mode origin)
+-- a meter that opens has the parameters that it is made with
+parameters_of-opening_of : (p : Parameters) (mode : Mode) (origin : ℕ) → parameters_of (opening_of p mode origin) ≡ p
+unfolding opening
+parameters_of-opening_of (SrTcm p) mode origin = refl
+parameters_of-opening_of (TrTcm p) mode origin = refl
+parameters_of-opening_of (Rfc4115 p) mode origin = refl
+
+pub opened_rows_keep : (p : Parameters) (mode : Mode) (origin : ℕ) (arrivals : List Arrival) (column : Column)
+    → KeepsCurve (output_in column p) (row_output (counts column) (replay (opening_of p mode origin) arrivals))
+opened_rows_keep p mode origin arrivals column =
+    subst (λ own. KeepsCurve (output_in column own) (row_output (counts column) (replay (opening_of p mode origin) arrivals)))
+    (parameters_of-opening_of p mode origin) (rows_keep (opening_of p mode origin) arrivals column (IsFit-opening p mode origin))
 
 rows_never_improve : (m : AnyMeter) (place : ℕ) (arrivals : List Arrival) → mode_of m ≡ Aware
     → All (λ (r : Row). IsNoBetter r.came r.left) (rows_from m place arrivals)

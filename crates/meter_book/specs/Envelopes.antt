@@ -1,6 +1,8 @@
 -- The envelopes that what leaves a meter keeps (Cruz 1991, section II), and the states that a meter can be in.
 use Rattle.std.specs.Prelude.{◌+◌}
 use Rattle.moment_core.specs.declared.colour.Mode.{Mode}
+use Rattle.moment_core.specs.declared.column.Column.{Column}
+use Rattle.moment_core.specs.declared.column.Column.TheVariants.{Green, All, Excess}
 use Rattle.envelope_core.specs.Curve.{Curve}
 use Rattle.srtcm_core.specs.Sizes as single_rates
 use Rattle.trtcm_core.specs.Sizes as two_rates
@@ -26,7 +28,20 @@ all_output (TrTcm p) = record { rate = p.peak_rate; burst = p.peak_burst + 1 }
 all_output (Rfc4115 p) =
     record { rate = p.committed_rate + p.excess_rate; burst = p.committed_burst + p.excess_burst + 2 }
 
--- a meter of any kind: its parameters, its mode, and its envelopes
+-- what leaves it yellow: from the excess bucket, which the committed rate fills (RFC 2697 section 3), from the peak
+-- bucket (RFC 2698 section 3), or from the excess bucket, which the excess rate fills (RFC 4115)
+abbrev pub excess_output : Parameters → Curve
+excess_output (SrTcm p) = record { rate = p.committed_rate; burst = p.excess_burst + 1 }
+excess_output (TrTcm p) = record { rate = p.peak_rate; burst = p.peak_burst + 1 }
+excess_output (Rfc4115 p) = record { rate = p.excess_rate; burst = p.excess_burst + 1 }
+
+-- what leaves it with a colour that a column speaks of
+abbrev pub output_in : Column → Parameters → Curve
+output_in Green = green_output
+output_in All = all_output
+output_in Excess = excess_output
+
+-- a meter of any kind: its parameters and its mode
 abbrev pub parameters_of : AnyMeter → Parameters
 parameters_of (meters.SrTcm m) = SrTcm m.parameters
 parameters_of (meters.TrTcm m) = TrTcm m.parameters
@@ -36,12 +51,6 @@ abbrev pub mode_of : AnyMeter → Mode
 mode_of (meters.SrTcm m) = m.mode
 mode_of (meters.TrTcm m) = m.mode
 mode_of (meters.Rfc4115 m) = m.mode
-
-abbrev pub green_of : AnyMeter → Curve
-green_of m = green_output (parameters_of m)
-
-abbrev pub all_of : AnyMeter → Curve
-all_of m = all_output (parameters_of m)
 
 -- each bucket of a meter holds no more than its own size
 abbrev pub IsFit : AnyMeter → Type 0

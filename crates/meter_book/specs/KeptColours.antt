@@ -3,14 +3,15 @@ use Rattle.std.specs.Prelude.{ℕ, Bool, ◌≡◌, List, All, filter, map}
 use Rattle.moment_core.specs.declared.colour.Colour.{Colour}
 use Rattle.moment_core.specs.declared.colour.Colour.TheVariants.{Green, Yellow}
 use Rattle.moment_core.specs.declared.colour.Mode.TheVariants.{Aware}
-use Rattle.moment_core.specs.Colours.{is_green, is_in_profile, is_yellow}
+use Rattle.moment_core.specs.Colours.{is_green, is_in_profile}
+use Rattle.moment_core.specs.Columns.{counts}
 use Rattle.envelope_core.specs.Curve.{KeepsCurve}
 use Rattle.meter_book.specs.declared.any_meter.Parameters.{Parameters}
 use Rattle.meter_book.specs.declared.any_meter.Parameters.TheVariants.{SrTcm, TrTcm, Rfc4115}
 use Rattle.meter_book.specs.declared.row.Arrival.{Arrival}
 use Rattle.meter_book.specs.declared.row.Row.{Row}
 use Rattle.meter_book.specs.AnyMeter.{opening_of}
-use Rattle.meter_book.specs.Limits.{all_limit, green_limit}
+use Rattle.meter_book.specs.Limits.{all_limit, green_limit, held_column}
 use Rattle.meter_book.specs.Replay.{replay}
 
 -- the rows of an aware meter that opened, whatever arrives
@@ -33,15 +34,6 @@ PeakIsKept (SrTcm p) rows = Unit {0}
 PeakIsKept (TrTcm p) rows = KeepsCurve (all_limit (TrTcm p)) (row_input is_in_profile rows)
 PeakIsKept (Rfc4115 p) rows = Unit {0}
 
--- Which packets are held against what a meter has for green and yellow ones. With a single rate they are both, since
--- the excess bucket gets only the tokens that the committed one has no room for (RFC 2697 section 3). With a peak rate
--- they are both, since both take from the peak bucket (RFC 2698 section 3). With an excess rate they are the yellow
--- ones, which alone take from the excess bucket where green ones leave green (RFC 4115).
-abbrev pub held_against_all : Parameters → Colour → Bool
-held_against_all (SrTcm p) = is_in_profile
-held_against_all (TrTcm p) = is_in_profile
-held_against_all (Rfc4115 p) = is_yellow
-
 -- an aware meter lets every green packet through as green, if what came green keeps what the meter has for it
 abbrev pub GreenStaysGreen : Type 0
 GreenStaysGreen =
@@ -56,5 +48,5 @@ abbrev pub YellowStaysYellow : Type 0
 YellowStaysYellow =
     (p : Parameters) (origin : ℕ) (arrivals : List Arrival)
     → Stays Green (aware_rows p origin arrivals)
-    → KeepsCurve (all_limit p) (row_input (held_against_all p) (aware_rows p origin arrivals))
+    → KeepsCurve (all_limit p) (row_input (counts (held_column p)) (aware_rows p origin arrivals))
     → Stays Yellow (aware_rows p origin arrivals)

@@ -3,7 +3,9 @@ use Rattle.std.specs.Prelude.{ℕ, Bool, ◌≡◌, ◌≤◌, List, [], ◌∷�
 use Rattle.moment_core.specs.declared.colour.Colour.{Colour}
 use Rattle.moment_core.specs.declared.colour.Mode.{Mode}
 use Rattle.moment_core.specs.declared.colour.Mode.TheVariants.{Aware}
-use Rattle.moment_core.specs.Colours.{IsNoBetter, is_green, is_in_profile}
+use Rattle.moment_core.specs.declared.column.Column.{Column}
+use Rattle.moment_core.specs.Colours.{IsNoBetter}
+use Rattle.moment_core.specs.Columns.{counts}
 use Rattle.moment_core.specs.Metering.{Departure, How, Offer, departures}
 use Rattle.envelope_core.specs.Curve.{KeepsCurve}
 use Rattle.meter_book.specs.declared.any_meter.AnyMeter.{AnyMeter}
@@ -11,7 +13,7 @@ use Rattle.meter_book.specs.declared.any_meter.Parameters.{Parameters}
 use Rattle.meter_book.specs.declared.row.Arrival.{Arrival}
 use Rattle.meter_book.specs.declared.row.Row.{Row}
 use Rattle.meter_book.specs.AnyMeter.{how_any, opening_of}
-use Rattle.meter_book.specs.Envelopes.{IsFit, all_of, green_of, mode_of}
+use Rattle.meter_book.specs.Envelopes.{IsFit, mode_of, output_in, parameters_of}
 use Rattle.meter_book.specs.Replay.{meter_after, offer_of, replay}
 
 -- a meter after packets, one after the other
@@ -36,22 +38,18 @@ abbrev pub RowsAreDepartures : Type 0
 RowsAreDepartures = (m : AnyMeter) (arrivals : List Arrival) → map departure_of (replay m arrivals)
     ≡ departures how_any m (map offer_of arrivals)
 
--- what left green keeps the envelope of green, and what left green or yellow that of all, by the moments metered at
+-- what left with a colour of a column keeps the envelope of that column, by the moments metered at
 abbrev pub RowsKeepEnvelopes : Type 0
 RowsKeepEnvelopes =
-    (m : AnyMeter) (arrivals : List Arrival)
+    (m : AnyMeter) (arrivals : List Arrival) (column : Column)
     → IsFit m
-    → KeepsCurve (green_of m) (row_output is_green (replay m arrivals))
-    × KeepsCurve (all_of m) (row_output is_in_profile (replay m arrivals))
+    → KeepsCurve (output_in column (parameters_of m)) (row_output (counts column) (replay m arrivals))
 
 -- so the rows of a meter that opened keep its envelopes
 abbrev pub OpenedRowsKeepEnvelopes : Type 0
 OpenedRowsKeepEnvelopes =
-    (p : Parameters) (mode : Mode) (origin : ℕ) (arrivals : List Arrival)
-    → KeepsCurve (green_of (opening_of p mode origin))
-    (row_output is_green (replay (opening_of p mode origin) arrivals))
-    × KeepsCurve (all_of (opening_of p mode origin))
-    (row_output is_in_profile (replay (opening_of p mode origin) arrivals))
+    (p : Parameters) (mode : Mode) (origin : ℕ) (arrivals : List Arrival) (column : Column)
+    → KeepsCurve (output_in column p) (row_output (counts column) (replay (opening_of p mode origin) arrivals))
 
 -- in the rows of an aware meter no packet leaves with a better colour than it came with
 abbrev pub AwareRowsNeverImprove : Type 0

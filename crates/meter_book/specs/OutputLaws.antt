@@ -2,19 +2,25 @@
 use Rattle.std.specs.Prelude.{ℕ, ◌≡◌, List, refl}
 use Rattle.moment_core.specs.declared.colour.Mode.{Mode}
 use Rattle.moment_core.specs.declared.colour.Mode.TheVariants.{Aware}
-use Rattle.moment_core.specs.Colours.{IsNoBetter, is_green, is_in_profile, output}
+use Rattle.moment_core.specs.declared.column.Column.{Column}
+use Rattle.moment_core.specs.declared.column.Column.TheVariants as columns
+use Rattle.moment_core.specs.Colours.{IsNoBetter, output}
+use Rattle.moment_core.specs.Columns.{counts}
 use Rattle.moment_core.specs.Excess.{Levels}
 use Rattle.moment_core.specs.Metering.{Offer, Rules, State, after, departures, how, used}
 use Rattle.moment_core.proofs.OutputLaws.{departures-same, newest-after}
 use Rattle.envelope_core.specs.Curve.{KeepsCurve}
 use Rattle.srtcm_core.specs.SingleRate.{single_rate}
+use Rattle.srtcm_core.specs.Sizes as single_rate_sizes
 use Rattle.srtcm_core.specs.declared.parameters.SrTcmParameters.{SrTcmParameters}
 use Rattle.srtcm_core.proofs.OutputLaws as single_rates
 use Rattle.trtcm_core.specs.TwoRate.{two_rate}
 use Rattle.trtcm_core.specs.TwoRate as two_rate_levels
+use Rattle.trtcm_core.specs.Sizes as two_rate_sizes
 use Rattle.trtcm_core.specs.declared.parameters.TrTcmParameters.{TrTcmParameters}
 use Rattle.trtcm_core.proofs.OutputLaws as two_rates
 use Rattle.rfc4115_core.specs.SeparateRates.{separate_rates}
+use Rattle.rfc4115_core.specs.Sizes as separate_rates_sizes
 use Rattle.rfc4115_core.specs.declared.parameters.Rfc4115Parameters.{Rfc4115Parameters}
 use Rattle.rfc4115_core.proofs.OutputLaws as excess_rates
 use Rattle.meter_book.specs.declared.any_meter.AnyMeter.{AnyMeter}
@@ -22,7 +28,7 @@ use Rattle.meter_book.specs.declared.any_meter.AnyMeter.TheVariants as meters
 use Rattle.meter_book.specs.declared.any_meter.Parameters.{Parameters}
 use Rattle.meter_book.specs.declared.any_meter.Parameters.TheVariants as parameters
 use Rattle.meter_book.specs.AnyMeter.{after_any, how_any, left_of, newest_of, opening_of}
-use Rattle.meter_book.specs.Envelopes.{IsFit, all_of, green_of, mode_of, parameters_of}
+use Rattle.meter_book.specs.Envelopes.{IsFit, mode_of, output_in, parameters_of}
 
 -- a meter of a kind has the departures of that kind
 pub departures_of_single_rate : (m : State SrTcmParameters Levels) (offers : List Offer)
@@ -47,24 +53,40 @@ never_improves-any (meters.SrTcm m) o aware = single_rates.never_improves m o aw
 never_improves-any (meters.TrTcm m) o aware = two_rates.never_improves m o aware
 never_improves-any (meters.Rfc4115 m) o aware = excess_rates.never_improves m o aware
 
--- what leaves green keeps the envelope of green
-pub green_keeps-any : (m : AnyMeter) → IsFit m → (offers : List Offer)
-    → KeepsCurve (green_of m) (output is_green (departures how_any m offers))
-green_keeps-any (meters.SrTcm m) fit offers =
-    rw (departures_of_single_rate m offers) (single_rates.green_keeps m fit offers)
-green_keeps-any (meters.TrTcm m) fit offers = rw (departures_of_two_rate m offers) (two_rates.green_keeps m fit offers)
-green_keeps-any (meters.Rfc4115 m) fit offers =
-    rw (departures_of_separate_rates m offers) (excess_rates.green_keeps m fit offers)
+-- what leaves a meter of a kind with a colour of a column keeps the envelope of that column
+pub single_rate_keeps : (m : State SrTcmParameters Levels) → single_rate_sizes.IsWithinSizes m
+    → (offers : List Offer) (column : Column)
+    → KeepsCurve (output_in column (parameters.SrTcm m.parameters))
+    (output (counts column) (departures (how single_rate) m offers))
+single_rate_keeps m fit offers columns.Green = single_rates.green_keeps m fit offers
+single_rate_keeps m fit offers columns.All = single_rates.in_profile_keeps m fit offers
+single_rate_keeps m fit offers columns.Excess = single_rates.yellow_keeps m fit offers
 
--- what leaves green or yellow keeps the envelope of all
-pub all_keeps-any : (m : AnyMeter) → IsFit m → (offers : List Offer)
-    → KeepsCurve (all_of m) (output is_in_profile (departures how_any m offers))
-all_keeps-any (meters.SrTcm m) fit offers =
-    rw (departures_of_single_rate m offers) (single_rates.in_profile_keeps m fit offers)
-all_keeps-any (meters.TrTcm m) fit offers =
-    rw (departures_of_two_rate m offers) (two_rates.in_profile_keeps m fit offers)
-all_keeps-any (meters.Rfc4115 m) fit offers =
-    rw (departures_of_separate_rates m offers) (excess_rates.in_profile_keeps m fit offers)
+pub two_rate_keeps : (m : State TrTcmParameters two_rate_levels.Levels) → two_rate_sizes.IsWithinSizes m
+    → (offers : List Offer) (column : Column)
+    → KeepsCurve (output_in column (parameters.TrTcm m.parameters))
+    (output (counts column) (departures (how two_rate) m offers))
+two_rate_keeps m fit offers columns.Green = two_rates.green_keeps m fit offers
+two_rate_keeps m fit offers columns.All = two_rates.in_profile_keeps m fit offers
+two_rate_keeps m fit offers columns.Excess = two_rates.yellow_keeps m fit offers
+
+pub separate_rates_keep : (m : State Rfc4115Parameters Levels) → separate_rates_sizes.IsWithinSizes m
+    → (offers : List Offer) (column : Column)
+    → KeepsCurve (output_in column (parameters.Rfc4115 m.parameters))
+    (output (counts column) (departures (how separate_rates) m offers))
+separate_rates_keep m fit offers columns.Green = excess_rates.green_keeps m fit offers
+separate_rates_keep m fit offers columns.All = excess_rates.in_profile_keeps m fit offers
+separate_rates_keep m fit offers columns.Excess = excess_rates.yellow_keeps m fit offers
+
+-- and so does what leaves a meter of any kind
+pub output_keeps-any : (m : AnyMeter) → IsFit m → (offers : List Offer) (column : Column)
+    → KeepsCurve (output_in column (parameters_of m)) (output (counts column) (departures how_any m offers))
+output_keeps-any (meters.SrTcm m) fit offers column =
+    rw (departures_of_single_rate m offers) (single_rate_keeps m fit offers column)
+output_keeps-any (meters.TrTcm m) fit offers column =
+    rw (departures_of_two_rate m offers) (two_rate_keeps m fit offers column)
+output_keeps-any (meters.Rfc4115 m) fit offers column =
+    rw (departures_of_separate_rates m offers) (separate_rates_keep m fit offers column)
 
 -- a meter that opens fits
 pub IsFit-opening : (p : Parameters) (mode : Mode) (origin : ℕ) → IsFit (opening_of p mode origin)

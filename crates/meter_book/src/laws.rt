@@ -1,10 +1,12 @@
 //! The laws of meters and of replays, each proved as the contract of a function that does nothing.
 ghost use Rattle.std.specs.Prelude.{◌≡◌, List, All};
 ghost use Rattle.moment_core.specs.declared.colour.Mode.TheVariants.{Aware};
-ghost use Rattle.moment_core.specs.Colours.{IsNoBetter, is_green, is_in_profile, output};
+ghost use Rattle.moment_core.specs.declared.column.Column.{Column};
+ghost use Rattle.moment_core.specs.Colours.{IsNoBetter, output};
+ghost use Rattle.moment_core.specs.Columns.{counts};
 ghost use Rattle.moment_core.specs.Metering.{Offer, departures};
 ghost use Rattle.envelope_core.specs.Curve.{KeepsCurve};
-ghost use Rattle.meter_book.specs.Envelopes.{all_output, green_output};
+ghost use Rattle.meter_book.specs.Envelopes.{output_in};
 ghost use Rattle.meter_book.specs.KeptColours.{GreenStaysGreen, YellowStaysYellow};
 ghost use Rattle.meter_book.specs.Laws.{
   AwareRowsNeverImprove,
@@ -26,12 +28,11 @@ pub fn aware_meters_never_improve<M: Meter>()
         → All (λ d. IsNoBetter d.came d.left) (departures M.how m offers) }
 {}
 
-/// Whatever arrives at a meter of whatever kind, what leaves it green keeps its envelope of green, and what leaves it
-/// green or yellow that of all (Cruz 1991, section II).
+/// Whatever arrives at a meter of whatever kind, what leaves it green keeps its envelope of green, what leaves it green
+/// or yellow that of all, and what leaves it yellow that of the excess (Cruz 1991, section II).
 pub fn meters_keep_envelopes<M: Meter>()
-    ensures { (m : M) (offers : List Offer) → M.fits m
-        → KeepsCurve (green_output (M.parameters_of m)) (output is_green (departures M.how m offers))
-        × KeepsCurve (all_output (M.parameters_of m)) (output is_in_profile (departures M.how m offers)) }
+    ensures { (m : M) (offers : List Offer) (column : Column) → M.fits m
+        → KeepsCurve (output_in column (M.parameters_of m)) (output (counts column) (departures M.how m offers)) }
 {}
 
 /// A meter of whatever kind that fits does so after whatever arrives.
@@ -44,8 +45,9 @@ pub fn rows_are_departures()
     ensures { RowsAreDepartures }
 {}
 
-/// What left green keeps the meter's envelope of green, and what left green or yellow that of all, by the moments that
-/// they were metered at (RFC 2697 section 3, RFC 2698 section 3, RFC 4115; Cruz 1991, section II).
+/// What left green keeps the meter's envelope of green, what left green or yellow that of all, and what left yellow
+/// that of the excess, by the moments that they were metered at (RFC 2697 section 3, RFC 2698 section 3, RFC 4115; Cruz
+/// 1991, section II).
 pub fn rows_keep_envelopes()
     ensures { RowsKeepEnvelopes }
 {}

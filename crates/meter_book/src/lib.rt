@@ -1,4 +1,15 @@
 //! The book of a meter: every arrival as a row, replayed exactly, and the accounts of what left with each colour.
+//!
+//! What holds of a meter of any kind, its definition in `specs/`, and the function that keeps it:
+//!
+//! - what a meter has for green packets, and for green and yellow or yellow ones (RFC 2697, RFC 2698, RFC 4115) →
+//!   `Limits.green_limit`, `Limits.all_limit`, `Limits.held_column` → the same of `Parameters`
+//! - the envelopes of what leaves it green, green or yellow, and yellow (RFC 2697 and RFC 2698 section 3, RFC 4115) →
+//!   `Envelopes.output_in` → `green_envelope`, `all_envelope`, `excess_envelope` of `Parameters` and `Meter`
+//! - what leaves it keeps them, whatever arrives → `Laws.RowsKeepEnvelopes`, and `output_keeps` of `Meter` →
+//!   `laws::rows_keep_envelopes`, `laws::meters_keep_envelopes`
+//! - an aware meter keeps the colours of what keeps its limits → `KeptColours` → `laws::green_stays_green`,
+//!   `laws::yellow_stays_yellow`
 #![tactic(auto)]
 
 pub mod accounts;

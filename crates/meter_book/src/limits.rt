@@ -1,9 +1,10 @@
 ghost use Rattle.std.specs.Prelude.{◌≡◌, ◌*◌, ◌≤◌, ◌<◌, ◌^◌};
-ghost use Rattle.meter_book.specs.Envelopes.{all_output, green_output};
-ghost use Rattle.meter_book.specs.Limits.{all_limit, green_limit};
+ghost use Rattle.meter_book.specs.Envelopes.{all_output, excess_output, green_output};
+ghost use Rattle.meter_book.specs.Limits.{all_limit, green_limit, held_column};
 
 use crate::any_meter::Parameters;
 use envelope_core::Envelope;
+use moment_core::Column;
 
 impl Parameters {
     /// What a meter with these parameters has for green packets: in each kind CIR and CBS (RFC 2697, RFC 2698, RFC
@@ -34,6 +35,17 @@ impl Parameters {
         envelope(rate.get(), u64::from(burst))
     }
 
+    /// The column of what is held against `all_limit`: green and yellow packets (RFC 2697, RFC 2698), or yellow ones
+    /// alone, which have a rate of their own (RFC 4115).
+    pub fn held_column(self) -> Column
+        ensures { result ≡ held_column self }
+    {
+        match self {
+            Parameters::SrTcm(_) | Parameters::TrTcm(_) => Column::All,
+            Parameters::Rfc4115(_) => Column::Excess,
+        }
+    }
+
     /// The envelope of what leaves it green: a byte more than what it has for green packets (RFC 2697, RFC 2698, RFC
     /// 4115; Cruz 1991, section II).
     pub fn green_envelope(&self) -> Envelope
@@ -58,6 +70,16 @@ impl Parameters {
             Parameters::TrTcm(_) => envelope(all.rate(), all.burst() + 1),
             Parameters::Rfc4115(_) => envelope(green.rate() + all.rate(), bursts + 2),
         }
+    }
+
+    /// The envelope of what leaves it yellow: the rate and the size of the bucket that yellow packets take from, and a
+    /// byte more (RFC 2697, RFC 2698, RFC 4115; Cruz 1991, section II).
+    pub fn excess_envelope(&self) -> Envelope
+        ensures value { result ≡ excess_output self.now }
+        ensures range { (result.rate ≤ 2 * 10 ^ 13) × (result.burst ≤ 2 ^ 34) }
+    {
+        let excess = self.all_limit();
+        envelope(excess.rate(), excess.burst() + 1)
     }
 }
 

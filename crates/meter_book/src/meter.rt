@@ -1,8 +1,10 @@
 ghost use Rattle.std.specs.Prelude.{◌≡◌, List};
-ghost use Rattle.moment_core.specs.Colours.{IsNoBetter, is_green, is_in_profile, output};
+ghost use Rattle.moment_core.specs.declared.column.Column.{Column};
+ghost use Rattle.moment_core.specs.Colours.{IsNoBetter, output};
+ghost use Rattle.moment_core.specs.Columns.{counts};
 ghost use Rattle.moment_core.specs.Metering.{How, Offer, departures, used};
 ghost use Rattle.envelope_core.specs.Curve.{KeepsCurve};
-ghost use Rattle.meter_book.specs.Envelopes.{all_output, green_output};
+ghost use Rattle.meter_book.specs.Envelopes.{all_output, excess_output, green_output, output_in};
 ghost use Rattle.meter_book.specs.declared.any_meter.Parameters.{Parameters};
 
 use crate::any_meter::{AnyMeter, Parameters};
@@ -63,11 +65,18 @@ pub trait Meter {
         self.parameters().all_envelope()
     }
 
+    /// The envelope of what leaves it yellow.
+    fn excess_envelope(&self) -> Envelope
+        ensures curve { result ≡ excess_output (parameters_of self.now) }
+        ensures fits { fits self.now }
+    {
+        self.parameters().excess_envelope()
+    }
+
     ghost never_improves: { (m : Self) (o : Offer) → mode_of m ≡ Aware → IsNoBetter o.came (how.left m o) };
 
-    ghost output_keeps: { (m : Self) → fits m → (offers : List Offer)
-        → KeepsCurve (green_output (parameters_of m)) (output is_green (departures how m offers))
-        × KeepsCurve (all_output (parameters_of m)) (output is_in_profile (departures how m offers)) };
+    ghost output_keeps: { (m : Self) → fits m → (offers : List Offer) (column : Column)
+        → KeepsCurve (output_in column (parameters_of m)) (output (counts column) (departures how m offers)) };
 
     ghost stays_fit: { (m : Self) (o : Offer) → fits m → fits (how.after m o) };
 
@@ -81,10 +90,9 @@ impl Meter for SrTcm {
     ghost use Rattle.moment_core.specs.Metering as metering;
     ghost use Rattle.srtcm_core.specs.SingleRate.{single_rate};
     ghost use Rattle.srtcm_core.specs.Sizes.{IsWithinSizes};
-    ghost use Rattle.srtcm_core.proofs.OutputLaws.{IsWithinSizes-after, green_keeps, in_profile_keeps};
     ghost use Rattle.srtcm_core.proofs.OutputLaws as laws;
     ghost use Rattle.meter_book.specs.declared.any_meter.Parameters.TheVariants as kinds;
-    ghost use Rattle.meter_book.specs.OutputLaws.{goes_on_by, stays_itself_by};
+    ghost use Rattle.meter_book.specs.OutputLaws.{goes_on_by, single_rate_keeps, stays_itself_by};
 
     ghost how = { metering.how single_rate };
 
@@ -112,9 +120,9 @@ impl Meter for SrTcm {
 
     ghost never_improves = { laws.never_improves };
 
-    ghost output_keeps = { λ m fit offers. (green_keeps m fit offers, in_profile_keeps m fit offers) };
+    ghost output_keeps = { single_rate_keeps };
 
-    ghost stays_fit = { IsWithinSizes-after };
+    ghost stays_fit = { laws.IsWithinSizes-after };
 
     ghost goes_on = { goes_on_by single_rate };
 
@@ -125,10 +133,9 @@ impl Meter for TrTcm {
     ghost use Rattle.moment_core.specs.Metering as metering;
     ghost use Rattle.trtcm_core.specs.TwoRate.{two_rate};
     ghost use Rattle.trtcm_core.specs.Sizes.{IsWithinSizes};
-    ghost use Rattle.trtcm_core.proofs.OutputLaws.{IsWithinSizes-after, green_keeps, in_profile_keeps};
     ghost use Rattle.trtcm_core.proofs.OutputLaws as laws;
     ghost use Rattle.meter_book.specs.declared.any_meter.Parameters.TheVariants as kinds;
-    ghost use Rattle.meter_book.specs.OutputLaws.{goes_on_by, stays_itself_by};
+    ghost use Rattle.meter_book.specs.OutputLaws.{goes_on_by, stays_itself_by, two_rate_keeps};
 
     ghost how = { metering.how two_rate };
 
@@ -156,9 +163,9 @@ impl Meter for TrTcm {
 
     ghost never_improves = { laws.never_improves };
 
-    ghost output_keeps = { λ m fit offers. (green_keeps m fit offers, in_profile_keeps m fit offers) };
+    ghost output_keeps = { two_rate_keeps };
 
-    ghost stays_fit = { IsWithinSizes-after };
+    ghost stays_fit = { laws.IsWithinSizes-after };
 
     ghost goes_on = { goes_on_by two_rate };
 
@@ -169,10 +176,9 @@ impl Meter for Rfc4115 {
     ghost use Rattle.moment_core.specs.Metering as metering;
     ghost use Rattle.rfc4115_core.specs.SeparateRates.{separate_rates};
     ghost use Rattle.rfc4115_core.specs.Sizes.{IsWithinSizes};
-    ghost use Rattle.rfc4115_core.proofs.OutputLaws.{IsWithinSizes-after, green_keeps, in_profile_keeps};
     ghost use Rattle.rfc4115_core.proofs.OutputLaws as laws;
     ghost use Rattle.meter_book.specs.declared.any_meter.Parameters.TheVariants as kinds;
-    ghost use Rattle.meter_book.specs.OutputLaws.{goes_on_by, stays_itself_by};
+    ghost use Rattle.meter_book.specs.OutputLaws.{goes_on_by, separate_rates_keep, stays_itself_by};
 
     ghost how = { metering.how separate_rates };
 
@@ -200,9 +206,9 @@ impl Meter for Rfc4115 {
 
     ghost never_improves = { laws.never_improves };
 
-    ghost output_keeps = { λ m fit offers. (green_keeps m fit offers, in_profile_keeps m fit offers) };
+    ghost output_keeps = { separate_rates_keep };
 
-    ghost stays_fit = { IsWithinSizes-after };
+    ghost stays_fit = { laws.IsWithinSizes-after };
 
     ghost goes_on = { goes_on_by separate_rates };
 
@@ -213,8 +219,8 @@ impl Meter for AnyMeter {
     ghost use Rattle.meter_book.specs.AnyMeter.{how_any};
     ghost use Rattle.meter_book.specs.Envelopes.{IsFit};
     ghost use Rattle.meter_book.specs.Envelopes as envelopes;
-    ghost use Rattle.meter_book.specs.OutputLaws.{IsFit-after, all_keeps-any, goes_on-any, green_keeps-any};
-    ghost use Rattle.meter_book.specs.OutputLaws.{never_improves-any, stays_itself-any};
+    ghost use Rattle.meter_book.specs.OutputLaws.{IsFit-after, goes_on-any, never_improves-any, output_keeps-any};
+    ghost use Rattle.meter_book.specs.OutputLaws.{stays_itself-any};
 
     ghost how = { how_any };
 
@@ -250,7 +256,7 @@ impl Meter for AnyMeter {
 
     ghost never_improves = { never_improves-any };
 
-    ghost output_keeps = { λ m fit offers. (green_keeps-any m fit offers, all_keeps-any m fit offers) };
+    ghost output_keeps = { output_keeps-any };
 
     ghost stays_fit = { IsFit-after };
 
