@@ -8,9 +8,12 @@ use Rattle.moment_core.specs.Volume.{bytes_over}
 use Rattle.ds_domain_base.specs.Domains.{Domain, jitter_of, link_of}
 use Rattle.ds_domain_base.specs.declared.contract.Contract.{Contract}
 use Rattle.ds_certificate.specs.Bounds.{AreAtMost, Grows, HasShape, IsAtMost, IsCertificate, Meets, MeetsIn, delayed, entering, fits, least, least_along, least_behind, least_of}
-use Rattle.ds_certificate.specs.Columns.{Bound, Column, green_column, all_column}
+use Rattle.moment_core.specs.declared.column.Column.{Column}
+use Rattle.moment_core.specs.declared.column.Column.TheVariants.{Green, All}
+use Rattle.ds_certificate.specs.Columns.{Bound, InEach, bytes_in, envelope_in}
 use Rattle.ds_certificate.specs.Sources.{jitters_along, jitters_of, source_of}
 use Rattle.ds_certificate.specs.declared.source.Source.{Source}
+use Rattle.ds_certificate.proofs.ColumnLaws.{each_of, in_column}
 
 -- a path that fits has at most 16 meters
 pub fits-short : (d : Domain) (c : Contract) → IsTrue (fits d c) → length c.path ≤ 16
@@ -26,62 +29,64 @@ unfolding least_behind
 length-least_behind s [] before = refl
 length-least_behind s (jitter ∷ jitters) before = ap suc (length-least_behind s jitters (delayed s jitter before))
 
--- what a column must be for the least bounds to be least in it
-pub record IsColumn (column : Column) : Type 0 where
-  pub enters : (s : Source) → column.bound (entering s) ≡ (column.envelope s).burst
-  pub delays : (s : Source) (jitter : ℕ) (before : Bound) → column.bound (delayed s jitter before) ≡ column.bound before + bytes_over (column.envelope s).rate jitter
+-- the least bounds in a column
+enters : (column : Column) (s : Source) → bytes_in column (entering s) ≡ (envelope_in column s).burst
+enters Green s = refl
+enters All s = refl
 
-green_is_column : IsColumn green_column
-green_is_column = record { enters = λ s. refl; delays = λ s jitter before. refl }
+delays : (column : Column) (s : Source) (jitter : ℕ) (before : Bound)
+    → bytes_in column (delayed s jitter before) ≡ bytes_in column before + bytes_over (envelope_in column s).rate jitter
+delays Green s jitter before = refl
+delays All s jitter before = refl
 
-all_is_column : IsColumn all_column
-all_is_column = record { enters = λ s. refl; delays = λ s jitter before. refl }
-
-Grows-least : (column : Column) → IsColumn column → (s : Source) (jitters : List ℕ) (before : Bound) → Grows column s jitters before (least_behind s jitters before)
+Grows-least : (column : Column) (s : Source) (jitters : List ℕ) (before : Bound) → Grows column s jitters before (least_behind s jitters before)
 unfolding Grows least_behind
-Grows-least column own s [] before = tt
-Grows-least column own s (jitter ∷ jitters) before = (omega (arith, own.delays s jitter before), Grows-least column own s jitters (delayed s jitter before))
+Grows-least column s [] before = tt
+Grows-least column s (jitter ∷ jitters) before = (omega (arith, delays column s jitter before), Grows-least column s jitters (delayed s jitter before))
 
-MeetsIn-least : (column : Column) → IsColumn column → (s : Source) (jitters : List ℕ) → MeetsIn column s jitters (least_along s jitters)
-MeetsIn-least column own s jitters = (omega (arith, own.enters s), Grows-least column own s jitters (entering s))
+MeetsIn-least : (column : Column) (s : Source) (jitters : List ℕ) → MeetsIn column s jitters (least_along s jitters)
+MeetsIn-least column s jitters = (omega (arith, enters column s), Grows-least column s jitters (entering s))
 
-below_behind : (column : Column) → IsColumn column → (s : Source) (jitters : List ℕ) (before other : Bound) (bounds : List Bound) → column.bound before ≤ column.bound other
-    → length bounds ≡ length jitters → Grows column s jitters other bounds → AllZip (λ a b. column.bound a ≤ column.bound b) (least_behind s jitters before) bounds
+below_behind : (column : Column) (s : Source) (jitters : List ℕ) (before other : Bound) (bounds : List Bound) → bytes_in column before ≤ bytes_in column other
+    → length bounds ≡ length jitters → Grows column s jitters other bounds → AllZip (λ a b. bytes_in column a ≤ bytes_in column b) (least_behind s jitters before) bounds
 unfolding Grows least_behind
-below_behind column own s [] before other [] low long grown = tt
-below_behind column own s [] before other (b ∷ bounds) low long grown = absurd (omega (arith, long))
-below_behind column own s (jitter ∷ jitters) before other [] low long grown = absurd (omega (arith, long))
-below_behind column own s (jitter ∷ jitters) before other (b ∷ bounds) low long grown =
-    let step : column.bound (delayed s jitter before) ≤ column.bound b = omega (arith, own.delays s jitter before, grown.0) in
-    (step, below_behind column own s jitters (delayed s jitter before) b bounds step (omega (arith, long)) grown.1)
+below_behind column s [] before other [] low long grown = tt
+below_behind column s [] before other (b ∷ bounds) low long grown = absurd (omega (arith, long))
+below_behind column s (jitter ∷ jitters) before other [] low long grown = absurd (omega (arith, long))
+below_behind column s (jitter ∷ jitters) before other (b ∷ bounds) low long grown =
+    let step : bytes_in column (delayed s jitter before) ≤ bytes_in column b = omega (arith, delays column s jitter before, grown.0) in
+    (step, below_behind column s jitters (delayed s jitter before) b bounds step (omega (arith, long)) grown.1)
 
-below_along : (column : Column) → IsColumn column → (s : Source) (jitters : List ℕ) (bounds : List Bound)
-    → length bounds ≡ suc (length jitters) → MeetsIn column s jitters bounds → AllZip (λ a b. column.bound a ≤ column.bound b) (least_along s jitters) bounds
-below_along column own s jitters [] long met = absurd (omega (arith, long))
-below_along column own s jitters (first ∷ bounds) long met =
-    let low : column.bound (entering s) ≤ column.bound first = omega (arith, own.enters s, met.0) in
-    (low, below_behind column own s jitters (entering s) first bounds low (omega (arith, long)) met.1)
+below_along : (column : Column) (s : Source) (jitters : List ℕ) (bounds : List Bound)
+    → length bounds ≡ suc (length jitters) → MeetsIn column s jitters bounds → AllZip (λ a b. bytes_in column a ≤ bytes_in column b) (least_along s jitters) bounds
+below_along column s jitters [] long met = absurd (omega (arith, long))
+below_along column s jitters (first ∷ bounds) long met =
+    let low : bytes_in column (entering s) ≤ bytes_in column first = omega (arith, enters column s, met.0) in
+    (low, below_behind column s jitters (entering s) first bounds low (omega (arith, long)) met.1)
 
--- what holds place by place of two relations holds of both
-AllZip-both : {A B : Type 0} (R S : A → B → Type 0) (xs : List A) (ys : List B) → AllZip R xs ys → AllZip S xs ys → AllZip (λ x y. R x y × S x y) xs ys
-AllZip-both R S [] [] r s = tt
-AllZip-both R S [] (y ∷ ys) r s = absurd r
-AllZip-both R S (x ∷ xs) [] r s = absurd r
-AllZip-both R S (x ∷ xs) (y ∷ ys) r s = ((r.0, s.0), AllZip-both R S xs ys r.1 s.1)
+-- what holds place by place in every column holds in each, place by place
+AllZip-each : (R : Column → Bound → Bound → Type 0) (xs ys : List Bound) → ((column : Column) → AllZip (R column) xs ys)
+    → AllZip (λ x y. InEach (λ column. R column x y)) xs ys
+AllZip-each R [] [] every = tt
+AllZip-each R [] (y ∷ ys) every = absurd (every Green)
+AllZip-each R (x ∷ xs) [] every = absurd (every Green)
+AllZip-each R (x ∷ xs) (y ∷ ys) every =
+    (each_of (λ column. R column x y) (λ column. (every column).0), AllZip-each R xs ys (λ column. (every column).1))
 
 pub HasShape-least : (d : Domain) (c : Contract) → IsTrue (fits d c) → HasShape d c (least_of d c)
 HasShape-least d c good =
     (good, ap suc (length-least_behind (source_of d c) (jitters_of d c) (entering (source_of d c)) ∙ length-jitters_along d c.port c.path))
 
 pub Meets-least : (d : Domain) (c : Contract) → Meets d c (least_of d c)
-Meets-least d c = (MeetsIn-least green_column green_is_column (source_of d c) (jitters_of d c), MeetsIn-least all_column all_is_column (source_of d c) (jitters_of d c))
+Meets-least d c = each_of (λ column. MeetsIn column (source_of d c) (jitters_of d c) (least_of d c))
+    (λ column. MeetsIn-least column (source_of d c) (jitters_of d c))
 
 least_below : (d : Domain) (c : Contract) (bounds : List Bound) → HasShape d c bounds → Meets d c bounds → AllZip IsAtMost (least_of d c) bounds
 least_below d c bounds shape met =
     let long : length bounds ≡ suc (length (jitters_of d c)) = shape.1 ∙ ap suc (sym (length-jitters_along d c.port c.path)) in
-    AllZip-both (λ a b. a.green ≤ b.green) (λ a b. a.all ≤ b.all) (least_of d c) bounds
-    (below_along green_column green_is_column (source_of d c) (jitters_of d c) bounds long met.0)
-    (below_along all_column all_is_column (source_of d c) (jitters_of d c) bounds long met.1)
+    AllZip-each (λ column a b. bytes_in column a ≤ bytes_in column b) (least_of d c) bounds
+    (λ column. below_along column (source_of d c) (jitters_of d c) bounds long
+    (in_column (λ k. MeetsIn k (source_of d c) (jitters_of d c) bounds) met column))
 
 -- the least certificate is one, where all contracts fit
 pub IsCertificate-least : (d : Domain) (contracts : List Contract) → list_all (fits d) contracts ≡ true → IsCertificate d contracts (least d contracts)

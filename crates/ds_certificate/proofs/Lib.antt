@@ -1,3 +1,4 @@
+pub mod ColumnLaws
 pub mod LeastLaws
 pub mod ReadingLaws
 pub mod ShapeLaws

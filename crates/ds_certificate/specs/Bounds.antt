@@ -5,7 +5,8 @@ use Rattle.moment_core.specs.Volume.{bytes_over}
 use Rattle.ds_domain_base.specs.Domains.{Domain}
 use Rattle.ds_domain_base.specs.Fitting.{way_fault}
 use Rattle.ds_domain_base.specs.declared.contract.Contract.{Contract}
-use Rattle.ds_certificate.specs.Columns.{Bound, Column, InEach, in_each}
+use Rattle.moment_core.specs.declared.column.Column.{Column}
+use Rattle.ds_certificate.specs.Columns.{Bound, InEach, bytes_in, envelope_in, in_each}
 use Rattle.ds_certificate.specs.Sources.{jitters_of, source_of}
 use Rattle.ds_certificate.specs.declared.source.Source.{Source}
 
@@ -19,14 +20,14 @@ HasShape d c bounds = IsTrue (fits d c) × (length bounds ≡ suc (length c.path
 
 -- the first bound is no less than the burst that the traffic enters with
 abbrev pub IsFirst : Column → Source → Bound → Type 0
-IsFirst column s first = (column.envelope s).burst ≤ column.bound first
+IsFirst column s first = (envelope_in column s).burst ≤ bytes_in column first
 
 -- behind each link a bound is no less than the one before it and what the rate gives over the link's jitter, rounded up
 unfoldable pub Grows : Column → Source → List ℕ → Bound → List Bound → Type 0
 Grows column s [] before bounds = ⊤
 Grows column s (jitter ∷ jitters) before [] = ⊤
 Grows column s (jitter ∷ jitters) before (bound ∷ bounds) =
-    (column.bound before + bytes_over (column.envelope s).rate jitter ≤ column.bound bound)
+    (bytes_in column before + bytes_over (envelope_in column s).rate jitter ≤ bytes_in column bound)
     × Grows column s jitters bound bounds
 
 abbrev pub MeetsIn : Column → Source → List ℕ → List Bound → Type 0
@@ -44,17 +45,17 @@ IsCertificate d contracts certificate =
 
 -- no bound is above the other's, in no column
 abbrev pub IsAtMost : Bound → Bound → Type 0
-IsAtMost a b = InEach (λ column. column.bound a ≤ column.bound b)
+IsAtMost a b = InEach (λ column. bytes_in column a ≤ bytes_in column b)
 
 abbrev pub AreAtMost : List (List Bound) → List (List Bound) → Type 0
 AreAtMost rows others = AllZip (λ bounds more. AllZip IsAtMost bounds more) rows others
 
 -- the least first bound, and the least bound behind a link of a jitter
 abbrev pub entering : Source → Bound
-entering s = in_each (λ column. (column.envelope s).burst)
+entering s = in_each (λ column. (envelope_in column s).burst)
 
 abbrev pub delayed : Source → ℕ → Bound → Bound
-delayed s jitter before = in_each (λ column. column.bound before + bytes_over (column.envelope s).rate jitter)
+delayed s jitter before = in_each (λ column. bytes_in column before + bytes_over (envelope_in column s).rate jitter)
 
 unfoldable pub least_behind : Source → List ℕ → Bound → List Bound
 least_behind s [] before = []

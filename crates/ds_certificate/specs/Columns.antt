@@ -1,5 +1,9 @@
--- Bounds, and the columns that they stand in: each column has its envelope of a source and its part of a bound.
+-- Bounds, and the part of a source and of a bound that stands in each column.
 use Rattle.std.specs.Prelude.{ℕ, ◌^◌, ◌≤◌}
+use Rattle.std.specs.List.{AllByRecursion}
+use Rattle.moment_core.specs.Columns.{each_column}
+use Rattle.moment_core.specs.declared.column.Column.{Column}
+use Rattle.moment_core.specs.declared.column.Column.TheVariants.{Green, All}
 use Rattle.envelope_core.specs.Curve.{Curve}
 use Rattle.ds_certificate.specs.declared.source.Source.{Source}
 
@@ -8,24 +12,24 @@ pub record Bound : Type 0 where
   pub green : ℕ
   pub all : ℕ
 
-pub record Column : Type 0 where
-  pub envelope : Source → Curve
-  pub bound : Bound → ℕ
+-- what a source keeps in a column
+abbrev pub envelope_in : Column → Source → Curve
+envelope_in Green s = s.green
+envelope_in All s = s.all
 
-abbrev pub green_column : Column
-green_column = record { envelope = λ s. s.green; bound = λ b. b.green }
+-- the bytes of a bound in a column
+abbrev pub bytes_in : Column → Bound → ℕ
+bytes_in Green b = b.green
+bytes_in All b = b.all
 
-abbrev pub all_column : Column
-all_column = record { envelope = λ s. s.all; bound = λ b. b.all }
-
--- a bound that has this in each column
+-- a bound of so many bytes in each column
 abbrev pub in_each : (Column → ℕ) → Bound
-in_each part = record { green = part green_column; all = part all_column }
+in_each bytes = record { green = bytes Green; all = bytes All }
 
 -- what holds in each column
 abbrev pub InEach : (Column → Type 0) → Type 0
-InEach P = P green_column × P all_column
+InEach P = AllByRecursion P each_column
 
 -- bounds go up to 10^15 bytes
 abbrev pub IsInRange : Bound → Type 0
-IsInRange b = InEach (λ column. column.bound b ≤ 10 ^ 15)
+IsInRange b = InEach (λ column. bytes_in column b ≤ 10 ^ 15)

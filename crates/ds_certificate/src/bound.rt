@@ -1,7 +1,7 @@
 ghost use Rattle.std.specs.Prelude.{◌≡◌, ◌≤◌, ◌^◌};
 ghost use Rattle.std.specs.Result.{OkIff};
 
-use moment_core::OutOfRange;
+use moment_core::{Column, OutOfRange};
 use std::marker::Model;
 
 /// A bound on the burst of a contract's green packets, and on that of its green and yellow ones, in bytes: each 0 to
@@ -25,6 +25,8 @@ impl Model for Bound {
 }
 
 impl Bound {
+    ghost use Rattle.ds_certificate.specs.Columns.{bytes_in};
+
     /// The greatest bound, 10^15 bytes.
     pub const MOST: u64 = 1_000_000_000_000_000;
 
@@ -36,6 +38,17 @@ impl Bound {
             Ok(Bound { green, all })
         } else {
             Err(OutOfRange)
+        }
+    }
+
+    /// The bound on the packets of a column, in bytes.
+    pub fn bytes(self, column: Column) -> u64
+        ensures value { result ≡ bytes_in column self }
+        ensures range { result ≤ 10 ^ 15 }
+    {
+        match column {
+            Column::Green => self.green,
+            Column::All => self.all,
         }
     }
 

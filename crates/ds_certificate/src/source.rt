@@ -1,12 +1,13 @@
 ghost use Rattle.std.specs.Prelude.{◌≡◌, ◌*◌, ◌≤◌, ◌^◌};
 ghost use Rattle.envelope_core.specs.Curve.{widened};
 ghost use Rattle.ds_domain_base.specs.Domains.{port_of, skew_of};
+ghost use Rattle.ds_certificate.specs.Columns.{envelope_in};
 ghost use Rattle.ds_certificate.specs.Ranges.{IsModerate, IsModest};
 ghost use Rattle.ds_certificate.specs.Sources.{curve_of, source_by, source_of};
 
 use ds_domain_base::{Contract, Domain, Name, Profile, Terms};
 use envelope_core::{Envelope, widen};
-use moment_core::Gap;
+use moment_core::{Column, Gap};
 
 /// What a contract's traffic keeps where it enters a domain.
 #[derive(Clone, Copy, Debug, PartialEq, Eq, Hash)]
@@ -28,6 +29,16 @@ impl Source {
     {
         let skew = domain.port_skew(contract.port);
         source_by(skew, &contract.terms)
+    }
+
+    /// What the packets of a column keep.
+    pub fn envelope(self, column: Column) -> Envelope
+        ensures { result ≡ envelope_in column self }
+    {
+        match column {
+            Column::Green => self.green,
+            Column::All => self.all,
+        }
     }
 }
 

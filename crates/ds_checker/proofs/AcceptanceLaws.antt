@@ -1,14 +1,17 @@
 -- A table is acceptable exactly where nothing stands against it.
 use Rattle.std.proofs.Common.{◌≡◌, ◌≤◌, ℕ, suc, Bool, true, false, List, [], ◌∷◌, ◌++◌, length, Option, None, Some, refl, sym, ap, ◌∙◌, arith, inl, inr}
-use Rattle.std.specs.Prelude.{◌&&◌, All, nat_eq, nat_le}
+use Rattle.std.specs.Prelude.{◌&&◌, All, map, nat_eq, nat_le}
+use Rattle.std.specs.List.{AllByRecursion}
 use Rattle.std.proofs.lemmas.Bool.{cases_Bool, and_parts, and_from}
 use Rattle.std.proofs.lemmas.Bool.Decides.{nat_tests}
 use Rattle.std.proofs.lemmas.List.Elements.{All-nil, All-cons, All-head, All-tail}
+use Rattle.moment_core.specs.Columns.{each_column}
+use Rattle.moment_core.specs.declared.column.Column.{Column}
 use Rattle.ds_domain_base.specs.Domains.{Domain}
 use Rattle.ds_domain_base.specs.declared.contract.Contract.{Contract}
 use Rattle.ds_domain_base.specs.declared.parts.Meter.{Meter}
 use Rattle.ds_certificate.specs.Bounds.{Grows, HasShape, IsCertificate, MeetsIn, fits}
-use Rattle.ds_certificate.specs.Columns.{Bound, green_column, all_column}
+use Rattle.ds_certificate.specs.Columns.{Bound}
 use Rattle.ds_certificate.specs.Sources.{jitters_of, source_of}
 use Rattle.ds_certificate.specs.declared.source.Source.{Source}
 use Rattle.ds_checker.specs.Acceptance.{Carries, IsAcceptable, Table, refusal_behind, refusal_of}
@@ -16,7 +19,7 @@ use Rattle.ds_checker.specs.BoundTests.{bound_tests, first_test, hop_test, hop_t
 use Rattle.ds_checker.specs.Loads.{Share, shares_at}
 use Rattle.ds_checker.specs.TableTests.{meter_tests, table_tests}
 use Rattle.ds_checker.specs.Tests.{IsPassed, Test, first_failed}
-use Rattle.ds_checker.specs.declared.refusal.Column.TheVariants as names
+use Rattle.ds_certificate.proofs.ColumnLaws.{each_of, in_column}
 
 some_is_not_none : {A : Type 0} (x : A) → Some x ≡ None → ⊥
 some_is_not_none x is = absurd cc
@@ -62,47 +65,57 @@ together (x ∷ xs) ys left right =
     let both = passes x xs left in
     passed x (xs ++ ys) both.0 (together xs ys both.1 right)
 
+-- a test in each column
+each_passes : (columns : List Column) (test : Column → Test) (rest : List Test) → first_failed (map test columns ++ rest) ≡ None
+    → AllByRecursion (λ column. IsPassed (test column)) columns × (first_failed rest ≡ None)
+each_passes [] test rest is = (tt, is)
+each_passes (column ∷ columns) test rest is =
+    let both = passes (test column) (map test columns ++ rest) is in
+    let later = each_passes columns test rest both.1 in
+    ((both.0, later.0), later.1)
+
+each_passed : (columns : List Column) (test : Column → Test) (rest : List Test) → AllByRecursion (λ column. IsPassed (test column)) columns
+    → first_failed rest ≡ None → first_failed (map test columns ++ rest) ≡ None
+each_passed [] test rest low none = none
+each_passed (column ∷ columns) test rest low none = passed (test column) (map test columns ++ rest) low.0 (each_passed columns test rest low.1 none)
+
 -- bounds behind links
 grows : (number hop : ℕ) (s : Source) (jitters : List ℕ) (before : Bound) (bounds : List Bound) → first_failed (hop_tests number hop s jitters before bounds) ≡ None
-    → Grows green_column s jitters before bounds × Grows all_column s jitters before bounds
+    → (column : Column) → Grows column s jitters before bounds
 unfolding Grows hop_tests
-grows number hop s [] before bounds is = (tt, tt)
-grows number hop s (jitter ∷ jitters) before [] is = (tt, tt)
-grows number hop s (jitter ∷ jitters) before (bound ∷ bounds) is =
-    let rest = hop_tests number (suc hop) s jitters bound bounds in
-    let green = passes (hop_test number hop s jitter before bound names.Green) (hop_test number hop s jitter before bound names.All ∷ rest) is in
-    let both = passes (hop_test number hop s jitter before bound names.All) rest green.1 in
-    let later = grows number (suc hop) s jitters bound bounds both.1 in
-    ((green.0, later.0), (both.0, later.1))
+grows number hop s [] before bounds is column = tt
+grows number hop s (jitter ∷ jitters) before [] is column = tt
+grows number hop s (jitter ∷ jitters) before (bound ∷ bounds) is column =
+    let test = hop_test number hop s jitter before bound in
+    let both = each_passes each_column test (hop_tests number (suc hop) s jitters bound bounds) is in
+    (in_column (λ k. IsPassed (test k)) both.0 column, grows number (suc hop) s jitters bound bounds both.1 column)
 
-grown : (number hop : ℕ) (s : Source) (jitters : List ℕ) (before : Bound) (bounds : List Bound) → Grows green_column s jitters before bounds × Grows all_column s jitters before bounds
+grown : (number hop : ℕ) (s : Source) (jitters : List ℕ) (before : Bound) (bounds : List Bound) → ((column : Column) → Grows column s jitters before bounds)
     → first_failed (hop_tests number hop s jitters before bounds) ≡ None
 unfolding Grows hop_tests
 grown number hop s [] before bounds met = none_nil
 grown number hop s (jitter ∷ jitters) before [] met = none_nil
 grown number hop s (jitter ∷ jitters) before (bound ∷ bounds) met =
-    let rest = hop_tests number (suc hop) s jitters bound bounds in
-    passed (hop_test number hop s jitter before bound names.Green) (hop_test number hop s jitter before bound names.All ∷ rest) met.0.0
-    (passed (hop_test number hop s jitter before bound names.All) rest met.1.0 (grown number (suc hop) s jitters bound bounds (met.0.1, met.1.1)))
+    let test = hop_test number hop s jitter before bound in
+    each_passed each_column test (hop_tests number (suc hop) s jitters bound bounds) (each_of (λ k. IsPassed (test k)) (λ k. (met k).0))
+    (grown number (suc hop) s jitters bound bounds (λ k. (met k).1))
 
 -- the bounds of a contract
 meets : (number : ℕ) (s : Source) (jitters : List ℕ) (bounds : List Bound) → first_failed (tests_along number s jitters bounds) ≡ None
-    → MeetsIn green_column s jitters bounds × MeetsIn all_column s jitters bounds
-meets number s jitters [] is = (tt, tt)
-meets number s jitters (first ∷ bounds) is =
-    let rest = hop_tests number 1 s jitters first bounds in
-    let green = passes (first_test number s first names.Green) (first_test number s first names.All ∷ rest) is in
-    let both = passes (first_test number s first names.All) rest green.1 in
-    let later = grows number 1 s jitters first bounds both.1 in
-    ((green.0, later.0), (both.0, later.1))
+    → (column : Column) → MeetsIn column s jitters bounds
+meets number s jitters [] is column = tt
+meets number s jitters (first ∷ bounds) is column =
+    let test = first_test number s first in
+    let both = each_passes each_column test (hop_tests number 1 s jitters first bounds) is in
+    (in_column (λ k. IsPassed (test k)) both.0 column, grows number 1 s jitters first bounds both.1 column)
 
-met_by : (number : ℕ) (s : Source) (jitters : List ℕ) (bounds : List Bound) → MeetsIn green_column s jitters bounds × MeetsIn all_column s jitters bounds
+met_by : (number : ℕ) (s : Source) (jitters : List ℕ) (bounds : List Bound) → ((column : Column) → MeetsIn column s jitters bounds)
     → first_failed (tests_along number s jitters bounds) ≡ None
 met_by number s jitters [] met = none_nil
 met_by number s jitters (first ∷ bounds) met =
-    let rest = hop_tests number 1 s jitters first bounds in
-    passed (first_test number s first names.Green) (first_test number s first names.All ∷ rest) met.0.0
-    (passed (first_test number s first names.All) rest met.1.0 (grown number 1 s jitters first bounds (met.0.1, met.1.1)))
+    let test = first_test number s first in
+    each_passed each_column test (hop_tests number 1 s jitters first bounds) (each_of (λ k. IsPassed (test k)) (λ k. (met k).0))
+    (grown number 1 s jitters first bounds (λ k. (met k).1))
 
 -- the shape of a contract's bounds, as a test
 unfoldable is_shaped : Domain → Contract → List Bound → Bool
@@ -144,7 +157,10 @@ certified number d (c ∷ contracts) [] fit is = absurd (some_is_not_none number
 certified number d (c ∷ contracts) (bounds ∷ rows) fit is = elim (cases_Bool (is_shaped d c bounds)) [
   | inl holds ↦
       let both = parts (tests_along number (source_of d c) (jitters_of d c) bounds) (bound_tests (suc number) d contracts rows) is in (
-        (shaped d c bounds holds, meets number (source_of d c) (jitters_of d c) bounds both.0),
+        (
+          shaped d c bounds holds,
+          each_of (λ k. MeetsIn k (source_of d c) (jitters_of d c) bounds) (meets number (source_of d c) (jitters_of d c) bounds both.0),
+        ),
         certified (suc number) d contracts rows (sym (misfit-shaped number d c contracts bounds rows holds) ∙ fit) both.1,
       )
   | inr fails ↦ absurd (some_is_not_none number (sym (misfit-unshaped number d c contracts bounds rows fails) ∙ fit))
@@ -166,7 +182,7 @@ bounded number d [] (bounds ∷ rows) met = absurd met
 bounded number d (c ∷ contracts) [] met = absurd met
 bounded number d (c ∷ contracts) (bounds ∷ rows) met =
     together (tests_along number (source_of d c) (jitters_of d c) bounds) (bound_tests (suc number) d contracts rows)
-    (met_by number (source_of d c) (jitters_of d c) bounds met.0.1) (bounded (suc number) d contracts rows met.1)
+    (met_by number (source_of d c) (jitters_of d c) bounds (in_column (λ k. MeetsIn k (source_of d c) (jitters_of d c) bounds) met.0.1)) (bounded (suc number) d contracts rows met.1)
 
 -- a meter
 carries : (name : List ℕ) (m : Meter) (shares : List Share) → first_failed (meter_tests name m shares) ≡ None → Carries m shares

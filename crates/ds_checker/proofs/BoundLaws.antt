@@ -1,5 +1,5 @@
 -- Laws of the tests of bounds.
-use Rattle.std.proofs.Common.{◌≡◌, ℕ, suc, ◌+◌, ◌-◌, ◌*◌, ◌<◌, ◌≤◌, ◌^◌, ◌++◌, ◌&&◌, nat_eq, length, drop, get_or, List, [], ◌∷◌, Bool, true, false, is_some, Option, None, Some, option_map, if◌then◌else◌, nat_le, nat_lt, ◌⊎◌, inl, inr, refl, sym, ap, ◌∙◌, arith}
+use Rattle.std.proofs.Common.{◌≡◌, ℕ, suc, ◌+◌, ◌-◌, ◌*◌, ◌<◌, ◌≤◌, ◌^◌, ◌++◌, ◌&&◌, nat_eq, length, drop, get_or, map, List, [], ◌∷◌, Bool, true, false, is_some, Option, None, Some, option_map, if◌then◌else◌, nat_le, nat_lt, ◌⊎◌, inl, inr, refl, sym, ap, ◌∙◌, arith}
 use Rattle.std.proofs.lemmas.List.{drop_all, drop_more, length-drop}
 use Rattle.std.specs.Bool.{then_some}
 use Rattle.std.specs.Option.{MatchOption, option_or}
@@ -7,15 +7,14 @@ use Rattle.std.proofs.lemmas.Bool.Decides.{nat_tests}
 use Rattle.std.proofs.Math.Nat.{mul-le-mul}
 use Rattle.std.proofs.lemmas.Grind.{div_ceil_times}
 use Rattle.moment_core.specs.Volume.{bytes_over}
+use Rattle.moment_core.specs.declared.column.Column.{Column}
 use Rattle.ds_domain_base.specs.Domains.{Domain, jitter_of, link_of}
 use Rattle.ds_domain_base.specs.declared.contract.Contract.{Contract}
 use Rattle.ds_certificate.specs.Bounds.{fits}
 use Rattle.ds_certificate.specs.Columns.{Bound}
 use Rattle.ds_certificate.specs.Sources.{jitters_along, jitters_of, source_of}
 use Rattle.ds_certificate.specs.declared.source.Source.{Source}
-use Rattle.ds_checker.specs.BoundTests.{bound_tests, first_test, hop_test, hop_tests, in_both, misfit, tests_along}
-use Rattle.ds_checker.specs.declared.refusal.Column.{Column}
-use Rattle.ds_checker.specs.declared.refusal.Column.TheVariants.{Green, All}
+use Rattle.ds_checker.specs.BoundTests.{bound_tests, first_test, hop_test, hop_tests, in_columns, misfit, tests_along}
 use Rattle.ds_checker.specs.Tests.{Test, first_failed}
 use Rattle.ds_checker.specs.declared.refusal.Refusal.{Refusal}
 use Rattle.ds_checker.specs.declared.refusal.Refusal.TheVariants.{Shape}
@@ -26,6 +25,10 @@ bytes_over_fits rate gap slow short =
     let product : rate * gap ≤ 2 ^ 64 * 2 ^ 64 = mul-le-mul {n₁ = rate} {m₁ = gap} {n₂ = 2 ^ 64} {m₂ = 2 ^ 64} (omega arith) (omega arith) in
     let times = div_ceil_times (rate * gap) 8000000000 (omega arith) in
     omega (arith, times)
+
+-- an item, and those behind it
+item_ahead : {X : Type 0} (xs : List X) (i : ℕ) (x : X) → i < length xs → x ≡ get_or xs i x → drop i xs ≡ x ∷ drop (i + 1) xs
+item_ahead xs i x inside is_item = drop_more xs i x inside ∙ ap (λ first. first ∷ drop (i + 1) xs) (sym is_item)
 
 -- the first test that fails in a list, or else in the list behind it
 append_by : (passed : Bool) (refusal : Refusal) (rest whole other : Option Refusal) → whole ≡ option_or rest other
@@ -49,9 +52,18 @@ unfolding first_failed
 first_failed-alone t needed given refusal is_needed is_given same =
     rw (sym is_needed) (rw (sym is_given) (ap (then_some (nat_lt given needed)) same ∙ alone_by needed given (t.refused needed given)))
 
-pub first_failed-both : (test : Column → Test) (green all : Option Refusal) → green ≡ first_failed (test Green ∷ []) → all ≡ first_failed (test All ∷ [])
-    → option_or green all ≡ first_failed (in_both test)
-first_failed-both test green all is_green is_all = rw is_green (rw is_all (sym (first_failed-append (test Green ∷ []) (test All ∷ []))))
+-- a test in a column, and those in the columns behind it
+pub first_failed-column : (test : Column → Test) (columns : List Column) (i : ℕ) (column : Column) (refusal : Option Refusal) → i < length columns
+    → column ≡ get_or columns i column → refusal ≡ first_failed (test column ∷ [])
+    → first_failed (map test (drop i columns)) ≡ option_or refusal (first_failed (map test (drop (i + 1) columns)))
+first_failed-column test columns i column refusal inside is_column is_refusal =
+    rw is_refusal
+    (ap (λ left. first_failed (map test left)) (item_ahead columns i column inside is_column)
+    ∙ first_failed-append (test column ∷ []) (map test (drop (i + 1) columns)))
+
+pub first_failed-columns : (test : Column → Test) (columns : List Column) (i : ℕ) → length columns ≤ i → first_failed (map test (drop i columns)) ≡ None
+unfolding first_failed
+first_failed-columns test columns i ended = ap (λ left. first_failed (map test left)) (drop_all i columns ended)
 
 -- where a refusal stands before others it is the first, and else the first is among the others
 pub found : (refusal other whole : Option Refusal) → is_some refusal ≡ true → option_or refusal other ≡ whole → refusal ≡ whole
@@ -66,10 +78,6 @@ not_found (Some r) other whole none same = absurd cc
 pub or_else_is : {P : Type 0} (first rest result : Option Refusal) → MatchOption first P (λ refusal. result ≡ Some refusal) → (P → result ≡ rest) → result ≡ option_or first rest
 or_else_is None rest result which called = called which
 or_else_is (Some refusal) rest result which called = which
-
--- an item, and those behind it
-item_ahead : {X : Type 0} (xs : List X) (i : ℕ) (x : X) → i < length xs → x ≡ get_or xs i x → drop i xs ≡ x ∷ drop (i + 1) xs
-item_ahead xs i x inside is_item = drop_more xs i x inside ∙ ap (λ first. first ∷ drop (i + 1) xs) (sym is_item)
 
 next_is : (i : ℕ) → suc i ≡ i + 1
 next_is i = omega arith
@@ -118,15 +126,15 @@ misfit-behind d contracts rows i ended =
 -- a hop, and what is behind it
 hops-next : (number hop : ℕ) (s : Source) (jitter : ℕ) (jitters : List ℕ) (before bound : Bound) (bounds : List Bound)
     → first_failed (hop_tests number hop s (jitter ∷ jitters) before (bound ∷ bounds))
-    ≡ option_or (first_failed (in_both (hop_test number hop s jitter before bound))) (first_failed (hop_tests number (hop + 1) s jitters bound bounds))
+    ≡ option_or (first_failed (in_columns (hop_test number hop s jitter before bound))) (first_failed (hop_tests number (hop + 1) s jitters bound bounds))
 unfolding hop_tests
 hops-next number hop s jitter jitters before bound bounds =
-    first_failed-append (in_both (hop_test number hop s jitter before bound)) (hop_tests number (suc hop) s jitters bound bounds)
-    ∙ ap (λ next. option_or (first_failed (in_both (hop_test number hop s jitter before bound))) (first_failed (hop_tests number next s jitters bound bounds))) (next_is hop)
+    first_failed-append (in_columns (hop_test number hop s jitter before bound)) (hop_tests number (suc hop) s jitters bound bounds)
+    ∙ ap (λ next. option_or (first_failed (in_columns (hop_test number hop s jitter before bound))) (first_failed (hop_tests number next s jitters bound bounds))) (next_is hop)
 
 pub hops-step : (number : ℕ) (s : Source) (d : Domain) (from to : List ℕ) (path later : List (List ℕ)) (jitter : ℕ) (before bound : Bound) (bounds rest : List Bound)
     → (index at next : ℕ) (refusal : Option Refusal) → path ≡ to ∷ later → bounds ≡ bound ∷ rest → at ≡ index → next ≡ index + 1 → jitter ≡ jitter_of (link_of d from to)
-    → refusal ≡ first_failed (in_both (hop_test number (at + 1) s jitter before bound))
+    → refusal ≡ first_failed (in_columns (hop_test number (at + 1) s jitter before bound))
     → first_failed (hop_tests number (index + 1) s (jitters_along d from path) before bounds)
     ≡ option_or refusal (first_failed (hop_tests number (next + 1) s (jitters_along d to later) bound rest))
 unfolding jitters_along
@@ -189,7 +197,7 @@ along-empty number s jitters [] empty = none_failed
 along-empty number s jitters (first ∷ bounds) empty = absurd (omega (arith, empty))
 
 pub along-parts : (number : ℕ) (s : Source) (jitters : List ℕ) (bounds : List Bound) (first : Bound) (behind : List Bound) (own : Source) (refusal : Option Refusal)
-    → own ≡ s → bounds ≡ first ∷ behind → refusal ≡ first_failed (in_both (first_test number own first))
+    → own ≡ s → bounds ≡ first ∷ behind → refusal ≡ first_failed (in_columns (first_test number own first))
     → option_or refusal (first_failed (hop_tests number 1 own jitters first behind)) ≡ first_failed (tests_along number s jitters bounds)
 along-parts number s jitters bounds first behind own refusal same are is_refusal =
-    rw is_refusal (rw same (rw are (sym (first_failed-append (in_both (first_test number s first)) (hop_tests number 1 s jitters first behind)))))
+    rw is_refusal (rw same (rw are (sym (first_failed-append (in_columns (first_test number s first)) (hop_tests number 1 s jitters first behind)))))

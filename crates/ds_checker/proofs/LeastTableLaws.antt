@@ -15,7 +15,10 @@ use Rattle.ds_domain_base.specs.Sent.{has_peak}
 use Rattle.ds_domain_base.specs.declared.contract.Contract.{Contract}
 use Rattle.ds_domain_base.specs.declared.parts.Meter.{Meter}
 use Rattle.ds_certificate.specs.Bounds.{AreAtMost, IsAtMost, IsCertificate, fits, least}
-use Rattle.ds_certificate.specs.Columns.{Bound, Column, green_column, all_column}
+use Rattle.moment_core.specs.declared.column.Column.{Column}
+use Rattle.moment_core.specs.declared.column.Column.TheVariants.{Green, All}
+use Rattle.ds_certificate.specs.Columns.{Bound, bytes_in, envelope_in}
+use Rattle.ds_certificate.proofs.ColumnLaws.{in_column}
 use Rattle.ds_certificate.specs.Sources.{source_of}
 use Rattle.ds_certificate.specs.declared.source.Source.{Source}
 use Rattle.ds_certificate.proofs.LeastLaws.{IsCertificate-least, least-below}
@@ -71,10 +74,6 @@ shares_less d name (c ∷ contracts) (l ∷ low) (h ∷ high) less =
     (share_into (source_of d c) (has_peak c.terms) name c.path (drop 1 l) (drop 1 h) (behind_first l h less.0))
     (shares_less d name contracts low high less.1)
 
--- a column in which a bound that is at most another is so
-abbrev IsKept : Column → Type 0
-IsKept column = (a b : Bound) → IsAtMost a b → column.bound a ≤ column.bound b
-
 sums_less : (f : Curve → ℕ) (g : Share → Curve) → ((a b : Share) → IsLess a b → f (g a) ≤ f (g b)) → (xs ys : List Share) → AreLess xs ys
     → sum_by f (map g xs) ≤ sum_by f (map g ys)
 sums_less f g below [] [] less = omega arith
@@ -87,8 +86,8 @@ sums_less f g below (x ∷ xs) (y ∷ ys) less =
     let right = sum_by-cons f (g y) (map g ys) in
     omega (arith, first, later, left, right)
 
-same_rate : (column : Column) (a b : Source) → a ≡ b → (column.envelope a).rate ≡ (column.envelope b).rate
-same_rate column a b same = ap (λ s. (column.envelope s).rate) same
+same_rate : (column : Column) (a b : Source) → a ≡ b → (envelope_in column a).rate ≡ (envelope_in column b).rate
+same_rate column a b same = ap (λ s. (envelope_in column s).rate) same
 
 same_volume : (rate other skew : ℕ) → rate ≡ other → bytes_over rate skew ≡ bytes_over other skew
 same_volume rate other skew same = ap (λ r. bytes_over r skew) same
@@ -97,13 +96,13 @@ load_rate : (column : Column) (skew : ℕ) (xs ys : List Share) → AreLess xs y
 load_rate column skew xs ys less =
     sums_less (λ curve. curve.rate) (λ share. widened skew (kept column share)) (λ a b is. omega (arith, same_rate column a.source b.source is.source)) xs ys less
 
-load_burst : (column : Column) → IsKept column → (skew : ℕ) (xs ys : List Share) → AreLess xs ys → (load column skew xs).burst ≤ (load column skew ys).burst
-load_burst column own skew xs ys less =
+load_burst : (column : Column) (skew : ℕ) (xs ys : List Share) → AreLess xs ys → (load column skew xs).burst ≤ (load column skew ys).burst
+load_burst column skew xs ys less =
     sums_less (λ curve. curve.burst) (λ share. widened skew (kept column share))
     (λ a b is. omega (
       arith,
-      own a.bound b.bound is.bound,
-      same_volume (column.envelope a.source).rate (column.envelope b.source).rate skew (same_rate column a.source b.source is.source),
+      in_column (λ k. bytes_in k a.bound ≤ bytes_in k b.bound) is.bound column,
+      same_volume (envelope_in column a.source).rate (envelope_in column b.source).rate skew (same_rate column a.source b.source is.source),
     )) xs ys less
 
 -- those that are held against a meter
@@ -133,10 +132,10 @@ counted_less (Rfc4115 p) xs ys less = peaked_less xs ys less
 Carries-less : (m : Meter) (xs ys : List Share) → AreLess xs ys → Carries m ys → Carries m xs
 Carries-less m xs ys less met =
     let all = counted_less m.parameters xs ys less in (
-      (omega (arith, load_rate green_column m.skew xs ys less, met.0.0), omega (arith, load_burst green_column (λ a b is. is.0) m.skew xs ys less, met.0.1)),
+      (omega (arith, load_rate Green m.skew xs ys less, met.0.0), omega (arith, load_burst Green m.skew xs ys less, met.0.1)),
       (
-        omega (arith, load_rate all_column m.skew (counted m.parameters xs) (counted m.parameters ys) all, met.1.0),
-        omega (arith, load_burst all_column (λ a b is. is.1) m.skew (counted m.parameters xs) (counted m.parameters ys) all, met.1.1),
+        omega (arith, load_rate All m.skew (counted m.parameters xs) (counted m.parameters ys) all, met.1.0),
+        omega (arith, load_burst All m.skew (counted m.parameters xs) (counted m.parameters ys) all, met.1.1),
       ),
     )
 

@@ -19,7 +19,9 @@ use Rattle.ds_checker.specs.BoundTests.{misfit}
 use Rattle.envelope_core.specs.Curve.{Curve, total, widened}
 use Rattle.meter_book.specs.declared.any_meter.Parameters.{Parameters}
 use Rattle.meter_book.specs.declared.any_meter.Parameters.TheVariants.{SrTcm, TrTcm, Rfc4115}
-use Rattle.ds_certificate.specs.Columns.{Bound, Column, IsInRange, all_column, green_column}
+use Rattle.moment_core.specs.declared.column.Column.{Column}
+use Rattle.moment_core.specs.declared.column.Column.TheVariants.{Green, All}
+use Rattle.ds_certificate.specs.Columns.{Bound, IsInRange}
 use Rattle.ds_certificate.specs.Ranges.{IsModerate}
 use Rattle.ds_certificate.proofs.Volumes.{bytes_over_most}
 use Rattle.ds_certificate.specs.declared.source.Source.{Source}
@@ -195,9 +197,9 @@ pub with_share-below : (most : ℕ) (l : Loads) (share : Share) → AreBelow mos
 with_share-below most l share below moderate small = (
   below.0,
   plus-below most l.skew share.source.green.rate share.bound.green l.green below.1 below.0 moderate.0.0 small.0,
-  plus-below most l.skew share.source.all.rate share.bound.all l.all below.2 below.0 moderate.1.0 small.1,
-  peaked-below most share.has_peak l.peaked (plus l.peaked (widened l.skew (kept all_column share)))
-      (plus-below most l.skew share.source.all.rate share.bound.all l.peaked below.3 below.0 moderate.1.0 small.1)
+  plus-below most l.skew share.source.all.rate share.bound.all l.all below.2 below.0 moderate.1.0.0 small.1.0,
+  peaked-below most share.has_peak l.peaked (plus l.peaked (widened l.skew (kept All share)))
+      (plus-below most l.skew share.source.all.rate share.bound.all l.peaked below.3 below.0 moderate.1.0.0 small.1.0)
       (IsBelow-more most (most + 2 * 10 ^ 15) l.peaked (omega arith) below.3),
 )
 
@@ -373,14 +375,14 @@ part_is part column adds l (share ∷ shares) =
     ∙ ap (plus (part l)) (sym (total-cons (widened l.skew (kept column share)) (map (λ other. widened l.skew (kept column other)) shares)))
 
 peaked_by : (b : Bool) (l : Loads) (share : Share) (shares : List Share) → share.has_peak ≡ b
-    → plus (with_share l share).peaked (load all_column l.skew (filter (λ other. other.has_peak) shares))
-    ≡ plus l.peaked (load all_column l.skew (filter (λ other. other.has_peak) (share ∷ shares)))
+    → plus (with_share l share).peaked (load All l.skew (filter (λ other. other.has_peak) shares))
+    ≡ plus l.peaked (load All l.skew (filter (λ other. other.has_peak) (share ∷ shares)))
 peaked_by true l share shares is =
-    rw is (plus-assoc l.peaked (widened l.skew (kept all_column share)) (load all_column l.skew (filter (λ other. other.has_peak) shares))
-    ∙ ap (plus l.peaked) (sym (total-cons (widened l.skew (kept all_column share)) (map (λ other. widened l.skew (kept all_column other)) (filter (λ other. other.has_peak) shares)))))
+    rw is (plus-assoc l.peaked (widened l.skew (kept All share)) (load All l.skew (filter (λ other. other.has_peak) shares))
+    ∙ ap (plus l.peaked) (sym (total-cons (widened l.skew (kept All share)) (map (λ other. widened l.skew (kept All other)) (filter (λ other. other.has_peak) shares)))))
 peaked_by false l share shares is = rw is refl
 
-peaked_is : (l : Loads) (shares : List Share) → (fold with_share l shares).peaked ≡ plus l.peaked (load all_column l.skew (filter (λ share. share.has_peak) shares))
+peaked_is : (l : Loads) (shares : List Share) → (fold with_share l shares).peaked ≡ plus l.peaked (load All l.skew (filter (λ share. share.has_peak) shares))
 peaked_is l [] = sym (nothing-plus l.peaked)
 peaked_is l (share ∷ shares) = peaked_is (with_share l share) shares ∙ peaked_by share.has_peak l share shares refl
 
@@ -400,31 +402,31 @@ any_is l (share ∷ shares) = any_is (with_share l share) shares ∙ or-assoc l.
 abbrev pub sums_of : ℕ → List Share → Loads
 sums_of skew shares = fold with_share (no_loads skew) shares
 
-green_is : (skew : ℕ) (shares : List Share) → (sums_of skew shares).green ≡ load green_column skew shares
-green_is skew shares = part_is (λ l. l.green) green_column (λ l share. refl) (no_loads skew) shares ∙ plus-nothing (load green_column skew shares)
+green_is : (skew : ℕ) (shares : List Share) → (sums_of skew shares).green ≡ load Green skew shares
+green_is skew shares = part_is (λ l. l.green) Green (λ l share. refl) (no_loads skew) shares ∙ plus-nothing (load Green skew shares)
 
-all_is : (skew : ℕ) (shares : List Share) → (sums_of skew shares).all ≡ load all_column skew shares
-all_is skew shares = part_is (λ l. l.all) all_column (λ l share. refl) (no_loads skew) shares ∙ plus-nothing (load all_column skew shares)
+all_is : (skew : ℕ) (shares : List Share) → (sums_of skew shares).all ≡ load All skew shares
+all_is skew shares = part_is (λ l. l.all) All (λ l share. refl) (no_loads skew) shares ∙ plus-nothing (load All skew shares)
 
-single_by : (b : Bool) (skew : ℕ) (shares : List Share) → (if b then load all_column skew shares else nothing) ≡ load all_column skew (if b then shares else [])
+single_by : (b : Bool) (skew : ℕ) (shares : List Share) → (if b then load All skew shares else nothing) ≡ load All skew (if b then shares else [])
 single_by true skew shares = refl
 single_by false skew shares = refl
 
-counted_is : (p : Parameters) (skew : ℕ) (shares : List Share) → counted_load p (sums_of skew shares) ≡ load all_column skew (counted p shares)
+counted_is : (p : Parameters) (skew : ℕ) (shares : List Share) → counted_load p (sums_of skew shares) ≡ load All skew (counted p shares)
 counted_is (SrTcm p) skew shares =
     ap (λ b. if b then (sums_of skew shares).all else nothing) (any_is (no_loads skew) shares)
     ∙ ap (λ c. if list_any (λ share. share.has_peak) shares then c else nothing) (all_is skew shares)
     ∙ single_by (list_any (λ share. share.has_peak) shares) skew shares
 counted_is (TrTcm p) skew shares = all_is skew shares
 counted_is (Rfc4115 p) skew shares =
-    peaked_is (no_loads skew) shares ∙ plus-nothing (load all_column skew (filter (λ share. share.has_peak) shares))
+    peaked_is (no_loads skew) shares ∙ plus-nothing (load All skew (filter (λ share. share.has_peak) shares))
 
 pub tests_are : (name : List ℕ) (m : Meter) (shares : List Share) (l : Loads) → l ≡ sums_of m.skew shares
     → load_tests name m l.green (counted_load m.parameters l) ≡ meter_tests name m shares
 tests_are name m shares l is =
     ap (λ own. load_tests name m own.green (counted_load m.parameters own)) is
     ∙ ap (λ green. load_tests name m green (counted_load m.parameters (sums_of m.skew shares))) (green_is m.skew shares)
-    ∙ ap (load_tests name m (load green_column m.skew shares)) (counted_is m.parameters m.skew shares)
+    ∙ ap (load_tests name m (load Green m.skew shares)) (counted_is m.parameters m.skew shares)
 
 -- ---- a loop over meters
 passed_by : (b : Bool) (t : Test) (tests more : List Test) → nat_le t.needed t.given ≡ b → (first_failed tests ≡ None → first_failed (tests ++ more) ≡ first_failed more)

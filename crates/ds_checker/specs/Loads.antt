@@ -3,13 +3,14 @@ use Rattle.std.specs.Prelude.{ℕ, Bool, List, [], ◌∷◌, ◌++◌, drop, fi
 use Rattle.std.specs.Prelude.{Some, if◌then◌else◌}
 use Rattle.std.specs.List.{list_any}
 use Rattle.std.specs.Str.{bytes_eq}
+use Rattle.moment_core.specs.declared.column.Column.{Column}
 use Rattle.envelope_core.specs.Curve.{Curve, total, widened}
 use Rattle.meter_book.specs.declared.any_meter.Parameters.{Parameters}
 use Rattle.meter_book.specs.declared.any_meter.Parameters.TheVariants.{SrTcm, TrTcm, Rfc4115}
 use Rattle.ds_domain_base.specs.Domains.{Domain}
 use Rattle.ds_domain_base.specs.Sent.{has_peak}
 use Rattle.ds_domain_base.specs.declared.contract.Contract.{Contract}
-use Rattle.ds_certificate.specs.Columns.{Bound, Column}
+use Rattle.ds_certificate.specs.Columns.{Bound, bytes_in, envelope_in}
 use Rattle.ds_certificate.specs.Sources.{source_of}
 use Rattle.ds_certificate.specs.declared.source.Source.{Source}
 
@@ -38,7 +39,7 @@ shares_at d name contracts rows = []
 
 -- what a share keeps where it arrives at the meter, in a column
 abbrev pub kept : Column → Share → Curve
-kept column share = record { rate = (column.envelope share.source).rate; burst = column.bound share.bound }
+kept column share = record { rate = (envelope_in column share.source).rate; burst = bytes_in column share.bound }
 
 -- what shares keep together where the meter uses them: each is widened by the meter's skew, and they add
 abbrev pub load : Column → ℕ → List Share → Curve

@@ -1,8 +1,5 @@
--- The numbers of refusals, and the column that each word names.
+-- The numbers of refusals.
 use Rattle.std.specs.Prelude.{ℕ}
-use Rattle.ds_certificate.specs.Columns as columns
-use Rattle.ds_checker.specs.declared.refusal.Column.{Column}
-use Rattle.ds_checker.specs.declared.refusal.Column.TheVariants.{Green, All}
 use Rattle.ds_checker.specs.declared.refusal.Refusal.{Refusal}
 use Rattle.ds_checker.specs.declared.refusal.Refusal.TheVariants as refusals
 
@@ -15,7 +12,3 @@ refusal_code (refusals.GreenBurst meter needed available) = 5
 refusal_code (refusals.AllRate meter needed available) = 6
 refusal_code (refusals.AllBurst meter needed available) = 7
 refusal_code refusals.NoMemory = 8
-
-abbrev pub named : Column → columns.Column
-named Green = columns.green_column
-named All = columns.all_column

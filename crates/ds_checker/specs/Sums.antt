@@ -1,10 +1,11 @@
 -- What is added up for each meter, share by share.
 use Rattle.std.specs.Prelude.{ℕ, Bool, false, ◌+◌, ◌^◌, ◌≤◌, ◌||◌, List, [], ◌∷◌, fold, option_map, option_to_list}
 use Rattle.std.specs.Prelude.{Option, if◌then◌else◌}
+use Rattle.moment_core.specs.declared.column.Column.TheVariants.{Green, All}
 use Rattle.envelope_core.specs.Curve.{Curve, widened}
 use Rattle.meter_book.specs.declared.any_meter.Parameters.{Parameters}
 use Rattle.meter_book.specs.declared.any_meter.Parameters.TheVariants.{SrTcm, TrTcm, Rfc4115}
-use Rattle.ds_certificate.specs.Columns.{Bound, green_column, all_column}
+use Rattle.ds_certificate.specs.Columns.{Bound}
 use Rattle.ds_certificate.specs.declared.source.Source.{Source}
 use Rattle.ds_checker.specs.Loads.{Share, kept}
 use Rattle.ds_checker.specs.declared.load.Loads.{Loads}
@@ -23,9 +24,9 @@ no_loads skew = record { skew = skew; green = nothing; all = nothing; peaked = n
 abbrev pub with_share : Loads → Share → Loads
 with_share loads share = record {
   skew = loads.skew;
-  green = plus loads.green (widened loads.skew (kept green_column share));
-  all = plus loads.all (widened loads.skew (kept all_column share));
-  peaked = if share.has_peak then plus loads.peaked (widened loads.skew (kept all_column share)) else loads.peaked;
+  green = plus loads.green (widened loads.skew (kept Green share));
+  all = plus loads.all (widened loads.skew (kept All share));
+  peaked = if share.has_peak then plus loads.peaked (widened loads.skew (kept All share)) else loads.peaked;
   has_peak = loads.has_peak || share.has_peak;
 }
 

@@ -1,17 +1,15 @@
 ghost use Rattle.std.specs.Prelude.{◌≡◌, ◌&&◌, ◌∷◌, ◌≤◌, ◌^◌, [], suc, length, nat_eq, option_map};
 ghost use Rattle.ds_certificate.specs.Bounds.{fits};
 ghost use Rattle.ds_certificate.specs.Sources.{jitters_of, source_of};
-ghost use Rattle.ds_checker.specs.BoundTests.{bound_tests, first_test, hop_test, hop_tests, in_both, misfit};
+ghost use Rattle.ds_checker.specs.BoundTests.{bound_tests, first_test, hop_test, hop_tests, in_columns, misfit};
 ghost use Rattle.ds_checker.specs.BoundTests.{tests_along};
-ghost use Rattle.ds_checker.specs.Refusals.{named};
 ghost use Rattle.ds_checker.specs.Tests.{first_failed};
 ghost use Rattle.ds_checker.specs.declared.refusal.Refusal.TheVariants.{Shape};
 
-use crate::refusal::{Column, Refusal};
+use crate::refusal::Refusal;
 use ds_certificate::{Bound, Bounds, Certificate, Source, is_fit};
 use ds_domain_base::{Contract, Domain};
-use envelope_core::Envelope;
-use moment_core::{Gap, bytes_over_ceil};
+use moment_core::{Column, Gap, bytes_over_ceil};
 
 /// The refusal of a certificate that has not the shape of its contracts: the least contract that does not fit the
 /// domain, or that has not one bound more than its path has meters; where there are too many lists of bounds, the
@@ -44,7 +42,7 @@ fn has_shape(domain: &Domain, contract: &Contract, bounds: &Bounds) -> bool
     is_fit(domain, contract) && bounds.hops().len() == contract.path.meters().len() + 1
 }
 
-/// The refusal of the first bound that is too low, contract by contract, hop by hop, green packets before all. It looks
+/// The refusal of the first bound that is too low, contract by contract, hop by hop, column by column. It looks
 /// as far as there are both contracts and bounds; whether there is one list of bounds for each is a question of
 /// `shape_refusal`.
 pub(crate) fn bounds_refusal(
@@ -80,21 +78,25 @@ fn contract_refusal(
     ))
 }
 
-/// The refusal of a contract's first bound, where it is too low.
+/// The refusal of a contract's first bound, where it is too low, column by column.
 fn first_refusal(number: usize, source: &Source, first: Bound) -> Option<Refusal>
-    ensures { result ≡ first_failed (in_both (first_test number source.now first)) }
+    ensures { result ≡ first_failed (in_columns (first_test number source.now first)) }
 {
-    let green = first_refusal_in(Column::Green, number, source, first);
-    let all = first_refusal_in(Column::All, number, source, first);
-    green.or(all)
+    for column in Column::each() {
+        let refusal = first_refusal_in(*column, number, source, first);
+        if refusal.is_some() {
+            return refusal;
+        }
+    }
+    None
 }
 
 /// The refusal of a contract's first bound in a column, where it is below the burst that the traffic enters with.
 fn first_refusal_in(column: Column, number: usize, source: &Source, first: Bound) -> Option<Refusal>
     ensures { result ≡ first_failed (first_test number source.now first column ∷ []) }
 {
-    let needed = u128::from(envelope(source, column).burst());
-    let given = u128::from(bytes(first, column));
+    let needed = u128::from(source.envelope(column).burst());
+    let given = u128::from(first.bytes(column));
     (needed > given).then_some(Refusal::FirstBound {
         contract: number,
         column,
@@ -129,7 +131,7 @@ fn hops_refusal(
     None
 }
 
-/// The refusal of a bound behind a link, where it is too low.
+/// The refusal of a bound behind a link, where it is too low, column by column.
 fn hop_refusal(
     number: usize,
     hop: usize,
@@ -138,11 +140,15 @@ fn hop_refusal(
     before: Bound,
     bound: Bound,
 ) -> Option<Refusal>
-    ensures { result ≡ first_failed (in_both (hop_test number hop source.now jitter before bound)) }
+    ensures { result ≡ first_failed (in_columns (hop_test number hop source.now jitter before bound)) }
 {
-    let green = hop_refusal_in(Column::Green, number, hop, source, jitter, before, bound);
-    let all = hop_refusal_in(Column::All, number, hop, source, jitter, before, bound);
-    green.or(all)
+    for column in Column::each() {
+        let refusal = hop_refusal_in(*column, number, hop, source, jitter, before, bound);
+        if refusal.is_some() {
+            return refusal;
+        }
+    }
+    None
 }
 
 /// The refusal of a bound behind a link in a column, where it is below the one before it and what the rate gives over
@@ -159,9 +165,9 @@ fn hop_refusal_in(
 ) -> Option<Refusal>
     ensures { result ≡ first_failed (hop_test number hop source.now jitter before bound column ∷ []) }
 {
-    let growth = bytes_over_ceil(envelope(source, column).rate(), jitter);
-    let needed = u128::from(bytes(before, column)) + growth;
-    let given = u128::from(bytes(bound, column));
+    let growth = bytes_over_ceil(source.envelope(column).rate(), jitter);
+    let needed = u128::from(before.bytes(column)) + growth;
+    let given = u128::from(bound.bytes(column));
     (needed > given).then_some(Refusal::HopBound {
         contract: number,
         hop,
@@ -169,25 +175,4 @@ fn hop_refusal_in(
         needed,
         given,
     })
-}
-
-/// What a source's packets keep in a column.
-fn envelope(source: &Source, column: Column) -> Envelope
-    ensures { result ≡ (named column).envelope source.now }
-{
-    match column {
-        Column::Green => source.green,
-        Column::All => source.all,
-    }
-}
-
-/// The bytes of a bound in a column.
-fn bytes(bound: Bound, column: Column) -> u64
-    ensures value { result ≡ (named column).bound bound }
-    ensures range { result ≤ 10 ^ 15 }
-{
-    match column {
-        Column::Green => bound.green(),
-        Column::All => bound.all(),
-    }
 }

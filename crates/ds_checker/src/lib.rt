@@ -12,4 +12,4 @@ pub mod table;
 
 pub use acceptance::check;
 pub use candidate::{Accepted, Candidate};
-pub use refusal::{Column, Refusal};
+pub use refusal::Refusal;

@@ -2,17 +2,9 @@ ghost use Rattle.std.specs.Prelude.{◌≡◌};
 ghost use Rattle.ds_checker.specs.Refusals.{refusal_code};
 
 use ds_domain_base::Name;
+use moment_core::Column;
 use std::alloc::AllocError;
 use thiserror::Error;
-
-/// The packets that a bound speaks of.
-#[derive(Clone, Copy, Debug, PartialEq, Eq, Hash)]
-pub enum Column {
-    /// A contract's green packets.
-    Green,
-    /// Its green and yellow packets.
-    All,
-}
 
 /// Why a certificate is not acceptable: the first test that fails, in the order below, with what it needs and what
 /// there is.

@@ -16,7 +16,11 @@ impl Column {
     ghost use Rattle.moment_core.specs.Columns.{counts, each_column};
 
     /// Every column, in the order in which they are judged.
-    pub const EACH: [Column; 3] = [Column::Green, Column::All, Column::Excess];
+    pub fn each() -> &'static [Column]
+        ensures { result.now ≡ each_column }
+    {
+        &[Column::Green, Column::All, Column::Excess]
+    }
 
     /// Whether it speaks of packets of a colour.
     pub fn counts(self, colour: Colour) -> bool

@@ -12,12 +12,15 @@ use Rattle.moment_core.specs.declared.colour.Colour.TheVariants.{Green, Yellow, 
 use Rattle.moment_core.specs.declared.colour.Mode.TheVariants.{Aware}
 use Rattle.moment_core.specs.Colours.{IsNoBetter, is_green, is_in_profile, is_yellow}
 use Rattle.moment_core.specs.Metering.{opening}
+use Rattle.moment_core.specs.Columns.{counts}
+use Rattle.moment_core.specs.declared.column.Column.{Column}
+use Rattle.moment_core.specs.declared.column.Column.TheVariants as columns
 use Rattle.envelope_core.specs.Curve.{Curve, KeepsCurve}
 use Rattle.envelope_core.proofs.Windows.{Keeps-looser}
 use Rattle.meter_book.specs.AnyMeter.{opening_of}
 use Rattle.meter_book.specs.Envelopes.{mode_of}
-use Rattle.meter_book.specs.KeptColours.{PeakIsKept, Stays, held_against_all, row_input}
-use Rattle.meter_book.specs.Limits.{all_limit, green_limit}
+use Rattle.meter_book.specs.KeptColours.{PeakIsKept, Stays, row_input}
+use Rattle.meter_book.specs.Limits.{all_limit, green_limit, held_column}
 use Rattle.meter_book.specs.Replay.{Journal, journal_rows, replay}
 use Rattle.meter_book.specs.declared.any_meter.Parameters.{Parameters}
 use Rattle.meter_book.specs.declared.any_meter.Parameters.TheVariants.{SrTcm, TrTcm, Rfc4115}
@@ -29,7 +32,7 @@ use Rattle.ds_domain_base.specs.Sent.{has_peak}
 use Rattle.ds_domain_base.specs.declared.contract.Contract.{Contract}
 use Rattle.ds_domain_base.specs.declared.parts.Meter.{Meter}
 use Rattle.ds_certificate.specs.Bounds.{HasShape, Meets}
-use Rattle.ds_certificate.specs.Columns.{Bound, all_column, green_column}
+use Rattle.ds_certificate.specs.Columns.{Bound}
 use Rattle.ds_certificate.specs.Sources.{source_of}
 use Rattle.ds_checker.specs.Acceptance.{Carries, IsAcceptable, IsWithin, Table}
 use Rattle.ds_checker.specs.Loads.{Share, bound_into, counted, load, share_of, shares_at}
@@ -44,7 +47,7 @@ use Rattle.run_audit_base.proofs.Inputs.{ComesAsSent, input_keeps}
 use Rattle.run_audit_base.proofs.Journals.{ForEachSent, IsOver, Stands, each_sent, everywhere, journal_at, meter_at, sent_from}
 use Rattle.run_audit_base.proofs.Passages.{comes_and_leaves, comes_no_better, receipts_along}
 use Rattle.run_audit_base.proofs.Places.{found_at}
-use Rattle.run_audit_base.proofs.Sources.{all_sources, green_sources, no_peak_no_yellow, yellow_has_peak, yellow_sources}
+use Rattle.run_audit_base.proofs.Sources.{sources_keep, no_peak_no_yellow, yellow_has_peak}
 
 -- ---- no meter improves a colour
 
@@ -117,31 +120,24 @@ count_all : (shares : List Share) → filter (λ share. true) shares ≡ shares
 count_all [] = refl
 count_all (share ∷ shares) = ap (λ rest. share ∷ rest) (count_all shares)
 
--- what came keeps the load of all shares
-all_keep : (g : Ground) (t : Table) (run : Run) → IsOver g t → IsRun g run → Premises g run
+-- what came in a column keeps the load of all shares
+load_keeps : (g : Ground) (t : Table) (run : Run) → IsOver g t → IsRun g run → Premises g run → (column : Column) → ComesAsSent g run (counts column)
     → (site : ℕ) (entry : List ℕ × Meter) (j : Journal) → slice_get g.domain.meters site ≡ Some entry → Stands run site (meter_opening entry.1) j
-    → KeepsCurve (load green_column entry.1.skew (shares_at g.domain entry.0 t.contracts t.certificate)) (row_input is_green (journal_rows j))
-    × KeepsCurve (load all_column entry.1.skew (shares_at g.domain entry.0 t.contracts t.certificate)) (row_input is_in_profile (journal_rows j))
-all_keep g t run good is_run premises site entry j there stands =
-    let shares = shares_at g.domain entry.0 t.contracts t.certificate in
-    let green = input_keeps g t run good is_run premises green_column is_green (λ b. true) (λ d c bounds meets. meets.0)
-    (green_sources g t run good is_run premises) (comes_green g t run good is_run premises) (λ c p uncounted. absurd (false≢true (sym uncounted))) site entry j there stands
-    in
-    let all = input_keeps g t run good is_run premises all_column is_in_profile (λ b. true) (λ d c bounds meets. meets.1)
-    (all_sources g t run good is_run premises) (comes_in_profile g t run good is_run premises) (λ c p uncounted. absurd (false≢true (sym uncounted))) site entry j there stands
-    in (
-      subst (λ xs. KeepsCurve (load green_column entry.1.skew xs) (row_input is_green (journal_rows j))) (count_all shares) green,
-      subst (λ xs. KeepsCurve (load all_column entry.1.skew xs) (row_input is_in_profile (journal_rows j))) (count_all shares) all,
-    )
+    → KeepsCurve (load column entry.1.skew (shares_at g.domain entry.0 t.contracts t.certificate)) (row_input (counts column) (journal_rows j))
+load_keeps g t run good is_run premises column comes site entry j there stands =
+    subst (λ xs. KeepsCurve (load column entry.1.skew xs) (row_input (counts column) (journal_rows j)))
+    (count_all (shares_at g.domain entry.0 t.contracts t.certificate))
+    (input_keeps g t run good is_run premises column (λ b. true) (sources_keep g t run good is_run premises column) comes
+    (λ c p uncounted. absurd (false≢true (sym uncounted))) site entry j there stands)
 
 -- ---- green stays green
 
 peak_is_kept : (p : Parameters) (skew : ℕ) (shares : List Share) (rows : List Row)
-    → IsWithin (all_limit p) (load all_column skew (counted p shares))
-    → KeepsCurve (load all_column skew shares) (row_input is_in_profile rows)
+    → IsWithin (all_limit p) (load (held_column p) skew (counted p shares))
+    → KeepsCurve (load columns.All skew shares) (row_input is_in_profile rows)
     → PeakIsKept p rows
 peak_is_kept (SrTcm p) skew shares rows enough kept = tt
-peak_is_kept (TrTcm p) skew shares rows enough kept = within (all_limit (TrTcm p)) (load all_column skew shares) (row_input is_in_profile rows) enough kept
+peak_is_kept (TrTcm p) skew shares rows enough kept = within (all_limit (TrTcm p)) (load columns.All skew shares) (row_input is_in_profile rows) enough kept
 peak_is_kept (Rfc4115 p) skew shares rows enough kept = tt
 
 green_stays : (g : Ground) (t : Table) (run : Run) → IsOver g t → IsRun g run → Premises g run
@@ -152,14 +148,13 @@ green_stays g t run good is_run premises site entry j there stands =
     let opened = opening_of p Aware entry.1.origin in
     let shares = shares_at g.domain entry.0 t.contracts t.certificate in
     let enough = carries_at g t good site entry there in
-    let kept = all_keep g t run good is_run premises site entry j there stands in
-    let green : KeepsCurve (green_limit p) (row_input is_green (replay opened j.arrivals)) =
-    within (green_limit p) (load green_column entry.1.skew shares) (row_input is_green (replay opened j.arrivals)) enough.0
-    (subst (λ o. KeepsCurve (load green_column entry.1.skew shares) (row_input is_green (replay o j.arrivals))) stands.meter kept.0)
-    in
-    green_stays_green-any p entry.1.origin j.arrivals green
+    let green = load_keeps g t run good is_run premises columns.Green (comes_green g t run good is_run premises) site entry j there stands in
+    let all = load_keeps g t run good is_run premises columns.All (comes_in_profile g t run good is_run premises) site entry j there stands in
+    green_stays_green-any p entry.1.origin j.arrivals
+    (within (green_limit p) (load columns.Green entry.1.skew shares) (row_input is_green (replay opened j.arrivals)) enough.0
+    (subst (λ o. KeepsCurve (load columns.Green entry.1.skew shares) (row_input is_green (replay o j.arrivals))) stands.meter green))
     (peak_is_kept p entry.1.skew shares (replay opened j.arrivals) enough.1
-    (subst (λ o. KeepsCurve (load all_column entry.1.skew shares) (row_input is_in_profile (replay o j.arrivals))) stands.meter kept.1))
+    (subst (λ o. KeepsCurve (load columns.All entry.1.skew shares) (row_input is_in_profile (replay o j.arrivals))) stands.meter all))
 
 green_kept : (g : Ground) (t : Table) (run : Run) → IsOver g t → IsRun g run → Premises g run
     → ForEachSent g run (λ p c s. s.colour ≡ Green → All (λ r. (r.row.came ≡ Green) × (r.row.left ≡ Green)) s.receipts)
@@ -186,19 +181,19 @@ comes_yellow g t run good is_run premises k e h c is s sent i d l =
     came_yellow s.colour (get_or s.receipts i d).row.came (comes_worse g t run good is_run premises k e h c is s sent i d l)
     (λ green. (green_kept g t run good is_run premises k e h c is s sent green i d l).0)
 
--- with a single rate all shares count, as soon as one of them has a peak
-all_input : (p : Parameters) (skew : ℕ) (shares : List Share) (rows : List Row)
-    → IsWithin (all_limit p) (load all_column skew (counted p shares))
+-- With a single rate all shares count, as soon as one of them has a peak.
+held_input : (p : Parameters) (skew : ℕ) (shares : List Share) (rows : List Row)
+    → IsWithin (all_limit p) (load (held_column p) skew (counted p shares))
     → list_any (λ share. share.has_peak) shares ≡ true
-    → KeepsCurve (load all_column skew shares) (row_input is_in_profile rows)
-    → KeepsCurve (load all_column skew (filter (λ share. share.has_peak) shares)) (row_input is_yellow rows)
-    → KeepsCurve (all_limit p) (row_input (held_against_all p) rows)
-all_input (SrTcm p) skew shares rows enough peak kept yellow =
-    within (all_limit (SrTcm p)) (load all_column skew shares) (row_input is_in_profile rows)
-    (subst (λ b. IsWithin (all_limit (SrTcm p)) (load all_column skew (if b then shares else []))) peak enough) kept
-all_input (TrTcm p) skew shares rows enough peak kept yellow = within (all_limit (TrTcm p)) (load all_column skew shares) (row_input is_in_profile rows) enough kept
-all_input (Rfc4115 p) skew shares rows enough peak kept yellow =
-    within (all_limit (Rfc4115 p)) (load all_column skew (filter (λ share. share.has_peak) shares)) (row_input is_yellow rows) enough yellow
+    → KeepsCurve (load columns.All skew shares) (row_input is_in_profile rows)
+    → KeepsCurve (load columns.Excess skew (filter (λ share. share.has_peak) shares)) (row_input is_yellow rows)
+    → KeepsCurve (all_limit p) (row_input (counts (held_column p)) rows)
+held_input (SrTcm p) skew shares rows enough peak kept yellow =
+    within (all_limit (SrTcm p)) (load columns.All skew shares) (row_input is_in_profile rows)
+    (subst (λ b. IsWithin (all_limit (SrTcm p)) (load columns.All skew (if b then shares else []))) peak enough) kept
+held_input (TrTcm p) skew shares rows enough peak kept yellow = within (all_limit (TrTcm p)) (load columns.All skew shares) (row_input is_in_profile rows) enough kept
+held_input (Rfc4115 p) skew shares rows enough peak kept yellow =
+    within (all_limit (Rfc4115 p)) (load columns.Excess skew (filter (λ share. share.has_peak) shares)) (row_input is_yellow rows) enough yellow
 
 yellow_stays : (g : Ground) (t : Table) (run : Run) → IsOver g t → IsRun g run → Premises g run
     → (site : ℕ) (entry : List ℕ × Meter) (j : Journal) → slice_get g.domain.meters site ≡ Some entry → Stands run site (meter_opening entry.1) j
@@ -208,13 +203,13 @@ yellow_stays g t run good is_run premises site entry j there stands peak =
     let p = entry.1.parameters in
     let opened = opening_of p Aware entry.1.origin in
     let shares = shares_at g.domain entry.0 t.contracts t.certificate in
-    let all = (all_keep g t run good is_run premises site entry j there stands).1 in
-    let yellow = input_keeps g t run good is_run premises all_column is_yellow (λ b. b) (λ d c bounds meets. meets.1)
-    (yellow_sources g t run good is_run premises) (comes_yellow g t run good is_run premises) no_peak_no_yellow site entry j there stands
+    let all = load_keeps g t run good is_run premises columns.All (comes_in_profile g t run good is_run premises) site entry j there stands in
+    let yellow = input_keeps g t run good is_run premises columns.Excess (λ b. b) (sources_keep g t run good is_run premises columns.Excess)
+    (comes_yellow g t run good is_run premises) no_peak_no_yellow site entry j there stands
     in
     yellow_stays_yellow-any p entry.1.origin j.arrivals (green_stays g t run good is_run premises site entry j there stands)
-    (subst (λ o. KeepsCurve (all_limit p) (row_input (held_against_all p) (replay o j.arrivals))) stands.meter
-    (all_input p entry.1.skew shares (journal_rows j) (carries_at g t good site entry there).1 peak all yellow))
+    (subst (λ o. KeepsCurve (all_limit p) (row_input (counts (held_column p)) (replay o j.arrivals))) stands.meter
+    (held_input p entry.1.skew shares (journal_rows j) (carries_at g t good site entry there).1 peak all yellow))
 
 -- ---- the meters that a packet passes count its contract
 

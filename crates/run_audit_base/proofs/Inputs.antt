@@ -8,6 +8,8 @@ use Rattle.std.proofs.lemmas.List.Elements.{All-filter, filter_passes}
 use Rattle.std.proofs.lemmas.List.Sorted.{sum_by-IsPermutation}
 use Rattle.std.proofs.lemmas.Option.{same_Some, slice_get_within}
 use Rattle.moment_core.specs.declared.colour.Colour.{Colour}
+use Rattle.moment_core.specs.Columns.{counts}
+use Rattle.moment_core.specs.declared.column.Column.{Column}
 use Rattle.moment_core.specs.Conformance.{size_within, Keeps}
 use Rattle.envelope_core.specs.Curve.{KeepsCurve}
 use Rattle.envelope_core.proofs.Windows.{sum_by-mono, sum_by-none, sum_by-map, sum_by-flat_map, sum_by-filter}
@@ -20,8 +22,9 @@ use Rattle.ds_domain_base.specs.declared.parts.Meter.{Meter}
 use Rattle.ds_domain_base.specs.declared.terms.Terms.{Terms}
 use Rattle.ds_domain_base.specs.declared.terms.Terms.TheVariants.{Trusted, Policed}
 use Rattle.ds_certificate.specs.Bounds.{HasShape, Meets, MeetsIn}
-use Rattle.ds_certificate.specs.Columns.{Bound, Column}
+use Rattle.ds_certificate.specs.Columns.{Bound, envelope_in}
 use Rattle.ds_certificate.specs.Sources.{jitters_of, source_of}
+use Rattle.ds_certificate.proofs.ColumnLaws.{in_column}
 use Rattle.ds_checker.specs.Acceptance.{Table}
 use Rattle.ds_checker.specs.Loads.{Share, bound_into, load, share_of, shares_at}
 use Rattle.meter_fabric.specs.Grounds.{Ground, contract_of}
@@ -129,11 +132,11 @@ sent_within picked site start end size (Some s) each = rows_within picked site s
 
 -- ---- all contracts together
 
--- what was sent with a colour that a test picks keeps an envelope of its source
-abbrev pub SourcesKeep : Ground → Table → Run → Column → (Colour → Bool) → Type 0
-SourcesKeep g t run column picked =
+-- what was sent keeps what its source keeps in a column
+abbrev pub SourcesKeep : Ground → Table → Run → Column → Type 0
+SourcesKeep g t run column =
     (flow : ℕ) (c : Contract) → slice_get t.contracts flow ≡ Some c
-    → Keeps (column.envelope (source_of g.domain c)).rate (column.envelope (source_of g.domain c)).burst (map (item_of picked c) (passages_of flow run))
+    → Keeps (envelope_in column (source_of g.domain c)).rate (envelope_in column (source_of g.domain c)).burst (map (item_of (counts column) c) (passages_of flow run))
 
 -- what comes in with a colour that a test picks was sent with such a colour
 abbrev pub ComesAsSent : Ground → Run → (Colour → Bool) → Type 0
@@ -143,8 +146,8 @@ abbrev pub row_items : (Colour → Bool) → List Row → List (ℕ × ℕ)
 row_items picked rows = map (λ r. (r.used, r.size)) (filter (λ r. picked r.came) rows)
 
 -- a share that counts
-abbrev pub counts : (Bool → Bool) → Share → Bool
-counts among share = among share.has_peak
+abbrev pub is_among : (Bool → Bool) → Share → Bool
+is_among among share = among share.has_peak
 
 abbrev part_at : (Colour → Bool) → ℕ → Contract → Passage → List (ℕ × ℕ)
 part_at picked site c p = crossing site (weight_of picked p.packet.size (sending_of c p)) (receipts_of (sending_of c p))
@@ -169,13 +172,13 @@ passage_part g t run good is_run picked comes site start end low k e h some =
 
 -- a share that counts stands for its contract, and one that does not brings nothing
 share_counts : (among : Bool → Bool) (d : Domain) (c : Contract) (found : Option Bound) → among (has_peak c.terms) ≡ true
-    → filter (counts among) (option_to_list (option_map (λ bound. record { source = source_of d c; bound = bound; has_peak = has_peak c.terms }) found))
+    → filter (is_among among) (option_to_list (option_map (λ bound. record { source = source_of d c; bound = bound; has_peak = has_peak c.terms }) found))
     ≡ option_to_list (option_map (λ bound. record { source = source_of d c; bound = bound; has_peak = has_peak c.terms }) found)
-share_counts among d c None counted = refl
-share_counts among d c (Some bound) counted = rw counted refl
+share_is_among among d c None counted = refl
+share_is_among among d c (Some bound) counted = rw counted refl
 
 share_passes_by : (among : Bool → Bool) (d : Domain) (c : Contract) (found : Option Bound) → among (has_peak c.terms) ≡ false
-    → filter (counts among) (option_to_list (option_map (λ bound. record { source = source_of d c; bound = bound; has_peak = has_peak c.terms }) found)) ≡ []
+    → filter (is_among among) (option_to_list (option_map (λ bound. record { source = source_of d c; bound = bound; has_peak = has_peak c.terms }) found)) ≡ []
 share_passes_by among d c None uncounted = refl
 share_passes_by among d c (Some bound) uncounted = rw uncounted refl
 
@@ -189,15 +192,14 @@ crossing-weightless site start end rs =
     ∙ sum_by-none (λ r. size_within start end (used_item 0 r)) (filter here rs) (λ k e h. size_within-none start end (get_or (filter here rs) k e).row.used)
 
 contract_part : (g : Ground) (t : Table) (run : Run) → IsOver g t → IsRun g run → Premises g run
-    → (column : Column) (picked : Colour → Bool) (among : Bool → Bool)
-    → ((d : Domain) (c : Contract) (bounds : List Bound) → Meets d c bounds → MeetsIn column (source_of d c) (jitters_of d c) bounds)
-    → SourcesKeep g t run column picked
-    → ((c : Contract) (p : Passage) → among (has_peak c.terms) ≡ false → weight_of picked p.packet.size (sending_of c p) ≡ 0)
+    → (column : Column) (among : Bool → Bool)
+    → SourcesKeep g t run column
+    → ((c : Contract) (p : Passage) → among (has_peak c.terms) ≡ false → weight_of (counts column) p.packet.size (sending_of c p) ≡ 0)
     → (site : ℕ) (entry : List ℕ × Meter) (j : Journal) → slice_get g.domain.meters site ≡ Some entry → Stands run site (meter_opening entry.1) j
     → (k : ℕ) (c : Contract) (bounds : List Bound) → slice_get t.contracts k ≡ Some c → HasShape g.domain c bounds × Meets g.domain c bounds
-    → KeepsCurve (load column entry.1.skew (filter (counts among) (share_of g.domain entry.0 c bounds)))
-    (part_of (λ (p : Passage). p.packet.flow) (part_at picked site) run.passages (0 + k) c)
-contract_part g t run good is_run premises column picked among meets sources light site entry j there stands k c bounds found ok =
+    → KeepsCurve (load column entry.1.skew (filter (is_among among) (share_of g.domain entry.0 c bounds)))
+    (part_of (λ (p : Passage). p.packet.flow) (part_at (counts column) site) run.passages (0 + k) c)
+contract_part g t run good is_run premises column among sources light site entry j there stands k c bounds found ok =
     let place : 0 + k ≡ k = omega arith in
     rw place (by_count (among (has_peak c.terms)) refl)
   where
@@ -211,34 +213,33 @@ contract_part g t run good is_run premises column picked among meets sources lig
         run.passages (passages_go g t run good is_run premises site entry j stands) i e h c (passages_of-contract g t run good is_run k c found i e h)
 
     by_count : (b : Bool) → among (has_peak c.terms) ≡ b
-        → KeepsCurve (load column entry.1.skew (filter (counts among) (share_of g.domain entry.0 c bounds))) (flat_map (part_at picked site c) (passages_of k run))
+        → KeepsCurve (load column entry.1.skew (filter (is_among among) (share_of g.domain entry.0 c bounds))) (flat_map (part_at (counts column) site c) (passages_of k run))
     by_count true counted =
-        rw (share_counts among g.domain c (bound_into entry.0 c.path (drop 1 bounds)) counted)
-        (contract_keeps g.domain entry.0 site entry.1.skew column picked c bounds ps ok.0 (meets g.domain c bounds ok.1)
+        rw (share_is_among among g.domain c (bound_into entry.0 c.path (drop 1 bounds)) counted)
+        (contract_keeps g.domain entry.0 site entry.1.skew column (counts column) c bounds ps ok.0 (in_column (λ k. MeetsIn k (source_of g.domain c) (jitters_of g.domain c) bounds) ok.1 column)
         (apart_names g.domain entry.0 entry.1 site c.path there (meters_known g.domain c.path (fits_names g.domain c ok.0.0).0))
         goes (sources k c found))
     by_count false uncounted =
         rw (share_passes_by among g.domain c (bound_into entry.0 c.path (drop 1 bounds)) uncounted)
-        (Keeps-weightless 0 0 (part_at picked site c) ps
+        (Keeps-weightless 0 0 (part_at (counts column) site c) ps
         (λ start end i e h.
         let p = get_or ps i e in
         ap (λ w. sum_by (size_within start end) (crossing site w (receipts_of (sending_of c p)))) (light c p uncounted)
         ∙ crossing-weightless site start end (receipts_of (sending_of c p))))
 
 pub input_keeps : (g : Ground) (t : Table) (run : Run) → IsOver g t → IsRun g run → Premises g run
-    → (column : Column) (picked : Colour → Bool) (among : Bool → Bool)
-    → ((d : Domain) (c : Contract) (bounds : List Bound) → Meets d c bounds → MeetsIn column (source_of d c) (jitters_of d c) bounds)
-    → SourcesKeep g t run column picked
-    → ComesAsSent g run picked
-    → ((c : Contract) (p : Passage) → among (has_peak c.terms) ≡ false → weight_of picked p.packet.size (sending_of c p) ≡ 0)
+    → (column : Column) (among : Bool → Bool)
+    → SourcesKeep g t run column
+    → ComesAsSent g run (counts column)
+    → ((c : Contract) (p : Passage) → among (has_peak c.terms) ≡ false → weight_of (counts column) p.packet.size (sending_of c p) ≡ 0)
     → (site : ℕ) (entry : List ℕ × Meter) (j : Journal) → slice_get g.domain.meters site ≡ Some entry → Stands run site (meter_opening entry.1) j
-    → KeepsCurve (load column entry.1.skew (filter (counts among) (shares_at g.domain entry.0 t.contracts t.certificate))) (row_items picked (journal_rows j))
-input_keeps g t run good is_run premises column picked among meets sources comes light site entry j there stands start end ordered =
+    → KeepsCurve (load column entry.1.skew (filter (is_among among) (shares_at g.domain entry.0 t.contracts t.certificate))) (row_items (counts column) (journal_rows j))
+input_keeps g t run good is_run premises column among sources comes light site entry j there stands start end ordered =
     let rows = journal_rows j in
     let weigh = size_within start end in
     let low : site < length g.domain.meters = slice_get_within g.domain.meters site entry there in
-    let gathered = gather (λ (p : Passage). p.packet.flow) (part_at picked site) run.passages start end 0 t.contracts (λ p. sum_by (row_weight picked start end) (told_by site p))
-    (passage_part g t run good is_run picked comes site start end low) in
-    let whole = KeepsLoad-contracts g.domain entry.0 entry.1.skew column (counts among) (part_of (λ (p : Passage). p.packet.flow) (part_at picked site) run.passages) 0 t.contracts t.certificate good.acceptable.0
-    (contract_part g t run good is_run premises column picked among meets sources light site entry j there stands) start end ordered in
-    omega (arith, gathered, whole, sum_by-map weigh (λ (r : Row). (r.used, r.size)) (filter (λ r. picked r.came) rows), sum_by-filter (λ (r : Row). weigh (r.used, r.size)) (λ r. picked r.came) rows, sum_by-IsPermutation (row_weight picked start end) (told site run.passages) rows stands.rows, sum_by-flat_map (row_weight picked start end) (told_by site) run.passages)
+    let gathered = gather (λ (p : Passage). p.packet.flow) (part_at (counts column) site) run.passages start end 0 t.contracts (λ p. sum_by (row_weight (counts column) start end) (told_by site p))
+    (passage_part g t run good is_run (counts column) comes site start end low) in
+    let whole = KeepsLoad-contracts g.domain entry.0 entry.1.skew column (is_among among) (part_of (λ (p : Passage). p.packet.flow) (part_at (counts column) site) run.passages) 0 t.contracts t.certificate good.acceptable.0
+    (contract_part g t run good is_run premises column among sources light site entry j there stands) start end ordered in
+    omega (arith, gathered, whole, sum_by-map weigh (λ (r : Row). (r.used, r.size)) (filter (λ r. counts column r.came) rows), sum_by-filter (λ (r : Row). weigh (r.used, r.size)) (λ r. counts column r.came) rows, sum_by-IsPermutation (row_weight (counts column) start end) (told site run.passages) rows stands.rows, sum_by-flat_map (row_weight (counts column) start end) (told_by site) run.passages)

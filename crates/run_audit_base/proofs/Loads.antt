@@ -7,6 +7,7 @@ use Rattle.std.proofs.lemmas.Bool.Decides.{nat_tests}
 use Rattle.std.proofs.lemmas.List.{map-append}
 use Rattle.std.proofs.lemmas.List.Elements.{filter-append}
 use Rattle.std.proofs.lemmas.List.Sums.{sum_by-cons, sum_by-append}
+use Rattle.moment_core.specs.declared.column.Column.{Column}
 use Rattle.moment_core.specs.Conformance.{size_within}
 use Rattle.moment_core.specs.Volume.{bytes_over}
 use Rattle.envelope_core.specs.Curve.{Curve, KeepsCurve, widened}
@@ -15,7 +16,7 @@ use Rattle.ds_domain_base.specs.Domains.{Domain}
 use Rattle.ds_domain_base.specs.Sent.{has_peak}
 use Rattle.ds_domain_base.specs.declared.contract.Contract.{Contract}
 use Rattle.ds_certificate.specs.Bounds.{HasShape, Meets}
-use Rattle.ds_certificate.specs.Columns.{Bound, Column}
+use Rattle.ds_certificate.specs.Columns.{Bound, bytes_in, envelope_in}
 use Rattle.ds_certificate.specs.Sources.{source_of}
 use Rattle.ds_checker.specs.Loads.{Share, load, share_of, shares_at}
 use Rattle.run_audit_base.proofs.Ways.{KeepsBound}
@@ -23,19 +24,19 @@ use Rattle.run_audit_base.proofs.Ways.{KeepsBound}
 -- ---- the share of a contract
 
 pub KeepsLoad-share : (d : Domain) (skew : ℕ) (column : Column) (c : Contract) (found : Option Bound) (items : List (ℕ × ℕ))
-    → KeepsBound (column.envelope (source_of d c)).rate skew column found items
+    → KeepsBound (envelope_in column (source_of d c)).rate skew column found items
     → KeepsCurve (load column skew (option_to_list (option_map (λ bound. record { source = source_of d c; bound = bound; has_peak = has_peak c.terms }) found))) items
 KeepsLoad-share d skew column c None items kept = kept
 KeepsLoad-share d skew column c (Some bound) items kept =
-    let rate = (column.envelope (source_of d c)).rate in
-    let burst = column.bound bound + bytes_over rate skew in
+    let rate = (envelope_in column (source_of d c)).rate in
+    let burst = bytes_in column bound + bytes_over rate skew in
     Keeps-looser rate burst (0 + rate) (0 + burst) items (omega arith) (omega arith) kept
 
 -- shares that stand one behind the other
 load-append : (column : Column) (skew : ℕ) (xs ys : List Share) (items more : List (ℕ × ℕ))
     → KeepsCurve (load column skew xs) items → KeepsCurve (load column skew ys) more → KeepsCurve (load column skew (xs ++ ys)) (items ++ more)
 load-append column skew xs ys items more kept more_kept =
-    let curve = λ (share : Share). widened skew (record { rate = (column.envelope share.source).rate; burst = column.bound share.bound }) in
+    let curve = λ (share : Share). widened skew (record { rate = (envelope_in column share.source).rate; burst = bytes_in column share.bound }) in
     rw (map-append curve xs ys, sum_by-append (λ (c : Curve). c.rate) (map curve xs) (map curve ys), sum_by-append (λ (c : Curve). c.burst) (map curve xs) (map curve ys))
     (Keeps-append (load column skew xs).rate (load column skew xs).burst (load column skew ys).rate (load column skew ys).burst items more kept more_kept)
 

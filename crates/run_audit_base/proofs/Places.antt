@@ -10,6 +10,7 @@ use Rattle.std.proofs.lemmas.List.{length-map}
 use Rattle.std.proofs.lemmas.Option.{same_Some, slice_get_within}
 use Rattle.std.proofs.lemmas.Slice.Eq.{bytes_eq-Decides}
 use Rattle.moment_core.specs.declared.colour.Colour.{Colour}
+use Rattle.moment_core.specs.declared.column.Column.{Column}
 use Rattle.moment_core.specs.Conformance.{Keeps}
 use Rattle.envelope_core.specs.Curve.{KeepsCurve}
 use Rattle.envelope_core.proofs.Windows.{Keeps-looser}
@@ -23,7 +24,7 @@ use Rattle.ds_domain_base.specs.declared.contract.Contract.{Contract}
 use Rattle.ds_domain_base.specs.declared.fault.DomainFault.{DomainFault}
 use Rattle.ds_domain_base.specs.declared.parts.Meter.{Meter}
 use Rattle.ds_certificate.specs.Bounds.{HasShape, IsCertificate, MeetsIn, fits}
-use Rattle.ds_certificate.specs.Columns.{Bound, Column}
+use Rattle.ds_certificate.specs.Columns.{Bound, bytes_in, envelope_in}
 use Rattle.ds_certificate.specs.Sources.{jitters_of, source_of}
 use Rattle.ds_checker.specs.Loads.{bound_into, load, share_of}
 use Rattle.meter_fabric.specs.Sites.{site_of}
@@ -129,15 +130,15 @@ pub contract_keeps : (d : Domain) (name : List ℕ) (site skew : ℕ) (column : 
     → MeetsIn column (source_of d c) (jitters_of d c) bounds
     → IsApart d name site c.path
     → All (λ p. Goes d site skew c.port c.path (moment_of (sending_of c p)) (receipts_of (sending_of c p))) ps
-    → Keeps (column.envelope (source_of d c)).rate (column.envelope (source_of d c)).burst (map (item_of picked c) ps)
+    → Keeps (envelope_in column (source_of d c)).rate (envelope_in column (source_of d c)).burst (map (item_of picked c) ps)
     → KeepsCurve (load column skew (share_of d name c bounds)) (flat_map (λ p. crossing site (weight_of picked p.packet.size (sending_of c p)) (receipts_of (sending_of c p))) ps)
 contract_keeps d name site skew column picked c [] ps shape meets apart goes kept = absurd (omega (arith, shape.1))
 contract_keeps d name site skew column picked c (first ∷ bounds) ps shape meets apart goes kept =
-    let rate = (column.envelope (source_of d c)).rate in
-    let burst = (column.envelope (source_of d c)).burst in
+    let rate = (envelope_in column (source_of d c)).rate in
+    let burst = (envelope_in column (source_of d c)).burst in
     let weight = λ (p : Passage). weight_of picked p.packet.size (sending_of c p) in
     let rest = λ (p : Passage). receipts_of (sending_of c p) in
     KeepsLoad-share d skew column c (bound_into name c.path bounds) (flat_map (λ p. crossing site (weight p) (rest p)) ps)
     (along d name site skew column (source_of d c) ps c.path c.port first bounds (λ p. moment_of (sending_of c p)) weight rest
     apart (fits_names d c shape.0).1 (omega (arith, shape.1)) goes meets.1
-    (Keeps-looser rate burst rate (column.bound first) (map (item_of picked c) ps) (omega arith) meets.0 kept))
+    (Keeps-looser rate burst rate (bytes_in column first) (map (item_of picked c) ps) (omega arith) meets.0 kept))

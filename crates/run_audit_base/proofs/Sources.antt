@@ -11,26 +11,30 @@ use Rattle.std.proofs.lemmas.Option.{same_Some, none-some}
 use Rattle.moment_core.specs.declared.colour.Colour.{Colour}
 use Rattle.moment_core.specs.declared.colour.Colour.TheVariants.{Green, Yellow, Red}
 use Rattle.moment_core.specs.declared.colour.Mode.{Mode}
-use Rattle.moment_core.specs.Colours.{is_green, is_in_profile, is_yellow}
+use Rattle.moment_core.specs.Colours.{is_in_profile, is_yellow}
+use Rattle.moment_core.specs.Columns.{counts}
 use Rattle.moment_core.specs.Conformance.{size_within, Keeps}
-use Rattle.moment_core.specs.Metering.{opening}
+use Rattle.moment_core.specs.declared.column.Column.{Column}
+use Rattle.moment_core.specs.declared.column.Column.TheVariants as columns
 use Rattle.envelope_core.specs.Curve.{Curve, KeepsCurve, widened}
 use Rattle.envelope_core.proofs.Windows.{Keeps-lighter, bytes_delayed, size_within_cases, size_within_inside, sum_by-mono, sum_by-none, sum_by-map, sum_by-flat_map, sum_by-filter}
 use Rattle.meter_book.specs.AnyMeter.{opening_of}
-use Rattle.meter_book.specs.Envelopes.{all_of, all_output, green_of, green_output}
+use Rattle.meter_book.specs.Envelopes.{output_in}
 use Rattle.meter_book.specs.Laws.{row_output}
 use Rattle.meter_book.specs.Replay.{Journal, journal_rows, replay}
 use Rattle.meter_book.specs.declared.any_meter.Parameters.{Parameters}
-use Rattle.meter_book.specs.declared.any_meter.Parameters.TheVariants.{SrTcm, TrTcm, Rfc4115}
 use Rattle.meter_book.specs.declared.row.Row.{Row}
 use Rattle.meter_book.proofs.RowLaws.{opened_rows_keep}
 use Rattle.ds_domain_base.specs.Domains.{Domain, port_of, skew_of}
 use Rattle.ds_domain_base.specs.Sent.{came, has_peak, shown}
 use Rattle.ds_domain_base.specs.declared.contract.Contract.{Contract}
+use Rattle.ds_domain_base.specs.declared.parts.Version.{Version}
+use Rattle.ds_domain_base.specs.declared.parts.Version.TheVariants.{One, Two}
 use Rattle.ds_domain_base.specs.declared.terms.Terms.{Terms}
 use Rattle.ds_domain_base.specs.declared.terms.Terms.TheVariants.{Trusted, Policed}
-use Rattle.ds_certificate.specs.Columns.{green_column, all_column}
+use Rattle.ds_certificate.specs.Columns.{envelope_in}
 use Rattle.ds_certificate.specs.Sources.{source_by, source_of}
+use Rattle.ds_certificate.proofs.ColumnLaws.{in_column}
 use Rattle.ds_checker.specs.Acceptance.{Table}
 use Rattle.meter_fabric.specs.Grounds.{Ground, contract_of}
 use Rattle.meter_fabric.specs.Openings.{opening_at}
@@ -40,7 +44,7 @@ use Rattle.meter_fabric.specs.declared.site.Opening.{Opening}
 use Rattle.meter_fabric.specs.declared.trail.Receipt.{Receipt}
 use Rattle.run_audit_base.specs.Premises.{IsTrusted, Premises}
 use Rattle.run_audit_base.specs.Runs.{IsRun, Passage, Run, told, told_by}
-use Rattle.run_audit_base.specs.Sendings.{Sending, passages_of, sending_by, sending_of}
+use Rattle.run_audit_base.specs.Sendings.{Sending, passages_of, sending_by, sending_of, sent_items}
 use Rattle.run_audit_base.proofs.Inputs.{SourcesKeep, passages_of-contract}
 use Rattle.run_audit_base.proofs.Journals.{IsOver, Stands, journal_at, receipts_from}
 use Rattle.run_audit_base.proofs.Passages.{Keeps-sent, item_of, moment_of, weight_of}
@@ -175,68 +179,10 @@ edge_at g flow c parameters mode is policed =
     let number : length g.domain.meters + flow - length g.domain.meters ≡ flow = omega arith in
     rw (behind, number, is, policed) refl
 
-green_of-opening : (p : Parameters) (mode : Mode) (origin : ℕ) → green_of (opening_of p mode origin) ≡ green_output p
-unfolding opening
-green_of-opening (SrTcm p) mode origin = refl
-green_of-opening (TrTcm p) mode origin = refl
-green_of-opening (Rfc4115 p) mode origin = refl
-
-all_of-opening : (p : Parameters) (mode : Mode) (origin : ℕ) → all_of (opening_of p mode origin) ≡ all_output p
-unfolding opening
-all_of-opening (SrTcm p) mode origin = refl
-all_of-opening (TrTcm p) mode origin = refl
-all_of-opening (Rfc4115 p) mode origin = refl
-
-abbrev BothKeep : Ground → Run → ℕ → Contract → Type 0
-BothKeep g run flow c =
-    KeepsCurve (source_of g.domain c).green (map (item_of is_green c) (passages_of flow run))
-    × KeepsCurve (source_of g.domain c).all (map (item_of is_in_profile c) (passages_of flow run))
-
 source_policed : (d : Domain) (c : Contract) (parameters : Parameters) (mode : Mode) → c.terms ≡ Policed parameters mode
-    → source_of d c ≡ source_by (skew_of (port_of d c.port)) (Policed parameters mode)
+    → source_of d c ≡ source_by d.version (skew_of (port_of d c.port)) (Policed parameters mode)
 unfolding source_of
-source_policed d c parameters mode policed = ap (source_by (skew_of (port_of d c.port))) policed
-
-both_keep : (g : Ground) (t : Table) (run : Run) → IsOver g t → IsRun g run → Premises g run → (flow : ℕ) (c : Contract) → slice_get t.contracts flow ≡ Some c → contract_of g flow ≡ Some c
-    → (terms : Terms) → c.terms ≡ terms → BothKeep g run flow c
-both_keep g t run good is_run premises flow c found is (Trusted committed peak) trusted =
-    let kept = premises.source flow c is (subst IsTrusted (sym trusted) tt) in
-    let green = (source_of g.domain c).green in
-    let all = (source_of g.domain c).all in
-    (Keeps-sent is_green c (passages_of flow run) green.rate green.burst kept.0, Keeps-sent is_in_profile c (passages_of flow run) all.rate all.burst kept.1)
-both_keep g t run good is_run premises flow c found is (Policed parameters mode) policed =
-    let o : Opening = record { meter = opening_of parameters mode c.lifetime.since; skew = skew_of (port_of g.domain c.port) } in
-    let (j, stands) = journal_at g run is_run premises (length g.domain.meters + flow) o (edge_at g flow c parameters mode is policed) in
-    let kept = opened_rows_keep parameters mode c.lifetime.since j.arrivals in
-    let green : KeepsCurve (green_output parameters) (row_output is_green (journal_rows j)) =
-    subst (λ m. KeepsCurve (green_output parameters) (row_output is_green (replay m j.arrivals))) (sym stands.meter)
-    (subst (λ curve. KeepsCurve curve (row_output is_green (replay (opening_of parameters mode c.lifetime.since) j.arrivals))) (green_of-opening parameters mode c.lifetime.since) kept.0)
-    in
-    let all : KeepsCurve (all_output parameters) (row_output is_in_profile (journal_rows j)) =
-    subst (λ m. KeepsCurve (all_output parameters) (row_output is_in_profile (replay m j.arrivals))) (sym stands.meter)
-    (subst (λ curve. KeepsCurve curve (row_output is_in_profile (replay (opening_of parameters mode c.lifetime.since) j.arrivals))) (all_of-opening parameters mode c.lifetime.since) kept.1)
-    in
-    subst
-    (λ source.
-    KeepsCurve source.green (map (item_of is_green c) (passages_of flow run)) × KeepsCurve source.all (map (item_of is_in_profile c) (passages_of flow run)))
-    (sym (source_policed g.domain c parameters mode policed)) (
-      policed_keeps g t run good is_run flow c found parameters mode policed o j stands is_green (green_output parameters) green,
-      policed_keeps g t run good is_run flow c found parameters mode policed o j stands is_in_profile (all_output parameters) all,
-    )
-
-pub green_sources : (g : Ground) (t : Table) (run : Run) → IsOver g t → IsRun g run → Premises g run → SourcesKeep g t run green_column is_green
-green_sources g t run good is_run premises flow c found =
-    elim (known_or_not g t good flow c found) [
-      | inl is ↦ (both_keep g t run good is_run premises flow c found is c.terms refl).0
-      | inr none ↦ Keeps-nobody g t run good is_run flow c found none (source_of g.domain c).green.rate (source_of g.domain c).green.burst (item_of is_green c)
-    ]
-
-pub all_sources : (g : Ground) (t : Table) (run : Run) → IsOver g t → IsRun g run → Premises g run → SourcesKeep g t run all_column is_in_profile
-all_sources g t run good is_run premises flow c found =
-    elim (known_or_not g t good flow c found) [
-      | inl is ↦ (both_keep g t run good is_run premises flow c found is c.terms refl).1
-      | inr none ↦ Keeps-nobody g t run good is_run flow c found none (source_of g.domain c).all.rate (source_of g.domain c).all.burst (item_of is_in_profile c)
-    ]
+source_policed d c parameters mode policed = ap (source_by d.version (skew_of (port_of d c.port))) policed
 
 -- the yellow ones alone keep what green and yellow ones keep together
 yellow_lighter : (start end size : ℕ) (sent : Option Sending)
@@ -250,11 +196,46 @@ yellow_lighter start end size (Some s) = by_colour s.colour s.moment
     by_colour Yellow moment = omega arith
     by_colour Red moment = omega arith
 
-pub yellow_sources : (g : Ground) (t : Table) (run : Run) → IsOver g t → IsRun g run → Premises g run → SourcesKeep g t run all_column is_yellow
-yellow_sources g t run good is_run premises flow c found =
-    Keeps-lighter (item_of is_in_profile c) (item_of is_yellow c) (source_of g.domain c).all.rate (source_of g.domain c).all.burst (passages_of flow run)
-    (λ start end k e h. let p = get_or (passages_of flow run) k e in yellow_lighter start end p.packet.size (sending_of c p))
-    (all_sources g t run good is_run premises flow c found)
+yellow_keeps : (c : Contract) (curve : Curve) (ps : List Passage) → KeepsCurve curve (map (item_of is_in_profile c) ps) → KeepsCurve curve (map (item_of is_yellow c) ps)
+yellow_keeps c curve ps =
+    Keeps-lighter (item_of is_in_profile c) (item_of is_yellow c) curve.rate curve.burst ps
+    (λ start end k e h. let p = get_or ps k e in yellow_lighter start end p.packet.size (sending_of c p))
+
+source_keeps : (g : Ground) (t : Table) (run : Run) → IsOver g t → IsRun g run → Premises g run → (flow : ℕ) (c : Contract) → slice_get t.contracts flow ≡ Some c → contract_of g flow ≡ Some c
+    → (terms : Terms) → c.terms ≡ terms → (column : Column) → KeepsCurve (envelope_in column (source_of g.domain c)) (map (item_of (counts column) c) (passages_of flow run))
+source_keeps g t run good is_run premises flow c found is (Trusted committed peak) trusted column =
+    let kept = in_column (λ k. KeepsCurve (envelope_in k (source_of g.domain c)) (sent_items (counts k) c (passages_of flow run)))
+    (premises.source flow c is (subst IsTrusted (sym trusted) tt)) column in
+    let curve = envelope_in column (source_of g.domain c) in
+    Keeps-sent (counts column) c (passages_of flow run) curve.rate curve.burst kept
+source_keeps g t run good is_run premises flow c found is (Policed parameters mode) policed column =
+    subst (λ source. KeepsCurve (envelope_in column source) (map (item_of (counts column) c) (passages_of flow run)))
+    (sym (source_policed g.domain c parameters mode policed)) (by_version g.domain.version column)
+  where
+    o : Opening
+    o = record { meter = opening_of parameters mode c.lifetime.since; skew = skew_of (port_of g.domain c.port) }
+
+    in_output : (k : Column) → KeepsCurve (widened (skew_of (port_of g.domain c.port)) (output_in k parameters)) (map (item_of (counts k) c) (passages_of flow run))
+    in_output k =
+        let (j, stands) = journal_at g run is_run premises (length g.domain.meters + flow) o (edge_at g flow c parameters mode is policed) in
+        policed_keeps g t run good is_run flow c found parameters mode policed o j stands (counts k) (output_in k parameters)
+        (subst (λ m. KeepsCurve (output_in k parameters) (row_output (counts k) (replay m j.arrivals))) (sym stands.meter)
+        (opened_rows_keep parameters mode c.lifetime.since j.arrivals k))
+
+    by_version : (version : Version) (k : Column)
+        → KeepsCurve (envelope_in k (source_by version (skew_of (port_of g.domain c.port)) (Policed parameters mode))) (map (item_of (counts k) c) (passages_of flow run))
+    by_version version columns.Green = in_output columns.Green
+    by_version version columns.All = in_output columns.All
+    by_version One columns.Excess = yellow_keeps c _ (passages_of flow run) (in_output columns.All)
+    by_version Two columns.Excess = in_output columns.Excess
+
+pub sources_keep : (g : Ground) (t : Table) (run : Run) → IsOver g t → IsRun g run → Premises g run → (column : Column) → SourcesKeep g t run column
+sources_keep g t run good is_run premises column flow c found =
+    let curve = envelope_in column (source_of g.domain c) in
+    elim (known_or_not g t good flow c found) [
+      | inl is ↦ source_keeps g t run good is_run premises flow c found is c.terms refl column
+      | inr none ↦ Keeps-nobody g t run good is_run flow c found none curve.rate curve.burst (item_of (counts column) c)
+    ]
 
 -- ---- no contract without a peak sends yellow packets
 

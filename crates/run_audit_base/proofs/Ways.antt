@@ -7,13 +7,14 @@ use Rattle.std.proofs.lemmas.Bool.{false≢true}
 use Rattle.std.proofs.lemmas.Bool.Decides.{nat_tests}
 use Rattle.std.proofs.lemmas.List.Sums.{sum_by-cons}
 use Rattle.std.proofs.lemmas.Slice.Eq.{bytes_eq-Decides}
+use Rattle.moment_core.specs.declared.column.Column.{Column}
 use Rattle.moment_core.specs.Conformance.{size_within, Keeps}
 use Rattle.moment_core.specs.Volume.{bytes_over}
 use Rattle.envelope_core.proofs.Windows.{IsDelayed, Keeps-delayed, Keeps-looser, sum_by-mono, sum_by-none, sum_by-map, sum_by-flat_map}
 use Rattle.ds_domain_base.specs.Domains.{Domain, floor_of, jitter_of, link_of}
 use Rattle.ds_domain_base.specs.Fitting.{repeats}
 use Rattle.ds_certificate.specs.Bounds.{Grows}
-use Rattle.ds_certificate.specs.Columns.{Bound, Column}
+use Rattle.ds_certificate.specs.Columns.{Bound, bytes_in, envelope_in}
 use Rattle.ds_certificate.specs.Sources.{jitters_along}
 use Rattle.ds_certificate.specs.declared.source.Source.{Source}
 use Rattle.ds_checker.specs.Loads.{bound_into}
@@ -178,14 +179,14 @@ Keeps-weightless rate burst some ps light start end ordered =
 
 -- what is kept at a meter, if the path leads to it
 abbrev pub KeepsBound : ℕ → ℕ → Column → Option Bound → List (ℕ × ℕ) → Type 0
-KeepsBound rate skew column found items = MatchOption found (Keeps 0 0 items) (λ bound. Keeps rate (column.bound bound + bytes_over rate skew) items)
+KeepsBound rate skew column found items = MatchOption found (Keeps 0 0 items) (λ bound. Keeps rate (bytes_in column bound + bytes_over rate skew) items)
 
 KeepsBound-fewer : {P : Type 0} (rate skew : ℕ) (column : Column) (found : Option Bound) (some more : P → List (ℕ × ℕ)) (ps : List P)
     → ((start end : ℕ) → All (λ p. sum_by (size_within start end) (some p) ≤ sum_by (size_within start end) (more p)) ps)
     → KeepsBound rate skew column found (flat_map more ps)
     → KeepsBound rate skew column found (flat_map some ps)
 KeepsBound-fewer rate skew column None some more ps lighter kept = Keeps-fewer_each 0 0 some more ps lighter kept
-KeepsBound-fewer rate skew column (Some bound) some more ps lighter kept = Keeps-fewer_each rate (column.bound bound + bytes_over rate skew) some more ps lighter kept
+KeepsBound-fewer rate skew column (Some bound) some more ps lighter kept = Keeps-fewer_each rate (bytes_in column bound + bytes_over rate skew) some more ps lighter kept
 
 -- Where the sized moments of packets at a name keep a bound, they keep that of a meter of their path, by the moments used.
 pub along : {P : Type 0} (d : Domain) (name : List ℕ) (site skew : ℕ) (column : Column) (source : Source) (ps : List P)
@@ -195,8 +196,8 @@ pub along : {P : Type 0} (d : Domain) (name : List ℕ) (site skew : ℕ) (colum
     → length bounds ≡ length path
     → All (λ p. Goes d site skew from path (moment p) (rest p)) ps
     → Grows column source (jitters_along d from path) before bounds
-    → Keeps (column.envelope source).rate (column.bound before) (map (λ p. (moment p, weight p)) ps)
-    → KeepsBound (column.envelope source).rate skew column (bound_into name path bounds) (flat_map (λ p. crossing site (weight p) (rest p)) ps)
+    → Keeps (envelope_in column source).rate (bytes_in column before) (map (λ p. (moment p, weight p)) ps)
+    → KeepsBound (envelope_in column source).rate skew column (bound_into name path bounds) (flat_map (λ p. crossing site (weight p) (rest p)) ps)
 unfolding IsApart repeats Grows jitters_along bound_into
 along d name site skew column source ps [] from before [] moment weight rest apart once sized goes grows kept =
     Keeps-weightless 0 0 (λ p. crossing site (weight p) (rest p)) ps
@@ -211,29 +212,29 @@ along d name site skew column source ps (to ∷ path) from before (b ∷ bounds)
     (λ k e h. let p = get_or ps k e in Goes-next d site skew from to path (moment p) (rest p) (goes k e h)) grows.1 arrived)
   where
     rate : ℕ
-    rate = (column.envelope source).rate
+    rate = (envelope_in column source).rate
 
     single : (list_any (bytes_eq to) path ≡ false) × (repeats path ≡ false)
     single = neither (list_any (bytes_eq to) path) (repeats path) once
 
-    arrived : Keeps (column.envelope source).rate (column.bound b) (map (λ p. (next_moment (rest p), next_weight (weight p) (rest p))) ps)
+    arrived : Keeps (envelope_in column source).rate (bytes_in column b) (map (λ p. (next_moment (rest p), next_weight (weight p) (rest p))) ps)
     arrived =
         let link = link_of d from to in
-        Keeps-looser rate (column.bound before + bytes_over rate (jitter_of link)) rate (column.bound b)
+        Keeps-looser rate (bytes_in column before + bytes_over rate (jitter_of link)) rate (bytes_in column b)
         (map (λ p. (next_moment (rest p), next_weight (weight p) (rest p))) ps) (omega arith) grows.0
-        (Keeps-delayed (λ p. (moment p, weight p)) (λ p. (next_moment (rest p), next_weight (weight p) (rest p))) (floor_of link) (jitter_of link) rate (column.bound before) ps
+        (Keeps-delayed (λ p. (moment p, weight p)) (λ p. (next_moment (rest p), next_weight (weight p) (rest p))) (floor_of link) (jitter_of link) rate (bytes_in column before) ps
         (λ k e h. let p = get_or ps k e in next_delayed d site skew from to path (moment p) (weight p) (rest p) (floor_of link) (jitter_of link) (λ a over. over) (goes k e h))
         kept)
 
     by_name : (t : Bool) → bytes_eq name to ≡ t
-        → (Keeps (column.envelope source).rate (column.bound b) (map (λ p. (next_moment (rest p), next_weight (weight p) (rest p))) ps)
-        → KeepsBound (column.envelope source).rate skew column (bound_into name path bounds) (flat_map (λ p. crossing site (next_weight (weight p) (rest p)) (next_receipts (rest p))) ps))
-        → KeepsBound (column.envelope source).rate skew column (if t then Some b else bound_into name path bounds) (flat_map (λ p. crossing site (weight p) (rest p)) ps)
+        → (Keeps (envelope_in column source).rate (bytes_in column b) (map (λ p. (next_moment (rest p), next_weight (weight p) (rest p))) ps)
+        → KeepsBound (envelope_in column source).rate skew column (bound_into name path bounds) (flat_map (λ p. crossing site (next_weight (weight p) (rest p)) (next_receipts (rest p))) ps))
+        → KeepsBound (envelope_in column source).rate skew column (if t then Some b else bound_into name path bounds) (flat_map (λ p. crossing site (weight p) (rest p)) ps)
     by_name true same onward =
         let absent : list_any (bytes_eq name) path ≡ false = rw ((bytes_eq-Decides name to).0 same) single.0 in
-        Keeps-within rate (column.bound b + bytes_over rate skew) (λ p. crossing site (weight p) (rest p)) (λ p. next_used site (weight p) (rest p)) ps
+        Keeps-within rate (bytes_in column b + bytes_over rate skew) (λ p. crossing site (weight p) (rest p)) (λ p. next_used site (weight p) (rest p)) ps
         (λ start end k e h. let p = get_or ps k e in weight_here d name site skew from to path (moment p) (weight p) (rest p) start end apart.1 absent (goes k e h))
-        (Keeps-delayed (λ p. (next_moment (rest p), next_weight (weight p) (rest p))) (λ p. next_used site (weight p) (rest p)) 0 skew rate (column.bound b) ps
+        (Keeps-delayed (λ p. (next_moment (rest p), next_weight (weight p) (rest p))) (λ p. next_used site (weight p) (rest p)) 0 skew rate (bytes_in column b) ps
         (λ k e h. let p = get_or ps k e in used_delayed d site skew from to path (moment p) (weight p) (rest p) (goes k e h))
         arrived)
     by_name false differs onward =

@@ -2,7 +2,7 @@
 -- their skew.
 use Rattle.std.specs.Prelude.{◌≡◌, ℕ, ◌+◌, ◌<◌, ◌≤◌, ⊤, List, [], ◌∷◌, All, Option, Some}
 use Rattle.std.specs.Option.{ForSome}
-use Rattle.moment_core.specs.Colours.{is_green, is_in_profile}
+use Rattle.moment_core.specs.Columns.{counts}
 use Rattle.envelope_core.specs.Curve.{KeepsCurve}
 use Rattle.meter_book.specs.Replay.{journal_rows}
 use Rattle.ds_domain_base.specs.Domains.{Domain, floor_of, jitter_of, link_of}
@@ -10,6 +10,7 @@ use Rattle.ds_domain_base.specs.declared.contract.Contract.{Contract}
 use Rattle.ds_domain_base.specs.declared.parts.Link.{Link}
 use Rattle.ds_domain_base.specs.declared.terms.Terms.{Terms}
 use Rattle.ds_domain_base.specs.declared.terms.Terms.TheVariants.{Trusted, Policed}
+use Rattle.ds_certificate.specs.Columns.{InEach, envelope_in}
 use Rattle.ds_certificate.specs.Sources.{source_of}
 use Rattle.meter_fabric.specs.Grounds.{Ground, contract_of}
 use Rattle.meter_fabric.specs.declared.trail.Receipt.{Receipt}
@@ -24,11 +25,11 @@ abbrev pub IsTrusted : Terms → Type 0
 IsTrusted (Trusted committed peak) = ⊤
 IsTrusted (Policed parameters mode) = ⊥
 
--- what a contract's packets were sent with keeps its envelopes: the green ones, and the green and yellow ones
+-- what a contract's packets were sent with keeps its envelopes, in each column
 abbrev pub KeepsSource : Ground → Run → ℕ → Contract → Type 0
 KeepsSource g run flow c =
-    KeepsCurve (source_of g.domain c).green (sent_items is_green c (passages_of flow run))
-    × KeepsCurve (source_of g.domain c).all (sent_items is_in_profile c (passages_of flow run))
+    InEach (λ column.
+    KeepsCurve (envelope_in column (source_of g.domain c)) (sent_items (counts column) c (passages_of flow run)))
 
 -- what left at a moment arrives over a link after its floor at the least, and by its jitter later at the most
 abbrev pub IsOver : Option Link → ℕ → ℕ → Type 0

@@ -1,7 +1,23 @@
-use Rattle.std.proofs.Common.{◌∙◌}
+use Rattle.std.proofs.Common.{sym, arith, ◌∙◌}
+use Rattle.moment_core.specs.Columns.{each_column}
 use Rattle.ds_checker.specs.BoundTests.{first_test}
-use Rattle.ds_checker.proofs.BoundLaws.{first_failed-both}
+use Rattle.ds_checker.proofs.BoundLaws.{first_failed-column, first_failed-columns, found, not_found}
 use Rattle.ds_checker.proofs.bounds.first_refusal.Goals as goal
 
+pub returns-then-is_some : goal.returns-then-is_some
+returns-then-is_some c =
+    let refusal = c.first_refusal_in-refusal.result in
+    let step = first_failed-column (first_test c.args.number c.args.source.now c.args.first) each_column c.loop-column.column-index c.column-item.result refusal
+    c.loop-column-test.true c.column-item.is c.first_refusal_in-refusal.ensures in
+    found refusal _ _ (sym c.is_some.ensures ∙ c.if-is_some.true) (sym step ∙ c.loop-column.invariant)
+
+pub loop-column-preserved : goal.loop-column-preserved
+loop-column-preserved c =
+    let refusal = c.first_refusal_in-refusal.result in
+    let step = first_failed-column (first_test c.args.number c.args.source.now c.args.first) each_column c.loop-column.column-index c.column-item.result refusal
+    c.loop-column-test.true c.column-item.is c.first_refusal_in-refusal.ensures in
+    not_found refusal _ _ (sym c.is_some.ensures ∙ c.if-is_some.false) (sym step ∙ c.loop-column.invariant)
+
 pub returns : goal.returns
-returns c = c.or.ensures ∙ first_failed-both (first_test c.args.number c.args.source.now c.args.first) _ _ c.first_refusal_in-green.ensures c.first_refusal_in-all.ensures
+returns c =
+    sym (first_failed-columns (first_test c.args.number c.args.source.now c.args.first) each_column c.loop-column.column-index (omega arith)) ∙ c.loop-column.invariant
