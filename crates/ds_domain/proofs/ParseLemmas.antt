@@ -1,13 +1,18 @@
--- Which bytes are a domain text.
-use Rattle.std.proofs.Common.{◌≡◌, ℕ, List, Some, None, Result, Ok, Err, IfErr, ◌⊎◌, IsUtf8, refl, inl, inr}
+-- Which bytes are a domain text, and the fault of a document whose contracts are refused.
+use Rattle.std.proofs.Common.{◌≡◌, ℕ, List, [], Some, None, Result, Ok, Err, IfErr, ◌⊎◌, IsUtf8, refl, inl, inr}
 use Rattle.std.proofs.lemmas.Bool.{cases_Bool}
 use Rattle.std.proofs.lemmas.Str.{IsUtf8-from_is_utf8, is_utf8-from_IsUtf8}
 use Rattle.std.specs.Str.{is_utf8}
 use Rattle.toml.specs.Data.{Members}
 use Rattle.toml.specs.Parse.{parse_document}
+use Rattle.ds_domain_base.specs.Domains.{Domain}
 use Rattle.ds_domain_base.specs.Faults.{no_memory}
 use Rattle.ds_domain_base.specs.declared.fault.DomainFault.{DomainFault}
-use Rattle.ds_domain.specs.DomainTexts.{document_of, no_text, parse_of}
+use Rattle.ds_domain_base.specs.declared.fault.Field.TheVariants as fields
+use Rattle.ds_domain_base.specs.declared.parts.Version.{Version}
+use Rattle.ds_domain.specs.ContractEntries.{with_contract_of}
+use Rattle.ds_domain.specs.DomainTexts.{SectionTables, document_of, domain_of, no_text, parse_of, sections_of, top_of}
+use Rattle.ds_domain.specs.Sections.{section_in}
 
 -- bytes that are not UTF-8
 pub parse_of-other : (bytes : List ℕ) → ¬ IsUtf8 bytes → parse_of bytes ≡ Err no_text
@@ -34,3 +39,12 @@ pub with_text : {A : Type 0} (bytes : List ℕ) (r : Result A DomainFault) → I
 with_text bytes (Ok value) text told = tt
 with_text bytes (Err fault) text (inl none) = inl (none, text)
 with_text bytes (Err fault) text (inr said) = inr said
+
+-- a document of a good domain whose contracts are refused
+pub document_of-refused : (members : Members) (version : Version) (tables : SectionTables) (d : Domain) (contracts : List Members) (fault : DomainFault)
+    → top_of members ≡ Ok version → sections_of members ≡ Ok tables → domain_of version tables ≡ Ok d → contracts ≡ tables.contracts
+    → (fault ≡ no_memory) ⊎ (section_in fields.Contract 4096 (with_contract_of d) [] contracts ≡ Err fault)
+    → (fault ≡ no_memory) ⊎ (document_of members ≡ Err fault)
+unfolding document_of
+document_of-refused members version tables d contracts fault told parts whole same (inl memory) = inl memory
+document_of-refused members version tables d contracts fault told parts whole same (inr refused) = inr (rw (told, parts, whole, ← same, refused) refl)

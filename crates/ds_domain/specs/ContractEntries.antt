@@ -12,6 +12,7 @@ use Rattle.ds_domain_base.specs.declared.fault.DomainFault.{DomainFault}
 use Rattle.ds_domain_base.specs.declared.fault.Field.TheVariants as fields
 use Rattle.ds_domain_base.specs.declared.fault.Kind.TheVariants as kinds
 use Rattle.ds_domain_base.specs.declared.fault.Section.TheVariants as sections
+use Rattle.ds_domain_base.specs.declared.parts.Version.{Version}
 use Rattle.ds_domain_base.specs.declared.terms.Terms.{Terms}
 use Rattle.ds_domain_text.specs.Steps.{◌>>=◌}
 use Rattle.ds_domain_text.specs.Values.{required, texts_in}
@@ -36,11 +37,11 @@ pub record ContractText : Type 0 where
 unfoldable pub path_at : Place → Members → Result (List (List ℕ)) DomainFault
 path_at place members = told place fields.Path (required texts_in (field_text fields.Path) members)
 
--- the kind first, then unknown keys, then the name
-unfoldable pub contract_head : Place → Members → Result (ContractKind × List ℕ) DomainFault
-contract_head place members = do
+-- the kind first, then keys that the kind does not have in the version, then the name
+unfoldable pub contract_head : Place → Version → Members → Result (ContractKind × List ℕ) DomainFault
+contract_head place version members = do
   kind ← contract_kind_at place members
-  _ ← only place (contract_fields ++ terms_fields kind) members
+  _ ← only place (contract_fields ++ terms_fields version kind) members
   name ← name_at place members
   Ok (kind, name)
 
@@ -54,10 +55,10 @@ contract_rest place kind members = do
   rule ← rule_at place members
   Ok (record { class = class; since = since; until = until; claim = claim; rule = rule })
 
--- what the keys of a contract say, key by key
-unfoldable pub contract_text : Place → Members → Result ContractText DomainFault
-contract_text place members = do
-  head ← contract_head place members
+-- what the keys of a contract of a version say, key by key
+unfoldable pub contract_text : Place → Version → Members → Result ContractText DomainFault
+contract_text place version members = do
+  head ← contract_head place version members
   port ← text_at place fields.Port members
   path ← path_at place members
   rest ← contract_rest place head.0 members
@@ -102,6 +103,6 @@ contract_of d done text = do
 -- the contracts with one more
 unfoldable pub with_contract_of : Domain → List Contract → Members → Result (List Contract) DomainFault
 with_contract_of d done members = do
-  text ← contract_text (next_contract done) members
+  text ← contract_text (next_contract done) d.version members
   contract ← contract_of d done text
   Ok (done ++ contract ∷ [])

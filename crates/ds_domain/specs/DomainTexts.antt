@@ -1,5 +1,5 @@
 -- What a domain text says.
-use Rattle.std.specs.Prelude.{ℕ, List, [], Result, Ok, Err, if◌then◌else◌}
+use Rattle.std.specs.Prelude.{ℕ, ◌==◌, List, [], Option, None, Some, Result, Ok, Err, if◌then◌else◌}
 use Rattle.std.specs.Str.{is_utf8}
 use Rattle.toml.specs.Data.{Members}
 use Rattle.toml.specs.Parse.{parse_document}
@@ -11,6 +11,8 @@ use Rattle.ds_domain_base.specs.declared.fault.Field.{Field}
 use Rattle.ds_domain_base.specs.declared.fault.Field.TheVariants as fields
 use Rattle.ds_domain_base.specs.declared.fault.Kind.TheVariants as kinds
 use Rattle.ds_domain_base.specs.declared.fault.Section.TheVariants as sections
+use Rattle.ds_domain_base.specs.declared.parts.Version.{Version}
+use Rattle.ds_domain_base.specs.declared.parts.Version.TheVariants.{One, Two}
 use Rattle.ds_domain_text.specs.Steps.{◌>>=◌, or_fail}
 use Rattle.ds_domain_text.specs.Values.{tables_at}
 use Rattle.ds_domain.specs.ContractEntries.{with_contract_of}
@@ -26,12 +28,17 @@ pub record SectionTables : Type 0 where
   pub links : List Members
   pub contracts : List Members
 
--- no unknown key, and no other version than 1, which is meant where none is told
-unfoldable pub top_of : Members → Result (Unit {0}) DomainFault
+-- the version of a number; the first is meant where none is told
+abbrev pub version_of : Option ℕ → Version
+version_of None = One
+version_of (Some number) = if number == 2 then Two else One
+
+-- no unknown key, and no other version than 1 and 2
+unfoldable pub top_of : Members → Result Version DomainFault
 top_of members = do
   _ ← only top top_fields members
-  _ ← optional_number_at top fields.Version 1 1 members
-  Ok tt
+  number ← optional_number_at top fields.Version 1 2 members
+  Ok (version_of number)
 
 -- a section is an array of tables, and empty where it is absent
 unfoldable pub section_of : Field → Members → Result (List Members) DomainFault
@@ -45,19 +52,19 @@ sections_of members = do
   contracts ← section_of fields.Contract members
   Ok (record { meters = meters; ports = ports; links = links; contracts = contracts })
 
--- the domain: its meters, then its ports, then its links
-unfoldable pub domain_of : SectionTables → Result Domain DomainFault
-domain_of tables = do
-  with_meters ← section_in fields.Meter 1024 with_meter_of bare tables.meters
+-- the domain of a version: its meters, then its ports, then its links
+unfoldable pub domain_of : Version → SectionTables → Result Domain DomainFault
+domain_of version tables = do
+  with_meters ← section_in fields.Meter 1024 with_meter_of (bare version) tables.meters
   with_ports ← section_in fields.Port 1024 with_port_of with_meters tables.ports
   section_in fields.Link 65536 with_link_of with_ports tables.links
 
 -- the domain, and then its contracts
 unfoldable pub document_of : Members → Result (Domain × List Contract) DomainFault
 document_of members = do
-  _ ← top_of members
+  version ← top_of members
   tables ← sections_of members
-  d ← domain_of tables
+  d ← domain_of version tables
   contracts ← section_in fields.Contract 4096 (with_contract_of d) [] tables.contracts
   Ok (d, contracts)
 

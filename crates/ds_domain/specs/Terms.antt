@@ -11,6 +11,7 @@ use Rattle.ds_domain_base.specs.declared.fault.DomainFault.{DomainFault}
 use Rattle.ds_domain_base.specs.declared.fault.Field.{Field}
 use Rattle.ds_domain_base.specs.declared.fault.Field.TheVariants as fields
 use Rattle.ds_domain_base.specs.declared.fault.Kind.TheVariants as kinds
+use Rattle.ds_domain_base.specs.declared.terms.Peak.{Peak}
 use Rattle.ds_domain_base.specs.declared.terms.Profile.{Profile}
 use Rattle.ds_domain_base.specs.declared.terms.Terms.{Terms}
 use Rattle.ds_domain_base.specs.declared.terms.Terms.TheVariants as terms
@@ -59,27 +60,45 @@ unless_refused place p (Some refusal) = Err (fault_here place kinds.Range (refus
 unfoldable pub sound : Place → Parameters → Result Parameters DomainFault
 sound place p = unless_refused place p (fault_of p)
 
+-- a rate and a burst, key by key
+unfoldable pub profile_at : Place → Field → Field → Members → Result Profile DomainFault
+profile_at place rate_field burst_field members = do
+  rate ← rate_at place rate_field members
+  burst ← burst_at place burst_field members
+  Ok (record { rate = rate; burst = burst })
+
 -- an entry has a key
 abbrev pub has_key : Field → Members → Bool
 has_key field members = is_some (get_member (field_text field) members)
 
--- the peak rate and burst of a trusted contract: both or neither
-unfoldable pub peak_at : Place → Members → Result (Option Profile) DomainFault
+-- an entry has one of two keys
+abbrev pub has_either : Field → Field → Members → Bool
+has_either first second members = has_key first members || has_key second members
+
+-- the excess rate and burst of a trusted contract: both or neither
+unfoldable pub excess_at : Place → Members → Result (Option Profile) DomainFault
+excess_at place members =
+    if has_either fields.Eir fields.Ebs members then
+    profile_at place fields.Eir fields.Ebs members >>= (λ excess. Ok (Some excess))
+    else
+    Ok None
+
+-- the peak rate and burst of a trusted contract, and its excess: an excess needs a peak
+unfoldable pub peak_at : Place → Members → Result (Option Peak) DomainFault
 peak_at place members =
-    if has_key fields.Pir members || has_key fields.Pbs members then (do
-      pir ← rate_at place fields.Pir members
-      pbs ← burst_at place fields.Pbs members
-      Ok (Some (record { rate = pir; burst = pbs })))
+    if has_either fields.Pir fields.Pbs members || has_either fields.Eir fields.Ebs members then (do
+      profile ← profile_at place fields.Pir fields.Pbs members
+      excess ← excess_at place members
+      Ok (Some (record { profile = profile; excess = excess })))
     else
     Ok None
 
 -- what a contract says of its rates and bursts, before its parameters are judged
 unfoldable pub claim_at : Place → ContractKind → Members → Result Claim DomainFault
 claim_at place Trusted members = do
-  cir ← rate_at place fields.Cir members
-  cbs ← burst_at place fields.Cbs members
+  committed ← profile_at place fields.Cir fields.Cbs members
   peak ← peak_at place members
-  Ok (claims.Trusted (record { rate = cir; burst = cbs }) peak)
+  Ok (claims.Trusted committed peak)
 claim_at place (Policed kind) members = do
   mode ← mode_at place members
   p ← parameters_at place kind members

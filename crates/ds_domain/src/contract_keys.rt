@@ -11,7 +11,7 @@ use crate::place::Place;
 use crate::rules::rule_at;
 use crate::terms::Claim;
 use af_marker::Class;
-use ds_domain_base::{DomainFault, Field, Name};
+use ds_domain_base::{DomainFault, Field, Name, Version};
 use ds_domain_text::keys::required_texts;
 use flow_classifier::Rule;
 use moment_core::Moment;
@@ -63,18 +63,19 @@ pub(crate) struct ContractRest {
     pub(crate) rule: Rule,
 }
 
-/// What the keys of a contract say, key by key.
+/// What the keys of a contract of a version say, key by key.
 #[tactic(auto, unfolding(crate::specs::ContractEntries::contract_text))]
 pub(crate) fn contract_keys<'a>(
     alloc: Global,
     place: Place,
+    version: Version,
     table: &'a Table,
 ) -> Result<ContractKeys<'a>, DomainFault>
-    ensures ok { IfOk result (λ keys. contract_text place (table_view table.now) ≡ Ok (text_of keys)) }
+    ensures ok { IfOk result (λ keys. contract_text place version (table_view table.now) ≡ Ok (text_of keys)) }
     ensures refused { IfErr result (λ fault. (fault ≡ no_memory)
-        ⊎ (contract_text place (table_view table.now) ≡ Err fault)) }
+        ⊎ (contract_text place version (table_view table.now) ≡ Err fault)) }
 {
-    let (kind, name) = contract_head(place, table)?;
+    let (kind, name) = contract_head(place, version, table)?;
     let port = text_at(place, table, Field::Port)?;
     let path = path_at(alloc, place, table)?;
     let rest = contract_rest(place, kind, table)?;
@@ -86,13 +87,17 @@ pub(crate) fn contract_keys<'a>(
     })
 }
 
-/// The kind first, then unknown keys, then the name.
+/// The kind first, then keys that the kind does not have in the version, then the name.
 #[tactic(auto, unfolding(crate::specs::ContractEntries::contract_head))]
-fn contract_head(place: Place, table: &Table) -> Result<(ContractKind, Name), DomainFault>
-    ensures { result ≡ contract_head place (table_view table.now) }
+fn contract_head(
+    place: Place,
+    version: Version,
+    table: &Table,
+) -> Result<(ContractKind, Name), DomainFault>
+    ensures { result ≡ contract_head place version (table_view table.now) }
 {
     let kind = contract_kind_at(place, table)?;
-    only(place, table, &CONTRACT_FIELDS, kind.terms_fields())?;
+    only(place, table, &CONTRACT_FIELDS, kind.terms_fields(version))?;
     let name = name_at(place, table)?;
     Ok((kind, name))
 }

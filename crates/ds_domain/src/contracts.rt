@@ -191,7 +191,8 @@ impl Entries for Contracts<'_> {
 
     #[tactic(auto, unfolding(crate::specs::ContractEntries::with_contract_of))]
     fn add(&self, done: &mut ContractList, table: &Table) -> Result<(), DomainFault> {
-        let keys = contract_keys(self.alloc, next_contract(done), table)?;
+        let version = self.domain.version();
+        let keys = contract_keys(self.alloc, next_contract(done), version, table)?;
         let path = keys.path.as_slice();
         let contract = contract_of(
             self.alloc,

@@ -2,10 +2,11 @@ ghost use Rattle.std.specs.Prelude.{◌≡◌};
 ghost use Rattle.toml.specs.View.{table_view};
 ghost use Rattle.ds_domain.specs.Kinds.{contract_kind_at, contract_kind_of, meter_kind_at, meter_kind_of};
 ghost use Rattle.ds_domain.specs.Kinds.{mode_at, mode_of, optional_mode_at, parameter_fields, terms_fields};
+ghost use Rattle.ds_domain.specs.Kinds.{trusted_fields};
 
 use crate::keys::text_at;
 use crate::place::Place;
-use ds_domain_base::{DomainFault, Field, Kind};
+use ds_domain_base::{DomainFault, Field, Kind, Version};
 use ds_domain_text::keys::optional_text;
 use moment_core::Mode;
 use toml::Table;
@@ -124,13 +125,30 @@ impl MeterKind {
     }
 }
 
+/// The keys of what a trusted contract keeps, in order; only the second version has those of an excess.
+fn trusted_fields(version: Version) -> &'static [Field]
+    ensures { result.now ≡ trusted_fields version }
+{
+    match version {
+        Version::One => &[Field::Cir, Field::Cbs, Field::Pir, Field::Pbs],
+        Version::Two => &[
+            Field::Cir,
+            Field::Cbs,
+            Field::Pir,
+            Field::Pbs,
+            Field::Eir,
+            Field::Ebs,
+        ],
+    }
+}
+
 impl ContractKind {
-    /// The keys of the terms of a contract of the kind, in order.
-    pub(crate) fn terms_fields(self) -> &'static [Field]
-        ensures { result.now ≡ terms_fields self }
+    /// The keys of the terms of a contract of the kind in a version, in order.
+    pub(crate) fn terms_fields(self, version: Version) -> &'static [Field]
+        ensures { result.now ≡ terms_fields version self }
     {
         match self {
-            ContractKind::Trusted => &[Field::Cir, Field::Cbs, Field::Pir, Field::Pbs],
+            ContractKind::Trusted => trusted_fields(version),
             ContractKind::Policed(MeterKind::SrTcm) => &[
                 Field::Mode,
                 Field::Cir,

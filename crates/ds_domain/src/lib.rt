@@ -16,6 +16,6 @@ mod terms;
 
 pub use ds_domain_base::{
     Contract, Delay, Domain, DomainFault, Field, Kind, Lifetime, Link, MOST_HOPS, Meter, Name,
-    Path, Port, Profile, Section, SoundParameters, Terms, fits,
+    Path, Peak, Port, Profile, Section, SoundParameters, Terms, Version, fits,
 };
 pub use parsing::parse;

@@ -10,7 +10,7 @@ use crate::contracts::contracts_of;
 use crate::keys::{only, optional_number_at};
 use crate::parts::{Links, Meters, Ports};
 use crate::sections::{Entries, top};
-use ds_domain_base::{Contract, Domain, DomainFault, Field, Kind, Section};
+use ds_domain_base::{Contract, Domain, DomainFault, Field, Kind, Section, Version};
 use ds_domain_text::keys::tables_at;
 use std::alloc::Global;
 use toml::Table;
@@ -40,8 +40,9 @@ pub(crate) struct Sections<'a> {
 /// The domain and the contracts that a domain text says.
 ///
 /// The text is TOML of at most four arrays of tables, `meter`, `port`, `link` and `contract`, and of a `version` that
-/// is 1. Refused is a text that is not so, with its first fault: first the text as a whole, then its top, then the
-/// meters, ports, links and contracts, each in the order of the text. `NoMemory` where memory runs out.
+/// is 1 or 2, and 1 where it is absent. Refused is a text that is not so, with its first fault: first the text as a
+/// whole, then its top, then the meters, ports, links and contracts, each in the order of the text. `NoMemory` where
+/// memory runs out.
 #[tactic(auto, unfolding(crate::specs::DomainTexts::parse_of))]
 pub fn parse(alloc: Global, bytes: &[u8]) -> Result<(Domain, Vec<Contract>), DomainFault>
     ensures ok { IfOk result (λ parsed. parse_of bytes.now ≡ Ok (parsed.0, parsed.1.items)) }
@@ -72,21 +73,24 @@ fn document_of(alloc: Global, table: &Table) -> Result<(Domain, Vec<Contract>), 
     ensures ok { IfOk result (λ parsed. document_of (table_view table.now) ≡ Ok (parsed.0, parsed.1.items)) }
     ensures refused { IfErr result (λ fault. (fault ≡ no_memory) ⊎ (document_of (table_view table.now) ≡ Err fault)) }
 {
-    top_of(table)?;
+    let version = top_of(table)?;
     let sections = sections_of(alloc, table)?;
-    let domain = domain_of(alloc, &sections)?;
+    let domain = domain_of(alloc, version, &sections)?;
     let contracts = contracts_of(alloc, &domain, sections.contracts.as_slice())?;
     Ok((domain, contracts))
 }
 
-/// Refuses an unknown key at the top, and another version than 1.
+/// The version of the text, the first where it is not told. Refuses an unknown key at the top, and another version than
+/// 1 and 2.
 #[tactic(auto, unfolding(crate::specs::DomainTexts::top_of))]
-fn top_of(table: &Table) -> Result<(), DomainFault>
+fn top_of(table: &Table) -> Result<Version, DomainFault>
     ensures { result ≡ top_of (table_view table.now) }
 {
     only(top(), table, &TOP_FIELDS, &[])?;
-    optional_number_at(top(), table, Field::Version, 1, 1)?;
-    Ok(())
+    match optional_number_at(top(), table, Field::Version, 1, 2)? {
+        Some(2) => Ok(Version::Two),
+        _ => Ok(Version::One),
+    }
 }
 
 /// The tables of a section, none where it is absent.
@@ -125,13 +129,18 @@ fn sections_of<'a>(alloc: Global, table: &'a Table) -> Result<Sections<'a>, Doma
     })
 }
 
-/// The domain: its meters, then its ports, then its links.
+/// The domain of a version: its meters, then its ports, then its links.
 #[tactic(auto, unfolding(crate::specs::DomainTexts::domain_of))]
-fn domain_of(alloc: Global, sections: &Sections<'_>) -> Result<Domain, DomainFault>
-    ensures ok { IfOk result (λ domain. domain_of (tables_of sections.now) ≡ Ok domain) }
-    ensures refused { IfErr result (λ fault. (fault ≡ no_memory) ⊎ (domain_of (tables_of sections.now) ≡ Err fault)) }
+fn domain_of(
+    alloc: Global,
+    version: Version,
+    sections: &Sections<'_>,
+) -> Result<Domain, DomainFault>
+    ensures ok { IfOk result (λ domain. domain_of version (tables_of sections.now) ≡ Ok domain) }
+    ensures refused { IfErr result (λ fault. (fault ≡ no_memory)
+        ⊎ (domain_of version (tables_of sections.now) ≡ Err fault)) }
 {
-    let mut domain = Domain::new(alloc);
+    let mut domain = Domain::new(alloc, version);
     let meters = sections.meters.as_slice();
     Meters.add_section(Field::Meter, Domain::MOST_METERS, &mut domain, meters)?;
     let ports = sections.ports.as_slice();

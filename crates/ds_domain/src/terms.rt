@@ -4,7 +4,7 @@ ghost use Rattle.toml.specs.View.{table_view};
 use crate::keys::{burst_at, rate_at};
 use crate::kinds::{ContractKind, MeterKind, mode_at};
 use crate::place::Place;
-use ds_domain_base::{DomainFault, Field, Kind, Profile, SoundParameters, Terms};
+use ds_domain_base::{DomainFault, Field, Kind, Peak, Profile, SoundParameters, Terms};
 use ds_domain_text::keys::value_at;
 use meter_book::{MeterFault, Parameters};
 use moment_core::Mode;
@@ -20,8 +20,8 @@ pub(crate) enum Claim {
     Trusted {
         /// What its green packets keep.
         committed: Profile,
-        /// What its green and yellow packets keep.
-        peak: Option<Profile>,
+        /// What its green and yellow packets keep, and its yellow ones on their own.
+        peak: Option<Peak>,
     },
     /// Of a policed contract: the parameters and the mode of the meter at its edge.
     Policed {
@@ -78,13 +78,9 @@ impl ContractKind {
     {
         match self {
             ContractKind::Trusted => {
-                let rate = rate_at(place, table, Field::Cir)?;
-                let burst = burst_at(place, table, Field::Cbs)?;
+                let committed = profile_at(place, table, Field::Cir, Field::Cbs)?;
                 let peak = peak_at(place, table)?;
-                Ok(Claim::Trusted {
-                    committed: Profile { rate, burst },
-                    peak,
-                })
+                Ok(Claim::Trusted { committed, peak })
             }
             ContractKind::Policed(kind) => {
                 let mode = mode_at(place, table)?;
@@ -113,7 +109,7 @@ impl Claim {
     }
 }
 
-ghost use Rattle.ds_domain.specs.Terms.{has_key, peak_at, sound};
+ghost use Rattle.ds_domain.specs.Terms.{excess_at, has_either, has_key, peak_at, profile_at, sound};
 
 /// Whether an entry has a key.
 fn has_key(table: &Table, field: Field) -> bool
@@ -122,15 +118,50 @@ fn has_key(table: &Table, field: Field) -> bool
     value_at(table, field.text()).is_some()
 }
 
-/// The peak rate and burst of a trusted contract: both or neither.
+/// Whether an entry has one of two keys.
+fn has_either(table: &Table, first: Field, second: Field) -> bool
+    ensures { result ≡ has_either first second (table_view table.now) }
+{
+    has_key(table, first) || has_key(table, second)
+}
+
+/// A rate and a burst, key by key.
+#[tactic(auto, unfolding(crate::specs::Terms::profile_at))]
+fn profile_at(
+    place: Place,
+    table: &Table,
+    rate_field: Field,
+    burst_field: Field,
+) -> Result<Profile, DomainFault>
+    ensures { result ≡ profile_at place rate_field burst_field (table_view table.now) }
+{
+    let rate = rate_at(place, table, rate_field)?;
+    let burst = burst_at(place, table, burst_field)?;
+    Ok(Profile { rate, burst })
+}
+
+/// The excess rate and burst of a trusted contract: both or neither.
+#[tactic(auto, unfolding(crate::specs::Terms::excess_at))]
+fn excess_at(place: Place, table: &Table) -> Result<Option<Profile>, DomainFault>
+    ensures { result ≡ excess_at place (table_view table.now) }
+{
+    if has_either(table, Field::Eir, Field::Ebs) {
+        let excess = profile_at(place, table, Field::Eir, Field::Ebs)?;
+        Ok(Some(excess))
+    } else {
+        Ok(None)
+    }
+}
+
+/// The peak rate and burst of a trusted contract, and its excess: an excess needs a peak.
 #[tactic(auto, unfolding(crate::specs::Terms::peak_at))]
-fn peak_at(place: Place, table: &Table) -> Result<Option<Profile>, DomainFault>
+fn peak_at(place: Place, table: &Table) -> Result<Option<Peak>, DomainFault>
     ensures { result ≡ peak_at place (table_view table.now) }
 {
-    if has_key(table, Field::Pir) || has_key(table, Field::Pbs) {
-        let rate = rate_at(place, table, Field::Pir)?;
-        let burst = burst_at(place, table, Field::Pbs)?;
-        Ok(Some(Profile { rate, burst }))
+    if has_either(table, Field::Pir, Field::Pbs) || has_either(table, Field::Eir, Field::Ebs) {
+        let profile = profile_at(place, table, Field::Pir, Field::Pbs)?;
+        let excess = excess_at(place, table)?;
+        Ok(Some(Peak { profile, excess }))
     } else {
         Ok(None)
     }

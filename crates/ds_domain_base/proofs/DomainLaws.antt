@@ -23,18 +23,18 @@ length-push xs x most few = rw (length-append xs (x ∷ [])) (omega (arith, few)
 
 -- the entries after the insertion of a name that is not taken are those of the domain with one more
 pub meter_added : (now d : Domain) (es : List (List ℕ × Meter)) (name : List ℕ) (meter : Meter) → now ≡ d → is_taken d name ≡ false
-    → es ≡ insert_entry bytes_eq now.meters name meter → record { meters = es; ports = now.ports; links = now.links } ≡ with_meter d name meter
+    → es ≡ insert_entry bytes_eq now.meters name meter → record now { meters = es } ≡ with_meter d name meter
 meter_added now d es name meter same free put =
-    ap (λ ms. record { meters = ms; ports = now.ports; links = now.links }) (put ∙ new_entry bytes_eq now.meters name meter absent)
+    ap (λ ms. record now { meters = ms }) (put ∙ new_entry bytes_eq now.meters name meter absent)
     ∙ ap (λ x. with_meter x name meter) same
   where
     absent : lookup (bytes_eq name) now.meters ≡ None
     absent = none_of (meter_of now name) (ap (λ x. is_meter x name) same ∙ (or_parts (is_meter d name) (is_port d name) free).0)
 
 pub port_added : (now d : Domain) (es : List (List ℕ × Port)) (name : List ℕ) (port : Port) → now ≡ d → is_taken d name ≡ false
-    → es ≡ insert_entry bytes_eq now.ports name port → record { meters = now.meters; ports = es; links = now.links } ≡ with_port d name port
+    → es ≡ insert_entry bytes_eq now.ports name port → record now { ports = es } ≡ with_port d name port
 port_added now d es name port same free put =
-    ap (λ ps. record { meters = now.meters; ports = ps; links = now.links }) (put ∙ new_entry bytes_eq now.ports name port absent)
+    ap (λ ps. record now { ports = ps }) (put ∙ new_entry bytes_eq now.ports name port absent)
     ∙ ap (λ x. with_port x name port) same
   where
     absent : lookup (bytes_eq name) now.ports ≡ None
@@ -73,9 +73,9 @@ IsDomain-with_link d from to link kept few taken meter free = record {
 }
 
 link_added : (now d : Domain) (es : List ((List ℕ × List ℕ) × Link)) (from to : List ℕ) (link : Link) → now ≡ d → is_some (link_of d from to) ≡ false
-    → es ≡ insert_entry same_ends now.links (from, to) link → record { meters = now.meters; ports = now.ports; links = es } ≡ with_link d from to link
+    → es ≡ insert_entry same_ends now.links (from, to) link → record now { links = es } ≡ with_link d from to link
 link_added now d es from to link same free put =
-    ap (λ ls. record { meters = now.meters; ports = now.ports; links = ls }) (put ∙ new_entry same_ends now.links (from, to) link absent)
+    ap (λ ls. record now { links = ls }) (put ∙ new_entry same_ends now.links (from, to) link absent)
     ∙ ap (λ x. with_link x from to link) same
   where
     absent : lookup (same_ends (from, to)) now.links ≡ None
@@ -89,8 +89,8 @@ some_named false text name p = search (rules, p)
 pub link_put : (now d : Domain) (es : List ((List ℕ × List ℕ) × Link)) (from to start end : List ℕ) (link : Link) → now ≡ d → IsDomain now
     → length now.links < 65536 → (if is_taken d from then Some from else None) ≡ Some start → (if is_meter d to then Some to else None) ≡ Some end
     → is_some (link_of d start end) ≡ false → es ≡ insert_entry same_ends now.links (start, end) link
-    → IsDomain (record { meters = now.meters; ports = now.ports; links = es })
-    × (record { meters = now.meters; ports = now.ports; links = es } ≡ with_link d from to link)
+    → IsDomain (record now { links = es })
+    × (record now { links = es } ≡ with_link d from to link)
 link_put now d es from to start end link same kept few left right free put = (subst IsDomain (sym added) whole, added)
   where
     first : (is_taken d from ≡ true) × (start ≡ from)
@@ -102,7 +102,7 @@ link_put now d es from to start end link same kept few left right free put = (su
     plain : is_some (link_of d from to) ≡ false
     plain = ap (λ a. is_some (link_of d a to)) (sym first.1) ∙ ap (λ b. is_some (link_of d start b)) (sym second.1) ∙ free
 
-    added : record { meters = now.meters; ports = now.ports; links = es } ≡ with_link d from to link
+    added : record now { links = es } ≡ with_link d from to link
     added = link_added now d es from to link same plain
         (put ∙ ap (λ a. insert_entry same_ends now.links (a, end) link) first.1 ∙ ap (λ b. insert_entry same_ends now.links (from, b) link) second.1)
 

@@ -1,4 +1,4 @@
--- A domain: its meters, ports and links by name, each in the order in which they were told.
+-- A domain: the version of its text, and its meters, ports and links by name, in the order in which they were told.
 use Rattle.std.specs.Prelude.{ℕ, Bool, ◌&&◌, ◌||◌, List, [], ◌∷◌, ◌++◌, length, nat_le, is_some, not, Option, None}
 use Rattle.std.specs.Prelude.{Some, if◌then◌else◌}
 use Rattle.std.specs.Map.{lookup}
@@ -10,16 +10,18 @@ use Rattle.ds_domain_base.specs.declared.fault.Field.TheVariants as fields
 use Rattle.ds_domain_base.specs.declared.parts.Meter.{Meter}
 use Rattle.ds_domain_base.specs.declared.parts.Port.{Port}
 use Rattle.ds_domain_base.specs.declared.parts.Link.{Link}
+use Rattle.ds_domain_base.specs.declared.parts.Version.{Version}
 use Rattle.ds_domain_base.specs.Faults.{fault_at}
 
 pub record Domain : Type 0 where
+  pub version : Version
   pub meters : List (List ℕ × Meter)
   pub ports : List (List ℕ × Port)
   pub links : List ((List ℕ × List ℕ) × Link)
 
--- with nothing in it
-abbrev pub bare : Domain
-bare = record { meters = []; ports = []; links = [] }
+-- of a version, with nothing in it
+abbrev pub bare : Version → Domain
+bare version = record { version = version; meters = []; ports = []; links = [] }
 
 -- the meter, and the port, of a name
 abbrev pub meter_of : Domain → List ℕ → Option Meter

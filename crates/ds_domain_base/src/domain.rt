@@ -10,19 +10,20 @@ ghost use Rattle.ds_domain_base.specs.Kept.{IsDomain};
 
 use crate::fault::{DomainFault, Field, Kind, Section};
 use crate::name::Name;
-use crate::parts::{Link, Meter, Port};
+use crate::parts::{Link, Meter, Port, Version};
 use indexmap::IndexMap;
 use moment_core::Gap;
 use std::alloc::Global;
 use std::hash::Hash;
 use std::marker::Model;
 
-/// A domain: its meters, ports and links.
+/// A domain: the version of its text, and its meters, ports and links.
 ///
 /// Meters and ports have names that all differ. A link goes from a port or a meter to a meter, and there is one at most
 /// from a name to a name. There are at most 1,024 meters, 1,024 ports and 65,536 links.
 #[derive(Debug, Drop)]
 pub struct Domain {
+    version: Version,
     meters: IndexMap<Name, Meter>,
     ports: IndexMap<Name, Port>,
     links: IndexMap<(Name, Name), Link>,
@@ -35,10 +36,19 @@ impl Model for Domain {
 
     ghost use Rattle.ds_domain_base.specs.Kept.{IsDomain};
 
-    ghost view = { λ d. record { meters = d.meters.entries; ports = d.ports.entries; links = d.links.entries } };
+    ghost view = { λ d. record {
+      version = d.version;
+      meters = d.meters.entries;
+      ports = d.ports.entries;
+      links = d.links.entries;
+    } };
 
-    ghost invariant = { λ d. IsDomain
-        (record { meters = d.meters.entries; ports = d.ports.entries; links = d.links.entries }) };
+    ghost invariant = { λ d. IsDomain (record {
+      version = d.version;
+      meters = d.meters.entries;
+      ports = d.ports.entries;
+      links = d.links.entries;
+    }) };
 }
 
 impl Domain {
@@ -51,15 +61,23 @@ impl Domain {
     /// The greatest number of links.
     pub const MOST_LINKS: usize = 65_536;
 
-    /// A domain with nothing in it. It takes no memory.
-    pub fn new(alloc: Global) -> Self
-        ensures { result ≡ bare }
+    /// A domain with nothing in it, of a version of the text. It takes no memory.
+    pub fn new(alloc: Global, version: Version) -> Self
+        ensures { result ≡ bare version }
     {
         Domain {
+            version,
             meters: IndexMap::new(alloc),
             ports: IndexMap::new(alloc),
             links: IndexMap::new(alloc),
         }
+    }
+
+    /// The version of its text.
+    pub fn version(&self) -> Version
+        ensures { result ≡ self.now.version }
+    {
+        self.version
     }
 
     /// The meter of a name.
@@ -266,6 +284,7 @@ impl Domain {
         let ports = copied(alloc, &self.ports)?;
         let links = copied(alloc, &self.links)?;
         Ok(Domain {
+            version: self.version,
             meters,
             ports,
             links,

@@ -7,6 +7,16 @@ use crate::terms::SoundParameters;
 use meter_book::AnyMeter;
 use moment_core::{Mode, Moment};
 
+/// The version of a domain's text.
+#[derive(Clone, Copy, Debug, PartialEq, Eq, Hash)]
+pub enum Version {
+    /// The first.
+    One,
+    /// The second: a contract that has a peak may say an excess envelope for its yellow packets, and what a meter at an
+    /// edge lets through yellow counts on its own.
+    Two,
+}
+
 /// A meter inside the domain. It heeds the colours that packets come in with.
 #[derive(Clone, Copy, Debug, PartialEq, Eq, Hash)]
 pub struct Meter {

@@ -65,6 +65,15 @@ pub struct Profile {
     pub burst: u32,
 }
 
+/// What a contract that may send yellow packets is trusted with beside what its green packets keep.
+#[derive(Clone, Copy, Debug, PartialEq, Eq, Hash)]
+pub struct Peak {
+    /// What its green and yellow packets keep.
+    pub profile: Profile,
+    /// What its yellow packets keep on their own, if that is said.
+    pub excess: Option<Profile>,
+}
+
 /// What a contract is trusted with, or held to.
 #[derive(Clone, Copy, Debug, PartialEq, Eq, Hash)]
 pub enum Terms {
@@ -72,8 +81,8 @@ pub enum Terms {
     Trusted {
         /// What its green packets keep.
         committed: Profile,
-        /// What its green and yellow packets keep, if it may send yellow ones.
-        peak: Option<Profile>,
+        /// What its green and yellow packets keep, and its yellow ones on their own, if it may send yellow ones.
+        peak: Option<Peak>,
     },
     /// A meter of its own at the edge colours its traffic.
     Policed {
