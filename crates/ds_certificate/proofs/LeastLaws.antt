@@ -9,7 +9,7 @@ use Rattle.ds_domain_base.specs.Domains.{Domain, jitter_of, link_of}
 use Rattle.ds_domain_base.specs.declared.contract.Contract.{Contract}
 use Rattle.ds_certificate.specs.Bounds.{AreAtMost, Grows, HasShape, IsAtMost, IsCertificate, Meets, MeetsIn, delayed, entering, fits, least, least_along, least_behind, least_of}
 use Rattle.moment_core.specs.declared.column.Column.{Column}
-use Rattle.moment_core.specs.declared.column.Column.TheVariants.{Green, All}
+use Rattle.moment_core.specs.declared.column.Column.TheVariants.{Green, All, Excess}
 use Rattle.ds_certificate.specs.Columns.{Bound, InEach, bytes_in, envelope_in}
 use Rattle.ds_certificate.specs.Sources.{jitters_along, jitters_of, source_of}
 use Rattle.ds_certificate.specs.declared.source.Source.{Source}
@@ -33,11 +33,13 @@ length-least_behind s (jitter ∷ jitters) before = ap suc (length-least_behind 
 enters : (column : Column) (s : Source) → bytes_in column (entering s) ≡ (envelope_in column s).burst
 enters Green s = refl
 enters All s = refl
+enters Excess s = refl
 
 delays : (column : Column) (s : Source) (jitter : ℕ) (before : Bound)
     → bytes_in column (delayed s jitter before) ≡ bytes_in column before + bytes_over (envelope_in column s).rate jitter
 delays Green s jitter before = refl
 delays All s jitter before = refl
+delays Excess s jitter before = refl
 
 Grows-least : (column : Column) (s : Source) (jitters : List ℕ) (before : Bound) → Grows column s jitters before (least_behind s jitters before)
 unfolding Grows least_behind

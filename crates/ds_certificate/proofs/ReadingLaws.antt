@@ -8,7 +8,9 @@ use Rattle.line_text.proofs.LineLemmas.{lines_of-nil, lines_of-uncut}
 use Rattle.ds_domain_base.specs.Names.{is_name}
 use Rattle.ds_domain_base.specs.declared.contract.Contract.{Contract}
 use Rattle.ds_certificate.specs.Columns.{Bound}
-use Rattle.ds_certificate.specs.Readings.{Read, bound_in, bounds_in, ending_in, entry_in, entry_of, onto, row_onto, rows_in}
+use Rattle.ds_certificate.specs.Readings.{Entry, Read, bound_in, bounds_in, ending_in, entry_in, entry_of, has_form, if_formed, onto, row_onto, rows_in}
+use Rattle.ds_certificate.specs.declared.form.Form.{Form}
+use Rattle.ds_certificate.specs.declared.form.Form.TheVariants.{Short, Long}
 use Rattle.ds_certificate.specs.declared.fault.CertificateFault.{CertificateFault}
 use Rattle.ds_certificate.specs.declared.fault.CertificateFault.TheVariants.{Shape}
 
@@ -25,24 +27,50 @@ pub lines_of-empty : (text : List ℕ) → length text ≡ 0 → lines_of text �
 lines_of-empty [] none = lines_of-nil
 lines_of-empty (byte ∷ text) none = absurd (omega (arith, none))
 
--- four fields are an entry, where they have its form
-pub entry_of-other : (name : List ℕ) (fields : List (List ℕ)) → length fields ≢ 3 → entry_of (name ∷ fields) ≡ None
-entry_of-other name [] other = refl
-entry_of-other name (a ∷ []) other = refl
-entry_of-other name (a ∷ b ∷ []) other = refl
-entry_of-other name (a ∷ b ∷ c ∷ []) other = absurd (other refl)
-entry_of-other name (a ∷ b ∷ c ∷ d ∷ fields) other = refl
+-- a line of another number of fields is no entry
+short-other : (fields : List (List ℕ)) → length fields ≢ 4 → entry_of Short fields ≡ None
+short-other [] other = refl
+short-other (a ∷ []) other = refl
+short-other (a ∷ b ∷ []) other = refl
+short-other (a ∷ b ∷ c ∷ []) other = refl
+short-other (a ∷ b ∷ c ∷ d ∷ []) other = absurd (other refl)
+short-other (a ∷ b ∷ c ∷ d ∷ e ∷ fields) other = refl
 
-pub no_entry : (line name : List ℕ) (fields : List (List ℕ)) → fields_of line ≡ name ∷ fields → length fields ≢ 3 → entry_in line ≡ None
-unfolding entry_in
-no_entry line name fields is other = ap entry_of is ∙ entry_of-other name fields other
+long-other : (fields : List (List ℕ)) → length fields ≢ 5 → entry_of Long fields ≡ None
+long-other [] other = refl
+long-other (a ∷ []) other = refl
+long-other (a ∷ b ∷ []) other = refl
+long-other (a ∷ b ∷ c ∷ []) other = refl
+long-other (a ∷ b ∷ c ∷ d ∷ []) other = refl
+long-other (a ∷ b ∷ c ∷ d ∷ e ∷ []) other = absurd (other refl)
+long-other (a ∷ b ∷ c ∷ d ∷ e ∷ f ∷ fields) other = refl
 
-pub entry_by : (line name : List ℕ) (fields : List (List ℕ)) (hop green all : List ℕ) (form : Bool) → fields_of line ≡ name ∷ fields → fields ≡ hop ∷ green ∷ all ∷ []
-    → form ≡ (is_name name && is_number hop && is_number green && is_number all)
-    → entry_in line ≡ (if form then Some (record { name = name; hop = hop; green = green; all = all }) else None)
+pub short_none : (form : Form) (line : List ℕ) → form ≡ Short → length (fields_of line) ≢ 4 → entry_in form line ≡ None
 unfolding entry_in
-entry_by line name fields hop green all form is are test =
-    ap entry_of (is ∙ ap (λ fs. name ∷ fs) are) ∙ ap (λ (b : Bool). if b then Some (record { name = name; hop = hop; green = green; all = all }) else None) (sym test)
+short_none form line is other = rw is (short-other (fields_of line) other)
+
+pub long_none : (form : Form) (line : List ℕ) → form ≡ Long → length (fields_of line) ≢ 5 → entry_in form line ≡ None
+unfolding entry_in
+long_none form line is other = rw is (long-other (fields_of line) other)
+
+-- what a line of the fields of an entry says
+pub short_is : (line : List ℕ) (e : Entry) → fields_of line ≡ e.name ∷ e.hop ∷ e.green ∷ e.all ∷ [] → e.excess ≡ e.all → entry_in Short line ≡ if_formed e
+unfolding entry_in
+short_is line e are same =
+    ap (entry_of Short) are
+    ∙ ap (λ excess. if_formed (record { name = e.name; hop = e.hop; green = e.green; all = e.all; excess = excess })) (sym same)
+
+pub long_is : (line : List ℕ) (e : Entry) → fields_of line ≡ e.name ∷ e.hop ∷ e.green ∷ e.all ∷ e.excess ∷ [] → entry_in Long line ≡ if_formed e
+unfolding entry_in
+long_is line e are = ap (entry_of Long) are
+
+pub short_said : (form : Form) (line : List ℕ) (e : Entry) (is : Bool) → form ≡ Short → fields_of line ≡ e.name ∷ e.hop ∷ e.green ∷ e.all ∷ [] → e.excess ≡ e.all → has_form e ≡ is
+    → entry_in form line ≡ (if is then Some e else None)
+short_said form line e is short are same formed = rw short (short_is line e are same ∙ ap (λ b. if b then Some e else None) formed)
+
+pub long_said : (form : Form) (line : List ℕ) (e : Entry) (is : Bool) → form ≡ Long → fields_of line ≡ e.name ∷ e.hop ∷ e.green ∷ e.all ∷ e.excess ∷ [] → has_form e ≡ is
+    → entry_in form line ≡ (if is then Some e else None)
+long_said form line e is long are formed = rw long (long_is line e are ∙ ap (λ b. if b then Some e else None) formed)
 
 -- bounds behind others
 abbrev pub ahead : List Bound → Result Read CertificateFault → Result Read CertificateFault
@@ -53,34 +81,34 @@ ahead-onto : (done : List Bound) (b : Bound) (later : Result Read CertificateFau
 ahead-onto done b (Err fault) = refl
 ahead-onto done b (Ok read) = ap (λ bounds. Ok (bounds, read.1)) (sym (append_assoc done (b ∷ []) read.0))
 
-pub bounds_in-ended : (done : List Bound) (name : List ℕ) (hop count : ℕ) (lines : List (List ℕ)) → count ≤ hop → ahead done (bounds_in name hop (count - hop) lines) ≡ Ok (done, lines)
+pub bounds_in-ended : (form : Form) (done : List Bound) (name : List ℕ) (hop count : ℕ) (lines : List (List ℕ)) → count ≤ hop → ahead done (bounds_in form name hop (count - hop) lines) ≡ Ok (done, lines)
 unfolding bounds_in
-bounds_in-ended done name hop count lines all =
+bounds_in-ended form done name hop count lines all =
     let none : count - hop ≡ 0 = omega arith in
     rw none (ap (λ bounds. Ok (bounds, lines)) (search rules))
 
-pub bounds_in-missing : (done : List Bound) (name : List ℕ) (hop count : ℕ) (lines : List (List ℕ)) → hop < count → lines ≡ []
-    → ahead done (bounds_in name hop (count - hop) lines) ≡ Err Shape
+pub bounds_in-missing : (form : Form) (done : List Bound) (name : List ℕ) (hop count : ℕ) (lines : List (List ℕ)) → hop < count → lines ≡ []
+    → ahead done (bounds_in form name hop (count - hop) lines) ≡ Err Shape
 unfolding bounds_in
-bounds_in-missing done name hop count lines more none =
+bounds_in-missing form done name hop count lines more none =
     let left : count - hop ≡ suc (count - (hop + 1)) = omega arith in
     rw (left, none) refl
 
-pub bounds_in-bad : (done : List Bound) (name : List ℕ) (hop count : ℕ) (lines : List (List ℕ)) (line : List ℕ) (rest : List (List ℕ)) (fault : CertificateFault) → hop < count
-    → lines ≡ line ∷ rest → bound_in name hop line ≡ Err fault → ahead done (bounds_in name hop (count - hop) lines) ≡ Err fault
+pub bounds_in-bad : (form : Form) (done : List Bound) (name : List ℕ) (hop count : ℕ) (lines : List (List ℕ)) (line : List ℕ) (rest : List (List ℕ)) (fault : CertificateFault) → hop < count
+    → lines ≡ line ∷ rest → bound_in form name hop line ≡ Err fault → ahead done (bounds_in form name hop (count - hop) lines) ≡ Err fault
 unfolding bounds_in
-bounds_in-bad done name hop count lines line rest fault more are said =
+bounds_in-bad form done name hop count lines line rest fault more are said =
     let left : count - hop ≡ suc (count - (hop + 1)) = omega arith in
     rw (left, are, said) refl
 
-pub bounds_in-line : (done front : List Bound) (name : List ℕ) (hop count : ℕ) (lines : List (List ℕ)) (line : List ℕ) (rest : List (List ℕ)) (b : Bound) → hop < count
-    → lines ≡ line ∷ rest → bound_in name hop line ≡ Ok b → front ≡ done ++ b ∷ []
-    → ahead done (bounds_in name hop (count - hop) lines) ≡ ahead front (bounds_in name (hop + 1) (count - (hop + 1)) rest)
+pub bounds_in-line : (form : Form) (done front : List Bound) (name : List ℕ) (hop count : ℕ) (lines : List (List ℕ)) (line : List ℕ) (rest : List (List ℕ)) (b : Bound) → hop < count
+    → lines ≡ line ∷ rest → bound_in form name hop line ≡ Ok b → front ≡ done ++ b ∷ []
+    → ahead done (bounds_in form name hop (count - hop) lines) ≡ ahead front (bounds_in form name (hop + 1) (count - (hop + 1)) rest)
 unfolding bounds_in
-bounds_in-line done front name hop count lines line rest b more are said is_front =
+bounds_in-line form done front name hop count lines line rest b more are said is_front =
     let left : count - hop ≡ suc (count - (hop + 1)) = omega arith in
     let next : suc hop ≡ hop + 1 = omega arith in
-    rw (left, are, said, next, is_front) (ahead-onto done b (bounds_in name (hop + 1) (count - (hop + 1)) rest))
+    rw (left, are, said, next, is_front) (ahead-onto done b (bounds_in form name (hop + 1) (count - (hop + 1)) rest))
 
 -- rows behind others
 abbrev pub rows_ahead : List (List Bound) → Result (List (List Bound)) CertificateFault → Result (List (List Bound)) CertificateFault
@@ -95,32 +123,32 @@ rows_ahead-onto done bounds (Ok rows) = ap Ok (sym (append_assoc done (bounds �
 here : (contracts : List Contract) (i : ℕ) (c : Contract) → i < length contracts → c ≡ get_or contracts i c → drop i contracts ≡ c ∷ drop (i + 1) contracts
 here contracts i c inside is_c = drop_more contracts i c inside ∙ ap (λ x. x ∷ drop (i + 1) contracts) (sym is_c)
 
-pub rows_in-contract : (done front : List (List Bound)) (contracts : List Contract) (i : ℕ) (c : Contract) (lines left : List (List ℕ)) (bounds : List Bound)
-    → i < length contracts → c ≡ get_or contracts i c → bounds_in c.name 0 (length c.path + 1) lines ≡ Ok (bounds, left) → front ≡ done ++ bounds ∷ []
-    → rows_ahead done (rows_in (drop i contracts) lines) ≡ rows_ahead front (rows_in (drop (i + 1) contracts) left)
+pub rows_in-contract : (form : Form) (done front : List (List Bound)) (contracts : List Contract) (i : ℕ) (c : Contract) (lines left : List (List ℕ)) (bounds : List Bound)
+    → i < length contracts → c ≡ get_or contracts i c → bounds_in form c.name 0 (length c.path + 1) lines ≡ Ok (bounds, left) → front ≡ done ++ bounds ∷ []
+    → rows_ahead done (rows_in form (drop i contracts) lines) ≡ rows_ahead front (rows_in form (drop (i + 1) contracts) left)
 unfolding rows_in
-rows_in-contract done front contracts i c lines left bounds inside is_c read is_front =
-    rw (here contracts i c inside is_c, read, is_front) (rows_ahead-onto done bounds (rows_in (drop (i + 1) contracts) left))
+rows_in-contract form done front contracts i c lines left bounds inside is_c read is_front =
+    rw (here contracts i c inside is_c, read, is_front) (rows_ahead-onto done bounds (rows_in form (drop (i + 1) contracts) left))
 
-pub rows_in-bad : (done : List (List Bound)) (contracts : List Contract) (i : ℕ) (c : Contract) (lines : List (List ℕ)) (fault : CertificateFault)
-    → i < length contracts → c ≡ get_or contracts i c → bounds_in c.name 0 (length c.path + 1) lines ≡ Err fault
-    → rows_ahead done (rows_in (drop i contracts) lines) ≡ Err fault
+pub rows_in-bad : (form : Form) (done : List (List Bound)) (contracts : List Contract) (i : ℕ) (c : Contract) (lines : List (List ℕ)) (fault : CertificateFault)
+    → i < length contracts → c ≡ get_or contracts i c → bounds_in form c.name 0 (length c.path + 1) lines ≡ Err fault
+    → rows_ahead done (rows_in form (drop i contracts) lines) ≡ Err fault
 unfolding rows_in
-rows_in-bad done contracts i c lines fault inside is_c read = rw (here contracts i c inside is_c, read) refl
+rows_in-bad form done contracts i c lines fault inside is_c read = rw (here contracts i c inside is_c, read) refl
 
-rows_in-ended : (done : List (List Bound)) (contracts : List Contract) (i : ℕ) (lines : List (List ℕ)) → length contracts ≤ i → ending_in lines ≡ Ok []
-    → rows_ahead done (rows_in (drop i contracts) lines) ≡ Ok done
+rows_in-ended : (form : Form) (done : List (List Bound)) (contracts : List Contract) (i : ℕ) (lines : List (List ℕ)) → length contracts ≤ i → ending_in form lines ≡ Ok []
+    → rows_ahead done (rows_in form (drop i contracts) lines) ≡ Ok done
 unfolding rows_in
-rows_in-ended done contracts i lines all end = rw (drop_all i contracts all, end) (ap Ok (append-nil done))
+rows_in-ended form done contracts i lines all end = rw (drop_all i contracts all, end) (ap Ok (append-nil done))
 
-pub read_whole : (contracts : List Contract) (lines : List (List ℕ)) (done result : List (List Bound)) (i : ℕ) (rest : List (List ℕ)) → length contracts ≤ i → ending_in rest ≡ Ok []
-    → rows_ahead done (rows_in (drop i contracts) rest) ≡ rows_in contracts lines → result ≡ done → rows_in contracts lines ≡ Ok result
-read_whole contracts lines done result i rest all end kept is = sym kept ∙ rows_in-ended done contracts i rest all end ∙ ap Ok (sym is)
+pub read_whole : (form : Form) (contracts : List Contract) (lines : List (List ℕ)) (done result : List (List Bound)) (i : ℕ) (rest : List (List ℕ)) → length contracts ≤ i → ending_in form rest ≡ Ok []
+    → rows_ahead done (rows_in form (drop i contracts) rest) ≡ rows_in form contracts lines → result ≡ done → rows_in form contracts lines ≡ Ok result
+read_whole form contracts lines done result i rest all end kept is = sym kept ∙ rows_in-ended form done contracts i rest all end ∙ ap Ok (sym is)
 
-pub rows_in-excess : (done : List (List Bound)) (contracts : List Contract) (i : ℕ) (lines : List (List ℕ)) (fault : CertificateFault) → length contracts ≤ i → ending_in lines ≡ Err fault
-    → rows_ahead done (rows_in (drop i contracts) lines) ≡ Err fault
+pub rows_in-excess : (form : Form) (done : List (List Bound)) (contracts : List Contract) (i : ℕ) (lines : List (List ℕ)) (fault : CertificateFault) → length contracts ≤ i → ending_in form lines ≡ Err fault
+    → rows_ahead done (rows_in form (drop i contracts) lines) ≡ Err fault
 unfolding rows_in
-rows_in-excess done contracts i lines fault all end = rw (drop_all i contracts all, end) refl
+rows_in-excess form done contracts i lines fault all end = rw (drop_all i contracts all, end) refl
 
 pub empty_end : (text : List ℕ) → take (length text - length text) (drop (length text) text) ≡ []
 empty_end text = rw (drop_all (length text) text (omega arith)) (search rules)

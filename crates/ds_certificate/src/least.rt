@@ -1,7 +1,9 @@
 ghost use Rattle.std.specs.Prelude.{◌≡◌, ◌+◌, ◌*◌, ◌≤◌, ◌^◌, ◌⊎◌, false, List, IsTrue, IfOk, IfErr};
 ghost use Rattle.std.specs.List.{list_all};
 ghost use Rattle.ds_certificate.specs.Bounds.{AreAtMost, IsCertificate, delayed, entering, fits, least, least_of};
+ghost use Rattle.ds_certificate.specs.Columns.{InEach, bytes_in, envelope_in};
 ghost use Rattle.ds_certificate.specs.Columns as columns;
+ghost use Rattle.moment_core.specs.Volume.{bytes_over};
 ghost use Rattle.ds_certificate.specs.Ranges.{IsModerate, IsWithin};
 
 use crate::bound::Bound;
@@ -9,7 +11,7 @@ use crate::certificate::{Bounds, Certificate};
 use crate::fault::CertificateFault;
 use crate::source::Source;
 use ds_domain_base::{Contract, Domain, fits};
-use moment_core::{Gap, bytes_over_ceil};
+use moment_core::{Column, Gap, bytes_over_ceil};
 use std::alloc::{AllocError, Global};
 
 /// The least certificate of some contracts in a domain: no certificate of theirs has a bound below its own.
@@ -74,19 +76,39 @@ fn entering(source: &Source) -> Bound
     ensures value { result ≡ entering source.now }
     ensures range { IsWithin (5 * 10 ^ 13) result }
 {
-    Bound::new(source.green.burst(), source.all.burst()).unwrap()
+    Bound::new(
+        source.green.burst(),
+        source.all.burst(),
+        source.excess.burst(),
+    )
+    .unwrap()
 }
 
 /// The least bound behind a link of a jitter.
-#[tactic(auto, using(crate::proofs::Volumes::bytes_over_most))]
 fn delayed(source: &Source, jitter: Gap, before: Bound) -> Bound
     requires moderate { IsModerate source.now }
     requires jitter { jitter ≤ 10 ^ 10 }
     requires before { IsWithin (9 * 10 ^ 14) before }
     ensures value { result ≡ delayed source.now jitter before }
-    ensures range { (result.green ≤ before.green + 25 * 10 ^ 12) × (result.all ≤ before.all + 25 * 10 ^ 12) }
+    ensures range { InEach (λ column. bytes_in column result ≤ bytes_in column before + 25 * 10 ^ 12) }
 {
-    let green = u128::from(before.green()) + bytes_over_ceil(source.green.rate(), jitter);
-    let all = u128::from(before.all()) + bytes_over_ceil(source.all.rate(), jitter);
-    Bound::new(green as u64, all as u64).unwrap()
+    Bound::new(
+        delayed_in(Column::Green, source, jitter, before),
+        delayed_in(Column::All, source, jitter, before),
+        delayed_in(Column::Excess, source, jitter, before),
+    )
+    .unwrap()
+}
+
+/// The bytes of that bound in a column.
+#[tactic(auto, using(crate::proofs::Volumes::bytes_over_most))]
+fn delayed_in(column: Column, source: &Source, jitter: Gap, before: Bound) -> u64
+    requires slow { (envelope_in column source.now).rate ≤ 2 * 10 ^ 13 }
+    requires jitter { jitter ≤ 10 ^ 10 }
+    requires before { bytes_in column before ≤ 9 * 10 ^ 14 }
+    ensures value { result ≡ bytes_in column before + bytes_over (envelope_in column source.now).rate jitter }
+    ensures range { result ≤ bytes_in column before + 25 * 10 ^ 12 }
+{
+    let growth = bytes_over_ceil(source.envelope(column).rate(), jitter);
+    before.bytes(column) + growth as u64
 }

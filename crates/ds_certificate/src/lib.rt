@@ -5,6 +5,7 @@
 pub mod bound;
 pub mod certificate;
 pub mod fault;
+mod form;
 pub mod least;
 pub mod reading;
 pub mod source;

@@ -1,16 +1,18 @@
-ghost use Rattle.std.specs.Prelude.{◌≡◌, ◌∷◌, [], ◌+◌, ◌≤◌, ◌^◌, ◌&&◌, ◌⊎◌, ⊤, length, nat_eq, None, Some, Ok, Err};
+ghost use Rattle.std.specs.Prelude.{◌≡◌, ◌∷◌, [], ◌+◌, ◌≤◌, ◌^◌, ◌&&◌, ◌⊎◌, ⊤, length, nat_eq, None, Some, Ok, Err, ◌≢◌};
 ghost use Rattle.std.specs.Prelude.{IsTrue, IfOk, IfErr, MatchOption, MatchResult};
 ghost use Rattle.std.specs.List.{list_all};
 ghost use Rattle.std.specs.Char.{is_ascii_digit};
 ghost use Rattle.ds_domain_base.specs.Names.{is_name};
-ghost use Rattle.line_text.specs.Lines.{lines_of};
+ghost use Rattle.line_text.specs.Lines.{fields_of, lines_of};
 ghost use Rattle.line_text.specs.Numbers.{is_number, number_of, value_of};
-ghost use Rattle.ds_certificate.specs.Readings.{bound_in, bounds_in, certificate_in, ending_in, entry_in, rows_in};
+ghost use Rattle.ds_certificate.specs.Readings.{bound_in, bounds_in, certificate_in, ending_in, entry_in};
+ghost use Rattle.ds_certificate.specs.Readings.{entry_of_fields, has_form, rows_in};
 ghost use Rattle.ds_certificate.specs.Texts.{is_shaped};
 
 use crate::bound::Bound;
 use crate::certificate::{Bounds, Certificate};
 use crate::fault::CertificateFault;
+use crate::form::Form;
 use ds_domain_base::{Contract, Name, is_name};
 use line_text::{cut, number, split_field, three_fields};
 use std::alloc::Global;
@@ -19,7 +21,8 @@ use std::alloc::Global;
 const MOST_DIGITS: usize = 20;
 
 /// The certificate of some contracts that a text says: the heading `dscert 1`, and then for each contract and hop in
-/// turn a line `NAME HOP GREEN ALL`. LF ends a line, and the last may lack it.
+/// turn a line `NAME HOP GREEN ALL`, whose excess is its all; or the heading `dscert 2`, and lines `NAME HOP GREEN ALL
+/// EXCESS`. LF ends a line, and the last may lack it.
 ///
 /// Lines are judged in order. Refused: `Text` at a line that is not of that form, `Shape` at one that is not of the
 /// contract or the hop whose turn it is, or where lines are missing, `Range` at a bound above 10^15, and `NoMemory`
@@ -38,27 +41,28 @@ pub fn read(
     let Some((heading, rest)) = next_line(text) else {
         return Err(CertificateFault::Shape);
     };
-    if heading != b"dscert 1".as_slice() {
+    let Some(form) = Form::headed(heading) else {
         return Err(CertificateFault::Text);
-    }
-    rows_in(alloc, rest, contracts)
+    };
+    rows_in(alloc, form, rest, contracts)
 }
 
 /// The certificate of some contracts that the lines behind the heading say.
 fn rows_in(
     alloc: Global,
+    form: Form,
     text: &[u8],
     contracts: &[Contract],
 ) -> Result<Certificate, CertificateFault>
-    ensures certificate { IfOk result (λ certificate. rows_in contracts.now (lines_of text.now) ≡ Ok certificate) }
+    ensures certificate { IfOk result (λ certificate. rows_in form contracts.now (lines_of text.now) ≡ Ok certificate) }
     ensures shape { IfOk result (λ certificate. IsTrue (is_shaped contracts.now certificate)) }
     ensures refused { IfErr result (λ fault. (fault ≡ CertificateFault.NoMemory)
-        ⊎ (rows_in contracts.now (lines_of text.now) ≡ Err fault)) }
+        ⊎ (rows_in form contracts.now (lines_of text.now) ≡ Err fault)) }
 {
     let mut rows = Vec::with_capacity(alloc, contracts.len())?;
     let mut rest = text;
     for contract in contracts {
-        match bounds_in(alloc, rest, contract) {
+        match bounds_in(alloc, form, rest, contract) {
             Ok((bounds, later)) => {
                 rows.push(bounds)?;
                 rest = later;
@@ -66,19 +70,19 @@ fn rows_in(
             Err(fault) => return Err(fault),
         }
     }
-    match excess_in(rest) {
+    match surplus_in(form, rest) {
         None => Ok(Certificate::new(rows)),
         Some(fault) => Err(fault),
     }
 }
 
 /// What is wrong with a text that stands behind the last bound, if it is not empty.
-fn excess_in(text: &[u8]) -> Option<CertificateFault>
-    ensures { MatchOption result (ending_in (lines_of text.now) ≡ Ok [])
-        (λ fault. ending_in (lines_of text.now) ≡ Err fault) }
+fn surplus_in(form: Form, text: &[u8]) -> Option<CertificateFault>
+    ensures { MatchOption result (ending_in form (lines_of text.now) ≡ Ok [])
+        (λ fault. ending_in form (lines_of text.now) ≡ Err fault) }
 {
     let (line, _later) = next_line(text)?;
-    if entry_in(line).is_some() {
+    if entry_in(form, line).is_some() {
         Some(CertificateFault::Shape)
     } else {
         Some(CertificateFault::Text)
@@ -88,14 +92,15 @@ fn excess_in(text: &[u8]) -> Option<CertificateFault>
 /// The bounds of a contract, with which a text begins, and what stands behind them.
 fn bounds_in<'a>(
     alloc: Global,
+    form: Form,
     text: &'a [u8],
     contract: &Contract,
 ) -> Result<(Bounds, &'a [u8]), CertificateFault>
     ensures bounds { IfOk result (λ read.
-        bounds_in contract.now.name 0 (length contract.now.path + 1) (lines_of text.now)
+        bounds_in form contract.now.name 0 (length contract.now.path + 1) (lines_of text.now)
         ≡ Ok (read.0, lines_of read.1.now)) }
     ensures refused { IfErr result (λ fault. (fault ≡ CertificateFault.NoMemory)
-        ⊎ (bounds_in contract.now.name 0 (length contract.now.path + 1) (lines_of text.now) ≡ Err fault)) }
+        ⊎ (bounds_in form contract.now.name 0 (length contract.now.path + 1) (lines_of text.now) ≡ Err fault)) }
 {
     let count = contract.path.meters().len() + 1;
     let mut hops = Vec::with_capacity(alloc, count)?;
@@ -104,7 +109,7 @@ fn bounds_in<'a>(
         let Some((line, later)) = next_line(rest) else {
             return Err(CertificateFault::Shape);
         };
-        match bound_in(contract.name, hop as u64, line) {
+        match bound_in(form, contract.name, hop as u64, line) {
             Ok(bound) => hops.push(bound)?,
             Err(fault) => return Err(fault),
         }
@@ -115,10 +120,10 @@ fn bounds_in<'a>(
 
 /// The bound that a line says, where it is that of a name at a hop.
 #[tactic(auto, unfolding(crate::specs::Readings::bound_in))]
-fn bound_in(name: Name, hop: u64, line: &[u8]) -> Result<Bound, CertificateFault>
-    ensures { result ≡ bound_in name hop line.now }
+fn bound_in(form: Form, name: Name, hop: u64, line: &[u8]) -> Result<Bound, CertificateFault>
+    ensures { result ≡ bound_in form name hop line.now }
 {
-    let Some(entry) = entry_in(line) else {
+    let Some(entry) = entry_in(form, line) else {
         return Err(CertificateFault::Text);
     };
     if entry.name != name.bytes() || !says(entry.hop, hop) {
@@ -130,7 +135,10 @@ fn bound_in(name: Name, hop: u64, line: &[u8]) -> Result<Bound, CertificateFault
     let Some(all) = bytes(entry.all) else {
         return Err(CertificateFault::Range);
     };
-    Ok(Bound::new(green, all).unwrap())
+    let Some(excess) = bytes(entry.excess) else {
+        return Err(CertificateFault::Range);
+    };
+    Ok(Bound::new(green, all, excess).unwrap())
 }
 
 /// The bytes of a bound that a text says, in its range.
@@ -152,32 +160,68 @@ struct Entry<'a> {
     green: &'a [u8],
     /// The number of the bound on green and yellow packets.
     all: &'a [u8],
+    /// The number of the bound on yellow packets.
+    excess: &'a [u8],
 }
 
 /// The fields of a line, where it has the form of one of a bound.
-fn entry_in<'a>(line: &'a [u8]) -> Option<Entry<'a>>
-    ensures fields { MatchOption result (entry_in line.now ≡ None)
-        (λ e. entry_in line.now
-        ≡ Some (record { name = e.name.now; hop = e.hop.now; green = e.green.now; all = e.all.now })) }
+fn entry_in<'a>(form: Form, line: &'a [u8]) -> Option<Entry<'a>>
+    ensures fields { MatchOption result (entry_in form line.now ≡ None)
+        (λ e. entry_in form line.now ≡ Some (entry_of_fields e.name.now e.hop.now e.green.now e.all.now e.excess.now)) }
     ensures hop { MatchOption result ⊤ (λ e. IsTrue (is_number e.hop.now)) }
 {
-    let (name, rest) = split_field(line);
-    let (hop, green, all) = three_fields(rest?)?;
-    let entry = Entry {
-        name,
-        hop,
-        green,
-        all,
+    let entry = match form {
+        Form::Short => short_entry(line)?,
+        Form::Long => long_entry(line)?,
     };
     if has_form(&entry) { Some(entry) } else { None }
 }
 
-/// Whether fields are a name and three numbers.
-fn has_form(entry: &Entry<'_>) -> bool
-    ensures { result ≡ (is_name entry.now.name.now && is_number entry.now.hop.now && is_number entry.now.green.now
-        && is_number entry.now.all.now) }
+/// The fields of a line that has four: the excess is the all.
+fn short_entry(line: &[u8]) -> Option<Entry<'_>>
+    ensures { MatchOption result (length (fields_of line.now) ≢ 4)
+        (λ e. (fields_of line.now ≡ e.name.now ∷ e.hop.now ∷ e.green.now ∷ e.all.now ∷ [])
+        × (e.excess.now ≡ e.all.now)) }
 {
-    is_name(entry.name) && is_number(entry.hop) && is_number(entry.green) && is_number(entry.all)
+    let (name, rest) = split_field(line);
+    let (hop, green, all) = three_fields(rest?)?;
+    Some(Entry {
+        name,
+        hop,
+        green,
+        all,
+        excess: all,
+    })
+}
+
+/// The fields of a line that has five.
+fn long_entry(line: &[u8]) -> Option<Entry<'_>>
+    ensures { MatchOption result (length (fields_of line.now) ≢ 5)
+        (λ e. fields_of line.now
+        ≡ e.name.now ∷ e.hop.now ∷ e.green.now ∷ e.all.now ∷ e.excess.now ∷ []) }
+{
+    let (name, rest) = split_field(line);
+    let (hop, rest) = split_field(rest?);
+    let (green, all, excess) = three_fields(rest?)?;
+    Some(Entry {
+        name,
+        hop,
+        green,
+        all,
+        excess,
+    })
+}
+
+/// Whether fields are a name and numbers.
+fn has_form(entry: &Entry<'_>) -> bool
+    ensures { result ≡ has_form (entry_of_fields entry.now.name.now entry.now.hop.now entry.now.green.now entry.now.all.now
+        entry.now.excess.now) }
+{
+    is_name(entry.name)
+        && is_number(entry.hop)
+        && is_number(entry.green)
+        && is_number(entry.all)
+        && is_number(entry.excess)
 }
 
 /// Whether a text is 1 to 20 decimal digits.

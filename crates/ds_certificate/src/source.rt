@@ -1,11 +1,13 @@
 ghost use Rattle.std.specs.Prelude.{◌≡◌, ◌*◌, ◌≤◌, ◌^◌};
 ghost use Rattle.envelope_core.specs.Curve.{widened};
+ghost use Rattle.meter_book.specs.Envelopes.{all_output, green_output, output_in};
 ghost use Rattle.ds_domain_base.specs.Domains.{port_of, skew_of};
 ghost use Rattle.ds_certificate.specs.Columns.{envelope_in};
 ghost use Rattle.ds_certificate.specs.Ranges.{IsModerate, IsModest};
-ghost use Rattle.ds_certificate.specs.Sources.{curve_of, source_by, source_of};
+ghost use Rattle.ds_certificate.specs.Sources.{curve_of, edge_column, source_by, source_of};
 
-use ds_domain_base::{Contract, Domain, Name, Profile, Terms};
+use ds_domain_base::{Contract, Domain, Profile, Terms, Version};
+use meter_book::Parameters;
 use envelope_core::{Envelope, widen};
 use moment_core::{Column, Gap};
 
@@ -16,6 +18,8 @@ pub struct Source {
     pub green: Envelope,
     /// What its green and yellow packets keep.
     pub all: Envelope,
+    /// What its yellow packets keep.
+    pub excess: Envelope,
 }
 
 impl Source {
@@ -28,7 +32,7 @@ impl Source {
         ensures moderate { IsModerate result }
     {
         let skew = domain.port_skew(contract.port);
-        source_by(skew, &contract.terms)
+        source_by(domain.version(), skew, &contract.terms)
     }
 
     /// What the packets of a column keep.
@@ -38,14 +42,15 @@ impl Source {
         match column {
             Column::Green => self.green,
             Column::All => self.all,
+            Column::Excess => self.excess,
         }
     }
 }
 
-/// What traffic keeps that enters on these terms, at a port with a skew.
-fn source_by(skew: Gap, terms: &Terms) -> Source
+/// What traffic keeps that enters on these terms, at a port with a skew, in a domain of a version.
+fn source_by(version: Version, skew: Gap, terms: &Terms) -> Source
     requires { skew ≤ 10 ^ 10 }
-    ensures value { result ≡ source_by skew terms.now }
+    ensures value { result ≡ source_by version skew terms.now }
     ensures moderate { IsModerate result }
 {
     match terms {
@@ -54,22 +59,42 @@ fn source_by(skew: Gap, terms: &Terms) -> Source
             peak: None,
         } => {
             let green = profile(*committed);
-            Source { green, all: green }
+            Source {
+                green,
+                all: green,
+                excess: green,
+            }
         }
         Terms::Trusted {
             committed,
             peak: Some(peak),
         } => Source {
             green: profile(*committed),
-            all: profile(*peak),
+            all: profile(peak.profile),
+            excess: profile(peak.excess.unwrap_or(peak.profile)),
         },
-        Terms::Policed { parameters, .. } => {
-            let own = parameters.get();
-            Source {
-                green: widened(own.green_envelope(), skew),
-                all: widened(own.all_envelope(), skew),
-            }
-        }
+        Terms::Policed { parameters, .. } => edge_source(version, skew, parameters.get()),
+    }
+}
+
+/// What leaves a meter with these parameters at a port with a skew, in a domain of a version.
+fn edge_source(version: Version, skew: Gap, parameters: Parameters) -> Source
+    requires { skew ≤ 10 ^ 10 }
+    ensures value { result ≡ record {
+        green = widened skew (green_output parameters);
+        all = widened skew (all_output parameters);
+        excess = widened skew (output_in (edge_column version) parameters);
+    } }
+    ensures moderate { IsModerate result }
+{
+    let excess = match version {
+        Version::One => parameters.all_envelope(),
+        Version::Two => parameters.excess_envelope(),
+    };
+    Source {
+        green: widened(parameters.green_envelope(), skew),
+        all: widened(parameters.all_envelope(), skew),
+        excess: widened(excess, skew),
     }
 }
 

@@ -1,18 +1,21 @@
 ghost use Rattle.std.specs.Prelude.{◌≡◌, ℕ, ◌++◌, ◌∷◌, [], ◌⊎◌, ◌<◌, ◌^◌, suc, false, IsTrue, List, length, nat_eq, Ok};
 ghost use Rattle.std.specs.Prelude.{IfOk, IfErr, OnOk};
+ghost use Rattle.std.specs.List.{AllByRecursion};
 ghost use Rattle.line_text.specs.Lines.{has_byte, lines_of};
 ghost use Rattle.ds_certificate.specs.Readings.{bound_in, bounds_in, certificate_in};
-ghost use Rattle.ds_certificate.specs.Texts.{ended, is_shaped, line_of, lines_from, text_of};
+ghost use Rattle.ds_certificate.specs.Texts.{Says, ended, excess_text, is_shaped, line_of, lines_from, text_of};
 
 use crate::bound::Bound;
 use crate::certificate::{Bounds, Certificate};
 use crate::fault::CertificateFault;
+use crate::form::Form;
 use ds_domain_base::{Contract, Name};
 use line_text::push_number;
 use std::alloc::{AllocError, Global};
 
-/// The text of a certificate of some contracts: a heading, and for each contract and hop in turn a line `NAME HOP GREEN
-/// ALL`, each ended by LF. What is written so reads as the same certificate.
+/// The text of a certificate of some contracts: the heading `dscert 1`, and for each contract and hop in turn a line
+/// `NAME HOP GREEN ALL`, each ended by LF. Where an excess is not its all, the heading is `dscert 2`, and a line is
+/// `NAME HOP GREEN ALL EXCESS`. What is written so reads as the same certificate.
 ///
 /// Refused: `Shape` where the bounds are not one more for each contract than its path has meters, `NoMemory` where
 /// memory runs out.
@@ -32,10 +35,12 @@ pub fn write(
     if !is_shaped(contracts, certificate.bounds()) {
         return Err(CertificateFault::Shape);
     }
+    let form = Form::of(certificate);
     let mut text = Vec::new(alloc);
-    text.extend_from_slice(b"dscert 1\n")?;
+    text.extend_from_slice(form.heading())?;
+    text.push(b'\n')?;
     for (contract, bounds) in contracts.iter().zip(certificate.bounds()) {
-        push_bounds(&mut text, contract.name, bounds)?;
+        push_bounds(&mut text, form, contract.name, bounds)?;
     }
     Ok(text)
 }
@@ -60,25 +65,36 @@ fn is_long(bounds: &Bounds, contract: &Contract) -> bool
 }
 
 /// Appends the lines of a contract's bounds, from hop 0 on.
-fn push_bounds(text: &mut Vec<u8>, name: Name, bounds: &Bounds) -> Result<(), AllocError>
-    ensures lines { OnOk result (text.new.items ≡ text.old.items ++ ended (lines_from name 0 bounds.now)) }
-    ensures reads { OnOk result ((later : List ℕ) →
-        bounds_in name 0 (length bounds.now) (lines_of (ended (lines_from name 0 bounds.now) ++ later))
+fn push_bounds(
+    text: &mut Vec<u8>,
+    form: Form,
+    name: Name,
+    bounds: &Bounds,
+) -> Result<(), AllocError>
+    ensures lines { OnOk result (text.new.items ≡ text.old.items ++ ended (lines_from form name 0 bounds.now)) }
+    ensures reads { OnOk result (AllByRecursion (Says form) bounds.now → (later : List ℕ) →
+        bounds_in form name 0 (length bounds.now) (lines_of (ended (lines_from form name 0 bounds.now) ++ later))
         ≡ Ok (bounds.now, lines_of later)) }
 {
     let mut hop = 0;
     for bound in bounds.hops() {
-        push_bound(text, name, hop, *bound)?;
+        push_bound(text, form, name, hop, *bound)?;
         hop += 1;
     }
     Ok(())
 }
 
 /// Appends the line of a bound.
-fn push_bound(text: &mut Vec<u8>, name: Name, hop: u64, bound: Bound) -> Result<(), AllocError>
-    ensures line { OnOk result (text.new.items ≡ text.old.items ++ line_of name hop bound ++ 10 ∷ []) }
-    ensures one_line { OnOk result (has_byte 10 (line_of name hop bound) ≡ false) }
-    ensures reads { OnOk result (bound_in name hop (line_of name hop bound) ≡ Ok bound) }
+fn push_bound(
+    text: &mut Vec<u8>,
+    form: Form,
+    name: Name,
+    hop: u64,
+    bound: Bound,
+) -> Result<(), AllocError>
+    ensures line { OnOk result (text.new.items ≡ text.old.items ++ line_of form name hop bound ++ 10 ∷ []) }
+    ensures one_line { OnOk result (has_byte 10 (line_of form name hop bound) ≡ false) }
+    ensures reads { OnOk result (Says form bound → bound_in form name hop (line_of form name hop bound) ≡ Ok bound) }
 {
     text.extend_from_slice(name.bytes())?;
     text.push(b' ')?;
@@ -87,6 +103,20 @@ fn push_bound(text: &mut Vec<u8>, name: Name, hop: u64, bound: Bound) -> Result<
     push_number(text, bound.green())?;
     text.push(b' ')?;
     push_number(text, bound.all())?;
+    push_excess(text, form, bound)?;
     text.push(b'\n')?;
     Ok(())
+}
+
+/// Appends a bound's excess, where a form says it.
+fn push_excess(text: &mut Vec<u8>, form: Form, bound: Bound) -> Result<(), AllocError>
+    ensures { OnOk result (text.new.items ≡ text.old.items ++ excess_text form bound) }
+{
+    match form {
+        Form::Short => Ok(()),
+        Form::Long => {
+            text.push(b' ')?;
+            push_number(text, bound.excess())
+        }
+    }
 }

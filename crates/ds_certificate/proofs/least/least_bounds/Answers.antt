@@ -1,9 +1,16 @@
-use Rattle.std.proofs.Common.{◌++◌, arith, sym, ap, ◌∙◌}
+use Rattle.std.proofs.Common.{◌++◌, ◌<◌, length, arith, sym, ap, ◌∙◌}
 use Rattle.std.proofs.lemmas.List.{drop_all}
 use Rattle.ds_certificate.specs.Bounds.{least_behind}
 use Rattle.ds_certificate.specs.Sources.{jitters_along}
-use Rattle.ds_certificate.proofs.LeastLaws.{least_behind-ended, link_kept}
+use Rattle.ds_certificate.proofs.LeastLaws.{fits-short, least_behind-ended, link_kept}
 use Rattle.ds_certificate.proofs.least.least_bounds.Goals as goal
+
+pub delayed-next-requires-clause-before : goal.delayed-next-requires-clause-before
+delayed-next-requires-clause-before c =
+    let short = fits-short c.args.domain.now c.args.contract.now c.requires in
+    let inside : c.loop-to.to-index < 16 = omega (arith, short, ap length c.meters-path.ensures, c.loop-to-test.true) in
+    let last = c.loop-to.invariant.range in
+    (omega (arith, inside, last.0), (omega (arith, inside, last.1.0), (omega (arith, inside, last.1.1.0), tt)))
 
 pub loop-to-preserved : goal.loop-to-preserved
 loop-to-preserved c =
@@ -11,7 +18,7 @@ loop-to-preserved c =
       value = link_kept c.loop-to.hops.items c.push-in-loop-to.new.self.items c.of-source.result c.args.domain.now c.loop-to.from.now c.to-item.result c.meters-path.result.now
           c.loop-to.to-index c.jitter.result c.loop-to.last c.delayed-next.result _ c.loop-to-test.true c.to-item.is c.jitter.ensures.value c.delayed-next.ensures.value
           c.in_ok-push-2.ensures.items c.loop-to.invariant.value;
-      range = (omega arith, omega arith);
+      range = (omega arith, (omega arith, (omega arith, tt)));
     }
 
 pub returns : goal.returns

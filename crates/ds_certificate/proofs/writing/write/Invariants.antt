@@ -1,7 +1,7 @@
 use Rattle.std.proofs.Common.{◌≡◌, ◌++◌, true}
 use Rattle.std.specs.Iterator.Adapters.{zip_first, zip_second}
 use Rattle.std.specs.Slice.Iter.{iter_rest}
-use Rattle.ds_certificate.specs.Texts.{ended, is_shaped, lines_for, text_of}
+use Rattle.ds_certificate.specs.Texts.{ended, is_shaped, lines_for, text_in}
 use Rattle.ds_certificate.proofs.TextLaws.{RowsBack}
 use Rattle.ds_certificate.proofs.writing.write.Given as goal
 
@@ -11,7 +11,7 @@ invariant-loop-contract l =
     let contracts = iter_rest (zip_first l.contract-iterator) in
     let rows = iter_rest (zip_second l.contract-iterator) in
     record {
-      lines : l.text.items ++ ended (lines_for contracts rows) ≡ text_of l.contracts l.certificate;
+      lines : l.text.items ++ ended (lines_for l.form contracts rows) ≡ text_in l.form l.contracts l.certificate;
       shape : is_shaped contracts rows ≡ true;
-      reads : RowsBack contracts rows → RowsBack l.contracts l.certificate;
+      reads : RowsBack l.form contracts rows → RowsBack l.form l.contracts l.certificate;
     }
