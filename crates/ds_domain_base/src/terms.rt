@@ -65,7 +65,8 @@ pub struct Profile {
     pub burst: u32,
 }
 
-/// What a contract that may send yellow packets is trusted with beside what its green packets keep.
+/// What a trusted contract's green and yellow packets keep, and what its yellow packets keep on their own, if that is
+/// said.
 #[derive(Clone, Copy, Debug, PartialEq, Eq, Hash)]
 pub struct Peak {
     /// What its green and yellow packets keep.

@@ -1,8 +1,8 @@
 use crate::tables::{LINK, METER, PORT, joined};
 use af_marker::Dscp;
 use ds_domain::{
-    Contract, Delay, Domain, DomainFault, Link, Meter, Name, Profile, SoundParameters, Terms, fits,
-    parse,
+    Contract, Delay, Domain, DomainFault, Link, Meter, Name, Peak, Profile, SoundParameters, Terms,
+    Version, fits, parse,
 };
 use flow_classifier::Prefix;
 use meter_book::Parameters;
@@ -195,6 +195,126 @@ fn the_domain_of_one_policed_contract(rt: HostRuntime) -> Result<(), Fail> {
     expect_one_policed(&rt, &domain, contracts.as_slice())
 }
 
+/// The second version of a domain's text.
+const TWO: &str = "version = 2\n";
+
+/// The peak of a trusted contract.
+const PEAK: &str = "pir = 16000000\npbs = 4000\n";
+
+/// Its excess.
+const EXCESS: &str = "eir = 8000000\nebs = 1000\n";
+
+/// A profile of a rate and a burst.
+fn profile_of(rate: u64, burst: u32) -> Result<Profile, Fail> {
+    let rate = Rate::new(rate)?;
+    Ok(Profile { rate, burst })
+}
+
+/// Expects of a domain this version, and of the first of its contracts the peak and this excess.
+fn expect_peak(
+    rt: &impl Abort,
+    (domain, contracts): (&Domain, &[Contract]),
+    version: Version,
+    excess: Option<Profile>,
+) -> Result<(), Fail> {
+    let committed = profile_of(8_000_000, 3000)?;
+    let profile = profile_of(16_000_000, 4000)?;
+    let peak = Some(Peak { profile, excess });
+    assert!(rt; domain.version() == version);
+    assert!(rt; contracts.len() == 1);
+    assert!(rt; contracts[0].terms == Terms::Trusted { committed, peak });
+    Ok(())
+}
+
+/// Expects that a text that begins so is of this version, and that its contract has a peak and no excess.
+fn expect_plain_peak(
+    rt: &impl Abort,
+    alloc: Global,
+    begin: &str,
+    version: Version,
+) -> Result<(), Fail> {
+    let (domain, contracts) = parsed(alloc, &[begin, METER, PORT, LINK, FIRST, PEAK])?;
+    expect_peak(rt, (&domain, contracts.as_slice()), version, None)
+}
+
+#[test]
+fn a_peak_without_an_excess(rt: HostRuntime) -> Result<(), Fail> {
+    let alloc = rt.alloc();
+    expect_plain_peak(&rt, alloc, "", Version::One)?;
+    expect_plain_peak(&rt, alloc, "version = 1\n", Version::One)?;
+    expect_plain_peak(&rt, alloc, TWO, Version::Two)
+}
+
+/// Expects of the copy of a domain the second version, and of its contract the peak and the excess.
+fn expect_excess(
+    rt: &impl Abort,
+    alloc: Global,
+    domain: &Domain,
+    contracts: &[Contract],
+) -> Result<(), Fail> {
+    let excess = profile_of(8_000_000, 1000)?;
+    let again = domain.copy(alloc)?;
+    expect_peak(rt, (&again, contracts), Version::Two, Some(excess))
+}
+
+#[test]
+fn a_peak_and_its_excess(rt: HostRuntime) -> Result<(), Fail> {
+    let alloc = rt.alloc();
+    let parts = [TWO, METER, PORT, LINK, FIRST, PEAK, EXCESS];
+    let (domain, contracts) = parsed(alloc, &parts)?;
+    expect_excess(&rt, alloc, &domain, contracts.as_slice())
+}
+
+#[test]
+fn keys_that_an_excess_lacks(rt: HostRuntime) -> Result<(), Fail> {
+    for (peak, excess, field) in [
+        (PEAK, "eir = 8000000\n", "ebs"),
+        (PEAK, "ebs = 1000\n", "eir"),
+        ("", "eir = 8000000\n", "pir"),
+        ("", "ebs = 1000\n", "pir"),
+        ("", EXCESS, "pir"),
+        ("pbs = 4000\n", EXCESS, "pir"),
+        ("pir = 16000000\n", EXCESS, "pbs"),
+        ("pir = 16000000\n", "ebs = 1000\n", "pbs"),
+    ] {
+        let parts = [TWO, METER, PORT, LINK, FIRST, peak, excess];
+        refused(&rt, rt.alloc(), &parts, (2, "contract", 0, field))?;
+    }
+    Ok(())
+}
+
+#[test]
+fn an_excess_out_of_range(rt: HostRuntime) -> Result<(), Fail> {
+    for (excess, field) in [
+        ("eir = 0\nebs = 4294967296\n", "eir"),
+        ("eir = 10000000000001\nebs = 0\n", "eir"),
+        ("eir = 10000000000000\nebs = 4294967296\n", "ebs"),
+    ] {
+        let parts = [TWO, METER, PORT, LINK, FIRST, PEAK, excess];
+        refused(&rt, rt.alloc(), &parts, (3, "contract", 0, field))?;
+    }
+    Ok(())
+}
+
+#[test]
+fn no_excess_in_the_first_version(rt: HostRuntime) -> Result<(), Fail> {
+    for (version, excess) in [
+        ("", "eir = 8000000\n"),
+        ("", "ebs = 1000\n"),
+        ("version = 1\n", EXCESS),
+    ] {
+        let parts = [version, METER, PORT, LINK, FIRST, PEAK, excess];
+        refused(&rt, rt.alloc(), &parts, (2, "contract", 0, ""))?;
+    }
+    Ok(())
+}
+
+#[test]
+fn no_excess_of_a_policed_contract(rt: HostRuntime) -> Result<(), Fail> {
+    let parts = [TWO, METER, PORT, LINK, POLICED, EXCESS];
+    refused(&rt, rt.alloc(), &parts, (2, "contract", 0, ""))
+}
+
 #[test]
 fn texts_that_are_no_toml(rt: HostRuntime) -> Result<(), Fail> {
     let alloc = rt.alloc();
@@ -207,7 +327,8 @@ fn texts_that_are_no_toml(rt: HostRuntime) -> Result<(), Fail> {
 fn tops(rt: HostRuntime) -> Result<(), Fail> {
     let alloc = rt.alloc();
     let twice = "meter = []\nlink = [1]";
-    refused(&rt, alloc, &["version = 2"], (3, "top", 0, "version"))?;
+    refused(&rt, alloc, &["version = 0"], (3, "top", 0, "version"))?;
+    refused(&rt, alloc, &["version = 3"], (3, "top", 0, "version"))?;
     refused(&rt, alloc, &["version = true"], (2, "top", 0, "version"))?;
     refused(&rt, alloc, &["meters = []"], (2, "top", 0, ""))?;
     refused(&rt, alloc, &[twice], (2, "top", 0, "link"))
