@@ -10,13 +10,15 @@ use std::alloc::Global;
 use std::process::Abort;
 use std::test::Fail;
 
-/// A mode, and the rates and bursts of what leaves a meter green and of what leaves it green or yellow.
-type Told = (Mode, (u64, u64), (u64, u64));
+/// A mode, and the rates and bursts of what leaves a meter green, green or yellow, and yellow.
+type Told = (Mode, [(u64, u64); 3]);
 
 /// What a meter tells of itself.
 fn told(meter: &AnyMeter) -> Told {
-    let (green, all) = (meter.green_envelope(), meter.all_envelope());
-    (Meter::mode(meter), figures(green), figures(all))
+    let green = figures(meter.green_envelope());
+    let all = figures(meter.all_envelope());
+    let excess = figures(meter.excess_envelope());
+    (Meter::mode(meter), [green, all, excess])
 }
 
 /// Expects of a meter in a mode what it tells of itself.
@@ -28,15 +30,14 @@ fn expect(rt: &impl Abort, parameters: Parameters, wanted: Told) -> Result<(), F
 #[test]
 fn envelopes_and_modes_of_each_kind(rt: HostRuntime) -> Result<(), Fail> {
     let single = Parameters::SrTcm(single_rate((8_000, 1_000, 500))?);
-    expect(&rt, single, (Mode::Aware, (8_000, 1_001), (8_000, 1_501)))?;
+    let envelopes = [(8_000, 1_001), (8_000, 1_501), (8_000, 501)];
+    expect(&rt, single, (Mode::Aware, envelopes))?;
     let two = Parameters::TrTcm(two_rates((8_000, 1_500, 16_000, 3_000))?);
-    expect(&rt, two, (Mode::Blind, (8_000, 1_501), (16_000, 3_001)))?;
+    let envelopes = [(8_000, 1_501), (16_000, 3_001), (16_000, 3_001)];
+    expect(&rt, two, (Mode::Blind, envelopes))?;
     let separate = Parameters::Rfc4115(separate_rates((8_000, 1_000, 4_000, 500))?);
-    expect(
-        &rt,
-        separate,
-        (Mode::Aware, (8_000, 1_001), (12_000, 1_502)),
-    )
+    let envelopes = [(8_000, 1_001), (12_000, 1_502), (4_000, 501)];
+    expect(&rt, separate, (Mode::Aware, envelopes))
 }
 
 /// The colours that four red packets of 500 bytes at moment 7 leave a meter with.
