@@ -53,13 +53,13 @@ first_failed-alone t needed given refusal is_needed is_given same =
     rw (sym is_needed) (rw (sym is_given) (ap (then_some (nat_lt given needed)) same ∙ alone_by needed given (t.refused needed given)))
 
 -- a test in a column, and those in the columns behind it
-pub first_failed-column : (test : Column → Test) (columns : List Column) (i : ℕ) (column : Column) (refusal : Option Refusal) → i < length columns
-    → column ≡ get_or columns i column → refusal ≡ first_failed (test column ∷ [])
+pub first_failed-column : (test : Column → Test) (columns : List Column) (i : ℕ) (d : Column) (refusal : Option Refusal) → i < length columns
+    → refusal ≡ first_failed (test (get_or columns i d) ∷ [])
     → first_failed (map test (drop i columns)) ≡ option_or refusal (first_failed (map test (drop (i + 1) columns)))
-first_failed-column test columns i column refusal inside is_column is_refusal =
+first_failed-column test columns i d refusal inside is_refusal =
     rw is_refusal
-    (ap (λ left. first_failed (map test left)) (item_ahead columns i column inside is_column)
-    ∙ first_failed-append (test column ∷ []) (map test (drop (i + 1) columns)))
+    (ap (λ left. first_failed (map test left)) (drop_more columns i d inside)
+    ∙ first_failed-append (test (get_or columns i d) ∷ []) (map test (drop (i + 1) columns)))
 
 pub first_failed-columns : (test : Column → Test) (columns : List Column) (i : ℕ) → length columns ≤ i → first_failed (map test (drop i columns)) ≡ None
 unfolding first_failed

@@ -8,6 +8,7 @@ use Rattle.std.proofs.lemmas.List.Elements.{All-weaker}
 use Rattle.std.proofs.lemmas.List.Sums.{sum_by-cons}
 use Rattle.moment_core.specs.Volume.{bytes_over}
 use Rattle.envelope_core.specs.Curve.{Curve, widened}
+use Rattle.meter_book.specs.Limits.{held_column}
 use Rattle.meter_book.specs.declared.any_meter.Parameters.{Parameters}
 use Rattle.meter_book.specs.declared.any_meter.Parameters.TheVariants.{SrTcm, TrTcm, Rfc4115}
 use Rattle.ds_domain_base.specs.Domains.{Domain}
@@ -16,7 +17,7 @@ use Rattle.ds_domain_base.specs.declared.contract.Contract.{Contract}
 use Rattle.ds_domain_base.specs.declared.parts.Meter.{Meter}
 use Rattle.ds_certificate.specs.Bounds.{AreAtMost, IsAtMost, IsCertificate, fits, least}
 use Rattle.moment_core.specs.declared.column.Column.{Column}
-use Rattle.moment_core.specs.declared.column.Column.TheVariants.{Green, All}
+use Rattle.moment_core.specs.declared.column.Column.TheVariants.{Green}
 use Rattle.ds_certificate.specs.Columns.{Bound, bytes_in, envelope_in}
 use Rattle.ds_certificate.proofs.ColumnLaws.{in_column}
 use Rattle.ds_certificate.specs.Sources.{source_of}
@@ -134,8 +135,8 @@ Carries-less m xs ys less met =
     let all = counted_less m.parameters xs ys less in (
       (omega (arith, load_rate Green m.skew xs ys less, met.0.0), omega (arith, load_burst Green m.skew xs ys less, met.0.1)),
       (
-        omega (arith, load_rate All m.skew (counted m.parameters xs) (counted m.parameters ys) all, met.1.0),
-        omega (arith, load_burst All m.skew (counted m.parameters xs) (counted m.parameters ys) all, met.1.1),
+        omega (arith, load_rate (held_column m.parameters) m.skew (counted m.parameters xs) (counted m.parameters ys) all, met.1.0),
+        omega (arith, load_burst (held_column m.parameters) m.skew (counted m.parameters xs) (counted m.parameters ys) all, met.1.1),
       ),
     )
 

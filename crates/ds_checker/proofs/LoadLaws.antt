@@ -17,10 +17,11 @@ use Rattle.ds_domain_base.specs.declared.parts.Meter.{Meter}
 use Rattle.ds_certificate.specs.Bounds.{HasShape, fits}
 use Rattle.ds_checker.specs.BoundTests.{misfit}
 use Rattle.envelope_core.specs.Curve.{Curve, total, widened}
+use Rattle.meter_book.specs.Limits.{held_column}
 use Rattle.meter_book.specs.declared.any_meter.Parameters.{Parameters}
 use Rattle.meter_book.specs.declared.any_meter.Parameters.TheVariants.{SrTcm, TrTcm, Rfc4115}
 use Rattle.moment_core.specs.declared.column.Column.{Column}
-use Rattle.moment_core.specs.declared.column.Column.TheVariants.{Green, All}
+use Rattle.moment_core.specs.declared.column.Column.TheVariants.{Green, All, Excess}
 use Rattle.ds_certificate.specs.Columns.{Bound, IsInRange}
 use Rattle.ds_certificate.specs.Ranges.{IsModerate}
 use Rattle.ds_certificate.proofs.Volumes.{bytes_over_most}
@@ -198,8 +199,8 @@ with_share-below most l share below moderate small = (
   below.0,
   plus-below most l.skew share.source.green.rate share.bound.green l.green below.1 below.0 moderate.0.0 small.0,
   plus-below most l.skew share.source.all.rate share.bound.all l.all below.2 below.0 moderate.1.0.0 small.1.0,
-  peaked-below most share.has_peak l.peaked (plus l.peaked (widened l.skew (kept All share)))
-      (plus-below most l.skew share.source.all.rate share.bound.all l.peaked below.3 below.0 moderate.1.0.0 small.1.0)
+  peaked-below most share.has_peak l.peaked (plus l.peaked (widened l.skew (kept Excess share)))
+      (plus-below most l.skew share.source.excess.rate share.bound.excess l.peaked below.3 below.0 moderate.1.1.0.0 small.1.1.0)
       (IsBelow-more most (most + 2 * 10 ^ 15) l.peaked (omega arith) below.3),
 )
 
@@ -375,14 +376,14 @@ part_is part column adds l (share ∷ shares) =
     ∙ ap (plus (part l)) (sym (total-cons (widened l.skew (kept column share)) (map (λ other. widened l.skew (kept column other)) shares)))
 
 peaked_by : (b : Bool) (l : Loads) (share : Share) (shares : List Share) → share.has_peak ≡ b
-    → plus (with_share l share).peaked (load All l.skew (filter (λ other. other.has_peak) shares))
-    ≡ plus l.peaked (load All l.skew (filter (λ other. other.has_peak) (share ∷ shares)))
+    → plus (with_share l share).peaked (load Excess l.skew (filter (λ other. other.has_peak) shares))
+    ≡ plus l.peaked (load Excess l.skew (filter (λ other. other.has_peak) (share ∷ shares)))
 peaked_by true l share shares is =
-    rw is (plus-assoc l.peaked (widened l.skew (kept All share)) (load All l.skew (filter (λ other. other.has_peak) shares))
-    ∙ ap (plus l.peaked) (sym (total-cons (widened l.skew (kept All share)) (map (λ other. widened l.skew (kept All other)) (filter (λ other. other.has_peak) shares)))))
+    rw is (plus-assoc l.peaked (widened l.skew (kept Excess share)) (load Excess l.skew (filter (λ other. other.has_peak) shares))
+    ∙ ap (plus l.peaked) (sym (total-cons (widened l.skew (kept Excess share)) (map (λ other. widened l.skew (kept Excess other)) (filter (λ other. other.has_peak) shares)))))
 peaked_by false l share shares is = rw is refl
 
-peaked_is : (l : Loads) (shares : List Share) → (fold with_share l shares).peaked ≡ plus l.peaked (load All l.skew (filter (λ share. share.has_peak) shares))
+peaked_is : (l : Loads) (shares : List Share) → (fold with_share l shares).peaked ≡ plus l.peaked (load Excess l.skew (filter (λ share. share.has_peak) shares))
 peaked_is l [] = sym (nothing-plus l.peaked)
 peaked_is l (share ∷ shares) = peaked_is (with_share l share) shares ∙ peaked_by share.has_peak l share shares refl
 
@@ -412,14 +413,14 @@ single_by : (b : Bool) (skew : ℕ) (shares : List Share) → (if b then load Al
 single_by true skew shares = refl
 single_by false skew shares = refl
 
-counted_is : (p : Parameters) (skew : ℕ) (shares : List Share) → counted_load p (sums_of skew shares) ≡ load All skew (counted p shares)
+counted_is : (p : Parameters) (skew : ℕ) (shares : List Share) → counted_load p (sums_of skew shares) ≡ load (held_column p) skew (counted p shares)
 counted_is (SrTcm p) skew shares =
     ap (λ b. if b then (sums_of skew shares).all else nothing) (any_is (no_loads skew) shares)
     ∙ ap (λ c. if list_any (λ share. share.has_peak) shares then c else nothing) (all_is skew shares)
     ∙ single_by (list_any (λ share. share.has_peak) shares) skew shares
 counted_is (TrTcm p) skew shares = all_is skew shares
 counted_is (Rfc4115 p) skew shares =
-    peaked_is (no_loads skew) shares ∙ plus-nothing (load All skew (filter (λ share. share.has_peak) shares))
+    peaked_is (no_loads skew) shares ∙ plus-nothing (load Excess skew (filter (λ share. share.has_peak) shares))
 
 pub tests_are : (name : List ℕ) (m : Meter) (shares : List Share) (l : Loads) → l ≡ sums_of m.skew shares
     → load_tests name m l.green (counted_load m.parameters l) ≡ meter_tests name m shares

@@ -1,7 +1,7 @@
 -- What is added up for each meter, share by share.
 use Rattle.std.specs.Prelude.{ℕ, Bool, false, ◌+◌, ◌^◌, ◌≤◌, ◌||◌, List, [], ◌∷◌, fold, option_map, option_to_list}
 use Rattle.std.specs.Prelude.{Option, if◌then◌else◌}
-use Rattle.moment_core.specs.declared.column.Column.TheVariants.{Green, All}
+use Rattle.moment_core.specs.declared.column.Column.TheVariants.{Green, All, Excess}
 use Rattle.envelope_core.specs.Curve.{Curve, widened}
 use Rattle.meter_book.specs.declared.any_meter.Parameters.{Parameters}
 use Rattle.meter_book.specs.declared.any_meter.Parameters.TheVariants.{SrTcm, TrTcm, Rfc4115}
@@ -26,7 +26,7 @@ with_share loads share = record {
   skew = loads.skew;
   green = plus loads.green (widened loads.skew (kept Green share));
   all = plus loads.all (widened loads.skew (kept All share));
-  peaked = if share.has_peak then plus loads.peaked (widened loads.skew (kept All share)) else loads.peaked;
+  peaked = if share.has_peak then plus loads.peaked (widened loads.skew (kept Excess share)) else loads.peaked;
   has_peak = loads.has_peak || share.has_peak;
 }
 

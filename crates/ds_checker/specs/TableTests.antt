@@ -1,22 +1,22 @@
 -- The tests of what contracts bring to each meter of a domain.
 use Rattle.std.specs.Prelude.{ℕ, List, [], ◌∷◌, ◌++◌}
-use Rattle.moment_core.specs.declared.column.Column.TheVariants.{Green, All}
+use Rattle.moment_core.specs.declared.column.Column.TheVariants.{Green}
 use Rattle.envelope_core.specs.Curve.{Curve}
 use Rattle.ds_domain_base.specs.Domains.{Domain}
 use Rattle.ds_domain_base.specs.declared.contract.Contract.{Contract}
 use Rattle.ds_domain_base.specs.declared.parts.Meter.{Meter}
 use Rattle.ds_certificate.specs.Columns.{Bound}
-use Rattle.meter_book.specs.Limits.{all_limit, green_limit}
+use Rattle.meter_book.specs.Limits.{all_limit, green_limit, held_column}
 use Rattle.ds_checker.specs.Loads.{Share, counted, load, shares_at}
 use Rattle.ds_checker.specs.Tests.{Test}
 use Rattle.ds_checker.specs.declared.refusal.Refusal.TheVariants.{GreenRate, GreenBurst, AllRate, AllBurst}
 
--- what is brought in a column, green and all
+-- what is held against what a meter has for green packets, and against what it has for green and yellow ones
 abbrev pub green_load : Meter → List Share → Curve
 green_load m shares = load Green m.skew shares
 
 abbrev pub all_load : Meter → List Share → Curve
-all_load m shares = load All m.skew (counted m.parameters shares)
+all_load m shares = load (held_column m.parameters) m.skew (counted m.parameters shares)
 
 -- green rate, green burst, all rate, all burst
 abbrev pub load_tests : List ℕ → Meter → Curve → Curve → List Test

@@ -101,7 +101,7 @@ pub(crate) struct Loads {
     green: Load,
     /// Of green and yellow packets.
     all: Load,
-    /// Of green and yellow packets of contracts that may send yellow ones.
+    /// Of yellow packets of contracts that may send some.
     peaked: Load,
     /// Whether there is such a contract.
     has_peak: bool,
@@ -138,7 +138,7 @@ impl Loads {
         let green = self.green.with(source.green, bound.green(), self.skew);
         let all = self.all.with(source.all, bound.all(), self.skew);
         let peaked = if has_peak {
-            self.peaked.with(source.all, bound.all(), self.skew)
+            self.peaked.with(source.excess, bound.excess(), self.skew)
         } else {
             self.peaked
         };
@@ -160,7 +160,7 @@ impl Loads {
 
     /// What is held against a meter's rate and bucket of green and yellow packets. With a single rate it is what all
     /// contracts bring, if one may send yellow packets, else nothing; with a committed and a peak rate what all bring;
-    /// with a committed and an excess rate what those bring that may send yellow packets.
+    /// with a committed and an excess rate the yellow packets of those that may send some.
     pub(crate) fn counted(&self, parameters: &Parameters) -> Load
         ensures { result ≡ counted_load parameters.now self.now }
     {

@@ -16,7 +16,7 @@ returns-clause-range c most below =
           (plus-below most c.args.self.skew c.share.inside.source.all.rate c.all.result c.args.self.all below.2 below.0 moderate.1.0.0 c.all.ensures.range),
       elim c.if-has_peak.branch [
         | then-has_peak w ↦ subst (IsBelow (most + 2 * 10 ^ 15)) (sym (w.peaked-is ∙ w.with-peaked.ensures))
-            (plus-below most c.args.self.skew c.share.inside.source.all.rate w.all-then-has_peak.result c.args.self.peaked below.3 below.0 moderate.1.0.0 w.all-then-has_peak.ensures.range)
+            (plus-below most c.args.self.skew c.share.inside.source.excess.rate w.excess.result c.args.self.peaked below.3 below.0 moderate.1.1.0.0 w.excess.ensures.range)
         | else-has_peak w ↦ subst (IsBelow (most + 2 * 10 ^ 15)) (sym w.peaked-is) (IsBelow-more most (most + 2 * 10 ^ 15) c.args.self.peaked (omega arith) below.3)
       ],
     )
