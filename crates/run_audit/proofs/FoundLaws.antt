@@ -62,6 +62,12 @@ found-after find xs i x here whole test short at is tests none same =
     not_found here (first_found find (drop (i + 1) xs)) whole (sym tests ∙ none)
     (ap (λ h. first_of h (first_found find (drop (i + 1) xs))) is ∙ sym (first_found-next find xs i x short at) ∙ same)
 
+-- an element is the one at its place, whatever stands in for one that is missing
+pub get_or-own : {A : Type 0} (xs : List A) (i : ℕ) (d : A) → i < length xs → get_or xs i d ≡ get_or xs i (get_or xs i d)
+get_or-own [] i d short = absurd (omega (arith, short))
+get_or-own (x ∷ xs) zero d short = refl
+get_or-own (x ∷ xs) (suc i) d short = get_or-own xs i d (omega (arith, short))
+
 -- there is an element at a place of a list
 pub is_there : {A : Type 0} (got : Option A) (xs : List A) (i : ℕ) → i < length xs → got ≡ slice_get xs i → IsSome got
 is_there got [] i short at = absurd (omega (arith, short))

@@ -1,7 +1,7 @@
 -- No bucket of a trusted source overflows exactly where the sources keep their envelopes.
 use Rattle.std.proofs.Common.{◌≡◌, ℕ, zero, suc, ◌+◌, ◌<◌, ◌≤◌, ◌↔◌, Bool, true, false, cond, List, [], ◌∷◌, ◌++◌, map, length, get_or, Option, None, Some, refl, sym, ap, subst, ◌∙◌, arith}
 use Rattle.std.specs.Prelude.{⊤, Contains, IsSome, nat_eq, nat_lt, ◌&&◌, ◌||◌, slice_get, option_and_then, option_map, if◌then◌else◌}
-use Rattle.std.specs.List.{All, filter, find, flat_map, sum_by}
+use Rattle.std.specs.List.{All, AllByRecursion, filter, find, flat_map, sum_by}
 use Rattle.std.specs.Map.{keys_of}
 use Rattle.std.specs.Option.{ForSome}
 use Rattle.std.specs.List.Sorted.{IsNonDecreasingBy}
@@ -14,6 +14,8 @@ use Rattle.std.proofs.lemmas.Option.{none-some, same_Some}
 use Rattle.moment_core.specs.declared.colour.Colour.{Colour}
 use Rattle.moment_core.specs.Colours.{is_green, is_in_profile}
 use Rattle.moment_core.specs.Conformance.{Keeps, size_within}
+use Rattle.moment_core.specs.Columns.{counts, each_column}
+use Rattle.moment_core.specs.declared.column.Column.{Column}
 use Rattle.envelope_core.specs.Curve.{Curve, KeepsCurve}
 use Rattle.envelope_core.specs.LeakyBucket.{overflow_of}
 use Rattle.envelope_core.specs.Order.{IsInOrder}
@@ -22,16 +24,15 @@ use Rattle.envelope_core.proofs.Windows.{Keeps-nil, sum_by-filter, sum_by-flat_m
 use Rattle.ds_domain_base.specs.declared.contract.Contract.{Contract}
 use Rattle.ds_domain_base.specs.declared.terms.Terms.{Terms}
 use Rattle.ds_domain_base.specs.declared.terms.Terms.TheVariants.{Trusted, Policed}
+use Rattle.ds_certificate.specs.Columns.{envelope_in}
 use Rattle.ds_certificate.specs.Sources.{source_of}
-use Rattle.ds_checker.specs.declared.refusal.Column.{Column}
-use Rattle.ds_checker.specs.declared.refusal.Column.TheVariants as columns
 use Rattle.meter_fabric.specs.Grounds.{Ground, contract_of}
 use Rattle.meter_fabric.specs.declared.trail.Receipt.{Receipt}
 use Rattle.run_audit_base.specs.Premises.{IsTrusted, KeepsSource, KeepsSources}
 use Rattle.run_audit_base.specs.Runs.{IsRun, Passage, Run}
 use Rattle.run_audit_base.specs.Sendings.{Sending, passages_of, sending_by, sending_of, sent_item, sent_items}
 use Rattle.run_audit.specs.Orders.{in_order, placed}
-use Rattle.run_audit.specs.Verdicts.{counts_in, curve_in, is_begun_before, over_by, over_in, overflowing, sent_in, source_of_run, over_at, was_sent_as}
+use Rattle.run_audit.specs.Verdicts.{first_found, is_begun_before, over_by, over_in, overflowing, sent_in, source_of_run, over_at, was_sent_as}
 use Rattle.run_audit.specs.declared.verdict.Verdict.TheVariants.{SourceOver}
 use Rattle.run_audit.proofs.FoundLaws.{is_there}
 use Rattle.run_audit.proofs.OrderLaws.{in_order-permutes}
@@ -115,19 +116,19 @@ one_item picked (Trusted committed peak) colour begun size receipts trusted sent
 one_item picked (Policed parameters mode) colour begun size receipts trusted sent = absurd trusted
 
 -- each packet that a column counts brings one item, at the moment at which it begins
-pub items_sent : (column : Column) (c : Contract) (ps : List Passage) → IsTrusted c.terms → sent_items (counts_in column) c (sent_in column c ps) ≡ map item_of (sent_in column c ps)
+pub items_sent : (column : Column) (c : Contract) (ps : List Passage) → IsTrusted c.terms → sent_items (counts column) c (sent_in column c ps) ≡ map item_of (sent_in column c ps)
 items_sent column c ps trusted =
-    let counted = λ (p : Passage). was_sent_as (counts_in column) (sending_of c p) in
-    flat_map-ones (λ p. sent_item (counts_in column) p.packet.size (sending_of c p)) item_of (sent_in column c ps)
-    (All-weaker (λ p. counted p ≡ true) (λ p. sent_item (counts_in column) p.packet.size (sending_of c p) ≡ item_of p ∷ [])
-    (λ p sent. one_item (counts_in column) c.terms _ p.packet.begun p.packet.size p.receipts trusted sent) (sent_in column c ps)
+    let counted = λ (p : Passage). was_sent_as (counts column) (sending_of c p) in
+    flat_map-ones (λ p. sent_item (counts column) p.packet.size (sending_of c p)) item_of (sent_in column c ps)
+    (All-weaker (λ p. counted p ≡ true) (λ p. sent_item (counts column) p.packet.size (sending_of c p) ≡ item_of p ∷ [])
+    (λ p sent. one_item (counts column) c.terms _ p.packet.begun p.packet.size p.receipts trusted sent) (sent_in column c ps)
     (All-permutation (λ p. counted p ≡ true) (filter counted ps) (sent_in column c ps) (in_order-permutes is_begun_before (filter counted ps)) (filter_passes counted ps)))
 
 items_sorted : (column : Column) (c : Contract) (ps : List Passage) → IsInOrder (map item_of (sent_in column c ps))
 items_sorted column c ps =
     sorted-map (λ (item : ℕ × ℕ). item.0) item_of (sent_in column c ps)
     (climbs_sorted (λ p. p.packet.begun) (sent_in column c ps)
-    (in_order-climbs (λ p. p.packet.begun) is_begun_before begun_follows (filter (λ p. was_sent_as (counts_in column) (sending_of c p)) ps)))
+    (in_order-climbs (λ p. p.packet.begun) is_begun_before begun_follows (filter (λ p. was_sent_as (counts column) (sending_of c p)) ps)))
 
 -- ---- they weigh what all packets of the contract weigh
 
@@ -145,15 +146,15 @@ weigh_sent f picked size (Some s) = by_test (picked s.colour)
     by_test false = refl
 
 same_weight : (f : ℕ × ℕ → ℕ) (column : Column) (c : Contract) (ps : List Passage)
-    → sum_by f (sent_items (counts_in column) c (sent_in column c ps)) ≡ sum_by f (sent_items (counts_in column) c ps)
+    → sum_by f (sent_items (counts column) c (sent_in column c ps)) ≡ sum_by f (sent_items (counts column) c ps)
 same_weight f column c ps =
-    let counted = λ (p : Passage). was_sent_as (counts_in column) (sending_of c p) in
-    let items = λ (p : Passage). sent_item (counts_in column) p.packet.size (sending_of c p) in
+    let counted = λ (p : Passage). was_sent_as (counts column) (sending_of c p) in
+    let items = λ (p : Passage). sent_item (counts column) p.packet.size (sending_of c p) in
     let weight = λ (p : Passage). sum_by f (items p) in
     sum_by-flat_map f items (sent_in column c ps)
     ∙ sum_by-IsPermutation weight (filter counted ps) (sent_in column c ps) (in_order-permutes is_begun_before (filter counted ps))
     ∙ sum_by-filter weight counted ps
-    ∙ sum_by-same (λ p. cond (counted p) (weight p) 0) weight ps (λ p. weigh_sent f (counts_in column) p.packet.size (sending_of c p))
+    ∙ sum_by-same (λ p. cond (counted p) (weight p) 0) weight ps (λ p. weigh_sent f (counts column) p.packet.size (sending_of c p))
     ∙ sym (sum_by-flat_map f items ps)
 
 Keeps-weight : (rate burst : ℕ) (items others : List (ℕ × ℕ)) → ((f : ℕ × ℕ → ℕ) → sum_by f items ≡ sum_by f others) → Keeps rate burst items ↔ Keeps rate burst others
@@ -179,32 +180,39 @@ bucket_tells rate burst items xs ordered long =
     iff_trans (there-none xs (overflow_of rate burst items) (λ i e. omega (arith, (tells.1 i e).0, long))) tells.0
 
 column_tells : (curve : Curve) (column : Column) (c : Contract) (ps : List Passage) → IsTrusted c.terms
-    → (overflowing curve column c (sent_in column c ps) ≡ None) ↔ KeepsCurve curve (sent_items (counts_in column) c ps)
+    → (overflowing curve column c (sent_in column c ps) ≡ None) ↔ KeepsCurve curve (sent_items (counts column) c ps)
 column_tells curve column c ps trusted =
     let sent = sent_in column c ps in
-    let items = sent_items (counts_in column) c sent in
+    let items = sent_items (counts column) c sent in
     let shown = items_sent column c ps trusted in
     iff_trans
     (bucket_tells curve.rate curve.burst items sent (subst IsInOrder (sym shown) (items_sorted column c ps)) (ap length shown ∙ length-map sent item_of))
-    (Keeps-weight curve.rate curve.burst items (sent_items (counts_in column) c ps) (λ f. same_weight f column c ps))
+    (Keeps-weight curve.rate curve.burst items (sent_items (counts column) c ps) (λ f. same_weight f column c ps))
 
 -- ---- contracts
 
 in_tells : (g : Ground) (run : Run) (flow : ℕ) (c : Contract) (column : Column) → IsTrusted c.terms
-    → (over_in g run flow c column ≡ None) ↔ KeepsCurve (curve_in column (source_of g.domain c)) (sent_items (counts_in column) c (passages_of flow run))
+    → (over_in g run flow c column ≡ None) ↔ KeepsCurve (envelope_in column (source_of g.domain c)) (sent_items (counts column) c (passages_of flow run))
 in_tells g run flow c column trusted =
-    let curve = curve_in column (source_of g.domain c) in
+    let curve = envelope_in column (source_of g.domain c) in
     iff_trans (map-none (λ p. SourceOver flow column p.packet.number) (overflowing curve column c (sent_in column c (passages_of flow run))))
     (column_tells curve column c (passages_of flow run) trusted)
+
+none_in_each : {A B : Type 0} (find : A → Option B) (P : A → Type 0) → ((x : A) → (find x ≡ None) ↔ P x) → (xs : List A)
+    → (first_found find xs ≡ None) ↔ AllByRecursion P xs
+unfolding first_found
+none_in_each find P tells [] = (λ e. tt, λ all. refl)
+none_in_each find P tells (x ∷ xs) =
+    let here = first_of-none (find x) (first_found find xs) in
+    let later = none_in_each find P tells xs in
+    (λ e. ((tells x).0 (here.0 e).0, later.0 (here.0 e).1), λ all. here.1 ((tells x).1 all.0, later.1 all.1))
 
 by_tells : (g : Ground) (run : Run) (flow : ℕ) (c : Contract) (terms : Terms) → c.terms ≡ terms
     → (over_by terms g run flow c ≡ None) ↔ (IsTrusted terms → KeepsSource g run flow c)
 by_tells g run flow c (Trusted committed peak) is =
-    let trusted = subst IsTrusted (sym is) tt in
-    let both = first_of-none (over_in g run flow c columns.Green) (over_in g run flow c columns.All) in
-    let green = in_tells g run flow c columns.Green trusted in
-    let all = in_tells g run flow c columns.All trusted in
-    (λ e so. (green.0 (both.0 e).0, all.0 (both.0 e).1), λ kept. both.1 (green.1 (kept tt).0, all.1 (kept tt).1))
+    let tells = none_in_each (over_in g run flow c) (λ column. KeepsCurve (envelope_in column (source_of g.domain c)) (sent_items (counts column) c (passages_of flow run)))
+    (λ column. in_tells g run flow c column (subst IsTrusted (sym is) tt)) each_column in
+    (λ e so. tells.0 e, λ kept. tells.1 (kept tt))
 by_tells g run flow c (Policed parameters mode) is = (λ e trusted. absurd trusted, λ kept. refl)
 
 -- a contract that is found stands among the flows
@@ -238,12 +246,12 @@ source_tells g run =
 
 by-gives : (g : Ground) (run : Run) (flow : ℕ) (c : Contract) (terms : Terms) → IsOf 2 (over_by terms g run flow c)
 by-gives g run flow c (Trusted committed peak) =
-    first_of-gives (λ v. premise_of v ≡ 2) (over_in g run flow c columns.Green) (over_in g run flow c columns.All) (in-gives columns.Green) (in-gives columns.All)
+    first_found-gives (λ v. premise_of v ≡ 2) (over_in g run flow c) each_column in-gives
   where
     in-gives : (column : Column) → IsOf 2 (over_in g run flow c column)
     in-gives column =
         map-gives (λ v. premise_of v ≡ 2) (λ p. SourceOver flow column p.packet.number)
-        (overflowing (curve_in column (source_of g.domain c)) column c (sent_in column c (passages_of flow run))) (λ p. refl)
+        (overflowing (envelope_in column (source_of g.domain c)) column c (sent_in column c (passages_of flow run))) (λ p. refl)
 by-gives g run flow c (Policed parameters mode) = λ v e. absurd cc
 
 pub source-gives : (g : Ground) (run : Run) → IsOf 2 (source_of_run g run)

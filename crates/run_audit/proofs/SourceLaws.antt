@@ -9,15 +9,16 @@ use Rattle.std.proofs.lemmas.List.Elements.{All-cons, All-filter, All-head, All-
 use Rattle.std.proofs.lemmas.List.Kept.{AllPairs-filter}
 use Rattle.std.proofs.lemmas.List.Sorted.{Contains-permutation, IsPermutation-sym}
 use Rattle.moment_core.specs.declared.colour.Colour.{Colour}
+use Rattle.moment_core.specs.Columns.{counts, each_column}
+use Rattle.moment_core.specs.declared.column.Column.{Column}
 use Rattle.envelope_core.specs.Curve.{Curve}
 use Rattle.envelope_core.specs.LeakyBucket.{filled, overflow_from, overflow_of}
 use Rattle.ds_domain_base.specs.Sent.{came}
 use Rattle.ds_domain_base.specs.declared.contract.Contract.{Contract}
 use Rattle.ds_domain_base.specs.declared.terms.Terms.{Terms}
 use Rattle.ds_domain_base.specs.declared.terms.Terms.TheVariants.{Trusted, Policed}
+use Rattle.ds_certificate.specs.Columns.{envelope_in}
 use Rattle.ds_certificate.specs.Sources.{source_of}
-use Rattle.ds_checker.specs.declared.refusal.Column.{Column}
-use Rattle.ds_checker.specs.declared.refusal.Column.TheVariants as columns
 use Rattle.ds_checker.specs.Acceptance.{Table}
 use Rattle.meter_fabric.specs.Grounds.{Ground, contract_of, ground_of, most_flows}
 use Rattle.meter_fabric.proofs.GroundLaws.{found_at}
@@ -27,7 +28,7 @@ use Rattle.run_audit_base.specs.Runs.{IsRun, Passage, Run}
 use Rattle.run_audit_base.specs.Sendings.{passages_of, sending_by, sending_of, sent_items}
 use Rattle.run_audit.specs.Spills.{own_length, poured, spilled, spilled_by, spilled_from, spilled_in}
 use Rattle.run_audit.specs.Standings.{by_contract, stands_before}
-use Rattle.run_audit.specs.Verdicts.{counts_in, curve_in, first_of, is_begun_before, over_by, over_in, overflowing, sent_in, first_found, source_of_run, over_at, was_sent_as}
+use Rattle.run_audit.specs.Verdicts.{first_of, is_begun_before, over_by, over_in, overflowing, sent_in, first_found, source_of_run, over_at, was_sent_as}
 use Rattle.run_audit.specs.declared.verdict.Verdict.TheVariants.{SourceOver}
 use Rattle.run_audit.proofs.MemberLaws.{in_filter, of_filter}
 use Rattle.run_audit.proofs.OrderLaws.{AreApart, Ascends, HasAllOf, IsOrder, in_order-ascends, in_order-is, in_order-permutes}
@@ -194,7 +195,7 @@ standing-ascends g run is_run =
     (λ i j d below short. either_stands (get_or run.passages i d) (get_or run.passages j d) (is_run.numbers i j d below short))
 
 abbrev counted : Column → Contract → Passage → Bool
-counted column c p = was_sent_as (counts_in column) (sending_of c p)
+counted column c p = was_sent_as (counts column) (sending_of c p)
 
 -- those of a contract that a column counts, as they stand, are those as they were sent
 sent-standing : (g : Ground) (run : Run) → IsRun g run → (n : ℕ) (c : Contract) (column : Column)
@@ -255,7 +256,7 @@ spilled-is curve column c trusted level since (p ∷ ps) =
     (if nat_lt (8000000000 * curve.burst) full then Some p else spilled curve column c full p.packet.begun ps)
     else
     spilled curve column c level since ps)
-    (counts-sent (counts_in column) c.terms (came c p.packet.dscp) p.packet.begun p.receipts trusted)
+    (counts-sent (counts column) c.terms (came c p.packet.dscp) p.packet.begun p.receipts trusted)
     ∙ by_test (counted column c p) (filter (counted column c) ps) (spilled-is curve column c trusted full p.packet.begun ps) (spilled-is curve column c trusted level since ps)
   where
     by_over : (b : Bool) (full : ℕ) (kept : List Passage) (behind : Option Passage)
@@ -290,7 +291,7 @@ shown-same f g (x ∷ xs) (Some (suc i)) same = shown-same f g xs (Some i) (All-
 in-standing : (g : Ground) (run : Run) → IsRun g run → (n : ℕ) (c : Contract) (column : Column) → IsTrusted c.terms
     → spilled_in g.domain c (filter (is_of n) (by_contract run.passages)) column ≡ over_in g run n c column
 in-standing g run is_run n c column trusted =
-    let curve = curve_in column (source_of g.domain c) in
+    let curve = envelope_in column (source_of g.domain c) in
     let own = filter (is_of n) (by_contract run.passages) in
     let sent = sent_in column c (passages_of n run) in
     let same : filter (counted column c) own ≡ sent = sent-standing g run is_run n c column in
@@ -302,17 +303,21 @@ in-standing g run is_run n c column trusted =
     subst (λ ps. All (λ p. p.packet.flow ≡ n) ps) same (All-filter (counted column c) (λ p. p.packet.flow ≡ n) own (all_own n (by_contract run.passages))) in
     ap (option_map (λ p. SourceOver p.packet.flow column p.packet.number)) spills
     ∙ shown-same (λ p. SourceOver p.packet.flow column p.packet.number) (λ p. SourceOver n column p.packet.number) sent
-    (overflow_of curve.rate curve.burst (sent_items (counts_in column) c sent))
+    (overflow_of curve.rate curve.burst (sent_items (counts column) c sent))
     (All-weaker (λ p. p.packet.flow ≡ n) (λ p. SourceOver p.packet.flow column p.packet.number ≡ SourceOver n column p.packet.number)
     (λ p is. ap (λ f. SourceOver f column p.packet.number) is) sent flows)
+
+-- what two tests that find the same find along a list
+found_same : {A B : Type 0} (find other : A → Option B) → ((x : A) → find x ≡ other x) → (xs : List A) → first_found find xs ≡ first_found other xs
+unfolding first_found
+found_same find other same [] = refl
+found_same find other same (x ∷ xs) = ap (λ here. first_of here (first_found find xs)) (same x) ∙ ap (first_of (other x)) (found_same find other same xs)
 
 by-standing : (g : Ground) (run : Run) → IsRun g run → (n : ℕ) (c : Contract) (terms : Terms) → c.terms ≡ terms
     → spilled_by terms g.domain c (filter (is_of n) (by_contract run.passages)) ≡ over_by terms g run n c
 by-standing g run is_run n c (Trusted committed peak) is =
-    let trusted = subst IsTrusted (sym is) tt in
-    let own = filter (is_of n) (by_contract run.passages) in
-    ap (λ green. first_of green (spilled_in g.domain c own columns.All)) (in-standing g run is_run n c columns.Green trusted)
-    ∙ ap (λ all. first_of (over_in g run n c columns.Green) all) (in-standing g run is_run n c columns.All trusted)
+    found_same (spilled_in g.domain c (filter (is_of n) (by_contract run.passages))) (over_in g run n c)
+    (λ column. in-standing g run is_run n c column (subst IsTrusted (sym is) tt)) each_column
 by-standing g run is_run n c (Policed parameters mode) is = refl
 
 from-standing : (g : Ground) (run : Run) → IsRun g run → (n : ℕ) (cs : List Contract)

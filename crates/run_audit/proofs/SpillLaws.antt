@@ -4,14 +4,15 @@ use Rattle.std.specs.Prelude.{nat_le, nat_lt}
 use Rattle.std.specs.List.{prefix_len}
 use Rattle.std.proofs.lemmas.Bool.Decides.{nat_tests}
 use Rattle.std.proofs.lemmas.List.{drop-drop, drop_all, drop_more}
+use Rattle.moment_core.specs.Columns.{counts}
+use Rattle.moment_core.specs.declared.column.Column.{Column}
 use Rattle.envelope_core.specs.Curve.{Curve}
 use Rattle.ds_domain_base.specs.Domains.{Domain}
 use Rattle.ds_domain_base.specs.Sent.{came}
 use Rattle.ds_domain_base.specs.declared.contract.Contract.{Contract}
-use Rattle.ds_checker.specs.declared.refusal.Column.{Column}
 use Rattle.run_audit_base.specs.Runs.{Passage}
 use Rattle.run_audit.specs.Spills.{own_length, poured, spilled, spilled_by, spilled_from}
-use Rattle.run_audit.specs.Verdicts.{counts_in, first_of}
+use Rattle.run_audit.specs.Verdicts.{first_of}
 use Rattle.run_audit.specs.declared.verdict.Verdict.{Verdict}
 use Rattle.run_audit.proofs.FoundLaws.{found, not_found}
 
@@ -23,30 +24,30 @@ pub spilled-ended : {X : Type 0} (curve : Curve) (column : Column) (c : Contract
 unfolding spilled
 spilled-ended curve column c level since f xs i long = ap (λ ys. spilled curve column c level since (map f ys)) (drop_all i xs long)
 
-pub spilled-passed : {X : Type 0} (curve : Curve) (column : Column) (c : Contract) (level since : ℕ) (f : X → Passage) (xs : List X) (i : ℕ) (x : X) (counts : Bool)
-    → i < length xs → x ≡ get_or xs i x → counts ≡ counts_in column (came c (f x).packet.dscp) → counts ≡ false
+pub spilled-passed : {X : Type 0} (curve : Curve) (column : Column) (c : Contract) (level since : ℕ) (f : X → Passage) (xs : List X) (i : ℕ) (x : X) (test : Bool)
+    → i < length xs → x ≡ get_or xs i x → test ≡ counts column (came c (f x).packet.dscp) → test ≡ false
     → spilled curve column c level since (map f (drop i xs)) ≡ spilled curve column c level since (map f (drop (i + 1) xs))
 unfolding spilled
-spilled-passed curve column c level since f xs i x counts short at is passed =
+spilled-passed curve column c level since f xs i x test short at is passed =
     ap (spilled curve column c level since) (front f xs i x short at) ∙ (rw (← is) (rw passed refl))
 
-pub spilled-over : {X : Type 0} (curve : Curve) (column : Column) (c : Contract) (level since filled : ℕ) (f : X → Passage) (xs : List X) (i : ℕ) (x : X) (counts : Bool)
-    → i < length xs → x ≡ get_or xs i x → counts ≡ counts_in column (came c (f x).packet.dscp) → counts ≡ true
+pub spilled-over : {X : Type 0} (curve : Curve) (column : Column) (c : Contract) (level since filled : ℕ) (f : X → Passage) (xs : List X) (i : ℕ) (x : X) (test : Bool)
+    → i < length xs → x ≡ get_or xs i x → test ≡ counts column (came c (f x).packet.dscp) → test ≡ true
     → filled ≡ poured curve level since (f x) → 8000000000 * curve.burst < filled
     → spilled curve column c level since (map f (drop i xs)) ≡ Some (f x)
 unfolding spilled
-spilled-over curve column c level since filled f xs i x counts short at is counted pours over =
+spilled-over curve column c level since filled f xs i x test short at is counted pours over =
     ap (spilled curve column c level since) (front f xs i x short at) ∙ (rw (← is) (rw counted (rw (← pours) (rw (is_over (8000000000 * curve.burst) filled over) refl))))
   where
     is_over : (m n : ℕ) → m < n → nat_lt m n ≡ true
     is_over m n over = grind (arith, nat_tests)
 
-pub spilled-poured : {X : Type 0} (curve : Curve) (column : Column) (c : Contract) (level since filled : ℕ) (f : X → Passage) (xs : List X) (i : ℕ) (x : X) (counts : Bool)
-    → i < length xs → x ≡ get_or xs i x → counts ≡ counts_in column (came c (f x).packet.dscp) → counts ≡ true
+pub spilled-poured : {X : Type 0} (curve : Curve) (column : Column) (c : Contract) (level since filled : ℕ) (f : X → Passage) (xs : List X) (i : ℕ) (x : X) (test : Bool)
+    → i < length xs → x ≡ get_or xs i x → test ≡ counts column (came c (f x).packet.dscp) → test ≡ true
     → filled ≡ poured curve level since (f x) → filled ≤ 8000000000 * curve.burst
     → spilled curve column c level since (map f (drop i xs)) ≡ spilled curve column c filled (f x).packet.begun (map f (drop (i + 1) xs))
 unfolding spilled
-spilled-poured curve column c level since filled f xs i x counts short at is counted pours within =
+spilled-poured curve column c level since filled f xs i x test short at is counted pours within =
     ap (spilled curve column c level since) (front f xs i x short at) ∙ (rw (← is) (rw counted (rw (← pours) (rw (is_within (8000000000 * curve.burst) filled within) refl))))
   where
     is_within : (m n : ℕ) → n ≤ m → nat_lt m n ≡ false

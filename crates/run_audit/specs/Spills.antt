@@ -2,6 +2,8 @@
 use Rattle.std.specs.Prelude.{ℕ, ◌+◌, ◌*◌, nat_le, nat_lt, if◌then◌else◌, List, [], ◌∷◌, take, drop, option_map, Option}
 use Rattle.std.specs.Prelude.{None, Some}
 use Rattle.std.specs.List.{prefix_len}
+use Rattle.moment_core.specs.Columns.{counts, each_column}
+use Rattle.moment_core.specs.declared.column.Column.{Column}
 use Rattle.envelope_core.specs.Curve.{Curve}
 use Rattle.envelope_core.specs.LeakyBucket.{filled}
 use Rattle.ds_domain_base.specs.Domains.{Domain}
@@ -9,11 +11,10 @@ use Rattle.ds_domain_base.specs.Sent.{came}
 use Rattle.ds_domain_base.specs.declared.contract.Contract.{Contract}
 use Rattle.ds_domain_base.specs.declared.terms.Terms.{Terms}
 use Rattle.ds_domain_base.specs.declared.terms.Terms.TheVariants.{Trusted, Policed}
+use Rattle.ds_certificate.specs.Columns.{envelope_in}
 use Rattle.ds_certificate.specs.Sources.{source_of}
-use Rattle.ds_checker.specs.declared.refusal.Column.{Column}
-use Rattle.ds_checker.specs.declared.refusal.Column.TheVariants.{Green, All}
 use Rattle.run_audit_base.specs.Runs.{Passage}
-use Rattle.run_audit.specs.Verdicts.{counts_in, curve_in, first_of}
+use Rattle.run_audit.specs.Verdicts.{first_found, first_of}
 use Rattle.run_audit.specs.declared.verdict.Verdict.{Verdict}
 use Rattle.run_audit.specs.declared.verdict.Verdict.TheVariants.{SourceOver}
 
@@ -26,7 +27,7 @@ poured curve level since p = filled curve.rate level since (p.packet.begun, p.pa
 unfoldable pub spilled : Curve → Column → Contract → ℕ → ℕ → List Passage → Option Passage
 spilled curve column c level since [] = None
 spilled curve column c level since (p ∷ ps) =
-    if counts_in column (came c p.packet.dscp) then
+    if counts column (came c p.packet.dscp) then
     (if nat_lt (8000000000 * curve.burst) (poured curve level since p) then Some p
     else spilled curve column c (poured curve level since p) p.packet.begun ps)
     else
@@ -35,10 +36,10 @@ spilled curve column c level since (p ∷ ps) =
 abbrev pub spilled_in : Domain → Contract → List Passage → Column → Option Verdict
 spilled_in d c own column =
     option_map (λ p. SourceOver p.packet.flow column p.packet.number)
-    (spilled (curve_in column (source_of d c)) column c 0 0 own)
+    (spilled (envelope_in column (source_of d c)) column c 0 0 own)
 
 abbrev pub spilled_by : Terms → Domain → Contract → List Passage → Option Verdict
-spilled_by (Trusted committed peak) d c own = first_of (spilled_in d c own Green) (spilled_in d c own All)
+spilled_by (Trusted committed peak) d c own = first_found (spilled_in d c own) each_column
 spilled_by (Policed parameters mode) d c own = None
 
 -- how many packets stand in front of those of later contracts

@@ -4,7 +4,8 @@ use Rattle.std.specs.Prelude.{[], ◌∷◌, filter, slice_get, option_map, opti
 use Rattle.std.specs.Map.{keys_of}
 use Rattle.std.specs.Option.{option_map_or}
 use Rattle.moment_core.specs.declared.colour.Colour.{Colour}
-use Rattle.moment_core.specs.Colours.{is_green, is_in_profile}
+use Rattle.moment_core.specs.Columns.{counts, each_column}
+use Rattle.moment_core.specs.declared.column.Column.{Column}
 use Rattle.envelope_core.specs.Curve.{Curve}
 use Rattle.envelope_core.specs.LeakyBucket.{overflow_of}
 use Rattle.meter_book.specs.Replay.{Journal, journal_rows}
@@ -15,10 +16,8 @@ use Rattle.ds_domain_base.specs.declared.quantity.Lifetime.{Lifetime}
 use Rattle.ds_domain_base.specs.declared.parts.Link.{Link}
 use Rattle.ds_domain_base.specs.declared.terms.Terms.{Terms}
 use Rattle.ds_domain_base.specs.declared.terms.Terms.TheVariants.{Trusted, Policed}
+use Rattle.ds_certificate.specs.Columns.{envelope_in}
 use Rattle.ds_certificate.specs.Sources.{source_of}
-use Rattle.ds_certificate.specs.declared.source.Source.{Source}
-use Rattle.ds_checker.specs.declared.refusal.Column.{Column}
-use Rattle.ds_checker.specs.declared.refusal.Column.TheVariants.{Green, All}
 use Rattle.meter_fabric.specs.Grounds.{Ground, contract_of}
 use Rattle.meter_fabric.specs.declared.trail.Receipt.{Receipt}
 use Rattle.run_audit_base.specs.Runs.{Passage, Run}
@@ -67,37 +66,29 @@ outside packet c s = if may_send c.lifetime s.moment then None else Some (Outsid
 abbrev pub time_of : Ground → Run → Option Verdict
 time_of g run = first_found (λ p. against_sent g (outside p.packet.number) p) (by_number run.passages)
 
--- SOURCE: which packets a column counts, and what a source keeps in it
-abbrev pub counts_in : Column → Colour → Bool
-counts_in Green = is_green
-counts_in All = is_in_profile
-
-abbrev pub curve_in : Column → Source → Curve
-curve_in Green source = source.green
-curve_in All source = source.all
-
+-- SOURCE: whether a packet was sent with a colour that a test picks
 abbrev pub was_sent_as : (Colour → Bool) → Option Sending → Bool
 was_sent_as picked sending = option_map_or (λ s. picked s.colour) sending false
 
 -- the packets of a contract that a column counts, as they were sent
 abbrev pub sent_in : Column → Contract → List Passage → List Passage
 sent_in column c passages =
-    in_order is_begun_before (filter (λ p. was_sent_as (counts_in column) (sending_of c p)) passages)
+    in_order is_begun_before (filter (λ p. was_sent_as (counts column) (sending_of c p)) passages)
 
 -- The packet with which a contract's bucket overflows for the first time.
 abbrev pub overflowing : Curve → Column → Contract → List Passage → Option Passage
 overflowing curve column c sent =
-    option_and_then (slice_get sent) (overflow_of curve.rate curve.burst (sent_items (counts_in column) c sent))
+    option_and_then (slice_get sent) (overflow_of curve.rate curve.burst (sent_items (counts column) c sent))
 
 abbrev pub over_in : Ground → Run → ℕ → Contract → Column → Option Verdict
 over_in g run flow c column =
     option_map
     (λ p. SourceOver flow column p.packet.number)
-    (overflowing (curve_in column (source_of g.domain c)) column c (sent_in column c (passages_of flow run)))
+    (overflowing (envelope_in column (source_of g.domain c)) column c (sent_in column c (passages_of flow run)))
 
--- green packets before green and yellow ones; what is policed is not held against anything
+-- column by column; what is policed is not held against anything
 abbrev pub over_by : Terms → Ground → Run → ℕ → Contract → Option Verdict
-over_by (Trusted committed peak) g run flow c = first_of (over_in g run flow c Green) (over_in g run flow c All)
+over_by (Trusted committed peak) g run flow c = first_found (over_in g run flow c) each_column
 over_by (Policed parameters mode) g run flow c = None
 
 -- of the contract of a flow, if there is one

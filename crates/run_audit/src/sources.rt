@@ -5,39 +5,20 @@ ghost use Rattle.envelope_core.specs.LeakyBucket.{filled};
 ghost use Rattle.meter_fabric.specs.Grounds.{most_flows};
 ghost use Rattle.run_audit.specs.Assembled.{passage_of};
 ghost use Rattle.run_audit.specs.Spills.{spilled, spilled_by, spilled_from, spilled_in};
-ghost use Rattle.run_audit.specs.Verdicts.{counts_in, curve_in};
+ghost use Rattle.run_audit.specs.Verdicts.{first_found};
+ghost use Rattle.moment_core.specs.Columns.{each_column};
 
 use crate::verdict::Verdict;
 use ds_certificate::Source;
-use ds_checker::{Accepted, Column};
+use ds_checker::Accepted;
 use ds_domain_base::{Contract, Domain, Terms};
 use envelope_core::Envelope;
 use meter_fabric::{Trail, flows_of};
 use moment_core::tokens::TOKEN;
-use moment_core::{Colour, Moment, PacketSize};
+use moment_core::{Column, Moment, PacketSize};
 
 /// The bit-nanoseconds of one byte.
 const BYTE: u128 = TOKEN as u128;
-
-/// Whether a column counts packets of a colour.
-fn counts_in(column: Column, colour: Colour) -> bool
-    ensures { result ≡ counts_in column colour }
-{
-    match column {
-        Column::Green => colour == Colour::Green,
-        Column::All => colour != Colour::Red,
-    }
-}
-
-/// What a source keeps in a column.
-fn envelope_in(column: Column, source: Source) -> Envelope
-    ensures { result ≡ curve_in column source }
-{
-    match column {
-        Column::Green => source.green,
-        Column::All => source.all,
-    }
-}
 
 /// The level of a bucket just after a packet, in bit-nanoseconds; it had a level since a moment in nanoseconds, and
 /// drains at a rate.
@@ -65,7 +46,7 @@ fn spilled<'a>(
     let mut level = 0;
     let mut since = 0;
     for trail in trails {
-        if counts_in(column, contract.came(trail.dscp)) {
+        if column.counts(contract.came(trail.dscp)) {
             level = filled(envelope, level, since, trail.begun, trail.size);
             if level > depth {
                 return Some(trail);
@@ -85,7 +66,7 @@ fn spilled_in(
 ) -> Option<Verdict>
     ensures { result ≡ spilled_in domain.now contract.now (map (λ trail. passage_of trail.now) own.now) column }
 {
-    let envelope = envelope_in(column, Source::of(domain, contract));
+    let envelope = Source::of(domain, contract).envelope(column);
     match spilled(envelope, column, contract, own) {
         Some(trail) => Some(Verdict::SourceOver {
             flow: trail.flow,
@@ -96,22 +77,29 @@ fn spilled_in(
     }
 }
 
-/// What is found against a contract's packets: in the green column, else in that of green and yellow ones; nothing
-/// where it is policed.
+/// What is found against a contract's packets: nothing where it is policed.
 fn spilled_by(domain: &Domain, contract: &Contract, own: &[&Trail]) -> Option<Verdict>
     ensures { result ≡ spilled_by contract.now.terms domain.now contract.now
         (map (λ trail. passage_of trail.now) own.now) }
 {
     match contract.terms {
-        Terms::Trusted { .. } => {
-            let green = spilled_in(domain, contract, own, Column::Green);
-            if green.is_some() {
-                return green;
-            }
-            spilled_in(domain, contract, own, Column::All)
-        }
+        Terms::Trusted { .. } => first_spilled_in(domain, contract, own),
         Terms::Policed { .. } => None,
     }
+}
+
+/// What is found against a trusted contract's packets, column by column.
+fn first_spilled_in(domain: &Domain, contract: &Contract, own: &[&Trail]) -> Option<Verdict>
+    ensures { result ≡ first_found
+        (spilled_in domain.now contract.now (map (λ trail. passage_of trail.now) own.now)) each_column }
+{
+    for column in Column::each() {
+        let found = spilled_in(domain, contract, own, *column);
+        if found.is_some() {
+            return found;
+        }
+    }
+    None
 }
 
 /// The place behind the trails from a place on that stand in front of those of later contracts.

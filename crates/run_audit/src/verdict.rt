@@ -1,5 +1,4 @@
-use ds_checker::Column;
-use moment_core::Gap;
+use moment_core::{Column, Gap};
 
 /// What an audit finds: that a run kept what its table rests on, or the first premise that it broke, with the place.
 #[derive(Clone, Copy, Debug, PartialEq, Eq)]
@@ -15,7 +14,7 @@ pub enum Verdict {
     SourceOver {
         /// The number of the contract: the least of those that did.
         flow: u32,
-        /// Whether its green packets alone are over, or else its green and yellow ones.
+        /// Which of its packets are over: the first of the columns in which some are.
         column: Column,
         /// The number of the packet with which they are over for the first time, as they were sent.
         packet: u64,

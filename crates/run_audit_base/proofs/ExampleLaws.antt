@@ -10,7 +10,7 @@ use Rattle.std.proofs.lemmas.Bool.Decides.{nat_tests}
 use Rattle.std.specs.Option.{ForSome}
 use Rattle.moment_core.specs.Conformance.{Keeps}
 use Rattle.moment_core.specs.Metering.{opening, used}
-use Rattle.envelope_core.proofs.Windows.{size_within_cases}
+use Rattle.envelope_core.proofs.Windows.{Keeps-nil, size_within_cases}
 use Rattle.meter_book.specs.Replay.{Journal, journal_rows, row_of}
 use Rattle.meter_book.specs.declared.any_meter.Parameters.{Parameters}
 use Rattle.ds_domain_base.specs.Fitting.{lacks_link, names_unknown, repeats}
@@ -79,7 +79,7 @@ Keeps-one rate burst moment size small start end ordered =
 
 small_certificate : IsCertificate small_table.domain small_table.contracts small_table.certificate
 unfolding lacks_link names_unknown repeats Grows jitters_along source_of
-small_certificate = (((refl, refl), ((omega arith, (omega arith, tt)), (omega arith, (omega arith, tt)))), tt)
+small_certificate = (((refl, refl), ((omega arith, (omega arith, tt)), ((omega arith, (omega arith, tt)), ((omega arith, (omega arith, tt)), tt)))), tt)
 
 small_carries : All (λ entry. Carries entry.1 (shares_at small_table.domain entry.0 small_table.contracts small_table.certificate)) small_table.domain.meters
 unfolding shares_at bound_into source_of
@@ -120,7 +120,7 @@ small_sent P holds =
 
 small_keeps : KeepsSource (ground_of small_table) small_run 0 (contract_on small_terms)
 unfolding source_of came colour_at
-small_keeps = (Keeps-one 8000 1500 0 100 (omega arith), Keeps-one 8000 1500 0 100 (omega arith))
+small_keeps = (Keeps-one 8000 1500 0 100 (omega arith), (Keeps-one 8000 1500 0 100 (omega arith), (Keeps-nil 8000 1500, tt)))
 
 small_source : (flow : ℕ) (c : Contract) → contract_of (ground_of small_table) flow ≡ Some c → KeepsSource (ground_of small_table) small_run flow c
 small_source zero c is =

@@ -174,8 +174,8 @@ passage_part g t run good is_run picked comes site start end low k e h some =
 share_counts : (among : Bool → Bool) (d : Domain) (c : Contract) (found : Option Bound) → among (has_peak c.terms) ≡ true
     → filter (is_among among) (option_to_list (option_map (λ bound. record { source = source_of d c; bound = bound; has_peak = has_peak c.terms }) found))
     ≡ option_to_list (option_map (λ bound. record { source = source_of d c; bound = bound; has_peak = has_peak c.terms }) found)
-share_is_among among d c None counted = refl
-share_is_among among d c (Some bound) counted = rw counted refl
+share_counts among d c None counted = refl
+share_counts among d c (Some bound) counted = rw counted refl
 
 share_passes_by : (among : Bool → Bool) (d : Domain) (c : Contract) (found : Option Bound) → among (has_peak c.terms) ≡ false
     → filter (is_among among) (option_to_list (option_map (λ bound. record { source = source_of d c; bound = bound; has_peak = has_peak c.terms }) found)) ≡ []
@@ -215,7 +215,7 @@ contract_part g t run good is_run premises column among sources light site entry
     by_count : (b : Bool) → among (has_peak c.terms) ≡ b
         → KeepsCurve (load column entry.1.skew (filter (is_among among) (share_of g.domain entry.0 c bounds))) (flat_map (part_at (counts column) site c) (passages_of k run))
     by_count true counted =
-        rw (share_is_among among g.domain c (bound_into entry.0 c.path (drop 1 bounds)) counted)
+        rw (share_counts among g.domain c (bound_into entry.0 c.path (drop 1 bounds)) counted)
         (contract_keeps g.domain entry.0 site entry.1.skew column (counts column) c bounds ps ok.0 (in_column (λ k. MeetsIn k (source_of g.domain c) (jitters_of g.domain c) bounds) ok.1 column)
         (apart_names g.domain entry.0 entry.1 site c.path there (meters_known g.domain c.path (fits_names g.domain c ok.0.0).0))
         goes (sources k c found))

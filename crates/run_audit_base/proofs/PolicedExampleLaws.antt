@@ -38,7 +38,7 @@ both P meter edge = All-cons P meter_journal (edge_journal ∷ []) meter (only P
 
 policed_certificate : IsCertificate policed_table.domain policed_table.contracts policed_table.certificate
 unfolding lacks_link names_unknown repeats Grows jitters_along source_of
-policed_certificate = (((refl, refl), ((omega arith, (omega arith, tt)), (omega arith, (omega arith, tt)))), tt)
+policed_certificate = (((refl, refl), ((omega arith, (omega arith, tt)), ((omega arith, (omega arith, tt)), ((omega arith, (omega arith, tt)), tt)))), tt)
 
 policed_carries : All (λ entry. Carries entry.1 (shares_at policed_table.domain entry.0 policed_table.contracts policed_table.certificate)) policed_table.domain.meters
 unfolding shares_at bound_into source_of

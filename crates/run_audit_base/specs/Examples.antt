@@ -11,6 +11,7 @@ use Rattle.meter_book.specs.declared.any_meter.Parameters.TheVariants.{TrTcm}
 use Rattle.meter_book.specs.declared.row.Arrival.{Arrival}
 use Rattle.ds_domain_base.specs.Domains.{Domain}
 use Rattle.ds_domain_base.specs.declared.contract.Contract.{Contract}
+use Rattle.ds_domain_base.specs.declared.parts.Version.TheVariants.{One}
 use Rattle.ds_domain_base.specs.declared.terms.Terms.{Terms}
 use Rattle.ds_domain_base.specs.declared.terms.Terms.TheVariants.{Trusted}
 use Rattle.ds_certificate.specs.Columns.{Bound}
@@ -30,6 +31,7 @@ meter_name = 109 ∷ []
 -- the domain, whose meter has these parameters
 abbrev pub domain_with : Parameters → Domain
 domain_with parameters = record {
+  version = One;
   meters = (meter_name, record { parameters = parameters; skew = 0; origin = 0 }) ∷ [];
   ports = (port_name, record { skew = 0 }) ∷ [];
   links = ((port_name, meter_name), record { floor = 0; jitter = 0 }) ∷ [];
@@ -77,7 +79,7 @@ abbrev pub small_terms : Terms
 small_terms = Trusted (record { rate = 8000; burst = 1500 }) None
 
 abbrev pub small_bound : Bound
-small_bound = record { green = 1500; all = 1500 }
+small_bound = record { green = 1500; all = 1500; excess = 1500 }
 
 abbrev pub small_table : Table
 small_table = table_with small_parameters small_terms small_bound

@@ -31,7 +31,7 @@ policed_parameters = SrTcm (record { committed_rate = 8000; committed_burst = 15
 
 -- what leaves the edge
 abbrev pub policed_bound : Bound
-policed_bound = record { green = 1501; all = 3001 }
+policed_bound = record { green = 1501; all = 3001; excess = 3001 }
 
 abbrev pub policed_table : Table
 policed_table = table_with policed_parameters policed_terms policed_bound
