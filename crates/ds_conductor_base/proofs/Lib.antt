@@ -4,7 +4,6 @@ pub mod ConductedLaws
 pub mod JournalLaws
 pub mod ListLaws
 pub mod OpenedLaws
-pub mod PlaceLaws
 pub mod SendLaws
 pub mod StepLaws
 pub mod UnderWayLaws
