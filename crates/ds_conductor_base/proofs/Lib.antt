@@ -1,3 +1,4 @@
+pub mod ArrivalLaws
 pub mod ClosingLaws
 pub mod ConductLaws
 pub mod ConductedLaws
