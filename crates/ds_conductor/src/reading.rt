@@ -113,15 +113,11 @@ fn read_piece<I: Intake>(
         return Err(PcapFault::ReadFault);
     };
     if taken == 0 {
-        return match finish(progress) {
-            Ok(()) => Ok(false),
-            Err(fault) => Err(fault),
-        };
+        finish(progress)?;
+        return Ok(false);
     }
-    match feed_piece(alloc, progress, &buffer[..taken]) {
-        Ok(()) => Ok(true),
-        Err(fault) => Err(fault),
-    }
+    feed_piece(alloc, progress, &buffer[..taken])?;
+    Ok(true)
 }
 
 /// Reads a capture to its end, by at most `turns` calls of `take`.

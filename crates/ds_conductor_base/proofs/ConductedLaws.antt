@@ -1,17 +1,18 @@
 -- What a list of steps makes is a run.
-use Rattle.std.proofs.Common.{◌≡◌, ℕ, suc, Bool, true, false, List, [], ◌∷◌, ◌++◌, map, Option, None, Some, refl, sym, ap, subst, ◌∙◌, append-nil, append_assoc}
+use Rattle.std.proofs.Common.{◌≡◌, ℕ, suc, nat_eq, Bool, true, false, List, [], ◌∷◌, ◌++◌, map, Option, None, Some, refl, sym, ap, subst, ◌∙◌, append-nil, append_assoc}
 use Rattle.std.specs.Prelude.{Result, Ok, Err, option_map, position, if◌then◌else◌}
 use Rattle.std.specs.List.{flat_map, list_any}
 use Rattle.std.proofs.lemmas.List.{map_push}
 use Rattle.std.proofs.lemmas.Option.{same_Some}
+use Rattle.std.proofs.lemmas.Simd.{map-map}
 use Rattle.ds_domain_base.specs.declared.contract.Contract.{Contract}
 use Rattle.meter_fabric.specs.Trails.{Packet}
 use Rattle.meter_fabric.specs.Travels.{Traveller, begun_of}
 use Rattle.ds_checker.specs.Acceptance.{Table}
 use Rattle.meter_fabric.specs.Grounds.{contract_of, ground_of}
-use Rattle.run_audit_base.specs.Runs.{IsRun, Run}
+use Rattle.run_audit_base.specs.Runs.{IsRun, Passage, Run}
 use Rattle.ds_conductor_base.specs.Conducting.{as_run, conducted, conducted_from, going_on, passage_of, run_so_far}
-use Rattle.ds_conductor_base.specs.Steps.{Stage, is_of, opened, sent, stepped, visited_from}
+use Rattle.ds_conductor_base.specs.Steps.{Stage, numbers_of, opened, sent, stepped, visited_from}
 use Rattle.ds_conductor_base.specs.Laws.{sent_by}
 use Rattle.ds_conductor_base.specs.UnderWay.{IsUnderWay}
 use Rattle.ds_conductor_base.specs.declared.fault.ConductFault.{ConductFault}
@@ -19,10 +20,10 @@ use Rattle.ds_conductor_base.specs.declared.fault.StepFault.{StepFault}
 use Rattle.ds_conductor_base.specs.declared.fault.StepFault.TheVariants.{BadStep}
 use Rattle.ds_conductor_base.specs.declared.step.Step.{Step}
 use Rattle.ds_conductor_base.specs.declared.step.Step.TheVariants.{Send, Visit}
-use Rattle.ds_conductor_base.proofs.PlaceLaws.{packets_in, packets_visited}
 use Rattle.ds_conductor_base.proofs.SendLaws.{beginning}
 use Rattle.ds_conductor_base.proofs.ListLaws.{same_Ok}
 use Rattle.ds_conductor_base.proofs.UnderWayLaws.{opened_under_way, run_under_way, stepped_under_way}
+use Rattle.ds_conductor_base.proofs.VisitLaws.{packets_in, packets_visited}
 
 -- what a step has made, if those behind it keep it under way
 step_by_step : (t : Table) (g h : Stage) (s : Step) (index : ℕ) (rest : Stage → Result Stage ConductFault) (made : Result Stage StepFault) → IsUnderWay t g
@@ -66,15 +67,15 @@ begun-packet t p (Some c) u is = ap (λ (v : Traveller). v.packet) (sym (same_So
 
 visited-packets : (g h : Stage) (moment : ℕ) (place : Option ℕ) → visited_from g moment place ≡ Ok h → packets_in h.travellers ≡ packets_in g.travellers
 visited-packets g h moment None done = absurd cc
-visited-packets g h moment (Some place) done = packets_visited g h moment place done
+visited-packets g h moment (Some place) done = packets_visited g h place moment done
 
 stepped-packets : (t : Table) (g h : Stage) (s : Step) → stepped t g s ≡ Ok h → packets_in h.travellers ≡ packets_in g.travellers ++ sent_by s
 unfolding stepped
 stepped-packets t g h (Send flow packet size dscp moment) done =
     let p : Packet = record { flow = flow; number = packet; size = size; dscp = dscp; begun = moment } in
-    send-packets g h p (list_any (is_of packet) g.travellers) (begun_of (ground_of t) p) (begun-packet t p (contract_of (ground_of t) flow)) done
+    send-packets g h p (list_any (nat_eq packet) (numbers_of g.travellers)) (begun_of (ground_of t) p) (begun-packet t p (contract_of (ground_of t) flow)) done
 stepped-packets t g h (Visit packet moment) done =
-    visited-packets g h moment (position (is_of packet) g.travellers) done ∙ sym (append-nil (packets_in g.travellers))
+    visited-packets g h moment (position (nat_eq packet) (numbers_of g.travellers)) done ∙ sym (append-nil (packets_in g.travellers))
 
 going-packets : (t : Table) (g h : Stage) (s : Step) (index : ℕ) (rest : Stage → Result Stage ConductFault) (made : Result Stage StepFault) (more : List Packet)
     → ((k : Stage) → rest k ≡ Ok h → packets_in h.travellers ≡ packets_in k.travellers ++ more)
@@ -91,15 +92,11 @@ conducted-packets t g h index (s ∷ rest) done =
     going-packets t g h s index (λ k. conducted_from t k (suc index) rest) (stepped t g s) (flat_map sent_by rest)
     (λ k. conducted-packets t k h (suc index) rest) refl done
 
-shown-packets : (ts : List Traveller) → map (λ p. p.packet) (map passage_of ts) ≡ packets_in ts
-shown-packets [] = refl
-shown-packets (t ∷ ts) = ap (λ ps. t.packet ∷ ps) (shown-packets ts)
-
 run-packets : (t : Table) (all : List Step) (made : Result Stage ConductFault) (run : Run) → conducted_from t (opened t) 0 all ≡ made → as_run made ≡ Ok run
     → map (λ p. p.packet) run.passages ≡ flat_map sent_by all
 run-packets t all (Ok g) run is done =
     ap (λ (r : Run). map (λ p. p.packet) r.passages) (sym (same_Ok (run_so_far g) run done))
-    ∙ shown-packets g.travellers ∙ conducted-packets t (opened t) g 0 all is
+    ∙ map-map (λ (p : Passage). p.packet) passage_of g.travellers ∙ conducted-packets t (opened t) g 0 all is
 run-packets t all (Err fault) run is done = absurd cc
 
 pub packets_are_sent : (t : Table) (all : List Step) (run : Run) → conducted t all ≡ Ok run → map (λ p. p.packet) run.passages ≡ flat_map sent_by all

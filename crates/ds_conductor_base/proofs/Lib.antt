@@ -1,10 +1,10 @@
+pub mod ArrivalLaws
 pub mod ClosingLaws
 pub mod ConductLaws
 pub mod ConductedLaws
 pub mod JournalLaws
 pub mod ListLaws
 pub mod OpenedLaws
-pub mod PlaceLaws
 pub mod SendLaws
 pub mod StepLaws
 pub mod UnderWayLaws

@@ -35,6 +35,11 @@ set_elsewhere (z ∷ xs) zero (suc j) y other = refl
 set_elsewhere (z ∷ xs) (suc i) zero y other = refl
 set_elsewhere (z ∷ xs) (suc i) (suc j) y other = set_elsewhere xs i j y (λ same. other (ap suc same))
 
+pub set_same : {X : Type 0} (xs : List X) (i : ℕ) (x : X) → slice_get xs i ≡ Some x → set xs i x ≡ xs
+set_same [] i x there = refl
+set_same (z ∷ xs) zero x there = ap (λ w. w ∷ xs) (sym (same_Some z x there))
+set_same (z ∷ xs) (suc i) x there = ap (λ ws. z ∷ ws) (set_same xs i x there)
+
 -- what is mapped to the same
 pub map-set_same : {X : Type 0} {Y : Type 0} (f : X → Y) (xs : List X) (i : ℕ) (x y : X) → slice_get xs i ≡ Some x → f y ≡ f x → map f (set xs i y) ≡ map f xs
 map-set_same f [] i x y there same = refl

@@ -6,7 +6,7 @@ use Rattle.std.proofs.lemmas.Option.{none-some, same_Some}
 use Rattle.meter_fabric.specs.Grounds.{flow_count, ground_of}
 use Rattle.meter_fabric.proofs.GroundLaws.{contract_past}
 use Rattle.meter_fabric.proofs.RangeLaws.{range_past, range_within}
-use Rattle.meter_book.specs.Replay.{Book, rows_of}
+use Rattle.meter_book.specs.Replay.{Book, replay, rows_of}
 use Rattle.ds_checker.specs.Acceptance.{Table}
 use Rattle.meter_fabric.specs.Openings.{book_with, opening_at, site_count}
 use Rattle.meter_fabric.specs.declared.site.Opening.{Opening}
@@ -35,7 +35,10 @@ pub opening_of-opened : (found : Option Opening) → option_map opening_in (opti
 opening_of-opened None = refl
 opening_of-opened (Some o) = refl
 
--- and has no rows
+-- and has no arrivals, so no rows
+pub no_arrivals : (found : Option Opening) (b : Book) → option_map (book_with (2 ^ 20)) found ≡ Some b → b.arrivals ≡ []
+no_arrivals None b is = absurd (none-some b is)
+no_arrivals (Some o) b is = ap (λ (book : Book). book.arrivals) (sym (same_Some (book_with (2 ^ 20) o) b is))
+
 pub no_rows : (found : Option Opening) (b : Book) → option_map (book_with (2 ^ 20)) found ≡ Some b → rows_of b ≡ []
-no_rows None b is = absurd (none-some b is)
-no_rows (Some o) b is = ap rows_of (sym (same_Some (book_with (2 ^ 20) o) b is))
+no_rows found b is = ap (replay b.opening) (no_arrivals found b is)

@@ -1,10 +1,10 @@
 -- What a packet that begins makes of the packets on their way.
-use Rattle.std.proofs.Common.{◌≡◌, ◌<◌, ℕ, Bool, true, false, List, [], ◌∷◌, ◌++◌, length, map, get_or, Option, None, Some, refl, sym, ◌∙◌, ap, subst, arith}
+use Rattle.std.proofs.Common.{◌≡◌, ◌<◌, ℕ, Bool, true, false, List, [], ◌∷◌, ◌++◌, length, map, nat_eq, get_or, Option, None, Some, refl, sym, ◌∙◌, ap, subst, arith}
 use Rattle.std.specs.Prelude.{option_map, IsPermutation, Result, Ok, Err, if◌then◌else◌}
 use Rattle.std.specs.List.{list_any}
 use Rattle.std.proofs.lemmas.Bool.{false≢true}
 use Rattle.std.proofs.lemmas.Bool.Decides.{nat_tests}
-use Rattle.std.proofs.lemmas.List.{map_push}
+use Rattle.std.proofs.lemmas.List.{get_or-map, length-map, map_push}
 use Rattle.std.proofs.lemmas.List.Elements.{All-push}
 use Rattle.std.proofs.lemmas.List.Folds.{list_any_at}
 use Rattle.std.proofs.lemmas.List.Quantifiers.{all_pairs_push}
@@ -19,7 +19,7 @@ use Rattle.meter_fabric.specs.Travels.{Traveller}
 use Rattle.meter_fabric.proofs.TrailLaws.{IsTrail-none}
 use Rattle.run_audit_base.specs.Runs.{told, told_by}
 use Rattle.ds_conductor_base.specs.Conducting.{passage_of}
-use Rattle.ds_conductor_base.specs.Steps.{Stage, is_of, sent}
+use Rattle.ds_conductor_base.specs.Steps.{Stage, numbers_of, sent}
 use Rattle.ds_conductor_base.specs.UnderWay.{IsOnItsWay, IsUnderWay}
 use Rattle.ds_conductor_base.specs.declared.fault.StepFault.{StepFault}
 use Rattle.ds_conductor_base.specs.declared.fault.StepFault.TheVariants.{BadStep}
@@ -33,11 +33,13 @@ on_its_way : (t : Table) (p : Packet) (c : Contract) → contract_of (ground_of 
 on_its_way t p c is = (c, is, refl, refl, IsTrail-none p p.begun (came c p.dscp) (hops_of t.domain p.flow c))
 
 -- where none has a number, each has another
-another : (number : ℕ) (ts : List Traveller) → list_any (is_of number) ts ≡ false
+another : (number : ℕ) (ts : List Traveller) → list_any (nat_eq number) (numbers_of ts) ≡ false
     → (k : ℕ) (d : Traveller) → k < length ts → ¬ ((get_or ts k d).packet.number ≡ number)
 another number ts none k d below same =
-    let test : is_of number (get_or ts k d) ≡ true = grind (arith, nat_tests) in
-    false≢true (sym none ∙ list_any_at (is_of number) ts k d below test)
+    let own = get_or-map (λ (t : Traveller). t.packet.number) ts k d number below in
+    let test : nat_eq number (get_or (numbers_of ts) k number) ≡ true = grind (arith, nat_tests, own, same) in
+    let within : k < length (numbers_of ts) = omega (arith, below, length-map ts (λ (t : Traveller). t.packet.number)) in
+    false≢true (sym none ∙ list_any_at (nat_eq number) (numbers_of ts) k number within test)
 
 -- what has no receipts tells nothing
 told-push : (site : ℕ) (ts : List Traveller) (p : Traveller) → p.receipts ≡ [] → told site (map passage_of (ts ++ p ∷ [])) ≡ told site (map passage_of ts)
@@ -45,7 +47,7 @@ told-push site ts p none =
     let nothing : told_by site (passage_of p) ≡ [] = rw none refl in
     ap (told site) (map_push passage_of ts p) ∙ flat_map-push_none (told_by site) (map passage_of ts) (passage_of p) nothing
 
-begun_under_way : (t : Table) (g : Stage) (p : Packet) (c : Contract) → IsUnderWay t g → list_any (is_of p.number) g.travellers ≡ false
+begun_under_way : (t : Table) (g : Stage) (p : Packet) (c : Contract) → IsUnderWay t g → list_any (nat_eq p.number) (numbers_of g.travellers) ≡ false
     → contract_of (ground_of t) p.flow ≡ Some c → IsUnderWay t (record g { travellers = g.travellers ++ beginning t p c ∷ [] })
 begun_under_way t g p c way none is = record {
   count = way.count;
@@ -56,14 +58,14 @@ begun_under_way t g p c way none is = record {
       subst (λ rows. IsPermutation rows (rows_of b)) (sym (told-push site g.travellers (beginning t p c) refl)) (way.rows site b there);
 }
 
-sent_by_contract : (t : Table) (g h : Stage) (p : Packet) (found : Option Contract) → IsUnderWay t g → list_any (is_of p.number) g.travellers ≡ false
+sent_by_contract : (t : Table) (g h : Stage) (p : Packet) (found : Option Contract) → IsUnderWay t g → list_any (nat_eq p.number) (numbers_of g.travellers) ≡ false
     → contract_of (ground_of t) p.flow ≡ found → sent g (option_map (beginning t p) found) ≡ Ok h → IsUnderWay t h
 sent_by_contract t g h p None way none is done = absurd cc
 sent_by_contract t g h p (Some c) way none is done =
     subst (IsUnderWay t) (same_Ok (record g { travellers = g.travellers ++ beginning t p c ∷ [] }) h done) (begun_under_way t g p c way none is)
 
 -- a packet that begins, if none was sent with its number
-pub sent_under_way : (t : Table) (g h : Stage) (p : Packet) (taken : Bool) → IsUnderWay t g → list_any (is_of p.number) g.travellers ≡ taken
+pub sent_under_way : (t : Table) (g h : Stage) (p : Packet) (taken : Bool) → IsUnderWay t g → list_any (nat_eq p.number) (numbers_of g.travellers) ≡ taken
     → ◌≡◌ {A = Result Stage StepFault} (if taken then Err BadStep else sent g (option_map (beginning t p) (contract_of (ground_of t) p.flow))) (Ok h) → IsUnderWay t h
 sent_under_way t g h p true way test done = absurd cc
 sent_under_way t g h p false way test done = sent_by_contract t g h p (contract_of (ground_of t) p.flow) way test refl done

@@ -1,7 +1,14 @@
 -- What a step makes, by what is found of its packet's number.
-use Rattle.std.proofs.Common.{◌≡◌, ◌⊎◌, inl, inr, ℕ, true, false, [], ◌∷◌, ◌++◌, Option, None, Some, Result, Ok, Err, cond, length, nat_eq, position, is_some, refl, sym, ◌∙◌, ap, subst}
-use Rattle.std.specs.Prelude.{option_map, slice_get, OnOk, OnErr}
+use Rattle.std.proofs.Common.{◌≡◌, ◌⊎◌, inl, inr, ℕ, zero, suc, true, false, List, [], ◌∷◌, ◌++◌, Option, None, Some, Result, Ok, Err, nat_eq, position, is_some, refl, sym, ◌∙◌, ap, subst}
+use Rattle.std.specs.Prelude.{option_map, slice_get, slice_set, IfErr, OnOk, OnErr}
+use Rattle.std.specs.List.{list_any}
+use Rattle.std.specs.Map.{keys_of, values_of}
+use Rattle.std.proofs.lemmas.List.{map_push}
+use Rattle.indexmap.specs.IndexMap.{IndexMap, get, insert_entry, keys, set_value_at, values, with_value_at}
+use Rattle.indexmap.proofs.CallerLemmas.{insert_entry-new, keys-with_value_at}
+use Rattle.std.proofs.lemmas.Map.Made.{is_some-lookup}
 use Rattle.std.proofs.lemmas.Option.{same_Some}
+use Rattle.meter_book.specs.Replay.{Book}
 use Rattle.ds_domain_base.specs.declared.contract.Contract.{Contract}
 use Rattle.ds_checker.specs.Acceptance.{Table}
 use Rattle.meter_fabric.specs.Grounds.{contract_of, ground_of}
@@ -10,81 +17,141 @@ use Rattle.meter_fabric.specs.Travels.{Traveller, begun_of}
 use Rattle.meter_fabric.specs.declared.fault.BeginFault.{BeginFault}
 use Rattle.meter_fabric.specs.declared.fault.BeginFault.TheVariants as begins
 use Rattle.ds_conductor_base.specs.Faults.{begin_fault_of}
-use Rattle.ds_conductor_base.specs.Steps.{Stage, is_of, sent, stepped, visited_by}
+use Rattle.ds_conductor_base.specs.Kept.{Conduct}
+use Rattle.ds_conductor_base.specs.Steps.{Stage, numbers_of, put_back, sent, stepped, visited_by, visited_from, visited_next}
+use Rattle.ds_conductor_base.proofs.ListLaws.{set_same}
 use Rattle.ds_conductor_base.specs.UnderWay.{IsUnderWay}
 use Rattle.ds_conductor_base.specs.declared.fault.StepFault.{StepFault}
 use Rattle.ds_conductor_base.specs.declared.fault.StepFault.TheVariants.{BadStep, NoMemory}
 use Rattle.ds_conductor_base.specs.declared.step.Step.TheVariants.{Send, Visit}
-use Rattle.ds_conductor_base.proofs.PlaceLaws.{list_any-position, places_sent, places_visited}
 use Rattle.ds_conductor_base.proofs.SendLaws.{beginning}
 use Rattle.ds_conductor_base.proofs.UnderWayLaws.{stepped_under_way}
+use Rattle.ds_conductor_base.proofs.VisitLaws.{numbers_visited}
+
+unfound : {A : Type 0} (found : Option A) → is_some found ≡ false → found ≡ None
+unfound None absent = refl
+unfound (Some x) absent = absurd cc
+
+-- packets that are kept by their numbers
+module _ {S : Type 0} (old : IndexMap ℕ Traveller S) (packet : ℕ) (kept : keys old ≡ numbers_of (values old)) where
+  -- a number was sent before where a packet is kept by it
+  pub sent_before : list_any (nat_eq packet) (numbers_of (values old)) ≡ is_some (get nat_eq old packet)
+  sent_before = ap (list_any (nat_eq packet)) (sym kept) ∙ sym (is_some-lookup (nat_eq packet) old.entries)
+
+  -- a packet of a new number stands behind the others
+  module _ (new : IndexMap ℕ Traveller S) (p : Traveller) (fresh : is_some (get nat_eq old packet) ≡ false)
+      (put : new.entries ≡ insert_entry nat_eq old.entries packet p) where
+    pushed : new.entries ≡ old.entries ++ (packet, p) ∷ []
+    pushed = put ∙ insert_entry-new nat_eq old packet p (unfound (get nat_eq old packet) fresh)
+
+    pub values_sent : values new ≡ values old ++ p ∷ []
+    values_sent = ap values_of pushed ∙ map_push (λ (e : ℕ × Traveller). e.1) old.entries (packet, p)
+
+    pub keys_sent : p.packet.number ≡ packet → keys new ≡ numbers_of (values new)
+    keys_sent own =
+        ap keys_of pushed ∙ map_push (λ (e : ℕ × Traveller). e.0) old.entries (packet, p)
+        ∙ ap (λ ns. ns ++ packet ∷ []) kept ∙ ap (λ n. numbers_of (values old) ++ n ∷ []) (sym own)
+        ∙ sym (map_push (λ (q : Traveller). q.packet.number) (values old) p) ∙ ap numbers_of (sym values_sent)
+
+-- a packet put in place of another
+values-with_value_at : {S : Type 0} (m : IndexMap ℕ Traveller S) (i : ℕ) (t : Traveller) → values (with_value_at m i t) ≡ slice_set (values m) i t
+values-with_value_at m i t = by m.entries i
+  where
+    by : (es : List (ℕ × Traveller)) (i : ℕ) → values_of (set_value_at es i t) ≡ slice_set (values_of es) i t
+    by [] i = refl
+    by (e ∷ es) zero = refl
+    by (e ∷ es) (suc i) = ap (λ ts. e.1 ∷ ts) (by es i)
 
 module _ (t : Table) (g : Stage) (flow packet size dscp moment : ℕ) where
   abbrev own : Packet
   own = record { flow = flow; number = packet; size = size; dscp = dscp; begun = moment }
 
   -- a number that was sent before
-  pub send_known : is_some (position (is_of packet) g.travellers) ≡ true → stepped t g (Send flow packet size dscp moment) ≡ Err BadStep
+  pub send_known : list_any (nat_eq packet) (numbers_of g.travellers) ≡ true → stepped t g (Send flow packet size dscp moment) ≡ Err BadStep
   unfolding stepped
-  send_known known = rw (list_any-position (is_of packet) g.travellers ∙ known) refl
+  send_known known = rw known refl
 
   -- a number that was not
-  send_new : (begun : Option Traveller) → is_some (position (is_of packet) g.travellers) ≡ false
+  send_new : (begun : Option Traveller) → list_any (nat_eq packet) (numbers_of g.travellers) ≡ false
       → begun_of (ground_of t) (record { flow = flow; number = packet; size = size; dscp = dscp; begun = moment }) ≡ begun
       → stepped t g (Send flow packet size dscp moment) ≡ sent g begun
   unfolding stepped
-  send_new begun new is = rw (list_any-position (is_of packet) g.travellers ∙ new) (ap (sent g) is)
+  send_new begun new is = rw new (ap (sent g) is)
 
-  pub send_begun : (p : Traveller) → is_some (position (is_of packet) g.travellers) ≡ false
-      → begun_of (ground_of t) (record { flow = flow; number = packet; size = size; dscp = dscp; begun = moment }) ≡ Some p
-      → stepped t g (Send flow packet size dscp moment) ≡ Ok (record g { travellers = g.travellers ++ p ∷ [] })
-  send_begun p new is = send_new (Some p) new is
+  pub send_begun : (p : Traveller) (ts : List Traveller) → list_any (nat_eq packet) (numbers_of g.travellers) ≡ false
+      → begun_of (ground_of t) own ≡ Some p → ts ≡ g.travellers ++ p ∷ []
+      → stepped t g (Send flow packet size dscp moment) ≡ Ok (record { travellers = ts; books = g.books })
+  send_begun p ts new is pushed = send_new (Some p) new is ∙ ap (λ us. Ok (record { travellers = us; books = g.books })) (sym pushed)
 
-  pub send_refused : (fault : BeginFault) → is_some (position (is_of packet) g.travellers) ≡ false
+  pub send_refused : (fault : BeginFault) → list_any (nat_eq packet) (numbers_of g.travellers) ≡ false
       → (fault ≡ begins.UnknownFlow → contract_of (ground_of t) flow ≡ None)
       → (begin_fault_of fault ≡ NoMemory) ⊎ (stepped t g (Send flow packet size dscp moment) ≡ Err (begin_fault_of fault))
   send_refused begins.UnknownFlow new unknown = inr (send_new None new (ap (option_map _) (unknown refl)))
   send_refused begins.NoMemory new unknown = inl refl
 
-  begun_number : (found : Option Contract) (p : Traveller) → option_map (beginning t own) found ≡ Some p → p.packet.number ≡ packet
-  begun_number None p is = absurd cc
-  begun_number (Some c) p is = ap (λ (q : Traveller). q.packet.number) (sym (same_Some _ p is))
-
-  -- what is kept stays so where the packet begins
-  pub send_keeps : (h : Stage) (p : Traveller) (place : ℕ) (old new : ℕ → Option ℕ) → IsUnderWay t g
-      → ((n : ℕ) → old n ≡ position (is_of n) g.travellers) → is_some (position (is_of packet) g.travellers) ≡ false
-      → begun_of (ground_of t) (record { flow = flow; number = packet; size = size; dscp = dscp; begun = moment }) ≡ Some p
-      → place ≡ length g.travellers → ((n : ℕ) → new n ≡ cond (nat_eq packet n) (Some place) (old n))
-      → h ≡ record g { travellers = g.travellers ++ p ∷ [] }
-      → IsUnderWay t h × ((n : ℕ) → new n ≡ position (is_of n) h.travellers)
-  send_keeps h p place old new way kept fresh begun last more is =
-      let number : p.packet.number ≡ packet = begun_number (contract_of (ground_of t) flow) p begun in
-      let absent : is_some (old p.packet.number) ≡ false = ap (λ n. is_some (old n)) number ∙ ap is_some (kept packet) ∙ fresh in (
-        stepped_under_way t g h (Send flow packet size dscp moment) way (send_begun p fresh begun ∙ ap (λ s. Ok s) (sym is)),
-        λ n. places_sent old new g.travellers p place kept absent last (λ k. more k ∙ ap (λ own. cond (nat_eq own k) (Some place) (old k)) (sym number)) n
-            ∙ ap (λ (s : Stage). position (is_of n) s.travellers) (sym is),
-      )
+  -- the packet that begins is of that number
+  pub begun_number : (p : Traveller) → begun_of (ground_of t) own ≡ Some p → p.packet.number ≡ packet
+  begun_number p is = by (contract_of (ground_of t) flow) is
+    where
+      by : (found : Option Contract) → option_map (beginning t own) found ≡ Some p → p.packet.number ≡ packet
+      by None is = absurd cc
+      by (Some c) is = ap (λ (q : Traveller). q.packet.number) (sym (same_Some _ p is))
 
 module _ (t : Table) (g : Stage) (packet moment : ℕ) where
-  pub visit_unknown : position (is_of packet) g.travellers ≡ None → stepped t g (Visit packet moment) ≡ Err BadStep
+  pub visit_unknown : position (nat_eq packet) (numbers_of g.travellers) ≡ None → stepped t g (Visit packet moment) ≡ Err BadStep
   unfolding stepped
   visit_unknown none = rw none refl
 
-  pub visit_known : (place : ℕ) → position (is_of packet) g.travellers ≡ Some place
-      → stepped t g (Visit packet moment) ≡ visited_by g moment place (slice_get g.travellers place)
-  unfolding stepped
-  visit_known place is = rw is refl
+-- a packet that is kept by its number, and is put back where it stood
+module _ {S : Type 0} (t : Table) (kept : IndexMap ℕ Traveller S) (books : List (Option Book)) (packet moment place : ℕ) (p : Traveller) (own : keys kept ≡ numbers_of (values kept))
+    (found : position (nat_eq packet) (keys kept) ≡ Some place) (there : slice_get (values kept) place ≡ Some p) where
+  abbrev before : Stage
+  before = record { travellers = values kept; books = books }
 
-  -- what is kept stays so, whether the packet went on or not
-  pub visit_keeps : {A : Type 0} (h : Stage) (place : ℕ) (old : ℕ → Option ℕ) (result : Result A StepFault) → IsUnderWay t g
-      → ((n : ℕ) → old n ≡ position (is_of n) g.travellers) → position (is_of packet) g.travellers ≡ Some place
-      → OnOk result (visited_by g moment place (slice_get g.travellers place) ≡ Ok h)
-      → OnErr result ((h.travellers ≡ g.travellers) × (h.books ≡ g.books))
-      → IsUnderWay t h × ((n : ℕ) → old n ≡ position (is_of n) h.travellers)
-  visit_keeps h place old (Ok made) way kept known done unchanged = (
-    stepped_under_way t g h (Visit packet moment) way (visit_known place known ∙ done),
-    λ n. kept n ∙ sym (places_visited g h moment place n done),
+  abbrev behind : Traveller → List (Option Book) → Stage
+  behind q after = record { travellers = values (with_value_at kept place q); books = after }
+
+  known : stepped t before (Visit packet moment) ≡ visited_by before moment place (slice_get (values kept) place)
+  unfolding stepped
+  known = ap (visited_from before moment) (ap (position (nat_eq packet)) (sym own) ∙ found)
+
+  goes_on : visited_by before moment place (slice_get (values kept) place) ≡ put_back before place (visited_next p books moment)
+  goes_on = ap (visited_by before moment place) there
+
+  made : (q : Traveller) (after : List (Option Book)) → visited_next p books moment ≡ Ok (q, after)
+      → visited_by before moment place (slice_get (values kept) place) ≡ Ok (behind q after)
+  made q after done =
+      goes_on ∙ ap (put_back before place) done ∙ ap (λ ts. Ok (record { travellers = ts; books = after })) (sym (values-with_value_at kept place q))
+
+  pub visit_done : {A : Type 0} (q : Traveller) (after : List (Option Book)) (result : Result A StepFault) → OnOk result (visited_next p books moment ≡ Ok (q, after))
+      → OnOk result (stepped t before (Visit packet moment) ≡ Ok (behind q after))
+  visit_done q after (Ok x) done = known ∙ made q after done
+  visit_done q after (Err fault) done = done
+
+  pub visit_refused : {A : Type 0} (result : Result A StepFault) → IfErr result (λ fault. (fault ≡ NoMemory) ⊎ (visited_next p books moment ≡ Err fault))
+      → IfErr result (λ fault. (fault ≡ NoMemory) ⊎ (stepped t before (Visit packet moment) ≡ Err fault))
+  visit_refused (Ok x) refused = refused
+  visit_refused (Err fault) (inl memory) = inl memory
+  visit_refused (Err fault) (inr refused) = inr (known ∙ goes_on ∙ ap (put_back before place) refused)
+
+  unchanged : (q : Traveller) (after : List (Option Book)) → q ≡ p → after ≡ books → behind q after ≡ before
+  unchanged q after same all =
+      let stays : values (with_value_at kept place q) ≡ values kept = values-with_value_at kept place q ∙ set_same (values kept) place q (there ∙ ap Some (sym same)) in
+      ap (λ ts. record { travellers = ts; books = after }) stays ∙ ap (λ bs. record { travellers = values kept; books = bs }) all
+
+  pub visit_unchanged : {A : Type 0} (q : Traveller) (after : List (Option Book)) (result : Result A StepFault) → OnErr result ((q ≡ p) × (after ≡ books))
+      → OnErr result (◌≡◌ {A = Conduct} (record { table = t; stage = behind q after }) (record { table = t; stage = before }))
+  visit_unchanged q after (Ok x) same = same
+  visit_unchanged q after (Err fault) same = ap (λ (g : Stage). record { table = t; stage = g }) (unchanged q after same.0 same.1)
+
+  -- the packets stay on their way, and keep their numbers, whether the packet went on or not
+  pub visit_keeps : {A : Type 0} (q : Traveller) (after : List (Option Book)) (result : Result A StepFault) → IsUnderWay t before
+      → OnOk result (visited_next p books moment ≡ Ok (q, after)) → OnErr result ((q ≡ p) × (after ≡ books))
+      → IsUnderWay t (behind q after) × (keys (with_value_at kept place q) ≡ numbers_of (values (with_value_at kept place q)))
+  visit_keeps q after (Ok x) way done same = (
+    stepped_under_way t before (behind q after) (Visit packet moment) way (known ∙ made q after done),
+    keys-with_value_at kept place q ∙ own ∙ sym (numbers_visited before (behind q after) place moment (made q after done)),
   )
-  visit_keeps h place old (Err fault) way kept known done unchanged =
-      let same : g ≡ h = ap (λ ts. record { travellers = ts; books = g.books }) (sym unchanged.0) ∙ ap (λ bs. record { travellers = h.travellers; books = bs }) (sym unchanged.1) in
-      subst (λ s. IsUnderWay t s × ((n : ℕ) → old n ≡ position (is_of n) s.travellers)) same (way, kept)
+  visit_keeps q after (Err fault) way done same =
+      let stays = unchanged q after same.0 same.1 in
+      (subst (IsUnderWay t) (sym stays) way, keys-with_value_at kept place q ∙ own ∙ ap (λ (g : Stage). numbers_of g.travellers) (sym stays))

@@ -1,5 +1,5 @@
 -- What holds of packets on their way and of the books of the sites: at first, after each step, and that it is a run.
-use Rattle.std.proofs.Common.{◌≡◌, ◌+◌, ℕ, [], map, Option, None, Some, refl, sym, ◌∙◌, ap, subst, subst₂, arith}
+use Rattle.std.proofs.Common.{◌≡◌, ◌+◌, ℕ, nat_eq, [], map, Option, None, Some, refl, sym, ◌∙◌, ap, subst, subst₂, arith}
 use Rattle.std.specs.Prelude.{is_some, option_map, position, slice_get, IsPermutation, IsSome, Ok}
 use Rattle.std.specs.List.{Contains, list_any}
 use Rattle.std.proofs.lemmas.Bool.{false≢true}
@@ -14,7 +14,7 @@ use Rattle.meter_fabric.specs.Travels.{Traveller}
 use Rattle.run_audit_base.specs.Runs.{AreJournals, IsPassage, IsRun, told}
 use Rattle.meter_fabric.specs.Openings.{opening_at, site_count}
 use Rattle.ds_conductor_base.specs.Conducting.{passage_of, run_so_far}
-use Rattle.ds_conductor_base.specs.Steps.{Stage, book_at, is_of, opened, opened_at, some_of, stepped}
+use Rattle.ds_conductor_base.specs.Steps.{Stage, book_at, numbers_of, opened, opened_at, some_of, stepped}
 use Rattle.ds_conductor_base.specs.UnderWay.{IsOnItsWay, IsUnderWay, opening_in}
 use Rattle.ds_conductor_base.specs.declared.step.Step.{Step}
 use Rattle.ds_conductor_base.specs.declared.step.Step.TheVariants.{Send, Visit}
@@ -40,8 +40,8 @@ opened_under_way t = record {
 pub stepped_under_way : (t : Table) (g h : Stage) (s : Step) → IsUnderWay t g → stepped t g s ≡ Ok h → IsUnderWay t h
 unfolding stepped
 stepped_under_way t g h (Send flow packet size dscp moment) way done =
-    sent_under_way t g h (record { flow = flow; number = packet; size = size; dscp = dscp; begun = moment }) (list_any (is_of packet) g.travellers) way refl done
-stepped_under_way t g h (Visit packet moment) way done = visited_under_way t g h (position (is_of packet) g.travellers) moment way done
+    sent_under_way t g h (record { flow = flow; number = packet; size = size; dscp = dscp; begun = moment }) (list_any (nat_eq packet) (numbers_of g.travellers)) way refl done
+stepped_under_way t g h (Visit packet moment) way done = visited_under_way t g h (position (nat_eq packet) (numbers_of g.travellers)) moment way done
 
 -- ---- what is under way is a run
 

@@ -7,24 +7,29 @@ use Rattle.std.proofs.lemmas.List.{map-append, map-set}
 use Rattle.std.proofs.lemmas.List.Elements.{All-set, filter-append}
 use Rattle.std.proofs.lemmas.List.Sorted.{IsPermutation-append_left, IsPermutation-trans}
 use Rattle.std.proofs.lemmas.Option.{same_Some, slice_get-map, slice_get_within, get_or_from_slice_get}
-use Rattle.meter_book.specs.Replay.{Book, meter_after, next_row, noted, row_of, rows_of}
+use Rattle.std.proofs.lemmas.Simd.{map-map}
+use Rattle.meter_book.specs.Replay.{Book, is_full, meter_after, next_row, noted, row_of, rows_of}
 use Rattle.meter_book.specs.declared.row.Arrival.{Arrival}
 use Rattle.meter_book.specs.declared.row.Row.{Row}
 use Rattle.meter_book.proofs.ReplayLaws.{rows_from-push}
 use Rattle.ds_checker.specs.Acceptance.{Table}
 use Rattle.meter_fabric.specs.Grounds.{ground_of}
-use Rattle.meter_fabric.specs.Trails.{arrival_at}
-use Rattle.meter_fabric.specs.Travels.{Traveller, comes_as, last_moment, next_hop, received, visit_at}
-use Rattle.meter_fabric.specs.declared.fault.VisitFault.TheVariants as visits
+use Rattle.meter_fabric.specs.Trails.{Packet, arrival_at}
+use Rattle.meter_fabric.specs.Travels.{Traveller, comes_as, last_moment, next_hop, noting, received, visit_at}
+use Rattle.meter_fabric.specs.declared.fault.VisitFault.TheVariants.{BeforeLast, JournalFull}
 use Rattle.meter_fabric.specs.declared.hop.Hop.{Hop}
 use Rattle.meter_fabric.specs.declared.trail.Receipt.{Receipt}
 use Rattle.meter_fabric.proofs.TrailLaws.{trail_of-received}
 use Rattle.run_audit_base.specs.Runs.{told, told_by}
 use Rattle.meter_fabric.specs.Openings.{opening_at}
 use Rattle.ds_conductor_base.specs.Conducting.{passage_of}
-use Rattle.ds_conductor_base.specs.Steps.{Stage, book_at, some_of, visited, visited_at, visited_by, visited_from, visited_next}
+use Rattle.ds_conductor_base.specs.Steps.{Stage, as_step, book_at, numbers_of, put_back, some_of, visit_there, visited_at, visited_by, visited_from, with_books}
 use Rattle.ds_conductor_base.specs.UnderWay.{IsOnItsWay, IsUnderWay, opening_in}
-use Rattle.ds_conductor_base.proofs.ListLaws.{AllPairs-set, flat_map-set_more, flat_map-set_same, same_Ok, set_elsewhere, set_here, some_of-some}
+use Rattle.ds_conductor_base.proofs.ListLaws.{AllPairs-set, flat_map-set_more, flat_map-set_same, map-set_same, same_Ok, set_elsewhere, set_here, some_of-some}
+
+-- the packets of travellers
+abbrev pub packets_in : List Traveller → List Packet
+packets_in ts = map (λ t. t.packet) ts
 
 -- ---- one receipt more, and one row
 
@@ -53,20 +58,20 @@ rows_of-noted b a =
 -- ---- a visit
 
 -- the packet of a place comes to its next hop, where there is a book, and not before its last moment
-record Visits (g : Stage) (place : ℕ) (p : Traveller) (hop : Hop) (b : Book) (moment : ℕ) : Type 0 where
+pub record Visits (g : Stage) (place : ℕ) (p : Traveller) (hop : Hop) (b : Book) (moment : ℕ) : Type 0 where
   pub packet : slice_get g.travellers place ≡ Some p
   pub next : next_hop p ≡ Some hop
   pub book : book_at g hop.site ≡ Some b
   pub in_time : last_moment p ≤ moment
 
 -- its arrival there
-abbrev coming : Traveller → Hop → ℕ → Arrival
+abbrev pub coming : Traveller → Hop → ℕ → Arrival
 coming p hop moment = arrival_at p.packet hop moment (comes_as p)
 
-abbrev behind : Traveller → Hop → Book → ℕ → Traveller
+abbrev pub behind : Traveller → Hop → Book → ℕ → Traveller
 behind p hop b moment = received p hop (next_row b (coming p hop moment))
 
-abbrev stage_behind : Stage → ℕ → Traveller → Hop → Book → ℕ → Stage
+abbrev pub stage_behind : Stage → ℕ → Traveller → Hop → Book → ℕ → Stage
 stage_behind g place p hop b moment = record {
   travellers = slice_set g.travellers place (behind p hop b moment);
   books = slice_set g.books hop.site (Some (noted b (coming p hop moment)));
@@ -81,18 +86,18 @@ stays_on_its_way : (t : Table) (g : Stage) (place : ℕ) (p : Traveller) (hop : 
 stays_on_its_way t g place p hop b moment visits (c, is, came_is, hops_are, trail) =
     (c, is, came_is, hops_are, trail_of-received p hop (next_row b (coming p hop moment)) trail visits.next (record { site = refl; arrival = refl; in_time = visits.in_time }))
 
-book_here : (g : Stage) (place : ℕ) (p : Traveller) (hop : Hop) (b : Book) (moment : ℕ) → Visits g place p hop b moment
+pub book_here : (g : Stage) (place : ℕ) (p : Traveller) (hop : Hop) (b : Book) (moment : ℕ) → Visits g place p hop b moment
     → book_at (stage_behind g place p hop b moment) hop.site ≡ Some (noted b (coming p hop moment))
 book_here g place p hop b moment visits =
     ap some_of (set_here g.books hop.site (Some b) (Some (noted b (coming p hop moment))) (some_of-some (slice_get g.books hop.site) b visits.book))
 
-same_site : (m n : ℕ) → nat_eq m n ≡ true → m ≡ n
+pub same_site : (m n : ℕ) → nat_eq m n ≡ true → m ≡ n
 same_site m n test = grind (arith, nat_tests)
 
 other_site : (m n : ℕ) → nat_eq m n ≡ false → ¬ (m ≡ n)
 other_site m n test same = grind (arith, nat_tests)
 
-book_elsewhere : (g : Stage) (place : ℕ) (p : Traveller) (hop : Hop) (b : Book) (moment site : ℕ) → nat_eq hop.site site ≡ false
+pub book_elsewhere : (g : Stage) (place : ℕ) (p : Traveller) (hop : Hop) (b : Book) (moment site : ℕ) → nat_eq hop.site site ≡ false
     → book_at (stage_behind g place p hop b moment) site ≡ book_at g site
 book_elsewhere g place p hop b moment site other =
     ap some_of (set_elsewhere g.books hop.site site (Some (noted b (coming p hop moment))) (other_site hop.site site other))
@@ -160,39 +165,69 @@ visits_under_way t g place p hop b moment way visits = record {
   rows = λ site found. rows_by t g place p hop b moment site (nat_eq hop.site site) found way visits refl;
 }
 
--- ---- what stands against one
+-- ---- a visit that is made
 
 in_time : (moment last : ℕ) → nat_lt moment last ≡ false → last ≤ moment
 in_time moment last test = grind (arith, nat_tests)
 
-done_by : (t : Table) (g h : Stage) (place : ℕ) (p : Traveller) (hop : Hop) (b : Book) (moment : ℕ) (early full : Bool) → IsUnderWay t g
-    → slice_get g.travellers place ≡ Some p → next_hop p ≡ Some hop → book_at g hop.site ≡ Some b → nat_lt moment (last_moment p) ≡ early
-    → visited g place hop.site (if early then Err visits.BeforeLast else if full then Err visits.JournalFull else Ok (behind p hop b moment, noted b (coming p hop moment))) ≡ Ok h
-    → IsUnderWay t h
-done_by t g h place p hop b moment true full way packet next book test done = absurd cc
-done_by t g h place p hop b moment false true way packet next book test done = absurd cc
-done_by t g h place p hop b moment false false way packet next book test done =
-    subst (IsUnderWay t) (same_Ok (stage_behind g place p hop b moment) h done)
-    (visits_under_way t g place p hop b moment way (record { packet = packet; next = next; book = book; in_time = in_time moment (last_moment p) test }))
+-- the packet of a place visited the book of its next site
+pub record IsVisited (g h : Stage) (place moment : ℕ) : Type 0 where
+  pub packet : Traveller
+  pub hop : Hop
+  pub book : Book
+  pub visits : Visits g place packet hop book moment
+  pub made : stage_behind g place packet hop book moment ≡ h
 
-visited_book : (t : Table) (g h : Stage) (place : ℕ) (p : Traveller) (hop : Hop) (found : Option Book) (moment : ℕ) → IsUnderWay t g
-    → slice_get g.travellers place ≡ Some p → next_hop p ≡ Some hop → book_at g hop.site ≡ found → visited_at g place p moment hop.site found ≡ Ok h → IsUnderWay t h
-visited_book t g h place p hop None moment way packet next book done = absurd cc
-visited_book t g h place p hop (Some b) moment way packet next book done =
-    done_by t g h place p hop b moment (nat_lt moment (last_moment p)) (nat_eq (length b.arrivals) b.capacity) way packet next book refl
-    (subst (λ n. visited g place hop.site (visit_at n p b moment) ≡ Ok h) next done)
+module _ (g h : Stage) (place moment : ℕ) where
+  visited_test : (p : Traveller) (hop : Hop) (b : Book) (early full : Bool) → slice_get g.travellers place ≡ Some p → next_hop p ≡ Some hop → book_at g hop.site ≡ Some b
+      → nat_lt moment (last_moment p) ≡ early
+      → put_back g place (with_books g.books hop.site (as_step (if early then Err BeforeLast else if full then Err JournalFull else Ok (noting p b hop (coming p hop moment))))) ≡ Ok h
+      → IsVisited g h place moment
+  visited_test p hop b true full packet next book test done = absurd cc
+  visited_test p hop b false true packet next book test done = absurd cc
+  visited_test p hop b false false packet next book test done = record {
+    packet = p;
+    hop = hop;
+    book = b;
+    visits = record { packet = packet; next = next; book = book; in_time = in_time moment (last_moment p) test };
+    made = same_Ok (stage_behind g place p hop b moment) h done;
+  }
 
-visited_hop : (t : Table) (g h : Stage) (place : ℕ) (p : Traveller) (found : Option Hop) (moment : ℕ) → IsUnderWay t g
-    → slice_get g.travellers place ≡ Some p → next_hop p ≡ found → visited_next g place p moment (option_map (λ hop. hop.site) found) ≡ Ok h → IsUnderWay t h
-visited_hop t g h place p None moment way packet next done = absurd cc
-visited_hop t g h place p (Some hop) moment way packet next done = visited_book t g h place p hop (book_at g hop.site) moment way packet next refl done
+  visited_book : (p : Traveller) (hop : Hop) (found : Option Book) → slice_get g.travellers place ≡ Some p → next_hop p ≡ Some hop → book_at g hop.site ≡ found
+      → put_back g place (with_books g.books hop.site (visit_there p found moment)) ≡ Ok h → IsVisited g h place moment
+  visited_book p hop None packet next book done = absurd cc
+  visited_book p hop (Some b) packet next book done =
+      visited_test p hop b (nat_lt moment (last_moment p)) (is_full b) packet next book refl
+      (subst (λ n. put_back g place (with_books g.books hop.site (as_step (visit_at n p b moment))) ≡ Ok h) next done)
 
-visited_packet : (t : Table) (g h : Stage) (place : ℕ) (found : Option Traveller) (moment : ℕ) → IsUnderWay t g
-    → slice_get g.travellers place ≡ found → visited_by g moment place found ≡ Ok h → IsUnderWay t h
-visited_packet t g h place None moment way packet done = absurd cc
-visited_packet t g h place (Some p) moment way packet done = visited_hop t g h place p (next_hop p) moment way packet refl done
+  visited_hop : (p : Traveller) (found : Option Hop) → slice_get g.travellers place ≡ Some p → next_hop p ≡ found
+      → put_back g place (visited_at p g.books moment (option_map (λ hop. hop.site) found)) ≡ Ok h → IsVisited g h place moment
+  visited_hop p None packet next done = absurd cc
+  visited_hop p (Some hop) packet next done = visited_book p hop (book_at g hop.site) packet next refl done
+
+  visited_packet : (found : Option Traveller) → slice_get g.travellers place ≡ found → visited_by g moment place found ≡ Ok h → IsVisited g h place moment
+  visited_packet None packet done = absurd cc
+  visited_packet (Some p) packet done = visited_hop p (next_hop p) packet refl done
+
+  pub is_visited : visited_by g moment place (slice_get g.travellers place) ≡ Ok h → IsVisited g h place moment
+  is_visited done = visited_packet (slice_get g.travellers place) refl done
+
+  -- no packet changes by it
+  pub packets_visited : visited_by g moment place (slice_get g.travellers place) ≡ Ok h → packets_in h.travellers ≡ packets_in g.travellers
+  packets_visited done =
+      let v = is_visited done in
+      ap (λ (s : Stage). packets_in s.travellers) (sym v.made)
+      ∙ map-set_same (λ (u : Traveller). u.packet) g.travellers place v.packet (behind v.packet v.hop v.book moment) v.visits.packet refl
+
+  pub numbers_visited : visited_by g moment place (slice_get g.travellers place) ≡ Ok h → numbers_of h.travellers ≡ numbers_of g.travellers
+  numbers_visited done =
+      sym (map-map (λ (p : Packet). p.number) (λ (t : Traveller). t.packet) h.travellers)
+      ∙ ap (map (λ p. p.number)) (packets_visited done)
+      ∙ map-map (λ (p : Packet). p.number) (λ (t : Traveller). t.packet) g.travellers
 
 -- the packet of a place comes to its next site
 pub visited_under_way : (t : Table) (g h : Stage) (found : Option ℕ) (moment : ℕ) → IsUnderWay t g → visited_from g moment found ≡ Ok h → IsUnderWay t h
 visited_under_way t g h None moment way done = absurd cc
-visited_under_way t g h (Some place) moment way done = visited_packet t g h place (slice_get g.travellers place) moment way refl done
+visited_under_way t g h (Some place) moment way done =
+    let v = is_visited g h place moment done in
+    subst (IsUnderWay t) v.made (visits_under_way t g place v.packet v.hop v.book moment way v.visits)

@@ -1,9 +1,9 @@
 -- What the fields of a conductor stand for, and what they keep.
-use Rattle.std.specs.Prelude.{◌≡◌, ◌≤◌, ◌^◌, ℕ, nat_eq, position}
-use Rattle.indexmap.specs.IndexMap.{get}
+use Rattle.std.specs.Prelude.{◌≡◌, ◌≤◌, ◌^◌}
+use Rattle.indexmap.specs.IndexMap.{keys, values}
 use Rattle.ds_checker.specs.Acceptance.{Table}
 use Rattle.meter_fabric.specs.Openings.{site_count}
-use Rattle.ds_conductor_base.specs.Steps.{Stage, is_of}
+use Rattle.ds_conductor_base.specs.Steps.{Stage, numbers_of}
 use Rattle.ds_conductor_base.specs.UnderWay.{IsUnderWay}
 use Rattle.ds_conductor_base.specs.declared.conductor.Conductor.TheInside as conductors
 
@@ -13,14 +13,13 @@ pub record Conduct : Type 0 where
   pub stage : Stage
 
 abbrev pub stage_of : conductors.Inside → Stage
-stage_of c = record { travellers = c.travellers.items; books = c.books.items }
+stage_of c = record { travellers = values c.travellers; books = c.books.items }
 
 abbrev pub conduct_of : conductors.Inside → Conduct
 conduct_of c = record { table = c.accepted.now; stage = stage_of c }
 
--- the packets are on the ways of their contracts, the place that is kept of a number is that of its packet, and the
--- numbers of sites have 32 bits
+-- the packets are on the ways of their contracts, each is kept by its number, and the numbers of sites have 32 bits
 pub record IsConductor (c : conductors.Inside) : Type 0 where
   pub under_way : IsUnderWay c.accepted.now (stage_of c)
-  pub places : (number : ℕ) → get nat_eq c.places number ≡ position (is_of number) c.travellers.items
+  pub numbers : keys c.travellers ≡ numbers_of (values c.travellers)
   pub numbered : site_count c.accepted.now ≤ 2 ^ 32

@@ -1,12 +1,17 @@
 -- What steps keep, and what they make.
-use Rattle.std.specs.Prelude.{◌≡◌, List, [], ◌∷◌, flat_map, map, Ok}
+use Rattle.std.specs.Prelude.{◌≡◌, ℕ, nat_eq, List, [], ◌∷◌, ◌++◌, All, flat_map, map, position, slice_get, Option, None}
+use Rattle.std.specs.Prelude.{Some, Result, Ok, Err, if◌then◌else◌}
+use Rattle.meter_book.specs.declared.row.Arrival.{Arrival}
 use Rattle.ds_checker.specs.Acceptance.{Table}
 use Rattle.meter_fabric.specs.Grounds.{ground_of}
-use Rattle.meter_fabric.specs.Trails.{Packet}
+use Rattle.meter_fabric.specs.Trails.{Packet, arrival_at}
+use Rattle.meter_fabric.specs.Travels.{Traveller, comes_as, next_hop}
+use Rattle.meter_fabric.specs.declared.hop.Hop.{Hop}
 use Rattle.run_audit_base.specs.Runs.{IsRun, Run}
 use Rattle.ds_conductor_base.specs.Conducting.{conducted, run_so_far}
-use Rattle.ds_conductor_base.specs.Steps.{Stage, opened, stepped}
+use Rattle.ds_conductor_base.specs.Steps.{Stage, numbers_of, opened, stepped}
 use Rattle.ds_conductor_base.specs.UnderWay.{IsUnderWay}
+use Rattle.ds_conductor_base.specs.declared.fault.StepFault.{StepFault}
 use Rattle.ds_conductor_base.specs.declared.step.Step.{Step}
 use Rattle.ds_conductor_base.specs.declared.step.Step.TheVariants.{Send, Visit}
 
@@ -32,3 +37,39 @@ abbrev pub PacketsAreThoseSent : Type 0
 PacketsAreThoseSent =
     (t : Table) (all : List Step) (run : Run) → conducted t all ≡ Ok run
     → map (λ p. p.packet) run.passages ≡ flat_map sent_by all
+
+-- a packet arrives at its next hop, if that is at the site, with the colour that it left its last hop with
+abbrev pub arrival_there : ℕ → Traveller → ℕ → Option Hop → List Arrival
+arrival_there site p moment None = []
+arrival_there site p moment (Some hop) =
+    if nat_eq hop.site site then arrival_at p.packet hop moment (comes_as p) ∷ [] else []
+
+abbrev pub arrival_by : ℕ → ℕ → Option Traveller → List Arrival
+arrival_by site moment None = []
+arrival_by site moment (Some p) = arrival_there site p moment (next_hop p)
+
+abbrev pub arrival_from : ℕ → Stage → ℕ → Option ℕ → List Arrival
+arrival_from site g moment None = []
+arrival_from site g moment (Some place) = arrival_by site moment (slice_get g.travellers place)
+
+-- what a step brings to a site: a visit the packet of its number
+abbrev pub brought_by : ℕ → Stage → Step → List Arrival
+brought_by site g (Send flow packet size dscp moment) = []
+brought_by site g (Visit packet moment) =
+    arrival_from site g moment (position (nat_eq packet) (numbers_of g.travellers))
+
+abbrev pub behind_step : (Stage → List Arrival) → Result Stage StepFault → List Arrival
+behind_step rest (Ok g) = rest g
+behind_step rest (Err fault) = []
+
+-- what steps bring to a site, one after the other
+unfoldable pub brought : Table → ℕ → Stage → List Step → List Arrival
+brought t site g [] = []
+brought t site g (s ∷ rest) = brought_by site g s ++ behind_step (λ h. brought t site h rest) (stepped t g s)
+
+-- The journal of each site of the run that a list of steps makes is that of what the visits there bring, in the order of
+-- the list.
+abbrev pub JournalsAreTheVisits : Type 0
+JournalsAreTheVisits =
+    (t : Table) (all : List Step) (run : Run) → conducted t all ≡ Ok run
+    → All (λ j. j.arrivals ≡ brought t j.site (opened t) all) run.journals

@@ -4,4 +4,3 @@ pub mod Kept
 pub mod Laws
 pub mod Steps
 pub mod UnderWay
-pub mod Visits

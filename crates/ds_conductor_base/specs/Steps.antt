@@ -1,5 +1,5 @@
 -- What a step makes of packets on their way and of the books of the sites.
-use Rattle.std.specs.Prelude.{ℕ, ◌+◌, ◌^◌, nat_eq, Bool, if◌then◌else◌, List, [], ◌∷◌, ◌++◌, length, map, min, position}
+use Rattle.std.specs.Prelude.{ℕ, ◌^◌, nat_eq, if◌then◌else◌, List, [], ◌∷◌, ◌++◌, map, position}
 use Rattle.std.specs.Prelude.{slice_get, slice_set, option_map, Option, None, Some, Result, Ok, Err}
 use Rattle.std.specs.List.{list_any, range_with_len}
 use Rattle.meter_book.specs.Replay.{Book}
@@ -7,10 +7,10 @@ use Rattle.ds_checker.specs.Acceptance.{Table}
 use Rattle.meter_fabric.specs.Grounds.{ground_of}
 use Rattle.meter_fabric.specs.Travels.{Traveller, begun_of, next_site, visit}
 use Rattle.meter_fabric.specs.declared.fault.VisitFault.{VisitFault}
-use Rattle.meter_fabric.specs.declared.fault.VisitFault.TheVariants as visits
 use Rattle.meter_fabric.specs.Openings.{book_with, opening_at, site_count}
+use Rattle.ds_conductor_base.specs.Faults.{visit_fault_of}
 use Rattle.ds_conductor_base.specs.declared.fault.StepFault.{StepFault}
-use Rattle.ds_conductor_base.specs.declared.fault.StepFault.TheVariants.{BadStep, JournalFull, NoMemory}
+use Rattle.ds_conductor_base.specs.declared.fault.StepFault.TheVariants.{BadStep}
 use Rattle.ds_conductor_base.specs.declared.step.Step.{Step}
 use Rattle.ds_conductor_base.specs.declared.step.Step.TheVariants.{Send, Visit}
 
@@ -36,36 +36,48 @@ some_of None = None
 abbrev pub book_at : Stage → ℕ → Option Book
 book_at g site = some_of (slice_get g.books site)
 
-abbrev pub is_of : ℕ → Traveller → Bool
-is_of number t = nat_eq t.packet.number number
+-- the numbers of packets
+abbrev pub numbers_of : List Traveller → List ℕ
+numbers_of ts = map (λ t. t.packet.number) ts
 
 -- a packet that begins is the last of those on their way
 abbrev pub sent : Stage → Option Traveller → Result Stage StepFault
 sent g None = Err BadStep
 sent g (Some t) = Ok (record g { travellers = g.travellers ++ t ∷ [] })
 
--- the packet of a place has visited a site, or could not
-abbrev pub visited : Stage → ℕ → ℕ → Result (Traveller × Book) VisitFault → Result Stage StepFault
-visited g place site (Ok done) =
-    Ok (record { travellers = slice_set g.travellers place done.0; books = slice_set g.books site (Some done.1) })
-visited g place site (Err visits.PathEnded) = Err BadStep
-visited g place site (Err visits.BeforeLast) = Err BadStep
-visited g place site (Err visits.JournalFull) = Err JournalFull
-visited g place site (Err visits.NoMemory) = Err NoMemory
+-- a packet and a book behind a visit, or what stands against it
+abbrev pub as_step : Result (Traveller × Book) VisitFault → Result (Traveller × Option Book) StepFault
+as_step (Ok done) = Ok (done.0, Some done.1)
+as_step (Err fault) = Err (visit_fault_of fault)
 
--- a packet at a site, which has a book
-abbrev pub visited_at : Stage → ℕ → Traveller → ℕ → ℕ → Option Book → Result Stage StepFault
-visited_at g place t moment site None = Err BadStep
-visited_at g place t moment site (Some b) = visited g place site (visit t b moment)
+-- a packet at the book of a site, where there may be none
+abbrev pub visit_there : Traveller → Option Book → ℕ → Result (Traveller × Option Book) StepFault
+visit_there t None moment = Err BadStep
+visit_there t (Some b) moment = as_step (visit t b moment)
 
--- a packet comes to its next site, if there is one
-abbrev pub visited_next : Stage → ℕ → Traveller → ℕ → Option ℕ → Result Stage StepFault
-visited_next g place t moment None = Err BadStep
-visited_next g place t moment (Some site) = visited_at g place t moment site (book_at g site)
+-- the packet, and all books
+abbrev pub with_books : List (Option Book) → ℕ → Result (Traveller × Option Book) StepFault
+    → Result (Traveller × List (Option Book)) StepFault
+with_books books site (Ok done) = Ok (done.0, slice_set books site done.1)
+with_books books site (Err fault) = Err fault
+
+abbrev pub visited_at : Traveller → List (Option Book) → ℕ → Option ℕ
+    → Result (Traveller × List (Option Book)) StepFault
+visited_at t books moment None = Err BadStep
+visited_at t books moment (Some site) =
+    with_books books site (visit_there t (some_of (slice_get books site)) moment)
+
+-- a packet comes to its next site, if there is one: the packet and the books behind it
+abbrev pub visited_next : Traveller → List (Option Book) → ℕ → Result (Traveller × List (Option Book)) StepFault
+visited_next t books moment = visited_at t books moment (next_site t)
+
+abbrev pub put_back : Stage → ℕ → Result (Traveller × List (Option Book)) StepFault → Result Stage StepFault
+put_back g place (Ok done) = Ok (record { travellers = slice_set g.travellers place done.0; books = done.1 })
+put_back g place (Err fault) = Err fault
 
 abbrev pub visited_by : Stage → ℕ → ℕ → Option Traveller → Result Stage StepFault
 visited_by g moment place None = Err BadStep
-visited_by g moment place (Some t) = visited_next g place t moment (next_site t)
+visited_by g moment place (Some t) = put_back g place (visited_next t g.books moment)
 
 -- the packet of a place comes to its next site, if there is such a packet
 abbrev pub visited_from : Stage → ℕ → Option ℕ → Result Stage StepFault
@@ -76,8 +88,8 @@ visited_from g moment (Some place) = visited_by g moment place (slice_get g.trav
 -- moment.
 unfoldable pub stepped : Table → Stage → Step → Result Stage StepFault
 stepped t g (Send flow packet size dscp moment) =
-    if list_any (is_of packet) g.travellers then
+    if list_any (nat_eq packet) (numbers_of g.travellers) then
     Err BadStep
     else
     sent g (begun_of (ground_of t) (record { flow = flow; number = packet; size = size; dscp = dscp; begun = moment }))
-stepped t g (Visit packet moment) = visited_from g moment (position (is_of packet) g.travellers)
+stepped t g (Visit packet moment) = visited_from g moment (position (nat_eq packet) (numbers_of g.travellers))

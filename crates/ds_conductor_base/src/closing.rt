@@ -1,7 +1,9 @@
 ghost use Rattle.std.specs.Prelude.{◌≡◌, ◌≤◌, ◌^◌, IfOk, length, map};
+ghost use Rattle.indexmap.specs.IndexMap.{values};
 ghost use Rattle.ds_conductor_base.specs.Conducting.{journals_from, passage_of};
 ghost use Rattle.run_audit.specs.Assembled as assembled;
 
+use indexmap::IndexMap;
 use meter_book::{Journal, MeterBook};
 use meter_fabric::{Trail, Traveller};
 use std::alloc::{AllocError, Global};
@@ -24,11 +26,14 @@ pub(crate) fn journals_of(
 }
 
 /// The trails of packets, in their order.
-pub(crate) fn trails_of(alloc: Global, travellers: Vec<Traveller>) -> Result<Vec<Trail>, AllocError>
-    ensures { IfOk result (λ trails. map assembled.passage_of trails.items ≡ map passage_of travellers.items) }
+pub(crate) fn trails_of(
+    alloc: Global,
+    travellers: IndexMap<u64, Traveller>,
+) -> Result<Vec<Trail>, AllocError>
+    ensures { IfOk result (λ trails. map assembled.passage_of trails.items ≡ map passage_of (values travellers)) }
 {
     let mut trails = Vec::with_capacity(alloc, travellers.len())?;
-    for traveller in travellers {
+    for traveller in travellers.into_values() {
         trails.push(traveller.into_trail())?;
     }
     Ok(trails)

@@ -22,8 +22,7 @@ use std::marker::Model;
 #[derive(Debug, Drop)]
 pub struct Conductor<'a> {
     accepted: &'a Accepted,
-    travellers: Vec<Traveller>,
-    places: IndexMap<u64, usize>,
+    travellers: IndexMap<u64, Traveller>,
     books: Vec<Option<MeterBook>>,
 }
 
@@ -46,8 +45,7 @@ impl<'a> Conductor<'a> {
         let books = opened_books(alloc, accepted)?;
         Ok(Conductor {
             accepted,
-            travellers: Vec::new(alloc),
-            places: IndexMap::new(alloc),
+            travellers: IndexMap::new(alloc),
             books,
         })
     }
@@ -92,15 +90,12 @@ impl<'a> Conductor<'a> {
             ⊎ (stepped self.old.table self.old.stage (Step.Send flow packet size dscp moment) ≡ Err fault)) }
         ensures unchanged { OnErr result (self.new ≡ self.old) }
     {
-        if self.places.contains_key(&packet) {
+        if self.travellers.contains_key(&packet) {
             return Err(StepFault::BadStep);
         }
         let alloc = *self.travellers.allocator();
         let traveller = Traveller::begin(alloc, self.accepted, flow, packet, size, dscp, moment)?;
-        let place = self.travellers.len();
-        self.travellers.reserve(1)?;
-        self.places.insert(packet, place)?;
-        self.travellers.push(traveller).unwrap();
+        self.travellers.insert(packet, traveller)?;
         Ok(())
     }
 
@@ -113,10 +108,10 @@ impl<'a> Conductor<'a> {
             ⊎ (stepped self.old.table self.old.stage (Step.Visit packet moment) ≡ Err fault)) }
         ensures unchanged { OnErr result (self.new ≡ self.old) }
     {
-        let Some(place) = self.places.get(&packet).copied() else {
+        let Some(place) = self.travellers.get_index_of(&packet) else {
             return Err(StepFault::BadStep);
         };
-        visit_next(&mut self.travellers, &mut self.books, place, moment)
+        visit_next(&mut self.travellers[place], &mut self.books, moment)
     }
 
     /// The run that the steps made: the journals of the sites in their order, and the packets as they were sent.
@@ -128,7 +123,6 @@ impl<'a> Conductor<'a> {
         let Conductor {
             accepted,
             travellers,
-            places: _,
             books,
         } = self;
         let journals = journals_of(alloc, books)?;

@@ -1,5 +1,6 @@
 //! What steps make, proved as the contracts of functions that do nothing.
-ghost use Rattle.ds_conductor_base.specs.Laws.{PacketsAreThoseSent, StepsKeepOnTheWay, StepsMakeRuns};
+ghost use Rattle.ds_conductor_base.specs.Laws.{JournalsAreTheVisits, PacketsAreThoseSent, StepsKeepOnTheWay};
+ghost use Rattle.ds_conductor_base.specs.Laws.{StepsMakeRuns};
 
 /// Before the first step, packets are on the ways of their contracts and the books of the sites have the rows that they
 /// carry; each step that is made keeps it so; and what has been made so far is then a run.
@@ -16,4 +17,11 @@ pub fn steps_make_runs()
 /// The packets of the run that a list of steps makes are those that it sends, in its order.
 pub fn packets_are_those_sent()
     ensures { PacketsAreThoseSent }
+{}
+
+/// The journal of each site of the run that a list of steps makes notes the visits that come there, in the list's order:
+/// each with the packet's contract, number and size, the number of its hop, the moment of the visit, and the colour that
+/// the packet left its last hop with.
+pub fn journals_are_the_visits()
+    ensures { JournalsAreTheVisits }
 {}

@@ -6,7 +6,7 @@ ghost use Rattle.run_audit.specs.Assembled.{passage_of};
 ghost use Rattle.run_audit.specs.Hops.{delayed_hop, untimely_hop};
 ghost use Rattle.run_audit.specs.Verdicts.{against_sent, first_found, is_over};
 
-use crate::sending::{Sent, sent_of};
+use crate::sending::{Sending, sent_of};
 use crate::verdict::Verdict;
 use ds_checker::Accepted;
 use ds_domain_base::{Contract, Domain, Name};
@@ -24,7 +24,7 @@ fn is_over(domain: &Domain, from: Name, to: Name, moment: Moment, arrival: Momen
 }
 
 /// The first hop to which a packet of a contract did not come in time since it was sent.
-fn untimely_hop(domain: &Domain, contract: &Contract, sent: &Sent<'_>) -> Option<u8>
+fn untimely_hop(domain: &Domain, contract: &Contract, sent: &Sending<'_>) -> Option<u8>
     ensures { result ≡ untimely_hop domain.now contract.now.port contract.now.path sent.now.moment sent.now.receipts }
 {
     let mut from = contract.port;
@@ -41,7 +41,7 @@ fn untimely_hop(domain: &Domain, contract: &Contract, sent: &Sent<'_>) -> Option
 }
 
 /// What is found against the delays of a packet.
-fn delayed(domain: &Domain, packet: u64, contract: &Contract, sent: &Sent<'_>) -> Option<Verdict>
+fn delayed(domain: &Domain, packet: u64, contract: &Contract, sent: &Sending<'_>) -> Option<Verdict>
     ensures { result ≡ delayed_hop domain.now packet contract.now sent.now }
 {
     match untimely_hop(domain, contract, sent) {

@@ -11,7 +11,7 @@ use std::marker::Model;
 
 /// A packet as it is sent: when, with what colour, and its receipts of the meters that it has visited since.
 #[derive(Debug, Drop)]
-pub(crate) struct Sent<'a> {
+pub(crate) struct Sending<'a> {
     /// When it is sent.
     pub(crate) moment: Moment,
     /// The colour that it is sent with.
@@ -20,7 +20,7 @@ pub(crate) struct Sent<'a> {
     pub(crate) receipts: &'a [Receipt],
 }
 
-impl<'a> Model for Sent<'a> {
+impl<'a> Model for Sending<'a> {
     ghost use Rattle.run_audit_base.specs.Sendings.{Sending};
 
     ghost Value = { Sending };
@@ -30,12 +30,12 @@ impl<'a> Model for Sent<'a> {
 
 /// The packet of a trail as it is sent under its contract: as it begins where that is trusted, else as it leaves its
 /// edge, if it has come there.
-pub(crate) fn sent_of<'a>(contract: &Contract, trail: &'a Trail) -> Option<Sent<'a>>
+pub(crate) fn sent_of<'a>(contract: &Contract, trail: &'a Trail) -> Option<Sending<'a>>
     ensures { result ≡ sending_of contract.now (passage_of trail.now) }
 {
     let receipts = trail.receipts.as_slice();
     match contract.terms {
-        Terms::Trusted { .. } => Some(Sent {
+        Terms::Trusted { .. } => Some(Sending {
             moment: trail.begun,
             colour: contract.came(trail.dscp),
             receipts,
@@ -45,11 +45,11 @@ pub(crate) fn sent_of<'a>(contract: &Contract, trail: &'a Trail) -> Option<Sent<
 }
 
 /// A packet as it left its edge, of which its first receipt tells, if it has one.
-fn sent_by_edge(receipts: &[Receipt]) -> Option<Sent<'_>>
+fn sent_by_edge(receipts: &[Receipt]) -> Option<Sending<'_>>
     ensures { result ≡ edge_sending receipts.now }
 {
     let (edge, since) = receipts.split_first()?;
-    Some(Sent {
+    Some(Sending {
         moment: edge.row.arrival,
         colour: edge.row.left,
         receipts: since,

@@ -9,10 +9,10 @@ ghost use Rattle.run_audit.specs.Assembled.{passage_of};
 ghost use Rattle.run_audit.specs.Assembling.{IsNoted, IsSound};
 
 use ds_checker::Accepted;
-use ds_domain_base::{Contract, Domain, Terms};
+use ds_domain_base::{Contract, Domain};
 use indexmap::IndexSet;
 use meter_book::{Journal, Row};
-use meter_fabric::{Hop, Receipt, Trail, contract_of, site_of};
+use meter_fabric::{Hop, Receipt, Trail, contract_of, edge_hop, site_of};
 use moment_core::{Colour, Moment};
 
 /// Whether a trail is of a contract that is there, is one of the first hops of its way, and holds rows of the journals.
@@ -108,13 +108,10 @@ fn hop_at(domain: &Domain, contract: &Contract, flow: u32, place: usize) -> Opti
     requires short { length contract.now.path ≤ 16 }
     ensures { result ≡ slice_get (hops_of domain.now flow contract.now) place }
 {
-    match (&contract.terms, place) {
-        (Terms::Trusted { .. }, _) => meter_hop(domain, contract, place),
-        (Terms::Policed { .. }, 0) => Some(Hop {
-            number: 0,
-            site: domain.meters().len() as u32 + flow,
-        }),
-        (Terms::Policed { .. }, _) => meter_hop(domain, contract, place - 1),
+    match edge_hop(domain, flow, &contract.terms) {
+        None => meter_hop(domain, contract, place),
+        Some(edge) if place == 0 => Some(edge),
+        Some(_) => meter_hop(domain, contract, place - 1),
     }
 }
 

@@ -5,7 +5,7 @@ ghost use Rattle.meter_fabric.specs.Grounds.{ground_of};
 ghost use Rattle.run_audit.specs.Assembled.{passage_of};
 ghost use Rattle.run_audit.specs.Verdicts.{against_sent, first_found, may_send, outside};
 
-use crate::sending::{Sent, sent_of};
+use crate::sending::{Sending, sent_of};
 use crate::verdict::Verdict;
 use ds_checker::Accepted;
 use ds_domain_base::{Contract, Lifetime};
@@ -27,7 +27,7 @@ fn is_before(moment: Moment, until: Option<Moment>) -> bool
 }
 
 /// What is found against a packet that is sent when its contract may not send.
-fn outside(packet: u64, contract: &Contract, sent: &Sent<'_>) -> Option<Verdict>
+fn outside(packet: u64, contract: &Contract, sent: &Sending<'_>) -> Option<Verdict>
     ensures { result ≡ outside packet contract.now sent.now }
 {
     if may_send(contract.lifetime, sent.moment) {
