@@ -50,7 +50,7 @@ with_contract_of-fits : (d : Domain) (done : List Contract) (members : Members) 
     → with_contract_of d done members ≡ Ok after → list_all (fits d) after ≡ true
 unfolding with_contract_of
 with_contract_of-fits d done members after good is =
-    let text = step (contract_text (next_contract done) members) _ after is in
+    let text = step (contract_text (next_contract done) d.version members) _ after is in
     let contract = step (contract_of d done text.0) _ after text.2 in
     rw (← ok_is _ after contract.2) (all_push (fits d) done contract.0 good (contract_of-fits d done text.0 contract.0 contract.1))
 
@@ -67,7 +67,7 @@ unfolding document_of section_in
 document_of-fits members parsed is =
     let top = step (top_of members) _ parsed is in
     let tables = step (sections_of members) _ parsed top.2 in
-    let domain = step (domain_of tables.0) _ parsed tables.2 in
+    let domain = step (domain_of top.0 tables.0) _ parsed tables.2 in
     let contracts = step (section_in fields.Contract 4096 (with_contract_of domain.0) [] tables.0.contracts) _ parsed domain.2 in
     let counted = step (few fields.Contract 4096 tables.0.contracts) _ contracts.0 contracts.1 in
     rw (← ok_is _ parsed contracts.2) (in_turn-fits domain.0 [] tables.0.contracts contracts.0 refl counted.2)

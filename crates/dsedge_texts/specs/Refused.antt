@@ -1,7 +1,7 @@
 -- How the checker's refusal is written: its number, its name and its figures.
 use Rattle.std.specs.Prelude.{ℕ, List, [], ◌++◌, codes, decimal}
+use Rattle.moment_core.specs.declared.column.Column.{Column}
 use Rattle.ds_domain_base.specs.declared.contract.Contract.{Contract}
-use Rattle.ds_checker.specs.declared.refusal.Column.{Column}
 use Rattle.ds_checker.specs.declared.refusal.Refusal.{Refusal}
 use Rattle.ds_checker.specs.declared.refusal.Refusal.TheVariants as refusals
 use Rattle.dsedge_texts.specs.Wording.{column_text, figure, name_of}

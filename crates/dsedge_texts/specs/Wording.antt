@@ -2,8 +2,8 @@
 use Rattle.std.specs.Prelude.{ℕ, List, [], ◌++◌, codes, decimal, slice_get}
 use Rattle.std.specs.Option.{option_map_or}
 use Rattle.ds_domain_base.specs.declared.contract.Contract.{Contract}
-use Rattle.ds_checker.specs.declared.refusal.Column.{Column}
-use Rattle.ds_checker.specs.declared.refusal.Column.TheVariants.{Green, All}
+use Rattle.moment_core.specs.declared.column.Column.{Column}
+use Rattle.moment_core.specs.declared.column.Column.TheVariants.{Green, All, Excess}
 
 -- the name of the contract of a number
 abbrev pub name_of : List Contract → ℕ → List ℕ
@@ -12,6 +12,7 @@ name_of contracts number = option_map_or (λ c. c.name) (slice_get contracts num
 abbrev pub column_text : Column → List ℕ
 column_text Green = codes "green"
 column_text All = codes "all"
+column_text Excess = codes "excess"
 
 -- a figure behind a space
 abbrev pub figure : ℕ → List ℕ

@@ -3,10 +3,11 @@ ghost use Rattle.dsedge_texts.specs.Refused.{column_figures_text, figures_text, 
 ghost use Rattle.dsedge_texts.specs.Refused.{refusal_line, test_text};
 
 use crate::wording::{column_text, push_figure, push_name};
-use ds_checker::{Column, Refusal};
+use ds_checker::Refusal;
 use ds_domain::{Contract, Name};
 use itoa::Buffer;
 use line_text::push_number;
+use moment_core::Column;
 use std::alloc::{AllocError, Global};
 use std::marker::Model;
 

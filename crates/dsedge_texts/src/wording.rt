@@ -1,9 +1,9 @@
 ghost use Rattle.std.specs.Prelude.{◌≡◌, ◌++◌, OnOk};
 ghost use Rattle.dsedge_texts.specs.Wording.{column_text, figure, name_of};
 
-use ds_checker::Column;
 use ds_domain::Contract;
 use line_text::push_number;
+use moment_core::Column;
 use std::alloc::AllocError;
 
 /// Appends the name of the contract of a number; nothing where there is none.
@@ -27,6 +27,7 @@ pub fn column_text(column: Column) -> &'static [u8]
     match column {
         Column::Green => "green".as_bytes(),
         Column::All => "all".as_bytes(),
+        Column::Excess => "excess".as_bytes(),
     }
 }
 
