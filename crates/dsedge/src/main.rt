@@ -2,6 +2,8 @@
 #![tactic(auto)]
 
 #[cfg(test)]
+mod excess_tests;
+#[cfg(test)]
 mod mark_tests;
 mod start;
 #[cfg(test)]

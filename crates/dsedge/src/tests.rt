@@ -409,7 +409,7 @@ const LEAST_OF_THREE: &str =
     "dscert 1\na 0 3000 3000\na 1 4000 4000\nb 0 3000 3000\nb 1 4000 4000\nc 0 3000 3000\nc 1 4000 4000";
 
 /// Expects of `check` on a domain and a certificate an output, what is told, and a status.
-fn expect_of_check(
+pub(crate) fn expect_of_check(
     rt: &impl Abort,
     alloc: Global,
     (domain, certificate): (&str, &str),
@@ -543,7 +543,7 @@ fn run_audit(alloc: Global, domain: &str, certificate: &[u8], steps: &str) -> Re
 
 /// Expects of `audit` on steps, over a domain with its least certificate, how the output begins, what is told, and a
 /// status.
-fn expect_of_audit(
+pub(crate) fn expect_of_audit(
     rt: &impl Abort,
     alloc: Global,
     (domain, steps): (&str, &str),

@@ -3,9 +3,10 @@ ghost use Rattle.dsedge_texts.specs.Wording.{column_text, figure, name_of};
 ghost use Rattle.dsedge_audit.specs.Audited.{site_name, verdict_line};
 
 use crate::names::push_site;
-use ds_checker::{Accepted, Column};
+use ds_checker::Accepted;
 use ds_domain_base::Contract;
 use dsedge_texts::{column_text, push_figure, push_name};
+use moment_core::Column;
 use run_audit::Verdict;
 use std::alloc::AllocError;
 
