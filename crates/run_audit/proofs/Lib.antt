@@ -10,5 +10,6 @@ pub mod PremiseSourceLaws
 pub mod SortLaws
 pub mod SoundLaws
 pub mod SourceLaws
+pub mod SourceOverLaws
 pub mod SpillLaws
 pub mod TrailTests

@@ -1,5 +1,5 @@
 -- The verdict on a run is that it is kept exactly where it meets the premises.
-use Rattle.std.proofs.Common.{◌≡◌, ℕ, suc, ◌+◌, ◌<◌, ◌≤◌, ◌↔◌, true, List, [], ◌∷◌, Option, None, refl, ⊎_elim, get_or, sym, ap, subst, ◌∙◌, arith, Some}
+use Rattle.std.proofs.Common.{◌≡◌, ℕ, suc, ◌+◌, ◌<◌, ◌≤◌, ◌↔◌, true, List, [], ◌∷◌, Option, None, refl, ⊎_elim, get_or, sym, ap, ◌∙◌, arith, Some}
 use Rattle.std.specs.Prelude.{nat_le, nat_lt, option_and_then, Contains}
 use Rattle.std.proofs.lemmas.Bool.{false≢true}
 use Rattle.std.proofs.lemmas.Bool.Decides.{nat_tests}
@@ -172,6 +172,40 @@ found_tells g run =
 pub kept_is_premises : (g : Ground) (run : Run) → IsRun g run → (verdict_of g run ≡ Kept) ↔ Premises g run
 kept_is_premises g run is_run = iff_trans (kept_is_none (found_in g run) (found-other g run)) (found_tells g run)
 
+-- ---- a verdict is what was found against the premise that it is of
+
+behind-gives : (g : Ground) (run : Run) (premise : ℕ) → ¬ (3 ≡ premise) → ¬ (4 ≡ premise) → Gives (λ w. ¬ (premise_of w ≡ premise)) (first_of (link_of_run g run) (skew_of_run run))
+behind-gives g run premise link skew =
+    first_of-gives (λ w. ¬ (premise_of w ≡ premise)) (link_of_run g run) (skew_of_run run)
+    (of_another premise 3 (link_of_run g run) link (link-gives g run)) (of_another premise 4 (skew_of_run run) skew (skew-gives run))
+
+time_told : (g : Ground) (run : Run) (v : Verdict) → premise_of v ≡ 1 → verdict_of g run ≡ v → time_of g run ≡ Some v
+time_told g run v of e =
+    first_gave 1 (time_of g run) (first_of (source_of_run g run) (first_of (link_of_run g run) (skew_of_run run))) v
+    (first_of-gives (λ w. ¬ (premise_of w ≡ 1)) (source_of_run g run) (first_of (link_of_run g run) (skew_of_run run))
+    (of_another 1 2 (source_of_run g run) (λ same. omega (arith, same)) (source-gives g run)) (behind-gives g run 1 (λ same. omega (arith, same)) (λ same. omega (arith, same))))
+    of (verdict_found (found_in g run) v (λ none. omega (arith, none, of)) e)
+
+-- and of a premise behind that of time
+behind_told : (g : Ground) (run : Run) (v : Verdict) (premise : ℕ) → ¬ (premise ≡ 0) → ¬ (1 ≡ premise) → premise_of v ≡ premise → verdict_of g run ≡ v
+    → first_of (source_of_run g run) (first_of (link_of_run g run) (skew_of_run run)) ≡ Some v
+behind_told g run v premise found time of e =
+    rest_gave premise (time_of g run) (first_of (source_of_run g run) (first_of (link_of_run g run) (skew_of_run run))) v
+    (of_another premise 1 (time_of g run) time (time-gives g run)) of (verdict_found (found_in g run) v (λ none. found (sym of ∙ none)) e)
+
+pub source_told : (g : Ground) (run : Run) (v : Verdict) → premise_of v ≡ 2 → verdict_of g run ≡ v → source_of_run g run ≡ Some v
+source_told g run v of e =
+    first_gave 2 (source_of_run g run) (first_of (link_of_run g run) (skew_of_run run)) v
+    (behind-gives g run 2 (λ same. omega (arith, same)) (λ same. omega (arith, same))) of
+    (behind_told g run v 2 (λ same. omega (arith, same)) (λ same. omega (arith, same)) of e)
+
+link_told : (g : Ground) (run : Run) (v : Verdict) → premise_of v ≡ 3 → verdict_of g run ≡ v → link_of_run g run ≡ Some v
+link_told g run v of e =
+    first_gave 3 (link_of_run g run) (skew_of_run run) v (of_another 3 4 (skew_of_run run) (λ same. omega (arith, same)) (skew-gives run)) of
+    (rest_gave 3 (source_of_run g run) (first_of (link_of_run g run) (skew_of_run run)) v
+    (of_another 3 2 (source_of_run g run) (λ same. omega (arith, same)) (source-gives g run)) of
+    (behind_told g run v 3 (λ same. omega (arith, same)) (λ same. omega (arith, same)) of e))
+
 -- ---- the least packet that broke a premise
 
 -- what is found first along a list that ascends by a key, and that nothing is found at lesser keys
@@ -245,25 +279,10 @@ unfolding packet_of
 least_is_told g run number is_run = (
   λ e.
       let v = OutsideContract number in
-      let found = verdict_found (found_in g run) v (λ none. omega (arith, none)) e in
-      let time = first_gave 1 (time_of g run) rest v (first_of-gives (λ w. ¬ (premise_of w ≡ 1)) (source_of_run g run) (first_of (link_of_run g run) (skew_of_run run))
-      (of_another 1 2 (source_of_run g run) (λ same. omega (arith, same)) (source-gives g run)) (later 1 (λ same. omega (arith, same)) (λ same. omega (arith, same)))) refl found in
       least_without g run is_run outside IsInTime (λ n w. w ≡ OutsideContract n) number v outside_tells outside-gives
-      (λ n told. sym (ap packet_of told)) time,
+      (λ n told. sym (ap packet_of told)) (time_told g run v refl e),
   λ hop e.
       let v = DelayOver number hop in
-      let found = verdict_found (found_in g run) v (λ none. omega (arith, none)) e in
-      let behind = rest_gave 3 (time_of g run) rest v (of_another 3 1 (time_of g run) (λ same. omega (arith, same)) (time-gives g run)) refl found in
-      let links = rest_gave 3 (source_of_run g run) (first_of (link_of_run g run) (skew_of_run run)) v (of_another 3 2 (source_of_run g run) (λ same. omega (arith, same)) (source-gives g run)) refl behind in
-      let link = first_gave 3 (link_of_run g run) (skew_of_run run) v (of_another 3 4 (skew_of_run run) (λ same. omega (arith, same)) (skew-gives run)) refl links in
       least_without g run is_run (delayed g.domain) (λ c s. IsTimely g.domain c.port c.path s.moment s.receipts) IsDelayOf number v (delayed_tells g) (delayed-gives g)
-      (λ n told. sym (ap packet_of told.1)) link,
+      (λ n told. sym (ap packet_of told.1)) (link_told g run v refl e),
 )
-  where
-    rest : Option Verdict
-    rest = first_of (source_of_run g run) (first_of (link_of_run g run) (skew_of_run run))
-
-    later : (premise : ℕ) → ¬ (3 ≡ premise) → ¬ (4 ≡ premise) → Gives (λ w. ¬ (premise_of w ≡ premise)) (first_of (link_of_run g run) (skew_of_run run))
-    later premise link skew =
-        first_of-gives (λ w. ¬ (premise_of w ≡ premise)) (link_of_run g run) (skew_of_run run)
-        (of_another premise 3 (link_of_run g run) link (link-gives g run)) (of_another premise 4 (skew_of_run run) skew (skew-gives run))

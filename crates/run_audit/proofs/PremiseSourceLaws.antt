@@ -1,5 +1,5 @@
 -- No bucket of a trusted source overflows exactly where the sources keep their envelopes.
-use Rattle.std.proofs.Common.{◌≡◌, ℕ, zero, suc, ◌+◌, ◌<◌, ◌≤◌, ◌↔◌, Bool, true, false, cond, List, [], ◌∷◌, ◌++◌, map, length, get_or, Option, None, Some, refl, sym, ap, subst, ◌∙◌, arith}
+use Rattle.std.proofs.Common.{◌≡◌, ℕ, zero, suc, ◌<◌, ◌≤◌, ◌↔◌, Bool, true, false, cond, List, [], ◌∷◌, ◌++◌, map, length, get_or, Option, None, Some, refl, sym, ap, subst, ◌∙◌, arith}
 use Rattle.std.specs.Prelude.{⊤, Contains, IsSome, nat_eq, nat_lt, ◌&&◌, ◌||◌, slice_get, option_and_then, option_map, if◌then◌else◌}
 use Rattle.std.specs.List.{All, AllByRecursion, filter, find, flat_map, sum_by}
 use Rattle.std.specs.Map.{keys_of}
@@ -10,9 +10,8 @@ use Rattle.std.proofs.lemmas.Bool.Decides.{nat_tests}
 use Rattle.std.proofs.lemmas.List.{get_or-map, length-map}
 use Rattle.std.proofs.lemmas.List.Elements.{All-cons, All-head, All-tail, All-weaker, filter_passes}
 use Rattle.std.proofs.lemmas.List.Sorted.{All-permutation, sum_by-IsPermutation}
-use Rattle.std.proofs.lemmas.Option.{none-some, same_Some}
+use Rattle.std.proofs.lemmas.Option.{none-some}
 use Rattle.moment_core.specs.declared.colour.Colour.{Colour}
-use Rattle.moment_core.specs.Colours.{is_green, is_in_profile}
 use Rattle.moment_core.specs.Conformance.{Keeps, size_within}
 use Rattle.moment_core.specs.Columns.{counts, each_column}
 use Rattle.moment_core.specs.declared.column.Column.{Column}
@@ -20,7 +19,7 @@ use Rattle.envelope_core.specs.Curve.{Curve, KeepsCurve}
 use Rattle.envelope_core.specs.LeakyBucket.{overflow_of}
 use Rattle.envelope_core.specs.Order.{IsInOrder}
 use Rattle.envelope_core.proofs.LeakyBuckets.{buckets_tell_all}
-use Rattle.envelope_core.proofs.Windows.{Keeps-nil, sum_by-filter, sum_by-flat_map, sum_by-mono}
+use Rattle.envelope_core.proofs.Windows.{sum_by-filter, sum_by-flat_map, sum_by-mono}
 use Rattle.ds_domain_base.specs.declared.contract.Contract.{Contract}
 use Rattle.ds_domain_base.specs.declared.terms.Terms.{Terms}
 use Rattle.ds_domain_base.specs.declared.terms.Terms.TheVariants.{Trusted, Policed}
@@ -28,15 +27,15 @@ use Rattle.ds_certificate.specs.Columns.{envelope_in}
 use Rattle.ds_certificate.specs.Sources.{source_of}
 use Rattle.meter_fabric.specs.Grounds.{Ground, contract_of}
 use Rattle.meter_fabric.specs.declared.trail.Receipt.{Receipt}
-use Rattle.run_audit_base.specs.Premises.{IsTrusted, KeepsSource, KeepsSources}
-use Rattle.run_audit_base.specs.Runs.{IsRun, Passage, Run}
+use Rattle.run_audit_base.specs.Premises.{IsTrusted, KeepsIn, KeepsSource, KeepsSources}
+use Rattle.run_audit_base.specs.Runs.{Passage, Run}
 use Rattle.run_audit_base.specs.Sendings.{Sending, passages_of, sending_by, sending_of, sent_item, sent_items}
 use Rattle.run_audit.specs.Orders.{in_order, placed}
 use Rattle.run_audit.specs.Verdicts.{first_found, is_begun_before, over_by, over_in, overflowing, sent_in, source_of_run, over_at, was_sent_as}
 use Rattle.run_audit.specs.declared.verdict.Verdict.TheVariants.{SourceOver}
 use Rattle.run_audit.proofs.FoundLaws.{is_there}
 use Rattle.run_audit.proofs.OrderLaws.{in_order-permutes}
-use Rattle.run_audit.proofs.PremiseFoundLaws.{IsOf, and_then-gives, and_then-none, first_found-gives, first_of-gives, first_of-none, iff_trans, map-gives, map-none, none_along, premise_of}
+use Rattle.run_audit.proofs.PremiseFoundLaws.{IsOf, and_then-gives, and_then-none, first_found-gives, first_of-none, iff_trans, map-gives, map-none, none_along, premise_of}
 
 -- ---- a list in an order that follows a key does not fall in that key
 
@@ -115,20 +114,31 @@ one_item : (picked : Colour → Bool) (terms : Terms) (colour : Colour) (begun s
 one_item picked (Trusted committed peak) colour begun size receipts trusted sent = rw sent refl
 one_item picked (Policed parameters mode) colour begun size receipts trusted sent = absurd trusted
 
--- each packet that a column counts brings one item, at the moment at which it begins
-pub items_sent : (column : Column) (c : Contract) (ps : List Passage) → IsTrusted c.terms → sent_items (counts column) c (sent_in column c ps) ≡ map item_of (sent_in column c ps)
-items_sent column c ps trusted =
-    let counted = λ (p : Passage). was_sent_as (counts column) (sending_of c p) in
-    flat_map-ones (λ p. sent_item (counts column) p.packet.size (sending_of c p)) item_of (sent_in column c ps)
-    (All-weaker (λ p. counted p ≡ true) (λ p. sent_item (counts column) p.packet.size (sending_of c p) ≡ item_of p ∷ [])
-    (λ p sent. one_item (counts column) c.terms _ p.packet.begun p.packet.size p.receipts trusted sent) (sent_in column c ps)
-    (All-permutation (λ p. counted p ≡ true) (filter counted ps) (sent_in column c ps) (in_order-permutes is_begun_before (filter counted ps)) (filter_passes counted ps)))
+-- what a column counts of packets
+abbrev pub AreCounted : Column → Contract → List Passage → Type 0
+AreCounted column c = All (λ p. was_sent_as (counts column) (sending_of c p) ≡ true)
 
-items_sorted : (column : Column) (c : Contract) (ps : List Passage) → IsInOrder (map item_of (sent_in column c ps))
-items_sorted column c ps =
-    sorted-map (λ (item : ℕ × ℕ). item.0) item_of (sent_in column c ps)
+-- each packet that a column counts brings one item, at the moment at which it begins
+pub items_counted : (column : Column) (c : Contract) (ps : List Passage) → IsTrusted c.terms → AreCounted column c ps → sent_items (counts column) c ps ≡ map item_of ps
+items_counted column c ps trusted counted =
+    flat_map-ones (λ p. sent_item (counts column) p.packet.size (sending_of c p)) item_of ps
+    (All-weaker (λ p. was_sent_as (counts column) (sending_of c p) ≡ true) (λ p. sent_item (counts column) p.packet.size (sending_of c p) ≡ item_of p ∷ [])
+    (λ p sent. one_item (counts column) c.terms _ p.packet.begun p.packet.size p.receipts trusted sent) ps counted)
+
+pub sent_counted : (column : Column) (c : Contract) (ps : List Passage) → AreCounted column c (sent_in column c ps)
+sent_counted column c ps =
+    let counted = λ (p : Passage). was_sent_as (counts column) (sending_of c p) in
+    All-permutation (λ p. counted p ≡ true) (filter counted ps) (sent_in column c ps) (in_order-permutes is_begun_before (filter counted ps)) (filter_passes counted ps)
+
+pub items_sent : (column : Column) (c : Contract) (ps : List Passage) → IsTrusted c.terms → sent_items (counts column) c (sent_in column c ps) ≡ map item_of (sent_in column c ps)
+items_sent column c ps trusted = items_counted column c (sent_in column c ps) trusted (sent_counted column c ps)
+
+pub items_sorted : (column : Column) (c : Contract) (ps : List Passage) → IsTrusted c.terms → IsInOrder (sent_items (counts column) c (sent_in column c ps))
+items_sorted column c ps trusted =
+    subst IsInOrder (sym (items_sent column c ps trusted))
+    (sorted-map (λ (item : ℕ × ℕ). item.0) item_of (sent_in column c ps)
     (climbs_sorted (λ p. p.packet.begun) (sent_in column c ps)
-    (in_order-climbs (λ p. p.packet.begun) is_begun_before begun_follows (filter (λ p. was_sent_as (counts column) (sending_of c p)) ps)))
+    (in_order-climbs (λ p. p.packet.begun) is_begun_before begun_follows (filter (λ p. was_sent_as (counts column) (sending_of c p)) ps))))
 
 -- ---- they weigh what all packets of the contract weigh
 
@@ -184,15 +194,14 @@ column_tells : (curve : Curve) (column : Column) (c : Contract) (ps : List Passa
 column_tells curve column c ps trusted =
     let sent = sent_in column c ps in
     let items = sent_items (counts column) c sent in
-    let shown = items_sent column c ps trusted in
     iff_trans
-    (bucket_tells curve.rate curve.burst items sent (subst IsInOrder (sym shown) (items_sorted column c ps)) (ap length shown ∙ length-map sent item_of))
+    (bucket_tells curve.rate curve.burst items sent (items_sorted column c ps trusted) (ap length (items_sent column c ps trusted) ∙ length-map sent item_of))
     (Keeps-weight curve.rate curve.burst items (sent_items (counts column) c ps) (λ f. same_weight f column c ps))
 
 -- ---- contracts
 
-in_tells : (g : Ground) (run : Run) (flow : ℕ) (c : Contract) (column : Column) → IsTrusted c.terms
-    → (over_in g run flow c column ≡ None) ↔ KeepsCurve (envelope_in column (source_of g.domain c)) (sent_items (counts column) c (passages_of flow run))
+pub in_tells : (g : Ground) (run : Run) (flow : ℕ) (c : Contract) (column : Column) → IsTrusted c.terms
+    → (over_in g run flow c column ≡ None) ↔ KeepsIn g c (passages_of flow run) column
 in_tells g run flow c column trusted =
     let curve = envelope_in column (source_of g.domain c) in
     iff_trans (map-none (λ p. SourceOver flow column p.packet.number) (overflowing curve column c (sent_in column c (passages_of flow run))))
@@ -210,7 +219,7 @@ none_in_each find P tells (x ∷ xs) =
 by_tells : (g : Ground) (run : Run) (flow : ℕ) (c : Contract) (terms : Terms) → c.terms ≡ terms
     → (over_by terms g run flow c ≡ None) ↔ (IsTrusted terms → KeepsSource g run flow c)
 by_tells g run flow c (Trusted committed peak) is =
-    let tells = none_in_each (over_in g run flow c) (λ column. KeepsCurve (envelope_in column (source_of g.domain c)) (sent_items (counts column) c (passages_of flow run)))
+    let tells = none_in_each (over_in g run flow c) (KeepsIn g c (passages_of flow run))
     (λ column. in_tells g run flow c column (subst IsTrusted (sym is) tt)) each_column in
     (λ e so. tells.0 e, λ kept. tells.1 (kept tt))
 by_tells g run flow c (Policed parameters mode) is = (λ e trusted. absurd trusted, λ kept. refl)
@@ -229,16 +238,21 @@ listed (e ∷ contracts) flow c is = by_test (nat_eq e.0 flow) refl (listed cont
         let (place, short, at) = behind (rw other at is) in
         (suc place, omega (arith, short), at)
 
+-- what is asked of a flow: that its contract keeps its source, where it is trusted
+abbrev pub KeepsTrusted : Ground → Run → ℕ → Type 0
+KeepsTrusted g run flow = ForSome (contract_of g flow) (λ c. IsTrusted c.terms → KeepsSource g run flow c)
+
+pub at_tells : (g : Ground) (run : Run) (flow : ℕ) → (over_at g run flow ≡ None) ↔ KeepsTrusted g run flow
+at_tells g run flow =
+    and_then-none (λ c. over_by c.terms g run flow c) (λ c. IsTrusted c.terms → KeepsSource g run flow c) (contract_of g flow)
+    (λ c. by_tells g run flow c c.terms refl)
+
 pub source_tells : (g : Ground) (run : Run) → (source_of_run g run ≡ None) ↔ KeepsSources g run
 source_tells g run =
-    let Keeps = λ (flow : ℕ). ForSome (contract_of g flow) (λ c. IsTrusted c.terms → KeepsSource g run flow c) in
-    let tells = none_along (over_at g run) Keeps (keys_of g.contracts)
-    (λ flow. and_then-none (λ c. over_by c.terms g run flow c) (λ c. IsTrusted c.terms → KeepsSource g run flow c) (contract_of g flow)
-    (λ c. by_tells g run flow c c.terms refl))
-    in (
+    let tells = none_along (over_at g run) (KeepsTrusted g run) (keys_of g.contracts) (at_tells g run) in (
       λ e flow c is.
           let (place, short, at) = listed g.contracts flow c is in
-          subst Keeps at (tells.0 e place flow short) c is,
+          subst (KeepsTrusted g run) at (tells.0 e place flow short) c is,
       λ keeps. tells.1 (λ place flow short c is. keeps (get_or (keys_of g.contracts) place flow) c is),
     )
 

@@ -1,13 +1,16 @@
 -- What the verdict on a run says of the premises, in plain words.
-use Rattle.std.specs.Prelude.{◌≡◌, ◌↔◌, ◌<◌, ℕ, Contains}
+use Rattle.std.specs.Prelude.{◌≡◌, ◌↔◌, ◌<◌, ℕ, List, [], ◌∷◌, ◌++◌, All, Contains, Some}
+use Rattle.std.specs.Map.{keys_of}
 use Rattle.std.specs.Option.{ForSome}
+use Rattle.moment_core.specs.Columns.{each_column}
+use Rattle.moment_core.specs.declared.column.Column.{Column}
 use Rattle.ds_domain_base.specs.declared.contract.Contract.{Contract}
 use Rattle.meter_fabric.specs.Grounds.{Ground, contract_of}
-use Rattle.run_audit_base.specs.Premises.{IsInTime, IsTimely, Premises}
+use Rattle.run_audit_base.specs.Premises.{IsInTime, IsTimely, IsTrusted, KeepsIn, KeepsSource, Premises}
 use Rattle.run_audit_base.specs.Runs.{IsRun, Passage, Run}
-use Rattle.run_audit_base.specs.Sendings.{Sending, sending_of}
-use Rattle.run_audit.specs.Verdicts.{verdict_of}
-use Rattle.run_audit.specs.declared.verdict.Verdict.TheVariants.{DelayOver, Kept, OutsideContract}
+use Rattle.run_audit_base.specs.Sendings.{Sending, passages_of, sending_of}
+use Rattle.run_audit.specs.Verdicts.{sent_in, verdict_of}
+use Rattle.run_audit.specs.declared.verdict.Verdict.TheVariants.{DelayOver, Kept, OutsideContract, SourceOver}
 
 -- a run is found kept exactly where it meets the premises
 abbrev pub KeptIsWhatPremisesSay : Type 0
@@ -32,3 +35,31 @@ TheLeastPacketIsTold = (g : Ground) (run : Run) (number : ℕ) → IsRun g run
     → (verdict_of g run ≡ OutsideContract number → IsLeastWithout run (IsSentSo g IsInTime) number)
     × ((hop : ℕ) → verdict_of g run ≡ DelayOver number hop
     → IsLeastWithout run (IsSentSo g (λ c s. IsTimely g.domain c.port c.path s.moment s.receipts)) number)
+
+-- it stands in a list, behind others of each of which this holds
+abbrev pub StandsBehind : {A : Type 0} → (A → Type 0) → List A → A → Type 0
+StandsBehind {A} Holds xs x = (front rest : List A) × (xs ≡ front ++ x ∷ rest) × All Holds front
+
+-- The packets of a trusted contract, in the order in which they were sent, keep the envelope of a column up to the one
+-- of this number, and with that one no more. All of them keep the envelopes of the columns before, and those of each
+-- trusted contract before keep all of theirs.
+pub record IsFirstOver (g : Ground) (run : Run) (flow : ℕ) (column : Column) (number : ℕ) : Type 0 where
+  pub contract : Contract
+  pub agreed : contract_of g flow ≡ Some contract
+  pub trusted : IsTrusted contract.terms
+  pub flows : StandsBehind (λ f. ForSome (contract_of g f) (λ c. IsTrusted c.terms → KeepsSource g run f c))
+      (keys_of g.contracts) flow
+  pub columns : StandsBehind (KeepsIn g contract (passages_of flow run)) each_column column
+  pub front : List Passage
+  pub passage : Passage
+  pub rest : List Passage
+  pub sent : sent_in column contract (passages_of flow run) ≡ front ++ passage ∷ rest
+  pub named : passage.packet.number ≡ number
+  pub kept : KeepsIn g contract front column
+  pub broken : ¬ KeepsIn g contract (front ++ passage ∷ []) column
+
+-- The source that is told to be over its envelope is the first that is, in the first column in which it is, with the
+-- packet with which it is for the first time.
+abbrev pub TheFirstOverIsTold : Type 0
+TheFirstOverIsTold = (g : Ground) (run : Run) (flow : ℕ) (column : Column) (number : ℕ) → IsRun g run
+    → verdict_of g run ≡ SourceOver flow column number → IsFirstOver g run flow column number

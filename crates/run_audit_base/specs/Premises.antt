@@ -3,6 +3,7 @@
 use Rattle.std.specs.Prelude.{◌≡◌, ℕ, ◌+◌, ◌<◌, ◌≤◌, ⊤, List, [], ◌∷◌, All, Option, Some}
 use Rattle.std.specs.Option.{ForSome}
 use Rattle.moment_core.specs.Columns.{counts}
+use Rattle.moment_core.specs.declared.column.Column.{Column}
 use Rattle.envelope_core.specs.Curve.{KeepsCurve}
 use Rattle.meter_book.specs.Replay.{journal_rows}
 use Rattle.ds_domain_base.specs.Domains.{Domain, floor_of, jitter_of, link_of}
@@ -14,7 +15,7 @@ use Rattle.ds_certificate.specs.Columns.{InEach, envelope_in}
 use Rattle.ds_certificate.specs.Sources.{source_of}
 use Rattle.meter_fabric.specs.Grounds.{Ground, contract_of}
 use Rattle.meter_fabric.specs.declared.trail.Receipt.{Receipt}
-use Rattle.run_audit_base.specs.Runs.{Run}
+use Rattle.run_audit_base.specs.Runs.{Passage, Run}
 use Rattle.run_audit_base.specs.Sendings.{ForSent, Sending, passages_of, sent_items}
 
 -- a packet is sent when its contract may send
@@ -25,11 +26,14 @@ abbrev pub IsTrusted : Terms → Type 0
 IsTrusted (Trusted committed peak) = ⊤
 IsTrusted (Policed parameters mode) = ⊥
 
+-- what a column counts of packets of a contract keeps the envelope of that column
+abbrev pub KeepsIn : Ground → Contract → List Passage → Column → Type 0
+KeepsIn g c passages column =
+    KeepsCurve (envelope_in column (source_of g.domain c)) (sent_items (counts column) c passages)
+
 -- what a contract's packets were sent with keeps its envelopes, in each column
 abbrev pub KeepsSource : Ground → Run → ℕ → Contract → Type 0
-KeepsSource g run flow c =
-    InEach (λ column.
-    KeepsCurve (envelope_in column (source_of g.domain c)) (sent_items (counts column) c (passages_of flow run)))
+KeepsSource g run flow c = InEach (KeepsIn g c (passages_of flow run))
 
 -- what left at a moment arrives over a link after its floor at the least, and by its jitter later at the most
 abbrev pub IsOver : Option Link → ℕ → ℕ → Type 0

@@ -1,4 +1,4 @@
-use Rattle.std.proofs.Common.{refl, sym, ◌∙◌, ap, None}
+use Rattle.std.proofs.Common.{refl, sym, ◌∙◌, None}
 use Rattle.std.proofs.lemmas.Slice.Zip.{Zip-more, either_empty_from_Zip}
 use Rattle.run_audit.proofs.HopLaws.{hop_ended, hop_here, hop_on}
 use Rattle.run_audit.proofs.links.untimely_hop.Goals as goal

@@ -1,4 +1,4 @@
-use Rattle.std.proofs.Common.{◌≡◌, ◌<◌, ◌≤◌, length, get_or, map, ap, sym, arith, ◌∙◌}
+use Rattle.std.proofs.Common.{◌<◌, ◌≤◌, length, get_or, map, ap, sym, arith, ◌∙◌}
 use Rattle.moment_core.specs.Columns.{each_column}
 use Rattle.moment_core.specs.declared.column.Column.TheVariants.{Green}
 use Rattle.run_audit.specs.Assembled.{passage_of}
