@@ -31,8 +31,8 @@ impl Bound {
     /// The greatest bound, 10^15 bytes.
     pub const MOST: u64 = 1_000_000_000_000_000;
 
-    /// The bound of so many green bytes, of so many green and yellow ones, and of so many yellow ones; `OutOfRange` where
-    /// one is above 10^15.
+    /// The bound of so many green bytes, of so many green and yellow ones, and of so many yellow ones; `OutOfRange`
+    /// where one is above 10^15.
     pub fn new(green: u64, all: u64, excess: u64) -> Result<Self, OutOfRange>
         ensures { OkIff result ((green ≤ 10 ^ 15) × (all ≤ 10 ^ 15) × (excess ≤ 10 ^ 15))
             (record { green = green; all = all; excess = excess }) }

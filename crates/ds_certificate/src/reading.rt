@@ -1,5 +1,5 @@
-ghost use Rattle.std.specs.Prelude.{◌≡◌, ◌∷◌, [], ◌+◌, ◌≤◌, ◌^◌, ◌&&◌, ◌⊎◌, ⊤, length, nat_eq, None, Some, Ok, Err, ◌≢◌};
-ghost use Rattle.std.specs.Prelude.{IsTrue, IfOk, IfErr, MatchOption, MatchResult};
+ghost use Rattle.std.specs.Prelude.{◌≡◌, ◌∷◌, [], ◌+◌, ◌≤◌, ◌^◌, ◌&&◌, ◌⊎◌, ⊤, length, nat_eq, None, Some, Ok, Err};
+ghost use Rattle.std.specs.Prelude.{◌≢◌, IsTrue, IfOk, IfErr, MatchOption, MatchResult};
 ghost use Rattle.std.specs.List.{list_all};
 ghost use Rattle.std.specs.Char.{is_ascii_digit};
 ghost use Rattle.ds_domain_base.specs.Names.{is_name};
@@ -214,8 +214,8 @@ fn long_entry(line: &[u8]) -> Option<Entry<'_>>
 
 /// Whether fields are a name and numbers.
 fn has_form(entry: &Entry<'_>) -> bool
-    ensures { result ≡ has_form (entry_of_fields entry.now.name.now entry.now.hop.now entry.now.green.now entry.now.all.now
-        entry.now.excess.now) }
+    ensures { result ≡ has_form (entry_of_fields entry.now.name.now entry.now.hop.now
+        entry.now.green.now entry.now.all.now entry.now.excess.now) }
 {
     is_name(entry.name)
         && is_number(entry.hop)

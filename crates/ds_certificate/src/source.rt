@@ -7,8 +7,8 @@ ghost use Rattle.ds_certificate.specs.Ranges.{IsModerate, IsModest};
 ghost use Rattle.ds_certificate.specs.Sources.{curve_of, edge_column, source_by, source_of};
 
 use ds_domain_base::{Contract, Domain, Profile, Terms, Version};
-use meter_book::Parameters;
 use envelope_core::{Envelope, widen};
+use meter_book::Parameters;
 use moment_core::{Column, Gap};
 
 /// What a contract's traffic keeps where it enters a domain.
@@ -81,9 +81,9 @@ fn source_by(version: Version, skew: Gap, terms: &Terms) -> Source
 fn edge_source(version: Version, skew: Gap, parameters: Parameters) -> Source
     requires { skew ≤ 10 ^ 10 }
     ensures value { result ≡ record {
-        green = widened skew (green_output parameters);
-        all = widened skew (all_output parameters);
-        excess = widened skew (output_in (edge_column version) parameters);
+      green = widened skew (green_output parameters);
+      all = widened skew (all_output parameters);
+      excess = widened skew (output_in (edge_column version) parameters);
     } }
     ensures moderate { IsModerate result }
 {

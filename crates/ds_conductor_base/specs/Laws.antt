@@ -1,5 +1,6 @@
 -- What steps keep, and what they make.
-use Rattle.std.specs.Prelude.{◌≡◌, ℕ, nat_eq, List, [], ◌∷◌, ◌++◌, All, flat_map, map, position, slice_get, Option, None}
+use Rattle.std.specs.Prelude.{◌≡◌, ℕ, nat_eq, List, [], ◌∷◌, ◌++◌, All, flat_map, map, position, slice_get, Option}
+use Rattle.std.specs.Prelude.{None}
 use Rattle.std.specs.Prelude.{Some, Result, Ok, Err, if◌then◌else◌}
 use Rattle.meter_book.specs.declared.row.Arrival.{Arrival}
 use Rattle.ds_checker.specs.Acceptance.{Table}
@@ -67,8 +68,8 @@ unfoldable pub brought : Table → ℕ → Stage → List Step → List Arrival
 brought t site g [] = []
 brought t site g (s ∷ rest) = brought_by site g s ++ behind_step (λ h. brought t site h rest) (stepped t g s)
 
--- The journal of each site of the run that a list of steps makes is that of what the visits there bring, in the order of
--- the list.
+-- The journal of each site of the run that a list of steps makes is that of what the visits there bring, in the order
+-- of the list.
 abbrev pub JournalsAreTheVisits : Type 0
 JournalsAreTheVisits =
     (t : Table) (all : List Step) (run : Run) → conducted t all ≡ Ok run

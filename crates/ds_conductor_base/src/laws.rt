@@ -19,9 +19,9 @@ pub fn packets_are_those_sent()
     ensures { PacketsAreThoseSent }
 {}
 
-/// The journal of each site of the run that a list of steps makes notes the visits that come there, in the list's order:
-/// each with the packet's contract, number and size, the number of its hop, the moment of the visit, and the colour that
-/// the packet left its last hop with.
+/// The journal of each site of the run that a list of steps makes notes the visits that come there, in the list's
+/// order: each with the packet's contract, number and size, the number of its hop, the moment of the visit, and the
+/// colour that the packet left its last hop with.
 pub fn journals_are_the_visits()
     ensures { JournalsAreTheVisits }
 {}

@@ -19,6 +19,7 @@ eir = 8000000
 
 /// With an excess burst of 1,000 bytes, and of one more.
 const ENOUGH: &str = "ebs = 1000\n";
+
 const TOO_MUCH: &str = "ebs = 1001\n";
 
 /// A contract that is policed by a meter of a committed and an excess rate.
@@ -37,10 +38,15 @@ ebs = 500
 
 /// The least certificates of both.
 const LEAST_OF_TRUSTED: &str = "dscert 2\na 0 3000 4000 1000\na 1 4000 6000 2000\n";
+
 const LEAST_OF_POLICED: &str = "dscert 2\nu 0 1501 2002 501\nu 1 2501 4002 1501\n";
 
 /// The text of a domain of a version, of one meter with a committed and an excess rate and one contract.
-fn domain_text(alloc: Global, version: u8, (contract, burst): (&str, &str)) -> Result<String, AllocError> {
+fn domain_text(
+    alloc: Global,
+    version: u8,
+    (contract, burst): (&str, &str),
+) -> Result<String, AllocError> {
     format!(in alloc;
         r#"
 version = {version}
