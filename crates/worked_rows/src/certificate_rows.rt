@@ -56,6 +56,8 @@ fn expect(
 fn lines_that_are_none_of_a_certificate(rt: HostRuntime) -> Result<(), Fail> {
     for text in [
         "dscert 01\n",
+        "dscert 3\n",
+        "dscert 2 \n",
         "dscert 1\n 0 3000 3000\n",
         "dscert 1\nb 0 3000 3000 \n",
         "dscert 1\na 0 3000 3000\r\n",
@@ -63,6 +65,10 @@ fn lines_that_are_none_of_a_certificate(rt: HostRuntime) -> Result<(), Fail> {
         "dscert 1\n? 0 1 1000000000000001\n",
         "dscert 1\na 0 3000 000000000000000003000\n",
         "dscert 1\na 0 1 1\na 1 1 1\n\n",
+        "dscert 1\na 0 3000 3000 3000\n",
+        "dscert 2\na 0 3000 3000\n",
+        "dscert 2\na 0 3000 3000 3000 3000\n",
+        "dscert 2\na 0 3000 3000 +1\n",
     ] {
         expect(&rt, rt.alloc(), text, CertificateFault::Text)?;
     }
@@ -77,6 +83,8 @@ fn lines_that_are_not_those_of_the_contracts(rt: HostRuntime) -> Result<(), Fail
         "dscert 1\nb 0 1 1000000000000001\n",
         "dscert 1\na 1 1 1\na 0 1 1\n",
         "dscert 1\na 0 1 1\na 1 1 1\na 2 1 1\n",
+        "dscert 2\nb 0 1 1 1000000000000001\n",
+        "dscert 2\na 0 1 1 1\n",
     ] {
         expect(&rt, rt.alloc(), text, CertificateFault::Shape)?;
     }
@@ -88,6 +96,7 @@ fn bounds_above_their_range(rt: HostRuntime) -> Result<(), Fail> {
     for text in [
         "dscert 1\na 0 1000000000000001 1\n",
         "dscert 1\na 0 1 99999999999999999999\n",
+        "dscert 2\na 0 1 1 1000000000000001\n",
     ] {
         expect(&rt, rt.alloc(), text, CertificateFault::Range)?;
     }
@@ -107,6 +116,25 @@ fn leading_zeros_and_a_last_line_without_its_end(rt: HostRuntime) -> Result<(), 
     let again = rewritten(rt.alloc(), text, contracts.as_slice())?;
     let canonical = b"dscert 1\na 0 3000 3000\na 1 4000 1000000000000000\n";
     assert_eq!(rt; again.as_slice(), canonical.as_slice());
+    Ok(())
+}
+
+#[test]
+fn the_long_form_is_written_where_an_excess_differs(rt: HostRuntime) -> Result<(), Fail> {
+    let contracts = contracts(rt.alloc(), ALONE)?;
+    for (text, wanted) in [
+        (
+            "dscert 2\na 0 3000 3000 3000\na 1 4000 6000 6000\n",
+            "dscert 1\na 0 3000 3000\na 1 4000 6000\n",
+        ),
+        (
+            "dscert 2\na 0 3000 3000 3000\na 1 4000 6000 06001",
+            "dscert 2\na 0 3000 3000 3000\na 1 4000 6000 6001\n",
+        ),
+    ] {
+        let again = rewritten(rt.alloc(), text, contracts.as_slice())?;
+        assert_eq!(rt; again.as_slice(), wanted.as_bytes());
+    }
     Ok(())
 }
 
@@ -147,7 +175,7 @@ fn a_contract_over_an_unknown_meter(rt: HostRuntime) -> Result<(), Fail> {
 /// A certificate of one contract, which has a bound for hop 0 alone.
 fn short(alloc: Global) -> Result<Certificate, Fail> {
     let mut hops = Vec::new(alloc);
-    hops.push(Bound::new(3000, 3000)?)?;
+    hops.push(Bound::new(3000, 3000, 3000)?)?;
     let mut rows = Vec::new(alloc);
     rows.push(Bounds::new(hops))?;
     Ok(Certificate::new(rows))

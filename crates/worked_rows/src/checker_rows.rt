@@ -24,7 +24,7 @@ fn refusal_line(alloc: Global, domain: &str, certificate: &str) -> Result<Vec<u8
 }
 
 /// Expects the line of the refusal of two texts, or nothing where they are accepted.
-fn expect(
+pub fn expect(
     rt: &impl Abort,
     alloc: Global,
     (domain, certificate): (&str, &str),
@@ -152,11 +152,11 @@ fn no_contract_brings_anything(rt: HostRuntime) -> Result<(), Fail> {
     expect(&rt, rt.alloc(), (SKEWED, "dscert 1\n"), "")
 }
 
-/// The bounds that are given.
+/// The bounds that are given, of green packets and of green and yellow ones; the excess is no less than the latter.
 fn bounds(alloc: Global, row: &[(u64, u64)]) -> Result<Bounds, Fail> {
     let mut hops = Vec::new(alloc);
     for (green, all) in row {
-        hops.push(Bound::new(*green, *all)?)?;
+        hops.push(Bound::new(*green, *all, *all)?)?;
     }
     Ok(Bounds::new(hops))
 }

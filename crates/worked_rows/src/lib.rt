@@ -9,6 +9,8 @@ mod checker_rows;
 #[cfg(test)]
 mod domain_rows;
 #[cfg(test)]
+mod excess_rows;
+#[cfg(test)]
 mod file_rows;
 #[cfg(test)]
 mod plan_rows;
