@@ -173,7 +173,7 @@ fn mark_frames<O: Outlet, G: Gate>(
     let records = frames.len() as u64;
     match colours(alloc, accepted, sending.sent.as_slice(), gate) {
         Err(NoteFault::NoMemory) => Err((Report::nothing(), MarkFault::NoMemory)),
-        Err(NoteFault::JournalFull) => {
+        Err(NoteFault::JournalFull | NoteFault::Shut) => {
             Err((unmarked_report(&sending, records), MarkFault::JournalFull))
         }
         Ok(colours) => {

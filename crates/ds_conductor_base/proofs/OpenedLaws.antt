@@ -6,12 +6,12 @@ use Rattle.std.proofs.lemmas.Option.{none-some, same_Some}
 use Rattle.meter_fabric.specs.Grounds.{flow_count, ground_of}
 use Rattle.meter_fabric.proofs.GroundLaws.{contract_past}
 use Rattle.meter_fabric.proofs.RangeLaws.{range_past, range_within}
-use Rattle.meter_book.specs.Replay.{Book, replay, rows_of}
+use Rattle.meter_book.specs.Replay.{Book, rows_from, rows_of}
 use Rattle.ds_checker.specs.Acceptance.{Table}
 use Rattle.meter_fabric.specs.Openings.{book_with, opening_at, site_count}
 use Rattle.meter_fabric.specs.declared.site.Opening.{Opening}
 use Rattle.ds_conductor_base.specs.Steps.{book_at, opened, opened_at, some_of}
-use Rattle.ds_conductor_base.specs.UnderWay.{opening_in}
+use Rattle.ds_conductor_base.specs.UnderWay.{opened_by}
 
 -- nothing stands at a site beyond the last
 opening_past : (t : Table) (site : ℕ) → site_count t ≤ site → opening_at (ground_of t) site ≡ None
@@ -31,7 +31,7 @@ pub opened_book : (t : Table) (site : ℕ) → book_at (opened t) site ≡ opene
 opened_book t site = opened_openings_by t site (grind arith)
 
 -- which opens what stands there
-pub opening_of-opened : (found : Option Opening) → option_map opening_in (option_map (book_with (2 ^ 20)) found) ≡ found
+pub opening_of-opened : (found : Option Opening) → option_map (λ (b : Book). b.opening) (option_map (book_with (2 ^ 20)) found) ≡ option_map opened_by found
 opening_of-opened None = refl
 opening_of-opened (Some o) = refl
 
@@ -41,4 +41,4 @@ no_arrivals None b is = absurd (none-some b is)
 no_arrivals (Some o) b is = ap (λ (book : Book). book.arrivals) (sym (same_Some (book_with (2 ^ 20) o) b is))
 
 pub no_rows : (found : Option Opening) (b : Book) → option_map (book_with (2 ^ 20)) found ≡ Some b → rows_of b ≡ []
-no_rows found b is = ap (replay b.opening) (no_arrivals found b is)
+no_rows found b is = ap (rows_from b.opening.meter b.opening.place) (no_arrivals found b is)

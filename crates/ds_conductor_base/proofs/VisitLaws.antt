@@ -8,15 +8,17 @@ use Rattle.std.proofs.lemmas.List.Elements.{All-set, filter-append}
 use Rattle.std.proofs.lemmas.List.Sorted.{IsPermutation-append_left, IsPermutation-trans}
 use Rattle.std.proofs.lemmas.Option.{same_Some, slice_get-map, slice_get_within, get_or_from_slice_get}
 use Rattle.std.proofs.lemmas.Simd.{map-map}
-use Rattle.meter_book.specs.Replay.{Book, is_full, meter_after, next_row, noted, row_of, rows_of}
+use Rattle.meter_book.specs.Replay.{Book, next_row, note_fault, noted, rows_of, unless}
+use Rattle.meter_book.specs.declared.book.NoteFault.{NoteFault}
 use Rattle.meter_book.specs.declared.row.Arrival.{Arrival}
 use Rattle.meter_book.specs.declared.row.Row.{Row}
+use Rattle.meter_book.specs.declared.standing.Standing.{Standing}
 use Rattle.meter_book.proofs.ReplayLaws.{rows_from-push}
 use Rattle.ds_checker.specs.Acceptance.{Table}
 use Rattle.meter_fabric.specs.Grounds.{ground_of}
 use Rattle.meter_fabric.specs.Trails.{Packet, arrival_at}
-use Rattle.meter_fabric.specs.Travels.{Traveller, comes_as, last_moment, next_hop, noting, received, visit_at}
-use Rattle.meter_fabric.specs.declared.fault.VisitFault.TheVariants.{BeforeLast, JournalFull}
+use Rattle.meter_fabric.specs.Travels.{Traveller, comes_as, last_moment, keeping, next_hop, received, visit_at}
+use Rattle.meter_fabric.specs.declared.fault.VisitFault.TheVariants.{BeforeLast}
 use Rattle.meter_fabric.specs.declared.hop.Hop.{Hop}
 use Rattle.meter_fabric.specs.declared.trail.Receipt.{Receipt}
 use Rattle.meter_fabric.proofs.TrailLaws.{trail_of-received}
@@ -24,7 +26,7 @@ use Rattle.run_audit_base.specs.Runs.{told, told_by}
 use Rattle.meter_fabric.specs.Openings.{opening_at}
 use Rattle.ds_conductor_base.specs.Conducting.{passage_of}
 use Rattle.ds_conductor_base.specs.Steps.{Stage, as_step, book_at, numbers_of, put_back, some_of, visit_there, visited_at, visited_by, visited_from, with_books}
-use Rattle.ds_conductor_base.specs.UnderWay.{IsOnItsWay, IsUnderWay, opening_in}
+use Rattle.ds_conductor_base.specs.UnderWay.{IsOnItsWay, IsUnderWay, opened_by}
 use Rattle.ds_conductor_base.proofs.ListLaws.{AllPairs-set, flat_map-set_more, flat_map-set_same, map-set_same, same_Ok, set_elsewhere, set_here, some_of-some}
 
 -- the packets of travellers
@@ -51,9 +53,7 @@ rows_at-elsewhere site receipts r other =
     rows_at-push site receipts r ∙ ap (λ b. rows_at site receipts ++ map (λ (x : Receipt). x.row) (cond b (r ∷ []) [])) other ∙ append-nil (rows_at site receipts)
 
 rows_of-noted : (b : Book) (a : Arrival) → rows_of (noted b a) ≡ rows_of b ++ next_row b a ∷ []
-rows_of-noted b a =
-    let place : 0 + length b.arrivals ≡ length b.arrivals = omega arith in
-    rows_from-push b.opening 0 b.arrivals a ∙ ap (λ n. rows_of b ++ row_of (meter_after b.opening b.arrivals) n a ∷ []) place
+rows_of-noted b a = rows_from-push b.opening.meter b.opening.place b.arrivals a
 
 -- ---- a visit
 
@@ -102,10 +102,13 @@ pub book_elsewhere : (g : Stage) (place : ℕ) (p : Traveller) (hop : Hop) (b : 
 book_elsewhere g place p hop b moment site other =
     ap some_of (set_elsewhere g.books hop.site site (Some (noted b (coming p hop moment))) (other_site hop.site site other))
 
+abbrev opening_in : Book → Standing
+opening_in b = b.opening
+
 openings_by : (t : Table) (g : Stage) (place : ℕ) (p : Traveller) (hop : Hop) (b : Book) (moment site : ℕ) (here : Bool) → IsUnderWay t g → Visits g place p hop b moment
-    → nat_eq hop.site site ≡ here → option_map opening_in (book_at (stage_behind g place p hop b moment) site) ≡ opening_at (ground_of t) site
+    → nat_eq hop.site site ≡ here → option_map opening_in (book_at (stage_behind g place p hop b moment) site) ≡ option_map opened_by (opening_at (ground_of t) site)
 openings_by t g place p hop b moment site true way visits test =
-    subst (λ n. option_map opening_in (book_at (stage_behind g place p hop b moment) n) ≡ opening_at (ground_of t) n) (same_site hop.site site test)
+    subst (λ n. option_map opening_in (book_at (stage_behind g place p hop b moment) n) ≡ option_map opened_by (opening_at (ground_of t) n)) (same_site hop.site site test)
     (ap (option_map opening_in) (book_here g place p hop b moment visits) ∙ sym (ap (option_map opening_in) visits.book) ∙ way.openings hop.site)
 openings_by t g place p hop b moment site false way visits test =
     ap (option_map opening_in) (book_elsewhere g place p hop b moment site test) ∙ way.openings site
@@ -179,13 +182,14 @@ pub record IsVisited (g h : Stage) (place moment : ℕ) : Type 0 where
   pub made : stage_behind g place packet hop book moment ≡ h
 
 module _ (g h : Stage) (place moment : ℕ) where
-  visited_test : (p : Traveller) (hop : Hop) (b : Book) (early full : Bool) → slice_get g.travellers place ≡ Some p → next_hop p ≡ Some hop → book_at g hop.site ≡ Some b
+  visited_test : (p : Traveller) (hop : Hop) (b : Book) (early : Bool) (against : Option NoteFault) → slice_get g.travellers place ≡ Some p → next_hop p ≡ Some hop → book_at g hop.site ≡ Some b
       → nat_lt moment (last_moment p) ≡ early
-      → put_back g place (with_books g.books hop.site (as_step (if early then Err BeforeLast else if full then Err JournalFull else Ok (noting p b hop (coming p hop moment))))) ≡ Ok h
+      → put_back g place (with_books g.books hop.site
+      (as_step (if early then Err BeforeLast else keeping p hop (unless against (next_row b (coming p hop moment), noted b (coming p hop moment)))))) ≡ Ok h
       → IsVisited g h place moment
-  visited_test p hop b true full packet next book test done = absurd cc
-  visited_test p hop b false true packet next book test done = absurd cc
-  visited_test p hop b false false packet next book test done = record {
+  visited_test p hop b true against packet next book test done = absurd cc
+  visited_test p hop b false (Some fault) packet next book test done = absurd cc
+  visited_test p hop b false None packet next book test done = record {
     packet = p;
     hop = hop;
     book = b;
@@ -197,7 +201,7 @@ module _ (g h : Stage) (place moment : ℕ) where
       → put_back g place (with_books g.books hop.site (visit_there p found moment)) ≡ Ok h → IsVisited g h place moment
   visited_book p hop None packet next book done = absurd cc
   visited_book p hop (Some b) packet next book done =
-      visited_test p hop b (nat_lt moment (last_moment p)) (is_full b) packet next book refl
+      visited_test p hop b (nat_lt moment (last_moment p)) (note_fault b moment) packet next book refl
       (subst (λ n. put_back g place (with_books g.books hop.site (as_step (visit_at n p b moment))) ≡ Ok h) next done)
 
   visited_hop : (p : Traveller) (found : Option Hop) → slice_get g.travellers place ≡ Some p → next_hop p ≡ found

@@ -1,5 +1,5 @@
 -- The run that a list of steps makes.
-use Rattle.std.specs.Prelude.{ℕ, suc, List, [], ◌∷◌, map, Option, None, Some, Result, Ok, Err}
+use Rattle.std.specs.Prelude.{◌≡◌, ℕ, suc, List, [], ◌∷◌, map, All, IfSome, Option, None, Some, Result, Ok, Err}
 use Rattle.meter_book.specs.Replay.{Book, Journal}
 use Rattle.ds_checker.specs.Acceptance.{Table}
 use Rattle.meter_fabric.specs.Travels.{Traveller}
@@ -17,7 +17,15 @@ passage_of t = record { packet = t.packet; receipts = t.receipts }
 
 -- what a book hands over for its site
 abbrev pub journal_of : ℕ → Book → Journal
-journal_of site b = record { site = site; opening = b.opening; skew = b.skew; arrivals = b.arrivals }
+journal_of site b =
+    record { site = site; opening = b.opening.meter; skew = b.opening.skew; arrivals = b.arrivals }
+
+-- nothing was cut off from a book, if there is one
+abbrev pub IsWhole : Option Book → Type 0
+IsWhole found = IfSome found (λ b. b.opening.place ≡ 0)
+
+abbrev pub AreWhole : List (Option Book) → Type 0
+AreWhole books = All IsWhole books
 
 -- the journals of books, of which the first is that of the site of this number
 unfoldable pub journals_from : ℕ → List (Option Book) → List Journal

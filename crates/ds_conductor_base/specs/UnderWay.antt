@@ -1,6 +1,7 @@
 -- What holds of packets on their way and of the books of the sites, after any steps.
 use Rattle.std.specs.Prelude.{◌≡◌, ℕ, length, map, All, AllPairs, IsPermutation, Some, option_map}
-use Rattle.meter_book.specs.Replay.{Book, rows_of}
+use Rattle.meter_book.specs.Replay.{Book, fresh, rows_of}
+use Rattle.meter_book.specs.declared.standing.Standing.{Standing}
 use Rattle.ds_domain_base.specs.Sent.{came}
 use Rattle.ds_domain_base.specs.declared.contract.Contract.{Contract}
 use Rattle.ds_checker.specs.Acceptance.{Table}
@@ -14,9 +15,9 @@ use Rattle.meter_fabric.specs.declared.site.Opening.{Opening}
 use Rattle.ds_conductor_base.specs.Conducting.{passage_of}
 use Rattle.ds_conductor_base.specs.Steps.{Stage, book_at}
 
--- the meter and the skew with which a book was opened
-abbrev pub opening_in : Book → Opening
-opening_in b = record { meter = b.opening; skew = b.skew }
+-- where a book stands before any arrival, by what opens it
+abbrev pub opened_by : Opening → Standing
+opened_by o = fresh o.meter o.skew
 
 -- a packet is on the way of its contract, and carries what it carries away from its first hops
 abbrev pub IsOnItsWay : Table → Traveller → Type 0
@@ -29,7 +30,8 @@ IsOnItsWay t p =
 
 pub record IsUnderWay (t : Table) (g : Stage) : Type 0 where
   pub count : length g.books ≡ site_count t
-  pub openings : (site : ℕ) → option_map opening_in (book_at g site) ≡ opening_at (ground_of t) site
+  pub openings : (site : ℕ)
+      → option_map (λ b. b.opening) (book_at g site) ≡ option_map opened_by (opening_at (ground_of t) site)
   pub travellers : All (IsOnItsWay t) g.travellers
   pub numbers : AllPairs (λ p q. ¬ (p.packet.number ≡ q.packet.number)) g.travellers
   pub rows : (site : ℕ) (b : Book) → book_at g site ≡ Some b

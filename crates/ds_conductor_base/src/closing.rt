@@ -1,6 +1,6 @@
 ghost use Rattle.std.specs.Prelude.{◌≡◌, ◌≤◌, ◌^◌, IfOk, length, map};
 ghost use Rattle.indexmap.specs.IndexMap.{values};
-ghost use Rattle.ds_conductor_base.specs.Conducting.{journals_from, passage_of};
+ghost use Rattle.ds_conductor_base.specs.Conducting.{AreWhole, journals_from, passage_of};
 ghost use Rattle.run_audit.specs.Assembled as assembled;
 
 use indexmap::IndexMap;
@@ -8,12 +8,13 @@ use meter_book::{Journal, MeterBook};
 use meter_fabric::{Trail, Traveller};
 use std::alloc::{AllocError, Global};
 
-/// The journals of books, in the order of their sites.
+/// The journals of books of which nothing was cut off, in the order of their sites.
 pub(crate) fn journals_of(
     alloc: Global,
     books: Vec<Option<MeterBook>>,
 ) -> Result<Vec<Journal>, AllocError>
-    requires { length books.items ≤ 2 ^ 32 }
+    requires numbered { length books.items ≤ 2 ^ 32 }
+    requires whole { AreWhole books.items }
     ensures { IfOk result (λ journals. journals.items ≡ journals_from 0 books.items) }
 {
     let mut journals = Vec::new(alloc);

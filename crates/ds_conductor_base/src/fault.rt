@@ -113,7 +113,7 @@ impl From<VisitFault> for StepFault {
 
     fn from(fault: VisitFault) -> Self {
         match fault {
-            VisitFault::PathEnded | VisitFault::BeforeLast => StepFault::BadStep,
+            VisitFault::PathEnded | VisitFault::BeforeLast | VisitFault::Shut => StepFault::BadStep,
             VisitFault::JournalFull => StepFault::JournalFull,
             VisitFault::NoMemory => StepFault::NoMemory,
         }

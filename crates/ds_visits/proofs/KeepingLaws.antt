@@ -4,10 +4,10 @@ use Rattle.std.specs.Prelude.{nat_eq, option_and_then, option_map, slice_get, sl
 use Rattle.std.proofs.lemmas.List.{length-map}
 use Rattle.std.proofs.lemmas.Option.{none-some, same_Some}
 use Rattle.moment_core.specs.declared.colour.Colour.{Colour}
-use Rattle.meter_book.specs.Replay.{Book, next_row, noted}
-use Rattle.meter_book.specs.declared.row.Arrival.{Arrival}
+use Rattle.meter_book.specs.Replay.{Book}
 use Rattle.ds_checker.specs.Acceptance.{Table}
 use Rattle.ds_conductor_base.specs.Steps.{some_of}
+use Rattle.ds_visits.specs.Noting.{noted_by}
 use Rattle.ds_visits.specs.Passing.{Traffic, arrival_of, came_of, colours_of, entered, passed, passed_all, passed_by}
 use Rattle.ds_visits.specs.Visits.{visits_of}
 use Rattle.ds_visits.specs.declared.sent.Sent.{Sent}
@@ -16,11 +16,11 @@ use Rattle.ds_visits.specs.declared.visit.Visit.{Visit}
 same_count : (g h : Traffic) → Some g ≡ Some h → length h.colours ≡ length g.colours
 same_count g h same = ap (λ (k : Traffic). length k.colours) (sym (same_Some g h same))
 
-noting_count : (g h : Traffic) (v : Visit) (b : Book) (a : Arrival) (full : Bool)
-    → (if full then None else Some (record { books = slice_set g.books v.hop.site (Some (noted b a)); colours = slice_set g.colours v.place (next_row b a).left })) ≡ Some h
+noting_count : (g h : Traffic) (v : Visit) (behind : Option (Option Book × Colour))
+    → option_map (λ (b : Option Book × Colour). let k : Traffic = record { books = slice_set g.books v.hop.site b.0; colours = slice_set g.colours v.place b.1 } in k) behind ≡ Some h
     → length h.colours ≡ length g.colours
-noting_count g h v b a true is = absurd (none-some h is)
-noting_count g h v b a false is = same_count _ h is ∙ length-set g.colours v.place (next_row b a).left
+noting_count g h v None is = absurd (none-some h is)
+noting_count g h v (Some behind) is = same_count _ h is ∙ length-set g.colours v.place behind.1
 
 passed_by_count : (g h : Traffic) (v : Visit) (b : Option Book) (s : Option Sent) (came : Option Colour) → passed_by g v b s came ≡ Some h
     → length h.colours ≡ length g.colours
@@ -28,7 +28,7 @@ passed_by_count g h v None s came is = same_count g h is
 passed_by_count g h v (Some b) None came is = same_count g h is
 passed_by_count g h v (Some b) (Some s) None is = same_count g h is
 passed_by_count g h v (Some b) (Some s) (Some came) is =
-    noting_count g h v b (arrival_of s v came) (nat_eq (length b.arrivals) b.capacity) is
+    noting_count g h v (noted_by b (arrival_of s v came)) is
 
 module _ (sent : List Sent) where
   passed_count : (g h : Traffic) (v : Visit) → passed sent g v ≡ Some h → length h.colours ≡ length g.colours

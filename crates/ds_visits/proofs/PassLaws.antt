@@ -3,8 +3,7 @@ use Rattle.std.proofs.Common.{◌≡◌, inl, inr, ℕ, zero, suc, Bool, true, f
 use Rattle.std.specs.Prelude.{◌⊎◌, nat_eq, option_map, Result, Ok, Err, IfErr, OnOk, slice_get, slice_set, if◌then◌else◌}
 use Rattle.std.proofs.lemmas.Option.{same_Some}
 use Rattle.moment_core.specs.declared.colour.Colour.{Colour}
-use Rattle.meter_book.specs.Replay.{Book, next_row, noted}
-use Rattle.meter_book.specs.declared.row.Arrival.{Arrival}
+use Rattle.meter_book.specs.Replay.{Book}
 use Rattle.ds_conductor_base.specs.Steps.{some_of}
 use Rattle.ds_visits.specs.Noting.{noted_there}
 use Rattle.ds_visits.specs.Passing.{Traffic, arrival_of, passed, passed_by}
@@ -52,12 +51,6 @@ module _ (sent : List Sent) (g : Traffic) (v : Visit) where
   abbrev behind : Option (Option Book × Colour) → Option Traffic
   behind made = option_map (λ m. record { books = slice_set g.books v.hop.site m.0; colours = slice_set g.colours v.place m.1 }) made
 
-  noting_by : (b : Book) (s : Sent) (came : Colour) (a : Arrival) (full : Bool) →
-      (if full then None else Some (record { books = slice_set g.books v.hop.site (Some (noted b a)); colours = slice_set g.colours v.place (next_row b a).left }))
-      ≡ behind (if full then None else Some (Some (noted b a), (next_row b a).left))
-  noting_by b s came a true = refl
-  noting_by b s came a false = refl
-
   same_stage : (s : Sent) (came : Colour) → slice_get g.books v.hop.site ≡ Some None → slice_get g.colours v.place ≡ Some came
       → Some g ≡ behind (Some (None, came))
   same_stage s came book colour =
@@ -67,8 +60,7 @@ module _ (sent : List Sent) (g : Traffic) (v : Visit) where
   passed_by_noting : (b : Option Book) (s : Sent) (came : Colour) → slice_get g.books v.hop.site ≡ Some b → slice_get g.colours v.place ≡ Some came
       → passed_by g v b (Some s) (Some came) ≡ behind (noted_there b (arrival_of s v came))
   passed_by_noting None s came book colour = same_stage s came book colour
-  passed_by_noting (Some b) s came book colour =
-      noting_by b s came (arrival_of s v came) (nat_eq (length b.arrivals) b.capacity)
+  passed_by_noting (Some b) s came book colour = refl
 
   -- where there are all three
   passed_noting : (b : Option Book) (s : Sent) (came : Colour) → slice_get g.books v.hop.site ≡ Some b → slice_get sent v.place ≡ Some s

@@ -3,13 +3,14 @@ use Rattle.std.specs.Prelude.{ℕ, List, [], ◌∷◌, map, slice_get, slice_se
 use Rattle.std.specs.Prelude.{Some, if◌then◌else◌}
 use Rattle.moment_core.specs.declared.colour.Colour.{Colour}
 use Rattle.moment_core.specs.declared.colour.Colour.TheVariants.{Red}
-use Rattle.meter_book.specs.Replay.{Book, is_full, next_row, noted}
+use Rattle.meter_book.specs.Replay.{Book}
 use Rattle.meter_book.specs.declared.row.Arrival.{Arrival}
 use Rattle.ds_domain_base.specs.Sent.{came}
 use Rattle.ds_domain_base.specs.declared.contract.Contract.{Contract}
 use Rattle.ds_checker.specs.Acceptance.{Table}
 use Rattle.meter_fabric.specs.Grounds.{contract_of, ground_of}
 use Rattle.ds_conductor_base.specs.Steps.{opened, some_of}
+use Rattle.ds_visits.specs.Noting.{noted_by}
 use Rattle.ds_visits.specs.Visits.{visits_of}
 use Rattle.ds_visits.specs.declared.sent.Sent.{Sent}
 use Rattle.ds_visits.specs.declared.visit.Visit.{Visit}
@@ -37,17 +38,14 @@ abbrev pub arrival_of : Sent → Visit → Colour → Arrival
 arrival_of s v came =
     record { flow = s.flow; packet = s.packet; hop = v.hop.number; moment = v.moment; size = s.size; came = came }
 
--- a book notes the arrival, and the packet carries on the colour that it leaves with; a book with as many rows as it
--- takes stops all
+-- a book notes the arrival, and the packet carries on the colour that it leaves with; a book without room stops all
 abbrev pub noting : Traffic → Visit → Book → Arrival → Option Traffic
-noting g v b a =
-    if is_full b then
-    None
-    else
-    Some (record {
-      books = slice_set g.books v.hop.site (Some (noted b a));
-      colours = slice_set g.colours v.place (next_row b a).left;
+noting g v b a = option_map
+    (λ behind. record {
+      books = slice_set g.books v.hop.site behind.0;
+      colours = slice_set g.colours v.place behind.1;
     })
+    (noted_by b a)
 
 -- a visit of a packet with a colour at a book, if there are all three
 abbrev pub passed_by : Traffic → Visit → Option Book → Option Sent → Option Colour → Option Traffic

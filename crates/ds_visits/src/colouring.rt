@@ -124,9 +124,14 @@ fn pass_at(
     match book {
         None => Ok(()),
         Some(book) => {
-            let row = book.note(arrival(packet, visit, *colour))?;
-            *colour = row.left;
-            Ok(())
+            match book.note(arrival(packet, visit, *colour)) {
+                Ok(row) => {
+                    *colour = row.left;
+                    Ok(())
+                }
+                Err(NoteFault::NoMemory) => Err(NoteFault::NoMemory),
+                Err(NoteFault::JournalFull | NoteFault::Shut) => Err(NoteFault::JournalFull),
+            }
         }
     }
 }

@@ -6,7 +6,7 @@ use Rattle.moment_core.specs.declared.colour.Colour.TheVariants.{Green, Yellow, 
 use Rattle.meter_book.specs.declared.accounts.Accounts.{Accounts}
 use Rattle.meter_book.specs.declared.row.Arrival.{Arrival}
 use Rattle.meter_book.specs.declared.row.Row.{Row}
-use Rattle.meter_book.specs.Replay.{Book, accounts_of, meter_after, rows_from, rows_of}
+use Rattle.meter_book.specs.Replay.{Book, room_of, rows_from, standing_of}
 use Rattle.dsedge_lines.specs.Answers.{Answer}
 use Rattle.dsedge_lines.specs.declared.command.Ending.{Ending}
 use Rattle.dsedge_lines.specs.declared.command.Ending.TheVariants.{Whole, BadLine, Full}
@@ -40,20 +40,20 @@ ending_of number room arrivals lines =
     if nat_lt room arrivals then Full else if nat_lt arrivals lines then BadLine (number + arrivals) else Whole
 
 -- the accounts, where the whole input was answered
-abbrev pub closing : Ending → List Row → List ℕ
-closing Whole rows = accounts_text_of (accounts_of rows)
-closing _ rows = []
+abbrev pub closing : Ending → Accounts → List ℕ
+closing Whole accounts = accounts_text_of accounts
+closing _ accounts = []
 
--- The answer of a book to so many lines from a number on, which say these arrivals before any says none: a colour for
+-- The answer of a book that is not shut to so many lines from a number on, which say these arrivals before any says none: a colour for
 -- each arrival that there is room for, and the accounts of the whole book where every line was answered.
 unfoldable pub answer_to : Book → ℕ → ℕ → List Arrival → Answer
 answer_to book number lines arrivals =
-    let room = book.capacity - length book.arrivals in
-    let noted = take room arrivals in
-    let rows = rows_from (meter_after book.opening book.arrivals) (length book.arrivals) noted in
-    let ending = ending_of number room (length arrivals) lines in
+    let noted = take (room_of book) arrivals in
+    let stood = standing_of book in
+    let ending = ending_of number (room_of book) (length arrivals) lines in
     record {
-      text = flat_map colour_line rows ++ closing ending (rows_of (record book { arrivals = book.arrivals ++ noted }));
+      text = flat_map colour_line (rows_from stood.meter stood.place noted)
+          ++ closing ending (standing_of (record book { arrivals = book.arrivals ++ noted })).accounts;
       ending = ending;
     }
 

@@ -7,13 +7,27 @@ use line_text::push_number;
 use meter_book::{Accounts, AnyMeter, MeterBook, NoteFault};
 use moment_core::{Colour, Gap};
 use std::alloc::{AllocError, Global};
+use std::marker::Model;
 
 /// The command `meter`: it answers each arrival with the colour that the packet leaves with, and at the end the
 /// accounts.
+///
+/// Its book is never shut.
 #[derive(Drop)]
 pub struct MeterCommand {
     alloc: Global,
     book: MeterBook,
+}
+
+impl Model for MeterCommand {
+    ghost use Rattle.std.specs.Prelude.{◌≡◌, None};
+    ghost use Rattle.meter_book.specs.Replay.{Book};
+
+    ghost Value = { Book };
+
+    ghost view = { λ c. c.book };
+
+    ghost invariant = { λ c. c.book.shut ≡ None };
 }
 
 /// A line with the name of a colour.
@@ -56,7 +70,7 @@ impl MeterCommand {
 
     /// The command over a fresh book of a meter.
     pub fn new(alloc: Global, meter: AnyMeter) -> Self
-        ensures { result.book ≡ fresh_book meter }
+        ensures { result ≡ fresh_book meter }
     {
         MeterCommand {
             alloc,
@@ -66,7 +80,7 @@ impl MeterCommand {
 }
 
 impl Command for MeterCommand {
-    ghost answer = { λ c number lines. answer_of c.book number lines };
+    ghost answer = { answer_of };
 
     fn line(
         &mut self,
@@ -84,6 +98,7 @@ impl Command for MeterCommand {
             }
             Err(NoteFault::JournalFull) => Ok(Some(Ending::Full)),
             Err(NoteFault::NoMemory) => Err(AllocError),
+            Err(NoteFault::Shut) => unreachable!(),
         }
     }
 

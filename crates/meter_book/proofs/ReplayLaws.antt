@@ -11,8 +11,10 @@ use Rattle.meter_book.specs.declared.row.Row.{Row}
 use Rattle.meter_book.specs.AnyMeter.{after_any, left_of}
 use Rattle.meter_book.specs.declared.stored_row.StoredRow.{StoredRow}
 use Rattle.meter_book.specs.Kept.{arrival_stored, arrivals_of, stored_of}
-use Rattle.meter_book.specs.Replay.{bytes_left, meter_after, offer_of, packets_left, replay, row_of, rows_from}
-use Rattle.meter_book.specs.Tallies.{tallies_of, with_packet}
+use Rattle.meter_book.specs.Replay.{bytes_left, meter_after, offer_of, packets_left, row_of, rows_from}
+use Rattle.meter_book.specs.Tallies.{tallies_of, together, with_packet}
+use Rattle.meter_book.specs.declared.tally.Tallies.{Tallies}
+use Rattle.meter_book.proofs.TallyLaws.{together-packet}
 
 pub meter_after-push : (m : AnyMeter) (before : List Arrival) (a : Arrival) → meter_after m (before ++ a ∷ []) ≡ after_any (meter_after m before) (offer_of a)
 meter_after-push m [] a = refl
@@ -41,21 +43,25 @@ arrivals_of-rows_from m place (a ∷ more) = ap (λ rest. a ∷ rest) (arrivals_
 pub arrivals_of-push : (rows : List StoredRow) (row : StoredRow) → arrivals_of (rows ++ row ∷ []) ≡ arrivals_of rows ++ arrival_stored row ∷ []
 arrivals_of-push rows row = map-append arrival_stored rows (row ∷ [])
 
--- the replay of one arrival more
-pub replay-push : (opening meter : AnyMeter) (rows : List StoredRow) (a : Arrival) → meter ≡ meter_after opening (arrivals_of rows)
-    → replay opening (arrivals_of (rows ++ stored_of (row_of meter (length rows) a) ∷ [])) ≡ replay opening (arrivals_of rows) ++ row_of meter (length rows) a ∷ []
-replay-push opening meter rows a met =
-    let place : 0 + length (arrivals_of rows) ≡ length rows = omega (arith, length-map rows arrival_stored) in
-    rw (arrivals_of-push rows (stored_of (row_of meter (length rows) a)), rows_from-push opening 0 (arrivals_of rows) a, place, ← met) refl
+-- what is stored of the rows of a meter, of which the first has a place
+module _ (opening : AnyMeter) (first : ℕ) where
+  -- the replay of one arrival more
+  pub replay-push : (meter : AnyMeter) (rows : List StoredRow) (a : Arrival) → meter ≡ meter_after opening (arrivals_of rows)
+      → rows_from opening first (arrivals_of (rows ++ stored_of (row_of meter (first + length rows) a) ∷ []))
+      ≡ rows_from opening first (arrivals_of rows) ++ row_of meter (first + length rows) a ∷ []
+  replay-push meter rows a met =
+      let place : first + length (arrivals_of rows) ≡ first + length rows = omega (arith, length-map rows arrival_stored) in
+      rw (arrivals_of-push rows (stored_of (row_of meter (first + length rows) a)), rows_from-push opening first (arrivals_of rows) a, place, ← met) refl
 
--- what is stored of a replay and of the row of one arrival more is a replay
-pub replayed-push : (opening meter : AnyMeter) (rows : List StoredRow) (a : Arrival)
-    → rows ≡ map stored_of (replay opening (arrivals_of rows)) → meter ≡ meter_after opening (arrivals_of rows)
-    → rows ++ stored_of (row_of meter (length rows) a) ∷ [] ≡ map stored_of (replay opening (arrivals_of (rows ++ stored_of (row_of meter (length rows) a) ∷ [])))
-replayed-push opening meter rows a replayed met =
-    ap (λ front. front ++ stored_of (row_of meter (length rows) a) ∷ []) replayed
-    ∙ sym (map-append stored_of (replay opening (arrivals_of rows)) (row_of meter (length rows) a ∷ []))
-    ∙ ap (map stored_of) (sym (replay-push opening meter rows a met))
+  -- what is stored of a replay and of the row of one arrival more is a replay
+  pub replayed-push : (meter : AnyMeter) (rows : List StoredRow) (a : Arrival)
+      → rows ≡ map stored_of (rows_from opening first (arrivals_of rows)) → meter ≡ meter_after opening (arrivals_of rows)
+      → rows ++ stored_of (row_of meter (first + length rows) a) ∷ []
+      ≡ map stored_of (rows_from opening first (arrivals_of (rows ++ stored_of (row_of meter (first + length rows) a) ∷ [])))
+  replayed-push meter rows a replayed met =
+      ap (λ front. front ++ stored_of (row_of meter (first + length rows) a) ∷ []) replayed
+      ∙ sym (map-append stored_of (rows_from opening first (arrivals_of rows)) (row_of meter (first + length rows) a ∷ []))
+      ∙ ap (map stored_of) (sym (replay-push meter rows a met))
 
 pub met-push : (opening meter : AnyMeter) (rows : List StoredRow) (place : ℕ) (a : Arrival) → meter ≡ meter_after opening (arrivals_of rows)
     → after_any meter (offer_of a) ≡ meter_after opening (arrivals_of (rows ++ stored_of (row_of meter place a) ∷ []))
@@ -102,9 +108,11 @@ tallies_of-push rows row = tallies_of-push_left rows row row.left refl
 pub packets_left-le : (picked : Colour → Bool) (rows : List Row) → packets_left picked rows ≤ length rows
 packets_left-le picked rows = count_by-le-length (λ (r : Row). picked r.left) rows
 
--- the sums of one arrival more
-pub counted-push : (opening meter : AnyMeter) (rows : List StoredRow) (a : Arrival) → meter ≡ meter_after opening (arrivals_of rows)
-    → with_packet (tallies_of (replay opening (arrivals_of rows))) (left_of meter (offer_of a)) a.size
-    ≡ tallies_of (replay opening (arrivals_of (rows ++ stored_of (row_of meter (length rows) a) ∷ [])))
-counted-push opening meter rows a met =
-    sym (tallies_of-push (replay opening (arrivals_of rows)) (row_of meter (length rows) a)) ∙ ap tallies_of (sym (replay-push opening meter rows a met))
+-- the sums of one arrival more, behind what was summed before
+pub counted-push : (before : Tallies) (opening meter : AnyMeter) (first : ℕ) (rows : List StoredRow) (a : Arrival) → meter ≡ meter_after opening (arrivals_of rows)
+    → with_packet (together before (tallies_of (rows_from opening first (arrivals_of rows)))) (left_of meter (offer_of a)) a.size
+    ≡ together before (tallies_of (rows_from opening first (arrivals_of (rows ++ stored_of (row_of meter (first + length rows) a) ∷ []))))
+counted-push before opening meter first rows a met =
+    together-packet before (tallies_of (rows_from opening first (arrivals_of rows))) (left_of meter (offer_of a)) a.size
+    ∙ ap (together before) (sym (tallies_of-push (rows_from opening first (arrivals_of rows)) (row_of meter (first + length rows) a))
+    ∙ ap tallies_of (sym (replay-push opening first meter rows a met)))

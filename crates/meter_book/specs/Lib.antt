@@ -1,4 +1,5 @@
 pub mod AnyMeter
+pub mod Chapters
 pub mod Envelopes
 pub mod Kept
 pub mod KeptColours

@@ -1,12 +1,16 @@
--- The replay of a list of arrivals through a meter, and the accounts of its rows.
-use Rattle.std.specs.Prelude.{ℕ, Bool, ◌+◌, ◌-◌, List, [], ◌∷◌, ◌++◌, length, nat_eq, count_by, sum_by, if◌then◌else◌}
+-- The replay of a list of arrivals through a meter, the accounts of its rows, and the book that keeps them.
+use Rattle.std.specs.Prelude.{ℕ, Bool, false, ◌+◌, ◌-◌, ◌^◌, max, min, List, [], ◌∷◌, ◌++◌, length, nat_eq, nat_le}
+use Rattle.std.specs.Prelude.{count_by, sum_by, slice_index, Option, None, Some, Result, Ok, Err, if◌then◌else◌}
 use Rattle.moment_core.specs.declared.colour.Colour.{Colour}
 use Rattle.moment_core.specs.Colours.{is_green, is_yellow, is_red}
 use Rattle.moment_core.specs.Metering.{Offer, used}
 use Rattle.meter_book.specs.declared.any_meter.AnyMeter.{AnyMeter}
 use Rattle.meter_book.specs.declared.accounts.Accounts.{Accounts}
+use Rattle.meter_book.specs.declared.book.NoteFault.{NoteFault}
+use Rattle.meter_book.specs.declared.book.NoteFault.TheVariants.{JournalFull, Shut}
 use Rattle.meter_book.specs.declared.row.Arrival.{Arrival}
 use Rattle.meter_book.specs.declared.row.Row.{Row}
+use Rattle.meter_book.specs.declared.standing.Standing.{Standing}
 use Rattle.meter_book.specs.AnyMeter.{newest_of, left_of, after_any}
 
 -- what of an arrival concerns the meter
@@ -56,28 +60,92 @@ accounts_of rows = record {
   bytes = bytes_left is_green rows ∷ bytes_left is_yellow rows ∷ bytes_left is_red rows ∷ [];
 }
 
--- the book of a meter: the meter as it was when the book was opened, and what arrived since
+-- accounts, and those of rows behind them
+abbrev pub accounts_with : Accounts → List Row → Accounts
+accounts_with a rows = record {
+  packets = (slice_index a.packets 0 + packets_left is_green rows)
+      ∷ (slice_index a.packets 1 + packets_left is_yellow rows)
+      ∷ (slice_index a.packets 2 + packets_left is_red rows)
+      ∷ [];
+  bytes = (slice_index a.bytes 0 + bytes_left is_green rows)
+      ∷ (slice_index a.bytes 1 + bytes_left is_yellow rows)
+      ∷ (slice_index a.bytes 2 + bytes_left is_red rows)
+      ∷ [];
+}
+
+-- a meter and a skew, before any arrival
+abbrev pub fresh : AnyMeter → ℕ → Standing
+fresh meter skew = record { meter = meter; skew = skew; accounts = accounts_of []; place = 0; shut = None }
+
+-- where a book stands after arrivals, shut at a moment or not
+abbrev pub standing_after : Standing → List Arrival → Option ℕ → Standing
+standing_after s arrivals shut = record {
+  meter = meter_after s.meter arrivals;
+  skew = s.skew;
+  accounts = accounts_with s.accounts (rows_from s.meter s.place arrivals);
+  place = s.place + length arrivals;
+  shut = shut;
+}
+
+-- the book of a meter: where it stood when its open rows began, how many of them it takes, what arrived since, and the
+-- moment at which it is shut, if it is
 pub record Book : Type 0 where
-  pub opening : AnyMeter
-  pub skew : ℕ
+  pub opening : Standing
   pub capacity : ℕ
   pub arrivals : List Arrival
+  pub shut : Option ℕ
 
--- it has as many rows as it takes
-abbrev pub is_full : Book → Bool
-is_full b = nat_eq (length b.arrivals) b.capacity
+-- where it stands now
+abbrev pub standing_of : Book → Standing
+standing_of b = standing_after b.opening b.arrivals b.shut
 
--- its rows
+-- its open rows
 abbrev pub rows_of : Book → List Row
-rows_of b = replay b.opening b.arrivals
+rows_of b = rows_from b.opening.meter b.opening.place b.arrivals
 
 -- the row that the next arrival gets
 abbrev pub next_row : Book → Arrival → Row
-next_row b a = row_of (meter_after b.opening b.arrivals) (length b.arrivals) a
+next_row b a = row_of (meter_after b.opening.meter b.arrivals) (b.opening.place + length b.arrivals) a
 
 -- the book with one more arrival
 abbrev pub noted : Book → Arrival → Book
 noted b a = record b { arrivals = b.arrivals ++ a ∷ [] }
+
+-- a book gives 2^44 places at most, so that no sum of its bytes reaches 2^64
+abbrev pub most_places : ℕ
+most_places = 2 ^ 44
+
+-- how many open rows it can still take
+abbrev pub room_of : Book → ℕ
+room_of b = min (b.capacity - length b.arrivals) (most_places - (b.opening.place + length b.arrivals))
+
+-- whether what arrives at a moment comes when the book is shut
+abbrev pub is_shut_by : Option ℕ → ℕ → Bool
+is_shut_by None moment = false
+is_shut_by (Some end) moment = nat_le end moment
+
+-- why it refuses what arrives at a moment, memory aside, if it does
+abbrev pub note_fault : Book → ℕ → Option NoteFault
+note_fault b moment =
+    if is_shut_by b.shut moment then Some Shut else if nat_eq (room_of b) 0 then Some JournalFull else None
+
+-- what is done where there is no fault
+abbrev pub unless : {A : Type 0} → Option NoteFault → A → Result A NoteFault
+unless None done = Ok done
+unless (Some fault) done = Err fault
+
+-- what becomes of an arrival: its row and the book behind it, or why the book refuses it
+abbrev pub note_of : Book → Arrival → Result (Row × Book) NoteFault
+note_of b a = unless (note_fault b a.moment) (next_row b a, noted b a)
+
+-- the moment at which a book is shut that is to be shut at a moment: behind all that it metered, and once for all; none
+-- where no moment is left
+abbrev pub shut_from : Option ℕ → ℕ → ℕ → Option ℕ
+shut_from (Some end) newest moment = Some end
+shut_from None newest moment = if nat_eq newest (2 ^ 63 - 1) then None else Some (max moment (newest + 1))
+
+abbrev pub shut_by : Book → ℕ → Option ℕ
+shut_by b moment = shut_from b.shut (newest_of (meter_after b.opening.meter b.arrivals)) moment
 
 -- the rows of a site as they are handed over: which site, the meter as it was at first, its skew, and what arrived
 pub record Journal : Type 0 where

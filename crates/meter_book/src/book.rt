@@ -1,37 +1,47 @@
-ghost use Rattle.std.specs.Prelude.{◌≡◌, ◌≤◌, ◌<◌, ◌↔◌, ◌^◌, [], length, slice_get, IsTrue, IfOk, OnOk, OnErr, IsErrOf};
-ghost use Rattle.meter_book.specs.Replay.{accounts_of, next_row, noted, rows_of};
+ghost use Rattle.std.specs.Prelude.{◌≡◌, ◌≤◌, ◌<◌, ◌↔◌, ◌^◌, [], All, length, slice_get, unwrap_or};
+ghost use Rattle.std.specs.Prelude.{IsTrue, IfErr, IfOk, IfSome, None, Ok, OnErr, Some};
+ghost use Rattle.meter_book.specs.Replay.{accounts_with, fresh, journal_rows, note_fault, note_of, room_of, rows_of};
+ghost use Rattle.meter_book.specs.Replay.{shut_by, standing_of};
 
 use crate::accounts::Accounts;
 use crate::any_meter::AnyMeter;
+use crate::chapter::Chapter;
 use crate::journal::Journal;
 use crate::row::{Arrival, Row};
+use crate::standing::Standing;
 use crate::stored_row::{StoredRow, row_among};
 use crate::tally::Tallies;
-use moment_core::Gap;
+use moment_core::{Gap, Moment};
 use std::alloc::{AllocError, Global};
 use std::marker::Model;
+use std::mem;
 use thiserror::Error;
 
 /// Why a book did not note an arrival.
 #[derive(Clone, Copy, Debug, PartialEq, Eq, Hash, Drop, Error)]
 pub enum NoteFault {
-    /// It has as many rows as it can take.
+    /// It has as many open rows as it can take, or has given 2^44 places.
     #[error("the journal is full")]
     JournalFull,
     /// Memory ran out.
     #[error("out of memory")]
     NoMemory,
+    /// It was shut at the moment of the arrival, or before.
+    #[error("the book is shut")]
+    Shut,
 }
 
 impl NoteFault {
-    /// The fault's number: 1 for a full journal, 2 for want of memory.
+    /// The fault's number: 1 for a full journal, 2 for want of memory, 3 for a book that is shut.
     pub fn code(&self) -> u8
         ensures full { self.now ≡ NoteFault.JournalFull → result ≡ 1 }
         ensures memory { self.now ≡ NoteFault.NoMemory → result ≡ 2 }
+        ensures shut { self.now ≡ NoteFault.Shut → result ≡ 3 }
     {
         match self {
             NoteFault::JournalFull => 1,
             NoteFault::NoMemory => 2,
+            NoteFault::Shut => 3,
         }
     }
 }
@@ -48,16 +58,17 @@ impl From<AllocError> for NoteFault {
 
 /// The book of a meter: it meters each arrival, keeps a row for it, and sums up what left with each colour.
 ///
-/// At all times its rows are the replay of what arrived, its meter is where the replay left it, and its accounts are
-/// the sums of its rows.
+/// Its open rows are those that were not cut off yet. At all times they are the replay of what arrived since, from
+/// where the book stood before them; its meter is where the replay left it, and its accounts are the sums of all rows
+/// that it ever gave.
 #[derive(Debug, Drop)]
 pub struct MeterBook {
-    opening: AnyMeter,
+    opening: Standing,
     meter: AnyMeter,
-    skew: Gap,
     capacity: u32,
     rows: Vec<StoredRow>,
     tallies: Tallies,
+    shut: Option<Moment>,
 }
 
 impl Model for MeterBook {
@@ -74,43 +85,58 @@ impl Model for MeterBook {
 
 const _: () = prove!(MeterBook::MOST_ROWS == 1_048_576);
 
+const _: () = prove!(MeterBook::MOST_PLACES == 17_592_186_044_416);
+
 impl MeterBook {
-    /// The greatest capacity of a book, in rows.
+    ghost use Rattle.meter_book.specs.declared.book.NoteFault.TheVariants.{NoMemory};
+    ghost use Rattle.meter_book.specs.AnyMeter.{newest_of};
+    ghost use Rattle.meter_book.specs.Chapters.{IsStanding, after_cut, chapter_of};
+
+    /// The greatest capacity of a book, in open rows.
     pub const MOST_ROWS: u32 = 1 << 20;
 
-    /// The book of a meter from now on, with room for `capacity` rows. It takes no memory before the first arrival.
+    /// How many places a book gives at most, over all its chapters, so that no account can wrap.
+    pub const MOST_PLACES: u64 = 1 << 44;
+
+    /// The book of a meter from now on, with room for `capacity` open rows. It takes no memory before the first arrival.
     pub fn new(alloc: Global, meter: AnyMeter, skew: Gap, capacity: u32) -> Self
         requires least { 1 ≤ capacity }
         requires most { capacity ≤ 2 ^ 20 }
-        ensures { result ≡ record { opening = meter; skew = skew; capacity = capacity; arrivals = [] } }
+        ensures { result ≡ record { opening = fresh meter skew; capacity = capacity; arrivals = []; shut = None } }
     {
-        let opening = meter;
+        let own = meter;
+        let tallies = Tallies::none();
+        let opening = Standing {
+            meter: own,
+            skew,
+            accounts: tallies.accounts(),
+            place: 0,
+            shut: None,
+        };
         MeterBook {
             opening,
             meter,
-            skew,
             capacity,
             rows: Vec::new(alloc),
-            tallies: Tallies::none(),
+            tallies,
+            shut: None,
         }
     }
 
     /// Meters an arrival, and answers its row.
     ///
-    /// Refused: `JournalFull` exactly when the rows are as many as the capacity, else `NoMemory` where memory runs
-    /// out. The book is then unchanged.
+    /// Refused: `Shut` exactly where it arrives when the book is shut, else `JournalFull` exactly where there is no room
+    /// for an open row, else `NoMemory` where memory runs out. The book is then unchanged.
     pub fn note(&mut self, arrival: Arrival) -> Result<Row, NoteFault>
-        ensures row { IfOk result (λ row. row ≡ next_row self.old arrival) }
-        ensures noted { OnOk result (self.new ≡ noted self.old arrival) }
-        ensures room { OnOk result (length self.old.arrivals < self.old.capacity) }
-        ensures full { IsErrOf result NoteFault.JournalFull ↔ (length self.old.arrivals ≡ self.old.capacity) }
-        ensures refused { OnErr result (self.new ≡ self.old) }
+        ensures noted { IfOk result (λ row. note_of self.old arrival ≡ Ok (row, self.new)) }
+        ensures refused { IfErr result (λ fault. fault ≡ unwrap_or (note_fault self.old arrival.moment) NoMemory) }
+        ensures unchanged { OnErr result (self.new ≡ self.old) }
     {
-        if self.rows.len() == self.capacity as usize {
-            return Err(NoteFault::JournalFull);
+        if let Some(fault) = self.fault_at(arrival.moment) {
+            return Err(fault);
         }
+        let place = self.next_place();
         self.rows.reserve(1)?;
-        let place = self.rows.len() as u64;
         let row = self.meter.row(place, arrival);
         self.tallies.add(row.left, row.size);
         let stored = StoredRow::of(&row);
@@ -118,46 +144,139 @@ impl MeterBook {
         Ok(row)
     }
 
-    /// How many packets and bytes left with each colour.
+    /// Why it refuses what arrives at a moment, memory aside; `None` where it takes it.
+    pub fn fault_at(&self, moment: Moment) -> Option<NoteFault>
+        ensures { result ≡ note_fault self.now moment }
+    {
+        if let Some(end) = self.shut {
+            if end <= moment {
+                return Some(NoteFault::Shut);
+            }
+        }
+        if self.room() == 0 {
+            return Some(NoteFault::JournalFull);
+        }
+        None
+    }
+
+    /// How many open rows it can still take: up to its capacity, and up to 2^44 places in all.
+    pub fn room(&self) -> u64
+        ensures { result ≡ room_of self.now }
+    {
+        let open = u64::from(self.capacity) - self.rows.len() as u64;
+        open.min(Self::MOST_PLACES - self.next_place())
+    }
+
+    /// The place of the next row, counted from 0 over all its rows.
+    fn next_place(&self) -> u64
+        ensures value { result ≡ (standing_of self.now).place }
+        ensures most { result ≤ 2 ^ 44 }
+    {
+        self.opening.place + self.rows.len() as u64
+    }
+
+    /// Shuts it: from the moment that this answers on it refuses what arrives. That is the later of `moment` and the
+    /// nanosecond behind all that it metered, or what an earlier call answered; all its rows, old and to come, arrive
+    /// before it.
+    ///
+    /// None, with nothing changed, where it metered at the last moment that there is, 2^63 - 1.
+    pub fn shut(&mut self, moment: Moment) -> Option<Moment>
+        ensures shut { result ≡ shut_by self.old moment }
+        ensures after { self.new ≡ record self.old { shut = result } }
+        ensures before { IfSome result (λ end. newest_of (standing_of self.new).meter < end) }
+    {
+        if self.shut.is_none() {
+            let next = Moment::new(self.meter.newest().get() + 1).ok()?;
+            self.shut = Some(moment.max(next));
+        }
+        self.shut
+    }
+
+    /// Where it stands: behind its last row. Where it is shut, all its rows arrived before that.
+    pub fn standing(&self) -> Standing
+        ensures value { result ≡ standing_of self.now }
+        ensures stands { IsStanding result }
+        ensures before { IfSome self.now.shut (λ end. All (λ row. row.arrival < end) (rows_of self.now)) }
+        ensures stays { IfSome self.now.opening.shut (λ end. self.now.shut ≡ Some end) }
+    {
+        Standing {
+            meter: self.meter,
+            skew: self.opening.skew,
+            accounts: self.tallies.accounts(),
+            place: self.next_place(),
+            shut: self.shut,
+        }
+    }
+
+    /// How many packets and bytes left with each colour, over all rows that it ever gave.
     pub fn accounts(&self) -> Accounts
-        ensures { result ≡ accounts_of (rows_of self.now) }
+        ensures { result ≡ accounts_with self.now.opening.accounts (rows_of self.now) }
     {
         self.tallies.accounts()
     }
 
-    /// How many rows it has so far.
+    /// How many open rows it has.
     pub fn len(&self) -> usize
         ensures { result ≡ length self.now.arrivals }
     {
         self.rows.len()
     }
 
-    /// Whether it has no row yet.
+    /// Whether it has no open row.
     pub fn is_empty(&self) -> bool
         ensures { IsTrue result ↔ (self.now.arrivals ≡ []) }
     {
         self.rows.is_empty()
     }
 
-    /// The row at a place, counted from 0: that of the replay of what arrived, or `None` where there is none yet.
-    pub fn row(&self, place: usize) -> Option<Row>
-        ensures { result ≡ slice_get (rows_of self.now) place }
+    /// The open row of an index, counted from 0, or `None` where there is none yet.
+    pub fn row(&self, index: usize) -> Option<Row>
+        ensures { result ≡ slice_get (rows_of self.now) index }
     {
-        row_among(self.rows.as_slice(), place)
+        row_among(self.rows.as_slice(), self.opening.place, index)
     }
 
-    /// Hands its rows over, as the journal of site 0 until `Journal::at` names another.
-    pub fn into_journal(self) -> Journal
-        ensures { result ≡ record { site = 0; opening = self.opening; skew = self.skew; arrivals = self.arrivals } }
+    /// Hands its open rows over, as a chapter of site 0 until `Chapter::at` names another, and goes on without them:
+    /// meter, accounts, places and the moment at which it is shut stay. It takes no memory.
+    pub fn cut(&mut self) -> Chapter
+        ensures chapter { result ≡ chapter_of self.old }
+        ensures after { self.new ≡ after_cut self.old }
     {
+        let closing = self.standing();
+        let next = closing;
+        let alloc = *self.rows.allocator();
+        let opening = mem::replace(&mut self.opening, next);
+        let rows = mem::replace(&mut self.rows, Vec::new(alloc));
+        Chapter::new(opening, rows, closing)
+    }
+
+    /// Hands its open rows over, as its last chapter. It takes no memory.
+    pub fn into_chapter(mut self) -> Chapter
+        ensures { result ≡ chapter_of self }
+    {
+        self.cut()
+    }
+
+    /// Hands its rows over, as the journal of site 0 until `Journal::at` names another. Nothing may have been cut off.
+    pub fn into_journal(self) -> Journal
+        requires whole { self.opening.place ≡ 0 }
+        ensures journal { result ≡ record {
+          site = 0;
+          opening = self.opening.meter;
+          skew = self.opening.skew;
+          arrivals = self.arrivals;
+        } }
+        ensures before { IfSome self.shut (λ end. All (λ row. row.arrival < end) (journal_rows result)) }
+    {
+        let accounts = self.accounts();
         let MeterBook {
             opening,
             meter: _,
-            skew,
             capacity: _,
             rows,
-            tallies,
+            tallies: _,
+            shut: _,
         } = self;
-        Journal::new(opening, skew, rows, tallies)
+        Journal::new(0, opening.meter, opening.skew, rows, accounts)
     }
 }

@@ -4,7 +4,6 @@ use crate::accounts::Accounts;
 use crate::any_meter::AnyMeter;
 use crate::row::Row;
 use crate::stored_row::{StoredRow, row_among};
-use crate::tally::Tallies;
 use moment_core::Gap;
 use std::marker::Model;
 
@@ -15,7 +14,7 @@ pub struct Journal {
     opening: AnyMeter,
     skew: Gap,
     rows: Vec<StoredRow>,
-    tallies: Tallies,
+    accounts: Accounts,
 }
 
 impl Model for Journal {
@@ -33,41 +32,34 @@ impl Model for Journal {
 impl Journal {
     ghost use Rattle.meter_book.specs.Replay.{accounts_of, journal_rows, replay};
     ghost use Rattle.meter_book.specs.Kept.{arrivals_of, stored_of};
-    ghost use Rattle.meter_book.specs.Tallies.{tallies_of};
 
-    /// The journal of site 0; `rows` must be the replay of their own arrivals, and `tallies` its sums.
-    pub(crate) fn new(opening: AnyMeter, skew: Gap, rows: Vec<StoredRow>, tallies: Tallies) -> Self
+    /// The journal of a site; `rows` must be the replay of their own arrivals, and `accounts` those of the replay.
+    pub(crate) fn new(
+        site: u32,
+        opening: AnyMeter,
+        skew: Gap,
+        rows: Vec<StoredRow>,
+        accounts: Accounts,
+    ) -> Self
         requires rows { rows.items ≡ map stored_of (replay opening (arrivals_of rows.items)) }
-        requires sums { tallies ≡ tallies_of (replay opening (arrivals_of rows.items)) }
-        ensures { result ≡ record { site = 0; opening = opening; skew = skew; arrivals = arrivals_of rows.items } }
+        requires accounts { accounts ≡ accounts_of (replay opening (arrivals_of rows.items)) }
+        ensures { result ≡ record { site = site; opening = opening; skew = skew; arrivals = arrivals_of rows.items } }
     {
-        Journal {
-            site: 0,
-            opening,
-            skew,
-            rows,
-            tallies,
-        }
-    }
-
-    /// The same journal, of another site.
-    pub fn at(self, site: u32) -> Self
-        ensures { result ≡ record self { site = site } }
-    {
-        let Journal {
-            site: _,
-            opening,
-            skew,
-            rows,
-            tallies,
-        } = self;
         Journal {
             site,
             opening,
             skew,
             rows,
-            tallies,
+            accounts,
         }
+    }
+
+    /// The same journal, of another site.
+    pub fn at(mut self, site: u32) -> Self
+        ensures { result ≡ record self { site = site } }
+    {
+        self.site = site;
+        self
     }
 
     /// The number of its site.
@@ -95,7 +87,7 @@ impl Journal {
     pub fn accounts(&self) -> Accounts
         ensures { result ≡ accounts_of (journal_rows self.now) }
     {
-        self.tallies.accounts()
+        self.accounts
     }
 
     /// How many rows it has.
@@ -116,6 +108,6 @@ impl Journal {
     pub fn row(&self, place: usize) -> Option<Row>
         ensures { result ≡ slice_get (journal_rows self.now) place }
     {
-        row_among(self.rows.as_slice(), place)
+        row_among(self.rows.as_slice(), 0, place)
     }
 }

@@ -1,4 +1,5 @@
-//! The book of a meter: every arrival as a row, replayed exactly, and the accounts of what left with each colour.
+//! The book of a meter: every arrival as a row, replayed exactly, and the accounts of what left with each colour. Rows
+//! may be handed over in chapters, which join to one journal.
 //!
 //! What holds of a meter of any kind, its definition in `specs/`, and the function that keeps it:
 //!
@@ -15,19 +16,25 @@
 pub mod accounts;
 pub mod any_meter;
 pub mod book;
+pub mod chapter;
+pub mod joining;
 pub mod journal;
 pub mod laws;
 pub mod limits;
 pub mod meter;
 pub mod metering;
 pub mod row;
+pub mod standing;
 mod stored_row;
 mod tally;
 
 pub use accounts::Accounts;
 pub use any_meter::{AnyMeter, MeterFault, Parameters};
 pub use book::{MeterBook, NoteFault};
+pub use chapter::Chapter;
+pub use joining::JoinFault;
 pub use journal::Journal;
 pub use meter::Meter;
 pub use metering::meter_all;
 pub use row::{Arrival, Row};
+pub use standing::Standing;

@@ -1,4 +1,4 @@
-ghost use Rattle.std.specs.Prelude.{◌≡◌, ◌≤◌, All, option_map, slice_get};
+ghost use Rattle.std.specs.Prelude.{◌≡◌, ◌+◌, ◌<◌, ◌≤◌, ◌^◌, All, length, option_map, slice_get};
 ghost use Rattle.meter_book.specs.Kept.{row_at, stored_of};
 
 use crate::row::Row;
@@ -54,11 +54,12 @@ impl StoredRow {
     }
 }
 
-/// The row at a place among stored rows, or `None` where there is none.
-pub fn row_among(rows: &[StoredRow], place: usize) -> Option<Row>
-    requires { All (λ row. row.arrival ≤ row.used) rows.now }
-    ensures { result ≡ option_map (row_at place) (slice_get rows.now place) }
+/// The row of an index among stored rows, of which the first has a place; `None` where there is none.
+pub fn row_among(rows: &[StoredRow], first: u64, index: usize) -> Option<Row>
+    requires on_time { All (λ row. row.arrival ≤ row.used) rows.now }
+    requires places { index < length rows.now → first + index < 2 ^ 64 }
+    ensures { result ≡ option_map (row_at (first + index)) (slice_get rows.now index) }
 {
-    let stored = rows.get(place)?;
-    Some(stored.at(place as u64))
+    let stored = rows.get(index)?;
+    Some(stored.at(first + index as u64))
 }

@@ -1,4 +1,4 @@
-ghost use Rattle.std.specs.Prelude.{◌≡◌, ◌+◌, ◌*◌, ◌<◌, ◌≤◌, ◌^◌, [], ◌∷◌};
+ghost use Rattle.std.specs.Prelude.{◌≡◌, ◌+◌, ◌*◌, ◌<◌, ◌≤◌, ◌^◌};
 
 use crate::accounts::Accounts;
 use moment_core::{Colour, PacketSize};
@@ -33,7 +33,7 @@ pub struct Tallies {
 }
 
 impl Tallies {
-    ghost use Rattle.meter_book.specs.Tallies.{HasRoom, IsSized, with_packet};
+    ghost use Rattle.meter_book.specs.Tallies.{IsSized, accounts_in, packets_in, with_packet};
 
     /// Nothing yet.
     pub fn none() -> Self
@@ -54,7 +54,7 @@ impl Tallies {
 
     /// One packet more, by the colour that it left with.
     pub fn add(&mut self, left: Colour, size: PacketSize)
-        requires room { HasRoom self.old }
+        requires room { packets_in self.old < 2 ^ 44 }
         requires sized { IsSized self.old }
         ensures added { self.new ≡ with_packet self.old left size }
         ensures sized { IsSized self.new }
@@ -68,9 +68,7 @@ impl Tallies {
 
     /// The sums as accounts.
     pub fn accounts(&self) -> Accounts
-        ensures packets { result.packets ≡ self.now.green.packets ∷ self.now.yellow.packets ∷ self.now.red.packets
-            ∷ [] }
-        ensures bytes { result.bytes ≡ self.now.green.bytes ∷ self.now.yellow.bytes ∷ self.now.red.bytes ∷ [] }
+        ensures { result ≡ accounts_in self.now }
     {
         Accounts {
             packets: [self.green.packets, self.yellow.packets, self.red.packets],

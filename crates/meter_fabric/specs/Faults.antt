@@ -16,7 +16,9 @@ visit_code visits.PathEnded = 1
 visit_code visits.JournalFull = 2
 visit_code visits.NoMemory = 3
 visit_code visits.BeforeLast = 4
+visit_code visits.Shut = 6
 
 abbrev pub visit_fault_of : NoteFault → VisitFault
 visit_fault_of notes.JournalFull = visits.JournalFull
 visit_fault_of notes.NoMemory = visits.NoMemory
+visit_fault_of notes.Shut = visits.Shut

@@ -1,9 +1,9 @@
 -- What stands at the sites before the first packet.
-use Rattle.std.specs.Prelude.{◌^◌, ℕ, ◌+◌, ◌-◌, nat_lt, [], length, slice_get, option_and_then, option_map, Option}
+use Rattle.std.specs.Prelude.{◌^◌, ℕ, ◌+◌, ◌-◌, nat_lt, [], length, slice_get, option_and_then, option_map, Option, None}
 use Rattle.std.specs.Prelude.{if◌then◌else◌}
 use Rattle.moment_core.specs.declared.colour.Mode.TheVariants.{Aware}
 use Rattle.meter_book.specs.AnyMeter.{opening_of}
-use Rattle.meter_book.specs.Replay.{Book}
+use Rattle.meter_book.specs.Replay.{Book, fresh}
 use Rattle.ds_domain_base.specs.Domains.{Domain, port_of, skew_of}
 use Rattle.ds_domain_base.specs.Sent.{edge_of}
 use Rattle.ds_domain_base.specs.declared.contract.Contract.{Contract}
@@ -29,9 +29,9 @@ opening_at g site =
     else
     option_and_then (edge_opening g.domain) (contract_of g (site - length g.domain.meters))
 
--- an empty book of what stands at a site, which takes so many rows
+-- a book of what stands at a site, before any arrival, with room for so many open rows
 abbrev pub book_with : ℕ → Opening → Book
-book_with capacity o = record { opening = o.meter; skew = o.skew; capacity = capacity; arrivals = [] }
+book_with capacity o = record { opening = fresh o.meter o.skew; capacity = capacity; arrivals = []; shut = None }
 
 -- how many numbers the sites of a table have: one for each meter, then one for each contract that packets can be of
 abbrev pub site_count : Table → ℕ

@@ -2,15 +2,16 @@
 use Rattle.std.specs.Prelude.{ℕ, ◌-◌, nat_lt, List, [], ◌∷◌, ◌++◌, length, slice_get, option_map, unwrap_or, Option}
 use Rattle.std.specs.Prelude.{None, Some, Result, Ok, Err, if◌then◌else◌}
 use Rattle.moment_core.specs.declared.colour.Colour.{Colour}
-use Rattle.meter_book.specs.Replay.{Book, is_full, next_row, noted}
-use Rattle.meter_book.specs.declared.row.Arrival.{Arrival}
+use Rattle.meter_book.specs.Replay.{Book, note_of}
+use Rattle.meter_book.specs.declared.book.NoteFault.{NoteFault}
 use Rattle.meter_book.specs.declared.row.Row.{Row}
 use Rattle.ds_domain_base.specs.Sent.{came}
+use Rattle.meter_fabric.specs.Faults.{visit_fault_of}
 use Rattle.meter_fabric.specs.Grounds.{Ground, contract_of}
 use Rattle.meter_fabric.specs.Sites.{hops_of}
 use Rattle.meter_fabric.specs.Trails.{Packet, arrival_at}
 use Rattle.meter_fabric.specs.declared.fault.VisitFault.{VisitFault}
-use Rattle.meter_fabric.specs.declared.fault.VisitFault.TheVariants.{PathEnded, JournalFull, NoMemory, BeforeLast}
+use Rattle.meter_fabric.specs.declared.fault.VisitFault.TheVariants.{PathEnded, NoMemory, BeforeLast}
 use Rattle.meter_fabric.specs.declared.hop.Hop.{Hop}
 use Rattle.meter_fabric.specs.declared.trail.Receipt.{Receipt}
 
@@ -49,19 +50,18 @@ comes_as t = unwrap_or (option_map (λ r. r.row.left) (last_receipt t.receipts))
 abbrev pub received : Traveller → Hop → Row → Traveller
 received t hop row = record t { receipts = t.receipts ++ record { site = hop.site; row = row } ∷ [] }
 
--- the book notes the arrival, and the traveller keeps the row
-abbrev pub noting : Traveller → Book → Hop → Arrival → Traveller × Book
-noting t b hop a = (received t hop (next_row b a), noted b a)
+-- the traveller keeps the row that a book noted, or what stands against that
+abbrev pub keeping : Traveller → Hop → Result (Row × Book) NoteFault → Result (Traveller × Book) VisitFault
+keeping t hop (Ok noted) = Ok (received t hop noted.0, noted.1)
+keeping t hop (Err fault) = Err (visit_fault_of fault)
 
 abbrev pub visit_at : Option Hop → Traveller → Book → ℕ → Result (Traveller × Book) VisitFault
 visit_at None t b moment = Err PathEnded
 visit_at (Some hop) t b moment =
     if nat_lt moment (last_moment t) then
     Err BeforeLast
-    else if is_full b then
-    Err JournalFull
     else
-    Ok (noting t b hop (arrival_at t.packet hop moment (comes_as t)))
+    keeping t hop (note_of b (arrival_at t.packet hop moment (comes_as t)))
 
 -- A visit at a moment to the book of its next site: the traveller and the book behind it, or what stands against it.
 abbrev pub visit : Traveller → Book → ℕ → Result (Traveller × Book) VisitFault

@@ -44,7 +44,7 @@ pub enum VisitFault {
     /// It is at the end of its path.
     #[error("the path has ended")]
     PathEnded,
-    /// The site's book has as many rows as it can take.
+    /// The site's book has as many open rows as it can take.
     #[error("the journal is full")]
     JournalFull,
     /// Memory ran out.
@@ -53,11 +53,14 @@ pub enum VisitFault {
     /// The moment is before the packet's last arrival, or before its beginning where it arrived nowhere.
     #[error("the moment is before the last one")]
     BeforeLast,
+    /// The site's book was shut at the moment, or before.
+    #[error("the book is shut")]
+    Shut,
 }
 
 impl VisitFault {
     /// The fault's number: 1 for a path that has ended, 2 for a full journal, 3 for want of memory, 4 for a moment
-    /// before the last one.
+    /// before the last one, 6 for a book that is shut.
     pub fn code(&self) -> u8
         ensures { result ≡ visit_code self.now }
     {
@@ -66,6 +69,7 @@ impl VisitFault {
             VisitFault::JournalFull => 2,
             VisitFault::NoMemory => 3,
             VisitFault::BeforeLast => 4,
+            VisitFault::Shut => 6,
         }
     }
 }
@@ -79,6 +83,7 @@ impl From<NoteFault> for VisitFault {
         match fault {
             NoteFault::JournalFull => VisitFault::JournalFull,
             NoteFault::NoMemory => VisitFault::NoMemory,
+            NoteFault::Shut => VisitFault::Shut,
         }
     }
 }

@@ -23,7 +23,7 @@ pub struct Opening {
 }
 
 impl Opening {
-    /// An empty book of it, which takes so many rows, 1 to 2^20. It takes no memory.
+    /// A book of it before any arrival, with room for so many open rows, 1 to 2^20. It takes no memory.
     pub fn book(self, alloc: Global, capacity: u32) -> MeterBook
         requires least { 1 ≤ capacity }
         requires most { capacity ≤ 2 ^ 20 }

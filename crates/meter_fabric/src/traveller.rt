@@ -127,8 +127,8 @@ impl Traveller {
     /// the colour of `comes_as()`, and the traveller keeps the row as one receipt more.
     ///
     /// Refused, in this order: `PathEnded` at the end of its way, `BeforeLast` where the moment is before
-    /// `last_moment()`, `JournalFull` where the book has as many rows as it can take, `NoMemory` where memory runs out.
-    /// Traveller and book are then unchanged.
+    /// `last_moment()`, `Shut` where the book is shut by then, `JournalFull` where it has no room for an open row,
+    /// `NoMemory` where memory runs out. Traveller and book are then unchanged.
     pub fn step(
         mut self,
         book: &mut MeterBook,

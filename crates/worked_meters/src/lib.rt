@@ -5,6 +5,8 @@
 #[cfg(test)]
 mod book_rows;
 #[cfg(test)]
+mod chapter_rows;
+#[cfg(test)]
 mod envelope_rows;
 #[cfg(test)]
 mod header_rows;

@@ -6,7 +6,7 @@ use std::test::Fail;
 use trtcm_core::{TrTcm, TrTcmParameters};
 
 /// A committed rate and burst, and a peak rate and burst.
-type Figures = (u64, u32, u64, u32);
+pub type Figures = (u64, u32, u64, u32);
 
 /// The parameters of such figures.
 pub fn parameters((cir, cbs, pir, pbs): Figures) -> Result<TrTcmParameters, Fail> {

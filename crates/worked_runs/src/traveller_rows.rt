@@ -192,3 +192,19 @@ fn a_full_book_leaves_a_packet_where_it_is(rt: HostRuntime) -> Result<(), Fail> 
     let mut book = meter_book(rt.alloc(), 1)?;
     expect_one(&rt, rt.alloc(), &mut book)
 }
+
+/// Expects that a packet does not come into a book at the moment at which that was shut, and does before.
+fn expect_shut(rt: &impl Abort, sent: Traveller, book: &mut MeterBook) -> Result<(), Fail> {
+    let refused = expect(rt, sent, book, 11, (6, Some(1)))?;
+    assert!(rt; book.is_empty());
+    expect(rt, refused, book, 10, (0, Some(0)))?;
+    Ok(())
+}
+
+#[test]
+fn a_book_that_is_shut_leaves_a_packet_where_it_is(rt: HostRuntime) -> Result<(), Fail> {
+    let mut edge = edge_book(rt.alloc())?;
+    let sent = sent(rt.alloc(), 1)?;
+    assert_eq!(rt; edge.shut(Moment::new(11)?), Some(Moment::new(11)?));
+    expect_shut(&rt, sent, &mut edge)
+}

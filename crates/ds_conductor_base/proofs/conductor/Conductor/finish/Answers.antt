@@ -1,10 +1,13 @@
 use Rattle.std.proofs.Common.{arith}
 use Rattle.ds_conductor_base.specs.Kept.{stage_of}
-use Rattle.ds_conductor_base.proofs.UnderWayLaws.{run_under_way}
+use Rattle.ds_conductor_base.proofs.UnderWayLaws.{run_under_way, whole_under_way}
 use Rattle.ds_conductor_base.proofs.conductor.Conductor.finish.Goals as goal
 
 pub journals_of-requires : goal.journals_of-requires
-journals_of-requires c = omega (arith, c.self.invariant.under_way.count, c.self.invariant.numbered)
+journals_of-requires c = record {
+  numbered = omega (arith, c.self.invariant.under_way.count, c.self.invariant.numbered);
+  whole = whole_under_way c.self.inside.accepted.now (stage_of c.self.inside) c.self.invariant.under_way;
+}
 
 pub of-requires : goal.of-requires
 of-requires c =

@@ -1,0 +1,13 @@
+use Rattle.std.proofs.Common.{◌<◌, subst}
+use Rattle.std.specs.Prelude.{IfSome}
+use Rattle.meter_book.specs.AnyMeter.{newest_of}
+use Rattle.meter_book.specs.Kept.{arrivals_of}
+use Rattle.meter_book.proofs.StandingLaws.{rows_before}
+use Rattle.meter_book.proofs.chapter.Chapter.closing.Goals as goal
+
+pub returns-clause-before : goal.returns-clause-before
+returns-clause-before c =
+    let i = c.self.inside in
+    let leads = c.self.invariant.leads in
+    rw (← c.self.view_is) (rows_before i.opening.meter i.opening.place (arrivals_of i.rows.items) i.closing.shut
+    (subst (λ s. IfSome i.closing.shut (λ end. newest_of s.meter < end)) leads.replayed leads.closed.before))
