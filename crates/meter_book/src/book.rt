@@ -208,6 +208,14 @@ impl MeterBook {
         }
     }
 
+    /// Where it stood before its open rows.
+    pub fn opening(&self) -> Standing
+        ensures value { result ≡ self.now.opening }
+        ensures stands { IsStanding result }
+    {
+        self.opening
+    }
+
     /// How many packets and bytes left with each colour, over all rows that it ever gave.
     pub fn accounts(&self) -> Accounts
         ensures { result ≡ accounts_with self.now.opening.accounts (rows_of self.now) }

@@ -80,6 +80,7 @@ fn committed_burst_of_one_packet_and_peak_burst_of_two(rt: HostRuntime) -> Resul
     let mut book = book(rt.alloc(), Mode::Blind, 5)?;
     expect_five(&rt, &mut book)?;
     expect_accounts(&rt, &book, [2, 2, 1], [2_000, 2_500, 100]);
+    assert_eq!(rt; book.opening().place, 0);
     expect_journal(&rt, &book.into_journal().at(7));
     Ok(())
 }

@@ -60,6 +60,7 @@ fn whole(rt: &impl Abort, alloc: Global) -> Result<Journal, Fail> {
     for packet in 0..3 {
         assert_eq!(rt; place(&mut book, packet, packet)?, Ok(packet));
     }
+    assert_eq!(rt; book.opening().place, 0);
     Ok(book.into_journal())
 }
 

@@ -82,11 +82,19 @@ fn trails(
     Ok(trails)
 }
 
+/// The journal of a site's book, of which nothing was cut off.
+fn journal(book: MeterBook, site: u32) -> Result<Journal, Fail> {
+    if book.opening().place != 0 {
+        return Err(Fail::from("a book that was cut"));
+    }
+    Ok(book.into_journal().at(site))
+}
+
 /// The journals of an edge and a meter, that of the edge first.
 fn journals(alloc: Global, edge: MeterBook, meter: MeterBook) -> Result<Vec<Journal>, Fail> {
     let mut journals = Vec::with_capacity(alloc, 2)?;
-    journals.push(edge.into_journal().at(1))?;
-    journals.push(meter.into_journal().at(0))?;
+    journals.push(journal(edge, 1)?)?;
+    journals.push(journal(meter, 0)?)?;
     Ok(journals)
 }
 
