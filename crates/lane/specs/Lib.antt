@@ -1,0 +1,4 @@
+pub mod Rule
+pub mod Lanes
+pub mod Kept
+pub mod Left
