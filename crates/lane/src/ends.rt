@@ -81,7 +81,8 @@ impl<T: Drop> Putting<T> {
             match self.sender.try_send_as::<Puts, R>(rt, &mut self.pass, item) {
                 Ok(()) => return Ok(()),
                 Err(TrySendError::Full(back)) => return Err(back),
-                Err(other) => item = other.into_inner(),
+                Err(TrySendError::Disconnected(back)) => item = back,
+                Err(TrySendError::OutOfMemory(back)) => item = back,
             }
         }
         unreachable!()

@@ -42,7 +42,10 @@ impl<T: Drop> Rest<T> {
     pub fn take<R: Wait>(&mut self, rt: &R) -> Option<T>
         ensures { MatchOption result ((self.old ≡ []) × (self.new ≡ [])) (λ item. self.old ≡ item ∷ self.new) }
     {
-        self.receiver.try_recv_as::<Empties, R>(rt, &mut self.pass).ok()
+        let Ok(item) = self.receiver.try_recv_as::<Empties, R>(rt, &mut self.pass) else {
+            return None;
+        };
+        Some(item)
     }
 
     /// Moves the whole rest behind `into`, in order.
