@@ -10,12 +10,14 @@ pub record Lane (T : Type 0) : Type 0 where
   pub places : TableId
   pub keys : Badge (Key T)
 
--- the putting end of a lane, and all that it put, oldest first
+-- the putting end: its lane, all that it put, and what it was told was taken, oldest first
 pub record PuttingEnd (T : Type 0) : Type 0 where
   pub lane : Lane T
   pub put : List T
+  pub told_taken : List T
 
--- the taking end of a lane, and all that it took, oldest first
+-- the taking end: its lane, what it was told was put, and all that it took, oldest first
 pub record TakingEnd (T : Type 0) : Type 0 where
   pub lane : Lane T
+  pub told_put : List T
   pub taken : List T

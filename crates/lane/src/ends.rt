@@ -1,5 +1,5 @@
 //! The two ends of a lane.
-ghost use Rattle.std.specs.Prelude.{◌≡◌, ◌<◌, ◌≤◌, List, [], ◌∷◌, ◌++◌, length, IfOk, IfErr, MatchResult, MatchOption};
+ghost use Rattle.std.specs.Prelude.{◌≡◌, ◌+◌, ◌≤◌, [], ◌∷◌, ◌++◌, length, IfOk, IfErr, IfNone, MatchResult, MatchOption};
 ghost use Rattle.crossbeam_channel.specs.Claims.{view, IsSeatAt};
 ghost use Rattle.crossbeam_channel.specs.Ends.{sends_on, receives_on, ruled_capacity};
 
@@ -57,7 +57,7 @@ impl<T: Drop> Model for Taking<T> {
 /// Refused where memory runs out.
 pub fn lane<T: Drop>(alloc: Global, capacity: usize) -> Result<(Putting<T>, Taking<T>), AllocError>
     requires { (1 ≤ capacity) × (capacity ≤ 65536) }
-    ensures { IfOk result (λ ends. (ends.0.lane.capacity ≡ capacity) × (ends.1.lane ≡ ends.0.lane) × (ends.0.put ≡ []) × (ends.1.taken ≡ [])) }
+    ensures { IfOk result (λ ends. (ends.0.lane.capacity ≡ capacity) × (ends.1.lane ≡ ends.0.lane) × (ends.0.put ≡ []) × (ends.0.told_taken ≡ []) × (ends.1.told_put ≡ []) × (ends.1.taken ≡ [])) }
 {
     let (sender, receiver, mut pass) = bounded_with::<T, Known<T>, Ordered, Global>(alloc, capacity)?;
     let keeper = receiver.try_clone()?;
@@ -72,9 +72,9 @@ impl<T: Drop> Putting<T> {
     ///
     /// Handed back where the lane is full at one moment of the call: the item was then not put.
     pub fn put<R: Wait>(&mut self, rt: &R, item: T) -> Result<(), T>
-        ensures lane { self.new.lane ≡ self.old.lane }
+        ensures lane { (self.new.lane ≡ self.old.lane) × (self.new.told_taken ≡ self.old.told_taken) }
         ensures put { MatchResult result (λ _. self.new.put ≡ self.old.put ++ item ∷ []) (λ back. (back ≡ item) × (self.new.put ≡ self.old.put)) }
-        ensures full { IfErr result (λ _. self.old.lane.capacity ≤ length self.old.put) }
+        ensures full { IfErr result (λ _. self.old.lane.capacity + length self.old.told_taken ≤ length self.old.put) }
     {
         let mut item = item;
         for _ in rt.forever() {
@@ -92,11 +92,26 @@ impl<T: Drop> Putting<T> {
 impl<T: Drop> Taking<T> {
     /// Takes the first item that was put and not taken; None where the lane is empty at one moment of the call.
     pub fn take<R: Wait>(&mut self, rt: &R) -> Option<T>
-        ensures lane { self.new.lane ≡ self.old.lane }
+        ensures lane { (self.new.lane ≡ self.old.lane) × (self.new.told_put ≡ self.old.told_put) }
         ensures taken { MatchOption result (self.new.taken ≡ self.old.taken) (λ item. self.new.taken ≡ self.old.taken ++ item ∷ []) }
+        ensures empty { IfNone result (length self.old.told_put ≤ length self.old.taken) }
     {
         self.receiver.try_recv_as::<Takes, R>(rt, &mut self.pass).ok()
     }
+}
+
+/// Tells each end of one lane what the other did.
+pub fn meet<T: Drop>(putting: Putting<T>, taking: Taking<T>) -> (Putting<T>, Taking<T>)
+    requires { taking.lane ≡ putting.lane }
+    ensures lane { (result.0.lane ≡ putting.lane) × (result.1.lane ≡ putting.lane) }
+    ensures put { (result.0.put ≡ putting.put) × (result.1.told_put ≡ putting.put) }
+    ensures taken { (result.1.taken ≡ taking.taken) × (result.0.told_taken ≡ taking.taken) }
+{
+    let Putting { sender, receiver: keeper, mut pass } = putting;
+    let Taking { receiver, pass: taken } = taking;
+    sender.absorb::<Roles>(&mut pass, taken);
+    let taken = sender.another::<Roles>(&mut pass);
+    (Putting { sender, receiver: keeper, pass }, Taking { receiver, pass: taken })
 }
 
 /// Takes back both ends of one lane, and gives the rest: what was taken is a prefix of what was put, each item once and

@@ -5,5 +5,5 @@ pub mod ends;
 pub mod rest;
 mod rule;
 
-pub use ends::{LANE_MOST, Putting, Taking, lane, reunite};
+pub use ends::{LANE_MOST, Putting, Taking, lane, meet, reunite};
 pub use rest::Rest;

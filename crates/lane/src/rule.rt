@@ -1,12 +1,13 @@
 //! What holds of a lane at each moment, and what each step of an end does to what that end knows.
-ghost use Rattle.std.specs.Prelude.{◌≡◌, ⊤, List, [], ◌∷◌, ◌++◌, true, false};
-ghost use Rattle.lane.specs.Rule.{known, InOrder};
+ghost use mathlib.Core.List.{IsPrefix};
+ghost use Rattle.std.specs.Prelude.{◌≡◌, List, [], ◌∷◌, ◌++◌};
+ghost use Rattle.lane.specs.Rule.{known};
 
 use crossbeam_channel::protocol::{Join, Lesson, Outcome, Protocol, Split};
 use std::collections::LinkedList;
 
-/// What an end of a lane knows: whether it puts and whether it takes, all that it put, and all that it took, each
-/// oldest first. It stands in proofs alone: no value of it is made.
+/// What an end of a lane knows: whether it puts and whether it takes, what was put, and what was taken, each oldest
+/// first, and whole where it is the end's own. It stands in proofs alone: no value of it is made.
 pub struct Known<T> {
     pub puts: bool,
     pub takes: bool,
@@ -30,12 +31,12 @@ impl<T> Protocol<T, Known<T>> for Ordered {
 pub struct Roles;
 
 impl<T> Split<Known<T>> for Roles {
-    ghost use Rattle.std.specs.Prelude.{true, false, []};
+    ghost use Rattle.std.specs.Prelude.{true, false};
     ghost use Rattle.lane.specs.Rule.{known};
 
-    ghost left = { λ v. known true false v.put [] };
+    ghost left = { λ v. known true false v.put v.taken };
 
-    ghost right = { λ v. known false true [] v.taken };
+    ghost right = { λ v. known false true v.put v.taken };
 }
 
 impl<T> Join<Known<T>> for Roles {
@@ -47,7 +48,7 @@ impl<T> Join<Known<T>> for Roles {
     ghost spent = { known false false [] [] };
 }
 
-/// One item more is put. Where the lane is full, what was put ends with what it holds.
+/// One item more is put. Where the lane is full, what was put is what was taken and then what it holds.
 pub struct Puts;
 
 impl<T> Outcome<T, Known<T>> for Puts {
@@ -55,10 +56,10 @@ impl<T> Outcome<T, Known<T>> for Puts {
 }
 
 impl<T> Lesson<T, Known<T>> for Puts {
-    ghost fact = { λ v items. (taken : List T) × (v.put ≡ taken ++ items) };
+    ghost fact = { λ v items. (taken : List T) × IsPrefix v.taken taken × (v.put ≡ taken ++ items) };
 }
 
-/// One item more is taken.
+/// One item more is taken. Where the lane is empty, what was taken is all that was put.
 pub struct Takes;
 
 impl<T> Outcome<T, Known<T>> for Takes {
@@ -66,7 +67,7 @@ impl<T> Outcome<T, Known<T>> for Takes {
 }
 
 impl<T> Lesson<T, Known<T>> for Takes {
-    ghost fact = { λ v items. ⊤ };
+    ghost fact = { λ v items. (put : List T) × IsPrefix v.put put × (put ≡ v.taken ++ items) };
 }
 
 /// One item more is taken of what both ends left, and this is the first of it.
