@@ -98,8 +98,7 @@ module _ {T : Type 0} where
   merges end v other u a b items ends h at two at' = let both : Known T = known true true v.put u.taken in let mine = h.5 end v at in let joined : List (Known T) = set ends end both in
       let was : get_elem? ends other ≡ some u = ⊎_elim (λ x. absurd (two x.0)) (λ x. x.1) (at_set ends end other both u at') in let its = h.5 other u was in let theirs = its.1 b in
       let Now : ℕ → Known T → Type 0 = λ j y. j ≢ other → Fits h.0 end h.2 h.3 j y in
-      let now : Each Now joined = each_set Now ends end both (λ _. ((λ _. mine.0 a), (λ _. (refl, theirs.1)), mine.2, its.3)) (λ j y _ e apart. let that = h.5 j y e in (that.0, (λ p. absurd (apart ((that.1 p).0 ∙ sym theirs.0))), that.2, that.3)) in
-      (
+      let now : Each Now joined = each_set Now ends end both (λ _. ((λ _. mine.0 a), (λ _. (refl, theirs.1)), mine.2, its.3)) (λ j y _ e apart. let that = h.5 j y e in (that.0, (λ p. absurd (apart ((that.1 p).0 ∙ sym theirs.0))), that.2, that.3)) in (
         h.0,
         end,
         h.2,

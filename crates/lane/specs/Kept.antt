@@ -11,7 +11,7 @@ module _ {T : Type 0} where
   putting_of end = record {
     lane = record { capacity = ruled_capacity (sends_on end.sender); places = end.pass.table_id; keys = end.pass.me.0.of };
     put = (view end.pass).put;
-    told_taken = (view end.pass).taken
+    told_taken = (view end.pass).taken;
   }
 
   abbrev pub IsPutting : PuttingInside T → Type 0
@@ -21,7 +21,7 @@ module _ {T : Type 0} where
   taking_of end = record {
     lane = record { capacity = ruled_capacity (receives_on end.receiver); places = end.pass.table_id; keys = end.pass.me.0.of };
     told_put = (view end.pass).put;
-    taken = (view end.pass).taken
+    taken = (view end.pass).taken;
   }
 
   abbrev pub IsTaking : TakingInside T → Type 0

@@ -29,7 +29,10 @@ impl<T: Drop> Model for Rest<T> {
 }
 
 impl<T: Drop> Rest<T> {
-    pub(crate) fn of(receiver: RuledReceiver<T, Known<T>, Ordered>, pass: Pass<T, Known<T>>) -> Rest<T>
+    pub(crate) fn of(
+        receiver: RuledReceiver<T, Known<T>, Ordered>,
+        pass: Pass<T, Known<T>>,
+    ) -> Rest<T>
         requires seat { IsSeatAt (receives_on receiver) pass }
         requires both { ((view pass).puts ≡ true) × ((view pass).takes ≡ true) }
         requires order { (items : List T) × ((view pass).put ≡ (view pass).taken ++ items) }
