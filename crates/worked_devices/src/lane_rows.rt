@@ -79,7 +79,10 @@ fn a_full_lane_hands_the_item_back(rt: HostRuntime) -> Result<(), Fail> {
     assert_eq!(rt; putting.put(&rt, 3), Err(3));
     assert_eq!(rt; taking.take(&rt), Some(1));
     assert_eq!(rt; putting.put(&rt, 4), Ok(()));
-    assert_eq!(rt; [taking.take(&rt), taking.take(&rt), taking.take(&rt)], [Some(2), Some(4), None]);
+    assert_eq!(rt;
+        [taking.take(&rt), taking.take(&rt), taking.take(&rt)],
+        [Some(2), Some(4), None]
+    );
     Ok(())
 }
 
@@ -104,7 +107,10 @@ fn what_is_left_comes_back_in_order(rt: HostRuntime) -> Result<(), Fail> {
     assert_eq!(rt; taking.take(&rt), Some(1));
     let (putting, taking) = meet(putting, taking);
     let mut rest = reunite(putting, taking);
-    assert_eq!(rt; [rest.take(&rt), rest.take(&rt), rest.take(&rt)], [Some(2), Some(3), None]);
+    assert_eq!(rt;
+        [rest.take(&rt), rest.take(&rt), rest.take(&rt)],
+        [Some(2), Some(3), None]
+    );
     Ok(())
 }
 
