@@ -9,4 +9,6 @@ module _ {T : Type 0} where
   rest_of rest = drop (length (view rest.pass).taken) (view rest.pass).put
 
   abbrev pub IsRest : Inside T → Type 0
-  IsRest rest = IsSeatAt (receives_on rest.receiver) rest.pass × ((view rest.pass).puts ≡ true) × ((view rest.pass).takes ≡ true) × ((view rest.pass).put ≡ (view rest.pass).taken ++ rest_of rest)
+  IsRest rest = IsSeatAt (receives_on rest.receiver) rest.pass
+      × ((view rest.pass).puts ≡ true) × ((view rest.pass).takes ≡ true)
+      × ((view rest.pass).put ≡ (view rest.pass).taken ++ rest_of rest)

@@ -1,4 +1,4 @@
--- What a caller sees of a lane (`Lanes`), what its ends are made of (`Kept`, `Left`), and what holds of it at each moment (`Rule`).
+-- What a caller sees of a lane, what its ends are made of, and what holds of it at each moment.
 pub mod Kept
 pub mod Lanes
 pub mod Left

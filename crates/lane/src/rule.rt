@@ -74,7 +74,8 @@ impl<T> Lesson<T, Known<T>> for Takes {
 pub struct Empties;
 
 impl<T> Outcome<T, Known<T>> for Empties {
-    ghost then = { λ v x w. (w ≡ known v.puts v.takes v.put (v.taken ++ x ∷ [])) × ((items : List T) × (v.put ≡ v.taken ++ x ∷ items)) };
+    ghost then = { λ v x w. (w ≡ known v.puts v.takes v.put (v.taken ++ x ∷ []))
+        × ((items : List T) × (v.put ≡ v.taken ++ x ∷ items)) };
 }
 
 impl<T> Lesson<T, Known<T>> for Empties {
