@@ -1,4 +1,4 @@
-use Rattle.std.proofs.Common.{rules, ap}
+use Rattle.std.proofs.Common.{rules}
 use Rattle.lane.proofs.Order.{begins, forks}
 use Rattle.lane.proofs.ends.lane.Goals as goal
 
