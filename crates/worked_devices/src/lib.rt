@@ -9,4 +9,6 @@ mod capture_rows;
 #[cfg(test)]
 mod device_rows;
 #[cfg(test)]
+mod lane_rows;
+#[cfg(test)]
 mod line_rows;
