@@ -1,6 +1,6 @@
 ghost use Rattle.std.specs.Prelude.{◌≡◌, ◌⊎◌, [], ◌++◌, drop, zip, is_ok, if◌then◌else◌, IfOk, IfErr, MatchResult};
 ghost use Rattle.std.specs.Prelude.{OnOk};
-ghost use Rattle.meter_fabric.specs.Grounds.{contract_of, ground_of};
+ghost use Rattle.meter_fabric_base.specs.Grounds.{contract_of, ground_of};
 ghost use Rattle.pcap_capture.specs.Counts.{next_count};
 ghost use Rattle.ds_conductor.specs.Texts.{is_dropped, packet_at, record_text, text_from, text_in_class};
 ghost use Rattle.ds_conductor.specs.Writings.{IsFrontOf, IsWrittenTo, is_write_fault};
@@ -11,7 +11,7 @@ use af_marker::dscp;
 use ds_checker::Accepted;
 use ds_visits::Sent;
 use frame_marker::mark_frame;
-use meter_fabric::contract_of;
+use meter_fabric_base::contract_of;
 use moment_core::Colour;
 use pcap_capture::{Frame, Heading, Link, Outlet, PcapFault, hand_over};
 use std::alloc::{AllocError, Global};

@@ -6,10 +6,10 @@ use Rattle.std.proofs.lemmas.Option.{same_Some}
 use Rattle.meter_book.specs.Replay.{Book, noted}
 use Rattle.meter_book.specs.declared.row.Arrival.{Arrival}
 use Rattle.ds_checker.specs.Acceptance.{Table}
-use Rattle.meter_fabric.specs.Grounds.{ground_of}
-use Rattle.meter_fabric.specs.Openings.{opening_at}
-use Rattle.meter_fabric.specs.Travels.{Traveller, begun_of}
-use Rattle.meter_fabric.specs.declared.hop.Hop.{Hop}
+use Rattle.meter_fabric_base.specs.Grounds.{ground_of}
+use Rattle.meter_fabric_base.specs.Openings.{opening_at}
+use Rattle.meter_fabric_base.specs.Travels.{Traveller, begun_of}
+use Rattle.meter_fabric_base.specs.declared.hop.Hop.{Hop}
 use Rattle.run_audit_base.specs.Runs.{Run}
 use Rattle.ds_conductor_base.specs.Conducting.{as_run, conducted, conducted_from, going_on, run_so_far}
 use Rattle.ds_conductor_base.specs.Laws.{arrival_by, arrival_from, arrival_there, behind_step, brought, brought_by}

@@ -6,10 +6,10 @@ use Rattle.std.proofs.lemmas.List.{map_push}
 use Rattle.std.proofs.lemmas.Option.{same_Some}
 use Rattle.std.proofs.lemmas.Simd.{map-map}
 use Rattle.ds_domain_base.specs.declared.contract.Contract.{Contract}
-use Rattle.meter_fabric.specs.Trails.{Packet}
-use Rattle.meter_fabric.specs.Travels.{Traveller, begun_of}
+use Rattle.meter_fabric_base.specs.Trails.{Packet}
+use Rattle.meter_fabric_base.specs.Travels.{Traveller, begun_of}
 use Rattle.ds_checker.specs.Acceptance.{Table}
-use Rattle.meter_fabric.specs.Grounds.{contract_of, ground_of}
+use Rattle.meter_fabric_base.specs.Grounds.{contract_of, ground_of}
 use Rattle.run_audit_base.specs.Runs.{IsRun, Passage, Run}
 use Rattle.ds_conductor_base.specs.Conducting.{as_run, conducted, conducted_from, going_on, passage_of, run_so_far}
 use Rattle.ds_conductor_base.specs.Steps.{Stage, numbers_of, opened, sent, stepped, visited_from}

@@ -3,13 +3,13 @@ use Rattle.std.proofs.Common.{◌≡◌, ◌<◌, ◌≤◌, ◌-◌, ◌^◌, �
 use Rattle.std.specs.Prelude.{◌⊎◌, nat_lt, option_map}
 use Rattle.std.proofs.lemmas.Bool.Decides.{nat_tests}
 use Rattle.std.proofs.lemmas.Option.{none-some, same_Some}
-use Rattle.meter_fabric.specs.Grounds.{flow_count, ground_of}
-use Rattle.meter_fabric.proofs.GroundLaws.{contract_past}
-use Rattle.meter_fabric.proofs.RangeLaws.{range_past, range_within}
+use Rattle.meter_fabric_base.specs.Grounds.{flow_count, ground_of}
+use Rattle.meter_fabric_base.proofs.GroundLaws.{contract_past}
+use Rattle.meter_fabric_base.proofs.RangeLaws.{range_past, range_within}
 use Rattle.meter_book.specs.Replay.{Book, rows_from, rows_of}
 use Rattle.ds_checker.specs.Acceptance.{Table}
-use Rattle.meter_fabric.specs.Openings.{book_with, opening_at, site_count}
-use Rattle.meter_fabric.specs.declared.site.Opening.{Opening}
+use Rattle.meter_fabric_base.specs.Openings.{book_with, opening_at, site_count}
+use Rattle.meter_fabric_base.specs.declared.site.Opening.{Opening}
 use Rattle.ds_conductor_base.specs.Steps.{book_at, opened, opened_at, some_of}
 use Rattle.ds_conductor_base.specs.UnderWay.{opened_by}
 

@@ -12,11 +12,11 @@ use Rattle.meter_book.specs.Replay.{rows_of}
 use Rattle.ds_domain_base.specs.Sent.{came}
 use Rattle.ds_domain_base.specs.declared.contract.Contract.{Contract}
 use Rattle.ds_checker.specs.Acceptance.{Table}
-use Rattle.meter_fabric.specs.Grounds.{contract_of, ground_of}
-use Rattle.meter_fabric.specs.Sites.{hops_of}
-use Rattle.meter_fabric.specs.Trails.{Packet}
-use Rattle.meter_fabric.specs.Travels.{Traveller}
-use Rattle.meter_fabric.proofs.TrailLaws.{IsTrail-none}
+use Rattle.meter_fabric_base.specs.Grounds.{contract_of, ground_of}
+use Rattle.meter_fabric_base.specs.Sites.{hops_of}
+use Rattle.meter_fabric_base.specs.Trails.{Packet}
+use Rattle.meter_fabric_base.specs.Travels.{Traveller}
+use Rattle.meter_fabric_base.proofs.TrailLaws.{IsTrail-none}
 use Rattle.run_audit_base.specs.Runs.{told, told_by}
 use Rattle.ds_conductor_base.specs.Conducting.{passage_of}
 use Rattle.ds_conductor_base.specs.Steps.{Stage, numbers_of, sent}

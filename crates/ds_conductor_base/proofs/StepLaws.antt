@@ -11,11 +11,11 @@ use Rattle.std.proofs.lemmas.Option.{same_Some}
 use Rattle.meter_book.specs.Replay.{Book}
 use Rattle.ds_domain_base.specs.declared.contract.Contract.{Contract}
 use Rattle.ds_checker.specs.Acceptance.{Table}
-use Rattle.meter_fabric.specs.Grounds.{contract_of, ground_of}
-use Rattle.meter_fabric.specs.Trails.{Packet}
-use Rattle.meter_fabric.specs.Travels.{Traveller, begun_of}
-use Rattle.meter_fabric.specs.declared.fault.BeginFault.{BeginFault}
-use Rattle.meter_fabric.specs.declared.fault.BeginFault.TheVariants as begins
+use Rattle.meter_fabric_base.specs.Grounds.{contract_of, ground_of}
+use Rattle.meter_fabric_base.specs.Trails.{Packet}
+use Rattle.meter_fabric_base.specs.Travels.{Traveller, begun_of}
+use Rattle.meter_fabric_base.specs.declared.fault.BeginFault.{BeginFault}
+use Rattle.meter_fabric_base.specs.declared.fault.BeginFault.TheVariants as begins
 use Rattle.ds_conductor_base.specs.Faults.{begin_fault_of}
 use Rattle.ds_conductor_base.specs.Kept.{Conduct}
 use Rattle.ds_conductor_base.specs.Steps.{Stage, numbers_of, put_back, sent, stepped, visited_by, visited_from, visited_next}

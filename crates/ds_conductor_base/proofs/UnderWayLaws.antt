@@ -9,13 +9,13 @@ use Rattle.std.proofs.lemmas.List.FromFn.{length-map-range_with_len}
 use Rattle.std.proofs.lemmas.List.Sorted.{IsPermutation-refl}
 use Rattle.meter_book.specs.Replay.{Book, journal_rows, replay, rows_from, rows_of}
 use Rattle.meter_book.specs.declared.standing.Standing.{Standing}
-use Rattle.meter_fabric.specs.declared.site.Opening.{Opening}
+use Rattle.meter_fabric_base.specs.declared.site.Opening.{Opening}
 use Rattle.ds_checker.specs.Acceptance.{Table}
-use Rattle.meter_fabric.specs.Grounds.{ground_of}
-use Rattle.meter_fabric.specs.Trails.{IsTrail}
-use Rattle.meter_fabric.specs.Travels.{Traveller}
+use Rattle.meter_fabric_base.specs.Grounds.{ground_of}
+use Rattle.meter_fabric_base.specs.Trails.{IsTrail}
+use Rattle.meter_fabric_base.specs.Travels.{Traveller}
 use Rattle.run_audit_base.specs.Runs.{AreJournals, IsPassage, IsRun, told}
-use Rattle.meter_fabric.specs.Openings.{opening_at, site_count}
+use Rattle.meter_fabric_base.specs.Openings.{opening_at, site_count}
 use Rattle.ds_conductor_base.specs.Conducting.{AreWhole, passage_of, run_so_far}
 use Rattle.ds_conductor_base.specs.Steps.{Stage, book_at, numbers_of, opened, opened_at, some_of, stepped}
 use Rattle.ds_conductor_base.specs.UnderWay.{IsOnItsWay, IsUnderWay, opened_by}

@@ -15,15 +15,15 @@ use Rattle.meter_book.specs.declared.row.Row.{Row}
 use Rattle.meter_book.specs.declared.standing.Standing.{Standing}
 use Rattle.meter_book.proofs.ReplayLaws.{rows_from-push}
 use Rattle.ds_checker.specs.Acceptance.{Table}
-use Rattle.meter_fabric.specs.Grounds.{ground_of}
-use Rattle.meter_fabric.specs.Trails.{Packet, arrival_at}
-use Rattle.meter_fabric.specs.Travels.{Traveller, comes_as, last_moment, keeping, next_hop, received, visit_at}
-use Rattle.meter_fabric.specs.declared.fault.VisitFault.TheVariants.{BeforeLast}
-use Rattle.meter_fabric.specs.declared.hop.Hop.{Hop}
-use Rattle.meter_fabric.specs.declared.trail.Receipt.{Receipt}
-use Rattle.meter_fabric.proofs.TrailLaws.{trail_of-received}
+use Rattle.meter_fabric_base.specs.Grounds.{ground_of}
+use Rattle.meter_fabric_base.specs.Trails.{Packet, arrival_at}
+use Rattle.meter_fabric_base.specs.Travels.{Traveller, comes_as, last_moment, keeping, next_hop, received, visit_at}
+use Rattle.meter_fabric_base.specs.declared.fault.VisitFault.TheVariants.{BeforeLast}
+use Rattle.meter_fabric_base.specs.declared.hop.Hop.{Hop}
+use Rattle.meter_fabric_base.specs.declared.trail.Receipt.{Receipt}
+use Rattle.meter_fabric_base.proofs.TrailLaws.{trail_of-received}
 use Rattle.run_audit_base.specs.Runs.{told, told_by}
-use Rattle.meter_fabric.specs.Openings.{opening_at}
+use Rattle.meter_fabric_base.specs.Openings.{opening_at}
 use Rattle.ds_conductor_base.specs.Conducting.{passage_of}
 use Rattle.ds_conductor_base.specs.Steps.{Stage, as_step, book_at, numbers_of, put_back, some_of, visit_there, visited_at, visited_by, visited_from, with_books}
 use Rattle.ds_conductor_base.specs.UnderWay.{IsOnItsWay, IsUnderWay, opened_by}

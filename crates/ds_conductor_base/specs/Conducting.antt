@@ -2,7 +2,7 @@
 use Rattle.std.specs.Prelude.{◌≡◌, ℕ, suc, List, [], ◌∷◌, map, All, IfSome, Option, None, Some, Result, Ok, Err}
 use Rattle.meter_book.specs.Replay.{Book, Journal}
 use Rattle.ds_checker.specs.Acceptance.{Table}
-use Rattle.meter_fabric.specs.Travels.{Traveller}
+use Rattle.meter_fabric_base.specs.Travels.{Traveller}
 use Rattle.run_audit_base.specs.Runs.{Passage, Run}
 use Rattle.ds_conductor_base.specs.Steps.{Stage, opened, stepped}
 use Rattle.ds_conductor_base.specs.declared.fault.ConductFault.{ConductFault}

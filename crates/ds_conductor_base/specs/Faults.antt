@@ -1,9 +1,9 @@
 -- The numbers of faults, and what the fault of a packet is to a step.
 use Rattle.std.specs.Prelude.{ℕ}
-use Rattle.meter_fabric.specs.declared.fault.BeginFault.{BeginFault}
-use Rattle.meter_fabric.specs.declared.fault.BeginFault.TheVariants as begins
-use Rattle.meter_fabric.specs.declared.fault.VisitFault.{VisitFault}
-use Rattle.meter_fabric.specs.declared.fault.VisitFault.TheVariants as visits
+use Rattle.meter_fabric_base.specs.declared.fault.BeginFault.{BeginFault}
+use Rattle.meter_fabric_base.specs.declared.fault.BeginFault.TheVariants as begins
+use Rattle.meter_fabric_base.specs.declared.fault.VisitFault.{VisitFault}
+use Rattle.meter_fabric_base.specs.declared.fault.VisitFault.TheVariants as visits
 use Rattle.ds_conductor_base.specs.declared.fault.ConductFault.{ConductFault}
 use Rattle.ds_conductor_base.specs.declared.fault.ConductFault.TheVariants as conducts
 use Rattle.ds_conductor_base.specs.declared.fault.StepFault.{StepFault}

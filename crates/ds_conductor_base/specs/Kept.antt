@@ -2,7 +2,7 @@
 use Rattle.std.specs.Prelude.{◌≡◌, ◌≤◌, ◌^◌}
 use Rattle.indexmap.specs.IndexMap.{keys, values}
 use Rattle.ds_checker.specs.Acceptance.{Table}
-use Rattle.meter_fabric.specs.Openings.{site_count}
+use Rattle.meter_fabric_base.specs.Openings.{site_count}
 use Rattle.ds_conductor_base.specs.Steps.{Stage, numbers_of}
 use Rattle.ds_conductor_base.specs.UnderWay.{IsUnderWay}
 use Rattle.ds_conductor_base.specs.declared.conductor.Conductor.TheInside as conductors

@@ -4,10 +4,10 @@ use Rattle.std.specs.Prelude.{None}
 use Rattle.std.specs.Prelude.{Some, Result, Ok, Err, if◌then◌else◌}
 use Rattle.meter_book.specs.declared.row.Arrival.{Arrival}
 use Rattle.ds_checker.specs.Acceptance.{Table}
-use Rattle.meter_fabric.specs.Grounds.{ground_of}
-use Rattle.meter_fabric.specs.Trails.{Packet, arrival_at}
-use Rattle.meter_fabric.specs.Travels.{Traveller, comes_as, next_hop}
-use Rattle.meter_fabric.specs.declared.hop.Hop.{Hop}
+use Rattle.meter_fabric_base.specs.Grounds.{ground_of}
+use Rattle.meter_fabric_base.specs.Trails.{Packet, arrival_at}
+use Rattle.meter_fabric_base.specs.Travels.{Traveller, comes_as, next_hop}
+use Rattle.meter_fabric_base.specs.declared.hop.Hop.{Hop}
 use Rattle.run_audit_base.specs.Runs.{IsRun, Run}
 use Rattle.ds_conductor_base.specs.Conducting.{conducted, run_so_far}
 use Rattle.ds_conductor_base.specs.Steps.{Stage, numbers_of, opened, stepped}

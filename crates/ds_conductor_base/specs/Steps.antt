@@ -4,10 +4,10 @@ use Rattle.std.specs.Prelude.{slice_get, slice_set, option_map, Option, None, So
 use Rattle.std.specs.List.{list_any, range_with_len}
 use Rattle.meter_book.specs.Replay.{Book}
 use Rattle.ds_checker.specs.Acceptance.{Table}
-use Rattle.meter_fabric.specs.Grounds.{ground_of}
-use Rattle.meter_fabric.specs.Travels.{Traveller, begun_of, next_site, visit}
-use Rattle.meter_fabric.specs.declared.fault.VisitFault.{VisitFault}
-use Rattle.meter_fabric.specs.Openings.{book_with, opening_at, site_count}
+use Rattle.meter_fabric_base.specs.Grounds.{ground_of}
+use Rattle.meter_fabric_base.specs.Travels.{Traveller, begun_of, next_site, visit}
+use Rattle.meter_fabric_base.specs.declared.fault.VisitFault.{VisitFault}
+use Rattle.meter_fabric_base.specs.Openings.{book_with, opening_at, site_count}
 use Rattle.ds_conductor_base.specs.Faults.{visit_fault_of}
 use Rattle.ds_conductor_base.specs.declared.fault.StepFault.{StepFault}
 use Rattle.ds_conductor_base.specs.declared.fault.StepFault.TheVariants.{BadStep}

@@ -5,13 +5,13 @@ use Rattle.meter_book.specs.declared.standing.Standing.{Standing}
 use Rattle.ds_domain_base.specs.Sent.{came}
 use Rattle.ds_domain_base.specs.declared.contract.Contract.{Contract}
 use Rattle.ds_checker.specs.Acceptance.{Table}
-use Rattle.meter_fabric.specs.Grounds.{contract_of, ground_of}
-use Rattle.meter_fabric.specs.Sites.{hops_of}
-use Rattle.meter_fabric.specs.Trails.{IsTrail}
-use Rattle.meter_fabric.specs.Travels.{Traveller}
+use Rattle.meter_fabric_base.specs.Grounds.{contract_of, ground_of}
+use Rattle.meter_fabric_base.specs.Sites.{hops_of}
+use Rattle.meter_fabric_base.specs.Trails.{IsTrail}
+use Rattle.meter_fabric_base.specs.Travels.{Traveller}
 use Rattle.run_audit_base.specs.Runs.{told}
-use Rattle.meter_fabric.specs.Openings.{opening_at, site_count}
-use Rattle.meter_fabric.specs.declared.site.Opening.{Opening}
+use Rattle.meter_fabric_base.specs.Openings.{opening_at, site_count}
+use Rattle.meter_fabric_base.specs.declared.site.Opening.{Opening}
 use Rattle.ds_conductor_base.specs.Conducting.{passage_of}
 use Rattle.ds_conductor_base.specs.Steps.{Stage, book_at}
 

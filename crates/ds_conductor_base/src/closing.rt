@@ -5,7 +5,7 @@ ghost use Rattle.run_audit.specs.Assembled as assembled;
 
 use indexmap::IndexMap;
 use meter_book::{Journal, MeterBook};
-use meter_fabric::{Trail, Traveller};
+use meter_fabric_base::{Trail, Traveller};
 use std::alloc::{AllocError, Global};
 
 /// The journals of books of which nothing was cut off, in the order of their sites.

@@ -1,5 +1,5 @@
 ghost use Rattle.std.specs.Prelude.{◌≡◌, ◌⊎◌, Ok, Err, IfErr, IfOk};
-ghost use Rattle.meter_fabric.specs.Grounds.{ground_of};
+ghost use Rattle.meter_fabric_base.specs.Grounds.{ground_of};
 ghost use Rattle.ds_conductor_base.specs.Conducting.{conducted};
 
 use crate::conductor::Conductor;

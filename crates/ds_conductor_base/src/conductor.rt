@@ -1,5 +1,5 @@
 ghost use Rattle.std.specs.Prelude.{◌≡◌, ◌⊎◌, Ok, Err, IfErr, IfOk, OnErr, OnOk};
-ghost use Rattle.meter_fabric.specs.Grounds.{ground_of};
+ghost use Rattle.meter_fabric_base.specs.Grounds.{ground_of};
 ghost use Rattle.ds_conductor_base.specs.Conducting.{run_so_far};
 ghost use Rattle.ds_conductor_base.specs.Steps.{opened, stepped};
 
@@ -12,7 +12,7 @@ use af_marker::Dscp;
 use ds_checker::Accepted;
 use indexmap::IndexMap;
 use meter_book::MeterBook;
-use meter_fabric::Traveller;
+use meter_fabric_base::Traveller;
 use moment_core::{Moment, PacketSize};
 use run_audit::Run;
 use std::alloc::{AllocError, Global};

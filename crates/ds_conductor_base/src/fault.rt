@@ -2,7 +2,7 @@ ghost use Rattle.std.specs.Prelude.{◌≡◌};
 ghost use Rattle.ds_conductor_base.specs.Conducting.{fault_at};
 ghost use Rattle.ds_conductor_base.specs.Faults.{conduct_code, step_code};
 
-use meter_fabric::{BeginFault, VisitFault};
+use meter_fabric_base::{BeginFault, VisitFault};
 use std::alloc::{AllocError, AllocFailed};
 use thiserror::Error;
 

@@ -1,10 +1,10 @@
 ghost use Rattle.std.specs.Prelude.{◌≡◌, ◌≤◌, ◌^◌, IfOk, OnOk};
-ghost use Rattle.meter_fabric.specs.Openings.{site_count};
+ghost use Rattle.meter_fabric_base.specs.Openings.{site_count};
 ghost use Rattle.ds_conductor_base.specs.Steps.{opened, opened_at};
 
 use ds_checker::Accepted;
 use meter_book::MeterBook;
-use meter_fabric::{opening_at, site_count};
+use meter_fabric_base::{opening_at, site_count};
 use std::alloc::{AllocError, Global};
 
 /// The books of all sites, each at its number, without rows.

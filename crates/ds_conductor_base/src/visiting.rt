@@ -3,7 +3,7 @@ ghost use Rattle.ds_conductor_base.specs.Steps.{visit_there, visited_next};
 
 use crate::fault::StepFault;
 use meter_book::MeterBook;
-use meter_fabric::Traveller;
+use meter_fabric_base::Traveller;
 use moment_core::Moment;
 
 /// Lets a packet visit the book of its next site.

@@ -8,7 +8,7 @@ use Rattle.ds_domain_base.specs.declared.contract.Contract.{Contract}
 use Rattle.ds_domain_base.specs.declared.terms.Terms.{Terms}
 use Rattle.ds_domain_base.specs.declared.terms.Terms.TheVariants.{Trusted, Policed}
 use Rattle.ds_checker.specs.Acceptance.{Table}
-use Rattle.meter_fabric.specs.Grounds.{contract_of, ground_of}
+use Rattle.meter_fabric_base.specs.Grounds.{contract_of, ground_of}
 use Rattle.ds_visits.specs.Visits.{is_same, visit_to, visits_from}
 use Rattle.ds_visits.specs.Ways.{delay_over, edge_stops, stops_along, stops_at, stops_by}
 use Rattle.ds_visits.specs.declared.sent.Sent.{Sent}

@@ -2,7 +2,7 @@
 use Rattle.std.proofs.Common.{◌≡◌, ◌<◌, ◌+◌, ℕ, List, [], ◌∷◌, ◌++◌, length, drop, get_or, sym, ap, ◌∙◌, append_assoc, add-one, rules}
 use Rattle.std.proofs.lemmas.List.{drop_more}
 use Rattle.ds_domain_base.specs.Domains.{Domain}
-use Rattle.meter_fabric.specs.Sites.{site_of}
+use Rattle.meter_fabric_base.specs.Sites.{site_of}
 use Rattle.ds_visits.specs.Ways.{delay_over, stops_along}
 use Rattle.ds_visits.specs.declared.way.Stop.{Stop}
 

@@ -4,9 +4,9 @@ use Rattle.std.specs.Prelude.{nat_lt, slice_get, unwrap_or, if◌then◌else◌}
 use Rattle.std.specs.List.{range_with_len}
 use Rattle.std.proofs.lemmas.List.{drop_all, drop_more}
 use Rattle.ds_checker.specs.Acceptance.{Table}
-use Rattle.meter_fabric.specs.Grounds.{flow_count}
-use Rattle.meter_fabric.proofs.GroundLaws.{contract_past}
-use Rattle.meter_fabric.proofs.RangeLaws.{range_past, range_within}
+use Rattle.meter_fabric_base.specs.Grounds.{flow_count}
+use Rattle.meter_fabric_base.proofs.GroundLaws.{contract_past}
+use Rattle.meter_fabric_base.proofs.RangeLaws.{range_past, range_within}
 use Rattle.ds_visits.specs.Visits.{visit_to, visits_from}
 use Rattle.ds_visits.specs.Ways.{AreWays, stops_at, stops_by}
 use Rattle.ds_visits.specs.declared.sent.Sent.{Sent}

@@ -8,7 +8,7 @@ use Rattle.meter_book.specs.declared.row.Arrival.{Arrival}
 use Rattle.ds_domain_base.specs.Sent.{came}
 use Rattle.ds_domain_base.specs.declared.contract.Contract.{Contract}
 use Rattle.ds_checker.specs.Acceptance.{Table}
-use Rattle.meter_fabric.specs.Grounds.{contract_of, ground_of}
+use Rattle.meter_fabric_base.specs.Grounds.{contract_of, ground_of}
 use Rattle.ds_conductor_base.specs.Steps.{opened, some_of}
 use Rattle.ds_visits.specs.Noting.{noted_by}
 use Rattle.ds_visits.specs.Visits.{visits_of}

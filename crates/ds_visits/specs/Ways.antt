@@ -4,8 +4,8 @@ use Rattle.ds_domain_base.specs.Domains.{Domain, floor_of, link_of}
 use Rattle.ds_domain_base.specs.declared.contract.Contract.{Contract}
 use Rattle.ds_domain_base.specs.declared.terms.Terms.{Terms}
 use Rattle.ds_checker.specs.Acceptance.{Table}
-use Rattle.meter_fabric.specs.Grounds.{contract_of, ground_of}
-use Rattle.meter_fabric.specs.Sites.{edge_hops, site_of}
+use Rattle.meter_fabric_base.specs.Grounds.{contract_of, ground_of}
+use Rattle.meter_fabric_base.specs.Sites.{edge_hops, site_of}
 use Rattle.ds_visits.specs.declared.way.Stop.{Stop}
 
 -- what is policed comes to its edge when it is sent

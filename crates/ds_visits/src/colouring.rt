@@ -8,7 +8,7 @@ use crate::visit::{Visit, visits};
 use ds_checker::Accepted;
 use ds_conductor_base::opened_books;
 use meter_book::{Arrival, MeterBook, NoteFault};
-use meter_fabric::contract_of;
+use meter_fabric_base::contract_of;
 use moment_core::Colour;
 use std::alloc::{AllocError, Global};
 

@@ -6,7 +6,7 @@ ghost use Rattle.ds_visits.specs.Visits.{are_in_order, is_before, is_same, later
 use crate::sent::Sent;
 use crate::way::{Stop, Way, all_ways};
 use ds_checker::Accepted;
-use meter_fabric::Hop;
+use meter_fabric_base::Hop;
 use moment_core::{Gap, Moment};
 use std::alloc::{AllocError, Global};
 

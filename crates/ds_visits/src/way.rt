@@ -3,7 +3,7 @@ ghost use Rattle.ds_visits.specs.Ways.{AreWays, stops_at, stops_of};
 
 use ds_checker::Accepted;
 use ds_domain_base::{Contract, Domain};
-use meter_fabric::{Hop, contract_of, edge_hop, flow_count, site_of};
+use meter_fabric_base::{Hop, contract_of, edge_hop, flow_count, site_of};
 use moment_core::Gap;
 use std::alloc::{AllocError, Global};
 use std::marker::Model;

@@ -6,7 +6,7 @@ use Rattle.line_text.specs.Lines.{fields_of}
 use Rattle.line_text.specs.Numbers.{number_of}
 use Rattle.dsedge_lines.specs.Quantities.{size_in}
 use Rattle.ds_domain_base.specs.declared.contract.Contract.{Contract}
-use Rattle.meter_fabric.specs.Grounds.{most_flows}
+use Rattle.meter_fabric_base.specs.Grounds.{most_flows}
 use Rattle.ds_conductor_base.specs.declared.step.Step.{Step}
 use Rattle.ds_conductor_base.specs.declared.step.Step.TheVariants.{Send, Visit}
 

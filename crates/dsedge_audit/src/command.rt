@@ -1,5 +1,5 @@
 ghost use Rattle.std.specs.Prelude.{◌≡◌, ◌++◌, ◌⊎◌, flat_map, Ok, Err, IfErr, IfOk, OnOk};
-ghost use Rattle.meter_fabric.specs.Grounds.{ground_of};
+ghost use Rattle.meter_fabric_base.specs.Grounds.{ground_of};
 ghost use Rattle.ds_conductor_base.specs.Conducting.{run_so_far};
 ghost use Rattle.ds_conductor_base.specs.Steps.{opened, stepped};
 ghost use Rattle.dsedge_lines.specs.Answers.{AnswersAll, behind};

@@ -3,7 +3,7 @@ ghost use Rattle.dsedge_audit.specs.StepLines.{flow_named};
 
 use ds_checker::Accepted;
 use indexmap::IndexMap;
-use meter_fabric::MOST_FLOWS;
+use meter_fabric_base::MOST_FLOWS;
 use std::alloc::{AllocError, Global};
 use std::marker::Model;
 

@@ -20,12 +20,12 @@ use Rattle.meter_book.specs.declared.row.Row.{Row}
 use Rattle.ds_domain_base.specs.Domains.{Domain}
 use Rattle.ds_domain_base.specs.declared.terms.Terms.{Terms}
 use Rattle.ds_domain_base.specs.declared.terms.Terms.TheVariants.{Trusted, Policed}
-use Rattle.meter_fabric.specs.Grounds.{Ground}
-use Rattle.meter_fabric.specs.Sites.{edge_hops, hops_along}
-use Rattle.meter_fabric.specs.Trails.{IsTrail, Packet}
-use Rattle.meter_fabric.specs.declared.hop.Hop.{Hop}
-use Rattle.meter_fabric.specs.declared.trail.Receipt.{Receipt}
-use Rattle.meter_fabric.specs.declared.trail.Trail.{Trail}
+use Rattle.meter_fabric_base.specs.Grounds.{Ground}
+use Rattle.meter_fabric_base.specs.Sites.{edge_hops, hops_along}
+use Rattle.meter_fabric_base.specs.Trails.{IsTrail, Packet}
+use Rattle.meter_fabric_base.specs.declared.hop.Hop.{Hop}
+use Rattle.meter_fabric_base.specs.declared.trail.Receipt.{Receipt}
+use Rattle.meter_fabric_base.specs.declared.trail.Trail.{Trail}
 use Rattle.envelope_core.proofs.Windows.{sum_by-map}
 use Rattle.run_audit_base.specs.Runs.{AreJournals, IsRun, Passage, Run, told}
 use Rattle.run_audit.specs.Assembled.{passage_of, run_of}

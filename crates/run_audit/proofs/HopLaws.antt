@@ -7,10 +7,10 @@ use Rattle.std.proofs.lemmas.List.Sorted.{All-permutation}
 use Rattle.moment_core.specs.declared.colour.Colour.{Colour}
 use Rattle.ds_domain_base.specs.Domains.{Domain, link_of}
 use Rattle.ds_domain_base.specs.Sent.{came}
-use Rattle.meter_fabric.specs.Grounds.{Ground}
-use Rattle.meter_fabric.specs.Sites.{hops_along}
-use Rattle.meter_fabric.specs.Trails.{IsTrail, Packet}
-use Rattle.meter_fabric.specs.declared.trail.Receipt.{Receipt}
+use Rattle.meter_fabric_base.specs.Grounds.{Ground}
+use Rattle.meter_fabric_base.specs.Sites.{hops_along}
+use Rattle.meter_fabric_base.specs.Trails.{IsTrail, Packet}
+use Rattle.meter_fabric_base.specs.declared.trail.Receipt.{Receipt}
 use Rattle.run_audit_base.specs.Runs.{IsPassage, IsRun, Passage, Run}
 use Rattle.run_audit_base.specs.Sendings.{Sending, sending_of}
 use Rattle.run_audit_base.proofs.Passages.{trail_sent}

@@ -12,10 +12,10 @@ use Rattle.std.proofs.lemmas.Option.{slice_get_within}
 use Rattle.indexmap.specs.IndexSet.{insert_key}
 use Rattle.meter_book.specs.Replay.{Journal, journal_rows}
 use Rattle.ds_checker.specs.Acceptance.{Table}
-use Rattle.meter_fabric.specs.Grounds.{contract_of, ground_of, most_flows}
-use Rattle.meter_fabric.specs.Openings.{edge_opening, opening_at, site_count}
-use Rattle.meter_fabric.specs.declared.trail.Receipt.{Receipt}
-use Rattle.meter_fabric.proofs.GroundLaws.{contract_at}
+use Rattle.meter_fabric_base.specs.Grounds.{contract_of, ground_of, most_flows}
+use Rattle.meter_fabric_base.specs.Openings.{edge_opening, opening_at, site_count}
+use Rattle.meter_fabric_base.specs.declared.trail.Receipt.{Receipt}
+use Rattle.meter_fabric_base.proofs.GroundLaws.{contract_at}
 use Rattle.run_audit.specs.Assembling.{IsNoted}
 
 -- ---- numbers of sites

@@ -13,8 +13,8 @@ use Rattle.meter_book.specs.declared.row.Row.{Row}
 use Rattle.ds_domain_base.specs.Domains.{Domain, floor_of, jitter_of, link_of}
 use Rattle.ds_domain_base.specs.declared.contract.Contract.{Contract}
 use Rattle.ds_domain_base.specs.declared.parts.Link.{Link}
-use Rattle.meter_fabric.specs.Grounds.{Ground, contract_of}
-use Rattle.meter_fabric.specs.declared.trail.Receipt.{Receipt}
+use Rattle.meter_fabric_base.specs.Grounds.{Ground, contract_of}
+use Rattle.meter_fabric_base.specs.declared.trail.Receipt.{Receipt}
 use Rattle.run_audit_base.specs.Premises.{IsInTime, IsOver, IsTimely, KeepsLinks, KeepsSkews, KeepsTime, Premises}
 use Rattle.run_audit_base.specs.Runs.{IsRun, Passage, Run}
 use Rattle.run_audit_base.specs.Sendings.{ForSent, Sending, sending_of}

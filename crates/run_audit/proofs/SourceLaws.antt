@@ -20,9 +20,9 @@ use Rattle.ds_domain_base.specs.declared.terms.Terms.TheVariants.{Trusted, Polic
 use Rattle.ds_certificate.specs.Columns.{envelope_in}
 use Rattle.ds_certificate.specs.Sources.{source_of}
 use Rattle.ds_checker.specs.Acceptance.{Table}
-use Rattle.meter_fabric.specs.Grounds.{Ground, contract_of, ground_of, most_flows}
-use Rattle.meter_fabric.proofs.GroundLaws.{found_at}
-use Rattle.meter_fabric.specs.declared.trail.Receipt.{Receipt}
+use Rattle.meter_fabric_base.specs.Grounds.{Ground, contract_of, ground_of, most_flows}
+use Rattle.meter_fabric_base.proofs.GroundLaws.{found_at}
+use Rattle.meter_fabric_base.specs.declared.trail.Receipt.{Receipt}
 use Rattle.run_audit_base.specs.Premises.{IsTrusted}
 use Rattle.run_audit_base.specs.Runs.{IsRun, Passage, Run}
 use Rattle.run_audit_base.specs.Sendings.{passages_of, sending_by, sending_of, sent_items}

@@ -14,7 +14,7 @@ use Rattle.ds_domain_base.specs.declared.terms.Terms.{Terms}
 use Rattle.ds_domain_base.specs.declared.terms.Terms.TheVariants.{Trusted, Policed}
 use Rattle.ds_certificate.specs.Columns.{envelope_in}
 use Rattle.ds_certificate.specs.Sources.{source_of}
-use Rattle.meter_fabric.specs.Grounds.{Ground, contract_of}
+use Rattle.meter_fabric_base.specs.Grounds.{Ground, contract_of}
 use Rattle.run_audit_base.specs.Premises.{IsTrusted, KeepsIn}
 use Rattle.run_audit_base.specs.Runs.{IsRun, Passage, Run}
 use Rattle.run_audit_base.specs.Sendings.{passages_of, sending_of, sent_items}

@@ -5,11 +5,11 @@ use Rattle.std.proofs.lemmas.List.{drop_all, drop_more, length-drop}
 use Rattle.std.proofs.lemmas.Option.{get_or_from_slice_get, slice_get_within}
 use Rattle.moment_core.specs.declared.colour.Colour.{Colour}
 use Rattle.ds_domain_base.specs.Domains.{Domain}
-use Rattle.meter_fabric.proofs.TrailLaws.{IsTrail-none}
-use Rattle.meter_fabric.specs.Sites.{hops_along, site_of}
-use Rattle.meter_fabric.specs.Trails.{IsReceipt, IsTrail, Packet}
-use Rattle.meter_fabric.specs.declared.hop.Hop.{Hop}
-use Rattle.meter_fabric.specs.declared.trail.Receipt.{Receipt}
+use Rattle.meter_fabric_base.proofs.TrailLaws.{IsTrail-none}
+use Rattle.meter_fabric_base.specs.Sites.{hops_along, site_of}
+use Rattle.meter_fabric_base.specs.Trails.{IsReceipt, IsTrail, Packet}
+use Rattle.meter_fabric_base.specs.declared.hop.Hop.{Hop}
+use Rattle.meter_fabric_base.specs.declared.trail.Receipt.{Receipt}
 
 -- the hops of a path, one by one
 abbrev pub hop_of : Domain → ℕ → List ℕ → Hop

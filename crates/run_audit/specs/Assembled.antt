@@ -1,9 +1,9 @@
 -- What journals and trails say together.
 use Rattle.std.specs.Prelude.{List, map}
 use Rattle.meter_book.specs.Replay.{Journal}
-use Rattle.meter_fabric.specs.Grounds.{Ground}
-use Rattle.meter_fabric.specs.Trails.{packet_of}
-use Rattle.meter_fabric.specs.declared.trail.Trail.{Trail}
+use Rattle.meter_fabric_base.specs.Grounds.{Ground}
+use Rattle.meter_fabric_base.specs.Trails.{packet_of}
+use Rattle.meter_fabric_base.specs.declared.trail.Trail.{Trail}
 use Rattle.run_audit_base.specs.Runs.{Passage, Run}
 
 -- the packet of a trail, with its receipts

@@ -1,5 +1,5 @@
 ghost use Rattle.std.specs.Prelude.{◌≡◌, ◌⊎◌, map, sum_by, length, AllPairs, IfErr, IfOk, OnOk};
-ghost use Rattle.meter_fabric.specs.Grounds.{ground_of};
+ghost use Rattle.meter_fabric_base.specs.Grounds.{ground_of};
 ghost use Rattle.run_audit_base.specs.Runs.{AreJournals, IsRun};
 ghost use Rattle.run_audit.specs.Assembled.{passage_of, run_of};
 ghost use Rattle.run_audit.specs.Assembling.{AreSound, IsFirstWrong, IsNew, IsRefusal, IsSound};
@@ -11,7 +11,7 @@ use crate::soundness::is_sound;
 use ds_checker::Accepted;
 use indexmap::IndexSet;
 use meter_book::Journal;
-use meter_fabric::Trail;
+use meter_fabric_base::Trail;
 use std::alloc::Global;
 
 impl<'a> Run<'a> {

@@ -12,7 +12,7 @@ use crate::skews::first_late;
 use crate::sources::first_spilled;
 use crate::times::first_outside;
 use crate::verdict::Verdict;
-use meter_fabric::Trail;
+use meter_fabric_base::Trail;
 use std::alloc::{AllocError, Global};
 
 /// Judges a run: whether it kept what its table rests on, or the first premise that it broke, with its place.

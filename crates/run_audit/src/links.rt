@@ -1,7 +1,7 @@
 //! Whether links keep their floors and jitters.
 ghost use Rattle.std.specs.Prelude.{◌≡◌, map};
 ghost use Rattle.ds_domain_base.specs.Domains.{link_of};
-ghost use Rattle.meter_fabric.specs.Grounds.{ground_of};
+ghost use Rattle.meter_fabric_base.specs.Grounds.{ground_of};
 ghost use Rattle.run_audit.specs.Assembled.{passage_of};
 ghost use Rattle.run_audit.specs.Hops.{delayed_hop, untimely_hop};
 ghost use Rattle.run_audit.specs.Verdicts.{against_sent, first_found, is_over};
@@ -10,7 +10,7 @@ use crate::sending::{Sending, sent_of};
 use crate::verdict::Verdict;
 use ds_checker::Accepted;
 use ds_domain_base::{Contract, Domain, Name};
-use meter_fabric::{Trail, contract_of};
+use meter_fabric_base::{Trail, contract_of};
 use moment_core::Moment;
 
 /// Whether what left a name at a moment arrives over the link to a name in its time.

@@ -7,7 +7,7 @@ ghost use Rattle.run_audit.specs.Verdicts.{by_number, by_site};
 
 use crate::run::Run;
 use meter_book::Journal;
-use meter_fabric::Trail;
+use meter_fabric_base::Trail;
 use std::alloc::{AllocError, Global};
 
 /// References to trails, in the order in which they stand.

@@ -1,11 +1,11 @@
 ghost use Rattle.std.specs.Prelude.{◌≡◌, map};
-ghost use Rattle.meter_fabric.specs.Grounds.{ground_of};
+ghost use Rattle.meter_fabric_base.specs.Grounds.{ground_of};
 ghost use Rattle.run_audit_base.specs.Runs.{IsRun};
 ghost use Rattle.run_audit.specs.Assembled.{passage_of, run_of};
 
 use ds_checker::Accepted;
 use meter_book::Journal;
-use meter_fabric::Trail;
+use meter_fabric_base::Trail;
 use std::marker::Model;
 
 /// A run of an accepted table: the journals of its sites, and the trails of its packets, which tell the same rows.

@@ -5,7 +5,7 @@ ghost use Rattle.run_audit.specs.Edges.{edge_sending};
 ghost use Rattle.run_audit.specs.Assembled.{passage_of};
 
 use ds_domain_base::{Contract, Terms};
-use meter_fabric::{Receipt, Trail};
+use meter_fabric_base::{Receipt, Trail};
 use moment_core::{Colour, Moment};
 use std::marker::Model;
 

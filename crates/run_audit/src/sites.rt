@@ -1,13 +1,13 @@
 ghost use Rattle.std.specs.Prelude.{◌≡◌, ◌⊎◌, ◌↔◌, ℕ, map, Contains, Some, IsSome, IsTrue, IfOk, IfErr};
-ghost use Rattle.meter_fabric.specs.Grounds.{ground_of};
-ghost use Rattle.meter_fabric.specs.Openings.{opening_at};
+ghost use Rattle.meter_fabric_base.specs.Grounds.{ground_of};
+ghost use Rattle.meter_fabric_base.specs.Openings.{opening_at};
 ghost use Rattle.run_audit_base.specs.Runs.{AreJournals};
 
 use crate::fault::AssembleFault;
 use ds_checker::Accepted;
 use indexmap::IndexSet;
 use meter_book::Journal;
-use meter_fabric::{Opening, opening_at, site_count};
+use meter_fabric_base::{Opening, opening_at, site_count};
 use std::alloc::Global;
 
 /// The sites of journals, each at its journal's place, where the journals are one for each site with what stands there;

@@ -1,10 +1,10 @@
 ghost use Rattle.std.specs.Prelude.{◌≡◌, ◌↔◌, ◌<◌, ◌≤◌, ℕ, length, map, slice_get, All, AllPairs, Some, IsTrue};
 ghost use Rattle.moment_core.specs.declared.colour.Colour.{Colour};
 ghost use Rattle.meter_book.specs.Replay.{journal_rows};
-ghost use Rattle.meter_fabric.specs.Sites.{hops_along, hops_of};
-ghost use Rattle.meter_fabric.specs.Trails.{IsReceipt, IsTrail, packet_of};
+ghost use Rattle.meter_fabric_base.specs.Sites.{hops_along, hops_of};
+ghost use Rattle.meter_fabric_base.specs.Trails.{IsReceipt, IsTrail, packet_of};
 ghost use Rattle.ds_domain_base.specs.Sent.{came};
-ghost use Rattle.meter_fabric.specs.Grounds.{ground_of};
+ghost use Rattle.meter_fabric_base.specs.Grounds.{ground_of};
 ghost use Rattle.run_audit.specs.Assembled.{passage_of};
 ghost use Rattle.run_audit.specs.Assembling.{IsNoted, IsSound};
 
@@ -12,7 +12,7 @@ use ds_checker::Accepted;
 use ds_domain_base::{Contract, Domain};
 use indexmap::IndexSet;
 use meter_book::{Journal, Row};
-use meter_fabric::{Hop, Receipt, Trail, contract_of, edge_hop, site_of};
+use meter_fabric_base::{Hop, Receipt, Trail, contract_of, edge_hop, site_of};
 use moment_core::{Colour, Moment};
 
 /// Whether a trail is of a contract that is there, is one of the first hops of its way, and holds rows of the journals.

@@ -2,7 +2,7 @@
 ghost use Rattle.std.specs.Prelude.{◌≡◌, ◌+◌, ◌≤◌, ◌*◌, drop, length, map, nat_le, option_map, take};
 ghost use Rattle.std.specs.List.{prefix_len};
 ghost use Rattle.envelope_core.specs.LeakyBucket.{filled};
-ghost use Rattle.meter_fabric.specs.Grounds.{most_flows};
+ghost use Rattle.meter_fabric_base.specs.Grounds.{most_flows};
 ghost use Rattle.run_audit.specs.Assembled.{passage_of};
 ghost use Rattle.run_audit.specs.Spills.{spilled, spilled_by, spilled_from, spilled_in};
 ghost use Rattle.run_audit.specs.Verdicts.{first_found};
@@ -13,7 +13,7 @@ use ds_certificate::Source;
 use ds_checker::Accepted;
 use ds_domain_base::{Contract, Domain, Terms};
 use envelope_core::Envelope;
-use meter_fabric::{Trail, flows_of};
+use meter_fabric_base::{Trail, flows_of};
 use moment_core::tokens::TOKEN;
 use moment_core::{Column, Moment, PacketSize};
 

@@ -1,7 +1,7 @@
 //! Whether contracts keep their time.
 ghost use Rattle.std.specs.Prelude.{◌≡◌, map, nat_lt, true};
 ghost use Rattle.std.specs.Option.{option_map_or};
-ghost use Rattle.meter_fabric.specs.Grounds.{ground_of};
+ghost use Rattle.meter_fabric_base.specs.Grounds.{ground_of};
 ghost use Rattle.run_audit.specs.Assembled.{passage_of};
 ghost use Rattle.run_audit.specs.Verdicts.{against_sent, first_found, may_send, outside};
 
@@ -9,7 +9,7 @@ use crate::sending::{Sending, sent_of};
 use crate::verdict::Verdict;
 use ds_checker::Accepted;
 use ds_domain_base::{Contract, Lifetime};
-use meter_fabric::{Trail, contract_of};
+use meter_fabric_base::{Trail, contract_of};
 use moment_core::Moment;
 
 /// Whether a contract may send at a moment.

@@ -36,10 +36,10 @@ use Rattle.ds_certificate.specs.Columns.{Bound}
 use Rattle.ds_certificate.specs.Sources.{source_of}
 use Rattle.ds_checker.specs.Acceptance.{Carries, IsAcceptable, IsWithin, Table}
 use Rattle.ds_checker.specs.Loads.{Share, bound_into, counted, load, share_of, shares_at}
-use Rattle.meter_fabric.specs.Grounds.{Ground, ground_of}
-use Rattle.meter_fabric.specs.Openings.{meter_opening}
-use Rattle.meter_fabric.specs.declared.trail.Receipt.{Receipt}
-use Rattle.meter_fabric.proofs.GroundLaws.{place_of}
+use Rattle.meter_fabric_base.specs.Grounds.{Ground, ground_of}
+use Rattle.meter_fabric_base.specs.Openings.{meter_opening}
+use Rattle.meter_fabric_base.specs.declared.trail.Receipt.{Receipt}
+use Rattle.meter_fabric_base.proofs.GroundLaws.{place_of}
 use Rattle.run_audit_base.specs.KeptColours.{ColoursKept, StandsIn}
 use Rattle.run_audit_base.specs.Premises.{Premises}
 use Rattle.run_audit_base.specs.Runs.{IsRun, Run}

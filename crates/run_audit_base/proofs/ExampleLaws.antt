@@ -23,10 +23,10 @@ use Rattle.ds_certificate.specs.Sources.{jitters_along, source_of}
 use Rattle.ds_checker.specs.Acceptance.{Carries}
 use Rattle.ds_checker.specs.Loads.{bound_into, shares_at}
 use Rattle.af_marker.specs.CodePoints.{colour_at}
-use Rattle.meter_fabric.specs.Grounds.{Ground, contract_of, ground_of}
-use Rattle.meter_fabric.specs.Openings.{edge_opening, opening_at}
-use Rattle.meter_fabric.specs.Sites.{hops_along}
-use Rattle.meter_fabric.specs.Trails.{IsTrail}
+use Rattle.meter_fabric_base.specs.Grounds.{Ground, contract_of, ground_of}
+use Rattle.meter_fabric_base.specs.Openings.{edge_opening, opening_at}
+use Rattle.meter_fabric_base.specs.Sites.{hops_along}
+use Rattle.meter_fabric_base.specs.Trails.{IsTrail}
 use Rattle.run_audit_base.specs.Examples.{SmallRunIsKept, arrival_as_hop, contract_on, domain_with, meter_name, port_name, small_bound, small_journal, small_meter, small_parameters, small_passage, small_run, small_table, small_terms, table_with}
 use Rattle.run_audit_base.specs.Premises.{IsInTime, IsTimely, KeepsSource, Premises}
 use Rattle.run_audit_base.specs.Runs.{IsPassage, IsRun, Passage, told}

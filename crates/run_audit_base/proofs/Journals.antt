@@ -18,12 +18,12 @@ use Rattle.ds_domain_base.specs.declared.parts.Meter.{Meter}
 use Rattle.ds_domain_base.specs.declared.terms.Terms.{Terms}
 use Rattle.ds_domain_base.specs.declared.terms.Terms.TheVariants.{Trusted, Policed}
 use Rattle.ds_checker.specs.Acceptance.{IsAcceptable, Table}
-use Rattle.meter_fabric.specs.Grounds.{Ground, contract_of}
-use Rattle.meter_fabric.specs.Openings.{meter_opening, opening_at}
-use Rattle.meter_fabric.specs.Sites.{hops_along}
-use Rattle.meter_fabric.specs.Trails.{IsTrail}
-use Rattle.meter_fabric.specs.declared.site.Opening.{Opening}
-use Rattle.meter_fabric.specs.declared.trail.Receipt.{Receipt}
+use Rattle.meter_fabric_base.specs.Grounds.{Ground, contract_of}
+use Rattle.meter_fabric_base.specs.Openings.{meter_opening, opening_at}
+use Rattle.meter_fabric_base.specs.Sites.{hops_along}
+use Rattle.meter_fabric_base.specs.Trails.{IsTrail}
+use Rattle.meter_fabric_base.specs.declared.site.Opening.{Opening}
+use Rattle.meter_fabric_base.specs.declared.trail.Receipt.{Receipt}
 use Rattle.run_audit_base.specs.Premises.{Premises}
 use Rattle.run_audit_base.specs.Runs.{IsRun, Passage, Run, told}
 use Rattle.run_audit_base.specs.Sendings.{Sending, sending_by, sending_of}

@@ -14,9 +14,9 @@ use Rattle.ds_domain_base.specs.Domains.{Domain}
 use Rattle.ds_domain_base.specs.declared.contract.Contract.{Contract}
 use Rattle.ds_domain_base.specs.declared.terms.Terms.{Terms}
 use Rattle.ds_domain_base.specs.declared.terms.Terms.TheVariants.{Trusted, Policed}
-use Rattle.meter_fabric.specs.Sites.{edge_hops, hops_along, site_of}
-use Rattle.meter_fabric.specs.Trails.{IsTrail, Packet}
-use Rattle.meter_fabric.specs.declared.trail.Receipt.{Receipt}
+use Rattle.meter_fabric_base.specs.Sites.{edge_hops, hops_along, site_of}
+use Rattle.meter_fabric_base.specs.Trails.{IsTrail, Packet}
+use Rattle.meter_fabric_base.specs.declared.trail.Receipt.{Receipt}
 use Rattle.run_audit_base.specs.Premises.{IsTimely}
 use Rattle.run_audit_base.specs.Runs.{Passage, told, told_by}
 use Rattle.run_audit_base.specs.Sendings.{Sending, sending_by, sending_of, sent_item, sent_items}

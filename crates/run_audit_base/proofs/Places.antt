@@ -27,7 +27,7 @@ use Rattle.ds_certificate.specs.Bounds.{HasShape, IsCertificate, MeetsIn, fits}
 use Rattle.ds_certificate.specs.Columns.{Bound, bytes_in, envelope_in}
 use Rattle.ds_certificate.specs.Sources.{jitters_of, source_of}
 use Rattle.ds_checker.specs.Loads.{bound_into, load, share_of}
-use Rattle.meter_fabric.specs.Sites.{site_of}
+use Rattle.meter_fabric_base.specs.Sites.{site_of}
 use Rattle.run_audit_base.specs.Runs.{Passage}
 use Rattle.run_audit_base.specs.Sendings.{sending_of}
 use Rattle.run_audit_base.proofs.Loads.{KeepsLoad-share}

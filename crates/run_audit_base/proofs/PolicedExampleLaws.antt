@@ -21,10 +21,10 @@ use Rattle.ds_certificate.specs.Sources.{jitters_along, source_of}
 use Rattle.ds_checker.specs.Acceptance.{Carries}
 use Rattle.ds_checker.specs.Loads.{bound_into, shares_at}
 use Rattle.af_marker.specs.CodePoints.{colour_at}
-use Rattle.meter_fabric.specs.Grounds.{contract_of, ground_of}
-use Rattle.meter_fabric.specs.Openings.{opening_at}
-use Rattle.meter_fabric.specs.Sites.{hops_along}
-use Rattle.meter_fabric.specs.Trails.{IsTrail}
+use Rattle.meter_fabric_base.specs.Grounds.{contract_of, ground_of}
+use Rattle.meter_fabric_base.specs.Openings.{opening_at}
+use Rattle.meter_fabric_base.specs.Sites.{hops_along}
+use Rattle.meter_fabric_base.specs.Trails.{IsTrail}
 use Rattle.run_audit_base.specs.Examples.{arrival_as_hop, contract_on, meter_name, port_name}
 use Rattle.run_audit_base.specs.PolicedExample.{PolicedRunIsKept, edge_journal, edge_meter, edge_receipt, meter_journal, meter_receipt, policed_bound, policed_meter, policed_parameters, policed_passage, policed_run, policed_table, policed_terms}
 use Rattle.run_audit_base.specs.Premises.{IsInTime, IsTimely, IsTrusted, Premises}

@@ -36,12 +36,12 @@ use Rattle.ds_certificate.specs.Columns.{envelope_in}
 use Rattle.ds_certificate.specs.Sources.{source_by, source_of}
 use Rattle.ds_certificate.proofs.ColumnLaws.{in_column}
 use Rattle.ds_checker.specs.Acceptance.{Table}
-use Rattle.meter_fabric.specs.Grounds.{Ground, contract_of}
-use Rattle.meter_fabric.specs.Openings.{opening_at}
-use Rattle.meter_fabric.specs.Sites.{edge_hops, hops_along, hops_of}
-use Rattle.meter_fabric.specs.Trails.{IsTrail, Packet}
-use Rattle.meter_fabric.specs.declared.site.Opening.{Opening}
-use Rattle.meter_fabric.specs.declared.trail.Receipt.{Receipt}
+use Rattle.meter_fabric_base.specs.Grounds.{Ground, contract_of}
+use Rattle.meter_fabric_base.specs.Openings.{opening_at}
+use Rattle.meter_fabric_base.specs.Sites.{edge_hops, hops_along, hops_of}
+use Rattle.meter_fabric_base.specs.Trails.{IsTrail, Packet}
+use Rattle.meter_fabric_base.specs.declared.site.Opening.{Opening}
+use Rattle.meter_fabric_base.specs.declared.trail.Receipt.{Receipt}
 use Rattle.run_audit_base.specs.Premises.{IsTrusted, Premises}
 use Rattle.run_audit_base.specs.Runs.{IsRun, Passage, Run, told, told_by}
 use Rattle.run_audit_base.specs.Sendings.{Sending, passages_of, sending_by, sending_of, sent_items}

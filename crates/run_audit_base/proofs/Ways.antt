@@ -18,8 +18,8 @@ use Rattle.ds_certificate.specs.Columns.{Bound, bytes_in, envelope_in}
 use Rattle.ds_certificate.specs.Sources.{jitters_along}
 use Rattle.ds_certificate.specs.declared.source.Source.{Source}
 use Rattle.ds_checker.specs.Loads.{bound_into}
-use Rattle.meter_fabric.specs.Sites.{site_of}
-use Rattle.meter_fabric.specs.declared.trail.Receipt.{Receipt}
+use Rattle.meter_fabric_base.specs.Sites.{site_of}
+use Rattle.meter_fabric_base.specs.declared.trail.Receipt.{Receipt}
 use Rattle.run_audit_base.specs.Premises.{IsOver}
 
 -- a row of a site is used when it arrives, or by the skew later

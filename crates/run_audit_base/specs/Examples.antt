@@ -16,8 +16,8 @@ use Rattle.ds_domain_base.specs.declared.terms.Terms.{Terms}
 use Rattle.ds_domain_base.specs.declared.terms.Terms.TheVariants.{Trusted}
 use Rattle.ds_certificate.specs.Columns.{Bound}
 use Rattle.ds_checker.specs.Acceptance.{IsAcceptable, Table}
-use Rattle.meter_fabric.specs.Grounds.{ground_of}
-use Rattle.meter_fabric.specs.Trails.{Packet}
+use Rattle.meter_fabric_base.specs.Grounds.{ground_of}
+use Rattle.meter_fabric_base.specs.Trails.{Packet}
 use Rattle.run_audit_base.specs.Premises.{Premises}
 use Rattle.run_audit_base.specs.Runs.{IsRun, Passage, Run}
 

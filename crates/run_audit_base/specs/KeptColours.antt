@@ -2,7 +2,7 @@
 use Rattle.std.specs.Prelude.{◌≡◌, ℕ, All, Some, slice_get}
 use Rattle.ds_domain_base.specs.declared.contract.Contract.{Contract}
 use Rattle.ds_checker.specs.Acceptance.{IsAcceptable, Table}
-use Rattle.meter_fabric.specs.Grounds.{Ground, contract_of}
+use Rattle.meter_fabric_base.specs.Grounds.{Ground, contract_of}
 use Rattle.run_audit_base.specs.Premises.{Premises}
 use Rattle.run_audit_base.specs.Runs.{IsRun, Run}
 use Rattle.run_audit_base.specs.Sendings.{ForSent}

@@ -11,8 +11,8 @@ use Rattle.ds_domain_base.specs.declared.terms.Terms.{Terms}
 use Rattle.ds_domain_base.specs.declared.terms.Terms.TheVariants.{Policed}
 use Rattle.ds_certificate.specs.Columns.{Bound}
 use Rattle.ds_checker.specs.Acceptance.{IsAcceptable, Table}
-use Rattle.meter_fabric.specs.Grounds.{ground_of}
-use Rattle.meter_fabric.specs.declared.trail.Receipt.{Receipt}
+use Rattle.meter_fabric_base.specs.Grounds.{ground_of}
+use Rattle.meter_fabric_base.specs.declared.trail.Receipt.{Receipt}
 use Rattle.run_audit_base.specs.Examples.{arrival_as_hop, small_packet, table_with}
 use Rattle.run_audit_base.specs.Premises.{Premises}
 use Rattle.run_audit_base.specs.Runs.{IsRun, Passage, Run}

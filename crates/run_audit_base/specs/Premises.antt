@@ -13,8 +13,8 @@ use Rattle.ds_domain_base.specs.declared.terms.Terms.{Terms}
 use Rattle.ds_domain_base.specs.declared.terms.Terms.TheVariants.{Trusted, Policed}
 use Rattle.ds_certificate.specs.Columns.{InEach, envelope_in}
 use Rattle.ds_certificate.specs.Sources.{source_of}
-use Rattle.meter_fabric.specs.Grounds.{Ground, contract_of}
-use Rattle.meter_fabric.specs.declared.trail.Receipt.{Receipt}
+use Rattle.meter_fabric_base.specs.Grounds.{Ground, contract_of}
+use Rattle.meter_fabric_base.specs.declared.trail.Receipt.{Receipt}
 use Rattle.run_audit_base.specs.Runs.{Passage, Run}
 use Rattle.run_audit_base.specs.Sendings.{ForSent, Sending, passages_of, sent_items}
 

@@ -6,11 +6,11 @@ use Rattle.meter_book.specs.Replay.{Journal, journal_rows}
 use Rattle.meter_book.specs.declared.row.Row.{Row}
 use Rattle.ds_domain_base.specs.Sent.{came}
 use Rattle.ds_domain_base.specs.declared.contract.Contract.{Contract}
-use Rattle.meter_fabric.specs.Grounds.{Ground, contract_of}
-use Rattle.meter_fabric.specs.Openings.{opening_at}
-use Rattle.meter_fabric.specs.Sites.{hops_of}
-use Rattle.meter_fabric.specs.Trails.{IsTrail, Packet}
-use Rattle.meter_fabric.specs.declared.trail.Receipt.{Receipt}
+use Rattle.meter_fabric_base.specs.Grounds.{Ground, contract_of}
+use Rattle.meter_fabric_base.specs.Openings.{opening_at}
+use Rattle.meter_fabric_base.specs.Sites.{hops_of}
+use Rattle.meter_fabric_base.specs.Trails.{IsTrail, Packet}
+use Rattle.meter_fabric_base.specs.declared.trail.Receipt.{Receipt}
 
 -- a packet, and a receipt of each hop that it has visited, in order
 pub record Passage : Type 0 where

@@ -6,8 +6,8 @@ use Rattle.ds_domain_base.specs.Sent.{came}
 use Rattle.ds_domain_base.specs.declared.contract.Contract.{Contract}
 use Rattle.ds_domain_base.specs.declared.terms.Terms.{Terms}
 use Rattle.ds_domain_base.specs.declared.terms.Terms.TheVariants.{Trusted, Policed}
-use Rattle.meter_fabric.specs.Grounds.{Ground, contract_of}
-use Rattle.meter_fabric.specs.declared.trail.Receipt.{Receipt}
+use Rattle.meter_fabric_base.specs.Grounds.{Ground, contract_of}
+use Rattle.meter_fabric_base.specs.declared.trail.Receipt.{Receipt}
 use Rattle.run_audit_base.specs.Runs.{Passage, Run}
 
 -- a packet as it is sent: when, with what colour, and its receipts of the meters that it has visited since

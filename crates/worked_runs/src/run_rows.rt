@@ -2,7 +2,7 @@ use crate::tables::{accepted, two_rates};
 use af_marker::Dscp;
 use ds_checker::Accepted;
 use meter_book::{Journal, MeterBook};
-use meter_fabric::{Trail, Traveller};
+use meter_fabric_base::{Trail, Traveller};
 use moment_core::{Gap, Mode, Moment, PacketSize};
 use run_audit::{AssembleFault, Run};
 use std::alloc::Global;

@@ -3,7 +3,7 @@ ghost use Rattle.std.specs.Prelude.{◌≤◌};
 use crate::tables::{accepted, two_rates};
 use af_marker::Dscp;
 use meter_book::MeterBook;
-use meter_fabric::{BeginFault, Receipt, Traveller};
+use meter_fabric_base::{BeginFault, Receipt, Traveller};
 use moment_core::{Colour, Gap, Mode, Moment, PacketSize};
 use std::alloc::Global;
 use std::process::Abort;

@@ -1,5 +1,5 @@
 use Rattle.std.proofs.Common.{sym}
-use Rattle.meter_fabric.proofs.PathLaws.{known_contract}
+use Rattle.meter_fabric_base.proofs.PathLaws.{known_contract}
 use Rattle.ds_visits.proofs.way.way_at.Goals as goal
 
 pub stops_of-requires-clause-short : goal.stops_of-requires-clause-short

@@ -1,4 +1,4 @@
-use Rattle.meter_fabric.specs.Grounds.{ground_of}
+use Rattle.meter_fabric_base.specs.Grounds.{ground_of}
 use Rattle.run_audit.proofs.CountLaws.{run_counted, untold_counted}
 use Rattle.run_audit.proofs.assembling.judge.Goals as goal
 

@@ -3,7 +3,7 @@ use Rattle.std.specs.Prelude.{nat_eq}
 use Rattle.std.specs.List.{list_any}
 use Rattle.std.proofs.lemmas.Bool.{false≢true}
 use Rattle.std.proofs.lemmas.List.{take_all}
-use Rattle.meter_fabric.specs.Grounds.{ground_of}
+use Rattle.meter_fabric_base.specs.Grounds.{ground_of}
 use Rattle.run_audit.specs.Assembled.{passage_of}
 use Rattle.run_audit.specs.Assembling.{AreSound, IsNew, IsSound}
 use Rattle.run_audit.proofs.JournalLaws.{pushed_key, was_new, was_there}

@@ -1,5 +1,5 @@
 use Rattle.std.proofs.Common.{◌≡◌, map}
-use Rattle.meter_fabric.specs.Grounds.{ground_of}
+use Rattle.meter_fabric_base.specs.Grounds.{ground_of}
 use Rattle.run_audit.specs.Assembling.{AreSound}
 use Rattle.run_audit.proofs.SoundLaws.{front_of, number_of}
 use Rattle.run_audit.proofs.assembling.judge_trails.Given as goal

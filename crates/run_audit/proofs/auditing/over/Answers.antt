@@ -1,5 +1,5 @@
 use Rattle.std.proofs.Common.{ap, map, subst, sym, take, ◌∙◌}
-use Rattle.meter_fabric.specs.Grounds.{most_flows}
+use Rattle.meter_fabric_base.specs.Grounds.{most_flows}
 use Rattle.run_audit_base.specs.Runs.{IsRun}
 use Rattle.run_audit.specs.Assembled.{passage_of}
 use Rattle.run_audit.specs.Spills.{spilled_from}

@@ -1,8 +1,8 @@
 use Rattle.std.proofs.Common.{⊎_elim, refl, sym, subst, arith}
 use Rattle.std.specs.Prelude.{Contains, IsSome}
 use Rattle.std.proofs.lemmas.Bool.{cases_eq}
-use Rattle.meter_fabric.specs.Grounds.{ground_of}
-use Rattle.meter_fabric.specs.Openings.{opening_at}
+use Rattle.meter_fabric_base.specs.Grounds.{ground_of}
+use Rattle.meter_fabric_base.specs.Openings.{opening_at}
 use Rattle.run_audit.proofs.JournalLaws.{opening_below}
 use Rattle.run_audit.proofs.sites.has_each.Goals as goal
 

@@ -1,7 +1,7 @@
 use Rattle.std.proofs.Common.{◌<◌, ℕ}
 use Rattle.std.specs.Prelude.{Contains, IsSome}
-use Rattle.meter_fabric.specs.Grounds.{ground_of}
-use Rattle.meter_fabric.specs.Openings.{opening_at}
+use Rattle.meter_fabric_base.specs.Grounds.{ground_of}
+use Rattle.meter_fabric_base.specs.Openings.{opening_at}
 use Rattle.run_audit.proofs.sites.has_each.Given as goal
 
 -- those of the numbers so far

@@ -3,8 +3,8 @@ use Rattle.std.specs.Prelude.{nat_eq}
 use Rattle.std.specs.List.{list_any}
 use Rattle.std.proofs.lemmas.List.Elements.{All-more}
 use Rattle.meter_book.specs.Replay.{Journal}
-use Rattle.meter_fabric.specs.Grounds.{ground_of}
-use Rattle.meter_fabric.specs.Openings.{opening_at}
+use Rattle.meter_fabric_base.specs.Grounds.{ground_of}
+use Rattle.meter_fabric_base.specs.Openings.{opening_at}
 use Rattle.run_audit.proofs.JournalLaws.{own_site_more, pushed_key, repeated_site, sites_more, was_new, was_there}
 use Rattle.run_audit.proofs.sites.sites_of.Goals as goal
 

@@ -1,7 +1,7 @@
 use Rattle.std.proofs.Common.{◌≡◌, map, take, Some}
 use Rattle.std.specs.Prelude.{All, AllPairs}
-use Rattle.meter_fabric.specs.Grounds.{ground_of}
-use Rattle.meter_fabric.specs.Openings.{opening_at}
+use Rattle.meter_fabric_base.specs.Grounds.{ground_of}
+use Rattle.meter_fabric_base.specs.Openings.{opening_at}
 use Rattle.run_audit.proofs.sites.sites_of.Given as goal
 
 -- the journals so far are one for each of their sites

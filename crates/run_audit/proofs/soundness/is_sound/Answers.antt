@@ -4,9 +4,9 @@ use Rattle.std.proofs.lemmas.Option.{same_Some}
 use Rattle.ds_domain_base.specs.Domains.{Domain}
 use Rattle.ds_domain_base.specs.Sent.{came}
 use Rattle.ds_domain_base.specs.declared.contract.Contract.{Contract}
-use Rattle.meter_fabric.proofs.PathLaws.{known_contract}
-use Rattle.meter_fabric.specs.Sites.{hops_of}
-use Rattle.meter_fabric.specs.Trails.{IsTrail, packet_of}
+use Rattle.meter_fabric_base.proofs.PathLaws.{known_contract}
+use Rattle.meter_fabric_base.specs.Sites.{hops_of}
+use Rattle.meter_fabric_base.specs.Trails.{IsTrail, packet_of}
 use Rattle.run_audit.proofs.soundness.is_sound.Goals as goal
 
 pub is_trail-requires-clause-numbered : goal.is_trail-requires-clause-numbered

@@ -1,7 +1,7 @@
 use Rattle.std.proofs.Common.{refl, sym, ap, ◌∙◌, length, arith}
 use Rattle.std.proofs.lemmas.Bool.{true≢false, false≢true}
-use Rattle.meter_fabric.specs.Sites.{hops_of}
-use Rattle.meter_fabric.specs.Trails.{packet_of}
+use Rattle.meter_fabric_base.specs.Sites.{hops_of}
+use Rattle.meter_fabric_base.specs.Trails.{packet_of}
 use Rattle.run_audit.proofs.TrailTests.{IsLeft-ended, IsLeft-next, IsLeft-none}
 use Rattle.run_audit.proofs.soundness.is_trail.Goals as goal
 

@@ -1,5 +1,5 @@
-use Rattle.meter_fabric.specs.Sites.{hops_of}
-use Rattle.meter_fabric.specs.Trails.{IsTrail, packet_of}
+use Rattle.meter_fabric_base.specs.Sites.{hops_of}
+use Rattle.meter_fabric_base.specs.Trails.{IsTrail, packet_of}
 use Rattle.ds_domain_base.specs.Sent.{came}
 use Rattle.run_audit.proofs.TrailTests.{IsLeft}
 use Rattle.run_audit.proofs.soundness.is_trail.Given as goal

@@ -1,5 +1,5 @@
 use Rattle.std.proofs.Common.{sym, ◌∙◌}
-use Rattle.meter_fabric.specs.Grounds.{ground_of}
+use Rattle.meter_fabric_base.specs.Grounds.{ground_of}
 use Rattle.run_audit.specs.Assembled.{passage_of}
 use Rattle.run_audit.specs.Verdicts.{against_sent, outside}
 use Rattle.run_audit.proofs.FoundLaws.{first_found-ended, found-at, found-behind}

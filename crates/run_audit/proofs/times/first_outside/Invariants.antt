@@ -1,6 +1,6 @@
 use Rattle.std.proofs.Common.{◌≡◌, map}
 use Rattle.std.specs.Prelude.{drop}
-use Rattle.meter_fabric.specs.Grounds.{ground_of}
+use Rattle.meter_fabric_base.specs.Grounds.{ground_of}
 use Rattle.run_audit.specs.Assembled.{passage_of}
 use Rattle.run_audit.specs.Verdicts.{against_sent, first_found, outside}
 use Rattle.run_audit.proofs.times.first_outside.Given as goal

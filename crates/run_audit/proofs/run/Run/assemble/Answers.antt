@@ -1,5 +1,5 @@
 use Rattle.std.proofs.Common.{subst}
-use Rattle.meter_fabric.specs.Grounds.{ground_of}
+use Rattle.meter_fabric_base.specs.Grounds.{ground_of}
 use Rattle.run_audit.specs.Assembled.{run_of}
 use Rattle.run_audit.specs.Assembling.{IsRefusal}
 use Rattle.run_audit.proofs.run.Run.assemble.Goals as goal

@@ -1,0 +1,65 @@
+-- What is known of a contract that is accepted, and the hops of its path one by one.
+use Rattle.std.proofs.Common.{◌≡◌, ◌≤◌, ◌<◌, ◌+◌, ℕ, zero, suc, Bool, true, false, List, [], ◌∷◌, ◌++◌, length, drop, get_or, Option, None, Some, refl, sym, ap, subst, ◌∙◌, arith, append_assoc, add-one, rules}
+use Rattle.std.specs.Prelude.{◌||◌, is_none, nat_eq, nat_lt, slice_get, if◌then◌else◌}
+use Rattle.std.proofs.lemmas.Bool.Decides.{nat_tests}
+use Rattle.std.proofs.lemmas.List.{drop_more}
+use Rattle.ds_domain_base.specs.Domains.{Domain}
+use Rattle.ds_domain_base.specs.declared.contract.Contract.{Contract}
+use Rattle.ds_domain_base.specs.declared.fault.DomainFault.{DomainFault}
+use Rattle.ds_certificate.specs.Bounds.{IsCertificate, fits}
+use Rattle.ds_certificate.specs.Columns.{Bound}
+use Rattle.ds_checker.specs.Acceptance.{IsAcceptable, Table}
+use Rattle.meter_fabric_base.specs.Grounds.{contract_of, ground_of, most_flows}
+use Rattle.meter_fabric_base.specs.Sites.{hops_along, site_of}
+use Rattle.meter_fabric_base.specs.declared.hop.Hop.{Hop}
+use Rattle.meter_fabric_base.proofs.GroundLaws.{place_of}
+
+-- of two tests in turn the second fails where no fault is found
+second_fails : (first second : Bool) (one other : DomainFault) (rest : Option DomainFault)
+    → is_none (if first then Some one else if second then Some other else rest) ≡ true → second ≡ false
+second_fails true second one other rest none = absurd cc
+second_fails false true one other rest none = absurd cc
+second_fails false false one other rest none = refl
+
+short_test : (long : ℕ) → (nat_eq long 0 || nat_lt 16 long) ≡ false → long ≤ 16
+short_test long fails = grind (arith, nat_tests)
+
+fits_short : (d : Domain) (c : Contract) → fits d c ≡ true → length c.path ≤ 16
+fits_short d c good = short_test (length c.path) (second_fails _ _ _ _ _ good)
+
+certified_short : (d : Domain) (contracts : List Contract) (certificate : List (List Bound)) (place : ℕ) (c : Contract)
+    → IsCertificate d contracts certificate → slice_get contracts place ≡ Some c → length c.path ≤ 16
+certified_short d [] certificate place c good is = absurd cc
+certified_short d (x ∷ contracts) [] place c good is = absurd good
+certified_short d (x ∷ contracts) (bounds ∷ certificate) zero c good is =
+    let same : x ≡ c = cc in
+    subst (λ (known : Contract). length known.path ≤ 16) same (fits_short d x good.0.0.0)
+certified_short d (x ∷ contracts) (bounds ∷ certificate) (suc place) c good is = certified_short d contracts certificate place c good.1 is
+
+low_test : (flow : ℕ) → nat_lt flow most_flows ≡ true → flow < most_flows
+low_test flow low = grind (arith, nat_tests)
+
+pub known_contract : (t : Table) (flow : ℕ) (c : Contract) → IsAcceptable t → contract_of (ground_of t) flow ≡ Some c → (flow < most_flows) × (length c.path ≤ 16)
+known_contract t flow c good is =
+    let both = place_of t flow c is in
+    (low_test flow both.0, certified_short t.domain t.contracts t.certificate flow c good.0 both.1)
+
+-- one hop more
+hops_along-cons : (done : List Hop) (d : Domain) (number : ℕ) (name : List ℕ) (path : List (List ℕ))
+    → done ++ hops_along d number (name ∷ path) ≡ (done ++ record { number = number; site = site_of d name } ∷ []) ++ hops_along d (number + 1) path
+unfolding hops_along
+hops_along-cons done d number name path = simp (add-one, append_assoc)
+
+pub hops_along-none : (done : List Hop) (d : Domain) (number : ℕ) → done ++ hops_along d number [] ≡ done
+unfolding hops_along
+hops_along-none done d number = search rules
+
+pub hop_more : (done items all : List Hop) (d : Domain) (number i site : ℕ) (name : List ℕ) (path : List (List ℕ))
+    → i < length path → name ≡ get_or path i name → site ≡ site_of d name → items ≡ done ++ record { number = number; site = site } ∷ []
+    → done ++ hops_along d number (drop i path) ≡ all → items ++ hops_along d (number + 1) (drop (i + 1) path) ≡ all
+hop_more done items all d number i site name path inside is_name is_site pushed kept =
+    let here : drop i path ≡ name ∷ drop (i + 1) path = drop_more path i name inside ∙ ap (λ (n : List ℕ). n ∷ drop (i + 1) path) (sym is_name) in
+    let before = ap (λ (left : List (List ℕ)). done ++ hops_along d number left) here in
+    let step = hops_along-cons done d number name (drop (i + 1) path) in
+    let placed = ap (λ (s : ℕ). (done ++ record { number = number; site = s } ∷ []) ++ hops_along d (number + 1) (drop (i + 1) path)) is_site in
+    ap (λ (hops : List Hop). hops ++ hops_along d (number + 1) (drop (i + 1) path)) pushed ∙ placed ∙ sym step ∙ sym before ∙ kept
