@@ -1,6 +1,6 @@
 ghost use Rattle.std.specs.Prelude.{◌≡◌, ◌*◌, ◌≤◌, ◌^◌};
 ghost use Rattle.envelope_core.specs.Curve.{widened};
-ghost use Rattle.meter_book.specs.Envelopes.{all_output, green_output, output_in};
+ghost use Rattle.meter_book_base.specs.Envelopes.{all_output, green_output, output_in};
 ghost use Rattle.ds_domain_base.specs.Domains.{port_of, skew_of};
 ghost use Rattle.ds_certificate.specs.Columns.{envelope_in};
 ghost use Rattle.ds_certificate.specs.Ranges.{IsModerate, IsModest};
@@ -8,7 +8,7 @@ ghost use Rattle.ds_certificate.specs.Sources.{curve_of, edge_column, source_by,
 
 use ds_domain_base::{Contract, Domain, Profile, Terms, Version};
 use envelope_core::{Envelope, widen};
-use meter_book::Parameters;
+use meter_book_base::Parameters;
 use moment_core::{Column, Gap};
 
 /// What a contract's traffic keeps where it enters a domain.

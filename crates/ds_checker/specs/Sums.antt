@@ -3,8 +3,8 @@ use Rattle.std.specs.Prelude.{ℕ, Bool, false, ◌+◌, ◌^◌, ◌≤◌, ◌
 use Rattle.std.specs.Prelude.{Option, if◌then◌else◌}
 use Rattle.moment_core.specs.declared.column.Column.TheVariants.{Green, All, Excess}
 use Rattle.envelope_core.specs.Curve.{Curve, widened}
-use Rattle.meter_book.specs.declared.any_meter.Parameters.{Parameters}
-use Rattle.meter_book.specs.declared.any_meter.Parameters.TheVariants.{SrTcm, TrTcm, Rfc4115}
+use Rattle.meter_book_base.specs.declared.any_meter.Parameters.{Parameters}
+use Rattle.meter_book_base.specs.declared.any_meter.Parameters.TheVariants.{SrTcm, TrTcm, Rfc4115}
 use Rattle.ds_certificate.specs.Columns.{Bound}
 use Rattle.ds_certificate.specs.declared.source.Source.{Source}
 use Rattle.ds_checker.specs.Loads.{Share, kept}

@@ -5,7 +5,7 @@ ghost use Rattle.ds_checker.specs.Sums.{AreBelow, IsBelow, counted_load, no_load
 
 use ds_certificate::{Bound, Source};
 use envelope_core::Envelope;
-use meter_book::Parameters;
+use meter_book_base::Parameters;
 use moment_core::{Gap, bytes_over_ceil};
 use std::marker::Model;
 

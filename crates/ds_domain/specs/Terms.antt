@@ -1,11 +1,11 @@
 -- The parameters of meters, and the terms of contracts.
 use Rattle.std.specs.Prelude.{Bool, ◌||◌, is_some, Option, None, Some, Result, Ok, Err, if◌then◌else◌}
 use Rattle.toml.specs.Data.{Members, get_member}
-use Rattle.meter_book.specs.declared.any_meter.MeterFault.{MeterFault}
-use Rattle.meter_book.specs.declared.any_meter.MeterFault.TheVariants as refusals
-use Rattle.meter_book.specs.declared.any_meter.Parameters.{Parameters}
-use Rattle.meter_book.specs.declared.any_meter.Parameters.TheVariants as parameters
-use Rattle.meter_book.specs.AnyMeter.{fault_of}
+use Rattle.meter_book_base.specs.declared.any_meter.MeterFault.{MeterFault}
+use Rattle.meter_book_base.specs.declared.any_meter.MeterFault.TheVariants as refusals
+use Rattle.meter_book_base.specs.declared.any_meter.Parameters.{Parameters}
+use Rattle.meter_book_base.specs.declared.any_meter.Parameters.TheVariants as parameters
+use Rattle.meter_book_base.specs.AnyMeter.{fault_of}
 use Rattle.ds_domain_base.specs.Faults.{field_text}
 use Rattle.ds_domain_base.specs.declared.fault.DomainFault.{DomainFault}
 use Rattle.ds_domain_base.specs.declared.fault.Field.{Field}

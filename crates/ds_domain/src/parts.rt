@@ -8,7 +8,7 @@ use crate::place::Place;
 use crate::sections::Entries;
 use crate::terms::sound;
 use ds_domain_base::{Delay, Domain, DomainFault, Field, Kind, Link, Meter, Name, Port, Section};
-use meter_book::Parameters;
+use meter_book_base::Parameters;
 use moment_core::{Mode, Moment};
 use toml::Table;
 

@@ -6,7 +6,7 @@ use crate::kinds::{ContractKind, MeterKind, mode_at};
 use crate::place::Place;
 use ds_domain_base::{DomainFault, Field, Kind, Peak, Profile, SoundParameters, Terms};
 use ds_domain_text::keys::value_at;
-use meter_book::{MeterFault, Parameters};
+use meter_book_base::{MeterFault, Parameters};
 use moment_core::Mode;
 use rfc4115_core::Rfc4115Parameters;
 use srtcm_core::SrTcmParameters;

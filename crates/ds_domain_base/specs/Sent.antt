@@ -3,8 +3,8 @@ use Rattle.std.specs.Prelude.{ℕ, Bool, true, false, ◌&&◌, not, Option, Non
 use Rattle.moment_core.specs.declared.colour.Colour.{Colour}
 use Rattle.moment_core.specs.declared.colour.Colour.TheVariants.{Red}
 use Rattle.moment_core.specs.Colours.{is_yellow}
-use Rattle.meter_book.specs.declared.any_meter.AnyMeter.{AnyMeter}
-use Rattle.meter_book.specs.AnyMeter.{opening_of}
+use Rattle.meter_book_base.specs.declared.any_meter.AnyMeter.{AnyMeter}
+use Rattle.meter_book_base.specs.AnyMeter.{opening_of}
 use Rattle.af_marker.specs.CodePoints.{colour_at}
 use Rattle.ds_domain_base.specs.declared.terms.Terms.{Terms}
 use Rattle.ds_domain_base.specs.declared.terms.Terms.TheVariants.{Trusted, Policed}

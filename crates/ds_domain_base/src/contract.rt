@@ -9,7 +9,7 @@ use crate::quantity::Lifetime;
 use crate::terms::Terms;
 use af_marker::{Class, Dscp, colour_of};
 use flow_classifier::Rule;
-use meter_book::AnyMeter;
+use meter_book_base::AnyMeter;
 use moment_core::Colour;
 use std::alloc::Global;
 

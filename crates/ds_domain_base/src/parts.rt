@@ -1,10 +1,10 @@
 ghost use Rattle.std.specs.Prelude.{◌≡◌};
 ghost use Rattle.moment_core.specs.declared.colour.Mode.TheVariants.{Aware};
-ghost use Rattle.meter_book.specs.AnyMeter.{opening_of};
+ghost use Rattle.meter_book_base.specs.AnyMeter.{opening_of};
 
 use crate::quantity::Delay;
 use crate::terms::SoundParameters;
-use meter_book::AnyMeter;
+use meter_book_base::AnyMeter;
 use moment_core::{Mode, Moment};
 
 /// The version of a domain's text.

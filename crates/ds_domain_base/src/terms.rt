@@ -1,8 +1,8 @@
 ghost use Rattle.std.specs.Prelude.{◌≡◌, None, Some, MatchResult};
-ghost use Rattle.meter_book.specs.AnyMeter.{fault_of, opening_of};
+ghost use Rattle.meter_book_base.specs.AnyMeter.{fault_of, opening_of};
 ghost use Rattle.ds_domain_base.specs.Sent.{edge_of, has_peak};
 
-use meter_book::{AnyMeter, MeterFault, Parameters};
+use meter_book_base::{AnyMeter, MeterFault, Parameters};
 use moment_core::{Mode, Moment, Rate};
 use std::marker::Model;
 
@@ -14,8 +14,8 @@ pub struct SoundParameters {
 
 impl Model for SoundParameters {
     ghost use Rattle.std.specs.Prelude.{◌≡◌, None};
-    ghost use Rattle.meter_book.specs.declared.any_meter.Parameters.{Parameters};
-    ghost use Rattle.meter_book.specs.AnyMeter.{fault_of};
+    ghost use Rattle.meter_book_base.specs.declared.any_meter.Parameters.{Parameters};
+    ghost use Rattle.meter_book_base.specs.AnyMeter.{fault_of};
 
     ghost Value = { Parameters };
 

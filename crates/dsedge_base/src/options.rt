@@ -10,7 +10,7 @@ ghost use Rattle.dsedge_base.specs.Plans.{given_by};
 use clap::ArgMatches;
 use dsedge_lines::GivenName;
 use line_text::number;
-use meter_book::{AnyMeter, Parameters};
+use meter_book_base::{AnyMeter, Parameters};
 use moment_core::{Mode, Moment, Rate};
 use rfc4115_core::Rfc4115Parameters;
 use srtcm_core::SrTcmParameters;

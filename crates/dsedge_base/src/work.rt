@@ -2,7 +2,7 @@ ghost use Rattle.std.specs.Prelude.{◌≡◌, IfOk};
 ghost use Rattle.dsedge_base.specs.Files.{files_of};
 
 use dsedge_lines::GivenName;
-use meter_book::AnyMeter;
+use meter_book_base::AnyMeter;
 use moment_core::Rate;
 use std::alloc::{AllocError, Global};
 

@@ -17,16 +17,16 @@ use Rattle.trtcm_core.specs.TwoRate.{two_rate}
 use Rattle.trtcm_core.proofs.KeepingLaws as two_rates
 use Rattle.rfc4115_core.specs.SeparateRates.{separate_rates}
 use Rattle.rfc4115_core.proofs.KeepingLaws as excess_rates
-use Rattle.meter_book.specs.declared.any_meter.AnyMeter.{AnyMeter}
-use Rattle.meter_book.specs.declared.any_meter.Parameters.{Parameters}
-use Rattle.meter_book.specs.declared.any_meter.Parameters.TheVariants.{SrTcm, TrTcm, Rfc4115}
+use Rattle.meter_book_base.specs.declared.any_meter.AnyMeter.{AnyMeter}
+use Rattle.meter_book_base.specs.declared.any_meter.Parameters.{Parameters}
+use Rattle.meter_book_base.specs.declared.any_meter.Parameters.TheVariants.{SrTcm, TrTcm, Rfc4115}
 use Rattle.meter_book.specs.declared.row.Arrival.{Arrival}
 use Rattle.meter_book.specs.declared.row.Row.{Row}
-use Rattle.meter_book.specs.AnyMeter.{how_any}
+use Rattle.meter_book_base.specs.AnyMeter.{how_any}
 use Rattle.meter_book.specs.KeptColours.{PeakIsKept, Stays, aware_rows, row_input}
 use Rattle.meter_book.specs.Laws.{departure_of}
-use Rattle.meter_book.specs.Limits.{all_limit, green_limit, held_column}
-use Rattle.meter_book.specs.OutputLaws.{departures_of_separate_rates, departures_of_single_rate, departures_of_two_rate}
+use Rattle.meter_book_base.specs.Limits.{all_limit, green_limit, held_column}
+use Rattle.meter_book_base.specs.OutputLaws.{departures_of_separate_rates, departures_of_single_rate, departures_of_two_rate}
 use Rattle.meter_book.specs.Replay.{offer_of, replay}
 use Rattle.meter_book.proofs.RowLaws.{departures_of-rows_from}
 

@@ -5,10 +5,10 @@ use Rattle.std.proofs.lemmas.List.Sums.{count_by-le-length, sum_by-append}
 use Rattle.moment_core.specs.declared.colour.Colour.{Colour}
 use Rattle.moment_core.specs.declared.colour.Colour.TheVariants.{Green, Yellow, Red}
 use Rattle.moment_core.specs.Colours.{is_green, is_yellow, is_red}
-use Rattle.meter_book.specs.declared.any_meter.AnyMeter.{AnyMeter}
+use Rattle.meter_book_base.specs.declared.any_meter.AnyMeter.{AnyMeter}
 use Rattle.meter_book.specs.declared.row.Arrival.{Arrival}
 use Rattle.meter_book.specs.declared.row.Row.{Row}
-use Rattle.meter_book.specs.AnyMeter.{after_any, left_of}
+use Rattle.meter_book_base.specs.AnyMeter.{after_any, left_of}
 use Rattle.meter_book.specs.declared.stored_row.StoredRow.{StoredRow}
 use Rattle.meter_book.specs.Kept.{arrival_stored, arrivals_of, stored_of}
 use Rattle.meter_book.specs.Replay.{bytes_left, meter_after, offer_of, packets_left, row_of, rows_from}

@@ -10,15 +10,15 @@ use Rattle.moment_core.specs.Columns.{counts}
 use Rattle.moment_core.specs.Metering.{departures, opening}
 use Rattle.moment_core.proofs.MeteringLaws.{newest_le-used}
 use Rattle.envelope_core.specs.Curve.{KeepsCurve}
-use Rattle.meter_book.specs.declared.any_meter.AnyMeter.{AnyMeter}
-use Rattle.meter_book.specs.declared.any_meter.Parameters.{Parameters}
-use Rattle.meter_book.specs.declared.any_meter.Parameters.TheVariants.{SrTcm, TrTcm, Rfc4115}
+use Rattle.meter_book_base.specs.declared.any_meter.AnyMeter.{AnyMeter}
+use Rattle.meter_book_base.specs.declared.any_meter.Parameters.{Parameters}
+use Rattle.meter_book_base.specs.declared.any_meter.Parameters.TheVariants.{SrTcm, TrTcm, Rfc4115}
 use Rattle.meter_book.specs.declared.row.Arrival.{Arrival}
 use Rattle.meter_book.specs.declared.row.Row.{Row}
-use Rattle.meter_book.specs.AnyMeter.{after_any, how_any, newest_of, opening_of}
-use Rattle.meter_book.specs.Envelopes.{IsFit, mode_of, output_in, parameters_of}
+use Rattle.meter_book_base.specs.AnyMeter.{after_any, how_any, newest_of, opening_of}
+use Rattle.meter_book_base.specs.Envelopes.{IsFit, mode_of, output_in, parameters_of}
 use Rattle.meter_book.specs.Laws.{departure_of, row_output}
-use Rattle.meter_book.specs.OutputLaws.{IsFit-after, IsFit-opening, goes_on-any, never_improves-any, output_keeps-any, stays_itself-any}
+use Rattle.meter_book_base.specs.OutputLaws.{IsFit-after, IsFit-opening, goes_on-any, never_improves-any, output_keeps-any, stays_itself-any}
 use Rattle.meter_book.specs.Replay.{meter_after, offer_of, replay, row_of, rows_from}
 
 pub departures_of-rows_from : (m : AnyMeter) (place : ℕ) (arrivals : List Arrival)

@@ -8,17 +8,17 @@ use Rattle.std.proofs.lemmas.List.{map-append}
 use Rattle.moment_core.specs.Metering.{Offer, used}
 use Rattle.moment_core.proofs.MeteringLaws.{moment_le-used, newest_le-used}
 use Rattle.meter_book.specs.declared.accounts.Accounts.{Accounts}
-use Rattle.meter_book.specs.declared.any_meter.AnyMeter.{AnyMeter}
+use Rattle.meter_book_base.specs.declared.any_meter.AnyMeter.{AnyMeter}
 use Rattle.meter_book.specs.declared.book.NoteFault.{NoteFault}
 use Rattle.meter_book.specs.declared.book.NoteFault.TheVariants.{JournalFull, Shut}
 use Rattle.meter_book.specs.declared.row.Arrival.{Arrival}
 use Rattle.meter_book.specs.declared.row.Row.{Row}
 use Rattle.meter_book.specs.declared.standing.Standing.{Standing}
-use Rattle.meter_book.specs.AnyMeter.{after_any, newest_of}
+use Rattle.meter_book_base.specs.AnyMeter.{after_any, newest_of}
 use Rattle.meter_book.specs.Chapters.{AreChapters, Chapter, Follows, GoesOn, IsStanding, chapter_rows, closing_of, joined, shut_at_last}
 use Rattle.meter_book.specs.Kept.{arrivals_of, stored_of}
 use Rattle.meter_book.specs.declared.stored_row.StoredRow.{StoredRow}
-use Rattle.meter_book.specs.OutputLaws.{goes_on-any}
+use Rattle.meter_book_base.specs.OutputLaws.{goes_on-any}
 use Rattle.meter_book.specs.Replay.{Book, accounts_of, accounts_with, is_shut_by, meter_after, next_row, note_fault, note_of, noted, offer_of, replay, room_of, row_of, rows_from, standing_after, unless}
 use Rattle.meter_book.specs.Tallies.{accounts_in, tallies_in, tallies_of, together}
 use Rattle.meter_book.proofs.ReplayLaws.{arrivals_of-rows_from}

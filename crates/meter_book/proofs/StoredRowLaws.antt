@@ -3,10 +3,10 @@ use Rattle.std.proofs.Common.{◌≡◌, ℕ, ◌+◌, ◌≤◌, zero, suc, Lis
 use Rattle.std.specs.List.{All, slice_get}
 use Rattle.std.specs.Option.{option_map}
 use Rattle.moment_core.proofs.MeteringLaws.{moment_le-used}
-use Rattle.meter_book.specs.declared.any_meter.AnyMeter.{AnyMeter}
+use Rattle.meter_book_base.specs.declared.any_meter.AnyMeter.{AnyMeter}
 use Rattle.meter_book.specs.declared.row.Arrival.{Arrival}
 use Rattle.meter_book.specs.declared.stored_row.StoredRow.{StoredRow}
-use Rattle.meter_book.specs.AnyMeter.{after_any, newest_of}
+use Rattle.meter_book_base.specs.AnyMeter.{after_any, newest_of}
 use Rattle.meter_book.specs.Kept.{row_at, stored_of}
 use Rattle.meter_book.specs.Replay.{offer_of, row_of, rows_from}
 

@@ -6,7 +6,7 @@ use Rattle.meter_book.specs.declared.joining.JoinFault.TheVariants.{Gap, NoMemor
 use Rattle.meter_book.specs.declared.row.Arrival.{Arrival}
 use Rattle.meter_book.specs.declared.row.Row.{Row}
 use Rattle.meter_book.specs.declared.standing.Standing.{Standing}
-use Rattle.meter_book.specs.AnyMeter.{newest_of}
+use Rattle.meter_book_base.specs.AnyMeter.{newest_of}
 use Rattle.meter_book.specs.Replay.{Book, Journal, most_places, rows_from, standing_after, standing_of}
 use Rattle.meter_book.specs.Tallies.{IsSized, packets_in, tallies_in}
 

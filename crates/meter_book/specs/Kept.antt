@@ -7,7 +7,7 @@ use Rattle.meter_book.specs.declared.row.Arrival.{Arrival}
 use Rattle.meter_book.specs.declared.row.Row.{Row}
 use Rattle.meter_book.specs.declared.standing.Standing.{Standing}
 use Rattle.meter_book.specs.declared.stored_row.StoredRow.{StoredRow}
-use Rattle.meter_book.specs.AnyMeter.{newest_of}
+use Rattle.meter_book_base.specs.AnyMeter.{newest_of}
 use Rattle.meter_book.specs.Chapters.{Chapter, IsStanding, LeadsTo}
 use Rattle.meter_book.specs.Replay.{Book, Journal, accounts_of, meter_after, most_places, replay, rows_from}
 use Rattle.meter_book.specs.Tallies.{IsSized, packets_in, tallies_in, tallies_of, together}

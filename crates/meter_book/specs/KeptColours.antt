@@ -6,12 +6,12 @@ use Rattle.moment_core.specs.declared.colour.Mode.TheVariants.{Aware}
 use Rattle.moment_core.specs.Colours.{is_green, is_in_profile}
 use Rattle.moment_core.specs.Columns.{counts}
 use Rattle.envelope_core.specs.Curve.{KeepsCurve}
-use Rattle.meter_book.specs.declared.any_meter.Parameters.{Parameters}
-use Rattle.meter_book.specs.declared.any_meter.Parameters.TheVariants.{SrTcm, TrTcm, Rfc4115}
+use Rattle.meter_book_base.specs.declared.any_meter.Parameters.{Parameters}
+use Rattle.meter_book_base.specs.declared.any_meter.Parameters.TheVariants.{SrTcm, TrTcm, Rfc4115}
 use Rattle.meter_book.specs.declared.row.Arrival.{Arrival}
 use Rattle.meter_book.specs.declared.row.Row.{Row}
-use Rattle.meter_book.specs.AnyMeter.{opening_of}
-use Rattle.meter_book.specs.Limits.{all_limit, green_limit, held_column}
+use Rattle.meter_book_base.specs.AnyMeter.{opening_of}
+use Rattle.meter_book_base.specs.Limits.{all_limit, green_limit, held_column}
 use Rattle.meter_book.specs.Replay.{replay}
 
 -- the rows of an aware meter that opened, whatever arrives

@@ -8,12 +8,12 @@ use Rattle.moment_core.specs.Colours.{IsNoBetter}
 use Rattle.moment_core.specs.Columns.{counts}
 use Rattle.moment_core.specs.Metering.{Departure, How, Offer, departures}
 use Rattle.envelope_core.specs.Curve.{KeepsCurve}
-use Rattle.meter_book.specs.declared.any_meter.AnyMeter.{AnyMeter}
-use Rattle.meter_book.specs.declared.any_meter.Parameters.{Parameters}
+use Rattle.meter_book_base.specs.declared.any_meter.AnyMeter.{AnyMeter}
+use Rattle.meter_book_base.specs.declared.any_meter.Parameters.{Parameters}
 use Rattle.meter_book.specs.declared.row.Arrival.{Arrival}
 use Rattle.meter_book.specs.declared.row.Row.{Row}
-use Rattle.meter_book.specs.AnyMeter.{how_any, opening_of}
-use Rattle.meter_book.specs.Envelopes.{IsFit, mode_of, output_in, parameters_of}
+use Rattle.meter_book_base.specs.AnyMeter.{how_any, opening_of}
+use Rattle.meter_book_base.specs.Envelopes.{IsFit, mode_of, output_in, parameters_of}
 use Rattle.meter_book.specs.Replay.{meter_after, offer_of, replay}
 
 -- a meter after packets, one after the other

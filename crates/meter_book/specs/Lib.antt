@@ -1,10 +1,6 @@
-pub mod AnyMeter
 pub mod Chapters
-pub mod Envelopes
 pub mod Kept
 pub mod KeptColours
 pub mod Laws
-pub mod Limits
-pub mod OutputLaws
 pub mod Replay
 pub mod Tallies

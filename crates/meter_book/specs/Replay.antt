@@ -4,14 +4,14 @@ use Rattle.std.specs.Prelude.{count_by, sum_by, slice_index, Option, None, Some,
 use Rattle.moment_core.specs.declared.colour.Colour.{Colour}
 use Rattle.moment_core.specs.Colours.{is_green, is_yellow, is_red}
 use Rattle.moment_core.specs.Metering.{Offer, used}
-use Rattle.meter_book.specs.declared.any_meter.AnyMeter.{AnyMeter}
+use Rattle.meter_book_base.specs.declared.any_meter.AnyMeter.{AnyMeter}
 use Rattle.meter_book.specs.declared.accounts.Accounts.{Accounts}
 use Rattle.meter_book.specs.declared.book.NoteFault.{NoteFault}
 use Rattle.meter_book.specs.declared.book.NoteFault.TheVariants.{JournalFull, Shut}
 use Rattle.meter_book.specs.declared.row.Arrival.{Arrival}
 use Rattle.meter_book.specs.declared.row.Row.{Row}
 use Rattle.meter_book.specs.declared.standing.Standing.{Standing}
-use Rattle.meter_book.specs.AnyMeter.{newest_of, left_of, after_any}
+use Rattle.meter_book_base.specs.AnyMeter.{newest_of, left_of, after_any}
 
 -- what of an arrival concerns the meter
 abbrev pub offer_of : Arrival → Offer

@@ -4,13 +4,13 @@ ghost use Rattle.meter_book.specs.Replay.{accounts_with, fresh, journal_rows, no
 ghost use Rattle.meter_book.specs.Replay.{shut_by, standing_of};
 
 use crate::accounts::Accounts;
-use crate::any_meter::AnyMeter;
 use crate::chapter::Chapter;
 use crate::journal::Journal;
 use crate::row::{Arrival, Row};
 use crate::standing::Standing;
 use crate::stored_row::{StoredRow, row_among};
 use crate::tally::Tallies;
+use meter_book_base::AnyMeter;
 use moment_core::{Gap, Moment};
 use std::alloc::{AllocError, Global};
 use std::marker::Model;
@@ -89,7 +89,7 @@ const _: () = prove!(MeterBook::MOST_PLACES == 17_592_186_044_416);
 
 impl MeterBook {
     ghost use Rattle.meter_book.specs.declared.book.NoteFault.TheVariants.{NoMemory};
-    ghost use Rattle.meter_book.specs.AnyMeter.{newest_of};
+    ghost use Rattle.meter_book_base.specs.AnyMeter.{newest_of};
     ghost use Rattle.meter_book.specs.Chapters.{IsStanding, after_cut, chapter_of};
 
     /// The greatest capacity of a book, in open rows.
@@ -137,7 +137,7 @@ impl MeterBook {
         }
         let place = self.next_place();
         self.rows.reserve(1)?;
-        let row = self.meter.row(place, arrival);
+        let row = arrival.row(&mut self.meter, place);
         self.tallies.add(row.left, row.size);
         let stored = StoredRow::of(&row);
         self.rows.push(stored).unwrap();

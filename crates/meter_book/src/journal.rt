@@ -1,9 +1,9 @@
 ghost use Rattle.std.specs.Prelude.{◌≡◌, ◌↔◌, IsTrue, [], length, map, slice_get};
 
 use crate::accounts::Accounts;
-use crate::any_meter::AnyMeter;
 use crate::row::Row;
 use crate::stored_row::{StoredRow, row_among};
+use meter_book_base::AnyMeter;
 use moment_core::Gap;
 use std::marker::Model;
 

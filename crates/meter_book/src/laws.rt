@@ -6,7 +6,7 @@ ghost use Rattle.moment_core.specs.Colours.{IsNoBetter, output};
 ghost use Rattle.moment_core.specs.Columns.{counts};
 ghost use Rattle.moment_core.specs.Metering.{Offer, departures};
 ghost use Rattle.envelope_core.specs.Curve.{KeepsCurve};
-ghost use Rattle.meter_book.specs.Envelopes.{output_in};
+ghost use Rattle.meter_book_base.specs.Envelopes.{output_in};
 ghost use Rattle.meter_book.specs.KeptColours.{GreenStaysGreen, YellowStaysYellow};
 ghost use Rattle.meter_book.specs.Laws.{
   AwareRowsNeverImprove,
@@ -19,7 +19,7 @@ ghost use Rattle.meter_book.specs.Laws.{
   after_all,
 };
 
-use crate::meter::Meter;
+use meter_book_base::Meter;
 
 /// Whatever arrives at an aware meter of whatever kind, no packet leaves with a better colour than it came with
 /// (RFC 2697 section 3).

@@ -3,10 +3,6 @@
 //!
 //! What holds of a meter of any kind, its definition in `specs/`, and the function that keeps it:
 //!
-//! - what a meter has for green packets, and for green and yellow or yellow ones (RFC 2697, RFC 2698, RFC 4115) →
-//!   `Limits.green_limit`, `Limits.all_limit`, `Limits.held_column` → the same of `Parameters`
-//! - the envelopes of what leaves it green, green or yellow, and yellow (RFC 2697 and RFC 2698 section 3, RFC 4115) →
-//!   `Envelopes.output_in` → `green_envelope`, `all_envelope`, `excess_envelope` of `Parameters` and `Meter`
 //! - what leaves it keeps them, whatever arrives → `Laws.RowsKeepEnvelopes`, and `output_keeps` of `Meter` →
 //!   `laws::rows_keep_envelopes`, `laws::meters_keep_envelopes`
 //! - an aware meter keeps the colours of what keeps its limits → `KeptColours` → `laws::green_stays_green`,
@@ -14,14 +10,11 @@
 #![tactic(auto)]
 
 pub mod accounts;
-pub mod any_meter;
 pub mod book;
 pub mod chapter;
 pub mod joining;
 pub mod journal;
 pub mod laws;
-pub mod limits;
-pub mod meter;
 pub mod metering;
 pub mod row;
 pub mod standing;
@@ -29,12 +22,11 @@ mod stored_row;
 mod tally;
 
 pub use accounts::Accounts;
-pub use any_meter::{AnyMeter, MeterFault, Parameters};
 pub use book::{MeterBook, NoteFault};
 pub use chapter::Chapter;
 pub use joining::JoinFault;
 pub use journal::Journal;
-pub use meter::Meter;
+pub use meter_book_base::{AnyMeter, Meter, MeterFault, Parameters};
 pub use metering::meter_all;
 pub use row::{Arrival, Row};
 pub use standing::Standing;

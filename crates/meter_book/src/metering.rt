@@ -2,8 +2,8 @@ ghost use Rattle.std.specs.Prelude.{◌≡◌, IfOk, OnOk, OnErr, map};
 ghost use Rattle.meter_book.specs.Laws.{after_all, colours_left};
 ghost use Rattle.meter_book.specs.Replay.{offer_of};
 
-use crate::meter::Meter;
 use crate::row::Arrival;
+use meter_book_base::Meter;
 use moment_core::Colour;
 use std::alloc::{AllocError, Global};
 

@@ -1,3 +1,6 @@
+ghost use Rattle.std.specs.Prelude.{◌≡◌};
+
+use meter_book_base::AnyMeter;
 use moment_core::{Colour, Gap, Moment, PacketSize};
 
 /// A packet as it arrives at a meter.
@@ -40,4 +43,30 @@ pub struct Row {
     pub left: Colour,
     /// Its place among the rows of its meter, from 0.
     pub place: u64,
+}
+
+impl Arrival {
+    ghost use Rattle.meter_book_base.specs.AnyMeter.{after_any};
+    ghost use Rattle.meter_book.specs.Replay.{offer_of, row_of};
+
+    /// Its row at a place of a meter, which meters it.
+    pub(crate) fn row(self, meter: &mut AnyMeter, place: u64) -> Row
+        ensures row { result ≡ row_of meter.old place self }
+        ensures after { meter.new ≡ after_any meter.old (offer_of self) }
+    {
+        let used = meter.newest().used_for(self.moment);
+        let left = meter.admit(self.moment, self.size, self.came);
+        Row {
+            flow: self.flow,
+            packet: self.packet,
+            hop: self.hop,
+            arrival: self.moment,
+            used,
+            late: used.since(self.moment),
+            size: self.size,
+            came: self.came,
+            left,
+            place,
+        }
+    }
 }

@@ -1,5 +1,5 @@
 use crate::accounts::Accounts;
-use crate::any_meter::AnyMeter;
+use meter_book_base::AnyMeter;
 use moment_core::{Gap, Moment};
 
 /// Where a book stands, before its first open row or behind its last one.

@@ -12,9 +12,9 @@ use Rattle.std.proofs.lemmas.List.Sums.{sum_by-cons}
 use Rattle.std.proofs.lemmas.Option.{get_or_from_slice_get, slice_get_within}
 use Rattle.moment_core.specs.declared.colour.Colour.{Colour}
 use Rattle.meter_book.proofs.ReplayLaws.{length-rows_from}
-use Rattle.meter_book.specs.AnyMeter.{after_any}
+use Rattle.meter_book_base.specs.AnyMeter.{after_any}
 use Rattle.meter_book.specs.Replay.{Journal, journal_rows, offer_of, rows_from}
-use Rattle.meter_book.specs.declared.any_meter.AnyMeter.{AnyMeter}
+use Rattle.meter_book_base.specs.declared.any_meter.AnyMeter.{AnyMeter}
 use Rattle.meter_book.specs.declared.row.Arrival.{Arrival}
 use Rattle.meter_book.specs.declared.row.Row.{Row}
 use Rattle.ds_domain_base.specs.Domains.{Domain}

@@ -17,13 +17,13 @@ use Rattle.moment_core.specs.declared.column.Column.{Column}
 use Rattle.moment_core.specs.declared.column.Column.TheVariants as columns
 use Rattle.envelope_core.specs.Curve.{Curve, KeepsCurve}
 use Rattle.envelope_core.proofs.Windows.{Keeps-looser}
-use Rattle.meter_book.specs.AnyMeter.{opening_of}
-use Rattle.meter_book.specs.Envelopes.{mode_of}
+use Rattle.meter_book_base.specs.AnyMeter.{opening_of}
+use Rattle.meter_book_base.specs.Envelopes.{mode_of}
 use Rattle.meter_book.specs.KeptColours.{PeakIsKept, Stays, row_input}
-use Rattle.meter_book.specs.Limits.{all_limit, green_limit, held_column}
+use Rattle.meter_book_base.specs.Limits.{all_limit, green_limit, held_column}
 use Rattle.meter_book.specs.Replay.{Journal, journal_rows, replay}
-use Rattle.meter_book.specs.declared.any_meter.Parameters.{Parameters}
-use Rattle.meter_book.specs.declared.any_meter.Parameters.TheVariants.{SrTcm, TrTcm, Rfc4115}
+use Rattle.meter_book_base.specs.declared.any_meter.Parameters.{Parameters}
+use Rattle.meter_book_base.specs.declared.any_meter.Parameters.TheVariants.{SrTcm, TrTcm, Rfc4115}
 use Rattle.meter_book.specs.declared.row.Row.{Row}
 use Rattle.meter_book.proofs.KeepingLaws.{green_stays_green-any, yellow_stays_yellow-any}
 use Rattle.meter_book.proofs.RowLaws.{replay_never_improves}

@@ -12,7 +12,7 @@ use Rattle.moment_core.specs.Conformance.{Keeps}
 use Rattle.moment_core.specs.Metering.{opening, used}
 use Rattle.envelope_core.proofs.Windows.{Keeps-nil, size_within_cases}
 use Rattle.meter_book.specs.Replay.{Journal, journal_rows, row_of}
-use Rattle.meter_book.specs.declared.any_meter.Parameters.{Parameters}
+use Rattle.meter_book_base.specs.declared.any_meter.Parameters.{Parameters}
 use Rattle.ds_domain_base.specs.Fitting.{lacks_link, names_unknown, repeats}
 use Rattle.ds_domain_base.specs.Sent.{came}
 use Rattle.ds_domain_base.specs.declared.contract.Contract.{Contract}

@@ -8,9 +8,9 @@ use Rattle.std.proofs.lemmas.List.Sorted.{All-permutation, IsPermutation-sym}
 use Rattle.std.proofs.lemmas.Option.{same_Some, slice_get_within}
 use Rattle.moment_core.specs.declared.colour.Colour.{Colour}
 use Rattle.moment_core.proofs.MeteringLaws.{moment_le-used}
-use Rattle.meter_book.specs.AnyMeter.{after_any, newest_of}
+use Rattle.meter_book_base.specs.AnyMeter.{after_any, newest_of}
 use Rattle.meter_book.specs.Replay.{Journal, journal_rows, offer_of, rows_from}
-use Rattle.meter_book.specs.declared.any_meter.AnyMeter.{AnyMeter}
+use Rattle.meter_book_base.specs.declared.any_meter.AnyMeter.{AnyMeter}
 use Rattle.meter_book.specs.declared.row.Arrival.{Arrival}
 use Rattle.meter_book.specs.declared.row.Row.{Row}
 use Rattle.ds_domain_base.specs.declared.contract.Contract.{Contract}

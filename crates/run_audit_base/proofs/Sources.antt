@@ -18,11 +18,11 @@ use Rattle.moment_core.specs.declared.column.Column.{Column}
 use Rattle.moment_core.specs.declared.column.Column.TheVariants as columns
 use Rattle.envelope_core.specs.Curve.{Curve, KeepsCurve, widened}
 use Rattle.envelope_core.proofs.Windows.{Keeps-lighter, bytes_delayed, size_within_cases, size_within_inside, sum_by-mono, sum_by-none, sum_by-map, sum_by-flat_map, sum_by-filter}
-use Rattle.meter_book.specs.AnyMeter.{opening_of}
-use Rattle.meter_book.specs.Envelopes.{output_in}
+use Rattle.meter_book_base.specs.AnyMeter.{opening_of}
+use Rattle.meter_book_base.specs.Envelopes.{output_in}
 use Rattle.meter_book.specs.Laws.{row_output}
 use Rattle.meter_book.specs.Replay.{Journal, journal_rows, replay}
-use Rattle.meter_book.specs.declared.any_meter.Parameters.{Parameters}
+use Rattle.meter_book_base.specs.declared.any_meter.Parameters.{Parameters}
 use Rattle.meter_book.specs.declared.row.Row.{Row}
 use Rattle.meter_book.proofs.RowLaws.{opened_rows_keep}
 use Rattle.ds_domain_base.specs.Domains.{Domain, port_of, skew_of}

@@ -3,11 +3,11 @@
 use Rattle.std.specs.Prelude.{ℕ, List, [], ◌∷◌, None}
 use Rattle.moment_core.specs.declared.colour.Colour.TheVariants.{Green}
 use Rattle.moment_core.specs.declared.colour.Mode.TheVariants.{Aware}
-use Rattle.meter_book.specs.AnyMeter.{opening_of}
+use Rattle.meter_book_base.specs.AnyMeter.{opening_of}
 use Rattle.meter_book.specs.Replay.{Journal, row_of}
-use Rattle.meter_book.specs.declared.any_meter.AnyMeter.{AnyMeter}
-use Rattle.meter_book.specs.declared.any_meter.Parameters.{Parameters}
-use Rattle.meter_book.specs.declared.any_meter.Parameters.TheVariants.{TrTcm}
+use Rattle.meter_book_base.specs.declared.any_meter.AnyMeter.{AnyMeter}
+use Rattle.meter_book_base.specs.declared.any_meter.Parameters.{Parameters}
+use Rattle.meter_book_base.specs.declared.any_meter.Parameters.TheVariants.{TrTcm}
 use Rattle.meter_book.specs.declared.row.Arrival.{Arrival}
 use Rattle.ds_domain_base.specs.Domains.{Domain}
 use Rattle.ds_domain_base.specs.declared.contract.Contract.{Contract}

@@ -2,11 +2,11 @@
 -- (RFC 2697). The packet comes to the edge and then to the meter, green at moment 0.
 use Rattle.std.specs.Prelude.{[], ◌∷◌}
 use Rattle.moment_core.specs.declared.colour.Mode.TheVariants.{Aware, Blind}
-use Rattle.meter_book.specs.AnyMeter.{opening_of}
+use Rattle.meter_book_base.specs.AnyMeter.{opening_of}
 use Rattle.meter_book.specs.Replay.{Journal, row_of}
-use Rattle.meter_book.specs.declared.any_meter.AnyMeter.{AnyMeter}
-use Rattle.meter_book.specs.declared.any_meter.Parameters.{Parameters}
-use Rattle.meter_book.specs.declared.any_meter.Parameters.TheVariants.{SrTcm}
+use Rattle.meter_book_base.specs.declared.any_meter.AnyMeter.{AnyMeter}
+use Rattle.meter_book_base.specs.declared.any_meter.Parameters.{Parameters}
+use Rattle.meter_book_base.specs.declared.any_meter.Parameters.TheVariants.{SrTcm}
 use Rattle.ds_domain_base.specs.declared.terms.Terms.{Terms}
 use Rattle.ds_domain_base.specs.declared.terms.Terms.TheVariants.{Policed}
 use Rattle.ds_certificate.specs.Columns.{Bound}

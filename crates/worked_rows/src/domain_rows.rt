@@ -5,7 +5,7 @@ use ds_domain::{
     Version, fits, parse,
 };
 use flow_classifier::Prefix;
-use meter_book::Parameters;
+use meter_book_base::Parameters;
 use moment_core::{Colour, Mode, Moment, Rate};
 use std::alloc::Global;
 use std::process::Abort;

@@ -1,6 +1,6 @@
 use dsedge_base::{Plan, UsageFault, plan};
 use dsedge_lines::GivenName;
-use meter_book::{AnyMeter, Parameters};
+use meter_book_base::{AnyMeter, Parameters};
 use moment_core::{Mode, Moment, Rate};
 use rfc4115_core::Rfc4115Parameters;
 use srtcm_core::SrTcmParameters;

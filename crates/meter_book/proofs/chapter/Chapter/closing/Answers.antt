@@ -1,6 +1,6 @@
 use Rattle.std.proofs.Common.{◌<◌, subst}
 use Rattle.std.specs.Prelude.{IfSome}
-use Rattle.meter_book.specs.AnyMeter.{newest_of}
+use Rattle.meter_book_base.specs.AnyMeter.{newest_of}
 use Rattle.meter_book.specs.Kept.{arrivals_of}
 use Rattle.meter_book.proofs.StandingLaws.{rows_before}
 use Rattle.meter_book.proofs.chapter.Chapter.closing.Goals as goal

@@ -1,6 +1,6 @@
 use Rattle.std.proofs.Common.{◌≡◌, ◌-◌, ◌<◌, Some, flat_map, length, map, ap, arith, refl, subst, sym, ◌∙◌}
 use Rattle.std.specs.Prelude.{get_or, IfSome}
-use Rattle.meter_book.specs.AnyMeter.{newest_of}
+use Rattle.meter_book_base.specs.AnyMeter.{newest_of}
 use Rattle.meter_book.specs.Chapters.{AreChapters, Chapter, IsStanding, chapter_rows, closing_of}
 use Rattle.meter_book.specs.Kept.{arrivals_of, stored_of}
 use Rattle.meter_book.proofs.StandingLaws.{IsJoint, joint, rows_before, some_chapter}

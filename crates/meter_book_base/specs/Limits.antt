@@ -2,8 +2,8 @@
 use Rattle.moment_core.specs.declared.column.Column.{Column}
 use Rattle.moment_core.specs.declared.column.Column.TheVariants.{All, Excess}
 use Rattle.envelope_core.specs.Curve.{Curve}
-use Rattle.meter_book.specs.declared.any_meter.Parameters.{Parameters}
-use Rattle.meter_book.specs.declared.any_meter.Parameters.TheVariants.{SrTcm, TrTcm, Rfc4115}
+use Rattle.meter_book_base.specs.declared.any_meter.Parameters.{Parameters}
+use Rattle.meter_book_base.specs.declared.any_meter.Parameters.TheVariants.{SrTcm, TrTcm, Rfc4115}
 
 -- what a meter has for green packets: in each kind the committed rate and bucket (RFC 2697, RFC 2698, RFC 4115)
 abbrev pub green_limit : Parameters → Curve

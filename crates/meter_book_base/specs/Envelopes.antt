@@ -7,10 +7,10 @@ use Rattle.envelope_core.specs.Curve.{Curve}
 use Rattle.srtcm_core.specs.Sizes as single_rates
 use Rattle.trtcm_core.specs.Sizes as two_rates
 use Rattle.rfc4115_core.specs.Sizes as excess_rates
-use Rattle.meter_book.specs.declared.any_meter.AnyMeter.{AnyMeter}
-use Rattle.meter_book.specs.declared.any_meter.AnyMeter.TheVariants as meters
-use Rattle.meter_book.specs.declared.any_meter.Parameters.{Parameters}
-use Rattle.meter_book.specs.declared.any_meter.Parameters.TheVariants.{SrTcm, TrTcm, Rfc4115}
+use Rattle.meter_book_base.specs.declared.any_meter.AnyMeter.{AnyMeter}
+use Rattle.meter_book_base.specs.declared.any_meter.AnyMeter.TheVariants as meters
+use Rattle.meter_book_base.specs.declared.any_meter.Parameters.{Parameters}
+use Rattle.meter_book_base.specs.declared.any_meter.Parameters.TheVariants.{SrTcm, TrTcm, Rfc4115}
 
 -- Tokens come whole, and a window can begin just before one: so each rate that fills a bucket adds a byte to its burst.
 

@@ -1,6 +1,6 @@
 ghost use Rattle.std.specs.Prelude.{◌≡◌, ◌*◌, ◌≤◌, ◌<◌, ◌^◌};
-ghost use Rattle.meter_book.specs.Envelopes.{all_output, excess_output, green_output};
-ghost use Rattle.meter_book.specs.Limits.{all_limit, green_limit, held_column};
+ghost use Rattle.meter_book_base.specs.Envelopes.{all_output, excess_output, green_output};
+ghost use Rattle.meter_book_base.specs.Limits.{all_limit, green_limit, held_column};
 
 use crate::any_meter::Parameters;
 use envelope_core::Envelope;

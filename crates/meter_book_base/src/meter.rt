@@ -4,8 +4,8 @@ ghost use Rattle.moment_core.specs.Colours.{IsNoBetter, output};
 ghost use Rattle.moment_core.specs.Columns.{counts};
 ghost use Rattle.moment_core.specs.Metering.{How, Offer, departures, used};
 ghost use Rattle.envelope_core.specs.Curve.{KeepsCurve};
-ghost use Rattle.meter_book.specs.Envelopes.{all_output, excess_output, green_output, output_in};
-ghost use Rattle.meter_book.specs.declared.any_meter.Parameters.{Parameters};
+ghost use Rattle.meter_book_base.specs.Envelopes.{all_output, excess_output, green_output, output_in};
+ghost use Rattle.meter_book_base.specs.declared.any_meter.Parameters.{Parameters};
 
 use crate::any_meter::{AnyMeter, Parameters};
 use envelope_core::Envelope;
@@ -91,8 +91,8 @@ impl Meter for SrTcm {
     ghost use Rattle.srtcm_core.specs.SingleRate.{single_rate};
     ghost use Rattle.srtcm_core.specs.Sizes.{IsWithinSizes};
     ghost use Rattle.srtcm_core.proofs.OutputLaws as laws;
-    ghost use Rattle.meter_book.specs.declared.any_meter.Parameters.TheVariants as kinds;
-    ghost use Rattle.meter_book.specs.OutputLaws.{goes_on_by, single_rate_keeps, stays_itself_by};
+    ghost use Rattle.meter_book_base.specs.declared.any_meter.Parameters.TheVariants as kinds;
+    ghost use Rattle.meter_book_base.specs.OutputLaws.{goes_on_by, single_rate_keeps, stays_itself_by};
 
     ghost how = { metering.how single_rate };
 
@@ -134,8 +134,8 @@ impl Meter for TrTcm {
     ghost use Rattle.trtcm_core.specs.TwoRate.{two_rate};
     ghost use Rattle.trtcm_core.specs.Sizes.{IsWithinSizes};
     ghost use Rattle.trtcm_core.proofs.OutputLaws as laws;
-    ghost use Rattle.meter_book.specs.declared.any_meter.Parameters.TheVariants as kinds;
-    ghost use Rattle.meter_book.specs.OutputLaws.{goes_on_by, stays_itself_by, two_rate_keeps};
+    ghost use Rattle.meter_book_base.specs.declared.any_meter.Parameters.TheVariants as kinds;
+    ghost use Rattle.meter_book_base.specs.OutputLaws.{goes_on_by, stays_itself_by, two_rate_keeps};
 
     ghost how = { metering.how two_rate };
 
@@ -177,8 +177,8 @@ impl Meter for Rfc4115 {
     ghost use Rattle.rfc4115_core.specs.SeparateRates.{separate_rates};
     ghost use Rattle.rfc4115_core.specs.Sizes.{IsWithinSizes};
     ghost use Rattle.rfc4115_core.proofs.OutputLaws as laws;
-    ghost use Rattle.meter_book.specs.declared.any_meter.Parameters.TheVariants as kinds;
-    ghost use Rattle.meter_book.specs.OutputLaws.{goes_on_by, separate_rates_keep, stays_itself_by};
+    ghost use Rattle.meter_book_base.specs.declared.any_meter.Parameters.TheVariants as kinds;
+    ghost use Rattle.meter_book_base.specs.OutputLaws.{goes_on_by, separate_rates_keep, stays_itself_by};
 
     ghost how = { metering.how separate_rates };
 
@@ -216,11 +216,11 @@ impl Meter for Rfc4115 {
 }
 
 impl Meter for AnyMeter {
-    ghost use Rattle.meter_book.specs.AnyMeter.{how_any};
-    ghost use Rattle.meter_book.specs.Envelopes.{IsFit};
-    ghost use Rattle.meter_book.specs.Envelopes as envelopes;
-    ghost use Rattle.meter_book.specs.OutputLaws.{IsFit-after, goes_on-any, never_improves-any, output_keeps-any};
-    ghost use Rattle.meter_book.specs.OutputLaws.{stays_itself-any};
+    ghost use Rattle.meter_book_base.specs.AnyMeter.{how_any};
+    ghost use Rattle.meter_book_base.specs.Envelopes.{IsFit};
+    ghost use Rattle.meter_book_base.specs.Envelopes as envelopes;
+    ghost use Rattle.meter_book_base.specs.OutputLaws.{IsFit-after, goes_on-any, never_improves-any, output_keeps-any};
+    ghost use Rattle.meter_book_base.specs.OutputLaws.{stays_itself-any};
 
     ghost how = { how_any };
 

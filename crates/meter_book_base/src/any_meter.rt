@@ -1,7 +1,6 @@
 ghost use Rattle.std.specs.Prelude.{◌≡◌, MatchResult, Option, None, Some};
 ghost use Rattle.moment_core.specs.Metering.{How};
 
-use crate::row::{Arrival, Row};
 use moment_core::{Colour, Mode, Moment, PacketSize};
 use rfc4115_core::{Rfc4115, Rfc4115Fault, Rfc4115Parameters};
 use srtcm_core::{SrTcm, SrTcmFault, SrTcmParameters};
@@ -55,7 +54,7 @@ pub enum AnyMeter {
 }
 
 impl From<SrTcmFault> for MeterFault {
-    ghost use Rattle.meter_book.specs.AnyMeter.{fault_of_single_rate};
+    ghost use Rattle.meter_book_base.specs.AnyMeter.{fault_of_single_rate};
 
     ghost from_gives = { λ fault own. fault_of_single_rate (Some fault) ≡ Some own };
 
@@ -67,7 +66,7 @@ impl From<SrTcmFault> for MeterFault {
 }
 
 impl From<TrTcmFault> for MeterFault {
-    ghost use Rattle.meter_book.specs.AnyMeter.{fault_of_two_rate};
+    ghost use Rattle.meter_book_base.specs.AnyMeter.{fault_of_two_rate};
 
     ghost from_gives = { λ fault own. fault_of_two_rate (Some fault) ≡ Some own };
 
@@ -80,7 +79,7 @@ impl From<TrTcmFault> for MeterFault {
 }
 
 impl From<Rfc4115Fault> for MeterFault {
-    ghost use Rattle.meter_book.specs.AnyMeter.{fault_of_separate_rates};
+    ghost use Rattle.meter_book_base.specs.AnyMeter.{fault_of_separate_rates};
 
     ghost from_gives = { λ fault own. fault_of_separate_rates (Some fault) ≡ Some own };
 
@@ -92,7 +91,7 @@ impl From<Rfc4115Fault> for MeterFault {
 }
 
 impl Parameters {
-    ghost use Rattle.meter_book.specs.AnyMeter.{fault_of};
+    ghost use Rattle.meter_book_base.specs.AnyMeter.{fault_of};
 
     /// What is wrong with the parameters, if anything.
     pub fn fault(&self) -> Option<MeterFault>
@@ -107,8 +106,7 @@ impl Parameters {
 }
 
 impl AnyMeter {
-    ghost use Rattle.meter_book.specs.AnyMeter.{after_any, fault_of, left_of, newest_of, opening_of};
-    ghost use Rattle.meter_book.specs.Replay.{offer_of, row_of};
+    ghost use Rattle.meter_book_base.specs.AnyMeter.{after_any, fault_of, left_of, newest_of, opening_of};
 
     /// A meter with full buckets at its origin; refused where the parameters are not those of a meter.
     pub fn new(parameters: Parameters, mode: Mode, origin: Moment) -> Result<Self, MeterFault>
@@ -143,27 +141,6 @@ impl AnyMeter {
             AnyMeter::SrTcm(meter) => meter.admit(moment, size, colour),
             AnyMeter::TrTcm(meter) => meter.admit(moment, size, colour),
             AnyMeter::Rfc4115(meter) => meter.admit(moment, size, colour),
-        }
-    }
-
-    /// Meters an arrival, and answers its row, at a place.
-    pub(crate) fn row(&mut self, place: u64, arrival: Arrival) -> Row
-        ensures row { result ≡ row_of self.old place arrival }
-        ensures after { self.new ≡ after_any self.old (offer_of arrival) }
-    {
-        let used = self.newest().used_for(arrival.moment);
-        let left = self.admit(arrival.moment, arrival.size, arrival.came);
-        Row {
-            flow: arrival.flow,
-            packet: arrival.packet,
-            hop: arrival.hop,
-            arrival: arrival.moment,
-            used,
-            late: used.since(arrival.moment),
-            size: arrival.size,
-            came: arrival.came,
-            left,
-            place,
         }
     }
 }

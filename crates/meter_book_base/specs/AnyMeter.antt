@@ -15,12 +15,12 @@ use Rattle.rfc4115_core.specs.SeparateRates.{separate_rates}
 use Rattle.rfc4115_core.specs.SeparateRates as excess_rates
 use Rattle.rfc4115_core.specs.declared.parameters.Rfc4115Fault.{Rfc4115Fault}
 use Rattle.rfc4115_core.specs.declared.parameters.Rfc4115Fault.TheVariants as separate_rates_faults
-use Rattle.meter_book.specs.declared.any_meter.AnyMeter.{AnyMeter}
-use Rattle.meter_book.specs.declared.any_meter.AnyMeter.TheVariants as meters
-use Rattle.meter_book.specs.declared.any_meter.Parameters.{Parameters}
-use Rattle.meter_book.specs.declared.any_meter.Parameters.TheVariants as parameters
-use Rattle.meter_book.specs.declared.any_meter.MeterFault.{MeterFault}
-use Rattle.meter_book.specs.declared.any_meter.MeterFault.TheVariants.{SizeZero, PeakBelowCommitted}
+use Rattle.meter_book_base.specs.declared.any_meter.AnyMeter.{AnyMeter}
+use Rattle.meter_book_base.specs.declared.any_meter.AnyMeter.TheVariants as meters
+use Rattle.meter_book_base.specs.declared.any_meter.Parameters.{Parameters}
+use Rattle.meter_book_base.specs.declared.any_meter.Parameters.TheVariants as parameters
+use Rattle.meter_book_base.specs.declared.any_meter.MeterFault.{MeterFault}
+use Rattle.meter_book_base.specs.declared.any_meter.MeterFault.TheVariants.{SizeZero, PeakBelowCommitted}
 
 -- the fault of a kind, among the faults of all kinds
 abbrev pub fault_of_single_rate : Option SrTcmFault → Option MeterFault

@@ -23,12 +23,12 @@ use Rattle.rfc4115_core.specs.SeparateRates.{separate_rates}
 use Rattle.rfc4115_core.specs.Sizes as separate_rates_sizes
 use Rattle.rfc4115_core.specs.declared.parameters.Rfc4115Parameters.{Rfc4115Parameters}
 use Rattle.rfc4115_core.proofs.OutputLaws as excess_rates
-use Rattle.meter_book.specs.declared.any_meter.AnyMeter.{AnyMeter}
-use Rattle.meter_book.specs.declared.any_meter.AnyMeter.TheVariants as meters
-use Rattle.meter_book.specs.declared.any_meter.Parameters.{Parameters}
-use Rattle.meter_book.specs.declared.any_meter.Parameters.TheVariants as parameters
-use Rattle.meter_book.specs.AnyMeter.{after_any, how_any, left_of, newest_of, opening_of}
-use Rattle.meter_book.specs.Envelopes.{IsFit, mode_of, output_in, parameters_of}
+use Rattle.meter_book_base.specs.declared.any_meter.AnyMeter.{AnyMeter}
+use Rattle.meter_book_base.specs.declared.any_meter.AnyMeter.TheVariants as meters
+use Rattle.meter_book_base.specs.declared.any_meter.Parameters.{Parameters}
+use Rattle.meter_book_base.specs.declared.any_meter.Parameters.TheVariants as parameters
+use Rattle.meter_book_base.specs.AnyMeter.{after_any, how_any, left_of, newest_of, opening_of}
+use Rattle.meter_book_base.specs.Envelopes.{IsFit, mode_of, output_in, parameters_of}
 
 -- a meter of a kind has the departures of that kind
 pub departures_of_single_rate : (m : State SrTcmParameters Levels) (offers : List Offer)

@@ -1,0 +1,4 @@
+pub mod AnyMeter
+pub mod Envelopes
+pub mod Limits
+pub mod OutputLaws
