@@ -14,7 +14,7 @@ use Rattle.ds_conductor.specs.Markings.{IsMarkedAs, IsMarkedBut, IsPassed, IsPas
 use Rattle.ds_conductor.specs.Readings.{IsHeadingTold, IsReading, IsReadTo, heading_in, is_own}
 use Rattle.ds_conductor.specs.Reports.{nothing_read}
 use Rattle.ds_conductor.specs.Sendings.{sent_of}
-use Rattle.ds_conductor.specs.Writings.{IsFrontOf}
+use Rattle.pcap_capture.specs.Fronts.{IsFrontOf}
 use Rattle.ds_conductor.specs.declared.fault.MarkFault.{MarkFault}
 use Rattle.ds_conductor.specs.declared.fault.MarkFault.TheVariants as marks
 use Rattle.ds_conductor.specs.declared.report.Report.{Report}

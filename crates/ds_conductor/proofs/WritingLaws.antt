@@ -8,7 +8,7 @@ use Rattle.pcap_capture.specs.declared.heading.Link.{Link}
 use Rattle.ds_checker.specs.Acceptance.{Table}
 use Rattle.ds_visits.specs.declared.sent.Sent.{Sent}
 use Rattle.ds_conductor.specs.Texts.{marked_text, packet_at, plain_text, record_text, text_from}
-use Rattle.ds_conductor.specs.Writings.{IsFrontOf, IsWrittenTo}
+use Rattle.pcap_capture.specs.Fronts.{IsFrontOf, IsWrittenTo}
 use Rattle.ds_conductor.specs.declared.rule.RedRule.{RedRule}
 
 -- where what is left begins with a text of which a front is written then, the rest of that text and what stands behind it is left
@@ -111,11 +111,3 @@ packet_at-unsent number place sent colours packet = packet_at-zip number place s
 pub packet_at-uncoloured : (number place : ℕ) (sent : List Sent) (colours : List Colour) → slice_get colours place ≡ None → packet_at number (drop place (zip sent colours)) ≡ None
 packet_at-uncoloured number place sent colours left =
     packet_at-zip number place sent colours ∙ ap (matched number (slice_get sent place)) left ∙ sym (none_behind number (slice_get sent place))
-
--- what is given of a text is a front of it
-pub IsFrontOf-given : (before text after : List ℕ) (given : ℕ) → after ≡ before ++ take given text → IsFrontOf before text after
-IsFrontOf-given before text after given held = (drop given text, record { front = take given text; whole = sym (take-append-drop given text); written = held })
-
--- nothing is a front of every text
-pub IsFrontOf-none : (before text : List ℕ) → IsFrontOf before text before
-IsFrontOf-none before text = (text, record { front = []; whole = refl; written = sym (append-nil before) })

@@ -18,7 +18,8 @@ use Rattle.ds_visits.specs.declared.sent.Sent.{Sent}
 use Rattle.ds_conductor.specs.Reports.{nothing_read, report_of, unmarked_report}
 use Rattle.ds_conductor.specs.Sendings.{sent_of}
 use Rattle.ds_conductor.specs.Texts.{text_from}
-use Rattle.ds_conductor.specs.Writings.{IsFrontOf, is_write}
+use Rattle.pcap_capture.specs.Fronts.{IsFrontOf}
+use Rattle.ds_conductor.specs.Writings.{is_write}
 use Rattle.ds_conductor.specs.declared.fault.MarkFault.{MarkFault}
 use Rattle.ds_conductor.specs.declared.fault.MarkFault.TheVariants as marks
 use Rattle.ds_conductor.specs.declared.report.Report.{Report}

@@ -3,28 +3,16 @@ use Rattle.std.proofs.Common.{◌≡◌, ℕ, ◌+◌, ◌<◌, List, [], ◌∷
 use Rattle.std.proofs.lemmas.Grind.{flat_map-append}
 use Rattle.std.proofs.lemmas.List.{drop_more}
 use Rattle.pcap_capture.specs.Counts.{next_count}
+use Rattle.pcap_capture.specs.Fronts.{IsFrontOf}
+use Rattle.pcap_capture.proofs.FrontLaws.{IsFrontOf-first, IsFrontOf-given, IsFrontOf-second}
 use Rattle.dsedge_serve.specs.Served.{IsTold}
 use Rattle.std.specs.Prelude.{codes, decimal, slice_index}
 use Rattle.ds_conductor.specs.declared.report.Report.{Report}
 use Rattle.ds_domain_base.specs.Faults.{field_text, kind_code, section_text}
 use Rattle.ds_domain_base.specs.declared.fault.DomainFault.{DomainFault}
-use Rattle.dsedge_serve.specs.Faults.{IsFrontOf, fault_text, kind_text, text_or_dash}
+use Rattle.dsedge_serve.specs.Faults.{fault_text, kind_text, text_or_dash}
 use Rattle.dsedge_serve.specs.Marked.{colours_text, counts_text}
 use Rattle.dsedge_serve.specs.declared.fault.Fault.TheVariants.{Domain}
-
--- what is given of the first part is a front of the whole
-pub front_of_part : (before after part more : List ℕ) (given : ℕ) → after ≡ before ++ take given part → IsFrontOf before (part ++ more) after
-front_of_part before after part more given e = (
-  take given part,
-  drop given part ++ more,
-  ap (λ t. t ++ more) (sym (take-append-drop given part)) ∙ append_assoc (take given part) (drop given part) more,
-  e,
-)
-
--- a front behind a part that was given whole
-pub front_behind_part : (before mid after part more : List ℕ) → mid ≡ before ++ part → IsFrontOf mid more after → IsFrontOf before (part ++ more) after
-front_behind_part before mid after part more e f =
-    (part ++ f.0, f.1, ap (λ t. part ++ t) f.2 ∙ sym (append_assoc part f.0 f.1), f.3 ∙ (ap (λ t. t ++ f.0) e ∙ append_assoc before part f.0))
 
 -- what a call gave of a text: all of it, or a front
 pub given_or_front : {E : Type 0} (result : Result (Unit {0}) E) (before after text : List ℕ)
@@ -32,7 +20,7 @@ pub given_or_front : {E : Type 0} (result : Result (Unit {0}) E) (before after t
     → MatchResult result (λ _. after ≡ before ++ text) (λ _. IsFrontOf before text after)
 given_or_front (Ok x) before after text h = h
 given_or_front (Err e) before after text h =
-    (take h.0 text, drop h.0 text, sym (take-append-drop h.0 text), h.1)
+    IsFrontOf-given before text after h.0 h.1
 
 -- what a call told that gave a text, or a front of it where it failed
 pub told_since : {E : Type 0} (result : Result (Unit {0}) E) (before after text : List ℕ) (failed now : ℕ)
@@ -54,8 +42,8 @@ pub part_refused : {X : Type 0} (f : X → List ℕ) (parts : List X) (index : �
     → IsFrontOf before (flat_map f parts) after
 part_refused f parts index d text before mid after within is so given =
     rw (parts_around f parts index d within, ← is)
-    (front_behind_part before mid after (flat_map f (take index parts)) (text ++ flat_map f (drop (index + 1) parts)) so
-    (front_of_part mid after text (flat_map f (drop (index + 1) parts)) given.0 given.1))
+    (IsFrontOf-second before mid after (flat_map f (take index parts)) (text ++ flat_map f (drop (index + 1) parts)) so
+    (IsFrontOf-first mid after text (flat_map f (drop (index + 1) parts)) (IsFrontOf-given mid text after given.0 given.1)))
 
 -- what was given of a text was given of a line that is the same
 pub given_as : {E : Type 0} (result : Result (Unit {0}) E) (before after text line : List ℕ) → text ≡ line
@@ -75,20 +63,12 @@ pub domain_line : (fault : DomainFault) (code kind section index field : List �
 domain_line fault code kind section index field is_code is_kind is_section is_index is_field =
     rw (is_code, is_kind, is_section, is_index, is_field) (ap (λ t. codes "dsedge: domain " ++ t) (simp append_assoc))
 
--- a whole text that was not written to its end
-pub whole_front : (before after text : List ℕ) → (given : ℕ) × (after ≡ before ++ take given text) → IsFrontOf before text after
-whole_front before after text h = (take h.0 text, drop h.0 text, sym (take-append-drop h.0 text), h.1)
-
 -- two texts that were told one behind the other
 pub behind_told : {E : Type 0} (result : Result (Unit {0}) E) (before mid after first second : List ℕ) → mid ≡ before ++ first
     → MatchResult result (λ _. after ≡ mid ++ second) (λ _. IsFrontOf mid second after)
     → MatchResult result (λ _. after ≡ before ++ (first ++ second)) (λ _. IsFrontOf before (first ++ second) after)
 behind_told (Ok x) before mid after first second e h = h ∙ (ap (λ t. t ++ second) e ∙ append_assoc before first second)
-behind_told (Err fault) before mid after first second e h = front_behind_part before mid after first second e h
-
--- a front of the first of two texts
-pub front_told : (before after first second : List ℕ) → IsFrontOf before first after → IsFrontOf before (first ++ second) after
-front_told before after first second f = (f.0, f.1 ++ second, ap (λ t. t ++ second) f.2 ∙ append_assoc f.0 f.1 second, f.3)
+behind_told (Err fault) before mid after first second e h = IsFrontOf-second before mid after first second e h
 
 -- a line with a count, and what stands behind it
 count_on : (name number digits rest tail : List ℕ) → number ≡ digits → rest ≡ tail

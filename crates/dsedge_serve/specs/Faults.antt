@@ -91,7 +91,3 @@ status_of Full = 5
 abbrev pub notice_text : Notice → List ℕ
 notice_text (notices.Fault fault) = fault_text fault
 notice_text (notices.Refusal line) = line
-
--- what stood, with a front of a text behind it
-abbrev pub IsFrontOf : List ℕ → List ℕ → List ℕ → Type 0
-IsFrontOf before text after = (front : List ℕ) × (more : List ℕ) × (text ≡ front ++ more) × (after ≡ before ++ front)

@@ -28,7 +28,8 @@ use Rattle.dsedge_texts.specs.declared.accepting.TableFault.TheVariants as table
 use Rattle.dsedge_serve.specs.declared.conclusion.Conclusion.{Conclusion}
 use Rattle.dsedge_serve.specs.declared.conclusion.Conclusion.TheVariants.{Ended, Unaccepted, Uncertified, Unsound}
 use Rattle.dsedge_serve.specs.declared.fault.Fault.TheVariants as faults
-use Rattle.dsedge_serve.specs.Faults.{IsFrontOf, notice_text, status_of}
+use Rattle.pcap_capture.specs.Fronts.{IsFrontOf}
+use Rattle.dsedge_serve.specs.Faults.{notice_text, status_of}
 use Rattle.dsedge_serve.specs.Marked.{IsMarkedOver, IsUnmarked, marking_answer, marking_status, marking_told, refusal_outcome}
 use Rattle.dsedge_serve.specs.Marked.{rule_said}
 use Rattle.dsedge_serve.specs.Metered.{answer_of}

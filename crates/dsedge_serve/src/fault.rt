@@ -1,6 +1,7 @@
 ghost use Rattle.std.specs.Prelude.{◌≡◌, ◌++◌, List, ℕ, codes, MatchResult, is_ok, if◌then◌else◌};
 ghost use Rattle.pcap_capture.specs.Counts.{next_count};
-ghost use Rattle.dsedge_serve.specs.Faults.{IsFrontOf, capture_fault_text, certificate_fault_text, fault_text};
+ghost use Rattle.pcap_capture.specs.Fronts.{IsFrontOf};
+ghost use Rattle.dsedge_serve.specs.Faults.{capture_fault_text, certificate_fault_text, fault_text};
 ghost use Rattle.dsedge_serve.specs.Faults.{kind_text, status_of, text_or_dash};
 
 use crate::parts::give_parts;

@@ -1,7 +1,7 @@
 ghost use Rattle.std.specs.Prelude.{◌≡◌, ◌++◌, false, Some, Ok, MatchResult, is_ok, if◌then◌else◌};
 ghost use Rattle.ds_conductor.specs.Reports.{nothing_read};
 ghost use Rattle.ds_domain_base.specs.Domains.{is_port};
-ghost use Rattle.dsedge_serve.specs.Faults.{IsFrontOf};
+ghost use Rattle.pcap_capture.specs.Fronts.{IsFrontOf};
 ghost use Rattle.dsedge_serve.specs.Marked.{capture_fault, marking_fault, marking_fault_text, marking_status};
 ghost use Rattle.dsedge_serve.specs.Marked.{marking_told, refusal_outcome};
 ghost use Rattle.dsedge_serve.specs.Served.{IsMarkedAt, IsOfInput, IsOfWrites, IsPortlessBefore, IsRefusedBefore};

@@ -1,6 +1,7 @@
 ghost use Rattle.std.specs.Prelude.{◌≡◌, ◌++◌, MatchResult, is_ok, if◌then◌else◌};
 ghost use Rattle.pcap_capture.specs.Counts.{next_count};
-ghost use Rattle.dsedge_serve.specs.Faults.{IsFrontOf, notice_text};
+ghost use Rattle.pcap_capture.specs.Fronts.{IsFrontOf};
+ghost use Rattle.dsedge_serve.specs.Faults.{notice_text};
 
 use crate::fault::Fault;
 use dsedge_texts::RefusalLine;

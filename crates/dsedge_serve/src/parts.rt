@@ -1,6 +1,6 @@
 ghost use Rattle.std.specs.Prelude.{◌≡◌, ◌++◌, flat_map, MatchResult, is_ok, if◌then◌else◌};
 ghost use Rattle.pcap_capture.specs.Counts.{next_count};
-ghost use Rattle.dsedge_serve.specs.Faults.{IsFrontOf};
+ghost use Rattle.pcap_capture.specs.Fronts.{IsFrontOf};
 
 use pcap_capture::{DeviceFault, Outlet, give_all};
 

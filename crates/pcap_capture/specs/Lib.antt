@@ -2,5 +2,6 @@
 pub mod Codes
 pub mod Counts
 pub mod Frames
+pub mod Fronts
 pub mod Grammar
 pub mod Packets

@@ -3,7 +3,8 @@ use Rattle.std.proofs.lemmas.List.{nil_from_length}
 use Rattle.std.proofs.lemmas.Result.{err_from_is_err_and}
 use Rattle.std.specs.Vec.Iter.{into_iter_items}
 use Rattle.ds_conductor.specs.Texts.{packet_at, record_text, text_from}
-use Rattle.ds_conductor.proofs.WritingLaws.{IsFrontOf-none, IsFrontOf-on, IsWrittenTo-on, taken, taken-from, taken-le, text_from-none, text_left, written_last}
+use Rattle.pcap_capture.proofs.FrontLaws.{IsFrontOf-none}
+use Rattle.ds_conductor.proofs.WritingLaws.{IsFrontOf-on, IsWrittenTo-on, taken, taken-from, taken-le, text_from-none, text_left, written_last}
 use Rattle.ds_conductor.proofs.writing.write_capture.Goals as goal
 
 pub returns-in_default-clause-bytes : goal.returns-in_default-clause-bytes

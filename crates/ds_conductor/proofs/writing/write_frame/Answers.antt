@@ -1,6 +1,6 @@
 use Rattle.std.proofs.Common.{◌++◌}
 use Rattle.ds_conductor.specs.Texts.{record_text}
-use Rattle.ds_conductor.proofs.WritingLaws.{IsFrontOf-none}
+use Rattle.pcap_capture.proofs.FrontLaws.{IsFrontOf-none}
 use Rattle.ds_conductor.proofs.writing.write_frame.Goals as goal
 
 pub returns-in_default-clause-bytes : goal.returns-in_default-clause-bytes

@@ -1,4 +1,4 @@
-use Rattle.ds_conductor.proofs.WritingLaws.{IsFrontOf-given}
+use Rattle.pcap_capture.proofs.FrontLaws.{IsFrontOf-given}
 use Rattle.ds_conductor.proofs.writing.write_out.Goals as goal
 
 pub returns-in-Err-clause-bytes : goal.returns-in-Err-clause-bytes
