@@ -172,7 +172,7 @@ follows_at (e ∷ f ∷ more) zero c d within = (λ on. on, λ follows. follows)
 follows_at (e ∷ f ∷ more) (suc index) c d within = follows_at (f ∷ more) index c d (omega (arith, within))
 
 -- behind the last chapter nothing has to follow
-follows_past : (chapters : List Chapter) (index : ℕ) → length chapters ≤ suc index → Follows chapters (suc index)
+pub follows_past : (chapters : List Chapter) (index : ℕ) → length chapters ≤ suc index → Follows chapters (suc index)
 follows_past [] index past = tt
 follows_past (c ∷ []) zero past = tt
 follows_past (c ∷ []) (suc index) past = tt
