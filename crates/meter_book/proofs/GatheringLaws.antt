@@ -3,10 +3,13 @@ use Rattle.std.proofs.Common.{◌≡◌, ℕ, zero, suc, ◌+◌, ◌-◌, ◌<�
 use Rattle.std.specs.Prelude.{get_or, slice_get}
 use Rattle.std.proofs.lemmas.Bool.{cases_lt}
 use denote.Bor.{Bor}
-use Rattle.meter_book.specs.Chapters.{AreChapters, Chapter, Follows, GoesOn, IsStanding, chapter_rows}
+use Rattle.meter_book.specs.Chapters.{AreChapters, Chapter, Follows, GoesOn, IsStanding, chapter_rows, closing_of, joined}
 use Rattle.meter_book.specs.Kept.{stored_of}
 use Rattle.meter_book.specs.declared.stored_row.StoredRow.{StoredRow}
-use Rattle.meter_book.proofs.StandingLaws.{IsJoint, follows_past, joint}
+use Rattle.meter_book.specs.Replay.{Journal}
+use Rattle.meter_book.specs.declared.row.Arrival.{Arrival}
+use Rattle.meter_book.specs.declared.standing.Standing.{Standing}
+use Rattle.meter_book.proofs.StandingLaws.{IsJoint, arrivals_in, follows_past, joint, last_of, linked_closing}
 
 -- each of these stands where it belongs, if there is any
 abbrev pub AreJoint : List Chapter → Type 0
@@ -96,3 +99,26 @@ pub first_of_some : (chapters : List (Bor Chapter)) (last : Chapter) (first : Bo
     → first_in (map (λ (c : Bor Chapter). c.now) chapters) last ≡ first.now
 first_of_some [] last first is = absurd cc
 first_of_some (c ∷ more) last first is = let same : first ≡ c = cc in ap (λ (x : Bor Chapter). x.now) (sym same)
+
+abbrev arrivals_found : Option Journal → List Arrival
+arrivals_found None = []
+arrivals_found (Some j) = j.arrivals
+
+-- as many rows as the book gave places
+place_of : (c : Chapter) (more : List Chapter) (d : Chapter) → AreChapters (c ∷ more) → (closing_of (last_of c more d)).place ≡ length (arrivals_in (c ∷ more))
+place_of c more d all =
+    let first : c.opening.place ≡ 0 = all 0 in
+    let closing = ap (λ (s : Standing). s.place) (linked_closing c more d (λ i. all (suc i))) in
+    omega (arith, closing, first)
+
+pub length-joined : (chapters : List Chapter) (last : Chapter) (j : Journal) → AreChapters (chapters ++ last ∷ []) → joined (chapters ++ last ∷ []) ≡ Some j
+    → length j.arrivals ≡ last.opening.place + length last.arrivals
+length-joined [] last j all is =
+    let arrivals : arrivals_in (last ∷ []) ≡ j.arrivals = ap (λ (found : Option Journal). arrivals_found found) is in
+    sym (ap length arrivals) ∙ sym (place_of last [] last all)
+length-joined (c ∷ more) last j all is =
+    let arrivals : arrivals_in ((c ∷ more) ++ last ∷ []) ≡ j.arrivals = ap (λ (found : Option Journal). arrivals_found found) is in
+    let count : length (more ++ last ∷ []) ≡ length (c ∷ more) = omega (arith, length-append more (last ∷ [])) in
+    let there : last_of c (more ++ last ∷ []) last ≡ last =
+    ap (λ i. get_or ((c ∷ more) ++ last ∷ []) i last) count ∙ sym (last_there (c ∷ more) last last) in
+    sym (ap length arrivals) ∙ sym (place_of c (more ++ last ∷ []) last all) ∙ ap (λ (d : Chapter). (closing_of d).place) there
