@@ -1,3 +1,4 @@
+pub mod GatheringLaws
 pub mod KeepingLaws
 pub mod MeterLaws
 pub mod ReplayLaws

@@ -126,14 +126,14 @@ standing_after-append s as_ bs shut end =
 -- ---- chapters that go on from one another
 
 -- each goes on where the one before it ended
-abbrev AreLinked : List Chapter → Type 0
+abbrev pub AreLinked : List Chapter → Type 0
 AreLinked chapters = (i : ℕ) → IfSome (slice_get chapters i) (λ before. IfSome (slice_get chapters (suc i)) (GoesOn before))
 
-abbrev arrivals_in : List Chapter → List Arrival
+abbrev pub arrivals_in : List Chapter → List Arrival
 arrivals_in chapters = flat_map (λ (c : Chapter). c.arrivals) chapters
 
 -- the last of chapters
-abbrev last_of : Chapter → List Chapter → Chapter → Chapter
+abbrev pub last_of : Chapter → List Chapter → Chapter → Chapter
 last_of c more d = get_or (c ∷ more) (length more) d
 
 linked_rows : (c : Chapter) (more : List Chapter) → AreLinked (c ∷ more)
@@ -145,7 +145,7 @@ linked_rows c (d ∷ more) linked =
     ∙ ap (λ (s : Standing). rows_from s.meter s.place (arrivals_in (d ∷ more))) (linked 0).1)
     ∙ sym (rows_from-append c.opening.meter c.opening.place c.arrivals (arrivals_in (d ∷ more)))
 
-linked_closing : (c : Chapter) (more : List Chapter) (default : Chapter) → AreLinked (c ∷ more)
+pub linked_closing : (c : Chapter) (more : List Chapter) (default : Chapter) → AreLinked (c ∷ more)
     → closing_of (last_of c more default) ≡ standing_after c.opening (arrivals_in (c ∷ more)) (last_of c more default).shut
 linked_closing c [] default linked = ap (λ as_. standing_after c.opening as_ c.shut) (sym (append-nil c.arrivals))
 linked_closing c (d ∷ more) default linked =
@@ -172,7 +172,7 @@ follows_at (e ∷ f ∷ more) zero c d within = (λ on. on, λ follows. follows)
 follows_at (e ∷ f ∷ more) (suc index) c d within = follows_at (f ∷ more) index c d (omega (arith, within))
 
 -- behind the last chapter nothing has to follow
-follows_past : (chapters : List Chapter) (index : ℕ) → length chapters ≤ suc index → Follows chapters (suc index)
+pub follows_past : (chapters : List Chapter) (index : ℕ) → length chapters ≤ suc index → Follows chapters (suc index)
 follows_past [] index past = tt
 follows_past (c ∷ []) zero past = tt
 follows_past (c ∷ []) (suc index) past = tt

@@ -1,4 +1,5 @@
 pub mod Chapters
+pub mod Gathering
 pub mod Kept
 pub mod KeptColours
 pub mod Laws

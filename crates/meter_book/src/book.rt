@@ -1,4 +1,4 @@
-ghost use Rattle.std.specs.Prelude.{◌≡◌, ◌≤◌, ◌<◌, ◌↔◌, ◌^◌, [], All, length, slice_get, unwrap_or};
+ghost use Rattle.std.specs.Prelude.{◌≡◌, ◌≤◌, ◌<◌, ◌↔◌, ◌^◌, [], All, length, map, slice_get, unwrap_or};
 ghost use Rattle.std.specs.Prelude.{IsTrue, IfErr, IfOk, IfSome, None, Ok, OnErr, Some};
 ghost use Rattle.meter_book.specs.Replay.{accounts_with, fresh, journal_rows, note_fault, note_of, room_of, rows_of};
 ghost use Rattle.meter_book.specs.Replay.{shut_by, standing_of};
@@ -90,7 +90,8 @@ const _: () = prove!(MeterBook::MOST_PLACES == 17_592_186_044_416);
 impl MeterBook {
     ghost use Rattle.meter_book.specs.declared.book.NoteFault.TheVariants.{NoMemory};
     ghost use Rattle.meter_book_base.specs.AnyMeter.{newest_of};
-    ghost use Rattle.meter_book.specs.Chapters.{IsStanding, after_cut, chapter_of};
+    ghost use Rattle.meter_book.specs.Chapters.{IsStanding, after_cut, chapter_of, closing_of};
+    ghost use Rattle.meter_book.specs.Kept.{stored_of};
 
     /// The greatest capacity of a book, in open rows.
     pub const MOST_ROWS: u32 = 1 << 20;
@@ -206,6 +207,21 @@ impl MeterBook {
             place: self.next_place(),
             shut: self.shut,
         }
+    }
+
+    /// Whether its open rows go on where a chapter ended.
+    pub fn goes_on(&self, before: &Chapter) -> bool
+        ensures { IsTrue result ↔ (self.now.opening ≡ closing_of before.now) }
+    {
+        let end = before.closing();
+        self.opening.is(&end)
+    }
+
+    /// What is stored of its open rows.
+    pub(crate) fn stored(&self) -> &[StoredRow]
+        ensures { result.now ≡ map stored_of (rows_of self.now) }
+    {
+        self.rows.as_slice()
     }
 
     /// Where it stood before its open rows.

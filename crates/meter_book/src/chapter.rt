@@ -101,7 +101,7 @@ impl Chapter {
     }
 
     /// Whether it goes on where another ended.
-    pub(crate) fn goes_on(&self, before: &Chapter) -> bool
+    pub fn goes_on(&self, before: &Chapter) -> bool
         ensures { IsTrue result ↔ GoesOn before.now self.now }
     {
         self.site == before.site && self.opening.is(&before.closing)

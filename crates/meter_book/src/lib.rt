@@ -12,6 +12,7 @@
 pub mod accounts;
 pub mod book;
 pub mod chapter;
+pub mod gathering;
 pub mod joining;
 pub mod journal;
 pub mod laws;
