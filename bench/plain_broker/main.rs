@@ -129,7 +129,7 @@ impl Book {
             let green = (bound.green + bytes_over(contract.committed.rate, skew)) * BYTE;
             let all = (bound.all + bytes_over(peak.rate, skew)) * BYTE;
             let drained = green.div_ceil(u128::from(contract.committed.rate)).max(all.div_ceil(u128::from(peak.rate)));
-            hold = hold.max(along).max(skew).max(drained as u64);
+            hold = hold.max(along + skew + drained as u64);
             hops.push(place);
             bounds.push(bound);
             from = place;
