@@ -14,7 +14,18 @@ const HOPS: usize = 16;
 
 /// Bytes that a rate adds over a time, rounded up.
 fn bytes_over(rate: u64, nanoseconds: u64) -> u128 {
-    (u128::from(rate) * u128::from(nanoseconds)).div_ceil(BYTE)
+    match rate.checked_mul(nanoseconds) {
+        Some(bits) => u128::from(bits.div_ceil(BYTE as u64)),
+        None => (u128::from(rate) * u128::from(nanoseconds)).div_ceil(BYTE),
+    }
+}
+
+/// How long a rate takes for so many bytes, rounded up.
+fn nanoseconds_for(rate: u64, bytes: u128) -> u128 {
+    match u64::try_from(bytes * BYTE) {
+        Ok(bits) => u128::from(bits.div_ceil(rate)),
+        Err(_) => (bytes * BYTE).div_ceil(u128::from(rate)),
+    }
 }
 
 #[derive(Clone, Copy)]
@@ -44,6 +55,7 @@ struct Domain {
     links: HashMap<(usize, usize), Link>,
 }
 
+#[derive(Clone)]
 struct Contract {
     name: String,
     committed: Profile,
@@ -76,7 +88,6 @@ struct Entry {
     contract: Contract,
     bounds: Vec<Bound>,
     hops: Vec<usize>,
-    hold: u64,
 }
 
 enum Refusal {
@@ -109,32 +120,44 @@ impl Book {
         Book { domain, table, history, entries: Vec::new(), names: HashSet::new(), sums, serial: 0, grants: 0, newest: 0 }
     }
 
-    /// The contract's hops, its bounds at each and how long a released share of it is held.
-    fn way(&self, contract: &Contract) -> Result<(Vec<usize>, Vec<Bound>, u64), Refusal> {
+    /// The contract's hops, and its bounds before the first and at each.
+    fn way(&self, contract: &Contract) -> Result<(Vec<usize>, Vec<Bound>), Refusal> {
         let peak = contract.peak.unwrap_or(contract.committed);
         let mut bound = Bound { green: u128::from(contract.committed.burst), all: u128::from(peak.burst) };
         let mut hops = Vec::with_capacity(contract.path.len());
         let mut bounds = Vec::with_capacity(contract.path.len() + 1);
         bounds.push(bound);
-        let mut hold = 0;
-        let mut along = 0;
         let mut from = *self.domain.places.get(&contract.port).ok_or(Refusal::NoLink)?;
         for to in &contract.path {
             let place = *self.domain.places.get(to).ok_or(Refusal::NoLink)?;
             let link = self.domain.links.get(&(from, place)).ok_or(Refusal::NoLink)?;
             bound.green += bytes_over(contract.committed.rate, link.jitter);
             bound.all += bytes_over(peak.rate, link.jitter);
-            along += link.floor + link.jitter;
-            let skew = self.domain.meters[place].skew;
-            let green = (bound.green + bytes_over(contract.committed.rate, skew)) * BYTE;
-            let all = (bound.all + bytes_over(peak.rate, skew)) * BYTE;
-            let drained = green.div_ceil(u128::from(contract.committed.rate)).max(all.div_ceil(u128::from(peak.rate)));
-            hold = hold.max(along + skew + drained as u64);
             hops.push(place);
             bounds.push(bound);
             from = place;
         }
-        Ok((hops, bounds, hold))
+        Ok((hops, bounds))
+    }
+
+    /// How long a released share is held.
+    fn hold(&self, entry: &Entry) -> u64 {
+        let contract = &entry.contract;
+        let peak = contract.peak.unwrap_or(contract.committed);
+        let mut along = 0;
+        let mut hold = 0;
+        let mut from = self.domain.places[&contract.port];
+        for (place, bound) in entry.hops.iter().zip(&entry.bounds[1..]) {
+            let link = self.domain.links[&(from, *place)];
+            let skew = self.domain.meters[*place].skew;
+            along += link.floor + link.jitter;
+            let green = bound.green + bytes_over(contract.committed.rate, skew);
+            let all = bound.all + bytes_over(peak.rate, skew);
+            let drained = nanoseconds_for(contract.committed.rate, green).max(nanoseconds_for(peak.rate, all));
+            hold = hold.max(along + skew + drained as u64);
+            from = *place;
+        }
+        hold
     }
 
     fn share(&self, contract: &Contract, place: usize, bound: &Bound) -> Sums {
@@ -165,7 +188,7 @@ impl Book {
             return Err(Refusal::Twice);
         }
         let since = contract.since.max(self.newest);
-        let (hops, bounds, hold) = self.way(&contract)?;
+        let (hops, bounds) = self.way(&contract)?;
         if self.entries.len() == self.table {
             return Err(Refusal::TableFull);
         }
@@ -191,7 +214,7 @@ impl Book {
         self.serial += 1;
         self.grants += 1;
         self.names.insert(contract.name.clone());
-        self.entries.push(Entry { id: self.grants, contract, bounds, hops, hold });
+        self.entries.push(Entry { id: self.grants, contract, bounds, hops });
         Ok(self.grants)
     }
 
@@ -224,7 +247,7 @@ impl Book {
         if self.serial as usize == self.history {
             return Err(Refusal::HistoryFull);
         }
-        if moment < until + self.entries[place].hold {
+        if moment < until + self.hold(&self.entries[place]) {
             return Err(Refusal::HoldLeft);
         }
         let entry = self.entries.remove(place);
@@ -277,16 +300,16 @@ fn contract(index: usize) -> Contract {
 }
 
 /// Fills a book, and gives a tenth of it back where that is asked for.
-fn run(domain: &Domain, contracts: usize, all: bool) -> Result<(usize, u64), Refusal> {
+fn run(domain: &Domain, contracts: &[Contract], all: bool) -> Result<(usize, u64), Refusal> {
     let mut book = Book::new(domain.clone(), 4_096, 65_536);
-    for index in 0..contracts {
-        book.reserve(contract(index))?;
+    for contract in contracts {
+        book.reserve(contract.clone())?;
     }
     if all {
-        for id in (1..=contracts as u64).step_by(10) {
+        for id in (1..=contracts.len() as u64).step_by(10) {
             book.release(id, 1_000_000)?;
         }
-        for id in (1..=contracts as u64).step_by(10) {
+        for id in (1..=contracts.len() as u64).step_by(10) {
             book.retire(id, 1_000_000_000_000)?;
         }
     }
@@ -298,13 +321,14 @@ fn main() -> ExitCode {
     let [commands, contracts, passes] = words.as_slice() else {
         return ExitCode::from(2);
     };
-    let (Ok(contracts), Ok(passes)) = (contracts.parse(), passes.parse::<u32>()) else {
+    let (Ok(contracts), Ok(passes)) = (contracts.parse::<usize>(), passes.parse::<u32>()) else {
         return ExitCode::from(2);
     };
     let domain = domain();
+    let contracts: Vec<Contract> = (0..contracts).map(contract).collect();
     let mut last = (0, 0);
     for _ in 0..passes {
-        match run(&domain, contracts, commands == "all") {
+        match run(&domain, &contracts, commands == "all") {
             Ok(told) => last = told,
             Err(_) => return ExitCode::from(1),
         }
