@@ -2,7 +2,7 @@ use Rattle.std.proofs.Common.{◌≡◌, IfOk, sym, subst, ◌∙◌}
 use Rattle.ds_checker.specs.Acceptance.{table_of}
 use Rattle.ds_checker.proofs.BoundLaws.{found, not_found}
 use Rattle.ds_checker.proofs.CheckLaws.{bounds_refusal_is, on_err, refusal_is}
-use Rattle.ds_checker.proofs.acceptance.refusal.Goals as goal
+use Rattle.ds_checker.proofs.acceptance.judged.Goals as goal
 
 pub returns-then-is_some-2-clause-value : goal.returns-then-is_some-2-clause-value
 returns-then-is_some-2-clause-value c =
