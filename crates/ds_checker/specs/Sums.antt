@@ -10,7 +10,7 @@ use Rattle.ds_domain_base.specs.declared.parts.Meter.{Meter}
 use Rattle.ds_certificate.specs.Columns.{Bound, IsInRange}
 use Rattle.ds_certificate.specs.Ranges.{IsModerate}
 use Rattle.ds_certificate.specs.declared.source.Source.{Source}
-use Rattle.ds_checker.specs.Acceptance.{Table}
+use Rattle.ds_checker.specs.Acceptance.{IsAcceptable, Table}
 use Rattle.ds_checker.specs.Loads.{Share, kept, shares_at}
 use Rattle.ds_checker.specs.TableTests.{load_tests}
 use Rattle.ds_checker.specs.Tests.{Test}
@@ -110,6 +110,11 @@ pub record IsKept (t : Table) (loads : List Loads) : Type 0 where
   pub sums : loads ≡ loads_of t
   pub small : AreSmall (λ name. shares_at t.domain name t.contracts t.certificate) t.domain.meters
   pub short : AllByRecursion (λ entry. entry.1.skew ≤ 10 ^ 10) t.domain.meters
+
+-- a table is acceptable, and these are its sums
+pub record IsSound (t : Table) (loads : List Loads) : Type 0 where
+  pub acceptable : IsAcceptable t
+  pub kept : IsKept t loads
 
 -- what is held against a meter's limit of green and yellow packets
 abbrev pub counted_load : Parameters → Loads → Curve

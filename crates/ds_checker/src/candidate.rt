@@ -40,17 +40,15 @@ pub struct Accepted {
 }
 
 impl Model for Accepted {
-    ghost use Rattle.ds_checker.specs.Acceptance.{IsAcceptable, Table};
-    ghost use Rattle.ds_checker.specs.Sums.{IsKept};
+    ghost use Rattle.ds_checker.specs.Acceptance.{Table};
+    ghost use Rattle.ds_checker.specs.Sums.{IsSound};
 
     ghost Value = { Table };
 
     ghost view = { λ a. record { domain = a.domain; contracts = a.contracts.items; certificate = a.certificate } };
 
-    ghost invariant = { λ a.
-        IsAcceptable (record { domain = a.domain; contracts = a.contracts.items; certificate = a.certificate })
-        × IsKept (record { domain = a.domain; contracts = a.contracts.items; certificate = a.certificate })
-        a.sums.items };
+    ghost invariant = { λ a. IsSound
+        (record { domain = a.domain; contracts = a.contracts.items; certificate = a.certificate }) a.sums.items };
 }
 
 impl Accepted {

@@ -19,4 +19,5 @@ returns-clause-range c most below =
             (plus-below most c.args.self.skew c.share.inside.source.excess.rate w.excess.result c.args.self.peaked below.3 below.0 moderate.1.1.0.0 w.excess.ensures.range)
         | else-has_peak w ↦ subst (IsBelow (most + 2 * 10 ^ 15)) (sym w.peaked-is) (IsBelow-more most (most + 2 * 10 ^ 15) c.args.self.peaked (omega arith) below.3)
       ],
+      omega (arith, below.4, c.from.ensures),
     )
