@@ -34,6 +34,7 @@ use Rattle.ds_checker.specs.declared.refusal.Refusal.{Refusal}
 use Rattle.ds_checker.specs.declared.refusal.Refusal.TheVariants.{Shape}
 use Rattle.ds_checker.proofs.AcceptanceLaws.{all_carried, bounded, has_shape, is_shaped, misfit-shaped, misfit-unshaped}
 use Rattle.ds_checker.proofs.BoundLaws.{first_failed-append}
+use Rattle.ds_checker.proofs.PlaceLaws.{same_loads}
 use Rattle.ds_checker.proofs.LoadLaws.{AreBelow-more, counted_is, green_is, same_curve, sums_tests-are, with_share-below}
 
 -- ---- one contract more
@@ -211,13 +212,6 @@ pub kept-long : (t : Table) (sums : List Loads) → IsKept t sums → length sum
 kept-long t sums kept = ap length kept.sums ∙ length-map t.domain.meters (λ entry. sums_of entry.1.skew (shares_at t.domain entry.0 t.contracts t.certificate))
 
 -- ---- one contract fewer
-abbrev loads_with : ℕ → Curve → Curve → Curve → ℕ → Loads
-loads_with skew green all peaked number = record { skew = skew; green = green; all = all; peaked = peaked; peaked_number = number }
-
-same_loads : (skew : ℕ) (green green' all all' peaked peaked' : Curve) (number number' : ℕ) → green ≡ green' → all ≡ all' → peaked ≡ peaked' → number ≡ number'
-    → loads_with skew green all peaked number ≡ loads_with skew green' all' peaked' number'
-same_loads skew green green' all all' peaked peaked' number number' greens alls peakeds numbers = rw greens (rw alls (rw peakeds (rw numbers refl)))
-
 plus-swap : (c a b : Curve) → plus (plus c a) b ≡ plus (plus c b) a
 plus-swap c a b = same_curve (c.rate + a.rate + b.rate) (c.rate + b.rate + a.rate) (c.burst + a.burst + b.burst) (c.burst + b.burst + a.burst) (omega arith) (omega arith)
 

@@ -112,7 +112,7 @@ bound_into-absent name (to ∷ path) (b ∷ bounds) absent =
     let parts = or_parts (bytes_eq name to) (list_any (bytes_eq name) path) absent in
     rw parts.0 (bound_into-absent name path bounds parts.1)
 
-bound_into-ended : (name : List ℕ) (path : List (List ℕ)) (bounds : List Bound) → (path ≡ []) ⊎ (bounds ≡ []) → bound_into name path bounds ≡ None
+pub bound_into-ended : (name : List ℕ) (path : List (List ℕ)) (bounds : List Bound) → (path ≡ []) ⊎ (bounds ≡ []) → bound_into name path bounds ≡ None
 unfolding bound_into
 bound_into-ended name [] bounds ended = refl
 bound_into-ended name (to ∷ path) [] ended = refl
@@ -395,6 +395,11 @@ contract_small d xs contracts c ys rows bounds meters is_contracts is_rows own b
     subst (λ list. AreSmall (λ name. shares_at d name list ys) meters) (sym is_contracts)
     (subst (λ list. AreSmall (λ name. shares_at d name (c ∷ contracts) list) meters) (sym is_rows) (small_contract d c contracts bounds rows meters own behind))
 
+pub small-first : (d : Domain) (xs contracts : List Contract) (ys rows : List (List Bound)) (meters : List (List ℕ × Meter)) → xs ≡ contracts → ys ≡ rows
+    → AreSmall (λ name. shares_at d name xs ys) meters → AreSmall (λ name. shares_at d name contracts rows) meters
+small-first d xs contracts ys rows meters is_contracts is_rows small =
+    subst (λ list. AreSmall (λ name. shares_at d name list rows) meters) is_contracts (subst (λ list. AreSmall (λ name. shares_at d name xs list) meters) is_rows small)
+
 pub contracts_small : (d : Domain) (xs : List Contract) (ys : List (List Bound)) (meters : List (List ℕ × Meter)) → (xs ≡ []) ⊎ (ys ≡ [])
     → AreSmall (λ name. shares_at d name xs ys) meters
 contracts_small d xs ys [] ended = tt
@@ -479,9 +484,12 @@ and-true : (b : Bool) → (b && true) ≡ b
 and-true true = refl
 and-true false = refl
 
+one_more : (n : ℕ) → nat_eq (n + 1) 0 ≡ false
+one_more n = grind (arith, nat_tests)
+
 none_by : (b : Bool) (l : Loads) (share : Share) (any : Bool) → share.has_peak ≡ b
     → (nat_eq (with_share l share).peaked_number 0 && not any) ≡ (nat_eq l.peaked_number 0 && not (share.has_peak || any))
-none_by true l share any is = rw is (sym (and-false (nat_eq l.peaked_number 0)))
+none_by true l share any is = rw is (ap (λ b. b && not any) (one_more l.peaked_number) ∙ sym (and-false (nat_eq l.peaked_number 0)))
 none_by false l share any is = rw is refl
 
 -- none of the shares has a peak where the number of those that do is 0

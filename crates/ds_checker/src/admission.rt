@@ -77,7 +77,8 @@ fn path_refusal(
             first = earlier(first, place, refusal);
         }
     }
-    first.map(|(_, refusal)| refusal)
+    let (_, refusal) = first?;
+    Some(refusal)
 }
 
 /// The first test that fails, if one does, of sums at the meter at a place.

@@ -8,7 +8,7 @@ use Rattle.std.proofs.lemmas.Map.Entries.{length-keys_of}
 use Rattle.std.proofs.lemmas.Slice.Zip.{Zip-more, either_empty_from_Zip}
 use Rattle.ds_checker.specs.Loads.{share_of}
 use Rattle.ds_checker.specs.Sums.{AreBelow, AreSmall, no_loads, with_brought}
-use Rattle.ds_checker.proofs.LoadLaws.{AreBelow-more, contract_kept, contract_small, contracts_ended, contracts_range, contracts_room, contracts_small, places_kept, shaped_all, shaped_behind, sums_are, written}
+use Rattle.ds_checker.proofs.LoadLaws.{AreBelow-more, contract_kept, contract_small, contracts_ended, contracts_range, contracts_room, contracts_small, places_kept, shaped_all, shaped_behind, small-first, sums_are, written}
 use Rattle.ds_checker.proofs.table.gathered.Goals as goal
 
 pub loop-contract-init : goal.loop-contract-init
@@ -16,7 +16,7 @@ loop-contract-init c = record {
   value = search rules;
   places = ap length c.in_ok-sums.ensures.value ∙ length-map c.args.domain.now.meters (λ entry. no_loads entry.1.skew);
   shaped = shaped_all c.args.domain.now _ c.args.contracts.now _ c.args.certificate.now (search rules) (search rules) c.requires;
-  small = search rules;
+  small = small-first c.args.domain.now _ c.args.contracts.now _ c.args.certificate.now c.args.domain.now.meters (search rules) (search rules);
   few = search rules;
   range = AreBelow-more 0 _ c.in_ok-sums.sums.items (omega arith) c.in_ok-sums.ensures.range;
 }
