@@ -1,10 +1,12 @@
 -- The greatest hold.
-use Rattle.std.proofs.Common.{arith, ◌≡◌, ℕ, ◌+◌, ◌≤◌, ◌⊎◌, inl, inr, List, [], ◌∷◌, ◌++◌, max, refl, sym, ap, ◌∙◌}
+use Rattle.std.proofs.Common.{arith, ◌≡◌, ℕ, ◌+◌, ◌≤◌, ◌⊎◌, inl, inr, List, [], ◌∷◌, ◌++◌, length, max, refl, sym, ap, ◌∙◌}
 use Rattle.std.proofs.Math.Nat.{max-zero, le-max_left, le-max_right}
 use Rattle.ds_domain_base.specs.Domains.{Domain, meter_of}
+use Rattle.ds_domain_base.specs.declared.contract.Contract.{Contract}
 use Rattle.ds_certificate.specs.Columns.{Bound}
+use Rattle.ds_certificate.specs.Sources.{source_of}
 use Rattle.ds_certificate.specs.declared.source.Source.{Source}
-use Rattle.ds_checker.specs.Holds.{greatest, holds_along, holds_at_hop, link_delay, meter_skew}
+use Rattle.ds_checker.specs.Holds.{greatest, hold_of, holds_along, holds_at_hop, link_delay, meter_skew}
 
 pub greatest-three : (a b c x y z inner outer : ℕ) → x ≡ a → y ≡ b → z ≡ c → inner ≡ max y z → outer ≡ max x inner → outer ≡ greatest (a ∷ b ∷ c ∷ [])
 unfolding greatest
@@ -54,3 +56,12 @@ hold_ended d s way from [] ys hold whole ended kept = sym (max-zero hold) ∙ ke
 hold_ended d s way from (to ∷ xs) [] hold whole ended kept = sym (max-zero hold) ∙ kept
 hold_ended d s way from (to ∷ xs) (b ∷ ys) hold whole (inl ended) kept = absurd cc
 hold_ended d s way from (to ∷ xs) (b ∷ ys) hold whole (inr ended) kept = absurd cc
+
+along-none : (d : Domain) (s : Source) (way : ℕ) (from : List ℕ) (path : List (List ℕ)) → 0 ≡ greatest (holds_along d s way from path [])
+unfolding holds_along greatest
+along-none d s way from [] = refl
+along-none d s way from (to ∷ path) = refl
+
+pub hold_none : (d : Domain) (c : Contract) (bounds : List Bound) → length bounds ≡ 0 → 0 ≡ hold_of d c bounds
+hold_none d c [] none = along-none d (source_of d c) 0 c.port c.path
+hold_none d c (b ∷ bounds) none = absurd (omega (arith, none))

@@ -1,4 +1,4 @@
-use Rattle.std.proofs.Common.{sym, refl, ◌∙◌}
+use Rattle.std.proofs.Common.{sym, ap, option_map, ◌∙◌}
 use Rattle.std.specs.Map.{keys_of}
 use Rattle.std.proofs.lemmas.Map.Entries.{length-keys_of}
 use Rattle.std.proofs.lemmas.Slice.Zip.{Zip-more, either_empty_from_Zip}
@@ -25,3 +25,15 @@ loop-name-preserved c =
           more.0 more.1 (sym c.meter_index.ensures ∙ c.in_default.is) c.loop-name.invariant.value;
       once = once_behind _ _ _ more.0 c.loop-name.invariant.once;
     }
+
+pub returns-in_err-refusal : goal.returns-in_err-refusal
+returns-in_err-refusal c =
+    let found = found-ended c.args.source.now c.args.has_peak _ _ c.args.domain.now.meters c.args.sums.now _ c.loop-name.first c.requires.places c.requires.passed
+    (either_empty_from_Zip c.loop-name.name-iterator c.next.new.self c.next.result c.in-None.is c.next.ensures.steps) c.loop-name.invariant.value in
+    c.from_residual.ensures ∙ sym (ap (option_map (λ f. f.1)) c.in_err-refusal.was) ∙ found
+
+pub returns : goal.returns
+returns c =
+    let found = found-ended c.args.source.now c.args.has_peak _ _ c.args.domain.now.meters c.args.sums.now _ c.loop-name.first c.requires.places c.requires.passed
+    (either_empty_from_Zip c.loop-name.name-iterator c.next.new.self c.next.result c.in-None.is c.next.ensures.steps) c.loop-name.invariant.value in
+    sym (ap (option_map (λ f. f.1)) c.in_ok-refusal.was) ∙ found
