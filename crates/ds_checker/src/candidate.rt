@@ -225,13 +225,15 @@ impl Accepted {
         if !has_shape(&self.domain, contract, bounds) {
             return Some(Refusal::Shape { contract: number });
         }
-        contract_refusal(&self.domain, number, contract, bounds).or_else(
-            || contract_refusal_at_meters(
-                &self.domain,
-                self.sums.as_slice(),
-                contract,
-                bounds.hops(),
-            ),
+        let refusal = contract_refusal(&self.domain, number, contract, bounds);
+        if refusal.is_some() {
+            return refusal;
+        }
+        contract_refusal_at_meters(
+            &self.domain,
+            self.sums.as_slice(),
+            contract,
+            bounds.hops(),
         )
     }
 
