@@ -1,5 +1,5 @@
 -- A table with one contract more, and one with one fewer.
-use Rattle.std.proofs.Common.{arith, ◌≡◌, ℕ, zero, suc, ◌+◌, ◌-◌, ◌*◌, ◌^◌, ◌≤◌, ◌<◌, Bool, true, false, nat_eq, ◌&&◌, ◌⊎◌, inl, inr, List, [], ◌∷◌, ◌++◌, length, map, append-nil, drop, option_to_list, get_or, if◌then◌else◌, Option, None, Some, option_map, refl, sym, ap, subst, ◌∙◌}
+use Rattle.std.proofs.Common.{arith, ◌≡◌, ℕ, zero, suc, ◌+◌, ◌-◌, ◌*◌, ◌^◌, ◌≤◌, ◌<◌, Bool, true, false, nat_eq, ◌&&◌, ◌⊎◌, inl, inr, List, [], ◌∷◌, ◌++◌, length, map, append-nil, drop, take, is_some, option_to_list, slice_get, get_or, if◌then◌else◌, Option, None, Some, option_map, refl, sym, ap, subst, ◌∙◌}
 use Rattle.std.specs.Prelude.{All}
 use Rattle.std.specs.List.{AllByRecursion, AllZip, fold, remove}
 use Rattle.std.specs.Map.{keys_of}
@@ -26,16 +26,16 @@ use Rattle.ds_checker.specs.BoundTests.{bound_tests, misfit, tests_along}
 use Rattle.ds_checker.specs.Changes.{with_contract, without_contract}
 use Rattle.ds_domain_base.specs.Sent.{has_peak}
 use Rattle.ds_checker.specs.Loads.{Share, bound_into, kept, share_of, shares_at}
-use Rattle.ds_checker.specs.Sums.{AreBelow, AreSmall, IsBefore, IsKept, IsPart, IsSmall, counted_load, loads_of, no_loads, nothing, plus, sums_of, sums_tests, with_brought, with_share}
+use Rattle.ds_checker.specs.Sums.{AreBelow, AreSmall, IsBefore, IsKept, IsPart, IsSmall, IsSound, counted_load, loads_of, no_loads, nothing, plus, sums_of, sums_tests, with_brought, with_share}
 use Rattle.ds_checker.specs.TableTests.{table_tests}
 use Rattle.ds_checker.specs.Tests.{Test, first_failed}
 use Rattle.ds_checker.specs.declared.load.Loads.{Loads}
 use Rattle.ds_checker.specs.declared.refusal.Refusal.{Refusal}
 use Rattle.ds_checker.specs.declared.refusal.Refusal.TheVariants.{Shape}
-use Rattle.ds_checker.proofs.AcceptanceLaws.{all_carried, bounded, has_shape, is_shaped, misfit-shaped, misfit-unshaped}
-use Rattle.ds_checker.proofs.BoundLaws.{first_failed-append}
+use Rattle.ds_checker.proofs.AcceptanceLaws.{acceptable, all_carried, bounded, has_shape, is_shaped, misfit-shaped, misfit-unshaped}
+use Rattle.ds_checker.proofs.BoundLaws.{first_failed-append, found}
 use Rattle.ds_checker.proofs.PlaceLaws.{same_loads}
-use Rattle.ds_checker.proofs.LoadLaws.{AreBelow-more, counted_is, green_is, same_curve, sums_tests-are, with_share-below}
+use Rattle.ds_checker.proofs.LoadLaws.{AreBelow-more, counted_is, green_is, places_kept, same_curve, sums_tests-are, with_share-below, written}
 
 -- ---- one contract more
 last_shares : (d : Domain) (name : List ℕ) (c : Contract) (bounds : List Bound) → shares_at d name (c ∷ []) (bounds ∷ []) ≡ share_of d name c bounds
@@ -181,8 +181,8 @@ one_share xs None share is = omega (arith, ap length is)
 one_share xs (Some b) share is = omega (arith, ap length is)
 
 length-both : {X : Type 0} (xs ys : List X) → length (xs ++ ys) ≡ length xs + length ys
-length-both [] ys = refl
-length-both (x ∷ xs) ys = ap suc (length-both xs ys)
+length-both [] ys = omega arith
+length-both (x ∷ xs) ys = omega (arith, length-both xs ys)
 
 few_shares : (d : Domain) (name : List ℕ) (contracts : List Contract) (rows : List (List Bound)) → length (shares_at d name contracts rows) ≤ length contracts
 unfolding shares_at
@@ -411,3 +411,133 @@ shape_at d [] rows i c bounds met inside = absurd (omega (arith, inside))
 shape_at d (own ∷ contracts) [] i c bounds met inside = absurd met
 shape_at d (own ∷ contracts) (row ∷ rows) zero c bounds met inside = met.0.0
 shape_at d (own ∷ contracts) (row ∷ rows) (suc i) c bounds met inside = shape_at d contracts rows i c bounds met.1 (omega (arith, inside))
+
+-- ---- the table of an accepted one
+abbrev pub table : Domain → List Contract → List (List Bound) → Table
+table d contracts rows = record { domain = d; contracts = contracts; certificate = rows }
+
+pub refused-unshaped : (d : Domain) (contracts : List Contract) (rows : List (List Bound)) (sums : List Loads) (self : Table) (c : Contract) (bounds : List Bound) (number : ℕ) (answer : Bool)
+    → IsSound (table d contracts rows) sums → table d contracts rows ≡ self → number ≡ length contracts
+    → answer ≡ (fits d c && nat_eq (length bounds) (suc (length c.path))) → answer ≡ false → Some (Shape number) ≡ refusal_of (with_contract self c bounds)
+unfolding is_shaped
+refused-unshaped d contracts rows sums self c bounds number answer sound is_self is_number is_answer fails =
+    sym (refused-shape (table d contracts rows) c bounds number sound.acceptable is_number (sym is_answer ∙ fails)) ∙ ap (λ t. refusal_of (with_contract t c bounds)) is_self
+
+pub refused-shaped : (d : Domain) (contracts : List Contract) (rows : List (List Bound)) (sums own : List Loads) (self : Table) (c : Contract) (bounds hops : List Bound) (number : ℕ) (answer : Bool)
+    (refusal found : Option Refusal) → IsSound (table d contracts rows) sums → table d contracts rows ≡ self → number ≡ length contracts → own ≡ sums → hops ≡ bounds
+    → answer ≡ (fits d c && nat_eq (length bounds) (suc (length c.path))) → answer ≡ true
+    → refusal ≡ first_failed (tests_along number (source_of d c) (jitters_of d c) bounds)
+    → found ≡ first_failed (sums_tests d.meters (with_brought (λ name. share_of d name c hops) (keys_of d.meters) own))
+    → option_or refusal found ≡ refusal_of (with_contract self c bounds)
+unfolding is_shaped
+refused-shaped d contracts rows sums own self c bounds hops number answer refusal found sound is_self is_number is_own is_hops is_answer holds is_refusal is_found =
+    ap (λ r. option_or r found) is_refusal
+    ∙ ap (option_or (first_failed (tests_along number (source_of d c) (jitters_of d c) bounds)))
+    (is_found ∙ ap (λ b. first_failed (sums_tests d.meters (with_brought (λ name. share_of d name c b) (keys_of d.meters) own))) is_hops
+    ∙ ap (λ list. first_failed (sums_tests d.meters (with_brought (λ name. share_of d name c bounds) (keys_of d.meters) list))) is_own)
+    ∙ sym (refused-behind (table d contracts rows) c bounds sums number sound.acceptable sound.kept.sums is_number (sym is_answer ∙ holds))
+    ∙ ap (λ t. refusal_of (with_contract t c bounds)) is_self
+
+pub found_by_bounds : (d : Domain) (contracts : List Contract) (rows : List (List Bound)) (sums : List Loads) (self : Table) (c : Contract) (bounds : List Bound) (number : ℕ) (answer : Bool)
+    (refusal : Option Refusal) → IsSound (table d contracts rows) sums → table d contracts rows ≡ self → number ≡ length contracts
+    → answer ≡ (fits d c && nat_eq (length bounds) (suc (length c.path))) → answer ≡ true
+    → refusal ≡ first_failed (tests_along number (source_of d c) (jitters_of d c) bounds) → is_some refusal ≡ true
+    → refusal ≡ refusal_of (with_contract self c bounds)
+found_by_bounds d contracts rows sums self c bounds number answer refusal sound is_self is_number is_answer holds is_refusal some =
+    found refusal _ (refusal_of (with_contract self c bounds)) some
+    (refused-shaped d contracts rows sums sums self c bounds bounds number answer refusal _ sound is_self is_number refl refl is_answer holds is_refusal refl)
+
+-- the last of what an acceptable table holds
+last_shape : (d : Domain) (contracts : List Contract) (rows : List (List Bound)) (c : Contract) (bounds : List Bound) → length rows ≡ length contracts
+    → IsCertificate d (contracts ++ c ∷ []) (rows ++ bounds ∷ []) → HasShape d c bounds
+last_shape d [] [] c bounds long met = met.0.0
+last_shape d [] (row ∷ rows) c bounds long met = absurd (omega (arith, long))
+last_shape d (own ∷ contracts) [] c bounds long met = absurd (omega (arith, long))
+last_shape d (own ∷ contracts) (row ∷ rows) c bounds long met = last_shape d contracts rows c bounds (omega (arith, long)) met.1
+
+larger : (d : Domain) (contracts : List Contract) (rows : List (List Bound)) (self : Table) (c : Contract) (bounds : List Bound) → table d contracts rows ≡ self
+    → refusal_of (with_contract self c bounds) ≡ None → IsAcceptable (with_contract (table d contracts rows) c bounds)
+larger d contracts rows self c bounds is_self none =
+    acceptable (with_contract (table d contracts rows) c bounds) (ap (λ t. refusal_of (with_contract t c bounds)) is_self ∙ none)
+
+pub shape-more : (d : Domain) (contracts : List Contract) (rows : List (List Bound)) (sums : List Loads) (self : Table) (c : Contract) (bounds hops : List Bound)
+    → IsSound (table d contracts rows) sums → table d contracts rows ≡ self → refusal_of (with_contract self c bounds) ≡ None → hops ≡ bounds → HasShape d c hops
+shape-more d contracts rows sums self c bounds hops sound is_self none is_hops =
+    subst (HasShape d c) (sym is_hops)
+    (last_shape d contracts rows c bounds (rows_long d contracts rows sound.acceptable.0) (larger d contracts rows self c bounds is_self none).0)
+
+pub last-inside : (d : Domain) (contracts : List Contract) (rows list : List (List Bound)) (sums : List Loads) (bounds : List Bound) (number : ℕ) → IsSound (table d contracts rows) sums
+    → number ≡ length contracts → list ≡ rows ++ bounds ∷ [] → number < length list
+last-inside d contracts rows list sums bounds number sound is_number is =
+    omega (arith, is_number, ap length is, length-both rows (bounds ∷ []), rows_long d contracts rows sound.acceptable.0)
+
+last_of : (rows : List (List Bound)) (bounds d : List Bound) (number : ℕ) → number ≡ length rows → get_or (rows ++ bounds ∷ []) number d ≡ bounds
+last_of [] bounds d zero is = refl
+last_of [] bounds d (suc number) is = absurd (omega (arith, is))
+last_of (row ∷ rows) bounds d zero is = absurd (omega (arith, is))
+last_of (row ∷ rows) bounds d (suc number) is = last_of rows bounds d number (omega (arith, is))
+
+pub last-row : (d : Domain) (contracts : List Contract) (rows list : List (List Bound)) (sums : List Loads) (bounds row : List Bound) (number : ℕ) → IsSound (table d contracts rows) sums
+    → number ≡ length contracts → list ≡ rows ++ bounds ∷ [] → row ≡ get_or list number row → row ≡ bounds
+last-row d contracts rows list sums bounds row number sound is_number is is_row =
+    is_row ∙ ap (λ l. get_or l number row) is ∙ last_of rows bounds row number (is_number ∙ sym (rows_long d contracts rows sound.acceptable.0))
+
+pub sound-more : (d : Domain) (contracts new : List Contract) (rows new_rows : List (List Bound)) (sums given made after : List Loads) (self : Table) (c : Contract) (bounds hops : List Bound) (len : ℕ)
+    → IsSound (table d contracts rows) sums → table d contracts rows ≡ self → refusal_of (with_contract self c bounds) ≡ None
+    → new ≡ contracts ++ c ∷ [] → new_rows ≡ rows ++ bounds ∷ [] → hops ≡ bounds → given ≡ sums → length given ≡ len
+    → made ≡ with_brought (λ name. share_of d name c hops) (keys_of d.meters) given → AreSmall (λ name. share_of d name c hops) d.meters
+    → after ≡ take len (made ++ drop (length made) sums)
+    → IsSound (table d new new_rows) after
+sound-more d contracts new rows new_rows sums given made after self c bounds hops len sound is_self none is_new is_rows is_hops is_given is_len is_made small is_after =
+    let t = table d contracts rows in
+    let said : made ≡ with_brought (λ name. share_of d name c bounds) (keys_of d.meters) sums =
+    is_made ∙ ap (λ b. with_brought (λ name. share_of d name c b) (keys_of d.meters) given) is_hops ∙ ap (with_brought (λ name. share_of d name c bounds) (keys_of d.meters)) is_given in
+    let long = kept-long t sums sound.kept in
+    let made_long = places_kept (λ name. share_of d name c bounds) d.meters sums made said long in
+    let is : after ≡ made = is_after ∙ written len made sums given is_given is_len (made_long ∙ sym (ap length is_given ∙ long)) in
+    let kept = kept-grown t c bounds sums made (rows_long d contracts rows sound.acceptable.0) sound.kept said
+    (subst (λ b. AreSmall (λ name. share_of d name c b) d.meters) is_hops small) in
+    subst (λ list. IsSound (table d list new_rows) after) (sym is_new)
+    (subst (λ list. IsSound (table d (contracts ++ c ∷ []) list) after) (sym is_rows)
+    (subst (IsSound (with_contract t c bounds)) (sym is) (record { acceptable = larger d contracts rows self c bounds is_self none; kept = kept })))
+
+pub row-inside : (d : Domain) (contracts : List Contract) (rows : List (List Bound)) (sums : List Loads) (i : ℕ) → IsSound (table d contracts rows) sums → i < length contracts → i < length rows
+row-inside d contracts rows sums i sound inside = omega (arith, inside, rows_long d contracts rows sound.acceptable.0)
+
+pub shape-less : (d : Domain) (contracts : List Contract) (rows : List (List Bound)) (sums : List Loads) (i : ℕ) (c : Contract) (bounds hops : List Bound) → IsSound (table d contracts rows) sums
+    → i < length contracts → c ≡ get_or contracts i c → bounds ≡ get_or rows i bounds → hops ≡ bounds → HasShape d c hops
+shape-less d contracts rows sums i c bounds hops sound inside is_contract is_bounds is_hops =
+    subst (HasShape d c) (sym is_hops)
+    (subst (λ own. HasShape d own bounds) (sym is_contract) (subst (HasShape d (get_or contracts i c)) (sym is_bounds) (shape_at d contracts rows i c bounds sound.acceptable.0 inside)))
+
+pub before-less : (d : Domain) (contracts : List Contract) (rows : List (List Bound)) (sums given : List Loads) (i : ℕ) (c : Contract) (bounds hops : List Bound) → IsSound (table d contracts rows) sums
+    → i < length contracts → c ≡ get_or contracts i c → bounds ≡ get_or rows i bounds → hops ≡ bounds → given ≡ sums
+    → IsBefore (λ name. share_of d name c hops) (keys_of d.meters) given (loads_of (without_contract (table d contracts rows) i))
+before-less d contracts rows sums given i c bounds hops sound inside is_contract is_bounds is_hops is_given =
+    let before = loads_of (without_contract (table d contracts rows) i) in
+    subst (λ own. IsBefore (λ name. share_of d name c hops) (keys_of d.meters) own before) (sym is_given)
+    (subst (λ b. IsBefore (λ name. share_of d name c b) (keys_of d.meters) sums before) (sym is_hops)
+    (subst (λ own. IsBefore (λ name. share_of d name own bounds) (keys_of d.meters) sums before) (sym is_contract)
+    (subst (λ b. IsBefore (λ name. share_of d name (get_or contracts i c) b) (keys_of d.meters) sums before) (sym is_bounds)
+    (before-taken (table d contracts rows) i c bounds sums inside (rows_long d contracts rows sound.acceptable.0) sound.kept))))
+
+pub sound-less : (d : Domain) (contracts new : List Contract) (rows new_rows : List (List Bound)) (sums given made after : List Loads) (i : ℕ) (c : Contract) (bounds : List Bound) (len : ℕ)
+    → IsSound (table d contracts rows) sums → i < length contracts → new ≡ remove contracts i → new_rows ≡ remove rows i → given ≡ sums → length given ≡ len
+    → made ≡ loads_of (without_contract (table d contracts rows) i) → after ≡ take len (made ++ drop (length made) sums)
+    → IsSound (table d new new_rows) after
+sound-less d contracts new rows new_rows sums given made after i c bounds len sound inside is_new is_rows is_given is_len is_made is_after =
+    let t = table d contracts rows in
+    let long = kept-long t sums sound.kept in
+    let rows_are = rows_long d contracts rows sound.acceptable.0 in
+    let made_long : length made ≡ length d.meters =
+    ap length is_made ∙ length-map d.meters (λ entry. sums_of entry.1.skew (shares_at d entry.0 (remove contracts i) (remove rows i))) in
+    let is : after ≡ made = is_after ∙ written len made sums given is_given is_len (made_long ∙ sym (ap length is_given ∙ long)) in
+    subst (λ list. IsSound (table d list new_rows) after) (sym is_new)
+    (subst (λ list. IsSound (table d (remove contracts i) list) after) (sym is_rows)
+    (subst (IsSound (without_contract t i)) (sym is)
+    (record { acceptable = acceptable-taken t i c bounds inside sound.acceptable; kept = kept-taken t i sums made rows_are sound.kept is_made })))
+
+pub got : {X : Type 0} (xs : List X) (i : ℕ) (x : X) → i < length xs → x ≡ get_or xs i x → slice_get xs i ≡ Some x
+got [] i x inside is = absurd (omega (arith, inside))
+got (y ∷ xs) zero x inside is = ap Some (sym is)
+got (y ∷ xs) (suc i) x inside is = got xs i x (omega (arith, inside)) is

@@ -97,13 +97,17 @@ impl Accepted {
 
     /// How long the share of the contract at a place is to be held once the contract has ended, in nanoseconds: the
     /// greatest, over the hops of its path and the columns, of what delays can be up to that hop, the meter's skew, and
-    /// the time in which the column's rate gives the bound there, widened by that skew (Cruz 1991, section II).
+    /// the time in which the column's rate gives the bound there, widened by that skew (Cruz 1991, section II). It is 0
+    /// where no contract stands at that place.
     pub fn hold(&self, index: usize) -> u128
-        requires { index < length self.now.contracts }
         ensures { result ≡ hold_at self.now index }
     {
-        let contract = &self.contracts[index];
-        let bounds = &self.certificate.bounds()[index];
+        let Some(contract) = self.contracts.as_slice().get(index) else {
+            return 0;
+        };
+        let Some(bounds) = self.certificate.bounds().get(index) else {
+            return 0;
+        };
         hold_of(&self.domain, contract, bounds.hops())
     }
 
@@ -219,7 +223,8 @@ impl Accepted {
 
     /// The first test that fails of the table with one contract more, if one does.
     fn refusal_with(&self, contract: &Contract, bounds: &Bounds) -> Option<Refusal>
-        ensures { result ≡ refusal_of (with_contract self.now contract.now bounds.now) }
+        ensures value { result ≡ refusal_of (with_contract self.now contract.now bounds.now) }
+        ensures acceptable { IsAcceptable self.now }
     {
         let number = self.contracts.len();
         if !has_shape(&self.domain, contract, bounds) {
@@ -241,6 +246,7 @@ impl Accepted {
     fn take_up(&mut self, contract: Contract, bounds: Bounds) -> Result<(), (Contract, Bounds)>
         requires { refusal_of (with_contract self.old contract bounds) ≡ None }
         ensures admitted { OnOk result (self.new ≡ with_contract self.old contract bounds) }
+        ensures acceptable { IsAcceptable self.new }
         ensures unchanged { OnErr result (self.new ≡ self.old) }
         ensures back { IfErr result (λ back. (back.0 ≡ contract) × (back.1 ≡ bounds)) }
     {
@@ -251,6 +257,7 @@ impl Accepted {
             Ok(()) => {}
             Err(bounds) => return Err((contract, bounds)),
         }
+        let _meters = self.domain.meters();
         let bounds = &self.certificate.bounds()[self.contracts.len()];
         add_contract(
             self.sums.as_mut_slice(),
