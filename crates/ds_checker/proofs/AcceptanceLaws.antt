@@ -193,7 +193,7 @@ carries name m shares is =
     let four = passes _ _ three.1 in
     ((one.0, two.0), (three.0, four.0))
 
-carried : (name : List ℕ) (m : Meter) (shares : List Share) → Carries m shares → first_failed (meter_tests name m shares) ≡ None
+pub carried : (name : List ℕ) (m : Meter) (shares : List Share) → Carries m shares → first_failed (meter_tests name m shares) ≡ None
 carried name m shares met = passed _ _ met.0.0 (passed _ _ met.0.1 (passed _ _ met.1.0 (passed _ _ met.1.1 none_nil)))
 
 -- the meters of a domain

@@ -1,7 +1,8 @@
 -- A table with one contract more, and one with one fewer.
-use Rattle.std.proofs.Common.{arith, ◌≡◌, ℕ, zero, suc, ◌+◌, ◌-◌, ◌*◌, ◌^◌, ◌≤◌, ◌<◌, Bool, true, false, nat_eq, ◌&&◌, ◌⊎◌, inl, inr, List, [], ◌∷◌, ◌++◌, length, map, append-nil, drop, take, is_some, option_to_list, slice_get, get_or, if◌then◌else◌, Option, None, Some, option_map, refl, sym, ap, subst, ◌∙◌}
+use Rattle.std.proofs.Common.{arith, ◌≡◌, ℕ, zero, suc, ◌+◌, ◌-◌, ◌*◌, ◌^◌, ◌≤◌, ◌<◌, Bool, true, false, nat_eq, ◌&&◌, ◌⊎◌, inl, inr, List, [], ◌∷◌, ◌++◌, length, map, append-nil, drop, filter, take, is_some, option_to_list, slice_get, get_or, if◌then◌else◌, Option, None, Some, option_map, refl, sym, ap, subst, ◌∙◌}
 use Rattle.std.specs.Prelude.{All}
-use Rattle.std.specs.List.{AllByRecursion, AllZip, fold, remove}
+use Rattle.std.specs.List.{AllByRecursion, AllZip, fold, list_any, remove}
+use Rattle.std.specs.Str.{bytes_eq}
 use Rattle.std.specs.Map.{keys_of}
 use Rattle.std.specs.Option.{option_or}
 use Rattle.std.proofs.lemmas.Bool.{cases_Bool}
@@ -23,19 +24,19 @@ use Rattle.ds_certificate.specs.Columns.{Bound}
 use Rattle.ds_certificate.specs.Sources.{jitters_of, source_of}
 use Rattle.ds_checker.specs.Acceptance.{Carries, IsAcceptable, IsWithin, Table, refusal_behind, refusal_of}
 use Rattle.ds_checker.specs.BoundTests.{bound_tests, misfit, tests_along}
-use Rattle.ds_checker.specs.Changes.{with_contract, without_contract}
+use Rattle.ds_checker.specs.Changes.{is_on, own_refusal, with_contract, without_contract}
 use Rattle.ds_domain_base.specs.Sent.{has_peak}
 use Rattle.ds_checker.specs.Loads.{Share, bound_into, kept, share_of, shares_at}
 use Rattle.ds_checker.specs.Sums.{AreBelow, AreSmall, IsBefore, IsKept, IsPart, IsSmall, IsSound, counted_load, loads_of, no_loads, nothing, plus, sums_of, sums_tests, with_brought, with_share}
-use Rattle.ds_checker.specs.TableTests.{table_tests}
+use Rattle.ds_checker.specs.TableTests.{meter_tests, table_tests}
 use Rattle.ds_checker.specs.Tests.{Test, first_failed}
 use Rattle.ds_checker.specs.declared.load.Loads.{Loads}
 use Rattle.ds_checker.specs.declared.refusal.Refusal.{Refusal}
 use Rattle.ds_checker.specs.declared.refusal.Refusal.TheVariants.{Shape}
-use Rattle.ds_checker.proofs.AcceptanceLaws.{acceptable, all_carried, bounded, has_shape, is_shaped, misfit-shaped, misfit-unshaped}
+use Rattle.ds_checker.proofs.AcceptanceLaws.{acceptable, all_carried, bounded, carried, has_shape, is_shaped, misfit-shaped, misfit-unshaped}
 use Rattle.ds_checker.proofs.BoundLaws.{first_failed-append, found}
 use Rattle.ds_checker.proofs.PlaceLaws.{same_loads}
-use Rattle.ds_checker.proofs.LoadLaws.{AreBelow-more, counted_is, green_is, places_kept, same_curve, sums_tests-are, with_share-below, written}
+use Rattle.ds_checker.proofs.LoadLaws.{AreBelow-more, bound_into-absent, counted_is, green_is, places_kept, same_curve, sums_tests-are, with_share-below, written}
 
 -- ---- one contract more
 last_shares : (d : Domain) (name : List ℕ) (c : Contract) (bounds : List Bound) → shares_at d name (c ∷ []) (bounds ∷ []) ≡ share_of d name c bounds
@@ -541,3 +542,62 @@ pub got : {X : Type 0} (xs : List X) (i : ℕ) (x : X) → i < length xs → x �
 got [] i x inside is = absurd (omega (arith, inside))
 got (y ∷ xs) zero x inside is = ap Some (sym is)
 got (y ∷ xs) (suc i) x inside is = got xs i x (omega (arith, inside)) is
+
+-- ---- one contract more is refused for its own tests alone
+off_path : (d : Domain) (contracts : List Contract) (rows : List (List Bound)) (c : Contract) (bounds : List Bound) (name : List ℕ) → length rows ≡ length contracts
+    → list_any (bytes_eq name) c.path ≡ false → shares_at d name (contracts ++ c ∷ []) (rows ++ bounds ∷ []) ≡ shares_at d name contracts rows
+off_path d contracts rows c bounds name long off =
+    shares_at-append d name contracts rows c bounds long
+    ∙ ap (λ f. shares_at d name contracts rows ++ option_to_list (option_map (λ bound. record { source = source_of d c; bound = bound; has_peak = has_peak c.terms }) f))
+    (bound_into-absent name c.path (drop 1 bounds) off)
+    ∙ append-nil (shares_at d name contracts rows)
+
+on_path_by : (b : Bool) (d : Domain) (contracts : List Contract) (rows : List (List Bound)) (c : Contract) (bounds : List Bound) (entry : List ℕ × Meter) (meters : List (List ℕ × Meter))
+    → is_on c.path entry ≡ b → length rows ≡ length contracts → Carries entry.1 (shares_at d entry.0 contracts rows)
+    → first_failed (table_tests d (contracts ++ c ∷ []) (rows ++ bounds ∷ []) meters)
+    ≡ first_failed (table_tests d (contracts ++ c ∷ []) (rows ++ bounds ∷ []) (filter (is_on c.path) meters))
+    → first_failed (table_tests d (contracts ++ c ∷ []) (rows ++ bounds ∷ []) (entry ∷ meters))
+    ≡ first_failed (table_tests d (contracts ++ c ∷ []) (rows ++ bounds ∷ []) (filter (is_on c.path) (entry ∷ meters)))
+unfolding table_tests
+on_path_by true d contracts rows c bounds entry meters is long carries behind =
+    let own = meter_tests entry.0 entry.1 (shares_at d entry.0 (contracts ++ c ∷ []) (rows ++ bounds ∷ [])) in
+    rw is
+    (first_failed-append own (table_tests d (contracts ++ c ∷ []) (rows ++ bounds ∷ []) meters)
+    ∙ ap (option_or (first_failed own)) behind
+    ∙ sym (first_failed-append own (table_tests d (contracts ++ c ∷ []) (rows ++ bounds ∷ []) (filter (is_on c.path) meters))))
+on_path_by false d contracts rows c bounds entry meters is long carries behind =
+    rw is
+    (first_failed-append (meter_tests entry.0 entry.1 (shares_at d entry.0 (contracts ++ c ∷ []) (rows ++ bounds ∷ [])))
+    (table_tests d (contracts ++ c ∷ []) (rows ++ bounds ∷ []) meters)
+    ∙ ap (λ f. option_or f (first_failed (table_tests d (contracts ++ c ∷ []) (rows ++ bounds ∷ []) meters)))
+    (ap (λ shares. first_failed (meter_tests entry.0 entry.1 shares)) (off_path d contracts rows c bounds entry.0 long is)
+    ∙ carried entry.0 entry.1 (shares_at d entry.0 contracts rows) carries)
+    ∙ behind)
+
+on_path : (d : Domain) (contracts : List Contract) (rows : List (List Bound)) (c : Contract) (bounds : List Bound) (meters : List (List ℕ × Meter)) → length rows ≡ length contracts
+    → All (CarriesAt d contracts rows) meters
+    → first_failed (table_tests d (contracts ++ c ∷ []) (rows ++ bounds ∷ []) meters)
+    ≡ first_failed (table_tests d (contracts ++ c ∷ []) (rows ++ bounds ∷ []) (filter (is_on c.path) meters))
+on_path d contracts rows c bounds [] long met = refl
+on_path d contracts rows c bounds (entry ∷ meters) long met =
+    on_path_by (is_on c.path entry) d contracts rows c bounds entry meters refl long (All-head (CarriesAt d contracts rows) entry meters met)
+    (on_path d contracts rows c bounds meters long (All-tail (CarriesAt d contracts rows) entry meters met))
+
+own_by : (b : Bool) (t : Table) (c : Contract) (bounds : List Bound) → is_shaped t.domain c bounds ≡ b → IsAcceptable t → refusal_of (with_contract t c bounds) ≡ own_refusal t c bounds
+unfolding is_shaped
+own_by true t c bounds is met =
+    let d = t.domain in
+    let long = rows_long d t.contracts t.certificate met.0 in
+    let own = tests_along (length t.contracts) (source_of d c) (jitters_of d c) bounds in
+    let rows = t.certificate ++ bounds ∷ [] in
+    let contracts = t.contracts ++ c ∷ [] in
+    rw is
+    (refused-behind t c bounds (loads_of t) (length t.contracts) met refl refl is
+    ∙ ap (option_or (first_failed own))
+    (ap (λ sums. first_failed (sums_tests d.meters sums)) (sums-grown d t.contracts t.certificate c bounds d.meters long)
+    ∙ ap first_failed (sums_tests-are d contracts rows d.meters) ∙ on_path d t.contracts t.certificate c bounds d.meters long met.1)
+    ∙ sym (first_failed-append own (table_tests d contracts rows (filter (is_on c.path) d.meters))))
+own_by false t c bounds is met = rw is (refused-shape t c bounds (length t.contracts) met refl is)
+
+pub refused-for-its-own : (t : Table) (c : Contract) (bounds : List Bound) → IsAcceptable t → refusal_of (with_contract t c bounds) ≡ own_refusal t c bounds
+refused-for-its-own t c bounds met = own_by (is_shaped t.domain c bounds) t c bounds refl met

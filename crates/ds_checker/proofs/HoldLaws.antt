@@ -1,5 +1,7 @@
 -- The greatest hold.
-use Rattle.std.proofs.Common.{arith, ◌≡◌, ℕ, ◌+◌, ◌≤◌, ◌⊎◌, inl, inr, List, [], ◌∷◌, ◌++◌, length, max, refl, sym, ap, ◌∙◌}
+use Rattle.std.proofs.Common.{arith, ◌≡◌, ℕ, ◌+◌, ◌≤◌, Bool, true, false, ◌||◌, nat_eq, ◌⊎◌, inl, inr, List, [], ◌∷◌, ◌++◌, length, max, refl, sym, ap, ◌∙◌}
+use Rattle.std.specs.List.{AllByRecursion, list_any}
+use Rattle.std.proofs.lemmas.Bool.Decides.{nat_tests}
 use Rattle.std.proofs.Math.Nat.{max-zero, le-max_left, le-max_right}
 use Rattle.ds_domain_base.specs.Domains.{Domain, meter_of}
 use Rattle.ds_domain_base.specs.declared.contract.Contract.{Contract}
@@ -65,3 +67,41 @@ along-none d s way from (to ∷ path) = refl
 pub hold_none : (d : Domain) (c : Contract) (bounds : List Bound) → length bounds ≡ 0 → 0 ≡ hold_of d c bounds
 hold_none d c [] none = along-none d (source_of d c) 0 c.port c.path
 hold_none d c (b ∷ bounds) none = absurd (omega (arith, none))
+
+-- the greatest of some numbers is no less than each of them, and one of them
+below_all : (most : ℕ) (numbers : List ℕ) → greatest numbers ≤ most → AllByRecursion (λ n. n ≤ most) numbers
+unfolding greatest
+below_all most [] below = tt
+below_all most (n ∷ numbers) below =
+    (omega (arith, below, le-max_left n (greatest numbers)), below_all most numbers (omega (arith, below, le-max_right n (greatest numbers))))
+
+pub no_less : (numbers : List ℕ) → AllByRecursion (λ n. n ≤ greatest numbers) numbers
+no_less numbers = below_all (greatest numbers) numbers (omega arith)
+
+is_either : (a b : ℕ) → (max a b ≡ a) ⊎ (max a b ≡ b)
+is_either a b = grind arith
+
+equal_test : (a b : ℕ) → a ≡ b → nat_eq a b ≡ true
+equal_test a b same = grind (arith, same, nat_tests)
+
+or_true : (a b : Bool) → b ≡ true → (a || b) ≡ true
+or_true true b holds = refl
+or_true false b holds = holds
+
+first_true : (a b : Bool) → a ≡ true → (a || b) ≡ true
+first_true true b holds = refl
+first_true false b holds = absurd cc
+
+pub one_of : (n : ℕ) (numbers : List ℕ) → list_any (nat_eq (greatest (n ∷ numbers))) (n ∷ numbers) ≡ true
+unfolding greatest
+one_of n [] = first_true (nat_eq (max n 0) n) false (equal_test (max n 0) n (max-zero n))
+one_of n (m ∷ numbers) = elim (is_either n (greatest (m ∷ numbers))) [
+  | inl first ↦ first_true (nat_eq (max n (greatest (m ∷ numbers))) n) (list_any (nat_eq (max n (greatest (m ∷ numbers)))) (m ∷ numbers))
+      (equal_test (max n (greatest (m ∷ numbers))) n first)
+  | inr later ↦ or_true (nat_eq (max n (greatest (m ∷ numbers))) n) (list_any (nat_eq (max n (greatest (m ∷ numbers)))) (m ∷ numbers))
+      (ap (λ g. list_any (nat_eq g) (m ∷ numbers)) later ∙ one_of m numbers)
+]
+
+pub none_or_one : (numbers : List ℕ) → (numbers ≡ []) ⊎ (list_any (nat_eq (greatest numbers)) numbers ≡ true)
+none_or_one [] = inl refl
+none_or_one (n ∷ numbers) = inr (one_of n numbers)
