@@ -1,11 +1,10 @@
 -- A table with one contract more, and one with one fewer.
-use Rattle.std.proofs.Common.{arith, ◌≡◌, ℕ, zero, suc, ◌+◌, ◌-◌, ◌*◌, ◌^◌, ◌≤◌, ◌<◌, Bool, true, false, nat_eq, ◌&&◌, ◌⊎◌, inl, inr, List, [], ◌∷◌, ◌++◌, length, map, append-nil, drop, filter, take, is_some, option_to_list, slice_get, get_or, if◌then◌else◌, Option, None, Some, option_map, refl, sym, ap, subst, ◌∙◌}
+use Rattle.std.proofs.Common.{arith, ◌≡◌, ℕ, zero, suc, ◌+◌, ◌*◌, ◌^◌, ◌≤◌, ◌<◌, Bool, true, false, nat_eq, ◌&&◌, List, [], ◌∷◌, ◌++◌, length, map, append-nil, drop, filter, take, is_some, option_to_list, slice_get, get_or, if◌then◌else◌, Option, None, Some, option_map, refl, sym, ap, subst, ◌∙◌}
 use Rattle.std.specs.Prelude.{All}
-use Rattle.std.specs.List.{AllByRecursion, AllZip, fold, list_any, remove}
+use Rattle.std.specs.List.{AllByRecursion, fold, list_any, remove}
 use Rattle.std.specs.Str.{bytes_eq}
 use Rattle.std.specs.Map.{keys_of}
 use Rattle.std.specs.Option.{option_or}
-use Rattle.std.proofs.lemmas.Bool.{cases_Bool}
 use Rattle.std.proofs.lemmas.Bool.Decides.{nat_tests}
 use Rattle.std.proofs.lemmas.List.Elements.{All-nil, All-cons, All-head, All-tail}
 use Rattle.std.proofs.lemmas.List.{length-map}
@@ -19,7 +18,7 @@ use Rattle.moment_core.specs.declared.column.Column.TheVariants as columns
 use Rattle.ds_domain_base.specs.Domains.{Domain}
 use Rattle.ds_domain_base.specs.declared.contract.Contract.{Contract}
 use Rattle.ds_domain_base.specs.declared.parts.Meter.{Meter}
-use Rattle.ds_certificate.specs.Bounds.{HasShape, IsCertificate, Meets, fits}
+use Rattle.ds_certificate.specs.Bounds.{HasShape, IsCertificate, fits}
 use Rattle.ds_certificate.specs.Columns.{Bound}
 use Rattle.ds_certificate.specs.Sources.{jitters_of, source_of}
 use Rattle.ds_checker.specs.Acceptance.{Carries, IsAcceptable, IsWithin, Table, refusal_behind, refusal_of}
@@ -29,7 +28,7 @@ use Rattle.ds_domain_base.specs.Sent.{has_peak}
 use Rattle.ds_checker.specs.Loads.{Share, bound_into, kept, share_of, shares_at}
 use Rattle.ds_checker.specs.Sums.{AreBelow, AreSmall, IsBefore, IsKept, IsPart, IsSmall, IsSound, counted_load, loads_of, no_loads, nothing, plus, sums_of, sums_tests, with_brought, with_share}
 use Rattle.ds_checker.specs.TableTests.{meter_tests, table_tests}
-use Rattle.ds_checker.specs.Tests.{Test, first_failed}
+use Rattle.ds_checker.specs.Tests.{first_failed}
 use Rattle.ds_checker.specs.declared.load.Loads.{Loads}
 use Rattle.ds_checker.specs.declared.refusal.Refusal.{Refusal}
 use Rattle.ds_checker.specs.declared.refusal.Refusal.TheVariants.{Shape}

@@ -13,7 +13,7 @@ use Rattle.ds_certificate.specs.Sources.{source_of}
 use Rattle.ds_checker.specs.Acceptance.{Carries, IsAcceptable, Table}
 use Rattle.ds_checker.specs.Changes.{lasting, lasting_at, with_lifetime}
 use Rattle.ds_checker.specs.Loads.{shares_at, share_of}
-use Rattle.ds_checker.specs.Sums.{AreSmall, IsKept, IsSmall, IsSound, loads_of, sums_of}
+use Rattle.ds_checker.specs.Sums.{AreSmall, IsKept, IsSmall, IsSound, sums_of}
 use Rattle.ds_checker.specs.declared.load.Loads.{Loads}
 
 abbrev table : Domain → List Contract → List (List Bound) → Table

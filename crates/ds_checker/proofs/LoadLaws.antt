@@ -1,5 +1,5 @@
 -- What is added up for each meter, contract by contract and hop by hop.
-use Rattle.std.proofs.Common.{rules, arith, ◌≡◌, ℕ, zero, suc, ◌+◌, ◌-◌, ◌*◌, ◌^◌, ◌≤◌, ◌<◌, Bool, true, false, cond, nat_lt, nat_le, nat_eq, ◌||◌, ◌&&◌, not, ◌⊎◌, inl, inr, List, [], ◌∷◌, ◌++◌, length, map, filter, take, drop, append-nil, set, get_or, if◌then◌else◌, Option, None, Some, refl, sym, ap, subst, ◌∙◌}
+use Rattle.std.proofs.Common.{arith, ◌≡◌, ℕ, zero, suc, ◌+◌, ◌-◌, ◌*◌, ◌^◌, ◌≤◌, ◌<◌, Bool, true, false, cond, nat_lt, nat_eq, ◌||◌, ◌&&◌, not, ◌⊎◌, inl, inr, List, [], ◌∷◌, ◌++◌, length, map, filter, take, drop, append-nil, set, get_or, if◌then◌else◌, Option, None, Some, refl, sym, ap, subst, ◌∙◌}
 use Rattle.std.specs.Option.{option_or}
 use Rattle.ds_checker.proofs.BoundLaws.{first_failed-append}
 use Rattle.std.specs.List.{AllByRecursion, AllZip, IsDistinct, fold, list_any, position, position_or_len}
@@ -29,10 +29,9 @@ use Rattle.ds_certificate.specs.Ranges.{IsModerate}
 use Rattle.ds_certificate.proofs.Volumes.{bytes_over_most}
 use Rattle.ds_certificate.specs.declared.source.Source.{Source}
 use Rattle.ds_checker.specs.Loads.{Share, bound_into, counted, kept, load, share_of, shares_at}
-use Rattle.ds_checker.specs.Acceptance.{Table}
-use Rattle.ds_checker.specs.Sums.{AreBelow, AreSmall, IsBelow, IsSmall, counted_load, loads_of, no_loads, nothing, plus, share_by, sum_tests, sums_of, sums_tests, with_brought, with_share}
+use Rattle.ds_checker.specs.Sums.{AreBelow, AreSmall, IsBelow, IsSmall, counted_load, no_loads, nothing, plus, share_by, sum_tests, sums_of, sums_tests, with_brought, with_share}
 use Rattle.ds_checker.specs.TableTests.{load_tests, meter_tests, table_tests}
-use Rattle.ds_checker.specs.Tests.{Test, first_failed}
+use Rattle.ds_checker.specs.Tests.{first_failed}
 use Rattle.ds_checker.specs.declared.load.Loads.{Loads}
 use Rattle.ds_checker.specs.declared.refusal.Refusal.{Refusal}
 

@@ -1,5 +1,5 @@
 -- What sums are at the place of a name, and the first place at which a meter has too little.
-use Rattle.std.proofs.Common.{arith, ◌≡◌, ℕ, zero, suc, ◌+◌, ◌-◌, ◌<◌, ◌≤◌, Bool, true, false, nat_lt, ◌⊎◌, inl, inr, List, [], ◌∷◌, ◌++◌, length, set, drop, get_or, if◌then◌else◌, Option, None, Some, option_map, refl, sym, ap, subst, ◌∙◌}
+use Rattle.std.proofs.Common.{arith, ◌≡◌, ℕ, zero, suc, ◌+◌, ◌-◌, ◌<◌, ◌≤◌, Bool, true, false, nat_lt, ◌⊎◌, List, [], ◌∷◌, length, set, drop, get_or, if◌then◌else◌, Option, None, Some, option_map, refl, sym, ap, subst, ◌∙◌}
 use Rattle.std.specs.List.{AllByRecursion, IsDistinct, fold, list_any, position}
 use Rattle.std.specs.Option.{option_or}
 use Rattle.std.specs.Str.{bytes_eq}
@@ -19,14 +19,14 @@ use Rattle.ds_certificate.specs.Sources.{source_of}
 use Rattle.ds_domain_base.specs.Domains.{Domain}
 use Rattle.ds_domain_base.specs.Sent.{has_peak}
 use Rattle.ds_domain_base.specs.declared.contract.Contract.{Contract}
-use Rattle.ds_checker.specs.Loads.{Share, bound_into, kept, share_of}
+use Rattle.ds_checker.specs.Loads.{Share, kept, share_of}
 use Rattle.ds_checker.specs.Places.{at_place, earlier}
 use Rattle.ds_checker.specs.Sums.{IsBefore, IsCounted, IsPeakCounted, less, plus, share_by, sum_tests, sums_tests, with_brought, with_share, without_share}
 use Rattle.ds_checker.specs.Tests.{first_failed}
 use Rattle.ds_checker.specs.declared.load.Loads.{Loads}
 use Rattle.ds_checker.specs.declared.refusal.Refusal.{Refusal}
 use Rattle.ds_checker.proofs.BoundLaws.{first_failed-append}
-use Rattle.ds_checker.proofs.LoadLaws.{apart_at, bound_into-absent, bound_into-ended, bound_into-here, bound_into-other, brought_along, length-with_brought, or_parts, repeats-behind, same_curve, with_brought-apart, with_brought-elsewhere, with_brought-nothing}
+use Rattle.ds_checker.proofs.LoadLaws.{apart_at, bound_into-absent, bound_into-ended, bound_into-here, bound_into-other, brought_along, length-with_brought, or_parts, same_curve, with_brought-apart, with_brought-elsewhere, with_brought-nothing}
 
 -- what is brought to one name alone more than to the others
 pub brought-at : (to : List ℕ) (share : Share) (first later : List ℕ → List Share) (names : List (List ℕ)) (loads : List Loads) (i : ℕ) (d : List ℕ) (l : Loads)
@@ -39,7 +39,7 @@ brought-at to share first later [] loads i d l distinct long inside is same one 
 brought-at to share first later (name ∷ names) [] i d l distinct long inside is same one none = absurd (omega (arith, long))
 brought-at to share first later (name ∷ names) (own ∷ loads) zero d l distinct long inside is same one none = (
   rw is (rw one (ap (λ rest. with_share own share ∷ rest)
-  (sym (with_brought-apart to first later names loads (subst (λ n. AllByRecursion (λ y. bytes_eq n y ≡ false) names) is distinct.0) same)))),
+      (sym (with_brought-apart to first later names loads (subst (λ n. AllByRecursion (λ y. bytes_eq n y ≡ false) names) is distinct.0) same)))),
   rw is (rw none refl),
 )
 brought-at to share first later (name ∷ names) (own ∷ loads) (suc i) d l distinct long inside is same one none =

@@ -234,12 +234,7 @@ impl Accepted {
         if refusal.is_some() {
             return refusal;
         }
-        contract_refusal_at_meters(
-            &self.domain,
-            self.sums.as_slice(),
-            contract,
-            bounds.hops(),
-        )
+        contract_refusal_at_meters(&self.domain, self.sums.as_slice(), contract, bounds.hops())
     }
 
     /// Takes up a contract against which nothing stands; where memory runs out it hands it back, and is as it was.

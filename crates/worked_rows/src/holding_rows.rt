@@ -152,7 +152,14 @@ fn expect_refused(
     contracts.push(contract.copy(alloc)?)?;
     let certificate = make(alloc, table.domain(), contracts.as_slice())?;
     let domain = table.domain().copy(alloc)?;
-    let Err((_, refusal)) = check(alloc, Candidate { domain, contracts, certificate }) else {
+    let Err((_, refusal)) = check(
+        alloc,
+        Candidate {
+            domain,
+            contracts,
+            certificate,
+        },
+    ) else {
         return Err(Fail::from("a larger table"));
     };
     assert_eq!(rt; refusal, wanted);
@@ -243,7 +250,14 @@ fn sums_of_the_greatest_bounds(rt: HostRuntime) -> Result<(), Fail> {
         rows.push(Bounds::new(hops))?;
     }
     let certificate = Certificate::new(rows);
-    let Err((_, refusal)) = check(alloc, Candidate { domain, contracts, certificate }) else {
+    let Err((_, refusal)) = check(
+        alloc,
+        Candidate {
+            domain,
+            contracts,
+            certificate,
+        },
+    ) else {
         return Err(Fail::from("bounds above the bucket"));
     };
     let wanted = Refusal::GreenBurst {

@@ -1,8 +1,6 @@
 use Rattle.std.proofs.Common.{sym, ap, option_map, ◌∙◌}
-use Rattle.std.specs.Map.{keys_of}
-use Rattle.std.proofs.lemmas.Map.Entries.{length-keys_of}
 use Rattle.std.proofs.lemmas.Slice.Zip.{Zip-more, either_empty_from_Zip}
-use Rattle.ds_checker.proofs.LoadLaws.{AreBelow-at, once_behind, position-inside}
+use Rattle.ds_checker.proofs.LoadLaws.{once_behind}
 use Rattle.ds_checker.proofs.PlaceLaws.{found-ended, found-hop, found-past}
 use Rattle.ds_checker.proofs.admission.path_refusal.Goals as goal
 

@@ -1,4 +1,3 @@
-use Rattle.std.proofs.Common.{◌≡◌, sym, ap, ◌∙◌}
 use Rattle.ds_checker.proofs.HoldLaws.{greatest-three}
 use Rattle.ds_checker.proofs.hold.hold_at_hop.Goals as goal
 

@@ -1,4 +1,4 @@
-use Rattle.std.proofs.Common.{rules, ◌≡◌, ◌<◌, Some, length, refl, sym, subst, ◌∙◌}
+use Rattle.std.proofs.Common.{rules, ◌≡◌, ◌<◌, Some, length, refl, subst}
 use Rattle.std.specs.List.{slice_get}
 use Rattle.ds_checker.specs.Acceptance.{Table}
 use Rattle.ds_checker.specs.Changes.{without_contract}
