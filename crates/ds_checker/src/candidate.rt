@@ -192,12 +192,8 @@ impl Accepted {
     {
         let contract = self.contracts.remove(index);
         let bounds = self.certificate.remove(index);
-        take_contract(
-            self.sums.as_mut_slice(),
-            &self.domain,
-            &contract,
-            bounds.hops(),
-        );
+        let domain = &self.domain;
+        take_contract(self.sums.as_mut_slice(), domain, &contract, bounds.hops());
         (contract, bounds)
     }
 
@@ -226,15 +222,16 @@ impl Accepted {
         ensures value { result ≡ refusal_of (with_contract self.now contract.now bounds.now) }
         ensures acceptable { IsAcceptable self.now }
     {
+        let domain = &self.domain;
         let number = self.contracts.len();
-        if !has_shape(&self.domain, contract, bounds) {
+        if !has_shape(domain, contract, bounds) {
             return Some(Refusal::Shape { contract: number });
         }
-        let refusal = contract_refusal(&self.domain, number, contract, bounds);
+        let refusal = contract_refusal(domain, number, contract, bounds);
         if refusal.is_some() {
             return refusal;
         }
-        contract_refusal_at_meters(&self.domain, self.sums.as_slice(), contract, bounds.hops())
+        contract_refusal_at_meters(domain, self.sums.as_slice(), contract, bounds.hops())
     }
 
     /// Takes up a contract against which nothing stands; where memory runs out it hands it back, and is as it was.
@@ -252,14 +249,10 @@ impl Accepted {
             Ok(()) => {}
             Err(bounds) => return Err((contract, bounds)),
         }
-        let _meters = self.domain.meters();
+        let domain = &self.domain;
+        let _meters = domain.meters();
         let bounds = &self.certificate.bounds()[self.contracts.len()];
-        add_contract(
-            self.sums.as_mut_slice(),
-            &self.domain,
-            &contract,
-            bounds.hops(),
-        );
+        add_contract(self.sums.as_mut_slice(), domain, &contract, bounds.hops());
         self.contracts.push(contract).unwrap();
         Ok(())
     }

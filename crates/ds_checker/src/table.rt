@@ -150,12 +150,12 @@ pub(crate) fn take_contract(
 {
     let source = Source::of(domain, contract);
     let has_peak = contract.terms.has_peak();
-    let (_, behind) = bounds.split_at(1);
+    let (_, hops) = bounds.split_at(1);
     take_path(
         sums,
         domain,
         contract.path.meters(),
-        behind,
+        hops,
         &source,
         has_peak,
     );
