@@ -28,7 +28,8 @@ is_on path entry = list_any (bytes_eq entry.0) path
 abbrev pub own_tests : Table → Contract → List Bound → List Test
 own_tests t c bounds =
     tests_along (length t.contracts) (source_of t.domain c) (jitters_of t.domain c) bounds
-    ++ table_tests t.domain (t.contracts ++ c ∷ []) (t.certificate ++ bounds ∷ []) (filter (is_on c.path) t.domain.meters)
+    ++ table_tests t.domain (t.contracts ++ c ∷ []) (t.certificate ++ bounds ∷ [])
+    (filter (is_on c.path) t.domain.meters)
 
 -- what stands against one contract more in itself: its shape, then the first of those tests that fails
 abbrev pub own_refusal : Table → Contract → List Bound → Option Refusal

@@ -1,5 +1,5 @@
--- How long a contract's share is to be held once the contract has ended: until what it sent by then has left every
--- meter of its path, and no window of time that a meter looks at reaches back to it (Cruz 1991, section II).
+-- How long a contract's share is to be held once the contract has ended: as long as its last packets can take to a
+-- meter of its path, and until its rate alone has given the burst that it may have had there (Cruz 1991, section II).
 use Rattle.std.specs.Prelude.{ℕ, ◌+◌, max, List, [], ◌∷◌, ◌++◌, drop, map, slice_get, Option, None, Some}
 use Rattle.moment_core.specs.Columns.{each_column}
 use Rattle.moment_core.specs.Volume.{nanoseconds_for}

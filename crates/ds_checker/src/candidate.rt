@@ -129,8 +129,8 @@ impl Accepted {
     /// Takes up one contract more, behind the others, with its bounds, where the table is acceptable with it.
     ///
     /// Else it hands both back, is as it was, and tells what `check` of the table with that contract would: the first
-    /// test that fails; or `NoMemory` where none does and memory runs out. It looks at the contract, at its bounds and at
-    /// the meters of its path alone.
+    /// test that fails; or `NoMemory` where none does and memory runs out. It looks at the contract, at its bounds and
+    /// at the meters of its path alone.
     pub fn admit(
         &mut self,
         contract: Contract,
@@ -181,8 +181,8 @@ impl Accepted {
         }
     }
 
-    /// Takes out the contract at a place and hands it back with its bounds; those behind it move up. It takes no memory,
-    /// and what is left is acceptable.
+    /// Takes out the contract at a place and hands it back with its bounds; those behind it move up. It takes no
+    /// memory, and what is left is acceptable.
     pub fn withdraw(&mut self, index: usize) -> (Contract, Bounds)
         requires { index < length self.old.contracts }
         ensures withdrawn { self.new ≡ without_contract self.old index }

@@ -143,9 +143,11 @@ pub(crate) fn take_contract(
 )
     requires shape { HasShape domain.now contract.now bounds.now }
     requires places { length sums.old ≡ length domain.now.meters }
-    requires added { (before : List declared_loads.Loads) × IsBefore (λ name. share_of domain.now name contract.now bounds.now)
+    requires added { (before : List declared_loads.Loads) ×
+        IsBefore (λ name. share_of domain.now name contract.now bounds.now)
         (keys_of domain.now.meters) sums.old before }
-    ensures { (before : List declared_loads.Loads) → IsBefore (λ name. share_of domain.now name contract.now bounds.now)
+    ensures { (before : List declared_loads.Loads) →
+        IsBefore (λ name. share_of domain.now name contract.now bounds.now)
         (keys_of domain.now.meters) sums.old before → sums.new ≡ before }
 {
     let source = Source::of(domain, contract);

@@ -125,8 +125,8 @@ fn admit(alloc: Global, table: &mut Accepted, contract: Contract) -> Result<(), 
         .map_err(|_| Fail::from("a refused contract"))
 }
 
-/// Expects the same refusal of a contract with its least bounds in place, on a copy, and by `check` of the table with it;
-/// hands the contract back.
+/// Expects the same refusal of a contract with its least bounds in place, on a copy, and by `check` of the table with
+/// it; hands the contract back.
 fn expect_refused(
     rt: &impl Abort,
     alloc: Global,
