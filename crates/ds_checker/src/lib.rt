@@ -1,10 +1,12 @@
 //! The checker: whether a certificate is acceptable for a domain and its contracts, and where not, the first test that
-//! fails.
+//! fails. What was accepted takes up contracts and gives them back one at a time, on running sums for each meter.
 #![tactic(auto)]
 
 pub mod acceptance;
+mod admission;
 pub mod bounds;
 pub mod candidate;
+mod hold;
 pub mod laws;
 pub mod load;
 pub mod refusal;

@@ -8,7 +8,8 @@ use Rattle.pcap_capture.specs.declared.heading.LinkType.{LinkType}
 use Rattle.ds_checker.specs.Acceptance.{Table}
 use Rattle.ds_visits.specs.declared.sent.Sent.{Sent}
 use Rattle.ds_conductor.specs.Texts.{marked_text, packet_at, plain_text, record_text, text_from}
-use Rattle.pcap_capture.specs.Fronts.{IsFrontOf, IsWrittenTo}
+use Rattle.pcap_capture.specs.Fronts.{IsFrontOf}
+use Rattle.ds_conductor.specs.Writings.{IsWrittenTo}
 use Rattle.ds_conductor.specs.declared.rule.RedRule.{RedRule}
 
 -- where what is left begins with a text of which a front is written then, the rest of that text and what stands behind it is left
@@ -21,7 +22,9 @@ IsWrittenTo-on more left before text middle all after first so grown now = recor
 
 -- and so it is a front of the whole text
 pub IsFrontOf-on : (more before text middle all after first : List ℕ) → IsWrittenTo all before text middle → all ≡ first ++ more → IsFrontOf middle first after → IsFrontOf before text after
-IsFrontOf-on more before text middle all after first so grown now = (now.0 ++ more, IsWrittenTo-on more now.0 before text middle all after first so grown now.1)
+IsFrontOf-on more before text middle all after first so grown now =
+    let all_of : IsWrittenTo (now.1 ++ more) before text after = IsWrittenTo-on more now.1 before text middle all after first so grown (record { front = now.0; whole = now.2; written = now.3 }) in
+    (all_of.front, now.1 ++ more, all_of.whole, all_of.written)
 
 -- where all that is left is written, the whole text is
 pub written_whole : (left before text middle after : List ℕ) → IsWrittenTo left before text middle → after ≡ middle ++ left → after ≡ before ++ text

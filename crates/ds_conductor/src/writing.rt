@@ -3,8 +3,8 @@ ghost use Rattle.std.specs.Prelude.{OnOk};
 ghost use Rattle.meter_fabric_base.specs.Grounds.{contract_of, ground_of};
 ghost use Rattle.pcap_capture.specs.Counts.{next_count};
 ghost use Rattle.ds_conductor.specs.Texts.{is_dropped, packet_at, record_text, text_from, text_in_class};
-ghost use Rattle.pcap_capture.specs.Fronts.{IsFrontOf, IsWrittenTo};
-ghost use Rattle.ds_conductor.specs.Writings.{is_write_fault};
+ghost use Rattle.pcap_capture.specs.Fronts.{IsFrontOf};
+ghost use Rattle.ds_conductor.specs.Writings.{IsWrittenTo, is_write_fault};
 
 use crate::fault::MarkFault;
 use crate::rule::RedRule;

@@ -11,4 +11,6 @@ mod domain_rows;
 #[cfg(test)]
 mod excess_rows;
 #[cfg(test)]
+mod holding_rows;
+#[cfg(test)]
 mod tables;

@@ -1,7 +1,7 @@
 use Rattle.std.proofs.Common.{◌≡◌, ◌+◌, ◌≤◌, ◌++◌, length, drop, zip}
 use Rattle.std.specs.Vec.Iter.{into_iter_items}
 use Rattle.ds_conductor.specs.Texts.{text_from}
-use Rattle.pcap_capture.specs.Fronts.{IsWrittenTo}
+use Rattle.ds_conductor.specs.Writings.{IsWrittenTo}
 use Rattle.ds_conductor.proofs.writing.write_capture.Given as goal
 
 -- what is left of the whole text is what is collected, and then the records of the frames that are left
