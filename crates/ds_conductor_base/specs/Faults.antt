@@ -23,10 +23,11 @@ abbrev pub begin_fault_of : BeginFault → StepFault
 begin_fault_of begins.UnknownFlow = steps.BadStep
 begin_fault_of begins.NoMemory = steps.NoMemory
 
--- no book of a conductor is ever shut
+-- each site that a packet comes to has a book, and no book of a conductor is ever shut
 abbrev pub visit_fault_of : VisitFault → StepFault
 visit_fault_of visits.PathEnded = steps.BadStep
 visit_fault_of visits.BeforeLast = steps.BadStep
 visit_fault_of visits.JournalFull = steps.JournalFull
 visit_fault_of visits.NoMemory = steps.NoMemory
+visit_fault_of visits.NoEdge = steps.BadStep
 visit_fault_of visits.Shut = steps.BadStep

@@ -113,7 +113,10 @@ impl From<VisitFault> for StepFault {
 
     fn from(fault: VisitFault) -> Self {
         match fault {
-            VisitFault::PathEnded | VisitFault::BeforeLast | VisitFault::Shut => StepFault::BadStep,
+            VisitFault::PathEnded
+            | VisitFault::BeforeLast
+            | VisitFault::NoEdge
+            | VisitFault::Shut => StepFault::BadStep,
             VisitFault::JournalFull => StepFault::JournalFull,
             VisitFault::NoMemory => StepFault::NoMemory,
         }

@@ -4,27 +4,13 @@ use Rattle.std.specs.Prelude.{get_or, slice_get}
 use Rattle.std.proofs.lemmas.Bool.{cases_lt}
 use denote.Bor.{Bor}
 use Rattle.meter_book.specs.Chapters.{AreChapters, Chapter, Follows, GoesOn, IsStanding, chapter_rows, closing_of, joined}
+use Rattle.meter_book.specs.Gathering.{AreJoint, IsNext, last_in}
 use Rattle.meter_book.specs.Kept.{stored_of}
 use Rattle.meter_book.specs.declared.stored_row.StoredRow.{StoredRow}
 use Rattle.meter_book.specs.Replay.{Journal}
 use Rattle.meter_book.specs.declared.row.Arrival.{Arrival}
 use Rattle.meter_book.specs.declared.standing.Standing.{Standing}
 use Rattle.meter_book.proofs.StandingLaws.{IsJoint, arrivals_in, follows_past, joint, last_of, linked_closing}
-
--- each of these stands where it belongs, if there is any
-abbrev pub AreJoint : List Chapter → Type 0
-AreJoint chapters = (i : ℕ) → i < length chapters → Follows chapters i
-
--- the last of chapters, if there is any
-abbrev pub last_in : List Chapter → Option Chapter
-last_in [] = None
-last_in (c ∷ []) = Some c
-last_in (c ∷ d ∷ more) = last_in (d ∷ more)
-
--- a chapter goes on behind the last one before it, or is the first of a book
-abbrev pub IsNext : Option Chapter → Chapter → Type 0
-IsNext None c = c.opening.place ≡ 0
-IsNext (Some before) c = GoesOn before c
 
 pub last_in-append : (chapters : List Chapter) (c : Chapter) → last_in (chapters ++ c ∷ []) ≡ Some c
 last_in-append [] c = refl

@@ -16,6 +16,7 @@ visit_code visits.PathEnded = 1
 visit_code visits.JournalFull = 2
 visit_code visits.NoMemory = 3
 visit_code visits.BeforeLast = 4
+visit_code visits.NoEdge = 5
 visit_code visits.Shut = 6
 
 abbrev pub visit_fault_of : NoteFault → VisitFault

@@ -53,6 +53,9 @@ pub enum VisitFault {
     /// The moment is before the packet's last arrival, or before its beginning where it arrived nowhere.
     #[error("the moment is before the last one")]
     BeforeLast,
+    /// Nothing stands at the site: no contract's meter was put there.
+    #[error("no meter stands at the site")]
+    NoEdge,
     /// The site's book was shut at the moment, or before.
     #[error("the book is shut")]
     Shut,
@@ -60,7 +63,7 @@ pub enum VisitFault {
 
 impl VisitFault {
     /// The fault's number: 1 for a path that has ended, 2 for a full journal, 3 for want of memory, 4 for a moment
-    /// before the last one, 6 for a book that is shut.
+    /// before the last one, 5 for a site where nothing stands, 6 for a book that is shut.
     pub fn code(&self) -> u8
         ensures { result ≡ visit_code self.now }
     {
@@ -69,6 +72,7 @@ impl VisitFault {
             VisitFault::JournalFull => 2,
             VisitFault::NoMemory => 3,
             VisitFault::BeforeLast => 4,
+            VisitFault::NoEdge => 5,
             VisitFault::Shut => 6,
         }
     }

@@ -10,7 +10,8 @@ pub mod traveller;
 pub use fault::{BeginFault, VisitFault};
 pub use hop::{Hop, edge_hop};
 pub use site::{
-    MOST_FLOWS, Opening, contract_of, flow_count, flows_of, opening_at, site_count, site_of,
+    MOST_FLOWS, Opening, contract_of, edge_opening, flow_count, flows_of, opening_at, site_count,
+    site_of,
 };
 pub use trail::{Receipt, Trail};
 pub use traveller::Traveller;

@@ -56,7 +56,7 @@ fn edge_at(accepted: &Accepted, flow: u32) -> Option<Opening>
 }
 
 /// What stands at the edge of a contract, if it is policed.
-fn edge_opening(domain: &Domain, contract: &Contract) -> Option<Opening>
+pub fn edge_opening(domain: &Domain, contract: &Contract) -> Option<Opening>
     ensures { result ≡ edge_opening domain.now contract.now }
 {
     let meter = contract.edge()?;

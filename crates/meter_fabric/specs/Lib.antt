@@ -1,0 +1,5 @@
+pub mod Closing
+pub mod Fabrics
+pub mod Faults
+pub mod Tails
+pub mod Visits
