@@ -1,5 +1,5 @@
 -- What a fabric is of, what stands at its sites, and what its passes count.
-use Rattle.std.specs.Prelude.{◌≡◌, ℕ, ◌+◌, ◌*◌, ◌^◌, ◌≤◌, List, length, slice_get, slice_index, slice_set, sum_by}
+use Rattle.std.specs.Prelude.{◌≡◌, ℕ, ◌+◌, ◌-◌, ◌*◌, ◌^◌, ◌≤◌, List, length, slice_get, slice_index, slice_set, sum_by}
 use Rattle.std.specs.Prelude.{option_and_then, option_map, Option, None, Some}
 use Rattle.meter_book.specs.Replay.{Book, most_places, standing_of}
 use Rattle.ds_domain_base.specs.Domains.{Domain}
@@ -43,3 +43,13 @@ pub record IsFramed (domain : Domain) (edges capacity passes sites parts tickets
   pub most_room : capacity ≤ 2 ^ 20
   pub cut : 1 + sites + passes ≡ parts
   pub tickets : tickets ≡ sites * most_places
+
+-- how many places can still be given at a site
+abbrev pub places_left : Option Book → ℕ
+places_left book = most_places - places_of book
+
+-- The tickets of all sites together: a part for each and one more, and as many as places can still be given.
+pub record IsTicketed (books : List (Option Book)) (sites parts tickets : ℕ) : Type 0 where
+  pub cut : parts ≡ 1 + sites
+  pub left : tickets ≡ sum_by places_left books
+  pub given : tickets + sum_by places_of books ≡ sites * most_places

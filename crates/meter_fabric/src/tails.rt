@@ -1,7 +1,8 @@
-ghost use Rattle.std.specs.Prelude.{◌≡◌, ◌<◌, ◌≤◌, ◌↔◌, IsTrue, Some, MatchOption, length, slice_get, vec_len};
+ghost use Rattle.std.specs.Prelude.{◌≡◌, ◌<◌, ◌≤◌, ◌↔◌, ◌^◌, ℕ, All, Any, IsTrue, Some, MatchOption, length, slice_get};
 ghost use Rattle.meter_book.specs.Gathering.{of_site};
+ghost use Rattle.meter_fabric.specs.declared.tails.Tail.{Tail};
 ghost use Rattle.meter_fabric.specs.Tails.{IsAfter, IsClosedBy, IsTail, Reaches};
-ghost use Rattle.meter_fabric.specs.Closing.{IsFirstMissing, IsThere, AreThere, book_at};
+ghost use Rattle.meter_fabric.specs.Closing.{AreThere, IsFirstMissing};
 
 use meter_book::{Chapter, MeterBook};
 
@@ -58,4 +59,42 @@ pub(crate) fn is_closed(chapters: &[Chapter], tail: Tail, book: &Option<MeterBoo
         (Some(book), Tail::At(last)) => book.goes_on(&chapters[last]),
         _ => false,
     }
+}
+
+/// The least site whose chapters do not join, with what stands there behind them, or of which there is a chapter and no
+/// book. `tails` must say how far the chapters of each site join.
+pub(crate) fn first_missing(
+    chapters: &[Chapter],
+    tails: &[Tail],
+    books: &[Option<MeterBook>],
+) -> Option<u32>
+    requires few { length books.now ≤ 2 ^ 20 }
+    requires count { length tails.now ≡ length books.now }
+    requires tails { (site : ℕ) (tail : Tail) → slice_get tails.now site ≡ Some tail
+        → IsTail chapters.now (of_site site chapters.now) tail }
+    ensures { MatchOption result (AreThere books.now chapters.now) (IsFirstMissing books.now chapters.now) }
+{
+    for site in 0..books.len() {
+        if !is_closed(chapters, tails[site], &books[site]) {
+            return Some(site as u32);
+        }
+    }
+    first_stray(chapters, books.len())
+}
+
+/// The least site that is not there of which there is a chapter.
+fn first_stray(chapters: &[Chapter], sites: usize) -> Option<u32>
+    ensures { MatchOption result
+        (All (λ c. c.site < sites) chapters.now)
+        (λ site. (sites ≤ site) × Any (λ c. c.site ≡ site) chapters.now
+        × All (λ c. sites ≤ c.site → site ≤ c.site) chapters.now) }
+{
+    let mut least = None;
+    for chapter in chapters {
+        let site = chapter.site();
+        if site as usize >= sites && least.is_none_or(|found| site < found) {
+            least = Some(site);
+        }
+    }
+    least
 }
