@@ -1,7 +1,7 @@
 -- What a fabric is of, what stands at its sites, and what its passes count.
 use Rattle.std.specs.Prelude.{◌≡◌, ℕ, ◌+◌, ◌-◌, ◌*◌, ◌^◌, ◌≤◌, List, length, slice_get, slice_index, slice_set, sum_by}
 use Rattle.std.specs.Prelude.{option_and_then, option_map, Option, None, Some}
-use Rattle.meter_book.specs.Replay.{Book, most_places, standing_of}
+use Rattle.meter_book.specs.Replay.{Book, most_places, shut_by, standing_of}
 use Rattle.ds_domain_base.specs.Domains.{Domain}
 use Rattle.meter_fabric_base.specs.Openings.{book_with, meter_opening}
 
@@ -11,6 +11,10 @@ pub record Fabric : Type 0 where
   pub edges : ℕ
   pub capacity : ℕ
   pub passes : ℕ
+
+-- a book shut at a moment, or the moment at which it was shut before
+abbrev pub after_shut : ℕ → Book → Book
+after_shut moment b = record { opening = b.opening; capacity = b.capacity; arrivals = b.arrivals; shut = shut_by b moment }
 
 -- how many places were given at a site
 abbrev pub places_of : Option Book → ℕ
@@ -35,14 +39,14 @@ visits_at passes site = sum_by (λ counts. slice_index counts site) passes
 
 -- The tickets of a fabric: each site begins with as many as its book gives places at most. There is a part of them for
 -- each site, for each pass, and one that stays with the fabric.
-pub record IsFramed (domain : Domain) (edges capacity passes sites parts tickets : ℕ) : Type 0 where
+pub record IsFramed (domain : Domain) (edges capacity passes sites parts amount : ℕ) : Type 0 where
   pub numbered : length domain.meters + edges ≡ sites
   pub few_meters : length domain.meters ≤ 1024
   pub few_edges : edges ≤ 65536
   pub some_room : 1 ≤ capacity
   pub most_room : capacity ≤ 2 ^ 20
   pub cut : 1 + sites + passes ≡ parts
-  pub tickets : tickets ≡ sites * most_places
+  pub tickets : amount ≡ sites * most_places
 
 -- how many places can still be given at a site
 abbrev pub places_left : Option Book → ℕ

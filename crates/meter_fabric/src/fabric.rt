@@ -1,4 +1,4 @@
-ghost use Rattle.std.specs.Prelude.{◌≡◌, ◌+◌, ◌≤◌, ◌<◌, ◌↔◌, None, Some, Err, All, IfErr, IfOk, IfSome, OnErr, OnOk};
+ghost use Rattle.std.specs.Prelude.{◌≡◌, ◌+◌, ◌≤◌, ◌<◌, ◌↔◌, ◌^◌, None, Some, Err, All, IfErr, IfOk, IfSome, OnErr, OnOk};
 ghost use Rattle.std.specs.Prelude.{IsErrOf, IsSome, count_by, is_none, length, replicate, slice_index, slice_set, vec_len};
 ghost use Rattle.std.specs.List.{AllZip};
 ghost use Rattle.meter_fabric_base.specs.Openings.{edge_opening};

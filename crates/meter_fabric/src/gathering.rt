@@ -1,4 +1,4 @@
-ghost use Rattle.std.specs.Prelude.{◌≡◌, ◌+◌, ◌∷◌, ◌<◌, ◌≤◌, ◌^◌, ℕ, [], ◌++◌, All, IfOk, None, Some, Option, length, map};
+ghost use Rattle.std.specs.Prelude.{◌≡◌, ◌+◌, ◌∷◌, ◌<◌, ◌≤◌, ◌^◌, ℕ, [], ◌++◌, All, IfOk, List, None, Some, length, map};
 ghost use Rattle.std.specs.Prelude.{slice_get, vec_capacity, vec_len};
 ghost use Rattle.meter_book.specs.Chapters.{Chapter};
 ghost use Rattle.meter_book.specs.Gathering.{last_part, of_site};

@@ -4,7 +4,7 @@ ghost use Rattle.std.specs.List.{AllZip};
 ghost use Rattle.meter_book.specs.Chapters.{after_cut, chapter_of};
 ghost use Rattle.meter_book.specs.Replay.{Book, shut_by};
 ghost use Rattle.meter_fabric_base.specs.Travels.{next_site};
-ghost use Rattle.meter_fabric.specs.Fabrics.{one_more, places_of};
+ghost use Rattle.meter_fabric.specs.Fabrics.{after_shut, one_more, places_of};
 ghost use Rattle.meter_fabric.specs.Visits.{IsAnswered, refusal_here, visit_here};
 
 use crate::fault::{FitFault, ShutFault};
@@ -164,7 +164,7 @@ impl<L: FabricLedger> Site<L> {
         ensures shut { MatchOption self.old (result ≡ Err ShutFault.NoEdge) (λ b. MatchResult result
             (λ end. shut_by b moment ≡ Some end)
             (λ fault. (fault ≡ ShutFault.TooLate) × (shut_by b moment ≡ None))) }
-        ensures after { self.new ≡ option_map (λ b. record b { shut = shut_by b moment }) self.old }
+        ensures after { self.new ≡ option_map (after_shut moment) self.old }
     {
         match &mut self.book {
             None => Err(ShutFault::NoEdge),
