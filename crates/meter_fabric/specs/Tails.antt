@@ -1,7 +1,7 @@
 -- How far the chapters of a site join.
-use Rattle.std.specs.Prelude.{◌≡◌, ℕ, ◌<◌, List, [], length, slice_get, Option, None, Some, IfSome}
+use Rattle.std.specs.Prelude.{◌≡◌, ◌≢◌, ℕ, ◌<◌, ◌≤◌, List, [], length, slice_get, slice_index_or, Option, None, Some, IfSome}
 use Rattle.meter_book.specs.Chapters.{Chapter, GoesOn, closing_of}
-use Rattle.meter_book.specs.Gathering.{AreJoint, last_in}
+use Rattle.meter_book.specs.Gathering.{AreJoint, last_in, of_site}
 use Rattle.meter_book.specs.Replay.{Book}
 use Rattle.meter_fabric.specs.declared.tails.Tail.{Tail}
 use Rattle.meter_fabric.specs.declared.tails.Tail.TheVariants.{Fresh, At, Broken}
@@ -17,6 +17,11 @@ abbrev pub IsTail : List Chapter → List Chapter → Tail → Type 0
 IsTail chapters own Fresh = own ≡ []
 IsTail chapters own (At k) = AreJoint own × (k < length chapters) × (slice_get chapters k ≡ last_in own)
 IsTail chapters own Broken = ¬ AreJoint own
+
+-- the tails of all sites, of the chapters so far
+abbrev pub AreTails : List Chapter → List Chapter → List Tail → Type 0
+AreTails chapters so_far tails =
+    (site : ℕ) → site < length tails → IsTail chapters (of_site site so_far) (slice_index_or tails site Fresh)
 
 -- a chapter goes on behind a tail
 abbrev pub JoinsTail : List Chapter → Tail → Chapter → Type 0
@@ -38,3 +43,9 @@ IsClosedBy chapters Broken None = ⊥
 IsClosedBy chapters Fresh (Some b) = b.opening.place ≡ 0
 IsClosedBy chapters (At k) (Some b) = IfSome (slice_get chapters k) (λ before. b.opening ≡ closing_of before)
 IsClosedBy chapters Broken (Some b) = ⊥
+
+-- the least site from a number on of which there is a chapter, if there is any
+abbrev pub IsLeastStray : List Chapter → ℕ → Option ℕ → Type 0
+IsLeastStray chapters sites None = (s : ℕ) → sites ≤ s → of_site s chapters ≡ []
+IsLeastStray chapters sites (Some site) =
+    (sites ≤ site) × ((s : ℕ) → sites ≤ s → s < site → of_site s chapters ≡ []) × (of_site site chapters ≢ [])

@@ -152,7 +152,7 @@ impl<'a, L: FabricLedger> FabricBooks<'a, L> {
         mut passes: Vec<Pass<L>>,
         chapters: Vec<Chapter>,
     ) -> Result<Vec<Journal>, (FabricBooks<'a, L>, Vec<Pass<L>>, Vec<Chapter>, CloseFault)>
-        requires { vec_len passes ≡ self.entry.fabric.passes }
+        requires { vec_len passes ≡ self.fabric.passes }
         ensures journals { IfOk result (λ journals. journals.items ≡ journals_from 0 chapters.items self.entry.books) }
         ensures there { OnOk result (AreThere self.entry.books chapters.items) }
         ensures even { OnOk result (AreEven self.entry.books passes.items) }

@@ -1,7 +1,5 @@
-ghost use Rattle.std.specs.Prelude.{◌≡◌, ◌<◌, ◌≤◌, ◌↔◌, ◌^◌, ℕ, All, Any, IsTrue, Some, MatchOption, length, slice_get};
-ghost use Rattle.meter_book.specs.Gathering.{of_site};
-ghost use Rattle.meter_fabric.specs.declared.tails.Tail.{Tail};
-ghost use Rattle.meter_fabric.specs.Tails.{IsAfter, IsClosedBy, IsTail, Reaches};
+ghost use Rattle.std.specs.Prelude.{◌≡◌, ◌<◌, ◌≤◌, ◌↔◌, ◌^◌, IsTrue, MatchOption, length};
+ghost use Rattle.meter_fabric.specs.Tails.{AreTails, IsAfter, IsClosedBy, IsLeastStray, Reaches};
 ghost use Rattle.meter_fabric.specs.Closing.{AreThere, IsFirstMissing};
 
 use meter_book::{Chapter, MeterBook};
@@ -19,8 +17,8 @@ pub(crate) enum Tail {
 
 /// How far the chapters of each site join, in one pass over them.
 pub(crate) fn follow_all(chapters: &[Chapter], tails: &mut [Tail])
-    ensures { (site : ℕ) (tail : Tail) → slice_get tails.new site ≡ Some tail
-        → IsTail chapters.now (of_site site chapters.now) tail }
+    ensures count { length tails.new ≡ length tails.old }
+    ensures tails { AreTails chapters.now chapters.now tails.new }
 {
     tails.fill(Tail::Fresh);
     for index in 0..chapters.len() {
@@ -70,8 +68,7 @@ pub(crate) fn first_missing(
 ) -> Option<u32>
     requires few { length books.now ≤ 2 ^ 20 }
     requires count { length tails.now ≡ length books.now }
-    requires tails { (site : ℕ) (tail : Tail) → slice_get tails.now site ≡ Some tail
-        → IsTail chapters.now (of_site site chapters.now) tail }
+    requires tails { AreTails chapters.now chapters.now tails.now }
     ensures { MatchOption result (AreThere books.now chapters.now) (IsFirstMissing books.now chapters.now) }
 {
     for site in 0..books.len() {
@@ -84,16 +81,13 @@ pub(crate) fn first_missing(
 
 /// The least site that is not there of which there is a chapter.
 fn first_stray(chapters: &[Chapter], sites: usize) -> Option<u32>
-    ensures { MatchOption result
-        (All (λ c. c.site < sites) chapters.now)
-        (λ site. (sites ≤ site) × Any (λ c. c.site ≡ site) chapters.now
-        × All (λ c. sites ≤ c.site → site ≤ c.site) chapters.now) }
+    ensures { IsLeastStray chapters.now sites result }
 {
     let mut least = None;
-    for chapter in chapters {
-        let site = chapter.site();
-        if site as usize >= sites && least.is_none_or(|found| site < found) {
-            least = Some(site);
+    for index in 0..chapters.len() {
+        let site = chapters[index].site();
+        if site as usize >= sites {
+            least = Some(least.unwrap_or(site).min(site));
         }
     }
     least
