@@ -1,7 +1,7 @@
 -- What a fabric that is closed comes to: the journals of its books, and what stands against them.
 use Rattle.std.specs.Prelude.{◌≡◌, ℕ, suc, ◌<◌, List, [], ◌∷◌, ◌++◌, length, option_to_list, Option, None, Some}
 use Rattle.meter_book.specs.Chapters.{AreChapters, Chapter, joined}
-use Rattle.meter_book.specs.Gathering.{of_site, parts_of}
+use Rattle.meter_book.specs.Gathering.{last_part, of_site, parts_of}
 use Rattle.meter_book.specs.Replay.{Book, Journal}
 use Rattle.meter_fabric.specs.Fabrics.{Fabric, book_at, places_of, visits_at}
 use Rattle.meter_fabric.specs.declared.fault.CloseFault.{CloseFault}
@@ -12,10 +12,14 @@ pub record Books : Type 0 where
   pub fabric : Fabric
   pub books : List (Option Book)
 
--- the chapters of a site join, with its book's open rows behind them; where there is no book, there is none
+-- chapters of a site join, with its book's open rows behind them; where there is no book, there is none
+abbrev pub IsJoined : List Chapter → ℕ → Option Book → Type 0
+IsJoined own site None = own ≡ []
+IsJoined own site (Some b) = AreChapters (own ++ last_part site b ∷ [])
+
+-- so do all chapters of the site
 abbrev pub IsThere : List Chapter → ℕ → Option Book → Type 0
-IsThere chapters site None = of_site site chapters ≡ []
-IsThere chapters site (Some b) = AreChapters (parts_of chapters site b)
+IsThere chapters site book = IsJoined (of_site site chapters) site book
 
 -- so it is at every site
 abbrev pub AreThere : List (Option Book) → List Chapter → Type 0

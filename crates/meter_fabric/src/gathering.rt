@@ -1,9 +1,9 @@
-ghost use Rattle.std.specs.Prelude.{◌≡◌, ◌+◌, ◌∷◌, ◌<◌, ◌≤◌, ◌^◌, ℕ, [], ◌++◌, All, IfOk, List, None, Some, length, map};
-ghost use Rattle.std.specs.Prelude.{slice_get, vec_capacity, vec_len};
+ghost use Rattle.std.specs.Prelude.{◌≡◌, ◌≢◌, ◌∷◌, ◌<◌, ◌≤◌, ◌^◌, ℕ, [], ◌++◌, IfOk, List, OnOk, Some, length, map};
+ghost use Rattle.std.specs.Prelude.{slice_index_or, vec_capacity, vec_len};
 ghost use Rattle.meter_book.specs.Chapters.{Chapter};
-ghost use Rattle.meter_book.specs.Gathering.{last_part, of_site};
-ghost use Rattle.meter_fabric.specs.Closing.{AreThere, IsThere, journals_from};
-ghost use Rattle.meter_fabric.specs.Gathered.{AreGathered, IsGathered};
+ghost use Rattle.meter_book.specs.Gathering.{of_site};
+ghost use Rattle.meter_fabric.specs.Closing.{AreThere, IsJoined, journals_from};
+ghost use Rattle.meter_fabric.specs.Gathered.{AreGathered, HasAll, HaveAll, IsGathered, IsJournalOf};
 
 use meter_book::{Chapter, Journal, MeterBook};
 use std::alloc::{AllocError, Global};
@@ -35,19 +35,38 @@ fn buckets_of<'a>(
     sites: usize,
 ) -> Result<Vec<Vec<&'a Chapter>>, AllocError>
     ensures count { IfOk result (λ buckets. vec_len buckets ≡ sites) }
-    ensures own { IfOk result (λ buckets. (site : ℕ) → (bucket : _) → slice_get buckets.items site ≡ Some bucket
-        → map (λ c. c.now) bucket.items ≡ of_site site chapters.now) }
+    ensures own { IfOk result (λ buckets. (site : ℕ) → (bucket : _) → site < sites
+        → map (λ c. c.now) (slice_index_or buckets.items site bucket).items ≡ of_site site chapters.now) }
 {
     let mut buckets = Vec::with_capacity(alloc, sites)?;
     for _site in 0..sites {
         buckets.push(Vec::new(alloc))?;
     }
-    for chapter in chapters {
-        if let Some(bucket) = buckets.get_mut(chapter.site() as usize) {
-            bucket.push(chapter)?;
+    for index in 0..chapters.len() {
+        let site = chapters[index].site() as usize;
+        if site < buckets.len() {
+            put(&mut buckets, site, &chapters[index])?;
         }
     }
     Ok(buckets)
+}
+
+/// Puts a chapter behind those of its site.
+fn put<'a>(
+    buckets: &mut Vec<Vec<&'a Chapter>>,
+    site: usize,
+    chapter: &'a Chapter,
+) -> Result<(), AllocError>
+    requires { site < vec_len buckets.old }
+    ensures count { vec_len buckets.new ≡ vec_len buckets.old }
+    ensures there { OnOk result ((bucket : _) → map (λ c. c.now) (slice_index_or buckets.new.items site bucket).items
+        ≡ map (λ c. c.now) (slice_index_or buckets.old.items site bucket).items ++ chapter.now ∷ []) }
+    ensures others { (other : ℕ) → (bucket : _) → other ≢ site
+        → slice_index_or buckets.new.items other bucket ≡ slice_index_or buckets.old.items other bucket }
+{
+    let own = &mut buckets[site];
+    own.push(chapter)?;
+    Ok(())
 }
 
 /// The journal of a site of which chapters were cut.
@@ -57,13 +76,18 @@ fn gather(
     site: u32,
     book: &Option<MeterBook>,
 ) -> Result<Option<Journal>, AllocError>
-    requires { (chapters : List Chapter) → map (λ c. c.now) own.now.items ≡ of_site site chapters → IsThere chapters site book.now }
-    ensures { (chapters : List Chapter) → map (λ c. c.now) own.now.items ≡ of_site site chapters
-        → IfOk result (IsGathered chapters site book.now) }
+    requires { IsJoined (map (λ c. c.now) own.now.items) site book.now }
+    ensures { IfOk result (IsGathered (map (λ c. c.now) own.now.items) site book.now) }
 {
     match book {
-        Some(book) if !own.is_empty() => Ok(Some(Journal::gather(alloc, own, site, book)?)),
-        _ => Ok(None),
+        None => Ok(None),
+        Some(book) => {
+            if own.is_empty() {
+                return Ok(None);
+            }
+            let journal = Journal::gather(alloc, own, site, book)?;
+            Ok(Some(journal))
+        }
     }
 }
 
@@ -75,20 +99,28 @@ pub(crate) fn journals_of(
     mut journals: Vec<Journal>,
 ) -> Vec<Journal>
     requires few { vec_len books ≤ 2 ^ 20 }
+    requires all { HaveAll books.items gathered.items }
     requires none { journals.items ≡ [] }
     requires room { vec_len books ≤ vec_capacity journals }
-    ensures { (chapters : List Chapter) → AreGathered chapters books.items gathered.items → AreThere books.items chapters
+    ensures { (chapters : List Chapter) → AreGathered chapters books.items gathered.items
         → result.items ≡ journals_from 0 chapters books.items }
 {
     for (site, book) in books.into_iter().enumerate() {
-        let Some(book) = book else {
-            continue;
-        };
-        let journal = match gathered[site].take() {
-            Some(journal) => journal,
-            None => book.into_journal().at(site as u32),
-        };
-        journals.push(journal).unwrap();
+        if let Some(book) = book {
+            let found = gathered[site].take();
+            journals.push(journal_at(site as u32, book, found)).unwrap();
+        }
     }
     journals
+}
+
+/// The journal of a site: the one that was gathered, else that of the book's own rows, which must be all.
+fn journal_at(site: u32, book: MeterBook, gathered: Option<Journal>) -> Journal
+    requires { HasAll (Some book) gathered }
+    ensures { IsJournalOf site book gathered result }
+{
+    match gathered {
+        Some(journal) => journal,
+        None => book.into_journal().at(site),
+    }
 }
