@@ -118,7 +118,7 @@ module _ (all : List Chapter) (index : ℕ) (c : Chapter) (within : index < leng
 
 -- ---- what stands at a site behind the tail of its chapters
 
-abbrev EachOf : ℕ → List Chapter → Type 0
+abbrev pub EachOf : ℕ → List Chapter → Type 0
 EachOf site [] = Unit {0}
 EachOf site (c ∷ more) = (c.site ≡ site) × EachOf site more
 
@@ -126,7 +126,7 @@ each_picked : (site : ℕ) (c : Chapter) (own : List Chapter) (b : Bool) → nat
 each_picked site c own true is each = (eqb-true c.site site is, each)
 each_picked site c own false is each = each
 
-each_of : (site : ℕ) (chapters : List Chapter) → EachOf site (of_site site chapters)
+pub each_of : (site : ℕ) (chapters : List Chapter) → EachOf site (of_site site chapters)
 each_of site [] = tt
 each_of site (c ∷ more) = each_picked site c (of_site site more) (nat_eq c.site site) refl (each_of site more)
 

@@ -15,7 +15,7 @@ some_long : (books : List (Option Book)) (passes : List (List ℕ)) (short : ℕ
     → (((s : ℕ) → s < length books → rows_at books s ≤ visits_at passes s) → AreEven books passes)
     → MatchOption long ((s : ℕ) → s < length books → rows_at books s ≤ visits_at passes s) (λ s. (s < length books) × IsLong books passes s) → IsSome long
 some_long books passes short None below is even none = let same = even none short below in absurd (omega (arith, is.1, same))
-some_long books passes short (Some s) below is even found = tt
+some_long books passes short (Some s) below is even found = refl
 
 pub unwrap-long-requires : goal.unwrap-long-requires
 unwrap-long-requires g c =
