@@ -80,3 +80,10 @@ counted_more old mid new site now i done short so_far is =
     by (Some fault) same =
         let sum : slice_index old site + count_by (λ (v : Visit). is_none v.fault) (take i now) ≡ slice_index old site + (count_by (λ (v : Visit). is_none v.fault) (take i now) + 0) = omega arith in
         same ∙ so_far ∙ ap (set old site) sum
+
+-- one more that is not made
+pub none_more : (now : List Visit) (i : ℕ) (new : Visit) → i < length now → count_by (λ (v : Visit). is_none v.fault) (take i now) ≡ 0 → is_none new.fault ≡ false
+    → count_by (λ (v : Visit). is_none v.fault) (take (i + 1) (set now i new)) ≡ 0
+none_more now i new short so_far made =
+    ap (count_by (λ (v : Visit). is_none v.fault)) (take_more_set now i new short) ∙ sum_by_push (λ (v : Visit). cond (is_none v.fault) 1 0) (take i now) new
+    ∙ ap (λ b. count_by (λ (v : Visit). is_none v.fault) (take i now) + cond b 1 0) made ∙ omega (arith, so_far)
