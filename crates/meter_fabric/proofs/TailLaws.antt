@@ -87,8 +87,7 @@ tail_more : (all own : List Chapter) (tail : Tail) (index : ℕ) (c : Chapter) (
     → IsTail all own tail → IsAfter all tail index next → IsTail all (own ++ c ∷ []) next
 tail_more all own tail index c Fresh within at is after = absurd after
 tail_more all own tail index c (At k) within at is after =
-    let joins : JoinsTail all tail c = at_some (slice_get all index) (JoinsTail all tail) c at after.1 in
-    (
+    let joins : JoinsTail all tail c = at_some (slice_get all index) (JoinsTail all tail) c at after.1 in (
       joins_more all own tail c is joins,
       subst (λ i. i < length all) (sym after.0) within,
       ap (slice_get all) after.0 ∙ at ∙ sym (last_in-append own c),

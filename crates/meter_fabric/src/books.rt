@@ -262,7 +262,9 @@ fn lock_all<L: FabricLedger>(
     books.reverse();
     while let Some(book) = books.pop() {
         let tickets = share.split_off(1, PLACES - rows_of(&book));
-        locks.push(CachePadded::new(Mutex::new(Site::new(book, tickets)))).unwrap();
+        locks
+            .push(CachePadded::new(Mutex::new(Site::new(book, tickets))))
+            .unwrap();
     }
 }
 

@@ -25,10 +25,7 @@ pub(crate) fn uneven<L: FabricLedger>(
 }
 
 /// The least site with fewer rows than visits.
-fn first_short<L: FabricLedger>(
-    books: &[Option<MeterBook>],
-    passes: &[Pass<L>],
-) -> Option<usize>
+fn first_short<L: FabricLedger>(books: &[Option<MeterBook>], passes: &[Pass<L>]) -> Option<usize>
     requires { length books.now ≤ 2 ^ 20 }
     ensures { MatchOption result
         ((site : ℕ) → site < length books.now → visits_at passes.now site ≤ rows_at books.now site)
@@ -43,10 +40,7 @@ fn first_short<L: FabricLedger>(
 }
 
 /// The least site with more rows than visits.
-fn first_long<L: FabricLedger>(
-    books: &[Option<MeterBook>],
-    passes: &[Pass<L>],
-) -> Option<usize>
+fn first_long<L: FabricLedger>(books: &[Option<MeterBook>], passes: &[Pass<L>]) -> Option<usize>
     requires { length books.now ≤ 2 ^ 20 }
     ensures { MatchOption result
         ((site : ℕ) → site < length books.now → rows_at books.now site ≤ visits_at passes.now site)

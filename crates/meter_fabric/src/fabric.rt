@@ -198,13 +198,7 @@ impl<'a, L: FabricLedger> Fabric<'a, L> {
 
     /// Visits of several travellers that come to one site next, one after the other in their order, under one lock. Each
     /// is answered as `advance` answers it, in its `fault`.
-    pub fn visit_all<R: Wait>(
-        &self,
-        rt: &R,
-        pass: &mut Pass<L>,
-        site: u32,
-        visits: &mut [Visit],
-    )
+    pub fn visit_all<R: Wait>(&self, rt: &R, pass: &mut Pass<L>, site: u32, visits: &mut [Visit])
         requires { All (λ visit. next_site visit.traveller ≡ Some site) visits.old }
         ensures answered { AllZip IsAnswered visits.old visits.new }
         ensures counted { pass.new ≡ slice_set pass.old site
