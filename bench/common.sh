@@ -40,7 +40,7 @@ best() {
     sort -n "$1" | head -n 1
 }
 
-# Times the program `proved` and the plain program beside it, in turns, with two words and a count, and with the count 0, in
+# Times the program `proved` and the plain program beside it, in turns, on the file that `given` names, if any, with two words and a count, and with the count 0, in
 # which nothing but the preparation is done; their outputs have to be the same. What a run takes beyond its preparation goes, in
 # nanoseconds, into `proved_time` and `plain_time`.
 #
@@ -52,8 +52,8 @@ beside() {
         for program in proved plain; do
             path=$proved
             [ "$program" = proved ] || path=$folder/plain
-            timed /dev/null "$folder/$program.none" "$path" "$2" "$3" 0 >> "$folder/$program.none.times"
-            timed /dev/null "$folder/$program.out" "$path" "$2" "$3" "$4" >> "$folder/$program.times"
+            timed "${given:-/dev/null}" "$folder/$program.none" "$path" "$2" "$3" 0 >> "$folder/$program.none.times"
+            timed "${given:-/dev/null}" "$folder/$program.out" "$path" "$2" "$3" "$4" >> "$folder/$program.times"
         done
         turn=$((turn + 1))
     done

@@ -83,7 +83,7 @@ pub Meets-least : (d : Domain) (c : Contract) → Meets d c (least_of d c)
 Meets-least d c = each_of (λ column. MeetsIn column (source_of d c) (jitters_of d c) (least_of d c))
     (λ column. MeetsIn-least column (source_of d c) (jitters_of d c))
 
-least_below : (d : Domain) (c : Contract) (bounds : List Bound) → HasShape d c bounds → Meets d c bounds → AllZip IsAtMost (least_of d c) bounds
+pub least_below : (d : Domain) (c : Contract) (bounds : List Bound) → HasShape d c bounds → Meets d c bounds → AllZip IsAtMost (least_of d c) bounds
 least_below d c bounds shape met =
     let long : length bounds ≡ suc (length (jitters_of d c)) = shape.1 ∙ ap suc (sym (length-jitters_along d c.port c.path)) in
     AllZip-each (λ column a b. bytes_in column a ≤ bytes_in column b) (least_of d c) bounds

@@ -1,11 +1,10 @@
 -- What a reader of a certificate's lines needs.
-use Rattle.std.proofs.Common.{rules, append_assoc, append-nil, get_or, take, ◌≡◌, ◌≢◌, ℕ, suc, ◌+◌, ◌-◌, ◌≤◌, ◌<◌, Bool, false, ◌&&◌, List, [], ◌∷◌, ◌++◌, drop, length, None, Some, Result, Ok, Err, refl, sym, ap, ◌∙◌, arith, if◌then◌else◌}
+use Rattle.std.proofs.Common.{rules, append_assoc, append-nil, get_or, take, ◌≡◌, ◌≢◌, ℕ, suc, ◌+◌, ◌-◌, ◌≤◌, ◌<◌, Bool, false, List, [], ◌∷◌, ◌++◌, drop, length, None, Some, Result, Ok, Err, refl, sym, ap, ◌∙◌, arith, if◌then◌else◌}
 use Rattle.std.proofs.lemmas.Bool.Decides.{nat_tests}
 use Rattle.std.proofs.lemmas.List.{drop_all, drop_more}
 use Rattle.line_text.specs.Lines.{fields_of, has_byte, lines_of}
-use Rattle.line_text.specs.Numbers.{is_number, number_of}
+use Rattle.line_text.specs.Numbers.{number_of}
 use Rattle.line_text.proofs.LineLemmas.{lines_of-nil, lines_of-uncut}
-use Rattle.ds_domain_base.specs.Names.{is_name}
 use Rattle.ds_domain_base.specs.declared.contract.Contract.{Contract}
 use Rattle.ds_certificate.specs.Columns.{Bound}
 use Rattle.ds_certificate.specs.Readings.{Entry, Read, bound_in, bounds_in, ending_in, entry_in, entry_of, has_form, if_formed, onto, row_onto, rows_in}

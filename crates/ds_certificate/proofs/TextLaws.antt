@@ -1,5 +1,5 @@
 -- What is written of a certificate, and that it reads as the same.
-use Rattle.std.proofs.Common.{rules, append_assoc, append-nil, length-append, drop, get_or, ◌≡◌, ℕ, suc, ◌+◌, ◌/◌, ◌%◌, ◌≤◌, ◌<◌, ◌^◌, Bool, true, false, ◌&&◌, ◌||◌, eqb, List, [], ◌⊎◌, inl, inr, ◌∷◌, ◌++◌, length, fold, Option, None, Some, Ok, Err, codes, decimal, IsTrue, refl, sym, ap, subst, ◌∙◌, arith, if◌then◌else◌}
+use Rattle.std.proofs.Common.{rules, append_assoc, append-nil, length-append, drop, get_or, ◌≡◌, ℕ, suc, ◌+◌, ◌/◌, ◌%◌, ◌≤◌, ◌<◌, ◌^◌, Bool, true, false, ◌&&◌, ◌||◌, eqb, List, [], ◌⊎◌, inl, inr, ◌∷◌, ◌++◌, length, fold, Option, Some, Ok, Err, codes, decimal, IsTrue, refl, sym, ap, subst, ◌∙◌, arith, if◌then◌else◌}
 use Rattle.std.specs.List.{AllByRecursion, list_all}
 use Rattle.std.specs.Char.{is_ascii_digit}
 use Rattle.std.specs.Cmp.Lexicographic.{nat_list_eq_equiv}

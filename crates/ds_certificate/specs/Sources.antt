@@ -1,13 +1,11 @@
 -- What a contract's traffic keeps where it enters a domain, and by how much delays differ on its way.
-use Rattle.std.specs.Prelude.{ℕ, List, [], ◌∷◌, Option, None, Some, unwrap_or}
+use Rattle.std.specs.Prelude.{ℕ, List, [], ◌∷◌, None, Some, unwrap_or}
 use Rattle.envelope_core.specs.Curve.{Curve, widened}
 use Rattle.moment_core.specs.declared.column.Column.{Column}
 use Rattle.moment_core.specs.declared.column.Column.TheVariants.{Green, All, Excess}
 use Rattle.meter_book_base.specs.Envelopes.{output_in}
 use Rattle.ds_domain_base.specs.Domains.{Domain, jitter_of, link_of, port_of, skew_of}
 use Rattle.ds_domain_base.specs.declared.contract.Contract.{Contract}
-use Rattle.ds_domain_base.specs.declared.parts.Link.{Link}
-use Rattle.ds_domain_base.specs.declared.parts.Port.{Port}
 use Rattle.ds_domain_base.specs.declared.parts.Version.{Version}
 use Rattle.ds_domain_base.specs.declared.parts.Version.TheVariants.{One, Two}
 use Rattle.ds_domain_base.specs.declared.terms.Peak.{Peak}

@@ -1,6 +1,7 @@
-ghost use Rattle.std.specs.Prelude.{◌≡◌, ◌+◌, ◌*◌, ◌≤◌, ◌^◌, ◌⊎◌, false, List, IsTrue, IfOk, IfErr};
-ghost use Rattle.std.specs.List.{list_all};
-ghost use Rattle.ds_certificate.specs.Bounds.{AreAtMost, IsCertificate, delayed, entering, fits, least, least_of};
+ghost use Rattle.std.specs.Prelude.{◌≡◌, ◌+◌, ◌*◌, ◌≤◌, ◌^◌, ◌⊎◌, false, true, List, IsTrue, IfOk, IfErr};
+ghost use Rattle.std.specs.List.{AllZip, list_all};
+ghost use Rattle.ds_certificate.specs.Bounds.{AreAtMost, HasShape, IsAtMost, IsCertificate, Meets, delayed, entering};
+ghost use Rattle.ds_certificate.specs.Bounds.{fits, least, least_of};
 ghost use Rattle.ds_certificate.specs.Columns.{InEach, bytes_in, envelope_in};
 ghost use Rattle.ds_certificate.specs.Columns as columns;
 ghost use Rattle.moment_core.specs.Volume.{bytes_over};
@@ -35,12 +36,34 @@ pub fn make(
 {
     let mut bounds = Vec::with_capacity(alloc, contracts.len())?;
     for contract in contracts {
-        if !is_fit(domain, contract) {
-            return Err(CertificateFault::Shape);
-        }
-        bounds.push(least_bounds(alloc, domain, contract)?)?;
+        let hops = bounds_of(alloc, domain, contract)?;
+        bounds.push(Bounds::new(hops))?;
     }
     Ok(Certificate::new(bounds))
+}
+
+/// The least bounds of one contract, from hop 0 on: those that `make` gives it among any others.
+///
+/// Refused: `Shape` where the contract does not fit the domain, `NoMemory` where memory runs out.
+pub fn bounds_of(
+    alloc: Global,
+    domain: &Domain,
+    contract: &Contract,
+) -> Result<Vec<Bound>, CertificateFault>
+    ensures value { IfOk result (λ bounds. bounds.items ≡ least_of domain.now contract.now) }
+    ensures meets { IfOk result
+        (λ bounds. HasShape domain.now contract.now bounds.items × Meets domain.now contract.now bounds.items) }
+    ensures least { IfOk result (λ bounds. (other : List columns.Bound) →
+        HasShape domain.now contract.now other → Meets domain.now contract.now other →
+        AllZip IsAtMost bounds.items other) }
+    ensures refused { IfErr result (λ fault.
+        ((fault ≡ CertificateFault.NoMemory) × (fits domain.now contract.now ≡ true))
+        ⊎ ((fault ≡ CertificateFault.Shape) × (fits domain.now contract.now ≡ false))) }
+{
+    if !is_fit(domain, contract) {
+        return Err(CertificateFault::Shape);
+    }
+    Ok(least_bounds(alloc, domain, contract)?)
 }
 
 /// Whether a contract fits a domain.
@@ -51,9 +74,13 @@ pub fn is_fit(domain: &Domain, contract: &Contract) -> bool
 }
 
 /// The least bounds of a contract that fits a domain.
-fn least_bounds(alloc: Global, domain: &Domain, contract: &Contract) -> Result<Bounds, AllocError>
+fn least_bounds(
+    alloc: Global,
+    domain: &Domain,
+    contract: &Contract,
+) -> Result<Vec<Bound>, AllocError>
     requires { IsTrue (fits domain.now contract.now) }
-    ensures { IfOk result (λ bounds. bounds ≡ least_of domain.now contract.now) }
+    ensures { IfOk result (λ bounds. bounds.items ≡ least_of domain.now contract.now) }
 {
     let source = Source::of(domain, contract);
     let path = contract.path.meters();
@@ -67,7 +94,7 @@ fn least_bounds(alloc: Global, domain: &Domain, contract: &Contract) -> Result<B
         last = next;
         from = to;
     }
-    Ok(Bounds::new(hops))
+    Ok(hops)
 }
 
 /// The least first bound of traffic: the bursts that it enters with.

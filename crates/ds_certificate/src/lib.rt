@@ -14,7 +14,7 @@ pub mod writing;
 pub use bound::Bound;
 pub use certificate::{Bounds, Certificate};
 pub use fault::CertificateFault;
-pub use least::{is_fit, make};
+pub use least::{bounds_of, is_fit, make};
 pub use reading::read;
 pub use source::Source;
 pub use writing::write;

@@ -2,7 +2,7 @@ ghost use Rattle.std.specs.Prelude.{◌≡◌, ◌*◌, ◌≤◌, ◌^◌};
 ghost use Rattle.envelope_core.specs.Curve.{widened};
 ghost use Rattle.meter_book_base.specs.Envelopes.{all_output, green_output, output_in};
 ghost use Rattle.ds_domain_base.specs.Domains.{port_of, skew_of};
-ghost use Rattle.ds_certificate.specs.Columns.{envelope_in};
+ghost use Rattle.ds_certificate.specs.Columns.{InEach, envelope_in};
 ghost use Rattle.ds_certificate.specs.Ranges.{IsModerate, IsModest};
 ghost use Rattle.ds_certificate.specs.Sources.{curve_of, edge_column, source_by, source_of};
 
@@ -30,6 +30,7 @@ impl Source {
     pub fn of(domain: &Domain, contract: &Contract) -> Self
         ensures value { result ≡ source_of domain.now contract.now }
         ensures moderate { IsModerate result }
+        ensures least { InEach (λ column. 1 ≤ (envelope_in column result).rate) }
     {
         let skew = domain.port_skew(contract.port);
         source_by(domain.version(), skew, &contract.terms)
@@ -52,6 +53,7 @@ fn source_by(version: Version, skew: Gap, terms: &Terms) -> Source
     requires { skew ≤ 10 ^ 10 }
     ensures value { result ≡ source_by version skew terms.now }
     ensures moderate { IsModerate result }
+    ensures least { InEach (λ column. 1 ≤ (envelope_in column result).rate) }
 {
     match terms {
         Terms::Trusted {
@@ -86,6 +88,7 @@ fn edge_source(version: Version, skew: Gap, parameters: Parameters) -> Source
       excess = widened skew (output_in (edge_column version) parameters);
     } }
     ensures moderate { IsModerate result }
+    ensures least { InEach (λ column. 1 ≤ (envelope_in column result).rate) }
 {
     let excess = match version {
         Version::One => parameters.all_envelope(),
@@ -102,6 +105,7 @@ fn edge_source(version: Version, skew: Gap, parameters: Parameters) -> Source
 fn profile(profile: Profile) -> Envelope
     ensures value { result ≡ curve_of profile }
     ensures modest { IsModest result }
+    ensures least { 1 ≤ result.rate }
 {
     let Profile { rate, burst } = profile;
     Envelope::new(rate.get(), u64::from(burst)).unwrap()

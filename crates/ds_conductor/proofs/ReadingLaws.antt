@@ -4,10 +4,11 @@ use Rattle.std.proofs.Math.ListN.{drop_of_length-le}
 use Rattle.pcap_capture.specs.Frames.{FrameValue}
 use Rattle.pcap_capture.specs.Grammar.{CaptureState, IsSoFar, Next, Partial, TooLong, Whole, Reading, Stops, after_heading, after_magic, capture, continued_from, ending, fault_after, fault_in, from_next, has_version, heading_of, link_number, link_of, linked, magic_of, next_of, prepend, read_on, reading, records, records_within, versioned}
 use Rattle.pcap_capture.specs.declared.fault.PcapFault.{PcapFault}
-use Rattle.pcap_capture.specs.declared.fault.PcapFault.TheVariants.{NotPcap, IsPcapng, BadVersion, LinkType, RecordTooLong, ReadFault, NoMemory, Failed, Truncated}
+use Rattle.pcap_capture.specs.declared.fault.PcapFault.TheVariants as pcaps
+use Rattle.pcap_capture.specs.declared.fault.PcapFault.TheVariants.{NotPcap, IsPcapng, BadVersion, RecordTooLong, ReadFault, NoMemory, Failed, Truncated}
 use Rattle.pcap_capture.specs.declared.heading.Endianness.{Endianness}
 use Rattle.pcap_capture.specs.declared.heading.Heading.{Heading}
-use Rattle.pcap_capture.specs.declared.heading.Link.{Link}
+use Rattle.pcap_capture.specs.declared.heading.LinkType.{LinkType}
 use Rattle.pcap_capture.specs.declared.heading.TimeUnit.{TimeUnit}
 use Rattle.pcap_capture.specs.declared.stage.Stage.{Stage}
 use Rattle.pcap_capture.specs.declared.stage.Stage.TheVariants.{Opening, Records, Broken}
@@ -43,8 +44,8 @@ refused fault = Err fault
 err_is : (found fault : PcapFault) → is_own found ≡ true → refused found ≡ Err fault → is_own fault ≡ true
 err_is found fault own h = own_is found fault own cc
 
-linked_own : (order : Endianness) (unit : TimeUnit) (bytes : List ℕ) (link : Option Link) (fault : PcapFault) → linked order unit bytes link ≡ Err fault → is_own fault ≡ true
-linked_own order unit bytes None fault h = err_is (LinkType (link_number order bytes)) fault refl h
+linked_own : (order : Endianness) (unit : TimeUnit) (bytes : List ℕ) (link : Option LinkType) (fault : PcapFault) → linked order unit bytes link ≡ Err fault → is_own fault ≡ true
+linked_own order unit bytes None fault h = err_is (pcaps.LinkType (link_number order bytes)) fault refl h
 linked_own order unit bytes (Some link) fault h = cc
 
 versioned_own : (right : Bool) (linked : Result Heading PcapFault) (fault : PcapFault) → (linked ≡ Err fault → is_own fault ≡ true)

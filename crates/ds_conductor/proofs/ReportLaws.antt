@@ -13,7 +13,7 @@ use Rattle.ds_conductor.specs.Texts.{is_dropped}
 use Rattle.ds_conductor.specs.declared.report.Report.{Report}
 use Rattle.ds_conductor.specs.declared.rule.RedRule.{RedRule}
 use Rattle.ds_conductor.specs.declared.rule.RedRule.TheVariants.{Drop, Keep}
-use Rattle.ds_conductor.specs.declared.sending.Sending.{Sending}
+use Rattle.ds_conductor.specs.declared.sending.Traffic.{Traffic}
 use Rattle.ds_conductor.specs.declared.tally.Tallies.{Tallies}
 
 -- where red packets are kept, none is left out
@@ -27,7 +27,7 @@ dropped_by Keep coloured red dropped reds kept left_out = kept refl ∙ sym (non
 dropped_by Drop coloured red dropped reds kept left_out = left_out refl ∙ reds
 
 -- the report that the sums of the three colours make
-pub told : (see : List ℕ → Sight) (rule : RedRule) (frames : List FrameValue) (s : Sending) (coloured : List (Sent × Colour)) (records marked dropped : ℕ) (sums : Tallies)
+pub told : (see : List ℕ → Sight) (rule : RedRule) (frames : List FrameValue) (s : Traffic) (coloured : List (Sent × Colour)) (records marked dropped : ℕ) (sums : Tallies)
     → IsSending see frames s → length frames ≡ records → marked ≡ length coloured
     → sums.green ≡ tally_of is_green coloured → sums.yellow ≡ tally_of is_yellow coloured → sums.red ≡ tally_of is_red coloured
     → (rule ≡ Keep → dropped ≡ 0) → (rule ≡ Drop → dropped ≡ sums.red.packets)

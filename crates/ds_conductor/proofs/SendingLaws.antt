@@ -9,7 +9,7 @@ use Rattle.frame_marker.specs.declared.sight.Sight.{Sight}
 use Rattle.ds_visits.specs.declared.sent.Sent.{Sent}
 use Rattle.ds_conductor.specs.Reports.{seen_as}
 use Rattle.ds_conductor.specs.Sendings.{IsSending, sent_by, sent_from}
-use Rattle.ds_conductor.specs.declared.sending.Sending.{Sending}
+use Rattle.ds_conductor.specs.declared.sending.Traffic.{Traffic}
 
 -- the frames from a place on are the frame there and those behind it
 frames_here : (frames : List FrameValue) (i : ℕ) (f : FrameValue) → i < length frames → f ≡ get_or frames i f → drop i frames ≡ f ∷ drop (i + 1) frames
@@ -61,6 +61,6 @@ seen_ended see picked frames i before all over so_far =
     omega arith
 
 -- what frames send does not depend on how it is said what they are
-pub seen_alike : (see other : List ℕ → Sight) (frames : List FrameValue) (s : Sending) → ((bytes : List ℕ) → see bytes ≡ other bytes)
+pub seen_alike : (see other : List ℕ → Sight) (frames : List FrameValue) (s : Traffic) → ((bytes : List ℕ) → see bytes ≡ other bytes)
     → IsSending see frames s → IsSending other frames s
 seen_alike see other frames s alike sending = subst (λ (it : List ℕ → Sight). IsSending it frames s) (fun_ext alike) sending

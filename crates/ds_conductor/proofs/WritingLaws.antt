@@ -4,7 +4,7 @@ use Rattle.std.specs.Int.{from_bool}
 use Rattle.std.proofs.lemmas.List.{drop-drop, take-append-drop}
 use Rattle.moment_core.specs.declared.colour.Colour.{Colour}
 use Rattle.pcap_capture.specs.Frames.{FrameValue}
-use Rattle.pcap_capture.specs.declared.heading.Link.{Link}
+use Rattle.pcap_capture.specs.declared.heading.LinkType.{LinkType}
 use Rattle.ds_checker.specs.Acceptance.{Table}
 use Rattle.ds_visits.specs.declared.sent.Sent.{Sent}
 use Rattle.ds_conductor.specs.Texts.{marked_text, packet_at, plain_text, record_text, text_from}
@@ -51,14 +51,14 @@ from_bool-if false = refl
 pub taken-from : (packet : Option (Sent × Colour)) (flag : Bool) (count : ℕ) → count ≡ from_bool flag → flag ≡ is_some packet → count ≡ taken packet
 taken-from packet flag count counted same = counted ∙ ap from_bool same ∙ from_bool-if (is_some packet)
 
-record_first : (t : Table) (red : RedRule) (link : Link) (number : ℕ) (f : FrameValue) (frames : List FrameValue) (s : Sent) (colour : Colour) (coloured : List (Sent × Colour)) (same : Bool) →
+record_first : (t : Table) (red : RedRule) (link : LinkType) (number : ℕ) (f : FrameValue) (frames : List FrameValue) (s : Sent) (colour : Colour) (coloured : List (Sent × Colour)) (same : Bool) →
     (if same then marked_text t red link f s colour ++ text_from t red link (suc number) frames coloured else plain_text f ++ text_from t red link (suc number) frames ((s, colour) ∷ coloured))
     ≡ record_text t red link f (if same then Some (s, colour) else None) ++ text_from t red link (suc number) frames (drop (taken (if same then Some (s, colour) else None)) ((s, colour) ∷ coloured))
 record_first t red link number f frames s colour coloured true = refl
 record_first t red link number f frames s colour coloured false = refl
 
 -- the records of frames are that of the first, and then those of the others
-pub text_from-more : (t : Table) (red : RedRule) (link : Link) (number : ℕ) (f : FrameValue) (frames : List FrameValue) (coloured : List (Sent × Colour)) →
+pub text_from-more : (t : Table) (red : RedRule) (link : LinkType) (number : ℕ) (f : FrameValue) (frames : List FrameValue) (coloured : List (Sent × Colour)) →
     text_from t red link number (f ∷ frames) coloured
     ≡ record_text t red link f (packet_at number coloured) ++ text_from t red link (suc number) frames (drop (taken (packet_at number coloured)) coloured)
 unfolding text_from
@@ -66,7 +66,7 @@ text_from-more t red link number f frames [] = refl
 text_from-more t red link number f frames ((s, colour) ∷ coloured) = record_first t red link number f frames s colour coloured (nat_eq s.packet number)
 
 -- A frame's record moves from what is left to what is collected, with the packet that it sent.
-pub text_left : (t : Table) (red : RedRule) (link : Link) (number next place after : ℕ) (f : FrameValue) (left rest : List FrameValue) (coloured : List (Sent × Colour)) (packet : Option (Sent × Colour)) (out grown : List ℕ) →
+pub text_left : (t : Table) (red : RedRule) (link : LinkType) (number next place after : ℕ) (f : FrameValue) (left rest : List FrameValue) (coloured : List (Sent × Colour)) (packet : Option (Sent × Colour)) (out grown : List ℕ) →
     left ≡ f ∷ rest → next ≡ number + 1 → packet ≡ packet_at number (drop place coloured) → after ≡ place + taken packet → grown ≡ out ++ record_text t red link f packet →
     out ++ text_from t red link number left (drop place coloured) ≡ grown ++ text_from t red link next rest (drop after coloured)
 text_left t red link number next place after f left rest coloured packet out grown first one own past added =
@@ -76,7 +76,7 @@ text_left t red link number next place after f left rest coloured packet out gro
     rw (first, same, past, added) (ap (λ it. out ++ it) told ∙ sym (append_assoc out (record_text t red link f packet) (text_from t red link (suc number) rest (drop (place + taken packet) coloured))))
 
 -- no frames have no records
-pub text_from-none : (t : Table) (red : RedRule) (link : Link) (number : ℕ) (coloured : List (Sent × Colour)) → text_from t red link number [] coloured ≡ []
+pub text_from-none : (t : Table) (red : RedRule) (link : LinkType) (number : ℕ) (coloured : List (Sent × Colour)) → text_from t red link number [] coloured ≡ []
 unfolding text_from
 text_from-none t red link number coloured = refl
 

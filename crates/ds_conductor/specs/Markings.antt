@@ -8,7 +8,7 @@ use Rattle.pcap_capture.specs.Grammar.{capture, fault_in, heading_of}
 use Rattle.pcap_capture.specs.declared.fault.PcapFault.{PcapFault}
 use Rattle.pcap_capture.specs.declared.fault.PcapFault.TheVariants as pcaps
 use Rattle.pcap_capture.specs.declared.heading.Heading.{Heading}
-use Rattle.pcap_capture.specs.declared.heading.Link.{Link}
+use Rattle.pcap_capture.specs.declared.heading.LinkType.{LinkType}
 use Rattle.ds_domain_base.specs.Domains.{is_port}
 use Rattle.ds_checker.specs.Acceptance.{Table}
 use Rattle.frame_marker.specs.Sights.{sight_of}
@@ -32,7 +32,7 @@ pub record Marking : Type 0 where
   pub is_full : Bool
 
 -- what a frame is at a port of a table
-abbrev pub see : Table → List ℕ → Link → List ℕ → Sight
+abbrev pub see : Table → List ℕ → LinkType → List ℕ → Sight
 see t port link bytes = sight_of t.contracts port link bytes
 
 -- frames behind their heading, marked with the colours that their packets left with

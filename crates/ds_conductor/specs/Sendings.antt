@@ -5,7 +5,7 @@ use Rattle.frame_marker.specs.declared.sight.Sight.{Sight}
 use Rattle.frame_marker.specs.declared.sight.Sight.TheVariants.{Matched, Skipped, Unmatched}
 use Rattle.ds_visits.specs.declared.sent.Sent.{Sent}
 use Rattle.ds_conductor.specs.Reports.{is_skipped, is_unmatched, is_unverified, seen_as}
-use Rattle.ds_conductor.specs.declared.sending.Sending.{Sending}
+use Rattle.ds_conductor.specs.declared.sending.Traffic.{Traffic}
 
 -- the packet of a frame that a contract takes
 abbrev pub sent_by : Sight → ℕ → ℕ → List Sent
@@ -26,7 +26,7 @@ abbrev pub sent_of : (List ℕ → Sight) → List FrameValue → List Sent
 sent_of see frames = sent_from see 0 0 frames
 
 -- The packets are those that the frames of a capture send at a port, and the others are counted by what they are there.
-pub record IsSending (see : List ℕ → Sight) (frames : List FrameValue) (s : Sending) : Type 0 where
+pub record IsSending (see : List ℕ → Sight) (frames : List FrameValue) (s : Traffic) : Type 0 where
   pub sent : s.sent.items ≡ sent_of see frames
   pub unmatched : s.unmatched ≡ seen_as see is_unmatched frames
   pub skipped : s.skipped ≡ seen_as see is_skipped frames

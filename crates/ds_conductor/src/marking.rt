@@ -12,14 +12,14 @@ use crate::fault::MarkFault;
 use crate::reading::{Reading, read_capture};
 use crate::report::{Report, marked_report, unmarked_report};
 use crate::rule::RedRule;
-use crate::sending::{Sending, send_frames};
+use crate::sending::{Traffic, send_frames};
 use crate::writing::write_capture;
 use ds_checker::Accepted;
 use ds_domain_base::Name;
 use ds_visits::{Gate, colours};
 use frame_marker::PortClassifier;
 use meter_book::NoteFault;
-use pcap_capture::{Frame, Heading, Intake, Link, Outlet, PcapFault};
+use pcap_capture::{Frame, Heading, Intake, LinkType, Outlet, PcapFault};
 use std::alloc::{AllocError, Global};
 
 /// By how many calls of `take` a capture is read at most; the next is answered as a read fault.
@@ -192,9 +192,9 @@ fn sending_at(
     alloc: Global,
     accepted: &Accepted,
     port: Name,
-    link: Link,
+    link: LinkType,
     frames: &[Frame],
-) -> Result<Sending, AllocError>
+) -> Result<Traffic, AllocError>
     ensures { IfOk result (λ sending. IsSending (see accepted.now port link) frames.now sending) }
 {
     let classifier = PortClassifier::new(alloc, accepted.contracts(), port)?;

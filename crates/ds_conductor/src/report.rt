@@ -5,7 +5,7 @@ ghost use Rattle.ds_conductor.specs.Reports.{nothing_read, report_of, unmarked_r
 ghost use Rattle.ds_conductor.specs.Sendings.{IsSending};
 
 use crate::rule::RedRule;
-use crate::sending::Sending;
+use crate::sending::Traffic;
 use crate::tally::tallied;
 use moment_core::Colour;
 
@@ -49,7 +49,7 @@ impl Report {
 }
 
 /// The report of so many frames none of which could be marked.
-pub(crate) fn unmarked_report(sending: &Sending, records: u64) -> Report
+pub(crate) fn unmarked_report(sending: &Traffic, records: u64) -> Report
     ensures { (see : List ℕ → Sight) (frames : List FrameValue) → IsSending see frames sending.now → length frames
         ≡ records
         → result ≡ unmarked_report see frames }
@@ -75,7 +75,7 @@ fn dropped(rule: RedRule, red: u64) -> u64
 
 /// The report of so many frames, whose packets left with these colours, which stand in the order of the packets.
 pub(crate) fn marked_report(
-    sending: &Sending,
+    sending: &Traffic,
     records: u64,
     rule: RedRule,
     colours: &[Colour],

@@ -6,12 +6,12 @@ ghost use Rattle.ds_conductor.specs.Sendings.{IsSending, sent_by};
 use ds_visits::Sent;
 use frame_marker::{PortClassifier, Sight};
 use moment_core::Moment;
-use pcap_capture::{Frame, Link};
+use pcap_capture::{Frame, LinkType};
 use std::alloc::{AllocError, Global};
 
 /// What the frames of a capture send into a domain, and how many of them send nothing.
 #[derive(Debug, Drop)]
-pub(crate) struct Sending {
+pub(crate) struct Traffic {
     /// The packets of the frames that a contract takes, each with the number of its record, counted from 0.
     pub sent: Vec<Sent>,
     /// Frames with a header that no contract of the port takes.
@@ -22,7 +22,7 @@ pub(crate) struct Sending {
     pub unverified: u64,
 }
 
-impl Sending {
+impl Traffic {
     /// One frame more, by what it is at the port, the number of its record, and when its packet is sent.
     ///
     /// `AllocError` where memory runs out.
@@ -70,12 +70,12 @@ fn later(newest: Moment, moment: Moment) -> Moment
 pub(crate) fn send_frames(
     alloc: Global,
     classifier: &PortClassifier,
-    link: Link,
+    link: LinkType,
     frames: &[Frame],
-) -> Result<Sending, AllocError>
+) -> Result<Traffic, AllocError>
     ensures { IfOk result (λ sending. IsSending (sight_at classifier.now link) frames.now sending) }
 {
-    let mut sending = Sending {
+    let mut sending = Traffic {
         sent: Vec::new(alloc),
         unmatched: 0,
         skipped: 0,

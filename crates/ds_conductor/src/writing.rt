@@ -14,7 +14,7 @@ use ds_visits::Sent;
 use frame_marker::mark_frame;
 use meter_fabric_base::contract_of;
 use moment_core::Colour;
-use pcap_capture::{Frame, Heading, Link, Outlet, PcapFault, hand_over};
+use pcap_capture::{Frame, Heading, LinkType, Outlet, PcapFault, hand_over};
 use std::alloc::{AllocError, Global};
 
 /// From so many bytes on, what is collected is handed over.
@@ -88,7 +88,7 @@ fn add_bytes(out: &mut Vec<u8>, head: &[u8], bytes: &[u8]) -> Result<(), AllocEr
 fn add_marked(
     out: &mut Vec<u8>,
     accepted: &Accepted,
-    link: Link,
+    link: LinkType,
     frame: Frame,
     flow: u32,
     colour: Colour,
@@ -109,7 +109,7 @@ fn add_record(
     out: &mut Vec<u8>,
     accepted: &Accepted,
     red: RedRule,
-    link: Link,
+    link: LinkType,
     frame: Frame,
     packet: Option<(Sent, Colour)>,
 ) -> Result<(), AllocError>
@@ -129,7 +129,7 @@ fn write_frame<O: Outlet>(
     out: &mut Vec<u8>,
     accepted: &Accepted,
     red: RedRule,
-    link: Link,
+    link: LinkType,
     frame: Frame,
     packet: Option<(Sent, Colour)>,
 ) -> Result<(), MarkFault>

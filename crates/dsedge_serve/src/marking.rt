@@ -138,10 +138,8 @@ pub(crate) fn tell_marking<F: Outlet>(
     ensures failures { F.failed faults.new
         ≡ (if is_ok result then F.failed faults.old else next_count (F.failed faults.old)) }
 {
-    match tell_report(report, faults) {
-        Ok(()) => tell_fault(fault, port, faults),
-        Err(refusal) => Err(refusal),
-    }
+    tell_report(report, faults)?;
+    tell_fault(fault, port, faults)
 }
 
 /// Tells the fault of a marking, if any.

@@ -16,10 +16,7 @@ pub fn give_parts<O: Outlet>(outlet: &mut O, parts: &[&str]) -> Result<(), Devic
         ≡ (if is_ok result then O.failed outlet.old else next_count (O.failed outlet.old)) }
 {
     for part in parts {
-        match give_all(outlet, part.as_bytes()) {
-            Ok(()) => {}
-            Err(fault) => return Err(fault),
-        }
+        give_all(outlet, part.as_bytes())?;
     }
     Ok(())
 }

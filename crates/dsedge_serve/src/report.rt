@@ -17,10 +17,8 @@ pub fn tell_report<F: Outlet>(report: &Report, faults: &mut F) -> Result<(), Dev
     ensures failures { F.failed faults.new
         ≡ (if is_ok result then F.failed faults.old else next_count (F.failed faults.old)) }
 {
-    match tell_counts(report, faults) {
-        Ok(()) => tell_colours(report, faults),
-        Err(fault) => Err(fault),
-    }
+    tell_counts(report, faults)?;
+    tell_colours(report, faults)
 }
 
 /// Writes the lines of a report's counts of frames.

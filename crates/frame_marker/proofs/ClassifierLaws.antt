@@ -14,7 +14,7 @@ use Rattle.flow_classifier.specs.Matching.{first_match_of, holds}
 use Rattle.flow_classifier.specs.declared.key.Key.{Key}
 use Rattle.flow_classifier.specs.declared.rule.Rule.{Rule}
 use Rattle.ds_domain_base.specs.declared.contract.Contract.{Contract}
-use Rattle.pcap_capture.specs.declared.heading.Link.{Link}
+use Rattle.pcap_capture.specs.declared.heading.LinkType.{LinkType}
 use Rattle.frame_marker.specs.Frames.{header_in}
 use Rattle.frame_marker.specs.Kept.{IsClassifier}
 use Rattle.frame_marker.specs.Ports.{Classifier, found, sight_at, sight_through}
@@ -107,7 +107,7 @@ sees_through c contracts port same (Some h) = ap (sight_for h) (same (key_of h))
 -- once the contracts that can have packets are all taken, a frame is what it is at the port
 pub sees_all : (c : Classifier) (heeded contracts : List Contract) (port : List ℕ) (count : ℕ)
     → heeded ≡ take 4294966272 contracts → length heeded ≤ count → AreTaken port c.flows c.rules (take count heeded)
-    → (link : Link) (bytes : List ℕ) → sight_at c link bytes ≡ sight_of contracts port link bytes
+    → (link : LinkType) (bytes : List ℕ) → sight_at c link bytes ≡ sight_of contracts port link bytes
 unfolding sight_at sight_of
 sees_all c heeded contracts port count all ended taken link bytes =
     let found_all : (key : Key) → found c key ≡ position (takes port key) (take 4294966272 contracts) =

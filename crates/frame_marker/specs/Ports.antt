@@ -5,7 +5,7 @@ use Rattle.af_marker.specs.declared.ipv4.Header.{Header}
 use Rattle.flow_classifier.specs.Matching.{first_match_of}
 use Rattle.flow_classifier.specs.declared.key.Key.{Key}
 use Rattle.flow_classifier.specs.declared.rule.Rule.{Rule}
-use Rattle.pcap_capture.specs.declared.heading.Link.{Link}
+use Rattle.pcap_capture.specs.declared.heading.LinkType.{LinkType}
 use Rattle.frame_marker.specs.Frames.{header_in}
 use Rattle.frame_marker.specs.Sights.{key_of, sight_for}
 use Rattle.frame_marker.specs.declared.sight.Sight.{Sight}
@@ -25,5 +25,5 @@ sight_through c None = Skipped
 sight_through c (Some header) = sight_for header (found c (key_of header))
 
 -- what a frame is by these rules
-unfoldable pub sight_at : Classifier → Link → List ℕ → Sight
+unfoldable pub sight_at : Classifier → LinkType → List ℕ → Sight
 sight_at c link bytes = sight_through c (header_in link bytes)

@@ -5,7 +5,7 @@ use Rattle.af_marker.specs.declared.ipv4.Header.{Header}
 use Rattle.flow_classifier.specs.Matching.{holds}
 use Rattle.flow_classifier.specs.declared.key.Key.{Key}
 use Rattle.ds_domain_base.specs.declared.contract.Contract.{Contract}
-use Rattle.pcap_capture.specs.declared.heading.Link.{Link}
+use Rattle.pcap_capture.specs.declared.heading.LinkType.{LinkType}
 use Rattle.frame_marker.specs.Frames.{header_in}
 use Rattle.frame_marker.specs.declared.sight.Sight.{Sight}
 use Rattle.frame_marker.specs.declared.sight.Sight.TheVariants.{Matched, Skipped, Unmatched}
@@ -32,5 +32,5 @@ sight_by contracts port None = Skipped
 sight_by contracts port (Some header) = sight_for header (flow_of contracts port (key_of header))
 
 -- What a frame is at a port: no header can be read, or no contract of the port takes it, or the first that does.
-unfoldable pub sight_of : List Contract → List ℕ → Link → List ℕ → Sight
+unfoldable pub sight_of : List Contract → List ℕ → LinkType → List ℕ → Sight
 sight_of contracts port link bytes = sight_by contracts port (header_in link bytes)

@@ -1,6 +1,6 @@
 ghost use Rattle.std.specs.Prelude.{◌≡◌, ℕ, List, IfOk};
 ghost use Rattle.flow_classifier.specs.declared.key.Key.{Key};
-ghost use Rattle.pcap_capture.specs.declared.heading.Link.{Link};
+ghost use Rattle.pcap_capture.specs.declared.heading.LinkType.{LinkType};
 ghost use Rattle.frame_marker.specs.Ports.{found, sight_at};
 ghost use Rattle.frame_marker.specs.Sights.{sight_of};
 
@@ -8,7 +8,7 @@ use crate::frame::header_in;
 use crate::sight::Sight;
 use ds_domain_base::{Contract, Name};
 use flow_classifier::{Key, Rule, first_match};
-use pcap_capture::Link;
+use pcap_capture::LinkType;
 use std::alloc::{AllocError, Global};
 use std::marker::Model;
 
@@ -36,7 +36,7 @@ impl Model for PortClassifier {
 impl PortClassifier {
     /// Takes the rules of the contracts of a port together; `AllocError` where memory runs out.
     pub fn new(alloc: Global, contracts: &[Contract], port: Name) -> Result<Self, AllocError>
-        ensures { IfOk result (λ classifier. (link : Link) (bytes : List ℕ) → sight_at classifier link bytes
+        ensures { IfOk result (λ classifier. (link : LinkType) (bytes : List ℕ) → sight_at classifier link bytes
             ≡ sight_of contracts.now port link bytes) }
     {
         let heeded = &contracts[..MOST_CONTRACTS.min(contracts.len())];
@@ -53,7 +53,7 @@ impl PortClassifier {
 
     /// What a frame is at the port.
     #[tactic(auto, unfolding(crate::specs::Ports::sight_at))]
-    pub fn sight(&self, link: Link, bytes: &[u8]) -> Sight
+    pub fn sight(&self, link: LinkType, bytes: &[u8]) -> Sight
         ensures { result ≡ sight_at self.now link bytes.now }
     {
         match header_in(link, bytes) {

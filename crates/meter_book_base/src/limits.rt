@@ -11,6 +11,7 @@ impl Parameters {
     /// 4115).
     pub fn green_limit(self) -> Envelope
         ensures value { result ≡ green_limit self }
+        ensures least { 1 ≤ result.rate }
         ensures range { (result.rate ≤ 10 ^ 13) × (result.burst < 2 ^ 32) }
     {
         let (rate, burst) = match self {
@@ -25,6 +26,7 @@ impl Parameters {
     /// 4115).
     pub fn all_limit(self) -> Envelope
         ensures value { result ≡ all_limit self }
+        ensures least { 1 ≤ result.rate }
         ensures range { (result.rate ≤ 10 ^ 13) × (result.burst < 2 ^ 32) }
     {
         let (rate, burst) = match self {
@@ -50,6 +52,7 @@ impl Parameters {
     /// 4115; Cruz 1991, section II).
     pub fn green_envelope(&self) -> Envelope
         ensures value { result ≡ green_output self.now }
+        ensures least { 1 ≤ result.rate }
         ensures range { (result.rate ≤ 2 * 10 ^ 13) × (result.burst ≤ 2 ^ 34) }
     {
         let green = self.green_limit();
@@ -60,6 +63,7 @@ impl Parameters {
     /// for each rate that fills one (RFC 2697, RFC 2698, RFC 4115; Cruz 1991, section II).
     pub fn all_envelope(&self) -> Envelope
         ensures value { result ≡ all_output self.now }
+        ensures least { 1 ≤ result.rate }
         ensures range { (result.rate ≤ 2 * 10 ^ 13) × (result.burst ≤ 2 ^ 34) }
     {
         let green = self.green_limit();
@@ -76,6 +80,7 @@ impl Parameters {
     /// byte more (RFC 2697, RFC 2698, RFC 4115; Cruz 1991, section II).
     pub fn excess_envelope(&self) -> Envelope
         ensures value { result ≡ excess_output self.now }
+        ensures least { 1 ≤ result.rate }
         ensures range { (result.rate ≤ 2 * 10 ^ 13) × (result.burst ≤ 2 ^ 34) }
     {
         let excess = self.all_limit();

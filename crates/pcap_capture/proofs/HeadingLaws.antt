@@ -7,10 +7,11 @@ use Rattle.byteorder.specs.Numbers.{big_from-append, little_from-append}
 use Rattle.pcap_capture.specs.Frames.{FrameValue}
 use Rattle.pcap_capture.specs.Grammar.{Reading, Stops, after_heading, after_magic, capture, drawn, has_version, heading_of, link_number, link_of, linked, magic_of, prepend, records, stopped, versioned, waiting}
 use Rattle.pcap_capture.specs.declared.fault.PcapFault.{PcapFault}
-use Rattle.pcap_capture.specs.declared.fault.PcapFault.TheVariants.{BadVersion, LinkType}
+use Rattle.pcap_capture.specs.declared.fault.PcapFault.TheVariants as pcaps
+use Rattle.pcap_capture.specs.declared.fault.PcapFault.TheVariants.{BadVersion}
 use Rattle.pcap_capture.specs.declared.heading.Endianness.{Endianness}
 use Rattle.pcap_capture.specs.declared.heading.Heading.{Heading}
-use Rattle.pcap_capture.specs.declared.heading.Link.{Link}
+use Rattle.pcap_capture.specs.declared.heading.LinkType.{LinkType}
 use Rattle.pcap_capture.specs.declared.heading.TimeUnit.{TimeUnit}
 use Rattle.pcap_capture.specs.declared.stage.Stage.{Stage}
 use Rattle.pcap_capture.specs.declared.stage.Stage.TheVariants.{Opening}
@@ -45,8 +46,8 @@ magic-append xs ys h =
 link-append : (order : Endianness) (xs ys : List ℕ) → 24 ≤ length xs → link_number order (xs ++ ys) ≡ link_number order xs
 link-append order xs ys h = ap (λ n. n % 65536) (number-append_at order 4 20 xs ys (omega arith))
 
-linked-append : (order : Endianness) (unit : TimeUnit) (link : Option Link) (xs ys : List ℕ) → 24 ≤ length xs → linked order unit (xs ++ ys) link ≡ linked order unit xs link
-linked-append order unit None xs ys h = ap (λ n. heading_err (LinkType n)) (link-append order xs ys h)
+linked-append : (order : Endianness) (unit : TimeUnit) (link : Option LinkType) (xs ys : List ℕ) → 24 ≤ length xs → linked order unit (xs ++ ys) link ≡ linked order unit xs link
+linked-append order unit None xs ys h = ap (λ n. heading_err (pcaps.LinkType n)) (link-append order xs ys h)
 linked-append order unit (Some link) xs ys h =
     ap (λ (front : List ℕ). heading_ok (record { bytes = front; order = order; unit = unit; link = link })) (take-append-le 24 xs ys h)
 

@@ -5,13 +5,14 @@ use Rattle.std.specs.Prelude.{Err}
 use Rattle.byteorder.specs.Endian.{big_number, little_number}
 use Rattle.pcap_capture.specs.Frames.{FrameValue}
 use Rattle.pcap_capture.specs.declared.fault.PcapFault.{PcapFault}
-use Rattle.pcap_capture.specs.declared.fault.PcapFault.TheVariants.{NotPcap, IsPcapng, BadVersion, LinkType}
+use Rattle.pcap_capture.specs.declared.fault.PcapFault.TheVariants as pcaps
+use Rattle.pcap_capture.specs.declared.fault.PcapFault.TheVariants.{NotPcap, IsPcapng, BadVersion}
 use Rattle.pcap_capture.specs.declared.fault.PcapFault.TheVariants.{RecordTooLong, Truncated, NoMemory, Failed}
 use Rattle.pcap_capture.specs.declared.heading.Endianness.{Endianness}
 use Rattle.pcap_capture.specs.declared.heading.Endianness.TheVariants.{Big, Little}
 use Rattle.pcap_capture.specs.declared.heading.Heading.{Heading}
-use Rattle.pcap_capture.specs.declared.heading.Link.{Link}
-use Rattle.pcap_capture.specs.declared.heading.Link.TheVariants.{Ethernet, RawIp, Ipv4}
+use Rattle.pcap_capture.specs.declared.heading.LinkType.{LinkType}
+use Rattle.pcap_capture.specs.declared.heading.LinkType.TheVariants.{Ethernet, RawIp, Ipv4}
 use Rattle.pcap_capture.specs.declared.heading.TimeUnit.{TimeUnit}
 use Rattle.pcap_capture.specs.declared.heading.TimeUnit.TheVariants.{Microseconds, Nanoseconds}
 use Rattle.pcap_capture.specs.declared.stage.Stage.{Stage}
@@ -32,7 +33,7 @@ magic_of bytes =
     else None
 
 -- the link types that are read, by their numbers
-unfoldable pub link_of : ℕ → Option Link
+unfoldable pub link_of : ℕ → Option LinkType
 link_of kind =
     if nat_eq kind 1 then
     Some Ethernet
@@ -48,8 +49,8 @@ abbrev pub has_version : Endianness → List ℕ → Bool
 has_version order bytes = nat_eq (number order 2 (drop 4 bytes)) 2 && nat_eq (number order 2 (drop 6 bytes)) 4
 
 -- a heading of this link type, unless that is none that is read
-abbrev pub linked : Endianness → TimeUnit → List ℕ → Option Link → Result Heading PcapFault
-linked order unit bytes None = Err (LinkType (link_number order bytes))
+abbrev pub linked : Endianness → TimeUnit → List ℕ → Option LinkType → Result Heading PcapFault
+linked order unit bytes None = Err (pcaps.LinkType (link_number order bytes))
 linked order unit bytes (Some link) = Ok (record { bytes = take 24 bytes; order = order; unit = unit; link = link })
 
 -- a heading of this order and unit, unless its version or its link type is not one that is read

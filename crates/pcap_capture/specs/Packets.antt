@@ -2,8 +2,8 @@
 use Rattle.std.specs.Prelude.{ℕ, zero, suc, ◌+◌, Bool, nat_eq, nat_lt, ◌||◌, if◌then◌else◌, List, length, drop, Option}
 use Rattle.std.specs.Prelude.{None, Some}
 use Rattle.byteorder.specs.Endian.{big_number}
-use Rattle.pcap_capture.specs.declared.heading.Link.{Link}
-use Rattle.pcap_capture.specs.declared.heading.Link.TheVariants.{Ethernet, RawIp, Ipv4}
+use Rattle.pcap_capture.specs.declared.heading.LinkType.{LinkType}
+use Rattle.pcap_capture.specs.declared.heading.LinkType.TheVariants.{Ethernet, RawIp, Ipv4}
 
 -- the types of tags: a customer's and a provider's (IEEE 802.1Q)
 abbrev pub is_tag : ℕ → Bool
@@ -23,7 +23,7 @@ behind_type (suc tags) place bytes =
     else None
 
 -- In an Ethernet frame the type stands behind two addresses of six bytes.
-abbrev pub packet_start : Link → List ℕ → Option ℕ
+abbrev pub packet_start : LinkType → List ℕ → Option ℕ
 packet_start Ethernet bytes = behind_type 2 12 bytes
 packet_start RawIp bytes = Some 0
 packet_start Ipv4 bytes = Some 0

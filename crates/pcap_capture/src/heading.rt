@@ -24,7 +24,7 @@ pub enum TimeUnit {
 
 /// What the captured bytes of a packet begin with.
 #[derive(Clone, Copy, Debug, PartialEq, Eq, Hash)]
-pub enum Link {
+pub enum LinkType {
     /// An Ethernet header: link type 1.
     Ethernet,
     /// The packet itself, of IPv4 or IPv6: link type 101.
@@ -43,7 +43,7 @@ pub struct Heading {
     /// What the records' fractions of a second count.
     pub unit: TimeUnit,
     /// What the records' bytes begin with.
-    pub link: Link,
+    pub link: LinkType,
 }
 
 /// The magic number of a file whose fractions count microseconds.
@@ -102,13 +102,13 @@ fn magic(bytes: &[u8]) -> Option<(Endianness, TimeUnit)>
 
 /// The link type of this number, if it is one that is read.
 #[tactic(auto, unfolding(crate::specs::Grammar::link_of))]
-fn link_of_number(number: u16) -> Option<Link>
+fn link_of_number(number: u16) -> Option<LinkType>
     ensures { result ≡ link_of number }
 {
     match number {
-        1 => Some(Link::Ethernet),
-        101 => Some(Link::RawIp),
-        228 => Some(Link::Ipv4),
+        1 => Some(LinkType::Ethernet),
+        101 => Some(LinkType::RawIp),
+        228 => Some(LinkType::Ipv4),
         _ => None,
     }
 }

@@ -17,7 +17,7 @@ pub use adaptor::{ReadIntake, WriteOutlet};
 pub use device::{DeviceFault, Intake, Outlet};
 pub use fault::PcapFault;
 pub use frame::Frame;
-pub use heading::{Endianness, Heading, Link, TimeUnit};
+pub use heading::{Endianness, Heading, LinkType, TimeUnit};
 pub use memory::{SliceIntake, VecOutlet};
 pub use pieces::{PIECE, give_all, hand_over, room};
 pub use reading::{Capture, wherever_it_is_cut};

@@ -3,13 +3,13 @@ ghost use Rattle.std.specs.Option.{SomeIff};
 ghost use Rattle.byteorder.specs.Endian.{big_number};
 ghost use Rattle.pcap_capture.specs.Packets.{behind_type, packet_start};
 
-use crate::heading::Link;
+use crate::heading::LinkType;
 use byteorder::{BigEndian, ByteOrder};
 
 /// The type of IPv4 in an Ethernet header.
 const IPV4: u16 = 0x0800;
 
-impl Link {
+impl LinkType {
     /// Where an IPv4 packet starts in the bytes of a frame, if there is one: behind an Ethernet header with at most two
     /// tags (IEEE 802.1Q), or at once. The start is not past the end of the bytes.
     #[tactic(auto, unfolding(crate::specs::Packets::behind_type))]
@@ -18,8 +18,8 @@ impl Link {
         ensures within { IfSome result (λ start. start ≤ length bytes.now) }
     {
         match self {
-            Link::Ethernet => behind_tags(bytes),
-            Link::RawIp | Link::Ipv4 => Some(0),
+            LinkType::Ethernet => behind_tags(bytes),
+            LinkType::RawIp | LinkType::Ipv4 => Some(0),
         }
     }
 }

@@ -1,4 +1,4 @@
-use pcap_capture::{Capture, Frame, Link, PcapFault, Stage};
+use pcap_capture::{Capture, Frame, LinkType, PcapFault, Stage};
 use std::alloc::Global;
 use std::process::Abort;
 use std::test::Fail;
@@ -34,7 +34,7 @@ fn read(
 fn expect_frame(
     rt: &impl Abort,
     frame: &Frame,
-    link: Link,
+    link: LinkType,
     record: (&[u8], &[u8]),
     wanted: (u64, Option<usize>),
 ) {
@@ -55,11 +55,11 @@ fn expect_both(rt: &impl Abort, alloc: Global, piece: usize) -> Result<(), Fail>
     expect_frame(
         rt,
         &frames[0],
-        Link::Ethernet,
+        LinkType::Ethernet,
         tagged,
         (1_500_000_000, Some(18)),
     );
-    expect_frame(rt, &frames[1], Link::Ethernet, other, (2_000_000_000, None));
+    expect_frame(rt, &frames[1], LinkType::Ethernet, other, (2_000_000_000, None));
     Ok(())
 }
 
@@ -125,7 +125,7 @@ fn expect_moment(
     let (frames, fault) = read(alloc, bytes.as_slice(), 7)?;
     assert_eq!(rt; (frames.len(), fault), (1, None));
     let record = (&behind[20..36], &behind[36..]);
-    expect_frame(rt, &frames[0], Link::RawIp, record, (moment, Some(0)));
+    expect_frame(rt, &frames[0], LinkType::RawIp, record, (moment, Some(0)));
     Ok(())
 }
 
@@ -188,7 +188,7 @@ fn after_a_fault_each_call_fails(rt: HostRuntime) {
 }
 
 /// Expects of a frame where its packet starts.
-fn expect_start(rt: &impl Abort, link: Link, frame: &[u8], wanted: Option<usize>) {
+fn expect_start(rt: &impl Abort, link: LinkType, frame: &[u8], wanted: Option<usize>) {
     assert_eq!(rt; link.packet_start(frame), wanted);
 }
 
@@ -199,12 +199,12 @@ fn two_tags_are_stepped_over_and_no_third(rt: HostRuntime) {
     frame[13] = 0xa8;
     frame[16] = 0x81;
     frame[20] = 0x08;
-    expect_start(&rt, Link::Ethernet, &frame, Some(22));
-    expect_start(&rt, Link::Ethernet, &frame[..21], None);
+    expect_start(&rt, LinkType::Ethernet, &frame, Some(22));
+    expect_start(&rt, LinkType::Ethernet, &frame[..21], None);
     frame[20] = 0x81;
     frame[24] = 0x08;
-    expect_start(&rt, Link::Ethernet, &frame, None);
-    expect_start(&rt, Link::Ipv4, &frame, Some(0));
+    expect_start(&rt, LinkType::Ethernet, &frame, None);
+    expect_start(&rt, LinkType::Ipv4, &frame, Some(0));
 }
 
 /// Expects of a fault its number.

@@ -1,5 +1,5 @@
-//! Worked rows of the libraries below: what meters, envelopes, books, headers and rules answer in their public calls.
-//! They stand here, and not beside those calls, since a crate with tests is proved twice.
+//! Worked rows of the libraries below: what meters, envelopes and books answer in their public calls. They stand
+//! here, and not beside those calls, since a crate with tests is proved twice.
 #![tactic(auto)]
 
 #[cfg(test)]
@@ -9,13 +9,9 @@ mod chapter_rows;
 #[cfg(test)]
 mod envelope_rows;
 #[cfg(test)]
-mod header_rows;
-#[cfg(test)]
 mod kind_rows;
 #[cfg(test)]
 mod meters;
-#[cfg(test)]
-mod rule_rows;
 #[cfg(test)]
 mod separate_rate_rows;
 #[cfg(test)]

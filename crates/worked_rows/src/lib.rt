@@ -1,5 +1,5 @@
-//! Worked rows of the libraries below: what lines of words, files, and texts of domains and of certificates give in
-//! their public calls. They stand here, and not beside those calls, since a crate with tests is proved twice.
+//! Worked rows of the libraries below: what texts of domains and of certificates give, and what the checker says of
+//! them, in their public calls. They stand here, and not beside those calls, since a crate with tests is proved twice.
 #![tactic(auto)]
 
 #[cfg(test)]
@@ -10,9 +10,5 @@ mod checker_rows;
 mod domain_rows;
 #[cfg(test)]
 mod excess_rows;
-#[cfg(test)]
-mod file_rows;
-#[cfg(test)]
-mod plan_rows;
 #[cfg(test)]
 mod tables;

@@ -2,7 +2,7 @@ use crate::captures::capture;
 use af_marker::Dscp;
 use ds_domain_base::Name;
 use frame_marker::{PortClassifier, Sight, mark_frame};
-use pcap_capture::Link;
+use pcap_capture::LinkType;
 use std::alloc::Global;
 use std::process::Abort;
 use std::test::Fail;
@@ -36,7 +36,7 @@ fn expect_marked(
     wanted: &str,
 ) -> Result<(), Fail> {
     let mut frame = capture(alloc, &[frame])?;
-    mark_frame(Link::Ethernet, frame.as_mut_slice(), Dscp::new(code_point)?);
+    mark_frame(LinkType::Ethernet, frame.as_mut_slice(), Dscp::new(code_point)?);
     let wanted = capture(alloc, &[wanted])?;
     assert_eq!(rt; frame.as_slice(), wanted.as_slice());
     Ok(())
@@ -59,7 +59,7 @@ fn expect_sight(
     wanted: Sight,
 ) -> Result<(), Fail> {
     let frame = capture(alloc, &[frame])?;
-    assert_eq!(rt; classifier.sight(Link::Ethernet, frame.as_slice()), wanted);
+    assert_eq!(rt; classifier.sight(LinkType::Ethernet, frame.as_slice()), wanted);
     Ok(())
 }
 

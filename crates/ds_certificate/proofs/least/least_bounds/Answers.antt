@@ -28,4 +28,4 @@ returns c =
     let ended = drop_all i path (omega arith) in
     let rest = ap (λ rest. c.loop-to.hops.items ++ least_behind c.of-source.result (jitters_along c.args.domain.now c.loop-to.from.now rest) c.loop-to.last) ended in
     let none = least_behind-ended c.loop-to.hops.items c.of-source.result c.args.domain.now c.loop-to.from.now c.loop-to.last in
-    c.new.ensures ∙ sym none ∙ sym rest ∙ c.loop-to.invariant.value
+    sym none ∙ sym rest ∙ c.loop-to.invariant.value

@@ -7,14 +7,14 @@ use Rattle.ds_certificate.proofs.least.make.Goals as goal
 
 pub returns-clause-meets : goal.returns-clause-meets
 returns-clause-meets c =
-    let value : c.new.result ≡ least c.args.domain.now c.args.contracts.now =
-    least-made _ _ _ _ c.loop-contract.contract-index (omega arith) c.loop-contract.invariant.value c.new.ensures in
+    let value : c.new-2.result ≡ least c.args.domain.now c.args.contracts.now =
+    least-made _ _ _ _ c.loop-contract.contract-index (omega arith) c.loop-contract.invariant.value c.new-2.ensures in
     let good : list_all (fits c.args.domain.now) c.args.contracts.now ≡ true =
     sym c.loop-contract.invariant.fitting ∙ at_drop_all (list_all (fits c.args.domain.now)) c.args.contracts.now c.loop-contract.contract-index (omega arith) in
     subst (IsCertificate c.args.domain.now c.args.contracts.now) (sym value) (IsCertificate-least c.args.domain.now c.args.contracts.now good)
 
 pub returns-clause-least : goal.returns-clause-least
 returns-clause-least c other met =
-    let value : c.new.result ≡ least c.args.domain.now c.args.contracts.now =
-    least-made _ _ _ _ c.loop-contract.contract-index (omega arith) c.loop-contract.invariant.value c.new.ensures in
+    let value : c.new-2.result ≡ least c.args.domain.now c.args.contracts.now =
+    least-made _ _ _ _ c.loop-contract.contract-index (omega arith) c.loop-contract.invariant.value c.new-2.ensures in
     subst (λ rows. AreAtMost rows other) (sym value) (least-below c.args.domain.now c.args.contracts.now other met)

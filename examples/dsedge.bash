@@ -1,0 +1,33 @@
+# Completion of dsedge's commands, options and their words for bash: `source examples/dsedge.bash`, or `./install`.
+_dsedge() {
+    local word=${COMP_WORDS[COMP_CWORD]} before=${COMP_WORDS[COMP_CWORD - 1]} command=${COMP_WORDS[1]}
+    COMPREPLY=()
+    case $before in
+        --kind) COMPREPLY=($(compgen -W 'srtcm trtcm rfc4115' -- "$word")); return ;;
+        --mode) COMPREPLY=($(compgen -W 'blind aware' -- "$word")); return ;;
+        --red) COMPREPLY=($(compgen -W 'keep drop' -- "$word")); return ;;
+        --workers) COMPREPLY=($(compgen -W '1' -- "$word")); return ;;
+        --cir | --cbs | --ebs | --pir | --pbs | --eir | --origin | --rate | --burst | --port) return ;;
+    esac
+    if [ "$COMP_CWORD" -eq 1 ]; then
+        COMPREPLY=($(compgen -W 'meter envelope certify check audit mark --help' -- "$word"))
+        return
+    fi
+    case $command in
+        meter) COMPREPLY=($(compgen -W '--kind --mode --cir --cbs --ebs --pir --pbs --eir --origin --help' -- "$word")) ;;
+        envelope) COMPREPLY=($(compgen -W '--rate --burst --help' -- "$word")) ;;
+        mark)
+            case $word in
+                -*) COMPREPLY=($(compgen -W '--port --workers --red --help' -- "$word")) ;;
+                *) COMPREPLY=($(compgen -f -- "$word")) ;;
+            esac
+            ;;
+        certify | check | audit)
+            case $word in
+                -*) COMPREPLY=($(compgen -W '--help' -- "$word")) ;;
+                *) COMPREPLY=($(compgen -f -- "$word")) ;;
+            esac
+            ;;
+    esac
+}
+complete -F _dsedge dsedge
