@@ -28,16 +28,32 @@ fn cuts<L: FabricLedger, R: Wait + Abort>(
     assert_eq!(rt; fit(rt, alloc, &fabric, accepted, 0)?, 0);
     let mut pass = passes.pop().expect(rt, "two passes");
     for number in 1..3 {
-        let (_, code) = visit(rt, &fabric, &mut pass, packet(alloc, accepted, number)?, Moment::new(10)?);
+        let (_, code) = visit(
+            rt,
+            &fabric,
+            &mut pass,
+            packet(alloc, accepted, number)?,
+            Moment::new(10)?,
+        );
         assert_eq!(rt; code, 0);
     }
-    let (third, code) = visit(rt, &fabric, &mut pass, packet(alloc, accepted, 3)?, Moment::new(10)?);
+    let (third, code) = visit(
+        rt,
+        &fabric,
+        &mut pass,
+        packet(alloc, accepted, 3)?,
+        Moment::new(10)?,
+    );
     assert_eq!(rt; code, 2);
     let chapter = fabric.cut(rt, EDGE)?;
     assert_eq!(rt; (chapter.site(), chapter.len()), (EDGE, 2));
     let (third, code) = visit(rt, &fabric, &mut pass, third, Moment::new(10)?);
     assert_eq!(rt; code, 0);
-    let place = third.into_trail().receipts.first().map(|receipt| receipt.row.place);
+    let place = third
+        .into_trail()
+        .receipts
+        .first()
+        .map(|receipt| receipt.row.place);
     assert_eq!(rt; place, Some(2));
     passes.push(pass)?;
     match fabric.close(alloc, passes, none(alloc)) {
@@ -48,7 +64,12 @@ fn cuts<L: FabricLedger, R: Wait + Abort>(
             match fabric.close(alloc, passes, chapters) {
                 Ok(journals) => {
                     assert_eq!(rt; journals.len(), 2);
-                    assert_eq!(rt; journals.last().map(|journal| (journal.site(), journal.len())), Some((EDGE, 3)));
+                    assert_eq!(rt;
+                        journals
+                            .last()
+                            .map(|journal| (journal.site(), journal.len())),
+                        Some((EDGE, 3))
+                    );
                     assert_eq!(rt; journals.first().map(|journal| journal.len()), Some(0));
                     Ok(())
                 }

@@ -25,7 +25,10 @@ fn expect_visit<L: FabricLedger, R: Wait + Abort>(
         assert_eq!(rt; pass.visits(EDGE), 1);
         return Some(());
     }
-    assert_eq!(rt; (code, pass.visits(EDGE), behind.next_site()), (3, 0, Some(EDGE)));
+    assert_eq!(rt;
+        (code, pass.visits(EDGE), behind.next_site()),
+        (3, 0, Some(EDGE))
+    );
     let (_, code) = visit(rt, fabric, pass, behind, moment);
     assert_eq!(rt; (code, pass.visits(EDGE)), (0, 1));
     Some(())

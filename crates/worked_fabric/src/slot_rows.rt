@@ -25,7 +25,13 @@ fn expect_slots<L: FabricLedger, R: Wait + Abort>(
 {
     let (fabric, mut passes) = opened::<L>(alloc, accepted, blank, 8)?;
     let mut pass = passes.pop().expect(rt, "two passes");
-    let (early, code) = visit(rt, &fabric, &mut pass, packet(alloc, accepted, 1)?, Moment::new(10)?);
+    let (early, code) = visit(
+        rt,
+        &fabric,
+        &mut pass,
+        packet(alloc, accepted, 1)?,
+        Moment::new(10)?,
+    );
     assert_eq!(rt; (code, pass.visits(EDGE)), (5, 0));
     let early_cut = fabric.cut(rt, EDGE).map_err(|fault| fault.code());
     assert_eq!(rt; early_cut.err(), Some(1));
@@ -71,12 +77,24 @@ fn shuts<L: FabricLedger, R: Wait + Abort>(
     let early = fabric.shut(rt, 0, Moment::new(5)?);
     assert_eq!(rt; early.map_err(|fault| fault.code()), Err(1));
     assert_eq!(rt; fit(rt, alloc, &fabric, accepted, 0)?, 0);
-    let (_, code) = visit(rt, &fabric, &mut pass, packet(alloc, accepted, 1)?, Moment::new(10)?);
+    let (_, code) = visit(
+        rt,
+        &fabric,
+        &mut pass,
+        packet(alloc, accepted, 1)?,
+        Moment::new(10)?,
+    );
     assert_eq!(rt; code, 0);
     let shut = fabric.shut(rt, 0, Moment::new(5)?);
     assert_eq!(rt; shut, Ok(Moment::new(11)?));
     assert_eq!(rt; fabric.shut(rt, 0, Moment::new(99)?), shut);
-    let (back, code) = visit(rt, &fabric, &mut pass, packet(alloc, accepted, 2)?, Moment::new(11)?);
+    let (back, code) = visit(
+        rt,
+        &fabric,
+        &mut pass,
+        packet(alloc, accepted, 2)?,
+        Moment::new(11)?,
+    );
     assert_eq!(rt; code, 6);
     let (_, code) = visit(rt, &fabric, &mut pass, back, Moment::new(10)?);
     assert_eq!(rt; code, 0);

@@ -37,6 +37,7 @@ const LEAST: &str = "dscert 1\nu 0 1501 3001\nu 1 2501 5001\n";
 
 /// The number of the meter's site, and of the edge's.
 pub const METER: u32 = 0;
+
 pub const EDGE: u32 = 1;
 
 /// The table of that text; None where memory runs out.
