@@ -1,0 +1,4 @@
+pub mod ColumnLaws
+pub mod JournalLaws
+pub mod TailLaws
+pub mod VisitLaws

@@ -1,0 +1,17 @@
+use Rattle.std.proofs.Common.{◌≡◌, ◌+◌, ◌*◌, ◌≤◌, vec_len, vec_capacity}
+use Rattle.std.specs.List.{sum_by}
+use Rattle.meter_book.specs.Replay.{most_places}
+use Rattle.meter_fabric.specs.Fabrics.{places_left, places_of}
+use Rattle.meter_fabric.proofs.books.lock_all.Given as goal
+
+-- the tickets of the books that are left
+abbrev pub invariant-loop-book : goal.invariant-loop-book
+invariant-loop-book g l = record {
+  count : vec_len l.locks + vec_len l.books ≡ vec_len l.initial.books;
+  room : vec_len l.initial.books ≤ vec_capacity l.locks;
+  parts : l.share.parts ≡ 1 + vec_len l.books;
+  left : l.share.amount ≡ sum_by places_left l.books.items;
+}
+
+abbrev pub decreases-loop-book : goal.decreases-loop-book
+decreases-loop-book g l = vec_len l.books
