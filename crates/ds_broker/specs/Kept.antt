@@ -18,11 +18,12 @@ abbrev pub held_in : book.Inside → List Holding
 held_in b = (standing_of b.history.items).held
 
 -- The table is that of the history, with the least certificate. Ids and names are of what the history holds; the number
--- of grants and the newest moment are its own; and it is no longer than its limit.
+-- of grants and the newest moment are its own; and neither what is held nor the history is longer than its limit.
 pub record IsBook (b : book.Inside) : Type 0 where
   pub table : b.table ≡ table_in b.table.domain (held_in b)
   pub ids : b.ids.entries ≡ ids_in (held_in b)
   pub names : b.names.keys ≡ names_in (held_in b)
   pub granted : b.granted ≡ (standing_of b.history.items).granted
   pub newest : b.newest ≡ (standing_of b.history.items).newest
+  pub room : length (held_in b) ≤ b.limits.table
   pub accepted : length b.history.items ≤ b.limits.history

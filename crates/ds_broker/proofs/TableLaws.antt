@@ -1,0 +1,53 @@
+-- The table of a book: with one contract more, and with none.
+use Rattle.std.proofs.Common.{◌≡◌, ◌≤◌, ◌+◌, ℕ, Bool, true, false, List, [], ◌∷◌, ◌++◌, Option, None, Some, refl, sym, ap, ◌∙◌, arith}
+use Rattle.std.specs.Prelude.{All, map}
+use Rattle.std.proofs.lemmas.List.{map-append}
+use Rattle.std.proofs.lemmas.List.Elements.{All-cons, All-nil}
+use Rattle.meter_book.specs.declared.any_meter.Parameters.{Parameters}
+use Rattle.meter_book.specs.declared.any_meter.Parameters.TheVariants.{SrTcm, TrTcm, Rfc4115}
+use Rattle.ds_domain_base.specs.Domains.{Domain}
+use Rattle.ds_domain_base.specs.declared.contract.Contract.{Contract}
+use Rattle.ds_domain_base.specs.declared.parts.Meter.{Meter}
+use Rattle.ds_certificate.specs.Bounds.{least, least_of}
+use Rattle.ds_checker.specs.Acceptance.{Carries, IsAcceptable, Table}
+use Rattle.ds_checker.specs.Loads.{Share, counted, shares_at}
+use Rattle.ds_broker.specs.Books.{Book, contracts_in, held_of, moment_in, newest_of, table_in, table_of, table_with, with_command}
+use Rattle.ds_broker.specs.Histories.{Holding, begun, beginning, standing_of}
+use Rattle.ds_broker.specs.declared.command.Command.TheVariants.{Reserve}
+use Rattle.ds_broker.proofs.StandingLaws.{standing-push}
+
+-- with one contract more, its least bounds stand behind the others
+pub table-push : (d : Domain) (held : List Holding) (h : Holding) (since : ℕ) (c : Contract) → h.contract ≡ beginning since c
+    → table_in d (held ++ h ∷ []) ≡ table_with since c (table_in d held)
+table-push d held h since c is =
+    let contracts : contracts_in (held ++ h ∷ []) ≡ contracts_in held ++ beginning since c ∷ [] = map-append (λ g. g.contract) held (h ∷ []) ∙ ap (λ x. contracts_in held ++ x ∷ []) is in
+    let bounds : least d (contracts_in (held ++ h ∷ [])) ≡ least d (contracts_in held) ++ least_of d (beginning since c) ∷ [] =
+        ap (least d) contracts ∙ map-append (least_of d) (contracts_in held) (beginning since c ∷ []) in
+    rw (bounds, contracts) refl
+
+pub table-reserved : (b : Book) (c : Contract) → table_of (with_command b (Reserve c)) ≡ table_with (moment_in b c.lifetime.since) c (table_of b)
+table-reserved b c =
+    ap (λ s. table_in b.domain s.held) (standing-push b.history (Reserve c))
+    ∙ table-push b.domain (held_of b) (record { id = (standing_of b.history).granted + 1; contract = begun (newest_of b) c; released = false }) (moment_in b c.lifetime.since) c refl
+
+-- nothing is brought to a meter by no contract
+counted-none : (p : Parameters) → counted p [] ≡ []
+counted-none (SrTcm p) = refl
+counted-none (TrTcm p) = refl
+counted-none (Rfc4115 p) = refl
+
+carries_nothing : (m : Meter) → Carries m []
+carries_nothing m = ((omega arith, omega arith), rw (counted-none m.parameters) (omega arith, omega arith))
+
+CarriesNone : Domain → List ℕ × Meter → Type 0
+CarriesNone d entry = Carries entry.1 (shares_at d entry.0 [] [])
+
+carries_none : (d : Domain) (meters : List (List ℕ × Meter)) → All (CarriesNone d) meters
+unfolding CarriesNone shares_at
+carries_none d [] = All-nil (CarriesNone d)
+carries_none d (entry ∷ meters) = All-cons (CarriesNone d) entry meters (carries_nothing entry.1) (carries_none d meters)
+
+-- the table with no contract is acceptable
+pub none-acceptable : (d : Domain) → IsAcceptable (record { domain = d; contracts = []; certificate = [] })
+unfolding CarriesNone
+none-acceptable d = (tt, carries_none d d.meters)
