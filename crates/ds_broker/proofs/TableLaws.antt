@@ -1,6 +1,6 @@
 -- The table of a book: with one contract more, and with none.
 use Rattle.std.proofs.Common.{◌≡◌, ◌≤◌, ◌+◌, ℕ, Bool, true, false, List, [], ◌∷◌, ◌++◌, Option, None, Some, refl, sym, ap, ◌∙◌, arith}
-use Rattle.std.specs.Prelude.{All, map}
+use Rattle.std.specs.Prelude.{All, map, slice_get}
 use Rattle.std.proofs.lemmas.List.{map-append}
 use Rattle.std.proofs.lemmas.List.Elements.{All-cons, All-nil}
 use Rattle.meter_book.specs.declared.any_meter.Parameters.{Parameters}
@@ -12,8 +12,11 @@ use Rattle.ds_certificate.specs.Bounds.{least, least_of}
 use Rattle.ds_checker.specs.Acceptance.{Carries, IsAcceptable, Table}
 use Rattle.ds_checker.specs.Loads.{Share, counted, shares_at}
 use Rattle.ds_broker.specs.Books.{Book, contracts_in, held_of, moment_in, newest_of, table_in, table_of, table_with, with_command}
-use Rattle.ds_broker.specs.Histories.{Holding, begun, beginning, standing_of}
+use Rattle.ds_broker.specs.Histories.{Holding, begun, beginning, ended, standing_of, with_released, with_retired}
 use Rattle.ds_broker.specs.declared.command.Command.TheVariants.{Reserve}
+use Rattle.ds_broker.specs.Found.{IsFirst}
+use Rattle.ds_checker.specs.Changes.{with_lifetime, without_contract}
+use Rattle.ds_broker.proofs.HoldingLaws.{contracts-released, least-released, map-map-retired, map-retired}
 use Rattle.ds_broker.proofs.StandingLaws.{standing-push}
 
 -- with one contract more, its least bounds stand behind the others
@@ -24,6 +27,21 @@ table-push d held h since c is =
     let bounds : least d (contracts_in (held ++ h ∷ [])) ≡ least d (contracts_in held) ++ least_of d (beginning since c) ∷ [] =
         ap (least d) contracts ∙ map-append (least_of d) (contracts_in held) (beginning since c ∷ []) in
     rw (bounds, contracts) refl
+
+-- with a contract released, or retired
+pub table-released : (d : Domain) (id moment : ℕ) (held : List Holding) (place : ℕ) (h : Holding) → IsFirst id held place → slice_get held place ≡ Some h
+    → table_in d (with_released id moment held) ≡ with_lifetime (table_in d held) place (ended moment h.contract).lifetime
+table-released d id moment held place h first at =
+    rw (least-released d id moment held, contracts-released id moment held place h first at) refl
+
+pub table-retired : (d : Domain) (id : ℕ) (held : List Holding) (place : ℕ) → IsFirst id held place
+    → table_in d (with_retired id held) ≡ without_contract (table_in d held) place
+table-retired d id held place first =
+    rw (map-map-retired (least_of d) (λ h. h.contract) id held place first, map-retired (λ h. h.contract) id held place first) refl
+
+-- a table of a domain is one of its own domain
+pub own-domain : (d : Domain) (t : Table) (held : List Holding) → t ≡ table_in d held → t ≡ table_in t.domain held
+own-domain d t held is = is ∙ ap (λ x. table_in x held) (sym (ap (λ x. x.domain) is))
 
 pub table-reserved : (b : Book) (c : Contract) → table_of (with_command b (Reserve c)) ≡ table_with (moment_in b c.lifetime.since) c (table_of b)
 table-reserved b c =

@@ -27,3 +27,4 @@ pub record IsBook (b : book.Inside) : Type 0 where
   pub newest : b.newest ≡ (standing_of b.history.items).newest
   pub room : length (held_in b) ≤ b.limits.table
   pub accepted : length b.history.items ≤ b.limits.history
+  pub short : length b.history.items ≤ 65536

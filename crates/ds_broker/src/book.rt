@@ -1,16 +1,17 @@
 ghost use Rattle.std.specs.Prelude.{◌≡◌, ◌⊎◌, ◌≤◌, ◌+◌, [], None, Some, IfErr, IfOk, IfSome, OnErr, OnOk, length};
 ghost use Rattle.std.specs.Prelude.{◌<◌, IfNone, option_map, slice_get, vec_capacity, vec_len};
+ghost use Rattle.std.specs.Bool.{OnFalse};
 ghost use Rattle.ds_checker.specs.Acceptance.{IsAcceptable, refusal_of};
 ghost use Rattle.ds_domain_base.specs.Faults.{fault_at};
 ghost use Rattle.ds_domain_base.specs.Lifetimes.{IsInOrder};
 ghost use Rattle.indexmap.specs.IndexMap.{spare as map_spare};
 ghost use Rattle.indexmap.specs.IndexSet.{spare as set_spare};
 ghost use Rattle.ds_broker.specs.Books as books;
-ghost use Rattle.ds_broker.specs.Books.{contracts_in, held_of, holding_of, is_history_full, moment_in, newest_of};
+ghost use Rattle.ds_broker.specs.Books.{held_of, holding_of, is_history_full, moment_in, newest_of};
 ghost use Rattle.ds_broker.specs.Books.{table_of, table_with, with_command};
 ghost use Rattle.ds_broker.specs.Entries.{entries_of, entry_in, grant_of, next_serial, room_of};
 ghost use Rattle.ds_broker.specs.Found.{IsFound};
-ghost use Rattle.ds_broker.specs.Histories.{ended};
+ghost use Rattle.ds_broker.specs.Histories.{Holding, ended};
 ghost use Rattle.ds_broker.specs.Refusals.{contract_fault, ends_early, free_from, release_refusal};
 ghost use Rattle.ds_broker.specs.Refusals.{reserve_refusal, retire_refusal, room_refusal};
 
@@ -267,6 +268,7 @@ impl Book {
 
     /// The number of the next command that it accepts.
     fn next_serial(&self) -> Serial
+        requires { length self.now.history < 65536 }
         ensures { result ≡ next_serial self.now }
     {
         Serial::new(self.history.len() as u32 + 1)
@@ -274,14 +276,16 @@ impl Book {
 
     /// Whether it accepted as many commands as it may.
     fn is_history_full(&self) -> bool
-        ensures { result ≡ is_history_full self.now }
+        ensures value { result ≡ is_history_full self.now }
+        ensures room { OnFalse result (length self.now.history < 65536) }
     {
         self.history.len() >= self.limits.history() as usize
     }
 
     /// What stands against a contract before the checker is asked.
     fn room_refusal(&self, contract: &Contract) -> Option<BrokerRefusal>
-        ensures { result ≡ room_refusal self.now contract.now }
+        ensures value { result ≡ room_refusal self.now contract.now }
+        ensures room { IfNone result (length self.now.history < 65536) }
     {
         if let Some(fault) = self.contract_fault(contract) {
             Some(BrokerRefusal::Contract(fault))
@@ -328,8 +332,8 @@ impl Book {
     fn ended(&self, place: usize, moment: Moment) -> Lifetime
         requires place { place < length (held_of self.now) }
         requires later { newest_of self.now ≤ moment }
-        ensures { IfSome (slice_get (contracts_in (held_of self.now)) place)
-            (λ contract. result ≡ (ended moment contract).lifetime) }
+        ensures { (h : Holding) → slice_get (held_of self.now) place ≡ Some h →
+            result ≡ (ended moment h.contract).lifetime }
     {
         let lifetime = self.table.contracts()[place].lifetime;
         let until = match lifetime.until() {
@@ -342,8 +346,8 @@ impl Book {
     /// When the share of the contract at a place is free for others, in nanoseconds.
     fn free_from(&self, place: usize) -> u128
         requires { place < length (held_of self.now) }
-        ensures { IfSome (slice_get (contracts_in (held_of self.now)) place)
-            (λ contract. result ≡ free_from self.now.domain contract) }
+        ensures { (h : Holding) → slice_get (held_of self.now) place ≡ Some h →
+            result ≡ free_from self.now.domain h.contract }
     {
         let until = match self.table.contracts()[place].lifetime.until() {
             Some(end) => u128::from(end.get()),
