@@ -118,7 +118,7 @@ met_by number s jitters (first ∷ bounds) met =
     (grown number 1 s jitters first bounds (λ k. (met k).1))
 
 -- the shape of a contract's bounds, as a test
-unfoldable is_shaped : Domain → Contract → List Bound → Bool
+unfoldable pub is_shaped : Domain → Contract → List Bound → Bool
 is_shaped d c bounds = fits d c && nat_eq (length bounds) (suc (length c.path))
 
 long_enough : (n m : ℕ) → nat_eq n m ≡ true → n ≡ m
@@ -133,16 +133,16 @@ shaped d c bounds holds =
     let both = and_parts (fits d c) (nat_eq (length bounds) (suc (length c.path))) holds in
     (both.0, long_enough (length bounds) (suc (length c.path)) both.1)
 
-has_shape : (d : Domain) (c : Contract) (bounds : List Bound) → HasShape d c bounds → is_shaped d c bounds ≡ true
+pub has_shape : (d : Domain) (c : Contract) (bounds : List Bound) → HasShape d c bounds → is_shaped d c bounds ≡ true
 unfolding is_shaped
 has_shape d c bounds shape = and_from (fits d c) (nat_eq (length bounds) (suc (length c.path))) shape.0 (as_long (length bounds) (suc (length c.path)) shape.1)
 
-misfit-shaped : (number : ℕ) (d : Domain) (c : Contract) (contracts : List Contract) (bounds : List Bound) (rows : List (List Bound)) → is_shaped d c bounds ≡ true
+pub misfit-shaped : (number : ℕ) (d : Domain) (c : Contract) (contracts : List Contract) (bounds : List Bound) (rows : List (List Bound)) → is_shaped d c bounds ≡ true
     → misfit number d (c ∷ contracts) (bounds ∷ rows) ≡ misfit (suc number) d contracts rows
 unfolding misfit is_shaped
 misfit-shaped number d c contracts bounds rows holds = rw holds refl
 
-misfit-unshaped : (number : ℕ) (d : Domain) (c : Contract) (contracts : List Contract) (bounds : List Bound) (rows : List (List Bound)) → is_shaped d c bounds ≡ false
+pub misfit-unshaped : (number : ℕ) (d : Domain) (c : Contract) (contracts : List Contract) (bounds : List Bound) (rows : List (List Bound)) → is_shaped d c bounds ≡ false
     → misfit number d (c ∷ contracts) (bounds ∷ rows) ≡ Some number
 unfolding misfit is_shaped
 misfit-unshaped number d c contracts bounds rows fails = rw fails refl
@@ -174,7 +174,7 @@ fitting number d (c ∷ contracts) [] met = absurd met
 fitting number d (c ∷ contracts) (bounds ∷ rows) met =
     misfit-shaped number d c contracts bounds rows (has_shape d c bounds met.0.0) ∙ fitting (suc number) d contracts rows met.1
 
-bounded : (number : ℕ) (d : Domain) (contracts : List Contract) (rows : List (List Bound)) → IsCertificate d contracts rows
+pub bounded : (number : ℕ) (d : Domain) (contracts : List Contract) (rows : List (List Bound)) → IsCertificate d contracts rows
     → first_failed (bound_tests number d contracts rows) ≡ None
 unfolding bound_tests
 bounded number d [] [] met = none_nil
@@ -193,7 +193,7 @@ carries name m shares is =
     let four = passes _ _ three.1 in
     ((one.0, two.0), (three.0, four.0))
 
-carried : (name : List ℕ) (m : Meter) (shares : List Share) → Carries m shares → first_failed (meter_tests name m shares) ≡ None
+pub carried : (name : List ℕ) (m : Meter) (shares : List Share) → Carries m shares → first_failed (meter_tests name m shares) ≡ None
 carried name m shares met = passed _ _ met.0.0 (passed _ _ met.0.1 (passed _ _ met.1.0 (passed _ _ met.1.1 none_nil)))
 
 -- the meters of a domain
@@ -208,7 +208,7 @@ all_carry d contracts rows (entry ∷ meters) is =
     let both = parts (meter_tests entry.0 entry.1 (shares_at d entry.0 contracts rows)) (table_tests d contracts rows meters) is in
     All-cons (CarriesAt d contracts rows) entry meters (carries entry.0 entry.1 (shares_at d entry.0 contracts rows) both.0) (all_carry d contracts rows meters both.1)
 
-all_carried : (d : Domain) (contracts : List Contract) (rows : List (List Bound)) (meters : List (List ℕ × Meter))
+pub all_carried : (d : Domain) (contracts : List Contract) (rows : List (List Bound)) (meters : List (List ℕ × Meter))
     → All (CarriesAt d contracts rows) meters → first_failed (table_tests d contracts rows meters) ≡ None
 unfolding table_tests
 all_carried d contracts rows [] met = none_nil

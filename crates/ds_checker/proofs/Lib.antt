@@ -1,5 +1,9 @@
 pub mod AcceptanceLaws
 pub mod BoundLaws
+pub mod ChangeLaws
 pub mod CheckLaws
+pub mod HoldLaws
 pub mod LeastTableLaws
+pub mod LifetimeLaws
 pub mod LoadLaws
+pub mod PlaceLaws

@@ -1,5 +1,7 @@
 -- What is added up for each meter, contract by contract and hop by hop.
-use Rattle.std.proofs.Common.{rules, arith, ◌≡◌, ℕ, zero, suc, ◌+◌, ◌-◌, ◌*◌, ◌^◌, ◌≤◌, ◌<◌, Bool, true, false, cond, nat_lt, nat_le, nat_eq, ◌||◌, ◌&&◌, ◌⊎◌, inl, inr, List, [], ◌∷◌, ◌++◌, length, map, filter, take, drop, append-nil, set, get_or, if◌then◌else◌, Option, None, Some, refl, sym, ap, subst, ◌∙◌}
+use Rattle.std.proofs.Common.{rules, arith, ◌≡◌, ℕ, zero, suc, ◌+◌, ◌-◌, ◌*◌, ◌^◌, ◌≤◌, ◌<◌, Bool, true, false, cond, nat_lt, nat_le, nat_eq, ◌||◌, ◌&&◌, not, ◌⊎◌, inl, inr, List, [], ◌∷◌, ◌++◌, length, map, filter, take, drop, append-nil, set, get_or, if◌then◌else◌, Option, None, Some, refl, sym, ap, subst, ◌∙◌}
+use Rattle.std.specs.Option.{option_or}
+use Rattle.ds_checker.proofs.BoundLaws.{first_failed-append}
 use Rattle.std.specs.List.{AllByRecursion, AllZip, IsDistinct, fold, list_any, position, position_or_len}
 use Rattle.std.specs.Str.{bytes_eq}
 use Rattle.std.proofs.lemmas.Slice.Eq.{bytes_eq-Decides}
@@ -27,7 +29,8 @@ use Rattle.ds_certificate.specs.Ranges.{IsModerate}
 use Rattle.ds_certificate.proofs.Volumes.{bytes_over_most}
 use Rattle.ds_certificate.specs.declared.source.Source.{Source}
 use Rattle.ds_checker.specs.Loads.{Share, bound_into, counted, kept, load, share_of, shares_at}
-use Rattle.ds_checker.specs.Sums.{AreBelow, IsBelow, counted_load, no_loads, nothing, plus, share_by, with_brought, with_share}
+use Rattle.ds_checker.specs.Acceptance.{Table}
+use Rattle.ds_checker.specs.Sums.{AreBelow, AreSmall, IsBelow, IsSmall, counted_load, loads_of, no_loads, nothing, plus, share_by, sum_tests, sums_of, sums_tests, with_brought, with_share}
 use Rattle.ds_checker.specs.TableTests.{load_tests, meter_tests, table_tests}
 use Rattle.ds_checker.specs.Tests.{Test, first_failed}
 use Rattle.ds_checker.specs.declared.load.Loads.{Loads}
@@ -65,7 +68,7 @@ with_brought-twice first later (name ∷ names) (l ∷ loads) =
     (ap (λ rest. fold with_share (fold with_share l (first name)) (later name) ∷ rest) (with_brought-twice first later names loads))
 
 -- what is brought to no name of these does not matter
-with_brought-apart : (to : List ℕ) (first later : List ℕ → List Share) (names : List (List ℕ)) (loads : List Loads)
+pub with_brought-apart : (to : List ℕ) (first later : List ℕ → List Share) (names : List (List ℕ)) (loads : List Loads)
     → AllByRecursion (λ name. bytes_eq to name ≡ false) names → ((name : List ℕ) → bytes_eq to name ≡ false → later name ≡ first name)
     → with_brought later names loads ≡ with_brought first names loads
 unfolding with_brought
@@ -74,7 +77,7 @@ with_brought-apart to first later (name ∷ names) [] apart same = refl
 with_brought-apart to first later (name ∷ names) (l ∷ loads) apart same =
     rw (same name apart.0) (ap (λ rest. fold with_share l (first name) ∷ rest) (with_brought-apart to first later names loads apart.1 same))
 
-apart_at : (name to : List ℕ) (names : List (List ℕ)) (i : ℕ) (d : List ℕ) → AllByRecursion (λ y. bytes_eq name y ≡ false) names → i < length names
+pub apart_at : (name to : List ℕ) (names : List (List ℕ)) (i : ℕ) (d : List ℕ) → AllByRecursion (λ y. bytes_eq name y ≡ false) names → i < length names
     → get_or names i d ≡ to → bytes_eq to name ≡ false
 apart_at name to [] i d apart inside is = absurd (omega (arith, inside))
 apart_at name to (y ∷ names) zero d apart inside is = bytes_eq-flip to name ∙ ap (bytes_eq name) (sym is) ∙ apart.0
@@ -96,12 +99,12 @@ with_brought-at to share first later (name ∷ names) (own ∷ loads) (suc i) d 
     (ap (λ rest. fold with_share own (first name) ∷ rest)
     (with_brought-at to share first later names loads i d l distinct.1 (omega (arith, long)) (omega (arith, inside)) is same one none))
 
-or_parts : (p q : Bool) → (p || q) ≡ false → (p ≡ false) × (q ≡ false)
+pub or_parts : (p q : Bool) → (p || q) ≡ false → (p ≡ false) × (q ≡ false)
 or_parts true q neither = absurd cc
 or_parts false q neither = (refl, neither)
 
 -- a path that does not lead to a name
-bound_into-absent : (name : List ℕ) (path : List (List ℕ)) (bounds : List Bound) → list_any (bytes_eq name) path ≡ false → bound_into name path bounds ≡ None
+pub bound_into-absent : (name : List ℕ) (path : List (List ℕ)) (bounds : List Bound) → list_any (bytes_eq name) path ≡ false → bound_into name path bounds ≡ None
 unfolding bound_into
 bound_into-absent name [] bounds absent = refl
 bound_into-absent name (to ∷ path) [] absent = refl
@@ -109,18 +112,18 @@ bound_into-absent name (to ∷ path) (b ∷ bounds) absent =
     let parts = or_parts (bytes_eq name to) (list_any (bytes_eq name) path) absent in
     rw parts.0 (bound_into-absent name path bounds parts.1)
 
-bound_into-ended : (name : List ℕ) (path : List (List ℕ)) (bounds : List Bound) → (path ≡ []) ⊎ (bounds ≡ []) → bound_into name path bounds ≡ None
+pub bound_into-ended : (name : List ℕ) (path : List (List ℕ)) (bounds : List Bound) → (path ≡ []) ⊎ (bounds ≡ []) → bound_into name path bounds ≡ None
 unfolding bound_into
 bound_into-ended name [] bounds ended = refl
 bound_into-ended name (to ∷ path) [] ended = refl
 bound_into-ended name (to ∷ path) (b ∷ bounds) (inl ended) = absurd cc
 bound_into-ended name (to ∷ path) (b ∷ bounds) (inr ended) = absurd cc
 
-bound_into-here : (to : List ℕ) (path : List (List ℕ)) (b : Bound) (bounds : List Bound) → bound_into to (to ∷ path) (b ∷ bounds) ≡ Some b
+pub bound_into-here : (to : List ℕ) (path : List (List ℕ)) (b : Bound) (bounds : List Bound) → bound_into to (to ∷ path) (b ∷ bounds) ≡ Some b
 unfolding bound_into
 bound_into-here to path b bounds = rw ((bytes_eq-Decides to to).1 refl) refl
 
-bound_into-other : (name to : List ℕ) (path : List (List ℕ)) (b : Bound) (bounds : List Bound) → bytes_eq to name ≡ false
+pub bound_into-other : (name to : List ℕ) (path : List (List ℕ)) (b : Bound) (bounds : List Bound) → bytes_eq to name ≡ false
     → bound_into name path bounds ≡ bound_into name (to ∷ path) (b ∷ bounds)
 unfolding bound_into
 bound_into-other name to path b bounds other = rw (bytes_eq-flip name to ∙ other) refl
@@ -179,7 +182,13 @@ IsBelow-more most more curve larger below = (omega (arith, larger, below.0), ome
 pub AreBelow-more : (most more : ℕ) (loads : List Loads) → most ≤ more → AllByRecursion (AreBelow most) loads → AllByRecursion (AreBelow more) loads
 AreBelow-more most more [] larger below = tt
 AreBelow-more most more (l ∷ loads) larger below = (
-  (below.0.0, IsBelow-more most more l.green larger below.0.1, IsBelow-more most more l.all larger below.0.2, IsBelow-more most more l.peaked larger below.0.3),
+  (
+    below.0.0,
+    IsBelow-more most more l.green larger below.0.1,
+    IsBelow-more most more l.all larger below.0.2,
+    IsBelow-more most more l.peaked larger below.0.3,
+    omega (arith, larger, below.0.4),
+  ),
   AreBelow-more most more loads larger below.1,
 )
 
@@ -194,6 +203,10 @@ peaked-below : (most : ℕ) (has_peak : Bool) (curve more : Curve) → IsBelow (
 peaked-below most true curve more with without = with
 peaked-below most false curve more with without = without
 
+pub number-below : (most : ℕ) (has_peak : Bool) (number : ℕ) → number ≤ most → (if has_peak then number + 1 else number) ≤ most + 2 * 10 ^ 15
+number-below most true number below = omega (arith, below)
+number-below most false number below = omega (arith, below)
+
 pub with_share-below : (most : ℕ) (l : Loads) (share : Share) → AreBelow most l → IsModerate share.source → IsInRange share.bound → AreBelow (most + 2 * 10 ^ 15) (with_share l share)
 with_share-below most l share below moderate small = (
   below.0,
@@ -202,6 +215,7 @@ with_share-below most l share below moderate small = (
   peaked-below most share.has_peak l.peaked (plus l.peaked (widened l.skew (kept Excess share)))
       (plus-below most l.skew share.source.excess.rate share.bound.excess l.peaked below.3 below.0 moderate.1.1.0.0 small.1.1.0)
       (IsBelow-more most (most + 2 * 10 ^ 15) l.peaked (omega arith) below.3),
+  number-below most share.has_peak l.peaked_number below.4,
 )
 
 pub set-below : (most : ℕ) (loads : List Loads) (i : ℕ) (new : Loads) → i < length loads → AllByRecursion (AreBelow most) loads → AreBelow (most + 2 * 10 ^ 15) new
@@ -270,6 +284,51 @@ pub position-inside : (to : List ℕ) (names : List (List ℕ)) (loads : List Lo
     → length loads ≡ length names → i < length loads
 position-inside to names loads i at is_at is long = omega (arith, (position-Some (bytes_eq to) names i to (sym is_at ∙ is)).0, long)
 
+-- ---- what is added is small
+small_by : (x : Bool) (source : Source) (has_peak : Bool) (b : Bound) (rest : Option Bound) → IsModerate source → IsInRange b
+    → AllByRecursion IsSmall (share_by source has_peak rest) → AllByRecursion IsSmall (share_by source has_peak (if x then Some b else rest))
+small_by true source has_peak b rest moderate small behind = ((moderate, small), tt)
+small_by false source has_peak b rest moderate small behind = behind
+
+small-next : (source : Source) (has_peak : Bool) (to : List ℕ) (path : List (List ℕ)) (b : Bound) (bounds : List Bound) (meters : List (List ℕ × Meter)) → IsModerate source → IsInRange b
+    → AreSmall (brought_along source has_peak path bounds) meters → AreSmall (brought_along source has_peak (to ∷ path) (b ∷ bounds)) meters
+unfolding bound_into
+small-next source has_peak to path b bounds [] moderate small behind = tt
+small-next source has_peak to path b bounds (entry ∷ meters) moderate small behind = (
+  small_by (bytes_eq entry.0 to) source has_peak b (bound_into entry.0 path bounds) moderate small behind.0,
+  small-next source has_peak to path b bounds meters moderate small behind.1,
+)
+
+small-elsewhere : (source : Source) (has_peak : Bool) (to : List ℕ) (path : List (List ℕ)) (b : Bound) (bounds : List Bound) (meters : List (List ℕ × Meter))
+    → AllByRecursion (λ name. bytes_eq to name ≡ false) (keys_of meters)
+    → AreSmall (brought_along source has_peak path bounds) meters → AreSmall (brought_along source has_peak (to ∷ path) (b ∷ bounds)) meters
+small-elsewhere source has_peak to path b bounds [] apart behind = tt
+small-elsewhere source has_peak to path b bounds (entry ∷ meters) apart behind = (
+  subst (λ f. AllByRecursion IsSmall (share_by source has_peak f)) (bound_into-other entry.0 to path b bounds apart.0) behind.0,
+  small-elsewhere source has_peak to path b bounds meters apart.1 behind.1,
+)
+
+pub small-hop : (source : Source) (has_peak : Bool) (xs path : List (List ℕ)) (to : List ℕ) (ys bounds : List Bound) (b : Bound) (meters : List (List ℕ × Meter))
+    → xs ≡ to ∷ path → ys ≡ b ∷ bounds → IsModerate source → IsInRange b
+    → AreSmall (brought_along source has_peak path bounds) meters → AreSmall (brought_along source has_peak xs ys) meters
+small-hop source has_peak xs path to ys bounds b meters is_path is_bounds moderate small behind =
+    subst (λ p. AreSmall (brought_along source has_peak p ys) meters) (sym is_path)
+    (subst (λ p. AreSmall (brought_along source has_peak (to ∷ path) p) meters) (sym is_bounds) (small-next source has_peak to path b bounds meters moderate small behind))
+
+pub small-past : (source : Source) (has_peak : Bool) (xs path : List (List ℕ)) (to : List ℕ) (ys bounds : List Bound) (b : Bound) (meters : List (List ℕ × Meter))
+    → xs ≡ to ∷ path → ys ≡ b ∷ bounds → position (bytes_eq to) (keys_of meters) ≡ None
+    → AreSmall (brought_along source has_peak path bounds) meters → AreSmall (brought_along source has_peak xs ys) meters
+small-past source has_peak xs path to ys bounds b meters is_path is_bounds nowhere behind =
+    subst (λ p. AreSmall (brought_along source has_peak p ys) meters) (sym is_path)
+    (subst (λ p. AreSmall (brought_along source has_peak (to ∷ path) p) meters) (sym is_bounds)
+    (small-elsewhere source has_peak to path b bounds meters (none_passes (bytes_eq to) (keys_of meters) nowhere) behind))
+
+pub small-ended : (source : Source) (has_peak : Bool) (xs : List (List ℕ)) (ys : List Bound) (meters : List (List ℕ × Meter)) → (xs ≡ []) ⊎ (ys ≡ [])
+    → AreSmall (brought_along source has_peak xs ys) meters
+small-ended source has_peak xs ys [] ended = tt
+small-ended source has_peak xs ys (entry ∷ meters) ended =
+    (subst (λ f. AllByRecursion IsSmall (share_by source has_peak f)) (sym (bound_into-ended entry.0 xs ys ended)) tt, small-ended source has_peak xs ys meters ended)
+
 -- ---- a loop over contracts
 by_test : (test : Bool) (number : ℕ) (rest : Option ℕ) → (if test then rest else Some number) ≡ None → (test ≡ true) × (rest ≡ None)
 by_test true number rest whole = (refl, whole)
@@ -317,6 +376,36 @@ contract_kept d xs contracts c ys rows bounds names loads new whole is_contracts
     ∙ ap (λ list. with_brought (λ name. shares_at d name (c ∷ contracts) list) names loads) is_rows)
     ∙ kept
 
+small_both : (xs ys : List Share) → AllByRecursion IsSmall xs → AllByRecursion IsSmall ys → AllByRecursion IsSmall (xs ++ ys)
+small_both [] ys left right = right
+small_both (x ∷ xs) ys left right = (left.0, small_both xs ys left.1 right)
+
+small_contract : (d : Domain) (c : Contract) (contracts : List Contract) (bounds : List Bound) (rows : List (List Bound)) (meters : List (List ℕ × Meter))
+    → AreSmall (λ name. share_of d name c bounds) meters → AreSmall (λ name. shares_at d name contracts rows) meters
+    → AreSmall (λ name. shares_at d name (c ∷ contracts) (bounds ∷ rows)) meters
+unfolding shares_at
+small_contract d c contracts bounds rows [] own behind = tt
+small_contract d c contracts bounds rows (entry ∷ meters) own behind =
+    (small_both (share_of d entry.0 c bounds) (shares_at d entry.0 contracts rows) own.0 behind.0, small_contract d c contracts bounds rows meters own.1 behind.1)
+
+pub contract_small : (d : Domain) (xs contracts : List Contract) (c : Contract) (ys rows : List (List Bound)) (bounds : List Bound) (meters : List (List ℕ × Meter))
+    → xs ≡ c ∷ contracts → ys ≡ bounds ∷ rows → AreSmall (λ name. share_of d name c bounds) meters → AreSmall (λ name. shares_at d name contracts rows) meters
+    → AreSmall (λ name. shares_at d name xs ys) meters
+contract_small d xs contracts c ys rows bounds meters is_contracts is_rows own behind =
+    subst (λ list. AreSmall (λ name. shares_at d name list ys) meters) (sym is_contracts)
+    (subst (λ list. AreSmall (λ name. shares_at d name (c ∷ contracts) list) meters) (sym is_rows) (small_contract d c contracts bounds rows meters own behind))
+
+pub small-first : (d : Domain) (xs contracts : List Contract) (ys rows : List (List Bound)) (meters : List (List ℕ × Meter)) → xs ≡ contracts → ys ≡ rows
+    → AreSmall (λ name. shares_at d name xs ys) meters → AreSmall (λ name. shares_at d name contracts rows) meters
+small-first d xs contracts ys rows meters is_contracts is_rows small =
+    subst (λ list. AreSmall (λ name. shares_at d name list rows) meters) is_contracts (subst (λ list. AreSmall (λ name. shares_at d name xs list) meters) is_rows small)
+
+pub contracts_small : (d : Domain) (xs : List Contract) (ys : List (List Bound)) (meters : List (List ℕ × Meter)) → (xs ≡ []) ⊎ (ys ≡ [])
+    → AreSmall (λ name. shares_at d name xs ys) meters
+contracts_small d xs ys [] ended = tt
+contracts_small d xs ys (entry ∷ meters) ended =
+    (subst (AllByRecursion IsSmall) (sym (shares_at-ended d entry.0 xs ys ended)) tt, contracts_small d xs ys meters ended)
+
 pub contracts_ended : (d : Domain) (xs : List Contract) (ys : List (List Bound)) (names : List (List ℕ)) (loads whole : List Loads) → length loads ≡ length names
     → (xs ≡ []) ⊎ (ys ≡ []) → with_brought (λ name. shares_at d name xs ys) names loads ≡ whole → loads ≡ whole
 contracts_ended d xs ys names loads whole long ended kept =
@@ -350,7 +439,7 @@ written len new old given same is_len long =
 abbrev curve : ℕ → ℕ → Curve
 curve rate burst = record { rate = rate; burst = burst }
 
-same_curve : (rate other burst more : ℕ) → rate ≡ other → burst ≡ more → curve rate burst ≡ curve other more
+pub same_curve : (rate other burst more : ℕ) → rate ≡ other → burst ≡ more → curve rate burst ≡ curve other more
 same_curve rate other burst more rates bursts = ap (λ r. curve r burst) rates ∙ ap (curve other) bursts
 
 plus-nothing : (c : Curve) → plus nothing c ≡ c
@@ -387,36 +476,43 @@ peaked_is : (l : Loads) (shares : List Share) → (fold with_share l shares).pea
 peaked_is l [] = sym (nothing-plus l.peaked)
 peaked_is l (share ∷ shares) = peaked_is (with_share l share) shares ∙ peaked_by share.has_peak l share shares refl
 
-or-false : (b : Bool) → (b || false) ≡ b
-or-false true = refl
-or-false false = refl
+and-false : (b : Bool) → (b && false) ≡ false
+and-false true = refl
+and-false false = refl
 
-or-assoc : (a b c : Bool) → ((a || b) || c) ≡ (a || (b || c))
-or-assoc true b c = refl
-or-assoc false b c = refl
+and-true : (b : Bool) → (b && true) ≡ b
+and-true true = refl
+and-true false = refl
 
-any_is : (l : Loads) (shares : List Share) → (fold with_share l shares).has_peak ≡ (l.has_peak || list_any (λ share. share.has_peak) shares)
-any_is l [] = sym (or-false l.has_peak)
-any_is l (share ∷ shares) = any_is (with_share l share) shares ∙ or-assoc l.has_peak share.has_peak (list_any (λ other. other.has_peak) shares)
+one_more : (n : ℕ) → nat_eq (n + 1) 0 ≡ false
+one_more n = grind (arith, nat_tests)
 
--- what contracts bring to a meter in all
-abbrev pub sums_of : ℕ → List Share → Loads
-sums_of skew shares = fold with_share (no_loads skew) shares
+none_by : (b : Bool) (l : Loads) (share : Share) (any : Bool) → share.has_peak ≡ b
+    → (nat_eq (with_share l share).peaked_number 0 && not any) ≡ (nat_eq l.peaked_number 0 && not (share.has_peak || any))
+none_by true l share any is = rw is (ap (λ b. b && not any) (one_more l.peaked_number) ∙ sym (and-false (nat_eq l.peaked_number 0)))
+none_by false l share any is = rw is refl
 
-green_is : (skew : ℕ) (shares : List Share) → (sums_of skew shares).green ≡ load Green skew shares
+-- none of the shares has a peak where the number of those that do is 0
+none_is : (l : Loads) (shares : List Share)
+    → nat_eq (fold with_share l shares).peaked_number 0 ≡ (nat_eq l.peaked_number 0 && not (list_any (λ share. share.has_peak) shares))
+none_is l [] = sym (and-true (nat_eq l.peaked_number 0))
+none_is l (share ∷ shares) =
+    none_is (with_share l share) shares ∙ none_by share.has_peak l share (list_any (λ other. other.has_peak) shares) refl
+
+pub green_is : (skew : ℕ) (shares : List Share) → (sums_of skew shares).green ≡ load Green skew shares
 green_is skew shares = part_is (λ l. l.green) Green (λ l share. refl) (no_loads skew) shares ∙ plus-nothing (load Green skew shares)
 
 all_is : (skew : ℕ) (shares : List Share) → (sums_of skew shares).all ≡ load All skew shares
 all_is skew shares = part_is (λ l. l.all) All (λ l share. refl) (no_loads skew) shares ∙ plus-nothing (load All skew shares)
 
-single_by : (b : Bool) (skew : ℕ) (shares : List Share) → (if b then load All skew shares else nothing) ≡ load All skew (if b then shares else [])
+single_by : (b : Bool) (skew : ℕ) (shares : List Share) → (if not b then nothing else load All skew shares) ≡ load All skew (if b then shares else [])
 single_by true skew shares = refl
 single_by false skew shares = refl
 
-counted_is : (p : Parameters) (skew : ℕ) (shares : List Share) → counted_load p (sums_of skew shares) ≡ load (held_column p) skew (counted p shares)
+pub counted_is : (p : Parameters) (skew : ℕ) (shares : List Share) → counted_load p (sums_of skew shares) ≡ load (held_column p) skew (counted p shares)
 counted_is (SrTcm p) skew shares =
-    ap (λ b. if b then (sums_of skew shares).all else nothing) (any_is (no_loads skew) shares)
-    ∙ ap (λ c. if list_any (λ share. share.has_peak) shares then c else nothing) (all_is skew shares)
+    ap (λ b. if b then nothing else (sums_of skew shares).all) (none_is (no_loads skew) shares)
+    ∙ ap (λ c. if not (list_any (λ share. share.has_peak) shares) then nothing else c) (all_is skew shares)
     ∙ single_by (list_any (λ share. share.has_peak) shares) skew shares
 counted_is (TrTcm p) skew shares = all_is skew shares
 counted_is (Rfc4115 p) skew shares =
@@ -429,85 +525,39 @@ tests_are name m shares l is =
     ∙ ap (λ green. load_tests name m green (counted_load m.parameters (sums_of m.skew shares))) (green_is m.skew shares)
     ∙ ap (load_tests name m (load Green m.skew shares)) (counted_is m.parameters m.skew shares)
 
--- ---- a loop over meters
-passed_by : (b : Bool) (t : Test) (tests more : List Test) → nat_le t.needed t.given ≡ b → (first_failed tests ≡ None → first_failed (tests ++ more) ≡ first_failed more)
-    → first_failed (t ∷ tests) ≡ None → first_failed ((t ∷ tests) ++ more) ≡ first_failed more
-unfolding first_failed
-passed_by true t tests more is behind passed = rw is (behind (rw is at passed))
-passed_by false t tests more is behind passed = absurd cc
-
-first_failed-passed : (tests more : List Test) → first_failed tests ≡ None → first_failed (tests ++ more) ≡ first_failed more
-unfolding first_failed
-first_failed-passed [] more passed = refl
-first_failed-passed (t ∷ tests) more passed = passed_by (nat_le t.needed t.given) t tests more refl (first_failed-passed tests more) passed
-
-failed_by : (b : Bool) (t : Test) (tests more : List Test) (refusal : Refusal) → nat_le t.needed t.given ≡ b
-    → (first_failed tests ≡ Some refusal → first_failed (tests ++ more) ≡ Some refusal)
-    → first_failed (t ∷ tests) ≡ Some refusal → first_failed ((t ∷ tests) ++ more) ≡ Some refusal
-unfolding first_failed
-failed_by true t tests more refusal is behind failed = search (rules, is, behind, failed)
-failed_by false t tests more refusal is behind failed = search (rules, is, failed)
-
-first_failed-failed : (tests more : List Test) (refusal : Refusal) → first_failed tests ≡ Some refusal → first_failed (tests ++ more) ≡ Some refusal
-unfolding first_failed
-first_failed-failed [] more refusal failed = absurd cc
-first_failed-failed (t ∷ tests) more refusal failed = failed_by (nat_le t.needed t.given) t tests more refusal refl (first_failed-failed tests more refusal) failed
-
-heads_same : {X : Type 0} (x y : X) (xs ys : List X) → x ∷ xs ≡ y ∷ ys → (x ≡ y) × (xs ≡ ys)
-heads_same x y xs ys same = (ap (λ list. get_or list 0 x) same, ap (drop 1) same)
-
--- the sums of the meters that are left
-pub left_sums : Domain → List Contract → List (List Bound) → List (List ℕ × Meter) → List Loads
-left_sums d contracts rows [] = []
-left_sums d contracts rows (entry ∷ meters) = sums_of entry.1.skew (shares_at d entry.0 contracts rows) ∷ left_sums d contracts rows meters
-
+-- the sums of a table
 pub sums_are : (d : Domain) (contracts : List Contract) (rows : List (List Bound)) (meters : List (List ℕ × Meter))
-    → with_brought (λ name. shares_at d name contracts rows) (keys_of meters) (map (λ entry. no_loads entry.1.skew) meters) ≡ left_sums d contracts rows meters
-unfolding with_brought left_sums
+    → with_brought (λ name. shares_at d name contracts rows) (keys_of meters) (map (λ entry. no_loads entry.1.skew) meters)
+    ≡ map (λ entry. sums_of entry.1.skew (shares_at d entry.0 contracts rows)) meters
+unfolding with_brought
 sums_are d contracts rows [] = refl
 sums_are d contracts rows (entry ∷ meters) = ap (λ rest. sums_of entry.1.skew (shares_at d entry.0 contracts rows) ∷ rest) (sums_are d contracts rows meters)
 
--- the sums of the first meter
-pub first_sums : (d : Domain) (contracts : List Contract) (rows : List (List Bound)) (left meters : List (List ℕ × Meter)) (name : List ℕ) (m : Meter) (sums rest : List Loads) (l : Loads)
-    → left ≡ (name, m) ∷ meters → sums ≡ l ∷ rest → sums ≡ left_sums d contracts rows left
-    → (l ≡ sums_of m.skew (shares_at d name contracts rows)) × (rest ≡ left_sums d contracts rows meters)
-unfolding left_sums
-first_sums d contracts rows left meters name m sums rest l is_meters is_sums are =
-    heads_same l (sums_of m.skew (shares_at d name contracts rows)) rest (left_sums d contracts rows meters)
-    (sym is_sums ∙ are ∙ ap (left_sums d contracts rows) is_meters)
+-- their tests are those of the table
+pub sums_tests-are : (d : Domain) (contracts : List Contract) (rows : List (List Bound)) (meters : List (List ℕ × Meter))
+    → sums_tests meters (map (λ entry. sums_of entry.1.skew (shares_at d entry.0 contracts rows)) meters) ≡ table_tests d contracts rows meters
+unfolding sums_tests table_tests
+sums_tests-are d contracts rows [] = refl
+sums_tests-are d contracts rows (entry ∷ meters) =
+    let shares = shares_at d entry.0 contracts rows in
+    ap (λ tests. tests ++ sums_tests meters (map (λ other. sums_of other.1.skew (shares_at d other.0 contracts rows)) meters))
+    (tests_are entry.0 entry.1 shares (sums_of entry.1.skew shares) refl)
+    ∙ ap (λ tests. meter_tests entry.0 entry.1 shares ++ tests) (sums_tests-are d contracts rows meters)
 
-table_tests-first : (d : Domain) (contracts : List Contract) (rows : List (List Bound)) (name : List ℕ) (m : Meter) (meters : List (List ℕ × Meter))
-    → table_tests d contracts rows ((name, m) ∷ meters) ≡ meter_tests name m (shares_at d name contracts rows) ++ table_tests d contracts rows meters
-unfolding table_tests
-table_tests-first d contracts rows name m meters = refl
+-- ---- a loop over meters and sums
+pub tests_next : (xs meters : List (List ℕ × Meter)) (name : List ℕ) (m : Meter) (ys sums : List Loads) (l : Loads) (refusal : Option Refusal)
+    → xs ≡ (name, m) ∷ meters → ys ≡ l ∷ sums → refusal ≡ first_failed (load_tests name m l.green (counted_load m.parameters l))
+    → first_failed (sums_tests xs ys) ≡ option_or refusal (first_failed (sums_tests meters sums))
+unfolding sums_tests
+tests_next xs meters name m ys sums l refusal is_meters is_sums is_refusal =
+    rw is_meters (rw is_sums (rw is_refusal (first_failed-append (sum_tests (name, m) l) (sums_tests meters sums))))
 
-pub meter_passed : (d : Domain) (contracts : List Contract) (rows : List (List Bound)) (left meters : List (List ℕ × Meter)) (name : List ℕ) (m : Meter) (l : Loads) (whole : Option Refusal)
-    → left ≡ (name, m) ∷ meters → l ≡ sums_of m.skew (shares_at d name contracts rows) → first_failed (load_tests name m l.green (counted_load m.parameters l)) ≡ None
-    → first_failed (table_tests d contracts rows left) ≡ whole → first_failed (table_tests d contracts rows meters) ≡ whole
-meter_passed d contracts rows left meters name m l whole is_meters is passed kept =
-    sym (first_failed-passed (meter_tests name m (shares_at d name contracts rows)) (table_tests d contracts rows meters)
-    (ap first_failed (sym (tests_are name m (shares_at d name contracts rows) l is)) ∙ passed))
-    ∙ ap first_failed (sym (table_tests-first d contracts rows name m meters))
-    ∙ sym (ap (λ list. first_failed (table_tests d contracts rows list)) is_meters) ∙ kept
-
-pub meter_failed : (d : Domain) (contracts : List Contract) (rows : List (List Bound)) (left meters : List (List ℕ × Meter)) (name : List ℕ) (m : Meter) (l : Loads) (whole : Option Refusal)
-    (refusal : Refusal) → left ≡ (name, m) ∷ meters → l ≡ sums_of m.skew (shares_at d name contracts rows)
-    → first_failed (load_tests name m l.green (counted_load m.parameters l)) ≡ Some refusal → first_failed (table_tests d contracts rows left) ≡ whole → Some refusal ≡ whole
-meter_failed d contracts rows left meters name m l whole refusal is_meters is failed kept =
-    sym (first_failed-failed (meter_tests name m (shares_at d name contracts rows)) (table_tests d contracts rows meters) refusal
-    (ap first_failed (sym (tests_are name m (shares_at d name contracts rows) l is)) ∙ failed))
-    ∙ ap first_failed (sym (table_tests-first d contracts rows name m meters))
-    ∙ sym (ap (λ list. first_failed (table_tests d contracts rows list)) is_meters) ∙ kept
-
-pub meters_ended : (d : Domain) (contracts : List Contract) (rows : List (List Bound)) (left : List (List ℕ × Meter)) (sums : List Loads) (whole : Option Refusal)
-    → (left ≡ []) ⊎ (sums ≡ []) → sums ≡ left_sums d contracts rows left → first_failed (table_tests d contracts rows left) ≡ whole → None ≡ whole
-unfolding table_tests first_failed left_sums
-meters_ended d contracts rows [] sums whole ended are kept = kept
-meters_ended d contracts rows (entry ∷ meters) sums whole (inl ended) are kept = absurd cc
-meters_ended d contracts rows (entry ∷ meters) sums whole (inr ended) are kept = absurd (none_left (sym ended ∙ are))
-  where
-    none_left : {X : Type 0} {x : X} {xs : List X} → [] ≡ x ∷ xs → ⊥
-    none_left same = absurd cc
+pub tests_ended : (xs : List (List ℕ × Meter)) (ys : List Loads) → (xs ≡ []) ⊎ (ys ≡ []) → first_failed (sums_tests xs ys) ≡ None
+unfolding sums_tests first_failed
+tests_ended [] ys ended = refl
+tests_ended (entry ∷ meters) [] ended = refl
+tests_ended (entry ∷ meters) (l ∷ sums) (inl ended) = absurd cc
+tests_ended (entry ∷ meters) (l ∷ sums) (inr ended) = absurd cc
 
 pub none_long : {X : Type 0} (xs : List X) → length xs ≡ 0 → xs ≡ []
 none_long [] short = refl

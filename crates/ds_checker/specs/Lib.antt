@@ -1,6 +1,9 @@
 pub mod Acceptance
 pub mod BoundTests
+pub mod Changes
+pub mod Holds
 pub mod Loads
+pub mod Places
 pub mod Refusals
 pub mod Sums
 pub mod TableTests

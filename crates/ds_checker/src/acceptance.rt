@@ -1,11 +1,13 @@
-ghost use Rattle.std.specs.Prelude.{◌≡◌, ◌⊎◌, None, Some, IfOk, IfErr, OnErr};
+ghost use Rattle.std.specs.Prelude.{◌≡◌, ◌⊎◌, None, Some, IfOk, IfErr, OnOk};
 ghost use Rattle.ds_checker.specs.Acceptance.{IsAcceptable, bounds_refusal_of, refusal_of, table_of};
+ghost use Rattle.ds_checker.specs.Sums.{IsKept};
 
 use crate::bounds::{bounds_refusal, shape_refusal};
 use crate::candidate::{Accepted, Candidate};
+use crate::load::Loads;
 use crate::refusal::Refusal;
-use crate::table::table_refusal;
-use std::alloc::{AllocError, Global};
+use crate::table::{gathered, table_refusal};
+use std::alloc::Global;
 
 /// Checks a certificate: accepts it where it is acceptable, and else hands the candidate back, unchanged, with the
 /// first test that fails; or with `NoMemory` where memory runs out.
@@ -19,18 +21,20 @@ pub fn check(alloc: Global, candidate: Candidate) -> Result<Accepted, (Candidate
         (λ refused. ((refused.1 ≡ Refusal.NoMemory) × (bounds_refusal_of (table_of candidate) ≡ None))
         ⊎ (refusal_of (table_of candidate) ≡ Some refused.1)) }
 {
-    match refusal(alloc, &candidate) {
-        Ok(None) => Ok(Accepted::new(candidate)),
-        Ok(Some(refusal)) => Err((candidate, refusal)),
-        Err(AllocError) => Err((candidate, Refusal::NoMemory)),
+    match judged(alloc, &candidate) {
+        Ok(sums) => Ok(Accepted::new(candidate, sums)),
+        Err(refusal) => Err((candidate, refusal)),
     }
 }
 
-/// The first test that fails of a candidate, if one does: its shape, then its bounds, then its meters; `AllocError`
-/// where memory runs out.
-fn refusal(alloc: Global, candidate: &Candidate) -> Result<Option<Refusal>, AllocError>
-    ensures value { IfOk result (λ refusal. refusal ≡ refusal_of (table_of candidate.now)) }
-    ensures memory { OnErr result (bounds_refusal_of (table_of candidate.now) ≡ None) }
+/// What the contracts of an acceptable candidate bring to each meter; else the first test that fails: its shape, then
+/// its bounds, then its meters; `NoMemory` where memory runs out.
+fn judged(alloc: Global, candidate: &Candidate) -> Result<Vec<Loads>, Refusal>
+    ensures unrefused { OnOk result (refusal_of (table_of candidate.now) ≡ None) }
+    ensures kept { IfOk result (λ sums. IsKept (table_of candidate.now) sums.items) }
+    ensures refused { IfErr result
+        (λ refusal. ((refusal ≡ Refusal.NoMemory) × (bounds_refusal_of (table_of candidate.now) ≡ None))
+        ⊎ (refusal_of (table_of candidate.now) ≡ Some refusal)) }
 {
     let Candidate {
         domain,
@@ -38,13 +42,15 @@ fn refusal(alloc: Global, candidate: &Candidate) -> Result<Option<Refusal>, Allo
         certificate,
     } = candidate;
     let contracts = contracts.as_slice();
-    let refusal = shape_refusal(domain, contracts, certificate);
-    if refusal.is_some() {
-        return Ok(refusal);
+    if let Some(refusal) = shape_refusal(domain, contracts, certificate) {
+        return Err(refusal);
     }
-    let refusal = bounds_refusal(domain, contracts, certificate);
-    if refusal.is_some() {
-        return Ok(refusal);
+    if let Some(refusal) = bounds_refusal(domain, contracts, certificate) {
+        return Err(refusal);
     }
-    table_refusal(alloc, domain, contracts, certificate)
+    let sums = gathered(alloc, domain, contracts, certificate)?;
+    match table_refusal(domain, sums.as_slice()) {
+        None => Ok(sums),
+        Some(refusal) => Err(refusal),
+    }
 }

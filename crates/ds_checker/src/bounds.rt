@@ -36,7 +36,7 @@ pub(crate) fn shape_refusal(
 }
 
 /// Whether a contract fits the domain and has one bound more than its path has meters.
-fn has_shape(domain: &Domain, contract: &Contract, bounds: &Bounds) -> bool
+pub(crate) fn has_shape(domain: &Domain, contract: &Contract, bounds: &Bounds) -> bool
     ensures { result ≡ (fits domain.now contract.now && nat_eq (length bounds.now) (suc (length contract.now.path))) }
 {
     is_fit(domain, contract) && bounds.hops().len() == contract.path.meters().len() + 1
@@ -62,7 +62,7 @@ pub(crate) fn bounds_refusal(
 }
 
 /// The refusal of the first bound of a contract that is too low; none where it has no bounds.
-fn contract_refusal(
+pub(crate) fn contract_refusal(
     domain: &Domain,
     number: usize,
     contract: &Contract,

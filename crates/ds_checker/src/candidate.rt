@@ -1,8 +1,18 @@
-ghost use Rattle.std.specs.Prelude.{◌≡◌};
-ghost use Rattle.ds_checker.specs.Acceptance.{IsAcceptable, table_of};
+ghost use Rattle.std.specs.Prelude.{◌≡◌, ◌<◌, ◌⊎◌, None, Some, IfOk, IfErr, OnErr, OnOk, length, slice_get};
+ghost use Rattle.ds_checker.specs.Acceptance.{IsAcceptable, refusal_of, table_of};
+ghost use Rattle.ds_checker.specs.Changes.{with_contract, with_lifetime, without_contract};
+ghost use Rattle.ds_checker.specs.Holds.{hold_at};
+ghost use Rattle.ds_checker.specs.Sums.{IsKept};
 
-use ds_certificate::Certificate;
-use ds_domain_base::{Contract, Domain};
+use crate::admission::contract_refusal_at_meters;
+use crate::bounds::{contract_refusal, has_shape};
+use crate::hold::hold_of;
+use crate::load::Loads;
+use crate::refusal::Refusal;
+use crate::table::{add_contract, take_contract};
+use ds_certificate::{Bound, Bounds, Certificate};
+use ds_domain_base::{Contract, Domain, Lifetime};
+use std::alloc::{AllocError, Global};
 use std::marker::Model;
 
 /// A domain, contracts, and a certificate of theirs that is still to be checked.
@@ -17,28 +27,35 @@ pub struct Candidate {
 }
 
 /// A domain, contracts, and an acceptable certificate of theirs.
+///
+/// It keeps for each meter the sums of what its contracts bring there, so that a contract more or less costs what its
+/// own path is long, and not what the table is.
 #[derive(Debug, Drop)]
 pub struct Accepted {
     domain: Domain,
     contracts: Vec<Contract>,
     certificate: Certificate,
+    /// What the contracts bring to each meter, in the order of the meters.
+    sums: Vec<Loads>,
 }
 
 impl Model for Accepted {
-    ghost use Rattle.ds_checker.specs.Acceptance.{IsAcceptable, Table};
+    ghost use Rattle.ds_checker.specs.Acceptance.{Table};
+    ghost use Rattle.ds_checker.specs.Sums.{IsSound};
 
     ghost Value = { Table };
 
     ghost view = { λ a. record { domain = a.domain; contracts = a.contracts.items; certificate = a.certificate } };
 
-    ghost invariant = { λ a. IsAcceptable
-        (record { domain = a.domain; contracts = a.contracts.items; certificate = a.certificate }) };
+    ghost invariant = { λ a. IsSound
+        (record { domain = a.domain; contracts = a.contracts.items; certificate = a.certificate }) a.sums.items };
 }
 
 impl Accepted {
-    /// What was checked, once it is known to be acceptable.
-    pub(crate) fn new(candidate: Candidate) -> Self
-        requires { IsAcceptable (table_of candidate) }
+    /// What was checked, once it is known to be acceptable, with the sums of what its contracts bring to each meter.
+    pub(crate) fn new(candidate: Candidate, sums: Vec<Loads>) -> Self
+        requires acceptable { IsAcceptable (table_of candidate) }
+        requires kept { IsKept (table_of candidate) sums.items }
         ensures { result ≡ table_of candidate }
     {
         let Candidate {
@@ -50,6 +67,7 @@ impl Accepted {
             domain,
             contracts,
             certificate,
+            sums,
         }
     }
 
@@ -76,4 +94,192 @@ impl Accepted {
     {
         &self.certificate
     }
+
+    /// How long the share of the contract at a place is to be held once the contract has ended, in nanoseconds: the
+    /// greatest, over the hops of its path and the columns, of what delays can be up to that hop, the meter's skew, and
+    /// the time in which the column's rate gives the bound there, widened by that skew (Cruz 1991, section II). It is 0
+    /// where no contract stands at that place.
+    pub fn hold(&self, index: usize) -> u128
+        ensures { result ≡ hold_at self.now index }
+    {
+        let Some(contract) = self.contracts.as_slice().get(index) else {
+            return 0;
+        };
+        let Some(bounds) = self.certificate.bounds().get(index) else {
+            return 0;
+        };
+        hold_of(&self.domain, contract, bounds.hops())
+    }
+
+    /// The same table again; `AllocError` where memory runs out.
+    pub fn copy(&self, alloc: Global) -> Result<Accepted, AllocError>
+        ensures { IfOk result (λ accepted. accepted ≡ self.now) }
+    {
+        let Ok(domain) = self.domain.copy(alloc) else {
+            return Err(AllocError);
+        };
+        Ok(Accepted {
+            domain,
+            contracts: copied(alloc, self.contracts.as_slice())?,
+            certificate: self.certificate.copy(alloc)?,
+            sums: self.sums.as_slice().to_vec(alloc)?,
+        })
+    }
+
+    /// Takes up one contract more, behind the others, with its bounds, where the table is acceptable with it.
+    ///
+    /// Else it hands both back, is as it was, and tells what `check` of the table with that contract would: the first
+    /// test that fails; or `NoMemory` where none does and memory runs out. It looks at the contract, at its bounds and at
+    /// the meters of its path alone.
+    pub fn admit(
+        &mut self,
+        contract: Contract,
+        bounds: Vec<Bound>,
+    ) -> Result<(), (Contract, Vec<Bound>, Refusal)>
+        ensures admitted { OnOk result (self.new ≡ with_contract self.old contract bounds.items) }
+        ensures acceptable { IsAcceptable self.new }
+        ensures unchanged { OnErr result (self.new ≡ self.old) }
+        ensures back { IfErr result (λ refused. (refused.0 ≡ contract) × (refused.1.items ≡ bounds.items)) }
+        ensures refused { IfErr result (λ refused.
+            ((refused.2 ≡ Refusal.NoMemory) × (refusal_of (with_contract self.old contract bounds.items) ≡ None))
+            ⊎ (refusal_of (with_contract self.old contract bounds.items) ≡ Some refused.2)) }
+    {
+        let bounds = Bounds::new(bounds);
+        if let Some(refusal) = self.refusal_with(&contract, &bounds) {
+            return Err((contract, bounds.into_hops(), refusal));
+        }
+        match self.take_up(contract, bounds) {
+            Ok(()) => Ok(()),
+            Err((contract, bounds)) => Err((contract, bounds.into_hops(), Refusal::NoMemory)),
+        }
+    }
+
+    /// The table with one contract more, as `admit` makes it of a copy.
+    pub fn with(
+        &self,
+        alloc: Global,
+        contract: Contract,
+        bounds: Vec<Bound>,
+    ) -> Result<Accepted, (Contract, Vec<Bound>, Refusal)>
+        ensures admitted { IfOk result (λ accepted. accepted ≡ with_contract self.now contract bounds.items) }
+        ensures acceptable { IfOk result (λ accepted. IsAcceptable accepted) }
+        ensures back { IfErr result (λ refused. (refused.0 ≡ contract) × (refused.1.items ≡ bounds.items)) }
+        ensures refused { IfErr result (λ refused.
+            ((refused.2 ≡ Refusal.NoMemory) × (refusal_of (with_contract self.now contract bounds.items) ≡ None))
+            ⊎ (refusal_of (with_contract self.now contract bounds.items) ≡ Some refused.2)) }
+    {
+        let bounds = Bounds::new(bounds);
+        if let Some(refusal) = self.refusal_with(&contract, &bounds) {
+            return Err((contract, bounds.into_hops(), refusal));
+        }
+        let Ok(mut larger) = self.copy(alloc) else {
+            return Err((contract, bounds.into_hops(), Refusal::NoMemory));
+        };
+        match larger.take_up(contract, bounds) {
+            Ok(()) => Ok(larger),
+            Err((contract, bounds)) => Err((contract, bounds.into_hops(), Refusal::NoMemory)),
+        }
+    }
+
+    /// Takes out the contract at a place and hands it back with its bounds; those behind it move up. It takes no memory,
+    /// and what is left is acceptable.
+    pub fn withdraw(&mut self, index: usize) -> (Contract, Bounds)
+        requires { index < length self.old.contracts }
+        ensures withdrawn { self.new ≡ without_contract self.old index }
+        ensures acceptable { IsAcceptable self.new }
+        ensures contract { slice_get self.old.contracts index ≡ Some result.0 }
+        ensures bounds { slice_get self.old.certificate index ≡ Some result.1 }
+    {
+        let contract = self.contracts.remove(index);
+        let bounds = self.certificate.remove(index);
+        take_contract(
+            self.sums.as_mut_slice(),
+            &self.domain,
+            &contract,
+            bounds.hops(),
+        );
+        (contract, bounds)
+    }
+
+    /// The table without the contract at a place, as `withdraw` makes it of a copy; `AllocError` where memory runs out.
+    pub fn without(&self, alloc: Global, index: usize) -> Result<Accepted, AllocError>
+        requires { index < length self.now.contracts }
+        ensures withdrawn { IfOk result (λ accepted. accepted ≡ without_contract self.now index) }
+        ensures acceptable { IfOk result (λ accepted. IsAcceptable accepted) }
+    {
+        let mut smaller = self.copy(alloc)?;
+        let _withdrawn = smaller.withdraw(index);
+        Ok(smaller)
+    }
+
+    /// Gives the contract at a place another lifetime. It takes no memory.
+    pub fn set_lifetime(&mut self, index: usize, lifetime: Lifetime)
+        requires { index < length self.old.contracts }
+        ensures set { self.new ≡ with_lifetime self.old index lifetime }
+        ensures acceptable { IsAcceptable self.new }
+    {
+        self.contracts[index].lifetime = lifetime;
+    }
+
+    /// The first test that fails of the table with one contract more, if one does.
+    fn refusal_with(&self, contract: &Contract, bounds: &Bounds) -> Option<Refusal>
+        ensures value { result ≡ refusal_of (with_contract self.now contract.now bounds.now) }
+        ensures acceptable { IsAcceptable self.now }
+    {
+        let number = self.contracts.len();
+        if !has_shape(&self.domain, contract, bounds) {
+            return Some(Refusal::Shape { contract: number });
+        }
+        let refusal = contract_refusal(&self.domain, number, contract, bounds);
+        if refusal.is_some() {
+            return refusal;
+        }
+        contract_refusal_at_meters(
+            &self.domain,
+            self.sums.as_slice(),
+            contract,
+            bounds.hops(),
+        )
+    }
+
+    /// Takes up a contract against which nothing stands; where memory runs out it hands it back, and is as it was.
+    fn take_up(&mut self, contract: Contract, bounds: Bounds) -> Result<(), (Contract, Bounds)>
+        requires { refusal_of (with_contract self.old contract bounds) ≡ None }
+        ensures admitted { OnOk result (self.new ≡ with_contract self.old contract bounds) }
+        ensures acceptable { IsAcceptable self.new }
+        ensures unchanged { OnErr result (self.new ≡ self.old) }
+        ensures back { IfErr result (λ back. (back.0 ≡ contract) × (back.1 ≡ bounds)) }
+    {
+        if self.contracts.reserve(1).is_err() {
+            return Err((contract, bounds));
+        }
+        match self.certificate.push(bounds) {
+            Ok(()) => {}
+            Err(bounds) => return Err((contract, bounds)),
+        }
+        let _meters = self.domain.meters();
+        let bounds = &self.certificate.bounds()[self.contracts.len()];
+        add_contract(
+            self.sums.as_mut_slice(),
+            &self.domain,
+            &contract,
+            bounds.hops(),
+        );
+        self.contracts.push(contract).unwrap();
+        Ok(())
+    }
+}
+
+/// The same contracts again.
+fn copied(alloc: Global, contracts: &[Contract]) -> Result<Vec<Contract>, AllocError>
+    ensures { IfOk result (λ copied. copied.items ≡ contracts.now) }
+{
+    let mut copied = Vec::with_capacity(alloc, contracts.len())?;
+    for contract in contracts {
+        let Ok(contract) = contract.copy(alloc) else {
+            return Err(AllocError);
+        };
+        copied.push(contract)?;
+    }
+    Ok(copied)
 }

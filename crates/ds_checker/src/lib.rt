@@ -3,8 +3,10 @@
 #![tactic(auto)]
 
 pub mod acceptance;
+mod admission;
 pub mod bounds;
 pub mod candidate;
+mod hold;
 pub mod laws;
 pub mod load;
 pub mod refusal;

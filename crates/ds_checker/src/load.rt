@@ -1,7 +1,9 @@
 ghost use Rattle.std.specs.Prelude.{◌≡◌, ◌+◌, ◌≤◌, ◌*◌, ◌^◌, ℕ};
 ghost use Rattle.envelope_core.specs.Curve.{widened};
 ghost use Rattle.ds_certificate.specs.Ranges.{IsModerate};
-ghost use Rattle.ds_checker.specs.Sums.{AreBelow, IsBelow, counted_load, no_loads, plus, with_share};
+ghost use Rattle.ds_certificate.specs.Columns.{IsInRange};
+ghost use Rattle.ds_checker.specs.Sums.{AreBelow, IsBelow, IsCounted, IsPart, counted_load, less, no_loads, plus};
+ghost use Rattle.ds_checker.specs.Sums.{with_share, without_share};
 
 use ds_certificate::{Bound, Source};
 use envelope_core::Envelope;
@@ -69,6 +71,19 @@ impl Load {
             burst: self.burst + (u128::from(bound) + widening),
         }
     }
+
+    /// Without such traffic, where it is a part of this.
+    #[tactic(auto, using(crate::proofs::BoundLaws::bytes_over_fits))]
+    fn without(self, envelope: Envelope, bound: u64, skew: Gap) -> Load
+        requires { IsPart (widened skew (record { rate = envelope.rate; burst = bound })) self }
+        ensures { result ≡ less self (widened skew (record { rate = envelope.rate; burst = bound })) }
+    {
+        let widening = bytes_over_ceil(envelope.rate(), skew);
+        Load {
+            rate: self.rate - u128::from(envelope.rate()),
+            burst: self.burst - (u128::from(bound) + widening),
+        }
+    }
 }
 
 /// What a contract brings to a meter.
@@ -92,7 +107,8 @@ impl Model for Share {
     ghost inverse = { λ s. record { source = s.source; bound = s.bound; has_peak = s.has_peak } };
 }
 
-/// The sums of what is brought to a meter.
+/// The sums of what is brought to a meter: those over all contracts, those over contracts with a peak, and the number
+/// of the latter.
 #[derive(Clone, Copy, Debug)]
 pub(crate) struct Loads {
     /// The meter's skew.
@@ -103,8 +119,8 @@ pub(crate) struct Loads {
     all: Load,
     /// Of yellow packets of contracts that may send some.
     peaked: Load,
-    /// Whether there is such a contract.
-    has_peak: bool,
+    /// The number of such contracts.
+    peaked_number: u128,
 }
 
 impl Loads {
@@ -119,7 +135,7 @@ impl Loads {
             green: Load::NONE,
             all: Load::NONE,
             peaked: Load::NONE,
-            has_peak: false,
+            peaked_number: 0,
         }
     }
 
@@ -129,6 +145,7 @@ impl Loads {
         requires moderate { IsModerate share.now.source }
         ensures value { result ≡ with_share self share.now }
         ensures range { (most : ℕ) → AreBelow most self → AreBelow (most + 2 * 10 ^ 15) result }
+        ensures small { IsInRange share.now.bound }
     {
         let Share {
             source,
@@ -137,8 +154,9 @@ impl Loads {
         } = *share;
         let green = self.green.with(source.green, bound.green(), self.skew);
         let all = self.all.with(source.all, bound.all(), self.skew);
+        let excess = bound.excess();
         let peaked = if has_peak {
-            self.peaked.with(source.excess, bound.excess(), self.skew)
+            self.peaked.with(source.excess, excess, self.skew)
         } else {
             self.peaked
         };
@@ -147,7 +165,34 @@ impl Loads {
             green,
             all,
             peaked,
-            has_peak: self.has_peak || has_peak,
+            peaked_number: self.peaked_number + u128::from(has_peak),
+        }
+    }
+
+    /// Without one contract that is counted.
+    pub(crate) fn without(self, share: &Share) -> Self
+        requires { IsCounted share.now self }
+        ensures { result ≡ without_share self share.now }
+    {
+        let Share {
+            source,
+            bound,
+            has_peak,
+        } = *share;
+        let green = self.green.without(source.green, bound.green(), self.skew);
+        let all = self.all.without(source.all, bound.all(), self.skew);
+        let peaked = if has_peak {
+            self.peaked
+                .without(source.excess, bound.excess(), self.skew)
+        } else {
+            self.peaked
+        };
+        Loads {
+            skew: self.skew,
+            green,
+            all,
+            peaked,
+            peaked_number: self.peaked_number - u128::from(has_peak),
         }
     }
 
@@ -165,7 +210,7 @@ impl Loads {
         ensures { result ≡ counted_load parameters.now self.now }
     {
         match parameters {
-            Parameters::SrTcm(_) if !self.has_peak => Load::NONE,
+            Parameters::SrTcm(_) if self.peaked_number == 0 => Load::NONE,
             Parameters::SrTcm(_) | Parameters::TrTcm(_) => self.all,
             Parameters::Rfc4115(_) => self.peaked,
         }

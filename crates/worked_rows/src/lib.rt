@@ -13,6 +13,8 @@ mod excess_rows;
 #[cfg(test)]
 mod file_rows;
 #[cfg(test)]
+mod holding_rows;
+#[cfg(test)]
 mod plan_rows;
 #[cfg(test)]
 mod tables;

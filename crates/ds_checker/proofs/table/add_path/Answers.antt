@@ -1,11 +1,11 @@
-use Rattle.std.proofs.Common.{◌+◌, ◌*◌, ◌^◌, length, arith, sym, ap, ◌∙◌}
+use Rattle.std.proofs.Common.{rules, ◌+◌, ◌*◌, ◌^◌, length, arith, sym, ap, ◌∙◌}
 use Rattle.std.specs.Iterator.Adapters.{zip_first}
 use Rattle.std.specs.Map.{keys_of}
 use Rattle.std.specs.Slice.Iter.{iter_rest}
 use Rattle.std.proofs.lemmas.List.{length-set}
 use Rattle.std.proofs.lemmas.Map.Entries.{length-keys_of}
 use Rattle.std.proofs.lemmas.Slice.Zip.{Zip-more, either_empty_from_Zip}
-use Rattle.ds_checker.proofs.LoadLaws.{AreBelow-more, hop_kept, once_behind, past_kept, path_ended, position-inside, range_hop, range_past, room_at}
+use Rattle.ds_checker.proofs.LoadLaws.{AreBelow-more, hop_kept, once_behind, past_kept, path_ended, position-inside, range_hop, range_past, room_at, small-ended, small-hop, small-past}
 use Rattle.ds_checker.proofs.table.add_path.Goals as goal
 
 pub with-requires-clause-room : goal.with-requires-clause-room
@@ -26,6 +26,8 @@ loop-name-preserved-in-Some-meter_index c =
       places = length-set c.loop-name.sums c.in-Some-meter_index.place c.with.result ∙ c.loop-name.invariant.places;
       once = once_behind _ _ _ more.0 c.loop-name.invariant.once;
       short = omega (arith, ap length more.0, c.loop-name.invariant.short);
+      small = λ behind. c.loop-name.invariant.small
+          (small-hop c.args.source.now c.args.has_peak _ _ c.in-Some.name.now _ _ c.in-Some.bound.now c.args.domain.now.meters more.0 more.1 c.requires.moderate c.with.ensures.small behind);
       range = λ most below. range_hop _ _ _ c.loop-name.sums c.in-Some-meter_index.place c.index-sums-place.result c.with.result most more.0 c.loop-name.invariant.short
           (position-inside c.in-Some.name.now (keys_of c.args.domain.now.meters) c.loop-name.sums c.in-Some-meter_index.place c.meter_index.result c.meter_index.ensures
           c.in-Some-meter_index.is long) c.index-sums-place.is c.with.ensures.range (c.loop-name.invariant.range most below);
@@ -40,6 +42,9 @@ loop-name-preserved c =
       places = c.loop-name.invariant.places;
       once = once_behind _ _ _ more.0 c.loop-name.invariant.once;
       short = omega (arith, ap length more.0, c.loop-name.invariant.short);
+      small = λ behind. c.loop-name.invariant.small
+          (small-past c.args.source.now c.args.has_peak _ _ c.in-Some.name.now _ _ c.in-Some.bound.now c.args.domain.now.meters more.0 more.1
+          (sym c.meter_index.ensures ∙ c.in_default.is) behind);
       range = λ most below. range_past _ _ _ c.loop-name.sums most more.0 c.loop-name.invariant.short (c.loop-name.invariant.range most below);
     }
 
@@ -51,3 +56,19 @@ returns-clause-value c =
 pub returns-clause-range : goal.returns-clause-range
 returns-clause-range c most below =
     AreBelow-more _ (most + 32 * 10 ^ 15) c.loop-name.sums (omega arith) (c.loop-name.invariant.range most below)
+
+pub loop-name-init : goal.loop-name-init
+loop-name-init c = record {
+  value = search rules;
+  places = search rules;
+  once = search rules;
+  short = search rules;
+  small = search rules;
+  range = λ most below. AreBelow-more most _ c.args.sums.now (omega arith) below;
+}
+
+pub returns-clause-small : goal.returns-clause-small
+returns-clause-small c =
+    c.loop-name.invariant.small
+    (small-ended c.args.source.now c.args.has_peak _ _ c.args.domain.now.meters
+    (either_empty_from_Zip c.loop-name.name-iterator c.next.new.self c.next.result c.in-None.is c.next.ensures.steps))

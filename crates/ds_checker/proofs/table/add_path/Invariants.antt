@@ -4,7 +4,7 @@ use Rattle.std.specs.List.{AllByRecursion}
 use Rattle.std.specs.Map.{keys_of}
 use Rattle.std.specs.Slice.Iter.{iter_rest}
 use Rattle.ds_domain_base.specs.Fitting.{repeats}
-use Rattle.ds_checker.specs.Sums.{AreBelow, with_brought}
+use Rattle.ds_checker.specs.Sums.{AreBelow, AreSmall, with_brought}
 use Rattle.ds_checker.proofs.LoadLaws.{brought_along}
 use Rattle.ds_checker.proofs.table.add_path.Given as goal
 
@@ -19,5 +19,6 @@ invariant-loop-name l =
       places : length l.sums ≡ length l.domain.meters;
       once : repeats path ≡ false;
       short : length path ≤ 16;
+      small : AreSmall (brought_along l.source l.has_peak path bounds) l.domain.meters → AreSmall (brought_along l.source l.has_peak l.path l.bounds) l.domain.meters;
       range : (most : ℕ) → AllByRecursion (AreBelow most) l.initial.sums → AllByRecursion (AreBelow (most + 2 * 10 ^ 15 * (16 - length path))) l.sums;
     }

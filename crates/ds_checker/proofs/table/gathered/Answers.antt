@@ -7,8 +7,8 @@ use Rattle.std.proofs.lemmas.List.{length-map}
 use Rattle.std.proofs.lemmas.Map.Entries.{length-keys_of}
 use Rattle.std.proofs.lemmas.Slice.Zip.{Zip-more, either_empty_from_Zip}
 use Rattle.ds_checker.specs.Loads.{share_of}
-use Rattle.ds_checker.specs.Sums.{AreBelow, no_loads, with_brought}
-use Rattle.ds_checker.proofs.LoadLaws.{AreBelow-more, contract_kept, contracts_ended, contracts_range, contracts_room, places_kept, shaped_all, shaped_behind, written}
+use Rattle.ds_checker.specs.Sums.{AreBelow, AreSmall, no_loads, with_brought}
+use Rattle.ds_checker.proofs.LoadLaws.{AreBelow-more, contract_kept, contract_small, contracts_ended, contracts_range, contracts_room, contracts_small, places_kept, shaped_all, shaped_behind, small-first, sums_are, written}
 use Rattle.ds_checker.proofs.table.gathered.Goals as goal
 
 pub loop-contract-init : goal.loop-contract-init
@@ -16,6 +16,7 @@ loop-contract-init c = record {
   value = search rules;
   places = ap length c.in_ok-sums.ensures.value ∙ length-map c.args.domain.now.meters (λ entry. no_loads entry.1.skew);
   shaped = shaped_all c.args.domain.now _ c.args.contracts.now _ c.args.certificate.now (search rules) (search rules) c.requires;
+  small = small-first c.args.domain.now _ c.args.contracts.now _ c.args.certificate.now c.args.domain.now.meters (search rules) (search rules);
   few = search rules;
   range = AreBelow-more 0 _ c.in_ok-sums.sums.items (omega arith) c.in_ok-sums.ensures.range;
 }
@@ -39,6 +40,9 @@ loop-contract-preserved c =
       value = contract_kept c.args.domain.now _ _ c.in-Some.contract.now _ _ c.in-Some.bounds.now (keys_of meters) c.loop-contract.sums.items _ _ more.0 more.1 (new ∙ said) c.loop-contract.invariant.value;
       places = ap length new ∙ long;
       shaped = (shaped_behind c.args.domain.now _ _ c.in-Some.contract.now _ _ c.in-Some.bounds.now more.0 more.1 c.loop-contract.invariant.shaped).1;
+      small = λ behind. c.loop-contract.invariant.small
+          (contract_small c.args.domain.now _ _ c.in-Some.contract.now _ _ c.in-Some.bounds.now meters more.0 more.1
+          (subst (λ bounds. AreSmall (λ name. share_of c.args.domain.now name c.in-Some.contract.now bounds) meters) c.hops.ensures c.add_contract.ensures.small) behind);
       few = omega (arith, ap length more.0, c.loop-contract.invariant.few);
       range = subst (AllByRecursion (AreBelow _)) (sym new) (contracts_range _ _ c.in-Some.contract.now c.loop-contract.sums.items c.add_contract.new.sums more.0 c.loop-contract.invariant.few
           (λ most below. c.add_contract.ensures.range most (subst (AllByRecursion (AreBelow most)) (sym items) below)) c.loop-contract.invariant.range);
@@ -46,5 +50,11 @@ loop-contract-preserved c =
 
 pub returns : goal.returns
 returns c =
-    contracts_ended c.args.domain.now _ _ (keys_of c.args.domain.now.meters) c.loop-contract.sums.items _ (c.loop-contract.invariant.places ∙ sym (length-keys_of c.args.domain.now.meters))
-    (either_empty_from_Zip c.loop-contract.contract-iterator c.next.new.self c.next.result c.in-None.is c.next.ensures.steps) c.loop-contract.invariant.value
+    let d = c.args.domain.now in
+    let ended = either_empty_from_Zip c.loop-contract.contract-iterator c.next.new.self c.next.result c.in-None.is c.next.ensures.steps in
+    record {
+      sums = contracts_ended d _ _ (keys_of d.meters) c.loop-contract.sums.items _ (c.loop-contract.invariant.places ∙ sym (length-keys_of d.meters)) ended c.loop-contract.invariant.value
+          ∙ sums_are d c.args.contracts.now c.args.certificate.now d.meters;
+      small = c.loop-contract.invariant.small (contracts_small d _ _ d.meters ended);
+      short = c.in_ok-sums.ensures.short;
+    }

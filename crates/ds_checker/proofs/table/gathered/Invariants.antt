@@ -5,7 +5,7 @@ use Rattle.std.specs.Map.{keys_of}
 use Rattle.std.specs.Slice.Iter.{iter_rest}
 use Rattle.ds_certificate.specs.Bounds.{HasShape}
 use Rattle.ds_checker.specs.Loads.{shares_at}
-use Rattle.ds_checker.specs.Sums.{AreBelow, no_loads, with_brought}
+use Rattle.ds_checker.specs.Sums.{AreBelow, AreSmall, no_loads, with_brought}
 use Rattle.ds_checker.proofs.table.gathered.Given as goal
 
 -- what is added so far, and what the contracts that are left bring
@@ -18,6 +18,8 @@ invariant-loop-contract l =
           ≡ with_brought (λ name. shares_at l.domain name l.contracts l.certificate) (keys_of l.domain.meters) (map (λ entry. no_loads entry.1.skew) l.domain.meters);
       places : length l.sums.items ≡ length l.domain.meters;
       shaped : AllZip (HasShape l.domain) contracts rows;
+      small : AreSmall (λ name. shares_at l.domain name contracts rows) l.domain.meters
+          → AreSmall (λ name. shares_at l.domain name l.contracts l.certificate) l.domain.meters;
       few : length contracts ≤ 2 ^ 64;
       range : AllByRecursion (AreBelow (32 * 10 ^ 15 * (2 ^ 64 - length contracts))) l.sums.items;
     }

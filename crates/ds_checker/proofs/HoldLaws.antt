@@ -1,0 +1,107 @@
+-- The greatest hold.
+use Rattle.std.proofs.Common.{arith, ◌≡◌, ℕ, ◌+◌, ◌≤◌, Bool, true, false, ◌||◌, nat_eq, ◌⊎◌, inl, inr, List, [], ◌∷◌, ◌++◌, length, max, refl, sym, ap, ◌∙◌}
+use Rattle.std.specs.List.{AllByRecursion, list_any}
+use Rattle.std.proofs.lemmas.Bool.Decides.{nat_tests}
+use Rattle.std.proofs.Math.Nat.{max-zero, le-max_left, le-max_right}
+use Rattle.ds_domain_base.specs.Domains.{Domain, meter_of}
+use Rattle.ds_domain_base.specs.declared.contract.Contract.{Contract}
+use Rattle.ds_certificate.specs.Columns.{Bound}
+use Rattle.ds_certificate.specs.Sources.{source_of}
+use Rattle.ds_certificate.specs.declared.source.Source.{Source}
+use Rattle.ds_checker.specs.Holds.{greatest, hold_of, holds_along, holds_at_hop, link_delay, meter_skew}
+
+pub greatest-three : (a b c x y z inner outer : ℕ) → x ≡ a → y ≡ b → z ≡ c → inner ≡ max y z → outer ≡ max x inner → outer ≡ greatest (a ∷ b ∷ c ∷ [])
+unfolding greatest
+greatest-three a b c x y z inner outer is_x is_y is_z is_inner is_outer =
+    is_outer ∙ ap (max x) (is_inner ∙ ap (max y) (sym (max-zero z))) ∙ ap (λ n. max n (max y (max z 0))) is_x ∙ ap (λ n. max a (max n (max z 0))) is_y ∙ ap (λ n. max a (max b (max n 0))) is_z
+
+max-assoc : (a b c : ℕ) → max (max a b) c ≡ max a (max b c)
+max-assoc a b c = grind arith
+
+greatest-append : (a b : List ℕ) → greatest (a ++ b) ≡ max (greatest a) (greatest b)
+unfolding greatest
+greatest-append [] b = grind arith
+greatest-append (n ∷ a) b = ap (max n) (greatest-append a b) ∙ sym (max-assoc n (greatest a) (greatest b))
+
+along-next : (d : Domain) (s : Source) (way : ℕ) (from to : List ℕ) (path : List (List ℕ)) (b : Bound) (bounds : List Bound)
+    → greatest (holds_along d s way from (to ∷ path) (b ∷ bounds))
+    ≡ max (greatest (holds_at_hop s (way + link_delay d from to) (meter_skew (meter_of d to)) b)) (greatest (holds_along d s (way + link_delay d from to) to path bounds))
+unfolding holds_along
+along-next d s way from to path b bounds =
+    greatest-append (holds_at_hop s (way + link_delay d from to) (meter_skew (meter_of d to)) b) (holds_along d s (way + link_delay d from to) to path bounds)
+
+swap_max : (a b c : ℕ) → max (max a b) c ≡ max b (max a c)
+swap_max a b c = grind arith
+
+-- one hop more
+pub hold_kept : (d : Domain) (s : Source) (way delay later : ℕ) (from to : List ℕ) (xs path : List (List ℕ)) (ys bounds : List Bound) (b : Bound) (hold skew own new whole : ℕ)
+    → xs ≡ to ∷ path → ys ≡ b ∷ bounds → delay ≡ link_delay d from to → later ≡ way + delay → skew ≡ meter_skew (meter_of d to)
+    → own ≡ greatest (holds_at_hop s later skew b) → new ≡ max own hold
+    → max hold (greatest (holds_along d s way from xs ys)) ≡ whole → max new (greatest (holds_along d s later to path bounds)) ≡ whole
+hold_kept d s way delay later from to xs path ys bounds b hold skew own new whole is_path is_bounds is_delay is_later is_skew is_own is_new kept =
+    let is_way : later ≡ way + link_delay d from to = is_later ∙ ap (λ n. way + n) is_delay in
+    let is_hop : own ≡ greatest (holds_at_hop s (way + link_delay d from to) (meter_skew (meter_of d to)) b) =
+    is_own ∙ ap (λ n. greatest (holds_at_hop s n skew b)) is_way ∙ ap (λ n. greatest (holds_at_hop s (way + link_delay d from to) n b)) is_skew in
+    ap (λ n. max n (greatest (holds_along d s later to path bounds))) is_new
+    ∙ swap_max own hold (greatest (holds_along d s later to path bounds))
+    ∙ ap (λ n. max hold (max n (greatest (holds_along d s later to path bounds)))) is_hop
+    ∙ ap (λ n. max hold (max (greatest (holds_at_hop s (way + link_delay d from to) (meter_skew (meter_of d to)) b)) (greatest (holds_along d s n to path bounds)))) is_way
+    ∙ ap (max hold) (sym (along-next d s way from to path b bounds))
+    ∙ ap (λ p. max hold (greatest (holds_along d s way from p (b ∷ bounds)))) (sym is_path)
+    ∙ ap (λ p. max hold (greatest (holds_along d s way from xs p))) (sym is_bounds)
+    ∙ kept
+
+pub hold_ended : (d : Domain) (s : Source) (way : ℕ) (from : List ℕ) (xs : List (List ℕ)) (ys : List Bound) (hold whole : ℕ) → (xs ≡ []) ⊎ (ys ≡ [])
+    → max hold (greatest (holds_along d s way from xs ys)) ≡ whole → hold ≡ whole
+unfolding holds_along greatest
+hold_ended d s way from [] ys hold whole ended kept = sym (max-zero hold) ∙ kept
+hold_ended d s way from (to ∷ xs) [] hold whole ended kept = sym (max-zero hold) ∙ kept
+hold_ended d s way from (to ∷ xs) (b ∷ ys) hold whole (inl ended) kept = absurd cc
+hold_ended d s way from (to ∷ xs) (b ∷ ys) hold whole (inr ended) kept = absurd cc
+
+along-none : (d : Domain) (s : Source) (way : ℕ) (from : List ℕ) (path : List (List ℕ)) → 0 ≡ greatest (holds_along d s way from path [])
+unfolding holds_along greatest
+along-none d s way from [] = refl
+along-none d s way from (to ∷ path) = refl
+
+pub hold_none : (d : Domain) (c : Contract) (bounds : List Bound) → length bounds ≡ 0 → 0 ≡ hold_of d c bounds
+hold_none d c [] none = along-none d (source_of d c) 0 c.port c.path
+hold_none d c (b ∷ bounds) none = absurd (omega (arith, none))
+
+-- the greatest of some numbers is no less than each of them, and one of them
+below_all : (most : ℕ) (numbers : List ℕ) → greatest numbers ≤ most → AllByRecursion (λ n. n ≤ most) numbers
+unfolding greatest
+below_all most [] below = tt
+below_all most (n ∷ numbers) below =
+    (omega (arith, below, le-max_left n (greatest numbers)), below_all most numbers (omega (arith, below, le-max_right n (greatest numbers))))
+
+pub no_less : (numbers : List ℕ) → AllByRecursion (λ n. n ≤ greatest numbers) numbers
+no_less numbers = below_all (greatest numbers) numbers (omega arith)
+
+is_either : (a b : ℕ) → (max a b ≡ a) ⊎ (max a b ≡ b)
+is_either a b = grind arith
+
+equal_test : (a b : ℕ) → a ≡ b → nat_eq a b ≡ true
+equal_test a b same = grind (arith, same, nat_tests)
+
+or_true : (a b : Bool) → b ≡ true → (a || b) ≡ true
+or_true true b holds = refl
+or_true false b holds = holds
+
+first_true : (a b : Bool) → a ≡ true → (a || b) ≡ true
+first_true true b holds = refl
+first_true false b holds = absurd cc
+
+pub one_of : (n : ℕ) (numbers : List ℕ) → list_any (nat_eq (greatest (n ∷ numbers))) (n ∷ numbers) ≡ true
+unfolding greatest
+one_of n [] = first_true (nat_eq (max n 0) n) false (equal_test (max n 0) n (max-zero n))
+one_of n (m ∷ numbers) = elim (is_either n (greatest (m ∷ numbers))) [
+  | inl first ↦ first_true (nat_eq (max n (greatest (m ∷ numbers))) n) (list_any (nat_eq (max n (greatest (m ∷ numbers)))) (m ∷ numbers))
+      (equal_test (max n (greatest (m ∷ numbers))) n first)
+  | inr later ↦ or_true (nat_eq (max n (greatest (m ∷ numbers))) n) (list_any (nat_eq (max n (greatest (m ∷ numbers)))) (m ∷ numbers))
+      (ap (λ g. list_any (nat_eq g) (m ∷ numbers)) later ∙ one_of m numbers)
+]
+
+pub none_or_one : (numbers : List ℕ) → (numbers ≡ []) ⊎ (list_any (nat_eq (greatest numbers)) numbers ≡ true)
+none_or_one [] = inl refl
+none_or_one (n ∷ numbers) = inr (one_of n numbers)
