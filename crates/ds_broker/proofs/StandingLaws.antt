@@ -1,13 +1,13 @@
 -- What stands after some commands: one command more, and what bounds ids, moments and numbers.
-use Rattle.std.proofs.Common.{◌≡◌, ◌≤◌, ◌<◌, ◌+◌, ℕ, zero, suc, Bool, true, false, List, [], ◌∷◌, ◌++◌, Option, None, Some, refl, sym, ap, ◌∙◌, arith, inl, inr}
-use Rattle.std.specs.Prelude.{fold, length, map, max, nat_eq, slice_get}
+use Rattle.std.proofs.Common.{◌≡◌, ◌≤◌, ◌<◌, ◌+◌, ℕ, zero, suc, Bool, true, false, List, [], ◌∷◌, ◌++◌, Option, None, Some, refl, sym, ap, ◌∙◌, arith, inl, inr, true≢false}
+use Rattle.std.specs.Prelude.{fold, length, map, max, nat_eq, slice_get, unwrap_or}
 use Rattle.std.specs.List.{AllByRecursion}
 use Rattle.std.specs.Map.{keys_of, lookup}
 use Rattle.std.proofs.lemmas.Bool.{cases_Bool}
 use Rattle.std.proofs.lemmas.List.Sums.{fold-append}
 use Rattle.indexmap.specs.IndexMap.{insert_entry}
 use Rattle.ds_domain_base.specs.declared.contract.Contract.{Contract}
-use Rattle.ds_broker.specs.Histories.{Holding, Standing, after, begun, opening, reserved, released, retired, standing_of, with_released, with_retired}
+use Rattle.ds_broker.specs.Histories.{Holding, Standing, after, begun, end_by, opening, reserved, released, retired, standing_of, with_released, with_retired}
 use Rattle.ds_broker.specs.Kept.{ids_in}
 use Rattle.ds_broker.specs.declared.command.Command.{Command}
 use Rattle.ds_broker.specs.declared.command.Command.TheVariants.{Reserve, Release, Retire}
@@ -21,9 +21,11 @@ pub standing-append : (history commands : List Command) → standing_of (history
 unfolding standing_of
 standing-append history commands = fold-append after opening history commands
 
--- no contract that is held begins behind the newest moment, or has an id that was not given yet
+-- no contract that is held begins behind the newest moment, or has an id that was not given yet; and no released one ends
+-- behind the newest moment
 abbrev pub IsBounded : ℕ → ℕ → Holding → Type 0
-IsBounded granted newest h = (h.id ≤ granted) × (h.contract.lifetime.since ≤ newest)
+IsBounded granted newest h =
+    (h.id ≤ granted) × (h.contract.lifetime.since ≤ newest) × (h.released ≡ true → unwrap_or h.contract.lifetime.until 0 ≤ newest)
 
 abbrev AreBounded : ℕ → ℕ → List Holding → Type 0
 AreBounded granted newest held = AllByRecursion (IsBounded granted newest) held
@@ -31,18 +33,23 @@ AreBounded granted newest held = AllByRecursion (IsBounded granted newest) held
 AreBounded-weaker : (granted newest more later : ℕ) (held : List Holding) → granted ≤ more → newest ≤ later → AreBounded granted newest held → AreBounded more later held
 AreBounded-weaker granted newest more later [] fewer earlier all = tt
 AreBounded-weaker granted newest more later (h ∷ held) fewer earlier all =
-    ((omega (arith, all.0.0), omega (arith, all.0.1)), AreBounded-weaker granted newest more later held fewer earlier all.1)
+    ((omega (arith, all.0.0), omega (arith, all.0.1), λ done. omega (arith, all.0.2 done)), AreBounded-weaker granted newest more later held fewer earlier all.1)
 
 AreBounded-push : (granted newest : ℕ) (held : List Holding) (h : Holding) → AreBounded granted newest held → IsBounded granted newest h → AreBounded granted newest (held ++ h ∷ [])
 AreBounded-push granted newest [] h all one = (one, tt)
 AreBounded-push granted newest (g ∷ held) h all one = (all.0, AreBounded-push granted newest held h all.1 one)
 
-AreBounded-released : (granted newest id moment : ℕ) (held : List Holding) → AreBounded granted newest held → AreBounded granted newest (with_released id moment held)
+end_by-most : (moment : ℕ) (until : Option ℕ) → end_by moment until ≤ moment
+end_by-most moment None = omega arith
+end_by-most moment (Some end) = omega arith
+
+AreBounded-released : (granted newest id moment : ℕ) (held : List Holding) → moment ≤ newest → AreBounded granted newest held
+    → AreBounded granted newest (with_released id moment held)
 unfolding with_released
-AreBounded-released granted newest id moment [] all = tt
-AreBounded-released granted newest id moment (h ∷ held) all = elim (cases_Bool (nat_eq id h.id)) [
-  | inl same ↦ rw same (all.0, all.1)
-  | inr other ↦ rw other (all.0, AreBounded-released granted newest id moment held all.1)
+AreBounded-released granted newest id moment [] early all = tt
+AreBounded-released granted newest id moment (h ∷ held) early all = elim (cases_Bool (nat_eq id h.id)) [
+  | inl same ↦ rw same ((all.0.0, all.0.1, λ _. omega (arith, early, end_by-most moment h.contract.lifetime.until)), all.1)
+  | inr other ↦ rw other (all.0, AreBounded-released granted newest id moment held early all.1)
 ]
 
 AreBounded-retired : (granted newest id : ℕ) (held : List Holding) → AreBounded granted newest held → AreBounded granted newest (with_retired id held)
@@ -57,10 +64,10 @@ bounded-after : (s : Standing) (command : Command) → AreBounded s.granted s.ne
 bounded-after s (Reserve c) all =
     AreBounded-push (s.granted + 1) (max s.newest c.lifetime.since) s.held (record { id = s.granted + 1; contract = begun s.newest c; released = false })
     (AreBounded-weaker s.granted s.newest (s.granted + 1) (max s.newest c.lifetime.since) s.held (omega arith) (omega arith) all)
-    (omega arith, omega arith)
+    (omega arith, omega arith, λ done. absurd (true≢false (sym done)))
 bounded-after s (Release id at) all =
-    AreBounded-weaker s.granted s.newest s.granted (max s.newest at) (with_released id (max s.newest at) s.held) (omega arith) (omega arith)
-    (AreBounded-released s.granted s.newest id (max s.newest at) s.held all)
+    AreBounded-released s.granted (max s.newest at) id (max s.newest at) s.held (omega arith)
+    (AreBounded-weaker s.granted s.newest s.granted (max s.newest at) s.held (omega arith) (omega arith) all)
 bounded-after s (Retire id moment) all =
     AreBounded-weaker s.granted s.newest s.granted (max s.newest moment) (with_retired id s.held) (omega arith) (omega arith)
     (AreBounded-retired s.granted s.newest id s.held all)

@@ -1,5 +1,5 @@
-ghost use Rattle.std.specs.Prelude.{◌≡◌, ◌⊎◌, ◌≤◌, ◌+◌, [], None, Some, IfErr, IfOk, IfSome, OnErr, OnOk, length};
-ghost use Rattle.std.specs.Prelude.{◌<◌, IfNone, option_map, slice_get, vec_capacity, vec_len};
+ghost use Rattle.std.specs.Prelude.{◌≡◌, ◌⊎◌, ◌≤◌, ◌+◌, ◌-◌, [], None, Some, IfErr, IfOk, IfSome, OnErr, OnOk, length};
+ghost use Rattle.std.specs.Prelude.{◌<◌, IfNone, option_map, slice_get, unwrap_or, vec_capacity, vec_len};
 ghost use Rattle.std.specs.Bool.{OnFalse};
 ghost use Rattle.ds_checker.specs.Acceptance.{IsAcceptable, refusal_of};
 ghost use Rattle.ds_domain_base.specs.Faults.{fault_at};
@@ -20,7 +20,7 @@ use crate::entry::{Entry, Grant, Room, Serial};
 use crate::limits::Limits;
 use crate::refusal::BrokerRefusal;
 use ds_certificate::{Certificate, bounds_of};
-use ds_checker::{Accepted, Candidate, Refusal, check};
+use ds_checker::{Accepted, Candidate, check};
 use ds_domain_base::{Contract, Domain, DomainFault, Field, Kind, Lifetime, Name, Section, fits};
 use indexmap::{IndexMap, IndexSet};
 use moment_core::Moment;
@@ -183,10 +183,9 @@ impl Book {
             return Err(BrokerRefusal::HistoryFull);
         }
         let newest = self.newest.max(moment);
-        let now = u128::from(newest.get());
-        let free = self.free_from(place);
-        if now < free {
-            return Err(BrokerRefusal::HoldLeft(free - now));
+        let left = self.hold_left(place, newest);
+        if left > 0 {
+            return Err(BrokerRefusal::HoldLeft(left));
         }
         if self.history.reserve(1).is_err() {
             return Err(BrokerRefusal::NoMemory);
@@ -343,17 +342,21 @@ impl Book {
         Lifetime::new(lifetime.since(), Some(until)).unwrap()
     }
 
-    /// When the share of the contract at a place is free for others, in nanoseconds.
-    fn free_from(&self, place: usize) -> u128
-        requires { place < length (held_of self.now) }
+    /// How much of the hold of the contract at a place is left at a moment, in nanoseconds; 0 where it has passed. The
+    /// contract has ended by then.
+    fn hold_left(&self, place: usize, moment: Moment) -> u128
+        requires place { place < length (held_of self.now) }
+        requires over { (h : Holding) → slice_get (held_of self.now) place ≡ Some h →
+            unwrap_or h.contract.lifetime.until 0 ≤ moment }
         ensures { (h : Holding) → slice_get (held_of self.now) place ≡ Some h →
-            result ≡ free_from self.now.domain h.contract }
+            result ≡ free_from self.now.domain h.contract - moment }
     {
         let until = match self.table.contracts()[place].lifetime.until() {
-            Some(end) => u128::from(end.get()),
+            Some(end) => end.get(),
             None => 0,
         };
-        until + self.table.hold(place)
+        let passed = u128::from(moment.get() - until);
+        self.table.hold(place).saturating_sub(passed)
     }
 }
 
@@ -424,7 +427,6 @@ fn admit(
     };
     match table.admit(begun, bounds) {
         Ok(()) => Ok(()),
-        Err((_, _, Refusal::NoMemory)) => Err(BrokerRefusal::NoMemory),
-        Err((_, _, refusal)) => Err(BrokerRefusal::Checker(refusal)),
+        Err((_, _, refusal)) => Err(BrokerRefusal::from(refusal)),
     }
 }
