@@ -1,16 +1,21 @@
 -- What the fields of a book keep, and what a command makes of them.
-use Rattle.std.proofs.Common.{◌≡◌, ◌≤◌, ◌<◌, ◌+◌, ℕ, suc, Bool, true, false, List, [], ◌∷◌, ◌++◌, Option, None, Some, refl, sym, ap, subst, ◌∙◌, arith}
-use Rattle.std.specs.Prelude.{length, max, nat_eq, option_map, position, slice_get}
+use Rattle.std.proofs.Common.{◌≡◌, ◌≤◌, ◌<◌, ◌+◌, ◌-◌, ℕ, suc, Bool, true, false, List, [], ◌∷◌, ◌++◌, Option, None, Some, refl, sym, ap, subst, ◌∙◌, arith}
+use Rattle.std.specs.Prelude.{length, map, max, nat_eq, option_map, position, slice_get, slice_index_or}
 use Rattle.std.specs.List.{list_any}
 use Rattle.std.specs.Map.{keys_of, lookup}
 use Rattle.std.specs.Str.{bytes_eq}
 use Rattle.ds_domain_base.specs.declared.contract.Contract.{Contract}
-use Rattle.ds_broker.specs.Books.{Book, held_of, holding_of, is_held, with_command}
+use Rattle.std.proofs.lemmas.Option.{slice_get-map}
+use Rattle.ds_domain_base.specs.Domains.{Domain}
+use Rattle.ds_certificate.specs.Bounds.{least_of}
+use Rattle.ds_checker.specs.Holds.{hold_at, hold_of}
+use Rattle.ds_broker.specs.Books.{Book, held_of, holding_of, is_held, table_in, with_command}
 use Rattle.ds_broker.specs.Found.{IsFound}
+use Rattle.ds_broker.specs.Histories.{Holding}
 use Rattle.ds_broker.specs.Kept.{IsBook, book_of, held_in, ids_in, names_in}
 use Rattle.ds_broker.specs.declared.book.Book.TheInside as book
 use Rattle.ds_broker.specs.declared.command.Command.{Command}
-use Rattle.ds_broker.proofs.HoldingLaws.{any-names, first-holding, first-position, lookup-released, none-missing, some-released}
+use Rattle.ds_broker.proofs.HoldingLaws.{any-names, contract-at, first-holding, first-position, lookup-released, none-missing, some-released}
 
 -- whether a name is held is whether it stands among the names
 pub names-held : (i : book.Inside) (b : Book) → book_of i ≡ b → IsBook i → (name : List ℕ) → list_any (bytes_eq name) i.names.keys ≡ is_held name (held_of b)
@@ -30,6 +35,7 @@ found-at i b view kept id place released index value =
       first = first;
       at = there.1;
       found = there.2;
+      named = there.3;
       is_released = some-released (holding_of id held) there.0 released there.2 flag;
     } in
     subst (λ x. IsFound id (held_of x) place released) view found
@@ -43,3 +49,25 @@ missing-at i b view kept id value =
 pub accepted-view : (old new : book.Inside) (b : Book) (command : Command) → book_of old ≡ b → new.table.domain ≡ old.table.domain → new.limits ≡ old.limits
     → new.history.items ≡ old.history.items ++ command ∷ [] → book_of new ≡ with_command b command
 accepted-view old new b command view domain limits history = rw (domain, limits, history) (ap (λ x. with_command x command) view)
+
+-- the contract at a place of the table is the one that is held there
+pub contract-placed : (i : book.Inside) (b : Book) → book_of i ≡ b → IsBook i → (contracts : List Contract) → contracts ≡ i.table.contracts
+    → (place : ℕ) (h : Holding) (other : Contract) → slice_get (held_of b) place ≡ Some h → slice_index_or contracts place other ≡ h.contract
+contract-placed i b view kept contracts is place h other at =
+    ap (λ cs. slice_index_or cs place other) (is ∙ ap (λ t. t.contracts) kept.table)
+    ∙ contract-at (held_in i) place h other (ap (λ x. slice_get (held_of x) place) view ∙ at)
+
+hold-at : (d : Domain) (held : List Holding) (place : ℕ) (h : Holding) → slice_get held place ≡ Some h → hold_at (table_in d held) place ≡ hold_of d h.contract (least_of d h.contract)
+hold-at d held place h at =
+    rw (slice_get-map (least_of d) (map (λ g. g.contract) held) place, slice_get-map (λ g. g.contract) held place, at) refl
+
+-- and its hold is that of its least bounds
+pub hold-placed : (i : book.Inside) (b : Book) → book_of i ≡ b → IsBook i → (place : ℕ) (h : Holding) → slice_get (held_of b) place ≡ Some h
+    → hold_at i.table place ≡ hold_of b.domain h.contract (least_of b.domain h.contract)
+hold-placed i b view kept place h at =
+    ap (λ t. hold_at t place) kept.table ∙ hold-at i.table.domain (held_in i) place h (ap (λ x. slice_get (held_of x) place) view ∙ at)
+    ∙ ap (λ x. hold_of x.domain h.contract (least_of x.domain h.contract)) view
+
+-- what is left until an end and a hold behind it, counted from the end
+pub left-of : (hold passed moment end : ℕ) → passed ≡ moment - end → end ≤ moment → hold - passed ≡ (end + hold) - moment
+left-of hold passed moment end is over = omega (arith, is, over)

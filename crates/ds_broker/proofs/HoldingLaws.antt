@@ -1,6 +1,6 @@
 -- What is held, as lists of ids, names and contracts: where the contract of an id stands in them, and what becomes of them.
 use Rattle.std.proofs.Common.{◌≡◌, ◌≤◌, ◌<◌, ◌+◌, ℕ, zero, suc, Bool, true, false, List, [], ◌∷◌, ◌++◌, Option, None, Some, refl, sym, ap, ◌∙◌, arith, inl, inr, true≢false}
-use Rattle.std.specs.Prelude.{length, map, nat_eq, option_map, position, slice_get}
+use Rattle.std.specs.Prelude.{length, map, nat_eq, option_map, position, slice_get, slice_index_or}
 use Rattle.std.proofs.Common.{get_or}
 use Rattle.std.specs.List.{AllByRecursion, list_any, remove}
 use Rattle.std.specs.Map.{keys_of, lookup}
@@ -9,13 +9,14 @@ use Rattle.std.proofs.lemmas.Bool.{cases_Bool}
 use Rattle.std.proofs.lemmas.List.Quantifiers.{position-Some}
 use Rattle.indexmap.specs.IndexMap.{insert_entry}
 use Rattle.ds_domain_base.specs.Domains.{Domain}
+use Rattle.ds_domain_base.specs.Lifetimes.{IsInOrder}
 use Rattle.ds_domain_base.specs.declared.contract.Contract.{Contract}
 use Rattle.ds_certificate.specs.Bounds.{least, least_of}
 use Rattle.ds_certificate.specs.Sources.{source_of}
 use Rattle.ds_checker.specs.Changes.{lasting_at}
 use Rattle.ds_broker.specs.Books.{contracts_in, holding_of, is_held}
 use Rattle.ds_broker.specs.Found.{IsFirst}
-use Rattle.ds_broker.specs.Histories.{Holding, ended, with_released, with_retired}
+use Rattle.ds_broker.specs.Histories.{Holding, end_by, ended, with_released, with_retired}
 use Rattle.ds_broker.specs.Kept.{ids_in, names_in}
 
 -- the place of an id among ids is that of its contract
@@ -40,13 +41,13 @@ first-below id (h ∷ held) (suc place) first = omega (arith, first-below id hel
 
 -- what stands there is what is held under the id
 pub first-holding : (id : ℕ) (held : List Holding) (place : ℕ) → IsFirst id held place
-    → (h : Holding) × (slice_get held place ≡ Some h) × (holding_of id held ≡ Some h)
+    → (h : Holding) × (slice_get held place ≡ Some h) × (holding_of id held ≡ Some h) × (h.id ≡ id)
 unfolding IsFirst
 first-holding id [] place first = absurd first
-first-holding id (h ∷ held) zero first = (h, refl, rw first refl)
+first-holding id (h ∷ held) zero first = (h, refl, rw first refl, grind (arith, first))
 first-holding id (h ∷ held) (suc place) first =
     let rest = first-holding id held place first.1 in
-    (rest.0, rest.1, rw first.0 rest.2)
+    (rest.0, rest.1, rw first.0 rest.2, rest.3)
 
 -- whether it is released is what the ids tell
 pub lookup-released : (id : ℕ) (held : List Holding) → lookup (nat_eq id) (ids_in held) ≡ option_map (λ h. h.released) (holding_of id held)
@@ -134,3 +135,21 @@ length-retired id (h ∷ held) = elim (cases_Bool (nat_eq id h.id)) [
   | inl same ↦ rw same (omega arith)
   | inr other ↦ rw other (omega (arith, length-retired id held))
 ]
+
+-- what is held at a place
+pub holding-at : (held : List Holding) (place : ℕ) → place < length held → (h : Holding) × (slice_get held place ≡ Some h)
+holding-at [] place within = let none : ⊥ = omega arith in absurd none
+holding-at (h ∷ held) zero within = (h, refl)
+holding-at (h ∷ held) (suc place) within = holding-at held place (omega arith)
+
+pub contract-at : (held : List Holding) (place : ℕ) (h : Holding) (other : Contract) → slice_get held place ≡ Some h → slice_index_or (contracts_in held) place other ≡ h.contract
+contract-at [] place h other at = cc
+contract-at (g ∷ held) zero h other at = let same : g ≡ h = cc in ap (λ x. x.contract) same
+contract-at (g ∷ held) (suc place) h other at = contract-at held place h other at
+
+pub in_order-ended : (since moment : ℕ) (until : Option ℕ) → IsInOrder since until → since ≤ moment → since ≤ end_by moment until
+in_order-ended since moment None order early = early
+in_order-ended since moment (Some end) order early = omega (arith, order end refl, early)
+
+pub in_order-some : (since end : ℕ) → since ≤ end → IsInOrder since (Some end)
+in_order-some since end early last is = let same : end ≡ last = cc in omega (arith, same, early)

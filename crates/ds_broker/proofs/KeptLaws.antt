@@ -6,13 +6,14 @@ use Rattle.std.specs.Str.{bytes_eq}
 use Rattle.std.proofs.lemmas.List.{map-append, length-append}
 use Rattle.indexmap.specs.IndexMap.{insert_entry}
 use Rattle.indexmap.specs.IndexSet.{insert_key}
+use Rattle.ds_domain_base.specs.Domains.{Domain}
 use Rattle.ds_domain_base.specs.Lifetimes.{Span}
 use Rattle.ds_domain_base.specs.declared.contract.Contract.{Contract}
-use Rattle.ds_checker.specs.Acceptance.{Table}
+use Rattle.ds_checker.specs.Acceptance.{IsAcceptable, Table}
 use Rattle.ds_checker.specs.Changes.{with_lifetime, without_contract}
 use Rattle.ds_broker.specs.Books.{Book, held_of, is_history_full, is_held, is_table_full, table_in, table_with}
 use Rattle.ds_broker.specs.Found.{IsFound}
-use Rattle.ds_broker.specs.Histories.{Holding, Standing, after, begun, ended, standing_of, with_released, with_retired}
+use Rattle.ds_broker.specs.Histories.{Holding, Standing, after, begun, ended, opening, standing_of, with_released, with_retired}
 use Rattle.ds_broker.specs.Kept.{IsBook, book_of, held_in, ids_in, names_in}
 use Rattle.ds_broker.specs.Refusals.{room_refusal}
 use Rattle.ds_broker.specs.declared.book.Book.TheInside as book
@@ -41,6 +42,7 @@ insert-name name names new = rw new refl
 
 pub kept-reserved : (old new : book.Inside) (c : Contract) → IsBook old → IsPassed (book_of old) c → length old.history.items < 65536
     → new.table ≡ table_with new.newest c old.table
+    → IsAcceptable new.table
     → new.ids.entries ≡ insert_entry nat_eq old.ids.entries new.granted false
     → new.names.keys ≡ insert_key bytes_eq old.names.keys c.name
     → new.limits ≡ old.limits
@@ -48,7 +50,7 @@ pub kept-reserved : (old new : book.Inside) (c : Contract) → IsBook old → Is
     → new.newest ≡ max old.newest c.lifetime.since
     → new.history.items ≡ old.history.items ++ Reserve c ∷ []
     → IsBook new
-kept-reserved old new c kept passed short table ids names limits granted newest history =
+kept-reserved old new c kept passed short table acceptable ids names limits granted newest history =
     let s = standing_of old.history.items in
     let d = old.table.domain in
     let next : Holding = record { id = s.granted + 1; contract = begun s.newest c; released = false } in
@@ -60,6 +62,7 @@ kept-reserved old new c kept passed short table ids names limits granted newest 
       table = own-domain d new.table (held_in new)
           (table ∙ ap (λ m. table_with m c old.table) moment ∙ ap (λ t. table_with (max s.newest c.lifetime.since) c t) kept.table
           ∙ sym (table-push d s.held next (max s.newest c.lifetime.since) c refl) ∙ ap (λ x. table_in d x.held) (sym st));
+      acceptable = acceptable;
       ids = ids ∙ ap (λ n. insert_entry nat_eq old.ids.entries n false) number ∙ ap (λ es. insert_entry nat_eq es (s.granted + 1) false) kept.ids
           ∙ insert-next s.granted s.newest s.held (standing-bounded old.history.items) ∙ sym (map-append (λ h. (h.id, h.released)) s.held (next ∷ []))
           ∙ ap (λ x. ids_in x.held) (sym st);
@@ -76,6 +79,7 @@ pub kept-released : (old new : book.Inside) (id at place : ℕ) (released : Bool
     → (found : IsFound id (held_of b) place released) → is_history_full b ≡ false → length b.history < 65536
     → lifetime ≡ (ended new.newest found.holding.contract).lifetime
     → new.table ≡ with_lifetime old.table place lifetime
+    → IsAcceptable new.table
     → new.ids.entries ≡ insert_entry nat_eq old.ids.entries id true
     → new.names.keys ≡ old.names.keys
     → new.limits ≡ old.limits
@@ -83,7 +87,7 @@ pub kept-released : (old new : book.Inside) (id at place : ℕ) (released : Bool
     → new.newest ≡ max old.newest at
     → new.history.items ≡ old.history.items ++ Release id at ∷ []
     → IsBook new
-kept-released old new id at place released lifetime b view kept found full short ended_so table ids names limits granted newest history =
+kept-released old new id at place released lifetime b view kept found full short ended_so table acceptable ids names limits granted newest history =
     let s = standing_of old.history.items in
     let d = old.table.domain in
     let here : IsFound id s.held place released = subst (λ x. IsFound id (held_of x) place released) (sym view) found in
@@ -98,6 +102,7 @@ kept-released old new id at place released lifetime b view kept found full short
       table = own-domain d new.table (held_in new)
           (table ∙ ap (λ t. with_lifetime t place lifetime) kept.table ∙ ap (λ span. with_lifetime (table_in d s.held) place span) lasting
           ∙ sym (table-released d id m s.held place found.holding here.first stood) ∙ ap (λ x. table_in d x.held) (sym st));
+      acceptable = acceptable;
       ids = ids ∙ ap (λ es. insert_entry nat_eq es id true) kept.ids ∙ sym (ids-released id m s.held place here.first) ∙ ap (λ x. ids_in x.held) (sym st);
       names = names ∙ kept.names ∙ sym (names-released id m s.held) ∙ ap (λ x. names_in x.held) (sym st);
       granted = granted ∙ kept.granted ∙ ap (λ x. x.granted) (sym st);
@@ -110,6 +115,7 @@ kept-released old new id at place released lifetime b view kept found full short
 pub kept-retired : (old new : book.Inside) (id at place : ℕ) (released : Bool) (b : Book) → book_of old ≡ b → IsBook old
     → IsFound id (held_of b) place released → is_history_full b ≡ false → length b.history < 65536
     → new.table ≡ without_contract old.table place
+    → IsAcceptable new.table
     → new.ids.entries ≡ remove old.ids.entries place
     → new.names.keys ≡ remove old.names.keys place
     → new.limits ≡ old.limits
@@ -117,7 +123,7 @@ pub kept-retired : (old new : book.Inside) (id at place : ℕ) (released : Bool)
     → new.newest ≡ max old.newest at
     → new.history.items ≡ old.history.items ++ Retire id at ∷ []
     → IsBook new
-kept-retired old new id at place released b view kept found full short table ids names limits granted newest history =
+kept-retired old new id at place released b view kept found full short table acceptable ids names limits granted newest history =
     let s = standing_of old.history.items in
     let d = old.table.domain in
     let here : IsFound id s.held place released = subst (λ x. IsFound id (held_of x) place released) (sym view) found in
@@ -130,6 +136,7 @@ kept-retired old new id at place released b view kept found full short table ids
     record {
       table = own-domain d new.table (held_in new)
           (table ∙ ap (λ t. without_contract t place) kept.table ∙ sym (table-retired d id s.held place first) ∙ ap (λ x. table_in d x.held) (sym st));
+      acceptable = acceptable;
       ids = ids ∙ ap (λ es. remove es place) kept.ids ∙ sym (map-retired (λ h. (h.id, h.released)) id s.held place first) ∙ ap (λ x. ids_in x.held) (sym st);
       names = names ∙ ap (λ ks. remove ks place) kept.names ∙ sym (map-retired (λ h. h.contract.name) id s.held place first) ∙ ap (λ x. names_in x.held) (sym st);
       granted = granted ∙ kept.granted ∙ ap (λ x. x.granted) (sym st);
@@ -137,4 +144,22 @@ kept-retired old new id at place released b view kept found full short table ids
       room = omega (arith, ap (λ l. l.table) limits, (let count : length (held_in new) ≡ length (with_retired id s.held) = ap (λ x. length x.held) st in count), length-retired id s.held, kept.room);
       accepted = rw (limits, history) (omega (arith, pushed-length old.history.items (Retire id at), below old.limits.history (length old.history.items) long));
       short = rw history (omega (arith, pushed-length old.history.items (Retire id at), short, count));
+    }
+
+pub kept-opened : (i : book.Inside) (d : Domain) → i.table ≡ record { domain = d; contracts = []; certificate = [] } → IsAcceptable i.table
+    → i.ids.entries ≡ [] → i.names.keys ≡ [] → i.granted ≡ 0 → i.newest ≡ 0 → i.history.items ≡ [] → IsBook i
+unfolding standing_of
+kept-opened i d table acceptable ids names granted newest history =
+    let st : standing_of i.history.items ≡ opening = ap standing_of history in
+    let length_is : length i.history.items ≡ 0 = ap length history in
+    record {
+      table = own-domain d i.table (held_in i) (table ∙ ap (λ s. table_in d s.held) (sym st));
+      acceptable = acceptable;
+      ids = ids ∙ ap (λ s. ids_in s.held) (sym st);
+      names = names ∙ ap (λ s. names_in s.held) (sym st);
+      granted = granted ∙ ap (λ s. s.granted) (sym st);
+      newest = newest ∙ ap (λ s. s.newest) (sym st);
+      room = omega (arith, (let count : length (held_in i) ≡ 0 = ap (λ s. length s.held) st in count));
+      accepted = omega (arith, length_is);
+      short = omega (arith, length_is);
     }

@@ -15,4 +15,5 @@ pub record IsFound (id : ℕ) (held : List Holding) (place : ℕ) (released : Bo
   pub first : IsFirst id held place
   pub at : slice_get held place ≡ Some holding
   pub found : holding_of id held ≡ Some holding
+  pub named : holding.id ≡ id
   pub is_released : holding.released ≡ released

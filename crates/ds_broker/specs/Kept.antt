@@ -1,5 +1,6 @@
 -- What the fields of a book stand for, and what they keep.
 use Rattle.std.specs.Prelude.{ℕ, Bool, ◌≡◌, ◌≤◌, List, length, map}
+use Rattle.ds_checker.specs.Acceptance.{IsAcceptable}
 use Rattle.ds_broker.specs.Books.{Book, table_in}
 use Rattle.ds_broker.specs.Histories.{Holding, standing_of}
 use Rattle.ds_broker.specs.declared.book.Book.TheInside as book
@@ -17,10 +18,11 @@ names_in held = map (λ h. h.contract.name) held
 abbrev pub held_in : book.Inside → List Holding
 held_in b = (standing_of b.history.items).held
 
--- The table is that of the history, with the least certificate. Ids and names are of what the history holds; the number
+-- The table is that of the history, with the least certificate, and acceptable. Ids and names are of what the history holds; the number
 -- of grants and the newest moment are its own; and neither what is held nor the history is longer than its limit.
 pub record IsBook (b : book.Inside) : Type 0 where
   pub table : b.table ≡ table_in b.table.domain (held_in b)
+  pub acceptable : IsAcceptable b.table
   pub ids : b.ids.entries ≡ ids_in (held_in b)
   pub names : b.names.keys ≡ names_in (held_in b)
   pub granted : b.granted ≡ (standing_of b.history.items).granted

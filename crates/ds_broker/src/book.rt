@@ -11,7 +11,7 @@ ghost use Rattle.ds_broker.specs.Books.{held_of, holding_of, is_history_full, mo
 ghost use Rattle.ds_broker.specs.Books.{table_of, table_with, with_command};
 ghost use Rattle.ds_broker.specs.Entries.{entries_of, entry_in, grant_of, next_serial, room_of};
 ghost use Rattle.ds_broker.specs.Found.{IsFound};
-ghost use Rattle.ds_broker.specs.Histories.{Holding, ended};
+ghost use Rattle.ds_broker.specs.Histories.{Holding, end_by, ended};
 ghost use Rattle.ds_broker.specs.Refusals.{contract_fault, ends_early, free_from, release_refusal};
 ghost use Rattle.ds_broker.specs.Refusals.{reserve_refusal, retire_refusal, room_refusal};
 
@@ -62,12 +62,18 @@ impl Book {
     ghost use Rattle.ds_broker.specs.declared.command.Command.TheVariants.{Reserve, Release, Retire};
     ghost use Rattle.ds_broker.specs.declared.refusal.BrokerRefusal.TheVariants.{NoMemory};
 
-    /// The book of a domain with no contract in it and no command behind it; where memory runs out it hands the domain
-    /// back.
-    pub fn new(alloc: Global, domain: Domain, limits: Limits) -> Result<Self, Domain>
+    /// The book of a domain with no contract in it and no command behind it.
+    ///
+    /// Refused, with the domain handed back: `NoMemory` where memory runs out, and for nothing else.
+    pub fn new(
+        alloc: Global,
+        domain: Domain,
+        limits: Limits,
+    ) -> Result<Self, (Domain, BrokerRefusal)>
         ensures opened { IfOk result
             (λ book. book ≡ record { domain = domain; limits = limits; history = [] }) }
-        ensures back { IfErr result (λ back. back ≡ domain) }
+        ensures back { IfErr result (λ refused. refused.0 ≡ domain) }
+        ensures memory { IfErr result (λ refused. refused.1 ≡ NoMemory) }
     {
         let candidate = Candidate {
             domain,
@@ -84,7 +90,7 @@ impl Book {
                 newest: Moment::new(0).unwrap(),
                 history: Vec::new(alloc),
             }),
-            Err((candidate, _)) => Err(candidate.domain),
+            Err((candidate, refusal)) => Err((candidate.domain, BrokerRefusal::from(refusal))),
         }
     }
 
@@ -204,11 +210,8 @@ impl Book {
         ensures { IfOk result (λ entries. entries.items ≡ entries_of self.now) }
     {
         let contracts = self.table.contracts();
-        let mut entries = Vec::with_capacity(alloc, contracts.len())?;
-        for ((id, _), contract) in self.ids.iter().zip(contracts) {
-            entries.push(entry_of(*id, contract))?;
-        }
-        Ok(entries)
+        let ids = self.ids.keys();
+        ids.zip(contracts).map(|(id, contract)| entry_of(*id, contract)).collect(alloc)
     }
 
     /// What it holds under an id, if it does.
@@ -335,10 +338,7 @@ impl Book {
             result ≡ (ended moment h.contract).lifetime }
     {
         let lifetime = self.table.contracts()[place].lifetime;
-        let until = match lifetime.until() {
-            Some(end) => end.min(moment),
-            None => moment,
-        };
+        let until = end_by(moment, lifetime.until());
         Lifetime::new(lifetime.since(), Some(until)).unwrap()
     }
 
@@ -351,11 +351,8 @@ impl Book {
         ensures { (h : Holding) → slice_get (held_of self.now) place ≡ Some h →
             result ≡ free_from self.now.domain h.contract - moment }
     {
-        let until = match self.table.contracts()[place].lifetime.until() {
-            Some(end) => end.get(),
-            None => 0,
-        };
-        let passed = u128::from(moment.get() - until);
+        let end = end_of(self.table.contracts()[place].lifetime);
+        let passed = u128::from(moment.get() - end);
         self.table.hold(place).saturating_sub(passed)
     }
 }
@@ -365,6 +362,26 @@ fn fault(kind: Kind, field: Field) -> DomainFault
     ensures { result ≡ fault_at kind Section.Contract 0 field }
 {
     DomainFault::new(kind, Section::Contract, 0, field)
+}
+
+/// An end at a moment, or an earlier one.
+fn end_by(moment: Moment, until: Option<Moment>) -> Moment
+    ensures { result ≡ end_by moment until }
+{
+    match until {
+        Some(end) => end.min(moment),
+        None => moment,
+    }
+}
+
+/// The end of a lifetime, in nanoseconds; 0 where it has none.
+fn end_of(lifetime: Lifetime) -> u64
+    ensures { result ≡ unwrap_or lifetime.until 0 }
+{
+    match lifetime.until() {
+        Some(end) => end.get(),
+        None => 0,
+    }
 }
 
 /// What is told of a contract of an id.
