@@ -1,6 +1,6 @@
 -- What the fields of a book keep, and what a command makes of them.
-use Rattle.std.proofs.Common.{◌≡◌, ◌≤◌, ◌<◌, ◌+◌, ◌-◌, ℕ, suc, Bool, true, false, List, [], ◌∷◌, ◌++◌, Option, None, Some, refl, sym, ap, subst, ◌∙◌, arith}
-use Rattle.std.specs.Prelude.{length, map, max, nat_eq, option_map, position, slice_get, slice_index_or}
+use Rattle.std.proofs.Common.{◌≡◌, ◌≤◌, ◌<◌, ◌+◌, ◌-◌, ℕ, suc, Bool, true, false, List, [], ◌∷◌, ◌++◌, Option, None, Some, Result, Ok, Err, refl, sym, ap, subst, ◌∙◌, arith}
+use Rattle.std.specs.Prelude.{length, map, max, nat_eq, option_map, position, slice_get, slice_index_or, IsOk, OnErr}
 use Rattle.std.specs.List.{list_any}
 use Rattle.std.specs.Map.{keys_of, lookup}
 use Rattle.std.specs.Str.{bytes_eq}
@@ -9,13 +9,14 @@ use Rattle.std.proofs.lemmas.Option.{slice_get-map}
 use Rattle.ds_domain_base.specs.Domains.{Domain}
 use Rattle.ds_certificate.specs.Bounds.{least_of}
 use Rattle.ds_checker.specs.Holds.{hold_at, hold_of}
-use Rattle.ds_broker.specs.Books.{Book, held_of, holding_of, is_held, table_in, with_command}
+use Rattle.ds_broker.specs.Books.{Book, contracts_in, held_of, holding_of, is_held, table_in, with_command}
+use Rattle.ds_broker.specs.Entries.{entries_of, told_of}
 use Rattle.ds_broker.specs.Found.{IsFound}
 use Rattle.ds_broker.specs.Histories.{Holding}
 use Rattle.ds_broker.specs.Kept.{IsBook, book_of, held_in, ids_in, names_in}
 use Rattle.ds_broker.specs.declared.book.Book.TheInside as book
 use Rattle.ds_broker.specs.declared.command.Command.{Command}
-use Rattle.ds_broker.proofs.HoldingLaws.{any-names, contract-at, first-holding, first-position, lookup-released, none-missing, some-released}
+use Rattle.ds_broker.proofs.HoldingLaws.{any-names, contract-at, first-holding, first-position, lookup-released, none-missing, some-released, told-held}
 
 -- whether a name is held is whether it stands among the names
 pub names-held : (i : book.Inside) (b : Book) → book_of i ≡ b → IsBook i → (name : List ℕ) → list_any (bytes_eq name) i.names.keys ≡ is_held name (held_of b)
@@ -71,3 +72,26 @@ hold-placed i b view kept place h at =
 -- what is left until an end and a hold behind it, counted from the end
 pub left-of : (hold passed moment end : ℕ) → passed ≡ moment - end → end ≤ moment → hold - passed ≡ (end + hold) - moment
 left-of hold passed moment end is over = omega (arith, is, over)
+
+-- an id that is held is among the ids
+pub ids-present : (i : book.Inside) (b : Book) → book_of i ≡ b → IsBook i → (id place : ℕ) (released : Bool) → IsFound id (held_of b) place released
+    → lookup (nat_eq id) i.ids.entries ≡ Some released
+ids-present i b view kept id place released found =
+    ap (λ entries. lookup (nat_eq id) entries) kept.ids ∙ lookup-released id (held_in i) ∙ ap (λ x. option_map (λ h. h.released) (holding_of id (held_of x))) view
+    ∙ ap (λ o. option_map (λ h. h.released) o) found.found ∙ ap Some found.is_released
+
+-- an insert at a key that is there cannot fail
+pub insert-present : {T E : Type 0} (r : Result T E) (o : Option Bool) (value : Bool) → OnErr r (o ≡ None) → o ≡ Some value → IsOk r
+insert-present (Ok x) o value absent there = refl
+insert-present (Err e) o value absent there = absurd (none-some o value absent there)
+  where
+    none-some : (o : Option Bool) (value : Bool) → o ≡ None → o ≡ Some value → ⊥
+    none-some None value none some = cc
+    none-some (Some other) value none some = cc
+
+-- what is told of its ids and of its contracts is what is told of it
+pub told-listed : (i : book.Inside) (b : Book) → book_of i ≡ b → IsBook i → (contracts : List Contract) → contracts ≡ i.table.contracts
+    → told_of i.ids.entries contracts ≡ entries_of b
+told-listed i b view kept contracts is =
+    ap (λ cs. told_of i.ids.entries cs) (is ∙ ap (λ t. t.contracts) kept.table) ∙ ap (λ ids. told_of ids (contracts_in (held_in i))) kept.ids
+    ∙ told-held (held_in i) ∙ ap entries_of view

@@ -1,5 +1,5 @@
 -- What is held, as lists of ids, names and contracts: where the contract of an id stands in them, and what becomes of them.
-use Rattle.std.proofs.Common.{◌≡◌, ◌≤◌, ◌<◌, ◌+◌, ℕ, zero, suc, Bool, true, false, List, [], ◌∷◌, ◌++◌, Option, None, Some, refl, sym, ap, ◌∙◌, arith, inl, inr, true≢false}
+use Rattle.std.proofs.Common.{◌≡◌, ◌⊎◌, ◌≤◌, ◌<◌, ◌+◌, ℕ, zero, suc, Bool, true, false, List, [], ◌∷◌, ◌++◌, Option, None, Some, refl, sym, ap, ◌∙◌, arith, inl, inr, true≢false}
 use Rattle.std.specs.Prelude.{length, map, nat_eq, option_map, position, slice_get, slice_index_or}
 use Rattle.std.proofs.Common.{get_or}
 use Rattle.std.specs.List.{AllByRecursion, list_any, remove}
@@ -15,6 +15,7 @@ use Rattle.ds_certificate.specs.Bounds.{least, least_of}
 use Rattle.ds_certificate.specs.Sources.{source_of}
 use Rattle.ds_checker.specs.Changes.{lasting_at}
 use Rattle.ds_broker.specs.Books.{contracts_in, holding_of, is_held}
+use Rattle.ds_broker.specs.Entries.{entry_of, told_of}
 use Rattle.ds_broker.specs.Found.{IsFirst}
 use Rattle.ds_broker.specs.Histories.{Holding, end_by, ended, with_released, with_retired}
 use Rattle.ds_broker.specs.Kept.{ids_in, names_in}
@@ -153,3 +154,22 @@ in_order-ended since moment (Some end) order early = omega (arith, order end ref
 
 pub in_order-some : (since end : ℕ) → since ≤ end → IsInOrder since (Some end)
 in_order-some since end early last is = let same : end ≡ last = cc in omega (arith, same, early)
+
+-- what is told of the ids and the contracts that are held is what is told of each
+pub told-held : (held : List Holding) → told_of (ids_in held) (contracts_in held) ≡ map entry_of held
+unfolding told_of
+told-held [] = refl
+told-held (h ∷ held) = ap (λ rest. entry_of h ∷ rest) (told-held held)
+
+pub told-next : (ids more : List (ℕ × Bool)) (id : ℕ) (released : Bool) (contracts others : List Contract) (c : Contract)
+    → ids ≡ (id, released) ∷ more → contracts ≡ c ∷ others
+    → told_of ids contracts ≡ record { id = id; name = c.name; since = c.lifetime.since; until = c.lifetime.until } ∷ told_of more others
+unfolding told_of
+told-next ids more id released contracts others c is_ids is_contracts = rw is_ids (rw is_contracts refl)
+
+pub told-ended : (ids : List (ℕ × Bool)) (contracts : List Contract) → (ids ≡ []) ⊎ (contracts ≡ []) → told_of ids contracts ≡ []
+unfolding told_of
+told-ended [] contracts ended = refl
+told-ended (id ∷ ids) [] ended = refl
+told-ended (id ∷ ids) (c ∷ contracts) (inl ended) = absurd cc
+told-ended (id ∷ ids) (c ∷ contracts) (inr ended) = absurd cc

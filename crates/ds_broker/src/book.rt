@@ -9,7 +9,7 @@ ghost use Rattle.indexmap.specs.IndexSet.{spare as set_spare};
 ghost use Rattle.ds_broker.specs.Books as books;
 ghost use Rattle.ds_broker.specs.Books.{held_of, holding_of, is_history_full, moment_in, newest_of};
 ghost use Rattle.ds_broker.specs.Books.{table_of, table_with, with_command};
-ghost use Rattle.ds_broker.specs.Entries.{entries_of, entry_in, grant_of, next_serial, room_of};
+ghost use Rattle.ds_broker.specs.Entries.{entries_of, entry_in, grant_of, next_serial, room_of, told_of};
 ghost use Rattle.ds_broker.specs.Found.{IsFound};
 ghost use Rattle.ds_broker.specs.Histories.{Holding, end_by, ended};
 ghost use Rattle.ds_broker.specs.Refusals.{contract_fault, ends_early, free_from, release_refusal};
@@ -209,9 +209,7 @@ impl Book {
     pub fn list(&self, alloc: Global) -> Result<Vec<Entry>, AllocError>
         ensures { IfOk result (λ entries. entries.items ≡ entries_of self.now) }
     {
-        let contracts = self.table.contracts();
-        let ids = self.ids.keys();
-        ids.zip(contracts).map(|(id, contract)| entry_of(*id, contract)).collect(alloc)
+        entries(alloc, &self.ids, self.table.contracts())
     }
 
     /// What it holds under an id, if it does.
@@ -401,6 +399,21 @@ fn entry_of(id: u32, contract: &Contract) -> Entry
     }
 }
 
+/// What is told of contracts by their ids, in their order; `AllocError` where memory runs out.
+fn entries(
+    alloc: Global,
+    ids: &IndexMap<u32, bool>,
+    contracts: &[Contract],
+) -> Result<Vec<Entry>, AllocError>
+    ensures { IfOk result (λ entries. entries.items ≡ told_of ids.now.entries contracts.now) }
+{
+    let mut entries = Vec::with_capacity(alloc, contracts.len())?;
+    for ((id, _), contract) in ids.iter().zip(contracts) {
+        entries.push(entry_of(*id, contract))?;
+    }
+    Ok(entries)
+}
+
 /// Makes room for one contract and one command more.
 fn make_room(
     ids: &mut IndexMap<u32, bool>,
@@ -442,8 +455,10 @@ fn admit(
     let Ok(bounds) = bounds_of(alloc, table.domain(), &begun) else {
         return Err(BrokerRefusal::NoMemory);
     };
-    match table.admit(begun, bounds) {
-        Ok(()) => Ok(()),
-        Err((_, _, refusal)) => Err(BrokerRefusal::from(refusal)),
-    }
+    let refused = match table.admit(begun, bounds) {
+        Ok(()) => return Ok(()),
+        Err(refused) => refused,
+    };
+    let (_contract, _bounds, refusal) = refused;
+    Err(BrokerRefusal::from(refusal))
 }
