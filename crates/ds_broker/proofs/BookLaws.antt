@@ -5,6 +5,7 @@ use Rattle.std.specs.List.{list_any}
 use Rattle.std.specs.Map.{keys_of, lookup}
 use Rattle.std.specs.Str.{bytes_eq}
 use Rattle.ds_domain_base.specs.declared.contract.Contract.{Contract}
+use Rattle.std.proofs.lemmas.List.{length-map}
 use Rattle.std.proofs.lemmas.Option.{slice_get-map}
 use Rattle.ds_domain_base.specs.Domains.{Domain}
 use Rattle.ds_certificate.specs.Bounds.{least_of}
@@ -95,3 +96,11 @@ pub told-listed : (i : book.Inside) (b : Book) → book_of i ≡ b → IsBook i 
 told-listed i b view kept contracts is =
     ap (λ cs. told_of i.ids.entries cs) (is ∙ ap (λ t. t.contracts) kept.table) ∙ ap (λ ids. told_of ids (contracts_in (held_in i))) kept.ids
     ∙ told-held (held_in i) ∙ ap entries_of view
+
+pub contracts-length : (i : book.Inside) (b : Book) → book_of i ≡ b → IsBook i → length i.table.contracts ≡ length (held_of b)
+contracts-length i b view kept =
+    ap (λ t. length t.contracts) kept.table ∙ length-map (held_in i) (λ h. h.contract) ∙ ap (λ x. length (held_of x)) view
+
+pub one-at : (o : Option Holding) (g h : Holding) → o ≡ Some g → o ≡ Some h → g ≡ h
+one-at None g h is also = cc
+one-at (Some other) g h is also = cc

@@ -1,9 +1,10 @@
 -- What stands against a command, test by test.
-use Rattle.std.proofs.Common.{◌≡◌, ℕ, Bool, true, false, Option, None, Some, Result, Ok, Err, refl, sym, ap, ◌∙◌}
-use Rattle.std.specs.Prelude.{MatchResult, if◌then◌else◌}
+use Rattle.std.proofs.Common.{◌≡◌, ◌≤◌, ◌-◌, ℕ, Bool, true, false, Option, None, Some, Result, Ok, Err, refl, sym, ap, ◌∙◌, arith}
+use Rattle.std.specs.Prelude.{MatchResult, nat_lt, if◌then◌else◌}
 use Rattle.std.specs.Result.{result_err}
 use Rattle.ds_domain_base.specs.Faults.{fault_at}
 use Rattle.ds_domain_base.specs.Fitting.{way_fault}
+use Rattle.ds_domain_base.specs.Lifetimes.{IsInOrder}
 use Rattle.ds_domain_base.specs.declared.contract.Contract.{Contract}
 use Rattle.ds_domain_base.specs.declared.fault.DomainFault.{DomainFault}
 use Rattle.ds_domain_base.specs.declared.fault.Kind.TheVariants as kinds
@@ -55,3 +56,14 @@ passed b c none =
     let fine = no_fault (is_held c.name (held_of b)) (ends_early (moment_in b c.lifetime.since) c.lifetime.until) (fault_at kinds.Twice sections.Contract 0 fields.Name)
         (fault_at kinds.Range sections.Contract 0 fields.Until) (way_fault 0 b.domain c.port c.path) all.0 in
     record { new = fine.0; ordered = fine.1; way = fine.2; table = all.1; history = all.2 }
+
+above : (since until : ℕ) → nat_lt until since ≡ false → since ≤ until
+above since until is = grind (arith, is)
+
+-- a contract that does not end early is in order
+pub ordered : (since : ℕ) (until : Option ℕ) → ends_early since until ≡ false → IsInOrder since until
+ordered since None is = λ last some. absurd (none-last last some)
+  where
+    none-last : (last : ℕ) → None ≡ Some last → ⊥
+    none-last last some = cc
+ordered since (Some end) is = λ last some. let same : end ≡ last = cc in omega (arith, above since end is, same)

@@ -1,6 +1,6 @@
 -- The table of a book: with one contract more, and with none.
 use Rattle.std.proofs.Common.{◌≡◌, ◌≤◌, ◌+◌, ℕ, Bool, true, false, List, [], ◌∷◌, ◌++◌, Option, None, Some, refl, sym, ap, ◌∙◌, arith}
-use Rattle.std.specs.Prelude.{All, map, slice_get}
+use Rattle.std.specs.Prelude.{All, map, option_map, slice_get}
 use Rattle.std.proofs.lemmas.List.{map-append}
 use Rattle.std.proofs.lemmas.List.Elements.{All-cons, All-nil}
 use Rattle.meter_book.specs.declared.any_meter.Parameters.{Parameters}
@@ -9,11 +9,13 @@ use Rattle.ds_domain_base.specs.Domains.{Domain}
 use Rattle.ds_domain_base.specs.declared.contract.Contract.{Contract}
 use Rattle.ds_domain_base.specs.declared.parts.Meter.{Meter}
 use Rattle.ds_certificate.specs.Bounds.{least, least_of}
-use Rattle.ds_checker.specs.Acceptance.{Carries, IsAcceptable, Table}
+use Rattle.ds_checker.specs.Acceptance.{Carries, IsAcceptable, Table, refusal_of}
 use Rattle.ds_checker.specs.Loads.{Share, counted, shares_at}
 use Rattle.ds_broker.specs.Books.{Book, contracts_in, held_of, moment_in, newest_of, table_in, table_of, table_with, with_command}
 use Rattle.ds_broker.specs.Histories.{Holding, begun, beginning, ended, standing_of, with_released, with_retired}
+use Rattle.ds_broker.specs.Refusals.{refusal_or_checked, reserve_refusal, room_refusal}
 use Rattle.ds_broker.specs.declared.command.Command.TheVariants.{Reserve}
+use Rattle.ds_broker.specs.declared.refusal.BrokerRefusal.TheVariants.{Checker}
 use Rattle.ds_broker.specs.Found.{IsFirst}
 use Rattle.ds_checker.specs.Changes.{with_lifetime, without_contract}
 use Rattle.ds_broker.proofs.HoldingLaws.{contracts-released, least-released, map-map-retired, map-retired}
@@ -69,3 +71,11 @@ carries_none d (entry ∷ meters) = All-cons (CarriesNone d) entry meters (carri
 pub none-acceptable : (d : Domain) → IsAcceptable (record { domain = d; contracts = []; certificate = [] })
 unfolding CarriesNone
 none-acceptable d = (tt, carries_none d d.meters)
+
+-- what the checker is asked of the larger table, where nothing else stands against a contract
+pub checked-refusal : (b : Book) (c : Contract) (t : Table) (since : ℕ) → room_refusal b c ≡ None → t ≡ table_of b → since ≡ moment_in b c.lifetime.since
+    → reserve_refusal b c ≡ option_map Checker (refusal_of (table_with since c t))
+checked-refusal b c t since none is moment =
+    ap (λ o. refusal_or_checked o b c) none
+    ∙ ap (λ x. option_map Checker (refusal_of x))
+    (table-reserved b c ∙ ap (λ m. table_with m c (table_of b)) (sym moment) ∙ ap (λ x. table_with since c x) (sym is))

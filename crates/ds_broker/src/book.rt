@@ -113,6 +113,7 @@ impl Book {
         if let Some(refusal) = self.room_refusal(&contract) {
             return Err((contract, refusal));
         }
+        let serial = self.next_serial();
         let since = self.newest.max(contract.lifetime.since());
         if make_room(&mut self.ids, &mut self.names, &mut self.history).is_err() {
             return Err((contract, BrokerRefusal::NoMemory));
@@ -121,7 +122,6 @@ impl Book {
         if let Err(refusal) = admit(alloc, &mut self.table, &contract, since) {
             return Err((contract, refusal));
         }
-        let serial = self.next_serial();
         let id = self.granted + 1;
         self.ids.insert(id, false).unwrap();
         self.names.insert(contract.name).unwrap();
@@ -443,6 +443,7 @@ fn admit(
 ) -> Result<(), BrokerRefusal>
     requires { IsInOrder since contract.now.lifetime.until }
     ensures admitted { OnOk result (table.new ≡ table_with since contract.now table.old) }
+    ensures acceptable { OnOk result (IsAcceptable table.new) }
     ensures unrefused { OnOk result (refusal_of (table_with since contract.now table.old) ≡ None) }
     ensures unchanged { OnErr result (table.new ≡ table.old) }
     ensures refused { IfErr result (λ refusal. (refusal ≡ BrokerRefusal.NoMemory)
