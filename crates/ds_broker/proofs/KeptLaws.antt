@@ -1,0 +1,165 @@
+-- What the fields of a book keep is kept by each command.
+use Rattle.std.proofs.Common.{◌≡◌, ◌≤◌, ◌<◌, ◌+◌, ℕ, suc, Bool, true, false, List, [], ◌∷◌, ◌++◌, Option, None, Some, refl, sym, ap, subst, ◌∙◌, arith}
+use Rattle.std.specs.Prelude.{length, map, max, nat_eq, nat_le, slice_get}
+use Rattle.std.specs.List.{list_any, remove}
+use Rattle.std.specs.Str.{bytes_eq}
+use Rattle.std.proofs.lemmas.List.{map-append, length-append}
+use Rattle.indexmap.specs.IndexMap.{insert_entry}
+use Rattle.indexmap.specs.IndexSet.{insert_key}
+use Rattle.ds_domain_base.specs.Domains.{Domain}
+use Rattle.ds_domain_base.specs.Lifetimes.{Span}
+use Rattle.ds_domain_base.specs.declared.contract.Contract.{Contract}
+use Rattle.ds_checker.specs.Acceptance.{IsAcceptable, Table}
+use Rattle.ds_checker.specs.Changes.{with_lifetime, without_contract}
+use Rattle.ds_broker.specs.Books.{Book, held_of, is_history_full, is_held, is_table_full, table_in, table_with}
+use Rattle.ds_broker.specs.Found.{IsFound}
+use Rattle.ds_broker.specs.Histories.{Holding, Standing, after, begun, ended, opening, standing_of, with_released, with_retired}
+use Rattle.ds_broker.specs.Kept.{IsBook, book_of, held_in, ids_in, names_in}
+use Rattle.ds_broker.specs.Refusals.{room_refusal}
+use Rattle.ds_broker.specs.declared.book.Book.TheInside as book
+use Rattle.ds_broker.specs.declared.command.Command.{Command}
+use Rattle.ds_broker.specs.declared.command.Command.TheVariants.{Reserve, Release, Retire}
+use Rattle.ds_broker.proofs.HoldingLaws.{any-names, ids-released, length-released, length-retired, map-retired, names-released}
+use Rattle.ds_broker.proofs.RefusalLaws.{IsPassed}
+use Rattle.ds_broker.proofs.StandingLaws.{insert-next, standing-bounded, standing-push}
+use Rattle.ds_broker.proofs.TableLaws.{own-domain, table-push, table-released, table-retired}
+
+-- what stands behind it
+stands : (old new : book.Inside) (command : Command) → new.history.items ≡ old.history.items ++ command ∷ [] → standing_of new.history.items ≡ after (standing_of old.history.items) command
+stands old new command history = ap standing_of history ∙ standing-push old.history.items command
+
+below : (most n : ℕ) → nat_le most n ≡ false → n < most
+below most n is = grind (arith, is)
+
+pushed-length : (history : List Command) (command : Command) → length (history ++ command ∷ []) ≡ length history + 1
+pushed-length history command = length-append history (command ∷ [])
+
+held-length : (held : List Holding) (h : Holding) → length (held ++ h ∷ []) ≡ length held + 1
+held-length held h = length-append held (h ∷ [])
+
+insert-name : (name : List ℕ) (names : List (List ℕ)) → list_any (bytes_eq name) names ≡ false → insert_key bytes_eq names name ≡ names ++ name ∷ []
+insert-name name names new = rw new refl
+
+pub kept-reserved : (old new : book.Inside) (c : Contract) → IsBook old → IsPassed (book_of old) c → length old.history.items < 65536
+    → new.table ≡ table_with new.newest c old.table
+    → IsAcceptable new.table
+    → new.ids.entries ≡ insert_entry nat_eq old.ids.entries new.granted false
+    → new.names.keys ≡ insert_key bytes_eq old.names.keys c.name
+    → new.limits ≡ old.limits
+    → new.granted ≡ old.granted + 1
+    → new.newest ≡ max old.newest c.lifetime.since
+    → new.history.items ≡ old.history.items ++ Reserve c ∷ []
+    → IsBook new
+kept-reserved old new c kept passed short table acceptable ids names limits granted newest history =
+    let s = standing_of old.history.items in
+    let d = old.table.domain in
+    let next : Holding = record { id = s.granted + 1; contract = begun s.newest c; released = false } in
+    let st = stands old new (Reserve c) history in
+    let moment : new.newest ≡ max s.newest c.lifetime.since = newest ∙ ap (λ m. max m c.lifetime.since) kept.newest in
+    let number : new.granted ≡ s.granted + 1 = granted ∙ ap (λ n. n + 1) kept.granted in
+    let unheld : list_any (bytes_eq c.name) (names_in s.held) ≡ false = any-names c.name s.held ∙ passed.new in
+    record {
+      table = own-domain d new.table (held_in new)
+          (table ∙ ap (λ m. table_with m c old.table) moment ∙ ap (λ t. table_with (max s.newest c.lifetime.since) c t) kept.table
+          ∙ sym (table-push d s.held next (max s.newest c.lifetime.since) c refl) ∙ ap (λ x. table_in d x.held) (sym st));
+      acceptable = acceptable;
+      ids = ids ∙ ap (λ n. insert_entry nat_eq old.ids.entries n false) number ∙ ap (λ es. insert_entry nat_eq es (s.granted + 1) false) kept.ids
+          ∙ insert-next s.granted s.newest s.held (standing-bounded old.history.items) ∙ sym (map-append (λ h. (h.id, h.released)) s.held (next ∷ []))
+          ∙ ap (λ x. ids_in x.held) (sym st);
+      names = names ∙ ap (λ ks. insert_key bytes_eq ks c.name) kept.names ∙ insert-name c.name (names_in s.held) unheld
+          ∙ sym (map-append (λ h. h.contract.name) s.held (next ∷ [])) ∙ ap (λ x. names_in x.held) (sym st);
+      granted = number ∙ ap (λ x. x.granted) (sym st);
+      newest = moment ∙ ap (λ x. x.newest) (sym st);
+      room = omega (arith, ap (λ l. l.table) limits, (let count : length (held_in new) ≡ length (s.held ++ next ∷ []) = ap (λ x. length x.held) st in count), held-length s.held next, below old.limits.table (length s.held) passed.table);
+      accepted = rw (limits, history) (omega (arith, pushed-length old.history.items (Reserve c), below old.limits.history (length old.history.items) passed.history));
+      short = rw history (omega (arith, pushed-length old.history.items (Reserve c), short));
+    }
+
+pub kept-released : (old new : book.Inside) (id at place : ℕ) (released : Bool) (lifetime : Span) (b : Book) → book_of old ≡ b → IsBook old
+    → (found : IsFound id (held_of b) place released) → is_history_full b ≡ false → length b.history < 65536
+    → lifetime ≡ (ended new.newest found.holding.contract).lifetime
+    → new.table ≡ with_lifetime old.table place lifetime
+    → IsAcceptable new.table
+    → new.ids.entries ≡ insert_entry nat_eq old.ids.entries id true
+    → new.names.keys ≡ old.names.keys
+    → new.limits ≡ old.limits
+    → new.granted ≡ old.granted
+    → new.newest ≡ max old.newest at
+    → new.history.items ≡ old.history.items ++ Release id at ∷ []
+    → IsBook new
+kept-released old new id at place released lifetime b view kept found full short ended_so table acceptable ids names limits granted newest history =
+    let s = standing_of old.history.items in
+    let d = old.table.domain in
+    let here : IsFound id s.held place released = subst (λ x. IsFound id (held_of x) place released) (sym view) found in
+    let m = max s.newest at in
+    let st = stands old new (Release id at) history in
+    let moment : new.newest ≡ m = newest ∙ ap (λ n. max n at) kept.newest in
+    let long = ap is_history_full view ∙ full in
+    let count : length old.history.items ≡ length b.history = ap (λ x. length x.history) view in
+    let stood : slice_get s.held place ≡ Some found.holding = ap (λ x. slice_get (held_of x) place) view ∙ found.at in
+    let lasting : lifetime ≡ (ended m found.holding.contract).lifetime = ended_so ∙ ap (λ n. (ended n found.holding.contract).lifetime) moment in
+    record {
+      table = own-domain d new.table (held_in new)
+          (table ∙ ap (λ t. with_lifetime t place lifetime) kept.table ∙ ap (λ span. with_lifetime (table_in d s.held) place span) lasting
+          ∙ sym (table-released d id m s.held place found.holding here.first stood) ∙ ap (λ x. table_in d x.held) (sym st));
+      acceptable = acceptable;
+      ids = ids ∙ ap (λ es. insert_entry nat_eq es id true) kept.ids ∙ sym (ids-released id m s.held place here.first) ∙ ap (λ x. ids_in x.held) (sym st);
+      names = names ∙ kept.names ∙ sym (names-released id m s.held) ∙ ap (λ x. names_in x.held) (sym st);
+      granted = granted ∙ kept.granted ∙ ap (λ x. x.granted) (sym st);
+      newest = moment ∙ ap (λ x. x.newest) (sym st);
+      room = omega (arith, ap (λ l. l.table) limits, (let count : length (held_in new) ≡ length (with_released id m s.held) = ap (λ x. length x.held) st in count), length-released id m s.held, kept.room);
+      accepted = rw (limits, history) (omega (arith, pushed-length old.history.items (Release id at), below old.limits.history (length old.history.items) long));
+      short = rw history (omega (arith, pushed-length old.history.items (Release id at), short, count));
+    }
+
+pub kept-retired : (old new : book.Inside) (id at place : ℕ) (released : Bool) (b : Book) → book_of old ≡ b → IsBook old
+    → IsFound id (held_of b) place released → is_history_full b ≡ false → length b.history < 65536
+    → new.table ≡ without_contract old.table place
+    → IsAcceptable new.table
+    → new.ids.entries ≡ remove old.ids.entries place
+    → new.names.keys ≡ remove old.names.keys place
+    → new.limits ≡ old.limits
+    → new.granted ≡ old.granted
+    → new.newest ≡ max old.newest at
+    → new.history.items ≡ old.history.items ++ Retire id at ∷ []
+    → IsBook new
+kept-retired old new id at place released b view kept found full short table acceptable ids names limits granted newest history =
+    let s = standing_of old.history.items in
+    let d = old.table.domain in
+    let here : IsFound id s.held place released = subst (λ x. IsFound id (held_of x) place released) (sym view) found in
+    let first = here.first in
+    let m = max s.newest at in
+    let st = stands old new (Retire id at) history in
+    let moment : new.newest ≡ m = newest ∙ ap (λ n. max n at) kept.newest in
+    let long : is_history_full (book_of old) ≡ false = ap is_history_full view ∙ full in
+    let count : length old.history.items ≡ length b.history = ap (λ x. length x.history) view in
+    record {
+      table = own-domain d new.table (held_in new)
+          (table ∙ ap (λ t. without_contract t place) kept.table ∙ sym (table-retired d id s.held place first) ∙ ap (λ x. table_in d x.held) (sym st));
+      acceptable = acceptable;
+      ids = ids ∙ ap (λ es. remove es place) kept.ids ∙ sym (map-retired (λ h. (h.id, h.released)) id s.held place first) ∙ ap (λ x. ids_in x.held) (sym st);
+      names = names ∙ ap (λ ks. remove ks place) kept.names ∙ sym (map-retired (λ h. h.contract.name) id s.held place first) ∙ ap (λ x. names_in x.held) (sym st);
+      granted = granted ∙ kept.granted ∙ ap (λ x. x.granted) (sym st);
+      newest = moment ∙ ap (λ x. x.newest) (sym st);
+      room = omega (arith, ap (λ l. l.table) limits, (let count : length (held_in new) ≡ length (with_retired id s.held) = ap (λ x. length x.held) st in count), length-retired id s.held, kept.room);
+      accepted = rw (limits, history) (omega (arith, pushed-length old.history.items (Retire id at), below old.limits.history (length old.history.items) long));
+      short = rw history (omega (arith, pushed-length old.history.items (Retire id at), short, count));
+    }
+
+pub kept-opened : (i : book.Inside) (d : Domain) → i.table ≡ record { domain = d; contracts = []; certificate = [] } → IsAcceptable i.table
+    → i.ids.entries ≡ [] → i.names.keys ≡ [] → i.granted ≡ 0 → i.newest ≡ 0 → i.history.items ≡ [] → IsBook i
+unfolding standing_of
+kept-opened i d table acceptable ids names granted newest history =
+    let st : standing_of i.history.items ≡ opening = ap standing_of history in
+    let length_is : length i.history.items ≡ 0 = ap length history in
+    record {
+      table = own-domain d i.table (held_in i) (table ∙ ap (λ s. table_in d s.held) (sym st));
+      acceptable = acceptable;
+      ids = ids ∙ ap (λ s. ids_in s.held) (sym st);
+      names = names ∙ ap (λ s. names_in s.held) (sym st);
+      granted = granted ∙ ap (λ s. s.granted) (sym st);
+      newest = newest ∙ ap (λ s. s.newest) (sym st);
+      room = omega (arith, (let count : length (held_in i) ≡ 0 = ap (λ s. length s.held) st in count));
+      accepted = omega (arith, length_is);
+      short = omega (arith, length_is);
+    }

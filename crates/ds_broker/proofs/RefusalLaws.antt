@@ -1,0 +1,69 @@
+-- What stands against a command, test by test.
+use Rattle.std.proofs.Common.{◌≡◌, ◌≤◌, ◌-◌, ℕ, Bool, true, false, Option, None, Some, Result, Ok, Err, refl, sym, ap, ◌∙◌, arith}
+use Rattle.std.specs.Prelude.{MatchResult, nat_lt, if◌then◌else◌}
+use Rattle.std.specs.Result.{result_err}
+use Rattle.ds_domain_base.specs.Faults.{fault_at}
+use Rattle.ds_domain_base.specs.Fitting.{way_fault}
+use Rattle.ds_domain_base.specs.Lifetimes.{IsInOrder}
+use Rattle.ds_domain_base.specs.declared.contract.Contract.{Contract}
+use Rattle.ds_domain_base.specs.declared.fault.DomainFault.{DomainFault}
+use Rattle.ds_domain_base.specs.declared.fault.Kind.TheVariants as kinds
+use Rattle.ds_domain_base.specs.declared.fault.Section.TheVariants as sections
+use Rattle.ds_domain_base.specs.declared.fault.Field.TheVariants as fields
+use Rattle.ds_broker.specs.Books.{Book, held_of, is_held, is_history_full, is_table_full, moment_in}
+use Rattle.ds_broker.specs.Refusals.{contract_fault, ends_early, fault_or, room_refusal}
+use Rattle.ds_broker.specs.declared.refusal.BrokerRefusal.TheVariants.{HistoryFull, TableFull}
+
+pub fault-twice : (b : Book) (c : Contract) → is_held c.name (held_of b) ≡ true → contract_fault b c ≡ Some (fault_at kinds.Twice sections.Contract 0 fields.Name)
+fault-twice b c held = rw held refl
+
+pub fault-range : (b : Book) (c : Contract) → is_held c.name (held_of b) ≡ false → ends_early (moment_in b c.lifetime.since) c.lifetime.until ≡ true
+    → contract_fault b c ≡ Some (fault_at kinds.Range sections.Contract 0 fields.Until)
+fault-range b c new early = rw (new, early) refl
+
+pub fault-way : (b : Book) (c : Contract) → is_held c.name (held_of b) ≡ false → ends_early (moment_in b c.lifetime.since) c.lifetime.until ≡ false
+    → contract_fault b c ≡ way_fault 0 b.domain c.port c.path
+fault-way b c new ordered = rw (new, ordered) refl
+
+pub match-err : {A E : Type 0} (r : Result A E) (o : Option E) → MatchResult r (λ _. o ≡ None) (λ fault. o ≡ Some fault) → result_err r ≡ o
+match-err (Ok x) o is = sym is
+match-err (Err e) o is = sym is
+
+-- where nothing stands against a contract, each test is passed
+no_fault : (held early : Bool) (twice range : DomainFault) (way : Option DomainFault) → (if held then Some twice else if early then Some range else way) ≡ None
+    → (held ≡ false) × (early ≡ false) × (way ≡ None)
+no_fault true early twice range way none = cc
+no_fault false true twice range way none = cc
+no_fault false false twice range way none = (refl, refl, none)
+
+no_refusal : (o : Option DomainFault) (full long : Bool) → fault_or o (if full then Some TableFull else if long then Some HistoryFull else None) ≡ None
+    → (o ≡ None) × (full ≡ false) × (long ≡ false)
+no_refusal (Some fault) full long none = cc
+no_refusal None true long none = cc
+no_refusal None false true none = cc
+no_refusal None false false none = (refl, refl, refl)
+
+pub record IsPassed (b : Book) (c : Contract) : Type 0 where
+  pub new : is_held c.name (held_of b) ≡ false
+  pub ordered : ends_early (moment_in b c.lifetime.since) c.lifetime.until ≡ false
+  pub way : way_fault 0 b.domain c.port c.path ≡ None
+  pub table : is_table_full b ≡ false
+  pub history : is_history_full b ≡ false
+
+pub passed : (b : Book) (c : Contract) → room_refusal b c ≡ None → IsPassed b c
+passed b c none =
+    let all = no_refusal (contract_fault b c) (is_table_full b) (is_history_full b) none in
+    let fine = no_fault (is_held c.name (held_of b)) (ends_early (moment_in b c.lifetime.since) c.lifetime.until) (fault_at kinds.Twice sections.Contract 0 fields.Name)
+    (fault_at kinds.Range sections.Contract 0 fields.Until) (way_fault 0 b.domain c.port c.path) all.0 in
+    record { new = fine.0; ordered = fine.1; way = fine.2; table = all.1; history = all.2 }
+
+above : (since until : ℕ) → nat_lt until since ≡ false → since ≤ until
+above since until is = grind (arith, is)
+
+-- a contract that does not end early is in order
+pub ordered : (since : ℕ) (until : Option ℕ) → ends_early since until ≡ false → IsInOrder since until
+ordered since None is = λ last some. absurd (none-last last some)
+  where
+    none-last : (last : ℕ) → None ≡ Some last → ⊥
+    none-last last some = cc
+ordered since (Some end) is = λ last some. let same : end ≡ last = cc in omega (arith, above since end is, same)

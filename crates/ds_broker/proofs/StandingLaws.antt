@@ -1,0 +1,111 @@
+-- What stands after some commands: one command more, and what bounds ids, moments and numbers.
+use Rattle.std.proofs.Common.{◌≡◌, ◌≤◌, ◌<◌, ◌+◌, ℕ, zero, suc, Bool, true, false, List, [], ◌∷◌, ◌++◌, Option, None, Some, refl, sym, ap, ◌∙◌, arith, inl, inr, true≢false}
+use Rattle.std.specs.Prelude.{fold, length, map, max, nat_eq, slice_get, unwrap_or}
+use Rattle.std.specs.List.{AllByRecursion}
+use Rattle.std.specs.Map.{keys_of, lookup}
+use Rattle.std.proofs.lemmas.Bool.{cases_Bool}
+use Rattle.std.proofs.lemmas.List.Sums.{fold-append}
+use Rattle.indexmap.specs.IndexMap.{insert_entry}
+use Rattle.ds_domain_base.specs.declared.contract.Contract.{Contract}
+use Rattle.ds_broker.specs.Histories.{Holding, Standing, after, begun, end_by, opening, reserved, released, retired, standing_of, with_released, with_retired}
+use Rattle.ds_broker.specs.Kept.{ids_in}
+use Rattle.ds_broker.specs.declared.command.Command.{Command}
+use Rattle.ds_broker.specs.declared.command.Command.TheVariants.{Reserve, Release, Retire}
+
+-- one command more
+pub standing-push : (history : List Command) (command : Command) → standing_of (history ++ command ∷ []) ≡ after (standing_of history) command
+unfolding standing_of
+standing-push history command = fold-append after opening history (command ∷ [])
+
+pub standing-append : (history commands : List Command) → standing_of (history ++ commands) ≡ fold after (standing_of history) commands
+unfolding standing_of
+standing-append history commands = fold-append after opening history commands
+
+-- no contract that is held begins behind the newest moment, or has an id that was not given yet; and no released one ends
+-- behind the newest moment
+abbrev pub IsBounded : ℕ → ℕ → Holding → Type 0
+IsBounded granted newest h =
+    (h.id ≤ granted) × (h.contract.lifetime.since ≤ newest) × (h.released ≡ true → unwrap_or h.contract.lifetime.until 0 ≤ newest)
+
+abbrev AreBounded : ℕ → ℕ → List Holding → Type 0
+AreBounded granted newest held = AllByRecursion (IsBounded granted newest) held
+
+AreBounded-weaker : (granted newest more later : ℕ) (held : List Holding) → granted ≤ more → newest ≤ later → AreBounded granted newest held → AreBounded more later held
+AreBounded-weaker granted newest more later [] fewer earlier all = tt
+AreBounded-weaker granted newest more later (h ∷ held) fewer earlier all =
+    ((omega (arith, all.0.0), omega (arith, all.0.1), λ done. omega (arith, all.0.2 done)), AreBounded-weaker granted newest more later held fewer earlier all.1)
+
+AreBounded-push : (granted newest : ℕ) (held : List Holding) (h : Holding) → AreBounded granted newest held → IsBounded granted newest h → AreBounded granted newest (held ++ h ∷ [])
+AreBounded-push granted newest [] h all one = (one, tt)
+AreBounded-push granted newest (g ∷ held) h all one = (all.0, AreBounded-push granted newest held h all.1 one)
+
+end_by-most : (moment : ℕ) (until : Option ℕ) → end_by moment until ≤ moment
+end_by-most moment None = omega arith
+end_by-most moment (Some end) = omega arith
+
+AreBounded-released : (granted newest id moment : ℕ) (held : List Holding) → moment ≤ newest → AreBounded granted newest held
+    → AreBounded granted newest (with_released id moment held)
+unfolding with_released
+AreBounded-released granted newest id moment [] early all = tt
+AreBounded-released granted newest id moment (h ∷ held) early all = elim (cases_Bool (nat_eq id h.id)) [
+  | inl same ↦ rw same ((all.0.0, all.0.1, λ _. omega (arith, early, end_by-most moment h.contract.lifetime.until)), all.1)
+  | inr other ↦ rw other (all.0, AreBounded-released granted newest id moment held early all.1)
+]
+
+AreBounded-retired : (granted newest id : ℕ) (held : List Holding) → AreBounded granted newest held → AreBounded granted newest (with_retired id held)
+unfolding with_retired
+AreBounded-retired granted newest id [] all = tt
+AreBounded-retired granted newest id (h ∷ held) all = elim (cases_Bool (nat_eq id h.id)) [
+  | inl same ↦ rw same all.1
+  | inr other ↦ rw other (all.0, AreBounded-retired granted newest id held all.1)
+]
+
+bounded-after : (s : Standing) (command : Command) → AreBounded s.granted s.newest s.held → AreBounded (after s command).granted (after s command).newest (after s command).held
+bounded-after s (Reserve c) all =
+    AreBounded-push (s.granted + 1) (max s.newest c.lifetime.since) s.held (record { id = s.granted + 1; contract = begun s.newest c; released = false })
+    (AreBounded-weaker s.granted s.newest (s.granted + 1) (max s.newest c.lifetime.since) s.held (omega arith) (omega arith) all)
+    (omega arith, omega arith, λ done. absurd (true≢false (sym done)))
+bounded-after s (Release id at) all =
+    AreBounded-released s.granted (max s.newest at) id (max s.newest at) s.held (omega arith)
+    (AreBounded-weaker s.granted s.newest s.granted (max s.newest at) s.held (omega arith) (omega arith) all)
+bounded-after s (Retire id moment) all =
+    AreBounded-weaker s.granted s.newest s.granted (max s.newest moment) (with_retired id s.held) (omega arith) (omega arith)
+    (AreBounded-retired s.granted s.newest id s.held all)
+
+bounded-fold : (s : Standing) (commands : List Command) → AreBounded s.granted s.newest s.held
+    → AreBounded (fold after s commands).granted (fold after s commands).newest (fold after s commands).held
+bounded-fold s [] all = all
+bounded-fold s (command ∷ commands) all = bounded-fold (after s command) commands (bounded-after s command all)
+
+pub standing-bounded : (history : List Command) → AllByRecursion (IsBounded (standing_of history).granted (standing_of history).newest) (standing_of history).held
+unfolding standing_of
+standing-bounded history = bounded-fold opening history tt
+
+-- of one at a place
+pub bounded-at : (granted newest : ℕ) (held : List Holding) (place : ℕ) (h : Holding) → AllByRecursion (IsBounded granted newest) held → slice_get held place ≡ Some h
+    → IsBounded granted newest h
+bounded-at granted newest [] place h all at = cc
+bounded-at granted newest (g ∷ held) zero h all at = let same : g ≡ h = cc in rw (← same) all.0
+bounded-at granted newest (g ∷ held) (suc place) h all at = bounded-at granted newest held place h all.1 at
+
+-- an id that was not given yet goes behind the others
+pub insert-next : (granted newest : ℕ) (held : List Holding) → AllByRecursion (IsBounded granted newest) held
+    → insert_entry nat_eq (ids_in held) (granted + 1) false ≡ ids_in held ++ (granted + 1, false) ∷ []
+insert-next granted newest [] all = refl
+insert-next granted newest (h ∷ held) all =
+    let other : nat_eq (granted + 1) h.id ≡ false = grind (arith, all.0.0) in
+    rw other (ap (λ rest. (h.id, h.released) ∷ rest) (insert-next granted newest held all.1))
+
+-- no more is granted than there are commands
+granted-after : (s : Standing) (command : Command) → (after s command).granted ≤ s.granted + 1
+granted-after s (Reserve c) = omega arith
+granted-after s (Release id at) = omega arith
+granted-after s (Retire id moment) = omega arith
+
+granted-fold : (s : Standing) (commands : List Command) → (fold after s commands).granted ≤ s.granted + length commands
+granted-fold s [] = omega arith
+granted-fold s (command ∷ commands) = omega (arith, granted-fold (after s command) commands, granted-after s command)
+
+pub granted-most : (history : List Command) → (standing_of history).granted ≤ length history
+unfolding standing_of
+granted-most history = omega (arith, granted-fold opening history)

@@ -1,0 +1,9 @@
+use Rattle.std.proofs.Common.{◌≡◌, subst}
+use Rattle.std.specs.Prelude.{IfOk}
+use Rattle.ds_broker.proofs.BookLaws.{told-listed}
+use Rattle.ds_broker.proofs.book.Book.list.Goals as goal
+
+pub returns : goal.returns
+returns c =
+    subst (λ told. IfOk c.entries.result (λ entries. entries.items ≡ told))
+    (told-listed c.self.inside c.args.self.now c.self.view_is c.self.invariant c.contracts.result.now c.contracts.ensures.value) c.entries.ensures

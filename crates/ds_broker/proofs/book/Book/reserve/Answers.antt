@@ -1,0 +1,55 @@
+use Rattle.std.proofs.Common.{◌≡◌, ◌<◌, ◌++◌, ◌+◌, ◌⊎◌, false, None, Some, inl, inr, rules, arith, refl, sym, ap, ◌∙◌}
+use Rattle.std.specs.Prelude.{length, max, nat_eq, option_map}
+use Rattle.std.specs.Str.{bytes_eq}
+use Rattle.indexmap.specs.IndexMap.{insert_entry}
+use Rattle.indexmap.specs.IndexSet.{insert_key}
+use Rattle.ds_broker.specs.Books.{moment_in, newest_of, table_of}
+use Rattle.ds_broker.specs.Kept.{book_of}
+use Rattle.ds_broker.specs.Refusals.{room_refusal}
+use Rattle.ds_broker.specs.declared.refusal.BrokerRefusal.TheVariants.{Checker}
+use Rattle.ds_broker.proofs.KeptLaws.{kept-reserved}
+use Rattle.ds_broker.proofs.RefusalLaws.{passed}
+use Rattle.ds_broker.proofs.StandingLaws.{granted-most}
+use Rattle.ds_broker.proofs.TableLaws.{checked-refusal}
+use Rattle.ds_broker.proofs.book.Book.reserve.Goals as goal
+
+pub returns-in-Err-clause-refused : goal.returns-in-Err-clause-refused
+returns-in-Err-clause-refused c =
+    let b = c.args.self.now in
+    let k = c.args.contract in
+    let none : room_refusal b k ≡ None = sym c.room_refusal.ensures.value ∙ c.in_default.is in
+    let table : c.self.inside.table ≡ table_of b = c.self.invariant.table ∙ ap table_of c.self.view_is in
+    let since : c.max-since.result ≡ max c.self.inside.newest k.lifetime.since = search rules in
+    let moment : c.max-since.result ≡ moment_in b k.lifetime.since = since ∙ ap (λ m. max m k.lifetime.since) (c.self.invariant.newest ∙ ap newest_of c.self.view_is) in
+    elim c.in-Err.ensures.refused [
+      | inl memory ↦ inl memory
+      | inr refused ↦ inr (checked-refusal b k c.self.inside.table c.max-since.result none table moment ∙ refused)
+    ]
+
+pub overflow_add-id : goal.overflow_add-id
+overflow_add-id c = omega (arith, c.self.invariant.granted, granted-most c.self.inside.history.items, c.self.invariant.short)
+
+pub invariant_of-self-2 : goal.invariant_of-self-2
+invariant_of-self-2 c =
+    let i = c.self.inside in
+    let b = c.args.self.now in
+    let k = c.args.contract in
+    let none : room_refusal (book_of i) k ≡ None = ap (λ x. room_refusal x k) c.self.view_is ∙ sym c.room_refusal.ensures.value ∙ c.in_default.is in
+    let since : c.max-since.result ≡ max i.newest k.lifetime.since = search rules in
+    let count : length i.history.items ≡ length b.history = ap (λ x. length x.history) c.self.view_is in
+    kept-reserved i _ k c.self.invariant (passed (book_of i) k none) (omega (arith, count, c.in_default.ensures.room))
+    c.in_default-admit.ensures.admitted c.in_default-admit.ensures.acceptable
+    (rw c.unwrap.ensures at c.insert.ensures.entries ∙ ap (λ es. insert_entry nat_eq es (i.granted + 1) false) c.make_room.ensures.ids)
+    (rw c.unwrap-2.ensures at c.insert-2.ensures.keys ∙ ap (λ ks. insert_key bytes_eq ks k.name) c.make_room.ensures.names)
+    refl refl since
+    (rw c.unwrap-3.ensures at c.push.ensures.items ∙ rw c.make_room.ensures.history refl)
+
+pub returns-clause-unrefused : goal.returns-clause-unrefused
+returns-clause-unrefused c =
+    let b = c.args.self.now in
+    let k = c.args.contract in
+    let none : room_refusal b k ≡ None = sym c.room_refusal.ensures.value ∙ c.in_default.is in
+    let table : c.self.inside.table ≡ table_of b = c.self.invariant.table ∙ ap table_of c.self.view_is in
+    let since : c.max-since.result ≡ max c.self.inside.newest k.lifetime.since = search rules in
+    let moment : c.max-since.result ≡ moment_in b k.lifetime.since = since ∙ ap (λ m. max m k.lifetime.since) (c.self.invariant.newest ∙ ap newest_of c.self.view_is) in
+    checked-refusal b k c.self.inside.table c.max-since.result none table moment ∙ ap (λ o. option_map Checker o) c.in_default-admit.ensures.unrefused

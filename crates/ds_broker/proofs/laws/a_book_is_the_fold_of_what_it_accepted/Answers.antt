@@ -1,0 +1,8 @@
+use Rattle.ds_broker.proofs.HoldingLaws.{first-below}
+use Rattle.ds_broker.proofs.HopelessLaws as hopeless
+use Rattle.ds_broker.proofs.TableLaws.{none-acceptable}
+use Rattle.ds_broker.proofs.RequestLaws.{accepted_fold}
+use Rattle.ds_broker.proofs.laws.a_book_is_the_fold_of_what_it_accepted.Goals as goal
+
+pub returns : goal.returns
+returns c b asked end leads = accepted_fold b asked end leads

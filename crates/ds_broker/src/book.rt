@@ -1,0 +1,465 @@
+ghost use Rattle.std.specs.Prelude.{◌≡◌, ◌⊎◌, ◌≤◌, ◌+◌, ◌-◌, [], None, Some, IfErr, IfOk, IfSome, OnErr, OnOk, length};
+ghost use Rattle.std.specs.Prelude.{◌<◌, IfNone, option_map, slice_get, unwrap_or, vec_capacity, vec_len};
+ghost use Rattle.std.specs.Bool.{OnFalse};
+ghost use Rattle.ds_checker.specs.Acceptance.{IsAcceptable, refusal_of};
+ghost use Rattle.ds_domain_base.specs.Faults.{fault_at};
+ghost use Rattle.ds_domain_base.specs.Lifetimes.{IsInOrder};
+ghost use Rattle.indexmap.specs.IndexMap.{spare as map_spare};
+ghost use Rattle.indexmap.specs.IndexSet.{spare as set_spare};
+ghost use Rattle.ds_broker.specs.Books as books;
+ghost use Rattle.ds_broker.specs.Books.{held_of, holding_of, is_history_full, moment_in, newest_of};
+ghost use Rattle.ds_broker.specs.Books.{table_of, table_with, with_command};
+ghost use Rattle.ds_broker.specs.Entries.{entries_of, entry_in, grant_of, next_serial, room_of, told_of};
+ghost use Rattle.ds_broker.specs.Found.{IsFound};
+ghost use Rattle.ds_broker.specs.Histories.{Holding, end_by, ended};
+ghost use Rattle.ds_broker.specs.Refusals.{contract_fault, ends_early, free_from, release_refusal};
+ghost use Rattle.ds_broker.specs.Refusals.{reserve_refusal, retire_refusal, room_refusal};
+
+use crate::command::Command;
+use crate::entry::{Entry, Grant, Room, Serial};
+use crate::limits::Limits;
+use crate::refusal::BrokerRefusal;
+use ds_certificate::{Certificate, bounds_of};
+use ds_checker::{Accepted, Candidate, check};
+use ds_domain_base::{Contract, Domain, DomainFault, Field, Kind, Lifetime, Name, Section, fits};
+use indexmap::{IndexMap, IndexSet};
+use moment_core::Moment;
+use std::alloc::{AllocError, Global};
+use std::marker::Model;
+
+/// The book of a broker: which contracts of a domain are granted, under which ids, and until when.
+///
+/// All that it answers follows from the commands that it accepted so far, its history: a reserve adds its contract
+/// behind the others, a release ends one, and a retire takes one out. At all times the least certificate of what it
+/// holds is acceptable; the sums at the meters are kept, so that a command costs no pass over the table.
+#[derive(Debug, Drop)]
+pub struct Book {
+    /// What it holds, with the least certificate.
+    table: Accepted,
+    /// The ids of what it holds, and whether they are released, in order of admission.
+    ids: IndexMap<u32, bool>,
+    /// The names of what it holds, in order of admission.
+    names: IndexSet<Name>,
+    limits: Limits,
+    granted: u32,
+    newest: Moment,
+    history: Vec<Command>,
+}
+
+impl Model for Book {
+    ghost use Rattle.ds_broker.specs.Books as books;
+
+    ghost Value = { books.Book };
+
+    ghost use Rattle.ds_broker.specs.Kept.{IsBook, book_of};
+
+    ghost view = { book_of };
+
+    ghost invariant = { IsBook };
+}
+
+impl Book {
+    ghost use Rattle.ds_broker.specs.declared.command.Command.TheVariants.{Reserve, Release, Retire};
+    ghost use Rattle.ds_broker.specs.declared.refusal.BrokerRefusal.TheVariants.{NoMemory};
+
+    /// The book of a domain with no contract in it and no command behind it.
+    ///
+    /// Refused, with the domain handed back: `NoMemory` where memory runs out, and for nothing else.
+    pub fn new(
+        alloc: Global,
+        domain: Domain,
+        limits: Limits,
+    ) -> Result<Self, (Domain, BrokerRefusal)>
+        ensures opened { IfOk result
+            (λ book. book ≡ record { domain = domain; limits = limits; history = [] }) }
+        ensures back { IfErr result (λ refused. refused.0 ≡ domain) }
+        ensures memory { IfErr result (λ refused. refused.1 ≡ NoMemory) }
+    {
+        let candidate = Candidate {
+            domain,
+            contracts: Vec::new(alloc),
+            certificate: Certificate::new(Vec::new(alloc)),
+        };
+        match check(alloc, candidate) {
+            Ok(table) => Ok(Book {
+                table,
+                ids: IndexMap::new(alloc),
+                names: IndexSet::new(alloc),
+                limits,
+                granted: 0,
+                newest: Moment::new(0).unwrap(),
+                history: Vec::new(alloc),
+            }),
+            Err((candidate, refusal)) => Err((candidate.domain, BrokerRefusal::from(refusal))),
+        }
+    }
+
+    /// Grants a contract: adds it behind the others, under the next id. It begins at the greatest moment of all accepted
+    /// commands at the earliest.
+    ///
+    /// Refused, with the contract handed back and the book unchanged, for the first of these: `Contract` where it has a
+    /// fault (section `contract`, index 0: `Twice` where the book holds a contract of its name, then `Range` where it
+    /// would end before it begins, then what `fits` finds), `TableFull`, `HistoryFull`, `Checker` where the table with it
+    /// is refused. `NoMemory` where memory runs out.
+    pub fn reserve(&mut self, contract: Contract) -> Result<Grant, (Contract, BrokerRefusal)>
+        ensures granted { IfOk result (λ grant. grant ≡ grant_of self.old contract) }
+        ensures accepted { OnOk result (self.new ≡ with_command self.old (Reserve contract)) }
+        ensures unrefused { OnOk result (reserve_refusal self.old contract ≡ None) }
+        ensures back { IfErr result (λ refused. refused.0 ≡ contract) }
+        ensures refused { IfErr result
+            (λ refused. (refused.1 ≡ NoMemory) ⊎ (reserve_refusal self.old contract ≡ Some refused.1)) }
+        ensures unchanged { OnErr result (self.new ≡ self.old) }
+    {
+        if let Some(refusal) = self.room_refusal(&contract) {
+            return Err((contract, refusal));
+        }
+        let serial = self.next_serial();
+        let since = self.newest.max(contract.lifetime.since());
+        if make_room(&mut self.ids, &mut self.names, &mut self.history).is_err() {
+            return Err((contract, BrokerRefusal::NoMemory));
+        }
+        let alloc = *self.ids.allocator();
+        if let Err(refusal) = admit(alloc, &mut self.table, &contract, since) {
+            return Err((contract, refusal));
+        }
+        let id = self.granted + 1;
+        self.ids.insert(id, false).unwrap();
+        self.names.insert(contract.name).unwrap();
+        self.granted = id;
+        self.newest = since;
+        self.history.push(Command::Reserve(contract)).unwrap();
+        Ok(Grant { id, serial, since })
+    }
+
+    /// Ends the contract of an id: at a moment, or at the greatest moment of all accepted commands where that is later.
+    /// An earlier end stays.
+    ///
+    /// Refused, and unchanged, for the first of these: `UnknownId`, `AlreadyReleased`, `HistoryFull`. `NoMemory` where
+    /// memory runs out.
+    pub fn release(&mut self, id: u32, at: Moment) -> Result<Serial, BrokerRefusal>
+        ensures released { IfOk result (λ serial. serial ≡ next_serial self.old) }
+        ensures accepted { OnOk result (self.new ≡ with_command self.old (Release id at)) }
+        ensures unrefused { OnOk result (release_refusal self.old id ≡ None) }
+        ensures refused { IfErr result
+            (λ refusal. (refusal ≡ NoMemory) ⊎ (release_refusal self.old id ≡ Some refusal)) }
+        ensures unchanged { OnErr result (self.new ≡ self.old) }
+    {
+        let Some((place, released)) = self.find(id) else {
+            return Err(BrokerRefusal::UnknownId);
+        };
+        if released {
+            return Err(BrokerRefusal::AlreadyReleased);
+        }
+        if self.is_history_full() {
+            return Err(BrokerRefusal::HistoryFull);
+        }
+        let moment = self.newest.max(at);
+        let lifetime = self.ended(place, moment);
+        if self.history.reserve(1).is_err() {
+            return Err(BrokerRefusal::NoMemory);
+        }
+        let serial = self.next_serial();
+        self.table.set_lifetime(place, lifetime);
+        self.ids.insert(id, true).unwrap();
+        self.newest = moment;
+        self.history.push(Command::Release { id, at }).unwrap();
+        Ok(serial)
+    }
+
+    /// Gives the share of a released contract back, once its hold has passed behind its end: at a moment, or at the
+    /// greatest moment of all accepted commands where that is later. From then on its id is unknown, and its name free.
+    ///
+    /// Refused, and unchanged, for the first of these: `UnknownId`, `NotReleased`, `HistoryFull`, `HoldLeft` with what
+    /// is left of the hold, in nanoseconds. `NoMemory` where memory runs out.
+    pub fn retire(&mut self, id: u32, moment: Moment) -> Result<Serial, BrokerRefusal>
+        ensures retired { IfOk result (λ serial. serial ≡ next_serial self.old) }
+        ensures accepted { OnOk result (self.new ≡ with_command self.old (Retire id moment)) }
+        ensures unrefused { OnOk result (retire_refusal self.old id moment ≡ None) }
+        ensures refused { IfErr result
+            (λ refusal. (refusal ≡ NoMemory) ⊎ (retire_refusal self.old id moment ≡ Some refusal)) }
+        ensures unchanged { OnErr result (self.new ≡ self.old) }
+    {
+        let Some((place, released)) = self.find(id) else {
+            return Err(BrokerRefusal::UnknownId);
+        };
+        if !released {
+            return Err(BrokerRefusal::NotReleased);
+        }
+        if self.is_history_full() {
+            return Err(BrokerRefusal::HistoryFull);
+        }
+        let newest = self.newest.max(moment);
+        let left = self.hold_left(place, newest);
+        if left > 0 {
+            return Err(BrokerRefusal::HoldLeft(left));
+        }
+        if self.history.reserve(1).is_err() {
+            return Err(BrokerRefusal::NoMemory);
+        }
+        let serial = self.next_serial();
+        let _retired = self.table.withdraw(place);
+        let _id = self.ids.shift_remove_index(place);
+        let _name = self.names.shift_remove_index(place);
+        self.newest = newest;
+        self.history.push(Command::Retire { id, moment }).unwrap();
+        Ok(serial)
+    }
+
+    /// What it holds, in order of admission; `AllocError` where memory runs out.
+    pub fn list(&self, alloc: Global) -> Result<Vec<Entry>, AllocError>
+        ensures { IfOk result (λ entries. entries.items ≡ entries_of self.now) }
+    {
+        entries(alloc, &self.ids, self.table.contracts())
+    }
+
+    /// What it holds under an id, if it does.
+    pub fn entry(&self, id: u32) -> Option<Entry>
+        ensures { result ≡ entry_in self.now id }
+    {
+        let (place, _) = self.find(id)?;
+        Some(entry_of(id, &self.table.contracts()[place]))
+    }
+
+    /// How many contracts, and how many commands, it still takes.
+    pub fn room(&self) -> Room
+        ensures { result ≡ room_of self.now }
+    {
+        Room {
+            table: self.limits.table() - self.ids.len() as u32,
+            history: self.limits.history() - self.history.len() as u32,
+        }
+    }
+
+    /// What it holds, with the least certificate.
+    pub fn table(&self) -> &Accepted
+        ensures value { result.now ≡ table_of self.now }
+        ensures acceptable { IsAcceptable result.now }
+    {
+        &self.table
+    }
+
+    /// The domain.
+    pub fn domain(&self) -> &Domain
+        ensures { result.now ≡ self.now.domain }
+    {
+        self.table.domain()
+    }
+
+    /// How much it takes.
+    pub fn limits(&self) -> Limits
+        ensures { result ≡ self.now.limits }
+    {
+        self.limits
+    }
+
+    /// The commands that it accepted, in their order.
+    pub fn history(&self) -> &[Command]
+        ensures { result.now ≡ self.now.history }
+    {
+        self.history.as_slice()
+    }
+
+    /// The number of the last accepted command: how many there were.
+    pub fn serial(&self) -> Serial
+        ensures { result ≡ length self.now.history }
+    {
+        Serial::new(self.history.len() as u32)
+    }
+
+    /// The number of the next command that it accepts.
+    fn next_serial(&self) -> Serial
+        requires { length self.now.history < 65536 }
+        ensures { result ≡ next_serial self.now }
+    {
+        Serial::new(self.history.len() as u32 + 1)
+    }
+
+    /// Whether it accepted as many commands as it may.
+    fn is_history_full(&self) -> bool
+        ensures value { result ≡ is_history_full self.now }
+        ensures room { OnFalse result (length self.now.history < 65536) }
+    {
+        self.history.len() >= self.limits.history() as usize
+    }
+
+    /// What stands against a contract before the checker is asked.
+    fn room_refusal(&self, contract: &Contract) -> Option<BrokerRefusal>
+        ensures value { result ≡ room_refusal self.now contract.now }
+        ensures room { IfNone result (length self.now.history < 65536) }
+    {
+        if let Some(fault) = self.contract_fault(contract) {
+            Some(BrokerRefusal::Contract(fault))
+        } else if self.ids.len() >= self.limits.table() as usize {
+            Some(BrokerRefusal::TableFull)
+        } else if self.is_history_full() {
+            Some(BrokerRefusal::HistoryFull)
+        } else {
+            None
+        }
+    }
+
+    /// What is wrong with a contract that is to be reserved.
+    fn contract_fault(&self, contract: &Contract) -> Option<DomainFault>
+        ensures { result ≡ contract_fault self.now contract.now }
+    {
+        if self.names.contains(&contract.name) {
+            Some(fault(Kind::Twice, Field::Name))
+        } else if self.ends_early(contract.lifetime) {
+            Some(fault(Kind::Range, Field::Until))
+        } else {
+            fits(self.table.domain(), contract).err()
+        }
+    }
+
+    /// Whether a contract of that lifetime would end before it begins.
+    fn ends_early(&self, lifetime: Lifetime) -> bool
+        ensures { result ≡ ends_early (moment_in self.now lifetime.since) lifetime.until }
+    {
+        let since = self.newest.max(lifetime.since());
+        lifetime.until().is_some_and(|until| until < since)
+    }
+
+    /// The place of the contract of an id among those that are held, and whether it is released.
+    fn find(&self, id: u32) -> Option<(usize, bool)>
+        ensures found { IfSome result (λ found. IsFound id (held_of self.now) found.0 found.1) }
+        ensures missing { IfNone result (holding_of id (held_of self.now) ≡ None) }
+    {
+        let (place, _, released) = self.ids.get_full(&id)?;
+        Some((place, *released))
+    }
+
+    /// The lifetime of the contract at a place once it is released at a moment.
+    fn ended(&self, place: usize, moment: Moment) -> Lifetime
+        requires place { place < length (held_of self.now) }
+        requires later { newest_of self.now ≤ moment }
+        ensures { (h : Holding) → slice_get (held_of self.now) place ≡ Some h →
+            result ≡ (ended moment h.contract).lifetime }
+    {
+        let lifetime = self.table.contracts()[place].lifetime;
+        let until = end_by(moment, lifetime.until());
+        Lifetime::new(lifetime.since(), Some(until)).unwrap()
+    }
+
+    /// How much of the hold of the contract at a place is left at a moment, in nanoseconds; 0 where it has passed. The
+    /// contract has ended by then.
+    fn hold_left(&self, place: usize, moment: Moment) -> u128
+        requires place { place < length (held_of self.now) }
+        requires over { (h : Holding) → slice_get (held_of self.now) place ≡ Some h →
+            unwrap_or h.contract.lifetime.until 0 ≤ moment }
+        ensures { (h : Holding) → slice_get (held_of self.now) place ≡ Some h →
+            result ≡ free_from self.now.domain h.contract - moment }
+    {
+        let end = end_of(self.table.contracts()[place].lifetime);
+        let passed = u128::from(moment.get() - end);
+        self.table.hold(place).saturating_sub(passed)
+    }
+}
+
+/// A fault of a contract at a field.
+fn fault(kind: Kind, field: Field) -> DomainFault
+    ensures { result ≡ fault_at kind Section.Contract 0 field }
+{
+    DomainFault::new(kind, Section::Contract, 0, field)
+}
+
+/// An end at a moment, or an earlier one.
+fn end_by(moment: Moment, until: Option<Moment>) -> Moment
+    ensures { result ≡ end_by moment until }
+{
+    match until {
+        Some(end) => end.min(moment),
+        None => moment,
+    }
+}
+
+/// The end of a lifetime, in nanoseconds; 0 where it has none.
+fn end_of(lifetime: Lifetime) -> u64
+    ensures { result ≡ unwrap_or lifetime.until 0 }
+{
+    match lifetime.until() {
+        Some(end) => end.get(),
+        None => 0,
+    }
+}
+
+/// What is told of a contract of an id.
+fn entry_of(id: u32, contract: &Contract) -> Entry
+    ensures { result ≡ record {
+      id = id;
+      name = contract.now.name;
+      since = contract.now.lifetime.since;
+      until = contract.now.lifetime.until;
+    } }
+{
+    Entry {
+        id,
+        name: contract.name,
+        since: contract.lifetime.since(),
+        until: contract.lifetime.until(),
+    }
+}
+
+/// What is told of contracts by their ids, in their order; `AllocError` where memory runs out.
+fn entries(
+    alloc: Global,
+    ids: &IndexMap<u32, bool>,
+    contracts: &[Contract],
+) -> Result<Vec<Entry>, AllocError>
+    ensures { IfOk result (λ entries. entries.items ≡ told_of ids.now.entries contracts.now) }
+{
+    let mut entries = Vec::with_capacity(alloc, contracts.len())?;
+    for ((id, _), contract) in ids.iter().zip(contracts) {
+        entries.push(entry_of(*id, contract))?;
+    }
+    Ok(entries)
+}
+
+/// Makes room for one contract and one command more.
+fn make_room(
+    ids: &mut IndexMap<u32, bool>,
+    names: &mut IndexSet<Name>,
+    history: &mut Vec<Command>,
+) -> Result<(), AllocError>
+    ensures ids { ids.new.entries ≡ ids.old.entries }
+    ensures names { names.new.keys ≡ names.old.keys }
+    ensures history { history.new.items ≡ history.old.items }
+    ensures id_room { OnOk result (1 ≤ map_spare ids.new) }
+    ensures name_room { OnOk result (1 ≤ set_spare names.new) }
+    ensures command_room { OnOk result (vec_len history.new + 1 ≤ vec_capacity history.new) }
+{
+    ids.reserve(1)?;
+    names.reserve(1)?;
+    history.reserve(1)?;
+    Ok(())
+}
+
+/// Takes a contract up in a table, to begin at a moment, with its least bounds. The table is unchanged where it is refused:
+/// by the checker, or where memory runs out.
+fn admit(
+    alloc: Global,
+    table: &mut Accepted,
+    contract: &Contract,
+    since: Moment,
+) -> Result<(), BrokerRefusal>
+    requires { IsInOrder since contract.now.lifetime.until }
+    ensures admitted { OnOk result (table.new ≡ table_with since contract.now table.old) }
+    ensures acceptable { OnOk result (IsAcceptable table.new) }
+    ensures unrefused { OnOk result (refusal_of (table_with since contract.now table.old) ≡ None) }
+    ensures unchanged { OnErr result (table.new ≡ table.old) }
+    ensures refused { IfErr result (λ refusal. (refusal ≡ BrokerRefusal.NoMemory)
+        ⊎ (option_map BrokerRefusal.Checker (refusal_of (table_with since contract.now table.old)) ≡ Some refusal)) }
+{
+    let Ok(mut begun) = contract.copy(alloc) else {
+        return Err(BrokerRefusal::NoMemory);
+    };
+    begun.lifetime = Lifetime::new(since, contract.lifetime.until()).unwrap();
+    let Ok(bounds) = bounds_of(alloc, table.domain(), &begun) else {
+        return Err(BrokerRefusal::NoMemory);
+    };
+    let refused = match table.admit(begun, bounds) {
+        Ok(()) => return Ok(()),
+        Err(refused) => refused,
+    };
+    let (_contract, _bounds, refusal) = refused;
+    Err(BrokerRefusal::from(refusal))
+}

@@ -1,0 +1,209 @@
+use crate::books::{opened, released, reserved, retired};
+use ds_broker::{BrokerRefusal, Limits};
+use ds_checker::Refusal;
+use ds_domain_base::{DomainFault, Field, Kind, Name, Section};
+use std::test::Fail;
+
+/// The domain of three contracts over a meter that is told in a few words. The text is examples/tight_burst.toml with
+/// `meter` in place of its own: 16 Mbit/s and 4,500 bytes there.
+const TIGHT: &str = r#"
+meter = [{ name = "m", kind = "trtcm", cir = 16000000, cbs = 4500, pir = 16000000, pbs = 4500, skew = 500000 }]
+port = [{ name = "p", skew = 0 }]
+link = [{ from = "p", to = "m", floor = 0, jitter = 1000000 }]
+contract = [
+    { name = "a", kind = "trusted", port = "p", path = ["m"], class = 1, cir = 8000000, cbs = 3000, src = "10.0.0.0/24" },
+    { name = "b", kind = "trusted", port = "p", path = ["m"], class = 2, cir = 8000000, cbs = 3000, src = "10.0.1.0/24" },
+]
+"#;
+
+/// The same with 24 Mbit/s and 13,500 bytes, as in examples/three_trusted.toml.
+const WIDE: &str = r#"
+meter = [{ name = "m", kind = "trtcm", cir = 24000000, cbs = 13500, pir = 24000000, pbs = 13500, skew = 500000 }]
+port = [{ name = "p", skew = 0 }]
+link = [{ from = "p", to = "m", floor = 0, jitter = 1000000 }]
+contract = [
+    { name = "a", kind = "trusted", port = "p", path = ["m"], class = 1, cir = 8000000, cbs = 3000, src = "10.0.0.0/24" },
+    { name = "b", kind = "trusted", port = "p", path = ["m"], class = 2, cir = 8000000, cbs = 3000, src = "10.0.1.0/24" },
+]
+"#;
+
+/// A meter of a single rate, a contract without a peak, and one with a peak.
+const SINGLE_RATE: &str = r#"
+meter = [{ name = "m", kind = "srtcm", cir = 24000, cbs = 2000, ebs = 1000, skew = 0 }]
+port = [{ name = "p", skew = 0 }]
+link = [{ from = "p", to = "m", floor = 0, jitter = 0 }]
+contract = [
+    { name = "a", kind = "trusted", port = "p", path = ["m"], class = 1, cir = 8000, cbs = 1001, src = "10.0.0.0/24" },
+    { name = "b", kind = "trusted", port = "p", path = ["m"], class = 2, cir = 8000, cbs = 100, pir = 8000, pbs = 100, src = "10.0.1.0/24" },
+]
+"#;
+
+#[test]
+fn a_share_is_sold_anew_when_its_hold_has_passed(rt: HostRuntime) -> Result<(), Fail> {
+    let alloc = rt.alloc();
+    let (mut book, contracts) = opened(alloc, TIGHT, 4096, 65_536)?;
+    let contracts = contracts.as_slice();
+    assert_eq!(rt;
+        reserved(alloc, &mut book, contracts, 0)?.ok(),
+        Some((1, 1, 0))
+    );
+    assert_eq!(rt; released(&mut book, 1, 1_000_000_000)?.ok(), Some(2));
+    let full = Refusal::GreenBurst {
+        meter: Name::new("m")?,
+        needed: 9000,
+        available: 4500,
+    };
+    assert_eq!(rt;
+        reserved(alloc, &mut book, contracts, 1)?.err(),
+        Some(BrokerRefusal::Checker(full))
+    );
+    assert_eq!(rt;
+        retired(&mut book, 1, 1_005_999_999)?.err(),
+        Some(BrokerRefusal::HoldLeft(1))
+    );
+    assert_eq!(rt; retired(&mut book, 1, 1_006_000_000)?.ok(), Some(3));
+    assert_eq!(rt;
+        reserved(alloc, &mut book, contracts, 1)?.ok(),
+        Some((2, 4, 1_006_000_000))
+    );
+    let list = book.list(alloc)?;
+    assert_eq!(rt; list.len(), 1);
+    let entry = *list.as_slice().first().ok_or("nothing is listed")?;
+    assert_eq!(rt; entry.id, 2);
+    assert_eq!(rt; entry.name, Name::new("b")?);
+    assert_eq!(rt; entry.since.get(), 1_006_000_000);
+    assert_eq!(rt; entry.until, None);
+    assert_eq!(rt; book.entry(2), Some(entry));
+    assert_eq!(rt; book.entry(1), None);
+    assert_eq!(rt;
+        retired(&mut book, 1, 0)?.err(),
+        Some(BrokerRefusal::UnknownId)
+    );
+    assert_eq!(rt;
+        retired(&mut book, 2, 0)?.err(),
+        Some(BrokerRefusal::NotReleased)
+    );
+    assert_eq!(rt; book.serial().get(), 4);
+    assert_eq!(rt; book.history().len(), 4);
+    assert_eq!(rt; book.table().contracts().len(), 1);
+    assert_eq!(rt; book.room().table, 4095);
+    assert_eq!(rt; book.room().history, 65_532);
+    Ok(())
+}
+
+#[test]
+fn commands_that_name_nothing_are_refused(rt: HostRuntime) -> Result<(), Fail> {
+    let alloc = rt.alloc();
+    let (mut book, contracts) = opened(alloc, WIDE, 4096, 65_536)?;
+    let contracts = contracts.as_slice();
+    assert_eq!(rt;
+        reserved(alloc, &mut book, contracts, 0)?.ok(),
+        Some((1, 1, 0))
+    );
+    assert_eq!(rt; released(&mut book, 1, 5)?.ok(), Some(2));
+    assert_eq!(rt;
+        released(&mut book, 1, 7)?.err(),
+        Some(BrokerRefusal::AlreadyReleased)
+    );
+    assert_eq!(rt;
+        released(&mut book, 9, 7)?.err(),
+        Some(BrokerRefusal::UnknownId)
+    );
+    let twice = DomainFault::new(Kind::Twice, Section::Contract, 0, Field::Name);
+    assert_eq!(rt;
+        reserved(alloc, &mut book, contracts, 0)?.err(),
+        Some(BrokerRefusal::Contract(twice))
+    );
+    Ok(())
+}
+
+#[test]
+fn a_full_table_takes_no_contract(rt: HostRuntime) -> Result<(), Fail> {
+    let alloc = rt.alloc();
+    let (mut book, contracts) = opened(alloc, WIDE, 1, 65_536)?;
+    let contracts = contracts.as_slice();
+    assert_eq!(rt;
+        reserved(alloc, &mut book, contracts, 0)?.ok(),
+        Some((1, 1, 0))
+    );
+    assert_eq!(rt;
+        reserved(alloc, &mut book, contracts, 1)?.err(),
+        Some(BrokerRefusal::TableFull)
+    );
+    Ok(())
+}
+
+#[test]
+fn a_full_history_takes_no_command(rt: HostRuntime) -> Result<(), Fail> {
+    let alloc = rt.alloc();
+    let (mut book, contracts) = opened(alloc, WIDE, 4096, 1)?;
+    let contracts = contracts.as_slice();
+    assert_eq!(rt;
+        reserved(alloc, &mut book, contracts, 0)?.ok(),
+        Some((1, 1, 0))
+    );
+    assert_eq!(rt;
+        released(&mut book, 1, 5)?.err(),
+        Some(BrokerRefusal::HistoryFull)
+    );
+    assert_eq!(rt;
+        released(&mut book, 9, 5)?.err(),
+        Some(BrokerRefusal::UnknownId)
+    );
+    assert_eq!(rt;
+        reserved(alloc, &mut book, contracts, 1)?.err(),
+        Some(BrokerRefusal::HistoryFull)
+    );
+    Ok(())
+}
+
+#[test]
+fn yellow_packets_of_one_are_counted_with_green_ones_of_all(rt: HostRuntime) -> Result<(), Fail> {
+    let alloc = rt.alloc();
+    let (mut book, contracts) = opened(alloc, SINGLE_RATE, 4096, 65_536)?;
+    let contracts = contracts.as_slice();
+    assert_eq!(rt;
+        reserved(alloc, &mut book, contracts, 0)?.ok(),
+        Some((1, 1, 0))
+    );
+    let full = Refusal::AllBurst {
+        meter: Name::new("m")?,
+        needed: 1101,
+        available: 1000,
+    };
+    assert_eq!(rt;
+        reserved(alloc, &mut book, contracts, 1)?.err(),
+        Some(BrokerRefusal::Checker(full))
+    );
+    Ok(())
+}
+
+#[test]
+fn the_last_moment_is_kept(rt: HostRuntime) -> Result<(), Fail> {
+    let alloc = rt.alloc();
+    let (mut book, contracts) = opened(alloc, WIDE, 4096, 65_536)?;
+    let contracts = contracts.as_slice();
+    assert_eq!(rt;
+        reserved(alloc, &mut book, contracts, 0)?.ok(),
+        Some((1, 1, 0))
+    );
+    assert_eq!(rt;
+        released(&mut book, 1, 9_223_372_036_854_775_807)?.ok(),
+        Some(2)
+    );
+    let granted = reserved(alloc, &mut book, contracts, 1)?.ok();
+    assert_eq!(rt; granted, Some((2, 3, 9_223_372_036_854_775_807)));
+    Ok(())
+}
+
+#[test]
+fn limits_stay_within_a_book(rt: HostRuntime) -> Result<(), Fail> {
+    assert!(rt; Limits::new(0, 1).is_err());
+    assert!(rt; Limits::new(1, 0).is_err());
+    assert!(rt; Limits::new(4097, 1).is_err());
+    assert!(rt; Limits::new(1, 65_537).is_err());
+    assert_eq!(rt; Limits::new(4096, 65_536)?.table(), 4096);
+    assert_eq!(rt; Limits::new(4096, 65_536)?.history(), 65_536);
+    assert_eq!(rt; BrokerRefusal::HoldLeft(1).code(), 9);
+    Ok(())
+}
