@@ -23,7 +23,6 @@ checked : (o : Option Refusal) (refusal : Refusal) → option_map Checker o ≡ 
 checked None refusal is = cc
 checked (Some other) refusal is = cc
 
-
 -- what stands against a contract before the checker is asked is no refusal by the checker
 no_checker : (o : Option DomainFault) (full long : Bool) (refusal : Refusal)
     → fault_or o (if full then Some TableFull else if long then Some HistoryFull else None) ≡ Some (Checker refusal) → ⊥

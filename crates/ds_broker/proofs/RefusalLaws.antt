@@ -1,5 +1,5 @@
 -- What stands against a command, test by test.
-use Rattle.std.proofs.Common.{◌≡◌, ◌≤◌, ◌-◌, ℕ, Bool, true, false, Option, None, Some, Result, Ok, Err, refl, sym, ap, ◌∙◌, arith}
+use Rattle.std.proofs.Common.{◌≡◌, ◌≤◌, ℕ, Bool, true, false, Option, None, Some, Result, Ok, Err, refl, sym, arith}
 use Rattle.std.specs.Prelude.{MatchResult, nat_lt, if◌then◌else◌}
 use Rattle.std.specs.Result.{result_err}
 use Rattle.ds_domain_base.specs.Faults.{fault_at}
@@ -54,7 +54,7 @@ pub passed : (b : Book) (c : Contract) → room_refusal b c ≡ None → IsPasse
 passed b c none =
     let all = no_refusal (contract_fault b c) (is_table_full b) (is_history_full b) none in
     let fine = no_fault (is_held c.name (held_of b)) (ends_early (moment_in b c.lifetime.since) c.lifetime.until) (fault_at kinds.Twice sections.Contract 0 fields.Name)
-        (fault_at kinds.Range sections.Contract 0 fields.Until) (way_fault 0 b.domain c.port c.path) all.0 in
+    (fault_at kinds.Range sections.Contract 0 fields.Until) (way_fault 0 b.domain c.port c.path) all.0 in
     record { new = fine.0; ordered = fine.1; way = fine.2; table = all.1; history = all.2 }
 
 above : (since until : ℕ) → nat_lt until since ≡ false → since ≤ until

@@ -43,17 +43,29 @@ fn a_share_is_sold_anew_when_its_hold_has_passed(rt: HostRuntime) -> Result<(), 
     let alloc = rt.alloc();
     let (mut book, contracts) = opened(alloc, TIGHT, 4096, 65_536)?;
     let contracts = contracts.as_slice();
-    assert_eq!(rt; reserved(alloc, &mut book, contracts, 0)?.ok(), Some((1, 1, 0)));
+    assert_eq!(rt;
+        reserved(alloc, &mut book, contracts, 0)?.ok(),
+        Some((1, 1, 0))
+    );
     assert_eq!(rt; released(&mut book, 1, 1_000_000_000)?.ok(), Some(2));
     let full = Refusal::GreenBurst {
         meter: Name::new("m")?,
         needed: 9000,
         available: 4500,
     };
-    assert_eq!(rt; reserved(alloc, &mut book, contracts, 1)?.err(), Some(BrokerRefusal::Checker(full)));
-    assert_eq!(rt; retired(&mut book, 1, 1_005_999_999)?.err(), Some(BrokerRefusal::HoldLeft(1)));
+    assert_eq!(rt;
+        reserved(alloc, &mut book, contracts, 1)?.err(),
+        Some(BrokerRefusal::Checker(full))
+    );
+    assert_eq!(rt;
+        retired(&mut book, 1, 1_005_999_999)?.err(),
+        Some(BrokerRefusal::HoldLeft(1))
+    );
     assert_eq!(rt; retired(&mut book, 1, 1_006_000_000)?.ok(), Some(3));
-    assert_eq!(rt; reserved(alloc, &mut book, contracts, 1)?.ok(), Some((2, 4, 1_006_000_000)));
+    assert_eq!(rt;
+        reserved(alloc, &mut book, contracts, 1)?.ok(),
+        Some((2, 4, 1_006_000_000))
+    );
     let list = book.list(alloc)?;
     assert_eq!(rt; list.len(), 1);
     let entry = *list.as_slice().first().ok_or("nothing is listed")?;
@@ -63,8 +75,14 @@ fn a_share_is_sold_anew_when_its_hold_has_passed(rt: HostRuntime) -> Result<(), 
     assert_eq!(rt; entry.until, None);
     assert_eq!(rt; book.entry(2), Some(entry));
     assert_eq!(rt; book.entry(1), None);
-    assert_eq!(rt; retired(&mut book, 1, 0)?.err(), Some(BrokerRefusal::UnknownId));
-    assert_eq!(rt; retired(&mut book, 2, 0)?.err(), Some(BrokerRefusal::NotReleased));
+    assert_eq!(rt;
+        retired(&mut book, 1, 0)?.err(),
+        Some(BrokerRefusal::UnknownId)
+    );
+    assert_eq!(rt;
+        retired(&mut book, 2, 0)?.err(),
+        Some(BrokerRefusal::NotReleased)
+    );
     assert_eq!(rt; book.serial().get(), 4);
     assert_eq!(rt; book.history().len(), 4);
     assert_eq!(rt; book.table().contracts().len(), 1);
@@ -78,12 +96,24 @@ fn commands_that_name_nothing_are_refused(rt: HostRuntime) -> Result<(), Fail> {
     let alloc = rt.alloc();
     let (mut book, contracts) = opened(alloc, WIDE, 4096, 65_536)?;
     let contracts = contracts.as_slice();
-    assert_eq!(rt; reserved(alloc, &mut book, contracts, 0)?.ok(), Some((1, 1, 0)));
+    assert_eq!(rt;
+        reserved(alloc, &mut book, contracts, 0)?.ok(),
+        Some((1, 1, 0))
+    );
     assert_eq!(rt; released(&mut book, 1, 5)?.ok(), Some(2));
-    assert_eq!(rt; released(&mut book, 1, 7)?.err(), Some(BrokerRefusal::AlreadyReleased));
-    assert_eq!(rt; released(&mut book, 9, 7)?.err(), Some(BrokerRefusal::UnknownId));
+    assert_eq!(rt;
+        released(&mut book, 1, 7)?.err(),
+        Some(BrokerRefusal::AlreadyReleased)
+    );
+    assert_eq!(rt;
+        released(&mut book, 9, 7)?.err(),
+        Some(BrokerRefusal::UnknownId)
+    );
     let twice = DomainFault::new(Kind::Twice, Section::Contract, 0, Field::Name);
-    assert_eq!(rt; reserved(alloc, &mut book, contracts, 0)?.err(), Some(BrokerRefusal::Contract(twice)));
+    assert_eq!(rt;
+        reserved(alloc, &mut book, contracts, 0)?.err(),
+        Some(BrokerRefusal::Contract(twice))
+    );
     Ok(())
 }
 
@@ -92,8 +122,14 @@ fn a_full_table_takes_no_contract(rt: HostRuntime) -> Result<(), Fail> {
     let alloc = rt.alloc();
     let (mut book, contracts) = opened(alloc, WIDE, 1, 65_536)?;
     let contracts = contracts.as_slice();
-    assert_eq!(rt; reserved(alloc, &mut book, contracts, 0)?.ok(), Some((1, 1, 0)));
-    assert_eq!(rt; reserved(alloc, &mut book, contracts, 1)?.err(), Some(BrokerRefusal::TableFull));
+    assert_eq!(rt;
+        reserved(alloc, &mut book, contracts, 0)?.ok(),
+        Some((1, 1, 0))
+    );
+    assert_eq!(rt;
+        reserved(alloc, &mut book, contracts, 1)?.err(),
+        Some(BrokerRefusal::TableFull)
+    );
     Ok(())
 }
 
@@ -102,10 +138,22 @@ fn a_full_history_takes_no_command(rt: HostRuntime) -> Result<(), Fail> {
     let alloc = rt.alloc();
     let (mut book, contracts) = opened(alloc, WIDE, 4096, 1)?;
     let contracts = contracts.as_slice();
-    assert_eq!(rt; reserved(alloc, &mut book, contracts, 0)?.ok(), Some((1, 1, 0)));
-    assert_eq!(rt; released(&mut book, 1, 5)?.err(), Some(BrokerRefusal::HistoryFull));
-    assert_eq!(rt; released(&mut book, 9, 5)?.err(), Some(BrokerRefusal::UnknownId));
-    assert_eq!(rt; reserved(alloc, &mut book, contracts, 1)?.err(), Some(BrokerRefusal::HistoryFull));
+    assert_eq!(rt;
+        reserved(alloc, &mut book, contracts, 0)?.ok(),
+        Some((1, 1, 0))
+    );
+    assert_eq!(rt;
+        released(&mut book, 1, 5)?.err(),
+        Some(BrokerRefusal::HistoryFull)
+    );
+    assert_eq!(rt;
+        released(&mut book, 9, 5)?.err(),
+        Some(BrokerRefusal::UnknownId)
+    );
+    assert_eq!(rt;
+        reserved(alloc, &mut book, contracts, 1)?.err(),
+        Some(BrokerRefusal::HistoryFull)
+    );
     Ok(())
 }
 
@@ -114,13 +162,19 @@ fn yellow_packets_of_one_are_counted_with_green_ones_of_all(rt: HostRuntime) -> 
     let alloc = rt.alloc();
     let (mut book, contracts) = opened(alloc, SINGLE_RATE, 4096, 65_536)?;
     let contracts = contracts.as_slice();
-    assert_eq!(rt; reserved(alloc, &mut book, contracts, 0)?.ok(), Some((1, 1, 0)));
+    assert_eq!(rt;
+        reserved(alloc, &mut book, contracts, 0)?.ok(),
+        Some((1, 1, 0))
+    );
     let full = Refusal::AllBurst {
         meter: Name::new("m")?,
         needed: 1101,
         available: 1000,
     };
-    assert_eq!(rt; reserved(alloc, &mut book, contracts, 1)?.err(), Some(BrokerRefusal::Checker(full)));
+    assert_eq!(rt;
+        reserved(alloc, &mut book, contracts, 1)?.err(),
+        Some(BrokerRefusal::Checker(full))
+    );
     Ok(())
 }
 
@@ -129,8 +183,14 @@ fn the_last_moment_is_kept(rt: HostRuntime) -> Result<(), Fail> {
     let alloc = rt.alloc();
     let (mut book, contracts) = opened(alloc, WIDE, 4096, 65_536)?;
     let contracts = contracts.as_slice();
-    assert_eq!(rt; reserved(alloc, &mut book, contracts, 0)?.ok(), Some((1, 1, 0)));
-    assert_eq!(rt; released(&mut book, 1, 9_223_372_036_854_775_807)?.ok(), Some(2));
+    assert_eq!(rt;
+        reserved(alloc, &mut book, contracts, 0)?.ok(),
+        Some((1, 1, 0))
+    );
+    assert_eq!(rt;
+        released(&mut book, 1, 9_223_372_036_854_775_807)?.ok(),
+        Some(2)
+    );
     let granted = reserved(alloc, &mut book, contracts, 1)?.ok();
     assert_eq!(rt; granted, Some((2, 3, 9_223_372_036_854_775_807)));
     Ok(())
