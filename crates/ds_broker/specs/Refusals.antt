@@ -25,8 +25,8 @@ abbrev pub ends_early : ℕ → Option ℕ → Bool
 ends_early since None = false
 ends_early since (Some until) = nat_lt until since
 
--- what is wrong with a contract that is to be reserved: its name is held, or its end is before its beginning, or its way
--- is not in the domain
+-- what is wrong with a contract that is to be reserved: its name is held, or its end is before its beginning, or its
+-- way is not in the domain
 abbrev pub contract_fault : Book → Contract → Option DomainFault
 contract_fault b c =
     if is_held c.name (held_of b) then
@@ -83,13 +83,16 @@ free_from d c = unwrap_or c.lifetime.until 0 + hold_of d c (least_of d c)
 abbrev pub hold_left : ℕ → ℕ → Option BrokerRefusal
 hold_left moment end = if nat_lt moment end then Some (refusals.HoldLeft (end - moment)) else None
 
--- what stands against a retire: nothing is held under its id, or it is not released, or the history is full, or a part of
--- its hold is left
+-- what stands against a retire: nothing is held under its id, or it is not released, or the history is full, or a part
+-- of its hold is left
 abbrev pub retire_refusal_at : Book → ℕ → Option Holding → Option BrokerRefusal
 retire_refusal_at b moment None = Some refusals.UnknownId
 retire_refusal_at b moment (Some h) =
     if h.released then
-    if is_history_full b then Some refusals.HistoryFull else hold_left (moment_in b moment) (free_from b.domain h.contract)
+    if is_history_full b then
+    Some refusals.HistoryFull
+    else
+    hold_left (moment_in b moment) (free_from b.domain h.contract)
     else
     Some refusals.NotReleased
 
