@@ -4,15 +4,14 @@ use ds_checker::Refusal;
 use ds_domain_base::{DomainFault, Field, Kind, Name, Section};
 use std::test::Fail;
 
-/// The domain of three contracts over a meter that is told in a few words. The text is examples/tight_burst.toml with
-/// `meter` in place of its own: 16 Mbit/s and 4,500 bytes there.
+/// The domain of examples/tight_burst.toml, a meter of 16 Mbit/s and 4,500 bytes, with two of its contracts.
 const TIGHT: &str = r#"
 meter = [{ name = "m", kind = "trtcm", cir = 16000000, cbs = 4500, pir = 16000000, pbs = 4500, skew = 500000 }]
 port = [{ name = "p", skew = 0 }]
 link = [{ from = "p", to = "m", floor = 0, jitter = 1000000 }]
 contract = [
-    { name = "a", kind = "trusted", port = "p", path = ["m"], class = 1, cir = 8000000, cbs = 3000, src = "10.0.0.0/24" },
-    { name = "b", kind = "trusted", port = "p", path = ["m"], class = 2, cir = 8000000, cbs = 3000, src = "10.0.1.0/24" },
+{ name = "a", kind = "trusted", port = "p", path = ["m"], class = 1, cir = 8000000, cbs = 3000, src = "10.0.0.0/24" },
+{ name = "b", kind = "trusted", port = "p", path = ["m"], class = 2, cir = 8000000, cbs = 3000, src = "10.0.1.0/24" },
 ]
 "#;
 
@@ -22,8 +21,8 @@ meter = [{ name = "m", kind = "trtcm", cir = 24000000, cbs = 13500, pir = 240000
 port = [{ name = "p", skew = 0 }]
 link = [{ from = "p", to = "m", floor = 0, jitter = 1000000 }]
 contract = [
-    { name = "a", kind = "trusted", port = "p", path = ["m"], class = 1, cir = 8000000, cbs = 3000, src = "10.0.0.0/24" },
-    { name = "b", kind = "trusted", port = "p", path = ["m"], class = 2, cir = 8000000, cbs = 3000, src = "10.0.1.0/24" },
+{ name = "a", kind = "trusted", port = "p", path = ["m"], class = 1, cir = 8000000, cbs = 3000, src = "10.0.0.0/24" },
+{ name = "b", kind = "trusted", port = "p", path = ["m"], class = 2, cir = 8000000, cbs = 3000, src = "10.0.1.0/24" },
 ]
 "#;
 
@@ -32,10 +31,28 @@ const SINGLE_RATE: &str = r#"
 meter = [{ name = "m", kind = "srtcm", cir = 24000, cbs = 2000, ebs = 1000, skew = 0 }]
 port = [{ name = "p", skew = 0 }]
 link = [{ from = "p", to = "m", floor = 0, jitter = 0 }]
-contract = [
-    { name = "a", kind = "trusted", port = "p", path = ["m"], class = 1, cir = 8000, cbs = 1001, src = "10.0.0.0/24" },
-    { name = "b", kind = "trusted", port = "p", path = ["m"], class = 2, cir = 8000, cbs = 100, pir = 8000, pbs = 100, src = "10.0.1.0/24" },
-]
+
+[[contract]]
+name = "a"
+kind = "trusted"
+port = "p"
+path = ["m"]
+class = 1
+cir = 8000
+cbs = 1001
+src = "10.0.0.0/24"
+
+[[contract]]
+name = "b"
+kind = "trusted"
+port = "p"
+path = ["m"]
+class = 2
+cir = 8000
+cbs = 100
+pir = 8000
+pbs = 100
+src = "10.0.1.0/24"
 "#;
 
 #[test]
