@@ -1,4 +1,5 @@
-ghost use Rattle.std.specs.Prelude.{◌≡◌, ◌+◌, length};
+ghost use Rattle.std.specs.Prelude.{◌≡◌, ◌+◌, All, IsTrue, Some, length};
+ghost use Rattle.meter_fabric_base.specs.Travels.{next_site};
 
 use crate::tables::{EDGE, METER, fit, opened, packet, policed, visit};
 use ds_checker::Accepted;
@@ -108,6 +109,18 @@ fn an_edge_is_shut(rt: HostRuntime) -> Result<(), Fail> {
     shuts::<Brand, _>(&rt, rt.alloc(), &accepted, blank)
 }
 
+/// Whether visits are to one site, all of them.
+fn come_to(visits: &[Visit], site: u32) -> bool
+    ensures { IsTrue result → All (λ visit. next_site visit.traveller ≡ Some site) visits.now }
+{
+    for visit in visits {
+        if visit.traveller.next_site() != Some(site) {
+            return false;
+        }
+    }
+    true
+}
+
 /// Expects what comes of three visits under one lock, of which the second comes too early and the third finds no room.
 fn several<L: FabricLedger, R: Wait + Abort>(
     rt: &R,
@@ -127,10 +140,8 @@ fn several<L: FabricLedger, R: Wait + Abort>(
     for (number, moment) in [(1, 10), (2, 9), (3, 10)] {
         visits.push(Visit::at(packet(alloc, accepted, number)?, Moment::new(moment)?))?;
     }
-    for visit in &visits {
-        if visit.traveller.next_site() != Some(EDGE) {
-            return Err(Fail::from("another site"));
-        }
+    if !come_to(visits.as_slice(), EDGE) {
+        return Err(Fail::from("another site"));
     }
     fabric.visit_all(rt, &mut pass, EDGE, visits.as_mut_slice());
     let mut codes = Vec::with_capacity(alloc, 3)?;
