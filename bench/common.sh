@@ -11,6 +11,11 @@ build() {
     mkdir -p "$folder/crates/${name}_bench/src"
     # it stands under another ending here, since the gate wants each .rt file in a crate
     cp "$bench/$name/main.rattle" "$folder/crates/${name}_bench/src/main.rt"
+    # which ledger its call picks, where it makes one
+    if [ -e "$bench/$name/picks" ]; then
+        mkdir -p "$folder/crates/${name}_bench/proofs/told"
+        cp "$bench/$name/picks" "$folder/crates/${name}_bench/proofs/told/Invariants.antt"
+    fi
     echo "${name}_bench: $*" >> "$folder/crates.txt"
     echo "$name: rt proves and builds the program, which takes some minutes where the crates are not built" >&2
     # the run itself ends with status 2, since it is given no words
