@@ -59,7 +59,13 @@ fn expect_both(rt: &impl Abort, alloc: Global, piece: usize) -> Result<(), Fail>
         tagged,
         (1_500_000_000, Some(18)),
     );
-    expect_frame(rt, &frames[1], LinkType::Ethernet, other, (2_000_000_000, None));
+    expect_frame(
+        rt,
+        &frames[1],
+        LinkType::Ethernet,
+        other,
+        (2_000_000_000, None),
+    );
     Ok(())
 }
 

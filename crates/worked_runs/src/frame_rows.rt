@@ -36,7 +36,11 @@ fn expect_marked(
     wanted: &str,
 ) -> Result<(), Fail> {
     let mut frame = capture(alloc, &[frame])?;
-    mark_frame(LinkType::Ethernet, frame.as_mut_slice(), Dscp::new(code_point)?);
+    mark_frame(
+        LinkType::Ethernet,
+        frame.as_mut_slice(),
+        Dscp::new(code_point)?,
+    );
     let wanted = capture(alloc, &[wanted])?;
     assert_eq!(rt; frame.as_slice(), wanted.as_slice());
     Ok(())
@@ -59,7 +63,10 @@ fn expect_sight(
     wanted: Sight,
 ) -> Result<(), Fail> {
     let frame = capture(alloc, &[frame])?;
-    assert_eq!(rt; classifier.sight(LinkType::Ethernet, frame.as_slice()), wanted);
+    assert_eq!(rt;
+        classifier.sight(LinkType::Ethernet, frame.as_slice()),
+        wanted
+    );
     Ok(())
 }
 
