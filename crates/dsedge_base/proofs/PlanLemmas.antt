@@ -12,7 +12,7 @@ use Rattle.clap.specs.declared.error.kind.ErrorKind.TheVariants.{DisplayHelp, Di
 use Rattle.clap.proofs.OnLiterals.{clap_on_literals}
 use Rattle.dsedge_base.specs.CommandLine.{dsedge}
 use Rattle.dsedge_base.specs.Options.{Given, envelope_given, marking_given, meter_given, table_given, ◌>>=◌}
-use Rattle.dsedge_base.specs.Plans.{IsPlanOf, IsRefusalOf, IsShown, IsWellFormed, IsWish, asked_by, given_by, mark_given, plan_of}
+use Rattle.dsedge_base.specs.Plans.{IsMalformed, IsPlanOf, IsRefusalOf, IsShown, IsWellFormed, IsWish, asked_by, given_by, mark_given, plan_of}
 use Rattle.dsedge_base.specs.declared.fault.UsageFault.{UsageFault}
 use Rattle.dsedge_base.specs.declared.fault.UsageFault.TheVariants.{Usage, NoMemory}
 use Rattle.dsedge_base.specs.declared.work.Plan.{Plan}
@@ -129,9 +129,13 @@ wish-answers words kind (Mark domain certificate port keeps_red) fails help = ab
 wish-answers words kind (Show text) (inl memory) help = absurd (no_memory kind help.0 memory)
 wish-answers words kind (Show text) (inr among) help = (kind, among, help.0)
 
+-- what is neither a wish nor want of memory is malformed
+pub malformed : (words : List Text) (kind : ErrorKind) → MayFail words kind → ¬ IsWish kind × (kind ≢ OutOfMemory) → IsMalformed words
+malformed words kind (inl memory) is = absurd (is.1 memory)
+malformed words kind (inr among) is = (kind, among, is.0)
+
 -- other faults of form are refused
 pub fault-answers : (words : List Text) (kind : ErrorKind) (fault : UsageFault) → MayFail words kind
     → (fault ≡ Usage → ¬ IsWish kind × (kind ≢ OutOfMemory)) → IsRefusalOf words fault
 fault-answers words kind NoMemory fails is = tt
-fault-answers words kind Usage (inl memory) is = absurd ((is refl).1 memory)
-fault-answers words kind Usage (inr among) is = inl (kind, among, (is refl).0)
+fault-answers words kind Usage fails is = inl (malformed words kind fails (is refl))

@@ -1,6 +1,6 @@
-ghost use Rattle.std.specs.Prelude.{◌≡◌, ◌≢◌, IfErr, IfOk, map, option_and_then};
+ghost use Rattle.std.specs.Prelude.{◌≡◌, ◌≢◌, IfErr, IfOk, IsSome, map, option_and_then};
 ghost use Rattle.clap.specs.Words.{found_of, kind_of, rows_of, subcommand_rows_of};
-ghost use Rattle.dsedge_base.specs.Plans.{IsPlanOf, IsRefusalOf, IsShown, IsWish, given_by, mark_given, plan_of};
+ghost use Rattle.dsedge_base.specs.Plans.{IsMalformed, IsPlanOf, IsRefusalOf, IsShown, IsWish, given_by, mark_given, plan_of};
 
 use crate::command_line::command_line;
 use crate::fault::UsageFault;
@@ -23,6 +23,30 @@ pub fn plan<'a, S: AsStr>(alloc: Global, words: &'a [S]) -> Result<Plan<'a>, Usa
     match command.try_get_matches_from(words) {
         Ok(matches) => asked_by(&matches).ok_or(UsageFault::Usage),
         Err(error) => answer_to(alloc, &error),
+    }
+}
+
+/// What the parser of command lines says where words are malformed: which of them is wrong, the usage of the command, and
+/// where help is. None where their form is right, or they ask for a text, or memory runs out.
+pub fn explanation<S: AsStr>(alloc: Global, words: &[S]) -> Option<String>
+    ensures { IsSome result → IsMalformed (map S.text words.entry.now) }
+{
+    let Ok(command) = command_line(alloc) else {
+        return None;
+    };
+    match command.try_get_matches_from(words) {
+        Ok(_) => None,
+        Err(error) => explanation_of(alloc, &error),
+    }
+}
+
+/// What an error says, where it is one of malformed words.
+fn explanation_of(alloc: Global, error: &Error) -> Option<String>
+    ensures { IsSome result → ¬ IsWish (kind_of error.now) × (kind_of error.now ≢ ErrorKind.OutOfMemory) }
+{
+    match error.kind() {
+        ErrorKind::DisplayHelp | ErrorKind::DisplayVersion | ErrorKind::OutOfMemory => None,
+        _ => format!(in alloc; "{error}").ok(),
     }
 }
 
