@@ -10,7 +10,7 @@ _dsedge() {
         --cir | --cbs | --ebs | --pir | --pbs | --eir | --origin | --rate | --burst | --port) return ;;
     esac
     if [ "$COMP_CWORD" -eq 1 ]; then
-        COMPREPLY=($(compgen -W 'meter envelope certify check audit mark --help' -- "$word"))
+        COMPREPLY=($(compgen -W 'meter envelope certify check audit mark --help --version' -- "$word"))
         return
     fi
     case $command in

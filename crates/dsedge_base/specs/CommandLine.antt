@@ -27,10 +27,10 @@ meter = with_rule (with_rule (with_rule (with_rule (with_rule (with_rule (with_r
     (optional (codes "ebs")))
     (optional (codes "origin"))
 
--- the words stand alone, with no name of the program before them, and name a command
+-- the words stand alone, with no name of the program before them, and name a command, or ask for the version
 abbrev pub program : App
 program = let a = new_app (codes "dsedge") in
-    record a { top = record a.top { no_binary_name = true; subcommand_required = true } }
+    record a { top = record a.top { has_version = true; no_binary_name = true; subcommand_required = true } }
 
 -- an envelope has a rate and a burst
 abbrev pub envelope : App

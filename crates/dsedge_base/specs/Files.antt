@@ -1,11 +1,11 @@
 -- The files that a plan names.
 use Rattle.std.specs.Prelude.{ℕ, List, [], ◌∷◌}
 use Rattle.dsedge_base.specs.declared.work.Plan.{Plan}
-use Rattle.dsedge_base.specs.declared.work.Plan.TheVariants.{Audit, Certify, Check, Envelope, Help, Mark, Meter}
+use Rattle.dsedge_base.specs.declared.work.Plan.TheVariants.{Audit, Certify, Check, Envelope, Mark, Meter, Show}
 
 -- the names of the files that are to be read, in the order of the words
 abbrev pub files_of : Plan → List (List ℕ)
-files_of (Help text) = []
+files_of (Show text) = []
 files_of (Meter m) = []
 files_of (Envelope rate burst) = []
 files_of (Certify domain) = domain ∷ []

@@ -3,13 +3,13 @@ use Rattle.std.specs.Prelude.{◌≡◌, ◌≢◌, ◌⊎◌, List, [], codes, 
 use Rattle.std.specs.Str.{bytes_eq}
 use Rattle.clap.specs.Words.{IsAmong, Row, Text, fault_of, first_of, subcommand_of}
 use Rattle.clap.specs.declared.error.kind.ErrorKind.{ErrorKind}
-use Rattle.clap.specs.declared.error.kind.ErrorKind.TheVariants.{DisplayHelp}
+use Rattle.clap.specs.declared.error.kind.ErrorKind.TheVariants.{DisplayHelp, DisplayVersion}
 use Rattle.dsedge_base.specs.CommandLine.{dsedge}
 use Rattle.dsedge_base.specs.Options.{Given, envelope_given, marking_given, meter_given, table_given, ◌>>=◌}
 use Rattle.dsedge_base.specs.declared.fault.UsageFault.{UsageFault}
 use Rattle.dsedge_base.specs.declared.fault.UsageFault.TheVariants.{Usage, NoMemory}
 use Rattle.dsedge_base.specs.declared.work.Plan.{Plan}
-use Rattle.dsedge_base.specs.declared.work.Plan.TheVariants.{Audit, Certify, Check, Envelope, Help, Mark, Meter}
+use Rattle.dsedge_base.specs.declared.work.Plan.TheVariants.{Audit, Certify, Check, Envelope, Mark, Meter, Show}
 
 -- the texts that the options of a command were given
 abbrev pub given_by : List Row → Given
@@ -41,10 +41,14 @@ IsWellFormed words = fault_of dsedge words ≡ []
 abbrev pub asked_by : List Text → Option Plan
 asked_by words = option_and_then plan_of (subcommand_of dsedge words)
 
--- Help is shown where the words ask for it before anything is found wrong in their form; every other plan is what
+-- the words ask for help, or for the version
+abbrev pub IsWish : ErrorKind → Type 0
+IsWish kind = (kind ≡ DisplayHelp) ⊎ (kind ≡ DisplayVersion)
+
+-- A text is shown where the words ask for it before anything is found wrong in their form; every other plan is what
 -- well formed words ask for.
 abbrev pub IsPlanOf : List Text → Plan → Type 0
-IsPlanOf words (Help text) = IsAmong DisplayHelp (fault_of dsedge words)
+IsPlanOf words (Show text) = (kind : ErrorKind) × IsAmong kind (fault_of dsedge words) × IsWish kind
 IsPlanOf words (Meter m) = IsWellFormed words × (asked_by words ≡ Some (Meter m))
 IsPlanOf words (Envelope rate burst) = IsWellFormed words × (asked_by words ≡ Some (Envelope rate burst))
 IsPlanOf words (Certify domain) = IsWellFormed words × (asked_by words ≡ Some (Certify domain))
@@ -53,9 +57,9 @@ IsPlanOf words (Audit domain certificate) = IsWellFormed words × (asked_by word
 IsPlanOf words (Mark domain certificate port keeps_red) =
     IsWellFormed words × (asked_by words ≡ Some (Mark domain certificate port keeps_red))
 
--- something other than a wish for help stands against the form of the words
+-- something other than a wish for a text stands against the form of the words
 abbrev pub IsMalformed : List Text → Type 0
-IsMalformed words = (kind : ErrorKind) × IsAmong kind (fault_of dsedge words) × (kind ≢ DisplayHelp)
+IsMalformed words = (kind : ErrorKind) × IsAmong kind (fault_of dsedge words) × ¬ IsWish kind
 
 -- Words are refused only where their form is wrong, or where they are well formed and ask for nothing that there is;
 -- memory may run out at any words.
@@ -63,11 +67,11 @@ abbrev pub IsRefusalOf : List Text → UsageFault → Type 0
 IsRefusalOf words Usage = IsMalformed words ⊎ (IsWellFormed words × (asked_by words ≡ None))
 IsRefusalOf words NoMemory = Unit {0}
 
-abbrev pub IsHelp : Plan → Type 0
-IsHelp (Help text) = Unit {0}
-IsHelp (Meter m) = ⊥
-IsHelp (Envelope rate burst) = ⊥
-IsHelp (Certify domain) = ⊥
-IsHelp (Check domain certificate) = ⊥
-IsHelp (Audit domain certificate) = ⊥
-IsHelp (Mark domain certificate port keeps_red) = ⊥
+abbrev pub IsShown : Plan → Type 0
+IsShown (Show text) = Unit {0}
+IsShown (Meter m) = ⊥
+IsShown (Envelope rate burst) = ⊥
+IsShown (Certify domain) = ⊥
+IsShown (Check domain certificate) = ⊥
+IsShown (Audit domain certificate) = ⊥
+IsShown (Mark domain certificate port keeps_red) = ⊥

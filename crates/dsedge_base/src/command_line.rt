@@ -7,6 +7,9 @@ ghost use Rattle.dsedge_base.specs.CommandLine.{optional, positional, program, r
 use clap::{Arg, Command};
 use std::alloc::{AllocError, Global};
 
+/// The version of `dsedge`, and the kit that proved it.
+const VERSION: &str = "0.1.0\nrattle-kit-13b logic dac8208d650f15bf";
+
 /// The command line of `dsedge`.
 pub(crate) fn command_line<'a>(alloc: Global) -> Result<Command<'a>, AllocError>
     ensures { IfOk result (λ command. app_of command ≡ dsedge) }
@@ -26,6 +29,7 @@ fn program<'a>(alloc: Global) -> Result<Command<'a>, AllocError>
 {
     Command::new(alloc, "dsedge")
         .about("A DiffServ traffic conditioner: meters, marks and certificates.")
+        .version(VERSION)
         .no_binary_name(true)
         .subcommand_required(true)
         .bin_name("dsedge")

@@ -8,5 +8,5 @@ mod words;
 mod work;
 
 pub use fault::UsageFault;
-pub use words::plan;
+pub use words::{explanation, plan};
 pub use work::Plan;

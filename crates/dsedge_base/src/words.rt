@@ -1,6 +1,6 @@
-ghost use Rattle.std.specs.Prelude.{◌≡◌, ◌≢◌, IfErr, IfOk, map, option_and_then};
+ghost use Rattle.std.specs.Prelude.{◌≡◌, ◌≢◌, IfErr, IfOk, IsSome, map, option_and_then};
 ghost use Rattle.clap.specs.Words.{found_of, kind_of, rows_of, subcommand_rows_of};
-ghost use Rattle.dsedge_base.specs.Plans.{IsHelp, IsPlanOf, IsRefusalOf, given_by, mark_given, plan_of};
+ghost use Rattle.dsedge_base.specs.Plans.{IsMalformed, IsPlanOf, IsRefusalOf, IsShown, IsWish, given_by, mark_given, plan_of};
 
 use crate::command_line::command_line;
 use crate::fault::UsageFault;
@@ -23,6 +23,30 @@ pub fn plan<'a, S: AsStr>(alloc: Global, words: &'a [S]) -> Result<Plan<'a>, Usa
     match command.try_get_matches_from(words) {
         Ok(matches) => asked_by(&matches).ok_or(UsageFault::Usage),
         Err(error) => answer_to(alloc, &error),
+    }
+}
+
+/// What the parser of command lines says where words are malformed: which of them is wrong, the usage of the command, and
+/// where help is. None where their form is right, or they ask for a text, or memory runs out.
+pub fn explanation<S: AsStr>(alloc: Global, words: &[S]) -> Option<String>
+    ensures { IsSome result → IsMalformed (map S.text words.entry.now) }
+{
+    let Ok(command) = command_line(alloc) else {
+        return None;
+    };
+    match command.try_get_matches_from(words) {
+        Ok(_) => None,
+        Err(error) => explanation_of(alloc, &error),
+    }
+}
+
+/// What an error says, where it is one of malformed words.
+fn explanation_of(alloc: Global, error: &Error) -> Option<String>
+    ensures { IsSome result → ¬ IsWish (kind_of error.now) × (kind_of error.now ≢ ErrorKind.OutOfMemory) }
+{
+    match error.kind() {
+        ErrorKind::DisplayHelp | ErrorKind::DisplayVersion | ErrorKind::OutOfMemory => None,
+        _ => format!(in alloc; "{error}").ok(),
     }
 }
 
@@ -82,14 +106,16 @@ fn mark_asked<'a>(options: &ArgMatches<'a>) -> Option<Plan<'a>>
     })
 }
 
-/// The help that was asked for, or why words are refused.
+/// The help or the version, where that was asked for, or why words are refused.
 fn answer_to<'a>(alloc: Global, error: &Error) -> Result<Plan<'a>, UsageFault>
-    ensures help { IfOk result (λ plan. (kind_of error.now ≡ ErrorKind.DisplayHelp) × IsHelp plan) }
+    ensures wish { IfOk result (λ plan. IsWish (kind_of error.now) × IsShown plan) }
     ensures usage { IfErr result (λ fault. fault ≡ UsageFault.Usage
-        → (kind_of error.now ≢ ErrorKind.DisplayHelp) × (kind_of error.now ≢ ErrorKind.OutOfMemory)) }
+        → ¬ IsWish (kind_of error.now) × (kind_of error.now ≢ ErrorKind.OutOfMemory)) }
 {
     match error.kind() {
-        ErrorKind::DisplayHelp => Ok(Plan::Help(format!(in alloc; "{error}")?)),
+        ErrorKind::DisplayHelp | ErrorKind::DisplayVersion => {
+            Ok(Plan::Show(format!(in alloc; "{error}")?))
+        }
         ErrorKind::OutOfMemory => Err(UsageFault::NoMemory),
         _ => Err(UsageFault::Usage),
     }

@@ -9,8 +9,8 @@ use std::alloc::{AllocError, Global};
 /// What the words of a command line ask for.
 #[derive(Debug, Drop)]
 pub enum Plan<'a> {
-    /// Show this text on standard output.
-    Help(String),
+    /// Show this text on standard output: help, or the version.
+    Show(String),
     /// Meter the arrivals of standard input with this meter.
     Meter(AnyMeter),
     /// Test whether the sized moments of standard input keep an envelope.
@@ -59,7 +59,7 @@ impl<'a> Plan<'a> {
     {
         let mut names = Vec::new(alloc);
         match self {
-            Plan::Help(_) | Plan::Meter(_) | Plan::Envelope { .. } => {}
+            Plan::Show(_) | Plan::Meter(_) | Plan::Envelope { .. } => {}
             Plan::Certify { domain } => names.push(GivenName::new(domain.text()))?,
             Plan::Check {
                 domain,

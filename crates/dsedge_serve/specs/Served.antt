@@ -6,7 +6,7 @@ use Rattle.line_text.specs.Lines.{lines_of}
 use Rattle.dsedge_serve.specs.Books.{fresh_book}
 use Rattle.pcap_capture.specs.Counts.{count_after, next_count}
 use Rattle.dsedge_base.specs.declared.work.Plan.{Plan}
-use Rattle.dsedge_base.specs.declared.work.Plan.TheVariants.{Audit, Certify, Check, Envelope, Help, Mark, Meter}
+use Rattle.dsedge_base.specs.declared.work.Plan.TheVariants.{Audit, Certify, Check, Envelope, Mark, Meter, Show}
 use Rattle.ds_domain_base.specs.Domains.{is_port}
 use Rattle.ds_domain_base.specs.declared.fault.DomainFault.{DomainFault}
 use Rattle.ds_conductor.specs.Markings.{IsOfReads as IsOfCaptureReads, is_unwritten}
@@ -104,7 +104,7 @@ IsMarkedAt found port red bytes more (Marked report fault name) before after =
 -- What a plan asks for was written, for the texts of its files and the bytes that the input had, of which it still has
 -- more.
 abbrev pub IsAnswered : Plan → List (List ℕ) → List ℕ → List ℕ → Outcome → List ℕ → List ℕ → Type 0
-IsAnswered (Help text) texts bytes more outcome before after =
+IsAnswered (Show text) texts bytes more outcome before after =
     IsReplied (whole_text (string_bytes text)) outcome before after
 IsAnswered (Meter meter) texts bytes more outcome before after =
     IsReplied (reply_of (answer_of (fresh_book meter) 1 (lines_of bytes))) outcome before after
@@ -135,7 +135,7 @@ IsPortlessBefore found port outcome = IfOk found
 
 -- what is settled of a plan's outcome, for the texts of its files
 abbrev pub IsForeseen : Plan → List (List ℕ) → Outcome → Type 0
-IsForeseen (Help text) texts outcome = ⊤
+IsForeseen (Show text) texts outcome = ⊤
 IsForeseen (Meter meter) texts outcome = ⊤
 IsForeseen (Envelope rate burst) texts outcome = ⊤
 IsForeseen (Certify domain) texts outcome = ⊤

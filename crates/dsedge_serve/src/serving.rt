@@ -175,7 +175,7 @@ fn answer<'a, I: Intake, O: Outlet>(
         (I.turns intake.new) }
 {
     match plan {
-        Plan::Help(text) => {
+        Plan::Show(text) => {
             Outcome::Answered(answer_text(text.as_bytes(), Ending::Whole, output))
         }
         Plan::Meter(meter) => {

@@ -227,7 +227,8 @@ metre
 Meter
 -
 --
---version
+--Version
+-v
 --kind trtcm
 help metre
 meter --version
@@ -321,12 +322,12 @@ fn numbers_and_parameters_that_are_refused(rt: HostRuntime) -> Result<(), Fail> 
     )
 }
 
-/// The text of the help that a line of words asks for.
-fn help_for(alloc: Global, line: &str) -> Result<String, Fail> {
+/// The text that a line of words asks for: help, or the version.
+fn text_for(alloc: Global, line: &str) -> Result<String, Fail> {
     let words = line.split(' ').collect::<Vec<&str>>(alloc)?;
     match plan(alloc, words.as_slice())? {
-        Plan::Help(text) => Ok(text),
-        _ => Err(Fail::from("no help")),
+        Plan::Show(text) => Ok(text),
+        _ => Err(Fail::from("no text")),
     }
 }
 
@@ -340,7 +341,7 @@ fn expect_parts(rt: &impl Abort, text: &str, parts: &[&str]) {
 /// Expects of lines of words that their help has parts.
 fn expect_help(rt: &impl Abort, alloc: Global, lines: &[&str], parts: &[&str]) -> Result<(), Fail> {
     for line in lines {
-        let help = help_for(alloc, line)?;
+        let help = text_for(alloc, line)?;
         expect_parts(rt, help.as_str(), parts);
     }
     Ok(())
@@ -379,6 +380,18 @@ fn help_for_the_program_and_its_commands(rt: HostRuntime) -> Result<(), Fail> {
         "--ebs <BYTES>",
     ];
     expect_help(&rt, alloc, &lines, &parts)
+}
+
+#[test]
+fn the_version_and_the_kit_that_proved_it(rt: HostRuntime) -> Result<(), Fail> {
+    for line in ["--version", "-V"] {
+        let text = text_for(rt.alloc(), line)?;
+        assert_eq!(rt;
+            text.as_str(),
+            "dsedge 0.1.0\nrattle-kit-13b logic dac8208d650f15bf\n"
+        );
+    }
+    Ok(())
 }
 
 #[test]

@@ -4,7 +4,7 @@ use Rattle.clap.specs.Words.{kind_of}
 use Rattle.dsedge_base.specs.Plans.{IsPlanOf, IsRefusalOf}
 use Rattle.dsedge_base.specs.declared.fault.UsageFault.{UsageFault}
 use Rattle.dsedge_base.specs.declared.work.Plan.{Plan}
-use Rattle.dsedge_base.proofs.PlanLemmas.{fault-answers, help-answers, parse-may_fail, parsed-answers}
+use Rattle.dsedge_base.proofs.PlanLemmas.{fault-answers, wish-answers, parse-may_fail, parsed-answers}
 use Rattle.dsedge_base.proofs.words.plan.Goals as goal
 
 pub returns-in-Ok-clause-ok : goal.returns-in-Ok-clause-ok
@@ -25,7 +25,7 @@ pub returns-in-Err-clause-ok : goal.returns-in-Err-clause-ok
 returns-in-Err-clause-ok g c =
     let words = map g.S.AsStr.text c.args.words.now in
     let fails = parse-may_fail _ words c.in-Err.error c.in_ok-command.ensures c.in-Err.ensures.kinds in
-    IfOk-weaker c.answer_to.result _ _ (λ plan help. help-answers words (kind_of c.in-Err.error) plan fails help) c.answer_to.ensures.help
+    IfOk-weaker c.answer_to.result _ _ (λ plan wish. wish-answers words (kind_of c.in-Err.error) plan fails wish) c.answer_to.ensures.wish
 
 pub returns-in-Err-clause-err : goal.returns-in-Err-clause-err
 returns-in-Err-clause-err g c =
