@@ -73,7 +73,7 @@ impl<J: Naming, R: Wait + Drop> Desk<J, R> {
         limits: Limits,
         feeds: usize,
     ) -> Result<(Self, Vec<Feed<J>>), (Domain, BrokerRefusal)>
-        requires log { opened.end.seen.book ≡ J.log }
+        requires log { opened ≡ J.log }
         requires opening { J.opening ≡ record { domain = domain; limits = limits; history = [] } }
         requires feeds { (0 < feeds) × (feeds ≤ 64) }
         ensures opened { IfOk result (λ made. made.0 ≡ J.opening) }

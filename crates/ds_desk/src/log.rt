@@ -100,17 +100,27 @@ impl Naming for Brand {
     ghost opening = { record { domain = bare One; limits = record { table = 1; history = 1 }; history = [] } };
 }
 
-/// An empty log, for a desk that is to be opened.
+/// An empty log, for a desk that is to be opened. Contracts see which one it is.
 pub struct Opened {
     head: Word<Act, u64, Law>,
     end: End,
-    pub ghost empty: { end.seen.log ≡ [] },
-    pub ghost head_is: { head ≡ head_of end.seen.book },
+}
+
+impl Model for Opened {
+    ghost use Rattle.std.specs.Prelude.{◌≡◌, []};
+    ghost use Rattle.logbook.specs.Pages as pages;
+    ghost use Rattle.ds_desk.specs.Rules.{head_of};
+
+    ghost Value = { pages.Book };
+
+    ghost view = { λ o. o.end.seen.book };
+
+    ghost invariant = { λ o. (o.end.seen.log ≡ []) × (o.head ≡ head_of o.end.seen.book) };
 }
 
 impl Opened {
     /// An empty log. It takes no memory.
-    pub fn new() -> Opened {
+    pub fn new() -> Self {
         let (seen, mut first, _second) = Seen::open(Start::alone(), 0, 0);
         Opened {
             head: Word::tracked(0, &mut first),
@@ -120,7 +130,7 @@ impl Opened {
 
     /// The log under the name of its desk, and its end.
     pub(crate) fn named<J: Naming>(self) -> (Log<J>, End)
-        requires { self.end.seen.book ≡ J.log }
+        requires { self ≡ J.log }
         ensures { (result.1.seen.log ≡ []) × (result.1.seen.book ≡ J.log) }
     {
         let Opened { head, end } = self;

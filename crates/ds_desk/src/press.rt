@@ -33,7 +33,7 @@ impl<J: Naming> Press<J> {
         book: &Book,
         feeds: usize,
     ) -> Result<Press<J>, AllocError>
-        requires log { opened.end.seen.book ≡ J.log }
+        requires log { opened ≡ J.log }
         requires empty { book.now.history ≡ [] }
         requires domain { book.now.domain ≡ J.opening.domain }
         requires feeds { (0 < feeds) × (feeds ≤ 64) }
