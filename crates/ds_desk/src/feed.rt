@@ -57,6 +57,13 @@ impl<J: Naming> Feed<J> {
         Feed { reader, known }
     }
 
+    /// What it knows of.
+    pub fn known(&self) -> &Front<J>
+        ensures { result.now ≡ self.now }
+    {
+        &self.known
+    }
+
     /// Takes in what an answer rests on: the history behind each later look has it.
     pub fn learn(self, front: &Front<J>) -> Self
         ensures seen { IsPrefix self result }

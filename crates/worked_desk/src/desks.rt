@@ -38,6 +38,29 @@ pub fn tight(alloc: Global) -> Result<Plan, Fail> {
     })
 }
 
+/// The domain of four contracts over a meter that carries them all.
+const FOUR: &str = r#"
+meter = [{ name = "m", kind = "trtcm", cir = 32000000, cbs = 18000, pir = 32000000, pbs = 18000, skew = 500000 }]
+port = [{ name = "p", skew = 0 }]
+link = [{ from = "p", to = "m", floor = 0, jitter = 1000000 }]
+contract = [
+    { name = "a", kind = "trusted", port = "p", path = ["m"], class = 1, cir = 8000000, cbs = 3000, src = "10.0.0.0/24" },
+    { name = "b", kind = "trusted", port = "p", path = ["m"], class = 2, cir = 8000000, cbs = 3000, src = "10.0.1.0/24" },
+    { name = "c", kind = "trusted", port = "p", path = ["m"], class = 3, cir = 8000000, cbs = 3000, src = "10.0.2.0/24" },
+    { name = "d", kind = "trusted", port = "p", path = ["m"], class = 4, cir = 8000000, cbs = 3000, src = "10.0.3.0/24" },
+]
+"#;
+
+/// The domain of four contracts, for a table of 4,096 contracts and a history of 65,536 commands.
+pub fn four(alloc: Global) -> Result<Plan, Fail> {
+    let (domain, contracts) = parse(alloc, FOUR.as_bytes())?;
+    Ok(Plan {
+        domain,
+        limits: Limits::new(4096, 65_536)?,
+        contracts,
+    })
+}
+
 /// A copy of the contract at a place.
 pub fn contract(alloc: Global, contracts: &[Contract], place: usize) -> Result<Contract, Fail> {
     let contract = contracts.get(place).ok_or("no such contract")?;

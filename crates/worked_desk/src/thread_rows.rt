@@ -1,6 +1,6 @@
-ghost use Rattle.std.specs.Prelude.{◌≡◌, []};
+ghost use Rattle.std.specs.Prelude.{◌≡◌, [], length};
 
-use crate::desks::{Plan, contract, opened, tight};
+use crate::desks::{Plan, contract, four, opened, tight};
 use ds_broker::{BrokerRefusal, Limits};
 use ds_checker::Refusal;
 use ds_desk::{Broker, Feed, Front, Naming, Opened};
@@ -146,7 +146,7 @@ fn watch<J: Naming>(feed: Feed<J>) -> Option<Feed<J>> {
     Some(feed)
 }
 
-/// What two callers did beside two feeds.
+/// What two callers and two feeds left behind.
 type Half<J> = ((Option<Caller<J>>, Option<Caller<J>>), (Option<Feed<J>>, Option<Feed<J>>));
 
 /// Two callers sell a contract each, beside two feeds that look.
@@ -172,4 +172,77 @@ fn half<J: Naming + Send + Sync, R: Wait + Drop + Send + Sync, W: Threads + Wait
         },
         move || join(rt, move || watch(left), move || watch(right)),
     )
+}
+
+/// Takes down what a caller was granted, and shows a feed that learned its last answer at least that much.
+fn settled<J: Naming>(
+    ids: &mut Vec<u32>,
+    caller: Option<Caller<J>>,
+    feed: Option<Feed<J>>,
+) -> Result<(), Fail> {
+    let caller = caller.ok_or("a command was refused")?;
+    for id in caller.ids.iter() {
+        ids.push(*id)?;
+    }
+    let feed = feed.ok_or("a look failed")?.learn(&caller.last);
+    let Ok(seen) = feed.look() else {
+        return Err(Fail::from("nothing is seen"));
+    };
+    let serial = seen.serial();
+    seen.end();
+    if serial < caller.last.serial() {
+        return Err(Fail::from("an answer is not seen"));
+    }
+    Ok(())
+}
+
+/// Four callers sell beside four feeds: all ids differ, and each feed sees what it learned.
+fn four_beside_four<J: Naming + Send + Sync, R: Threads + Wait + Abort + Copy + Drop + Send + Sync>(
+    rt: R,
+    alloc: Global,
+    log: Opened,
+    domain: Domain,
+    limits: Limits,
+    contracts: &[Contract],
+) -> Result<(), Fail>
+    requires log { log ≡ J.log }
+    requires opening { J.opening ≡ record { domain = domain; limits = limits; history = [] } }
+    requires four { length contracts.now ≡ 4 }
+{
+    let (broker, mut feeds) = opened::<J, R>(rt, alloc, log, domain, limits, 5)?;
+    let start = feeds.pop().ok_or("five feeds")?.known().again();
+    let one = (feeds.pop().ok_or("five feeds")?, feeds.pop().ok_or("five feeds")?);
+    let two = (feeds.pop().ok_or("five feeds")?, feeds.pop().ok_or("five feeds")?);
+    let (known, beside) = ((start.again(), start.again()), (start.again(), start.again()));
+    let (rt, shared) = (&rt, &broker);
+    let (a, b, c, d) = (&contracts[0], &contracts[1], &contracts[2], &contracts[3]);
+    let (left, right) = join(
+        rt,
+        move || half(rt, alloc, shared, (a, b), known, one),
+        move || half(rt, alloc, shared, (c, d), beside, two),
+    );
+    let mut ids = Vec::with_capacity(alloc, 4000)?;
+    settled(&mut ids, left.0.0, left.1.0)?;
+    settled(&mut ids, left.0.1, left.1.1)?;
+    settled(&mut ids, right.0.0, right.1.0)?;
+    settled(&mut ids, right.0.1, right.1.1)?;
+    ids.as_mut_slice().sort_unstable();
+    for (place, id) in ids.iter().enumerate() {
+        assert_eq!(rt; *id as usize, place + 1);
+    }
+    assert_eq!(rt; ids.len(), 4000);
+    Ok(())
+}
+
+#[test]
+fn four_callers_sell_beside_four_feeds(rt: HostRuntime) -> Result<(), Fail> {
+    let alloc = rt.alloc();
+    let Plan {
+        domain,
+        limits,
+        contracts,
+    } = four(alloc)?;
+    let contracts = contracts.as_slice();
+    assert_eq!(rt; contracts.len(), 4);
+    four_beside_four::<Brand, _>(rt, alloc, Opened::new(), domain, limits, contracts)
 }
