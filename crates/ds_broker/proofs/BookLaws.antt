@@ -1,6 +1,6 @@
 -- What the fields of a book keep, and what a command makes of them.
-use Rattle.std.proofs.Common.{◌≡◌, ◌≤◌, ◌<◌, ◌+◌, ◌-◌, ℕ, suc, Bool, true, false, List, [], ◌∷◌, ◌++◌, Option, None, Some, Result, Ok, Err, refl, sym, ap, subst, ◌∙◌, arith}
-use Rattle.std.specs.Prelude.{length, map, max, nat_eq, option_map, position, slice_get, slice_index_or, IsOk, OnErr}
+use Rattle.std.proofs.Common.{◌≡◌, ◌≤◌, ◌+◌, ◌-◌, ℕ, Bool, List, [], ◌∷◌, ◌++◌, Option, None, Some, Result, Ok, Err, refl, sym, ap, subst, ◌∙◌, arith}
+use Rattle.std.specs.Prelude.{length, map, nat_eq, option_map, position, slice_get, slice_index_or, IsOk, OnErr}
 use Rattle.std.specs.List.{list_any}
 use Rattle.std.specs.Map.{keys_of, lookup}
 use Rattle.std.specs.Str.{bytes_eq}
@@ -14,7 +14,7 @@ use Rattle.ds_broker.specs.Books.{Book, contracts_in, held_of, holding_of, is_he
 use Rattle.ds_broker.specs.Entries.{entries_of, told_of}
 use Rattle.ds_broker.specs.Found.{IsFound}
 use Rattle.ds_broker.specs.Histories.{Holding}
-use Rattle.ds_broker.specs.Kept.{IsBook, book_of, held_in, ids_in, names_in}
+use Rattle.ds_broker.specs.Kept.{IsBook, book_of, held_in}
 use Rattle.ds_broker.specs.declared.book.Book.TheInside as book
 use Rattle.ds_broker.specs.declared.command.Command.{Command}
 use Rattle.ds_broker.proofs.HoldingLaws.{any-names, contract-at, first-holding, first-position, lookup-released, none-missing, some-released, told-held}

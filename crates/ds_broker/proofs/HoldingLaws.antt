@@ -1,8 +1,8 @@
 -- What is held, as lists of ids, names and contracts: where the contract of an id stands in them, and what becomes of them.
-use Rattle.std.proofs.Common.{◌≡◌, ◌⊎◌, ◌≤◌, ◌<◌, ◌+◌, ℕ, zero, suc, Bool, true, false, List, [], ◌∷◌, ◌++◌, Option, None, Some, refl, sym, ap, ◌∙◌, arith, inl, inr, true≢false}
+use Rattle.std.proofs.Common.{◌≡◌, ◌⊎◌, ◌≤◌, ◌<◌, ℕ, zero, suc, Bool, true, false, List, [], ◌∷◌, Option, None, Some, refl, ap, arith, inl, inr}
 use Rattle.std.specs.Prelude.{length, map, nat_eq, option_map, position, slice_get, slice_index_or}
 use Rattle.std.proofs.Common.{get_or}
-use Rattle.std.specs.List.{AllByRecursion, list_any, remove}
+use Rattle.std.specs.List.{list_any, remove}
 use Rattle.std.specs.Map.{keys_of, lookup}
 use Rattle.std.specs.Str.{bytes_eq}
 use Rattle.std.proofs.lemmas.Bool.{cases_Bool}

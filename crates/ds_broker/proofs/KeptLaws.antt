@@ -1,6 +1,6 @@
 -- What the fields of a book keep is kept by each command.
-use Rattle.std.proofs.Common.{◌≡◌, ◌≤◌, ◌<◌, ◌+◌, ℕ, suc, Bool, true, false, List, [], ◌∷◌, ◌++◌, Option, None, Some, refl, sym, ap, subst, ◌∙◌, arith}
-use Rattle.std.specs.Prelude.{length, map, max, nat_eq, nat_le, slice_get}
+use Rattle.std.proofs.Common.{◌≡◌, ◌<◌, ◌+◌, ℕ, Bool, true, false, List, [], ◌∷◌, ◌++◌, Some, refl, sym, ap, subst, ◌∙◌, arith}
+use Rattle.std.specs.Prelude.{length, max, nat_eq, nat_le, slice_get}
 use Rattle.std.specs.List.{list_any, remove}
 use Rattle.std.specs.Str.{bytes_eq}
 use Rattle.std.proofs.lemmas.List.{map-append, length-append}
@@ -9,13 +9,12 @@ use Rattle.indexmap.specs.IndexSet.{insert_key}
 use Rattle.ds_domain_base.specs.Domains.{Domain}
 use Rattle.ds_domain_base.specs.Lifetimes.{Span}
 use Rattle.ds_domain_base.specs.declared.contract.Contract.{Contract}
-use Rattle.ds_checker.specs.Acceptance.{IsAcceptable, Table}
+use Rattle.ds_checker.specs.Acceptance.{IsAcceptable}
 use Rattle.ds_checker.specs.Changes.{with_lifetime, without_contract}
-use Rattle.ds_broker.specs.Books.{Book, held_of, is_history_full, is_held, is_table_full, table_in, table_with}
+use Rattle.ds_broker.specs.Books.{Book, held_of, is_history_full, table_in, table_with}
 use Rattle.ds_broker.specs.Found.{IsFound}
-use Rattle.ds_broker.specs.Histories.{Holding, Standing, after, begun, ended, opening, standing_of, with_released, with_retired}
+use Rattle.ds_broker.specs.Histories.{Holding, after, begun, ended, opening, standing_of, with_released, with_retired}
 use Rattle.ds_broker.specs.Kept.{IsBook, book_of, held_in, ids_in, names_in}
-use Rattle.ds_broker.specs.Refusals.{room_refusal}
 use Rattle.ds_broker.specs.declared.book.Book.TheInside as book
 use Rattle.ds_broker.specs.declared.command.Command.{Command}
 use Rattle.ds_broker.specs.declared.command.Command.TheVariants.{Reserve, Release, Retire}

@@ -1,9 +1,6 @@
 -- After commands of which some were accepted, a book is the fold of those.
-use Rattle.std.proofs.Common.{◌≡◌, ◌⊎◌, List, [], ◌∷◌, ◌++◌, None, refl, sym, ap, ◌∙◌, inl, inr, append_assoc, append-nil}
-use Rattle.std.specs.Prelude.{fold}
+use Rattle.std.proofs.Common.{◌≡◌, List, [], ◌∷◌, ◌++◌, refl, sym, ap, ◌∙◌, inl, inr, append_assoc, append-nil}
 use Rattle.ds_broker.specs.Books.{Book, standing, with_command}
-use Rattle.ds_broker.specs.Histories.{after, standing_of}
-use Rattle.ds_broker.specs.Refusals.{refusal_in}
 use Rattle.ds_broker.specs.Requests.{AreSomeOf, AreUnrefused, IsFoldOfAccepted, LeadsTo}
 use Rattle.ds_broker.specs.declared.command.Command.{Command}
 use Rattle.ds_broker.proofs.StandingLaws.{standing-append}

@@ -1,13 +1,11 @@
 -- What stands after some commands: one command more, and what bounds ids, moments and numbers.
-use Rattle.std.proofs.Common.{◌≡◌, ◌≤◌, ◌<◌, ◌+◌, ℕ, zero, suc, Bool, true, false, List, [], ◌∷◌, ◌++◌, Option, None, Some, refl, sym, ap, ◌∙◌, arith, inl, inr, true≢false}
-use Rattle.std.specs.Prelude.{fold, length, map, max, nat_eq, slice_get, unwrap_or}
+use Rattle.std.proofs.Common.{◌≡◌, ◌≤◌, ◌+◌, ℕ, zero, suc, true, false, List, [], ◌∷◌, ◌++◌, Option, None, Some, refl, sym, ap, arith, inl, inr, true≢false}
+use Rattle.std.specs.Prelude.{fold, length, max, nat_eq, slice_get, unwrap_or}
 use Rattle.std.specs.List.{AllByRecursion}
-use Rattle.std.specs.Map.{keys_of, lookup}
 use Rattle.std.proofs.lemmas.Bool.{cases_Bool}
 use Rattle.std.proofs.lemmas.List.Sums.{fold-append}
 use Rattle.indexmap.specs.IndexMap.{insert_entry}
-use Rattle.ds_domain_base.specs.declared.contract.Contract.{Contract}
-use Rattle.ds_broker.specs.Histories.{Holding, Standing, after, begun, end_by, opening, reserved, released, retired, standing_of, with_released, with_retired}
+use Rattle.ds_broker.specs.Histories.{Holding, Standing, after, begun, end_by, opening, standing_of, with_released, with_retired}
 use Rattle.ds_broker.specs.Kept.{ids_in}
 use Rattle.ds_broker.specs.declared.command.Command.{Command}
 use Rattle.ds_broker.specs.declared.command.Command.TheVariants.{Reserve, Release, Retire}

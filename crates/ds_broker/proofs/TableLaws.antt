@@ -1,6 +1,6 @@
 -- The table of a book: with one contract more, and with none.
-use Rattle.std.proofs.Common.{◌≡◌, ◌≤◌, ◌+◌, ℕ, Bool, true, false, List, [], ◌∷◌, ◌++◌, Option, None, Some, refl, sym, ap, ◌∙◌, arith}
-use Rattle.std.specs.Prelude.{All, map, option_map, slice_get}
+use Rattle.std.proofs.Common.{◌≡◌, ◌+◌, ℕ, false, List, [], ◌∷◌, ◌++◌, None, Some, refl, sym, ap, ◌∙◌, arith}
+use Rattle.std.specs.Prelude.{All, option_map, slice_get}
 use Rattle.std.proofs.lemmas.List.{map-append}
 use Rattle.std.proofs.lemmas.List.Elements.{All-cons, All-nil}
 use Rattle.meter_book_base.specs.declared.any_meter.Parameters.{Parameters}
@@ -10,7 +10,7 @@ use Rattle.ds_domain_base.specs.declared.contract.Contract.{Contract}
 use Rattle.ds_domain_base.specs.declared.parts.Meter.{Meter}
 use Rattle.ds_certificate.specs.Bounds.{least, least_of}
 use Rattle.ds_checker.specs.Acceptance.{Carries, IsAcceptable, Table, refusal_of}
-use Rattle.ds_checker.specs.Loads.{Share, counted, shares_at}
+use Rattle.ds_checker.specs.Loads.{counted, shares_at}
 use Rattle.ds_broker.specs.Books.{Book, contracts_in, held_of, moment_in, newest_of, table_in, table_of, table_with, with_command}
 use Rattle.ds_broker.specs.Histories.{Holding, begun, beginning, ended, standing_of, with_released, with_retired}
 use Rattle.ds_broker.specs.Refusals.{refusal_or_checked, reserve_refusal, room_refusal}

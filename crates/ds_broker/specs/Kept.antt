@@ -18,8 +18,9 @@ names_in held = map (λ h. h.contract.name) held
 abbrev pub held_in : book.Inside → List Holding
 held_in b = (standing_of b.history.items).held
 
--- The table is that of the history, with the least certificate, and acceptable. Ids and names are of what the history holds; the number
--- of grants and the newest moment are its own; and neither what is held nor the history is longer than its limit.
+-- The table is that of the history, with the least certificate, and acceptable. Ids and names are of what the history
+-- holds; the number of grants and the newest moment are its own; and neither what is held nor the history is longer than
+-- its limit.
 pub record IsBook (b : book.Inside) : Type 0 where
   pub table : b.table ≡ table_in b.table.domain (held_in b)
   pub acceptable : IsAcceptable b.table

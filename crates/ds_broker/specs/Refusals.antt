@@ -1,10 +1,9 @@
 -- Why a broker's book refuses a command, memory aside: the first that stands against it.
-use Rattle.std.specs.Prelude.{ℕ, Bool, false, ◌+◌, ◌-◌, List, nat_lt, option_map, Option, None, Some, unwrap_or}
+use Rattle.std.specs.Prelude.{ℕ, Bool, false, ◌+◌, ◌-◌, nat_lt, option_map, Option, None, Some, unwrap_or}
 use Rattle.std.specs.Prelude.{if◌then◌else◌}
 use Rattle.ds_domain_base.specs.Domains.{Domain}
 use Rattle.ds_domain_base.specs.Faults.{fault_at}
 use Rattle.ds_domain_base.specs.Fitting.{way_fault}
-use Rattle.ds_domain_base.specs.Lifetimes.{Span}
 use Rattle.ds_domain_base.specs.declared.contract.Contract.{Contract}
 use Rattle.ds_domain_base.specs.declared.fault.DomainFault.{DomainFault}
 use Rattle.ds_domain_base.specs.declared.fault.Kind.TheVariants as kinds
@@ -14,8 +13,8 @@ use Rattle.ds_certificate.specs.Bounds.{least_of}
 use Rattle.ds_checker.specs.Acceptance.{refusal_of}
 use Rattle.ds_checker.specs.Holds.{hold_of}
 use Rattle.ds_broker.specs.Books.{Book, held_of, holding_of, is_held, is_history_full, is_table_full, moment_in}
-use Rattle.ds_broker.specs.Books.{newest_of, table_of, with_command}
-use Rattle.ds_broker.specs.Histories.{Holding, begun}
+use Rattle.ds_broker.specs.Books.{table_of, with_command}
+use Rattle.ds_broker.specs.Histories.{Holding}
 use Rattle.ds_broker.specs.declared.command.Command.{Command}
 use Rattle.ds_broker.specs.declared.command.Command.TheVariants.{Reserve, Release, Retire}
 use Rattle.ds_broker.specs.declared.refusal.BrokerRefusal.{BrokerRefusal}
@@ -26,8 +25,8 @@ abbrev pub ends_early : ℕ → Option ℕ → Bool
 ends_early since None = false
 ends_early since (Some until) = nat_lt until since
 
--- what is wrong with a contract that is to be reserved: its name is held, or its end is before its beginning, or its way
--- is not in the domain
+-- what is wrong with a contract that is to be reserved: its name is held, or its end is before its beginning, or its
+-- way is not in the domain
 abbrev pub contract_fault : Book → Contract → Option DomainFault
 contract_fault b c =
     if is_held c.name (held_of b) then
@@ -84,13 +83,16 @@ free_from d c = unwrap_or c.lifetime.until 0 + hold_of d c (least_of d c)
 abbrev pub hold_left : ℕ → ℕ → Option BrokerRefusal
 hold_left moment end = if nat_lt moment end then Some (refusals.HoldLeft (end - moment)) else None
 
--- what stands against a retire: nothing is held under its id, or it is not released, or the history is full, or a part of
--- its hold is left
+-- what stands against a retire: nothing is held under its id, or it is not released, or the history is full, or a part
+-- of its hold is left
 abbrev pub retire_refusal_at : Book → ℕ → Option Holding → Option BrokerRefusal
 retire_refusal_at b moment None = Some refusals.UnknownId
 retire_refusal_at b moment (Some h) =
     if h.released then
-    if is_history_full b then Some refusals.HistoryFull else hold_left (moment_in b moment) (free_from b.domain h.contract)
+    if is_history_full b then
+    Some refusals.HistoryFull
+    else
+    hold_left (moment_in b moment) (free_from b.domain h.contract)
     else
     Some refusals.NotReleased
 

@@ -98,13 +98,13 @@ impl Book {
         }
     }
 
-    /// Grants a contract: adds it behind the others, under the next id. It begins at the greatest moment of all accepted
-    /// commands at the earliest.
+    /// Grants a contract: adds it behind the others, under the next id. It begins at the greatest moment of all
+    /// accepted commands at the earliest.
     ///
     /// Refused, with the contract handed back and the book unchanged, for the first of these: `Contract` where it has a
     /// fault (section `contract`, index 0: `Twice` where the book holds a contract of its name, then `Range` where it
-    /// would end before it begins, then what `fits` finds), `TableFull`, `HistoryFull`, `Checker` where the table with it
-    /// is refused. `NoMemory` where memory runs out.
+    /// would end before it begins, then what `fits` finds), `TableFull`, `HistoryFull`, `Checker` where the table with
+    /// it is refused. `NoMemory` where memory runs out.
     pub fn reserve(&mut self, contract: Contract) -> Result<Grant, (Contract, BrokerRefusal)>
         ensures granted { IfOk result (λ grant. grant ≡ grant_of self.old contract) }
         ensures accepted { OnOk result (self.new ≡ with_command self.old (Reserve contract)) }
@@ -437,8 +437,8 @@ fn make_room(
     Ok(())
 }
 
-/// Takes a contract up in a table, to begin at a moment, with its least bounds. The table is unchanged where it is refused:
-/// by the checker, or where memory runs out.
+/// Takes a contract up in a table, to begin at a moment, with its least bounds. The table is unchanged where it is
+/// refused: by the checker, or where memory runs out.
 fn admit(
     alloc: Global,
     table: &mut Accepted,

@@ -9,8 +9,8 @@ use thiserror::Error;
 /// Why a book does not accept a command.
 #[derive(Clone, Copy, Debug, PartialEq, Eq, Drop, Error)]
 pub enum BrokerRefusal {
-    /// The contract has a fault: its name is that of a contract in the book, or it ends before it would begin, or it does
-    /// not fit the domain.
+    /// The contract has a fault: its name is that of a contract in the book, or it ends before it would begin, or it
+    /// does not fit the domain.
     #[error("the contract has a fault")]
     Contract(DomainFault),
     /// The book holds as many contracts as it may.

@@ -14,7 +14,8 @@ pub record Fabric : Type 0 where
 
 -- a book shut at a moment, or the moment at which it was shut before
 abbrev pub after_shut : ℕ → Book → Book
-after_shut moment b = record { opening = b.opening; capacity = b.capacity; arrivals = b.arrivals; shut = shut_by b moment }
+after_shut moment b =
+    record { opening = b.opening; capacity = b.capacity; arrivals = b.arrivals; shut = shut_by b moment }
 
 -- how many places were given at a site
 abbrev pub places_of : Option Book → ℕ

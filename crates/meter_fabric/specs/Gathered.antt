@@ -12,11 +12,11 @@ IsGathered own site (Some b) None = own ≡ []
 IsGathered own site (Some b) (Some j) = joined (own ++ last_part site b ∷ []) ≡ Some j
 
 -- one for each site
-pub record AreGathered (chapters : List Chapter) (books : List (Option Book)) (journals : List (Option Journal)) : Type 0 where
+pub record AreGathered (chapters : List Chapter) (books : List (Option Book)) (found : List (Option Journal)) : Type 0 where
   pub each : (site : ℕ) (b : Option Book) (j : Option Journal) → slice_get books site ≡ Some b
-      → slice_get journals site ≡ Some j
+      → slice_get found site ≡ Some j
       → IsGathered (of_site site chapters) site b j
-  pub count : length journals ≡ length books
+  pub count : length found ≡ length books
 
 -- the book of a site that gathered none has all its rows
 abbrev pub HasAll : Option Book → Option Journal → Type 0

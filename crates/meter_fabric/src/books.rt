@@ -1,4 +1,4 @@
-ghost use Rattle.std.specs.Prelude.{◌≡◌, ◌≢◌, ◌+◌, ◌*◌, ◌<◌, ◌≤◌, ◌^◌, [], All, IfErr, IfOk, MatchOption, OnErr, OnOk, length, sum};
+ghost use Rattle.std.specs.Prelude.{◌≡◌, ◌≢◌, ◌+◌, ◌<◌, ◌≤◌, ◌^◌, ℕ, [], All, IfErr, IfOk, IsErrAnd, OnOk, length, sum};
 ghost use Rattle.std.specs.Prelude.{sum_by, vec_capacity, vec_len};
 ghost use Rattle.meter_book.specs.Gathering.{of_site};
 ghost use Rattle.meter_fabric.specs.Closing.{AreEven, AreThere, IsFirstMissing, IsUnsettled, journals_from};
@@ -97,9 +97,14 @@ impl<'a, L: FabricLedger> Fabric<'a, L> {
         passes: Vec<Pass<L>>,
         chapters: Vec<Chapter>,
     ) -> Result<Vec<Journal>, (Fabric<'a, L>, Vec<Pass<L>>, Vec<Chapter>, CloseFault)>
-        ensures long { IfOk result (λ journals. All (λ j. length j.arrivals ≡ visits_at passes.items j.site) journals.items) }
-        ensures missing { (vec_len passes ≢ self.entry.passes) → IfErr result (λ refused. refused.3 ≡ CloseFault.PassMissing) }
-        ensures all { vec_len passes ≡ self.entry.passes → IfErr result (λ refused. refused.3 ≢ CloseFault.PassMissing) }
+        ensures long { IfOk result
+            (λ journals. All (λ j. length j.arrivals ≡ visits_at passes.items j.site) journals.items) }
+        ensures missing { vec_len passes ≢ self.entry.passes
+            → IsErrAnd result (λ refused. refused.3 ≡ CloseFault.PassMissing) }
+        ensures all { vec_len passes ≡ self.entry.passes
+            → IfErr result (λ refused. refused.3 ≢ CloseFault.PassMissing) }
+        ensures apart { IfErr result
+            (λ refused. (short long : ℕ) → refused.3 ≡ CloseFault.Uneven short long → short ≢ long) }
         ensures fabric { IfErr result (λ refused. refused.0 ≡ self.entry) }
         ensures passes { IfErr result (λ refused. refused.1.items ≡ passes.items) }
         ensures chapters { IfErr result (λ refused. refused.2.items ≡ chapters.items) }
@@ -156,7 +161,8 @@ impl<'a, L: FabricLedger> FabricBooks<'a, L> {
         ensures journals { IfOk result (λ journals. journals.items ≡ journals_from 0 chapters.items self.entry.books) }
         ensures there { OnOk result (AreThere self.entry.books chapters.items) }
         ensures even { OnOk result (AreEven self.entry.books passes.items) }
-        ensures long { IfOk result (λ journals. All (λ j. length j.arrivals ≡ visits_at passes.items j.site) journals.items) }
+        ensures long { IfOk result
+            (λ journals. All (λ j. length j.arrivals ≡ visits_at passes.items j.site) journals.items) }
         ensures refused { IfErr result
             (λ refused. IsUnsettled self.entry.books passes.items chapters.items refused.3) }
         ensures books { IfErr result (λ refused. refused.0 ≡ self.entry) }

@@ -1,5 +1,5 @@
-ghost use Rattle.std.specs.Prelude.{◌≡◌, ◌+◌, ◌≤◌, ◌<◌, ◌↔◌, ◌^◌, None, Some, Err, All, IfErr, IfOk, IfSome, OnErr, OnOk};
-ghost use Rattle.std.specs.Prelude.{IsErrOf, IsSome, count_by, is_none, length, replicate, slice_index, slice_set, vec_len};
+ghost use Rattle.std.specs.Prelude.{◌≡◌, ◌+◌, ◌≤◌, ◌<◌, ◌↔◌, ◌^◌, Some, Err, All, IfErr, IfOk, IfSome, OnErr, OnOk};
+ghost use Rattle.std.specs.Prelude.{IsErrOf, IsSome, count_by, is_none, length, replicate, slice_index, slice_set};
 ghost use Rattle.std.specs.List.{AllZip};
 ghost use Rattle.meter_fabric_base.specs.Openings.{edge_opening};
 ghost use Rattle.meter_fabric_base.specs.Travels.{next_site};
@@ -34,7 +34,8 @@ pub(crate) struct Frame<'a, L: FabricLedger> {
 }
 
 /// The meters of a domain in their order, and behind them slots for edges, each behind a lock of its own, which threads
-/// share. Its value is its domain, how many slots it has, how many open rows its books take, and how many passes it has.
+/// share. Its value is its domain, how many slots it has, how many open rows its books take, and how many passes it
+/// has.
 #[derive(Drop)]
 pub struct Fabric<'a, L: FabricLedger> {
     pub(crate) frame: Frame<'a, L>,
@@ -140,13 +141,13 @@ impl<'a, L: FabricLedger> Fabric<'a, L> {
     }
 
     /// Visits the next site of a traveller at a moment: the book there notes the packet's arrival with the colour that
-    /// it left its last hop with, the traveller keeps the row as one receipt more, and the pass counts one visit more to
-    /// the site.
+    /// it left its last hop with, the traveller keeps the row as one receipt more, and the pass counts one visit more
+    /// to the site.
     ///
     /// Refused, in this order: `PathEnded` exactly at the end of its way, `BeforeLast` exactly where the moment is
     /// before `last_moment()`, `NoEdge` where nothing stands at the site, `Shut` where its book is shut by then,
-    /// `JournalFull` where it has no room for an open row, `NoMemory` where memory runs out. Traveller and pass are then
-    /// unchanged.
+    /// `JournalFull` where it has no room for an open row, `NoMemory` where memory runs out. Traveller and pass are
+    /// then unchanged.
     pub fn visit<R: Wait>(
         &self,
         rt: &R,
@@ -196,8 +197,8 @@ impl<'a, L: FabricLedger> Fabric<'a, L> {
         here.advance(&self.frame.total, pass, number, traveller, moment)
     }
 
-    /// Visits of several travellers that come to one site next, one after the other in their order, under one lock. Each
-    /// is answered as `advance` answers it, in its `fault`.
+    /// Visits of several travellers that come to one site next, one after the other in their order, under one lock.
+    /// Each is answered as `advance` answers it, in its `fault`.
     pub fn visit_all<R: Wait>(&self, rt: &R, pass: &mut Pass<L>, site: u32, visits: &mut [Visit])
         requires { All (λ visit. next_site visit.traveller ≡ Some site) visits.old }
         ensures answered { AllZip IsAnswered visits.old visits.new }

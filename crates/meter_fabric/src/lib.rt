@@ -2,9 +2,9 @@
 //!
 //! - a visit adds one receipt to the traveller and one to the pass's count of the site → `Fabric::visit`,
 //!   `Fabric::advance`, `Fabric::visit_all`
-//! - whenever a lock is free, the rows behind it are a replay (`MeterBook`), and its tickets and the places that it gave
-//!   are 2^44 together; a pass has a ticket for each visit that it counts. So with all passes all rows are as many as
-//!   all visits
+//! - whenever a lock is free, the rows behind it are a replay (`MeterBook`), and its tickets and the places that it
+//!   gave are 2^44 together; a pass has a ticket for each visit that it counts. So with all passes all rows are as many
+//!   as all visits
 //! - each journal is as long as the passes count visits to its site → `Fabric::close`, `FabricBooks::settle`
 //!
 //! No clause says that a call returns.

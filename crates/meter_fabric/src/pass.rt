@@ -24,7 +24,8 @@ impl<L: FabricLedger> Model for Pass<L> {
 
     ghost view = { λ p. p.counts.items };
 
-    ghost invariant = { λ p. (p.share.amount ≡ sum p.counts.items) × (p.share.parts ≡ 1) × (vec_len p.counts ≡ L.sites) };
+    ghost invariant = { λ p. (p.share.amount ≡ sum p.counts.items) × (p.share.parts ≡ 1)
+        × (vec_len p.counts ≡ L.sites) };
 }
 
 impl<L: FabricLedger> Pass<L> {

@@ -1,4 +1,4 @@
-ghost use Rattle.std.specs.Prelude.{◌≡◌, ◌+◌, ◌<◌, ◌^◌, None, Some, Ok, IfErr, IfSome, MatchOption, OnErr, OnOk, OnSome};
+ghost use Rattle.std.specs.Prelude.{◌≡◌, ◌+◌, ◌<◌, ◌^◌, None, Some, Ok, Err, IfErr, MatchOption, OnErr, OnOk, OnSome};
 ghost use Rattle.std.specs.Prelude.{All, MatchResult, count_by, is_none, option_map, slice_index, slice_set};
 ghost use Rattle.std.specs.List.{AllZip};
 ghost use Rattle.meter_book.specs.Chapters.{after_cut, chapter_of};
@@ -17,8 +17,8 @@ use moment_core::Moment;
 use std::marker::Model;
 use std::sync::ledger::{Share, Total};
 
-/// What lies under the lock of a site: its book, if one stands there, and its tickets. Tickets and places given are 2^44
-/// together.
+/// What lies under the lock of a site: its book, if one stands there, and its tickets. Tickets and places given are
+/// 2^44 together.
 #[derive(Drop)]
 pub(crate) struct Site<L: FabricLedger> {
     book: Option<MeterBook>,

@@ -1,18 +1,19 @@
 use crate::books::{opened, released, reserved, retired};
-use ds_broker::{BrokerRefusal, Limits};
+use ds_broker::{Book, BrokerRefusal, Limits};
 use ds_checker::Refusal;
-use ds_domain_base::{DomainFault, Field, Kind, Name, Section};
+use ds_domain_base::{Contract, DomainFault, Field, Kind, Name, Section};
+use std::alloc::Global;
+use std::process::Abort;
 use std::test::Fail;
 
-/// The domain of three contracts over a meter that is told in a few words. The text is examples/tight_burst.toml with
-/// `meter` in place of its own: 16 Mbit/s and 4,500 bytes there.
+/// The domain of examples/tight_burst.toml, a meter of 16 Mbit/s and 4,500 bytes, with two of its contracts.
 const TIGHT: &str = r#"
-meter = [{ name = "m", kind = "trtcm", cir = 16000000, cbs = 4500, pir = 16000000, pbs = 4500, skew = 500000 }]
+meter = [{ name = "m", kind = "trtcm", cir = 16000000, cbs = 4500, pir = 24000000, pbs = 13500, skew = 500000 }]
 port = [{ name = "p", skew = 0 }]
 link = [{ from = "p", to = "m", floor = 0, jitter = 1000000 }]
 contract = [
-    { name = "a", kind = "trusted", port = "p", path = ["m"], class = 1, cir = 8000000, cbs = 3000, src = "10.0.0.0/24" },
-    { name = "b", kind = "trusted", port = "p", path = ["m"], class = 2, cir = 8000000, cbs = 3000, src = "10.0.1.0/24" },
+{ name = "a", kind = "trusted", port = "p", path = ["m"], class = 1, cir = 8000000, cbs = 3000, src = "10.0.0.0/24" },
+{ name = "b", kind = "trusted", port = "p", path = ["m"], class = 2, cir = 8000000, cbs = 3000, src = "10.0.1.0/24" },
 ]
 "#;
 
@@ -22,8 +23,8 @@ meter = [{ name = "m", kind = "trtcm", cir = 24000000, cbs = 13500, pir = 240000
 port = [{ name = "p", skew = 0 }]
 link = [{ from = "p", to = "m", floor = 0, jitter = 1000000 }]
 contract = [
-    { name = "a", kind = "trusted", port = "p", path = ["m"], class = 1, cir = 8000000, cbs = 3000, src = "10.0.0.0/24" },
-    { name = "b", kind = "trusted", port = "p", path = ["m"], class = 2, cir = 8000000, cbs = 3000, src = "10.0.1.0/24" },
+{ name = "a", kind = "trusted", port = "p", path = ["m"], class = 1, cir = 8000000, cbs = 3000, src = "10.0.0.0/24" },
+{ name = "b", kind = "trusted", port = "p", path = ["m"], class = 2, cir = 8000000, cbs = 3000, src = "10.0.1.0/24" },
 ]
 "#;
 
@@ -32,38 +33,55 @@ const SINGLE_RATE: &str = r#"
 meter = [{ name = "m", kind = "srtcm", cir = 24000, cbs = 2000, ebs = 1000, skew = 0 }]
 port = [{ name = "p", skew = 0 }]
 link = [{ from = "p", to = "m", floor = 0, jitter = 0 }]
-contract = [
-    { name = "a", kind = "trusted", port = "p", path = ["m"], class = 1, cir = 8000, cbs = 1001, src = "10.0.0.0/24" },
-    { name = "b", kind = "trusted", port = "p", path = ["m"], class = 2, cir = 8000, cbs = 100, pir = 8000, pbs = 100, src = "10.0.1.0/24" },
-]
+
+[[contract]]
+name = "a"
+kind = "trusted"
+port = "p"
+path = ["m"]
+class = 1
+cir = 8000
+cbs = 1001
+src = "10.0.0.0/24"
+
+[[contract]]
+name = "b"
+kind = "trusted"
+port = "p"
+path = ["m"]
+class = 2
+cir = 8000
+cbs = 100
+pir = 8000
+pbs = 100
+src = "10.0.1.0/24"
 "#;
 
-#[test]
-fn a_share_is_sold_anew_when_its_hold_has_passed(rt: HostRuntime) -> Result<(), Fail> {
-    let alloc = rt.alloc();
-    let (mut book, contracts) = opened(alloc, TIGHT, 4096, 65_536)?;
-    let contracts = contracts.as_slice();
-    assert_eq!(rt;
-        reserved(alloc, &mut book, contracts, 0)?.ok(),
-        Some((1, 1, 0))
-    );
-    assert_eq!(rt; released(&mut book, 1, 1_000_000_000)?.ok(), Some(2));
+/// A released share stays held until its hold has passed, and is sold anew then.
+fn expect_a_share_is_sold_anew_when_its_hold_has_passed(
+    rt: &impl Abort,
+    alloc: Global,
+    book: &mut Book,
+    contracts: &[Contract],
+) -> Result<(), Fail> {
+    assert_eq!(rt; reserved(alloc, book, contracts, 0)?.ok(), Some((1, 1, 0)));
+    assert_eq!(rt; released(book, 1, 1_000_000_000)?.ok(), Some(2));
     let full = Refusal::GreenBurst {
         meter: Name::new("m")?,
         needed: 9000,
         available: 4500,
     };
     assert_eq!(rt;
-        reserved(alloc, &mut book, contracts, 1)?.err(),
+        reserved(alloc, book, contracts, 1)?.err(),
         Some(BrokerRefusal::Checker(full))
     );
     assert_eq!(rt;
-        retired(&mut book, 1, 1_005_999_999)?.err(),
+        retired(book, 1, 1_005_999_999)?.err(),
         Some(BrokerRefusal::HoldLeft(1))
     );
-    assert_eq!(rt; retired(&mut book, 1, 1_006_000_000)?.ok(), Some(3));
+    assert_eq!(rt; retired(book, 1, 1_006_000_000)?.ok(), Some(3));
     assert_eq!(rt;
-        reserved(alloc, &mut book, contracts, 1)?.ok(),
+        reserved(alloc, book, contracts, 1)?.ok(),
         Some((2, 4, 1_006_000_000))
     );
     let list = book.list(alloc)?;
@@ -75,12 +93,9 @@ fn a_share_is_sold_anew_when_its_hold_has_passed(rt: HostRuntime) -> Result<(), 
     assert_eq!(rt; entry.until, None);
     assert_eq!(rt; book.entry(2), Some(entry));
     assert_eq!(rt; book.entry(1), None);
+    assert_eq!(rt; retired(book, 1, 0)?.err(), Some(BrokerRefusal::UnknownId));
     assert_eq!(rt;
-        retired(&mut book, 1, 0)?.err(),
-        Some(BrokerRefusal::UnknownId)
-    );
-    assert_eq!(rt;
-        retired(&mut book, 2, 0)?.err(),
+        retired(book, 2, 0)?.err(),
         Some(BrokerRefusal::NotReleased)
     );
     assert_eq!(rt; book.serial().get(), 4);
@@ -92,27 +107,57 @@ fn a_share_is_sold_anew_when_its_hold_has_passed(rt: HostRuntime) -> Result<(), 
 }
 
 #[test]
+fn a_share_is_sold_anew_when_its_hold_has_passed(rt: HostRuntime) -> Result<(), Fail> {
+    let alloc = rt.alloc();
+    let (mut book, contracts) = opened(alloc, TIGHT, 4096, 65_536)?;
+    expect_a_share_is_sold_anew_when_its_hold_has_passed(
+        &rt,
+        alloc,
+        &mut book,
+        contracts.as_slice(),
+    )
+}
+
+/// A second release, an unknown id and a name in the book are refused.
+fn expect_commands_that_name_nothing_are_refused(
+    rt: &impl Abort,
+    alloc: Global,
+    book: &mut Book,
+    contracts: &[Contract],
+) -> Result<(), Fail> {
+    assert_eq!(rt; reserved(alloc, book, contracts, 0)?.ok(), Some((1, 1, 0)));
+    assert_eq!(rt; released(book, 1, 5)?.ok(), Some(2));
+    assert_eq!(rt;
+        released(book, 1, 7)?.err(),
+        Some(BrokerRefusal::AlreadyReleased)
+    );
+    assert_eq!(rt; released(book, 9, 7)?.err(), Some(BrokerRefusal::UnknownId));
+    let twice = DomainFault::new(Kind::Twice, Section::Contract, 0, Field::Name);
+    assert_eq!(rt;
+        reserved(alloc, book, contracts, 0)?.err(),
+        Some(BrokerRefusal::Contract(twice))
+    );
+    Ok(())
+}
+
+#[test]
 fn commands_that_name_nothing_are_refused(rt: HostRuntime) -> Result<(), Fail> {
     let alloc = rt.alloc();
     let (mut book, contracts) = opened(alloc, WIDE, 4096, 65_536)?;
-    let contracts = contracts.as_slice();
+    expect_commands_that_name_nothing_are_refused(&rt, alloc, &mut book, contracts.as_slice())
+}
+
+/// A table of one contract takes no second one.
+fn expect_a_full_table_takes_no_contract(
+    rt: &impl Abort,
+    alloc: Global,
+    book: &mut Book,
+    contracts: &[Contract],
+) -> Result<(), Fail> {
+    assert_eq!(rt; reserved(alloc, book, contracts, 0)?.ok(), Some((1, 1, 0)));
     assert_eq!(rt;
-        reserved(alloc, &mut book, contracts, 0)?.ok(),
-        Some((1, 1, 0))
-    );
-    assert_eq!(rt; released(&mut book, 1, 5)?.ok(), Some(2));
-    assert_eq!(rt;
-        released(&mut book, 1, 7)?.err(),
-        Some(BrokerRefusal::AlreadyReleased)
-    );
-    assert_eq!(rt;
-        released(&mut book, 9, 7)?.err(),
-        Some(BrokerRefusal::UnknownId)
-    );
-    let twice = DomainFault::new(Kind::Twice, Section::Contract, 0, Field::Name);
-    assert_eq!(rt;
-        reserved(alloc, &mut book, contracts, 0)?.err(),
-        Some(BrokerRefusal::Contract(twice))
+        reserved(alloc, book, contracts, 1)?.err(),
+        Some(BrokerRefusal::TableFull)
     );
     Ok(())
 }
@@ -121,14 +166,25 @@ fn commands_that_name_nothing_are_refused(rt: HostRuntime) -> Result<(), Fail> {
 fn a_full_table_takes_no_contract(rt: HostRuntime) -> Result<(), Fail> {
     let alloc = rt.alloc();
     let (mut book, contracts) = opened(alloc, WIDE, 1, 65_536)?;
-    let contracts = contracts.as_slice();
+    expect_a_full_table_takes_no_contract(&rt, alloc, &mut book, contracts.as_slice())
+}
+
+/// A history of one command takes no second one, and unknown ids are told first.
+fn expect_a_full_history_takes_no_command(
+    rt: &impl Abort,
+    alloc: Global,
+    book: &mut Book,
+    contracts: &[Contract],
+) -> Result<(), Fail> {
+    assert_eq!(rt; reserved(alloc, book, contracts, 0)?.ok(), Some((1, 1, 0)));
     assert_eq!(rt;
-        reserved(alloc, &mut book, contracts, 0)?.ok(),
-        Some((1, 1, 0))
+        released(book, 1, 5)?.err(),
+        Some(BrokerRefusal::HistoryFull)
     );
+    assert_eq!(rt; released(book, 9, 5)?.err(), Some(BrokerRefusal::UnknownId));
     assert_eq!(rt;
-        reserved(alloc, &mut book, contracts, 1)?.err(),
-        Some(BrokerRefusal::TableFull)
+        reserved(alloc, book, contracts, 1)?.err(),
+        Some(BrokerRefusal::HistoryFull)
     );
     Ok(())
 }
@@ -137,22 +193,25 @@ fn a_full_table_takes_no_contract(rt: HostRuntime) -> Result<(), Fail> {
 fn a_full_history_takes_no_command(rt: HostRuntime) -> Result<(), Fail> {
     let alloc = rt.alloc();
     let (mut book, contracts) = opened(alloc, WIDE, 4096, 1)?;
-    let contracts = contracts.as_slice();
+    expect_a_full_history_takes_no_command(&rt, alloc, &mut book, contracts.as_slice())
+}
+
+/// With one contract that may send yellow packets, all are held against the excess bucket.
+fn expect_yellow_packets_of_one_are_counted_with_green_ones_of_all(
+    rt: &impl Abort,
+    alloc: Global,
+    book: &mut Book,
+    contracts: &[Contract],
+) -> Result<(), Fail> {
+    assert_eq!(rt; reserved(alloc, book, contracts, 0)?.ok(), Some((1, 1, 0)));
+    let full = Refusal::AllBurst {
+        meter: Name::new("m")?,
+        needed: 1101,
+        available: 1000,
+    };
     assert_eq!(rt;
-        reserved(alloc, &mut book, contracts, 0)?.ok(),
-        Some((1, 1, 0))
-    );
-    assert_eq!(rt;
-        released(&mut book, 1, 5)?.err(),
-        Some(BrokerRefusal::HistoryFull)
-    );
-    assert_eq!(rt;
-        released(&mut book, 9, 5)?.err(),
-        Some(BrokerRefusal::UnknownId)
-    );
-    assert_eq!(rt;
-        reserved(alloc, &mut book, contracts, 1)?.err(),
-        Some(BrokerRefusal::HistoryFull)
+        reserved(alloc, book, contracts, 1)?.err(),
+        Some(BrokerRefusal::Checker(full))
     );
     Ok(())
 }
@@ -161,20 +220,25 @@ fn a_full_history_takes_no_command(rt: HostRuntime) -> Result<(), Fail> {
 fn yellow_packets_of_one_are_counted_with_green_ones_of_all(rt: HostRuntime) -> Result<(), Fail> {
     let alloc = rt.alloc();
     let (mut book, contracts) = opened(alloc, SINGLE_RATE, 4096, 65_536)?;
-    let contracts = contracts.as_slice();
-    assert_eq!(rt;
-        reserved(alloc, &mut book, contracts, 0)?.ok(),
-        Some((1, 1, 0))
-    );
-    let full = Refusal::AllBurst {
-        meter: Name::new("m")?,
-        needed: 1101,
-        available: 1000,
-    };
-    assert_eq!(rt;
-        reserved(alloc, &mut book, contracts, 1)?.err(),
-        Some(BrokerRefusal::Checker(full))
-    );
+    expect_yellow_packets_of_one_are_counted_with_green_ones_of_all(
+        &rt,
+        alloc,
+        &mut book,
+        contracts.as_slice(),
+    )
+}
+
+/// What is granted behind a release at the last moment begins then.
+fn expect_the_last_moment_is_kept(
+    rt: &impl Abort,
+    alloc: Global,
+    book: &mut Book,
+    contracts: &[Contract],
+) -> Result<(), Fail> {
+    assert_eq!(rt; reserved(alloc, book, contracts, 0)?.ok(), Some((1, 1, 0)));
+    assert_eq!(rt; released(book, 1, 9_223_372_036_854_775_807)?.ok(), Some(2));
+    let granted = reserved(alloc, book, contracts, 1)?.ok();
+    assert_eq!(rt; granted, Some((2, 3, 9_223_372_036_854_775_807)));
     Ok(())
 }
 
@@ -182,18 +246,7 @@ fn yellow_packets_of_one_are_counted_with_green_ones_of_all(rt: HostRuntime) -> 
 fn the_last_moment_is_kept(rt: HostRuntime) -> Result<(), Fail> {
     let alloc = rt.alloc();
     let (mut book, contracts) = opened(alloc, WIDE, 4096, 65_536)?;
-    let contracts = contracts.as_slice();
-    assert_eq!(rt;
-        reserved(alloc, &mut book, contracts, 0)?.ok(),
-        Some((1, 1, 0))
-    );
-    assert_eq!(rt;
-        released(&mut book, 1, 9_223_372_036_854_775_807)?.ok(),
-        Some(2)
-    );
-    let granted = reserved(alloc, &mut book, contracts, 1)?.ok();
-    assert_eq!(rt; granted, Some((2, 3, 9_223_372_036_854_775_807)));
-    Ok(())
+    expect_the_last_moment_is_kept(&rt, alloc, &mut book, contracts.as_slice())
 }
 
 #[test]

@@ -11,8 +11,8 @@ use std::sync::Wait;
 use std::sync::ledger::Blank;
 use std::test::Fail;
 
-/// A meter `m`, a port `p`, a link between them, and a contract that is policed at its edge to 8 Mbit/s and 1,500 bytes,
-/// and 16 Mbit/s and 3,000 bytes.
+/// A meter `m`, a port `p`, a link between them, and a contract that is policed at its edge to 8 Mbit/s and 1,500
+/// bytes, and 16 Mbit/s and 3,000 bytes.
 const POLICED: &str = r#"
 meter = [{ name = "m", kind = "trtcm", cir = 24000000, cbs = 13500, pir = 24000000, pbs = 13500, skew = 500000 }]
 port = [{ name = "p", skew = 0 }]

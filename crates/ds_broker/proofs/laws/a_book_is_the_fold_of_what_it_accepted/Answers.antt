@@ -1,6 +1,3 @@
-use Rattle.ds_broker.proofs.HoldingLaws.{first-below}
-use Rattle.ds_broker.proofs.HopelessLaws as hopeless
-use Rattle.ds_broker.proofs.TableLaws.{none-acceptable}
 use Rattle.ds_broker.proofs.RequestLaws.{accepted_fold}
 use Rattle.ds_broker.proofs.laws.a_book_is_the_fold_of_what_it_accepted.Goals as goal
 

@@ -1,5 +1,4 @@
-use Rattle.std.proofs.Common.{◌≡◌, Some, false, sym, ap, ◌∙◌}
-use Rattle.ds_broker.specs.Books.{held_of, is_held}
+use Rattle.std.proofs.Common.{◌≡◌, Some, sym, ap, ◌∙◌}
 use Rattle.ds_broker.proofs.BookLaws.{names-held}
 use Rattle.ds_broker.proofs.RefusalLaws.{fault-range, fault-twice, fault-way, match-err}
 use Rattle.ds_broker.proofs.book.Book.contract_fault.Goals as goal

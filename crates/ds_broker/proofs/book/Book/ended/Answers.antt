@@ -1,7 +1,5 @@
-use Rattle.std.proofs.Common.{◌≡◌, ◌≤◌, Some, arith, refl, sym, ap, ◌∙◌}
-use Rattle.std.specs.Prelude.{IsOk}
+use Rattle.std.proofs.Common.{arith, refl, ap, ◌∙◌}
 use Rattle.std.proofs.lemmas.Result.{Ok-from_Ok_iff, OkIff-at_ok}
-use Rattle.ds_domain_base.specs.Lifetimes.{IsInOrder}
 use Rattle.ds_broker.proofs.BookLaws.{contract-placed}
 use Rattle.ds_broker.proofs.HoldingLaws.{holding-at, in_order-ended, in_order-some}
 use Rattle.ds_broker.proofs.StandingLaws.{bounded-at, standing-bounded}

@@ -1,6 +1,5 @@
-use Rattle.std.proofs.Common.{◌≡◌, sym}
-use Rattle.ds_broker.proofs.KeptLaws.{kept-retired}
-use Rattle.ds_broker.proofs.BookLaws.{accepted-view, found-at, missing-at}
+use Rattle.std.proofs.Common.{sym}
+use Rattle.ds_broker.proofs.BookLaws.{found-at, missing-at}
 use Rattle.ds_broker.proofs.book.Book.find.Goals as goal
 
 pub returns-in_err-place-clause-missing : goal.returns-in_err-place-clause-missing

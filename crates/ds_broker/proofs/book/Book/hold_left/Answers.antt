@@ -1,6 +1,6 @@
-use Rattle.std.proofs.Common.{◌≡◌, ◌≤◌, ◌-◌, arith, refl, sym, ap, ◌∙◌}
+use Rattle.std.proofs.Common.{arith, ap, ◌∙◌}
 use Rattle.std.specs.Prelude.{unwrap_or}
-use Rattle.ds_broker.proofs.BookLaws.{contract-placed, hold-placed, insert-present, left-of}
+use Rattle.ds_broker.proofs.BookLaws.{contract-placed, hold-placed}
 use Rattle.ds_broker.proofs.HoldingLaws.{holding-at}
 use Rattle.ds_broker.proofs.book.Book.hold_left.Goals as goal
 

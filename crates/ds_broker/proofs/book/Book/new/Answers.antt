@@ -1,4 +1,4 @@
-use Rattle.std.proofs.Common.{◌≡◌, refl, ap, ◌∙◌}
+use Rattle.std.proofs.Common.{refl, ◌∙◌}
 use Rattle.std.proofs.lemmas.Result.{OkIff-at_ok}
 use Rattle.ds_broker.proofs.HopelessLaws.{only_memory}
 use Rattle.ds_broker.proofs.KeptLaws.{kept-opened}

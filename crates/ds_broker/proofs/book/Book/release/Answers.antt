@@ -1,4 +1,4 @@
-use Rattle.std.proofs.Common.{◌≡◌, ◌++◌, rules, refl, sym, ap, ◌∙◌}
+use Rattle.std.proofs.Common.{◌≡◌, rules, refl, sym, ◌∙◌}
 use Rattle.std.specs.Prelude.{max}
 use Rattle.ds_broker.proofs.BookLaws.{ids-present, insert-present}
 use Rattle.ds_broker.proofs.KeptLaws.{kept-released}

@@ -1,4 +1,4 @@
-use Rattle.std.proofs.Common.{◌≡◌, ◌<◌, ◌++◌, ◌+◌, ◌⊎◌, false, None, Some, inl, inr, rules, arith, refl, sym, ap, ◌∙◌}
+use Rattle.std.proofs.Common.{◌≡◌, ◌+◌, false, None, inl, inr, rules, arith, refl, sym, ap, ◌∙◌}
 use Rattle.std.specs.Prelude.{length, max, nat_eq, option_map}
 use Rattle.std.specs.Str.{bytes_eq}
 use Rattle.indexmap.specs.IndexMap.{insert_entry}

@@ -1,5 +1,5 @@
-use Rattle.std.proofs.Common.{◌≡◌, ◌<◌, ◌≤◌, ◌++◌, true, rules, arith, refl, sym, ap, ◌∙◌}
-use Rattle.std.specs.Prelude.{length, max}
+use Rattle.std.proofs.Common.{◌≡◌, true, rules, arith, refl, sym, ap, ◌∙◌}
+use Rattle.std.specs.Prelude.{max}
 use Rattle.ds_broker.specs.Books.{newest_of}
 use Rattle.ds_broker.proofs.BookLaws.{contracts-length, one-at}
 use Rattle.ds_broker.proofs.HoldingLaws.{first-below}
