@@ -1,5 +1,6 @@
 //! What a book would hold with a command more, on a copy.
 ghost use Rattle.std.specs.Prelude.{◌≡◌, ◌⊎◌, ◌-◌, None, Some, IfErr, IfOk, OnOk, map};
+ghost use Rattle.indexmap.specs.IndexMap.{keys};
 ghost use Rattle.ds_broker.specs.Books.{table_of, with_command};
 ghost use Rattle.ds_broker.specs.Entries.{flows_of, next_serial};
 ghost use Rattle.ds_broker.specs.Refusals.{refusal_in};
@@ -154,11 +155,7 @@ impl Book {
 
 /// The flows of ids, in their order: each id less 1.
 fn flows(alloc: Global, ids: &IndexMap<u32, bool>) -> Result<Vec<u32>, AllocError>
-    ensures { IfOk result (λ flows. flows.items ≡ map (λ entry. entry.0 - 1) ids.now.entries) }
+    ensures { IfOk result (λ flows. flows.items ≡ map (λ id. id - 1) (keys ids.now)) }
 {
-    let mut flows = Vec::with_capacity(alloc, ids.len())?;
-    for (id, _) in ids.iter() {
-        flows.push(id.saturating_sub(1))?;
-    }
-    Ok(flows)
+    ids.keys().map(|id| id.saturating_sub(1)).collect(alloc)
 }
