@@ -1,12 +1,13 @@
 -- What acts do to a history.
 use Rattle.std.proofs.Common.{◌≡◌, ℕ, List, [], ◌∷◌, ◌++◌, fold, refl, ap, sym, ◌∙◌, option_to_list}
-use Rattle.std.proofs.Common.{append_assoc, subst}
+use Rattle.std.proofs.Common.{append_assoc, subst, arith, ◌≤◌, Bool, true, false, length, take, nat_le, MatchBool}
+use Rattle.std.proofs.lemmas.Bool.Decides.{nat_tests}
 use mathlib.Core.List.{IsPrefix}
 use Rattle.ds_broker.specs.declared.command.Command.{Command}
 use Rattle.ds_desk.specs.declared.log.Act.{Act}
 use Rattle.ds_desk.specs.declared.log.Act.TheVariants.{Tried, Kept}
 use Rattle.ds_desk.specs.Acts.{Course, course_after, course_of, opening_course, history_in, story_in}
-use Rattle.ds_desk.proofs.Fronts.{prefix_self, prefix_trans}
+use Rattle.ds_desk.proofs.Fronts.{fronts_begin, prefix_self, prefix_trans}
 
 fold_last : (acts : List Act) (act : Act) (c : Course) → fold course_after c (acts ++ act ∷ []) ≡ course_after (fold course_after c acts) act
 fold_last [] act c = refl
@@ -41,3 +42,13 @@ history_grows xs ys p = unfold course_of in
     subst (λ (l : List Act). IsPrefix (fold course_after opening_course xs).accepted (fold course_after opening_course l).accepted) p.1
       (subst (λ (c : Course). IsPrefix (fold course_after opening_course xs).accepted c.accepted) (sym (fold_parts xs p.0 opening_course))
         (fold_grows p.0 (fold course_after opening_course xs)))
+
+-- of two fronts of one log, each with the history that far, the one that goes further has the longer history
+pub covers_by : (xs ys zs : List Act) (n m : ℕ) → IsPrefix xs zs → IsPrefix ys zs → n ≤ length xs → m ≤ length ys → (b : Bool) → nat_le m n ≡ b
+    → MatchBool b (IsPrefix (history_in (take m ys)) (history_in (take n xs))) (IsPrefix (history_in (take n xs)) (history_in (take m ys)))
+covers_by xs ys zs n m p q in_xs in_ys true is =
+    let le : m ≤ n = grind (arith, nat_tests) in
+    history_grows (take m ys) (take n xs) (fronts_begin ys xs zs m n q p in_ys in_xs le)
+covers_by xs ys zs n m p q in_xs in_ys false is =
+    let le : n ≤ m = grind (arith, nat_tests) in
+    history_grows (take n xs) (take m ys) (fronts_begin xs ys zs n m p q in_xs in_ys le)

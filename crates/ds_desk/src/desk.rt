@@ -16,7 +16,6 @@ use ds_domain_base::{Contract, Domain};
 use moment_core::Moment;
 use std::alloc::{AllocError, Global};
 use std::marker::Model;
-use std::mem::replace_with;
 use std::sync::Wait;
 
 /// A book with feeds: readers in any threads, who see its table as it is, and wait for nobody. Contracts see it as its
@@ -128,9 +127,7 @@ impl<J: Naming, R: Wait + Drop> Desk<J, R> {
         };
         match self.book.reserve(contract) {
             Ok(grant) => {
-                replace_with(&mut self.press, &self.rt, |press, rt| {
-                    (press.keep(rt, &page), ())
-                });
+                self.press.keep(&self.rt, &page);
                 Ok(Granted {
                     grant,
                     front: self.front(),
@@ -160,9 +157,7 @@ impl<J: Naming, R: Wait + Drop> Desk<J, R> {
         };
         match self.book.release(id, at) {
             Ok(serial) => {
-                replace_with(&mut self.press, &self.rt, |press, rt| {
-                    (press.keep(rt, &page), ())
-                });
+                self.press.keep(&self.rt, &page);
                 Ok(Done {
                     serial,
                     front: self.front(),
@@ -192,9 +187,7 @@ impl<J: Naming, R: Wait + Drop> Desk<J, R> {
         };
         match self.book.retire(id, moment) {
             Ok(serial) => {
-                replace_with(&mut self.press, &self.rt, |press, rt| {
-                    (press.keep(rt, &page), ())
-                });
+                self.press.keep(&self.rt, &page);
                 Ok(Done {
                     serial,
                     front: self.front(),

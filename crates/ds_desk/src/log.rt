@@ -101,6 +101,7 @@ impl Naming for Brand {
 }
 
 /// An empty log, for a desk that is to be opened. Contracts see which one it is.
+#[derive(Drop)]
 pub struct Opened {
     head: Word<Act, u64, Law>,
     end: End,

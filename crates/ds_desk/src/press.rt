@@ -10,6 +10,7 @@ ghost use Rattle.ds_desk.specs.declared.log.Act.TheVariants.{Kept};
 
 use crate::log::{End, Keeping, Log, Naming, Opened, Trying};
 use crate::page::{OneDesk, Page, Sees, Shown};
+use core::mem::replace_with;
 use ds_broker::{Book, BrokerRefusal, Command, Next};
 use left_right::writer::Writer;
 use std::alloc::{AllocError, Global};
@@ -116,24 +117,28 @@ impl<J: Naming> Press<J> {
     }
 
     /// Keeps the command of the page that was laid up last, and shows that page.
-    pub(crate) fn keep<R: Wait>(self, rt: &R, page: &Page) -> Press<J>
-        requires log { self.end.seen.book ≡ J.log }
-        requires tried { page.now.tried ≡ self.end }
+    pub(crate) fn keep<R: Wait>(&mut self, rt: &R, page: &Page)
+        requires log { self.old.end.seen.book ≡ J.log }
+        requires tried { page.now.tried ≡ self.old.end }
         requires domain { page.now.table.domain ≡ J.opening.domain }
-        requires laid { last_page (arc_value self.tables.desk.shown.value.page)
-            (drop self.tables.behind self.tables.log.items) ≡ page.now }
-        ensures log { result.end.seen.book ≡ J.log }
-        ensures history { history_in result.end.seen.log ≡ story_in self.end.seen.log }
-        ensures shown { arc_value result.tables.desk.shown.value.page ≡ page.now }
+        requires laid { last_page (arc_value self.old.tables.desk.shown.value.page)
+            (drop self.old.tables.behind self.old.tables.log.items) ≡ page.now }
+        ensures log { self.new.end.seen.book ≡ J.log }
+        ensures history { history_in self.new.end.seen.log ≡ story_in self.old.end.seen.log }
+        ensures shown { arc_value self.new.tables.desk.shown.value.page ≡ page.now }
     {
-        let Press { log, end, tables } = self;
-        let end = kept(rt, &log, &end);
-        page.keep(&end);
-        Press {
-            log,
-            end,
-            tables: shown(rt, tables),
-        }
+        self.end = kept(rt, &self.log, &self.end);
+        page.keep(&self.end);
+        replace_with(
+            &mut self.tables,
+            rt,
+            |tables: Tables<J>, rt: &R| -> (Tables<J>, ())
+                requires { ((last_page (arc_value tables.desk.shown.value.page)
+                    (drop tables.behind tables.log.items)).tried.seen.book ≡ J.log)
+                    × ((last_page (arc_value tables.desk.shown.value.page)
+                    (drop tables.behind tables.log.items)).table.domain ≡ J.opening.domain) }
+            { (shown(rt, tables), ()) },
+        );
     }
 }
 
