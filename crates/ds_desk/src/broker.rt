@@ -17,6 +17,7 @@ use std::sync::{Mutex, Wait};
 /// All its answers are of one history, that of its desk: an accepted command is the last of the history that stands beside
 /// its answer, and answered as the book behind those before it answers; and a refused one was refused by the book behind
 /// the history that stands beside the refusal.
+#[derive(Drop)]
 pub struct Broker<J: Naming, R: Wait + Drop> {
     desk: Mutex<Desk<J, R>>,
 }

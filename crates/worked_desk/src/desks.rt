@@ -22,6 +22,7 @@ contract = [
 "#;
 
 /// What a desk is opened with.
+#[derive(Drop)]
 pub struct Plan {
     pub domain: Domain,
     pub limits: Limits,

@@ -1,7 +1,7 @@
-ghost use Rattle.std.specs.Prelude.{◌≡◌, [], length};
+ghost use Rattle.std.specs.Prelude.{◌≡◌, []};
 
 use crate::desks::{Plan, contract, four, opened, tight};
-use ds_broker::{BrokerRefusal, Limits};
+use ds_broker::{BrokerRefusal, Grant, Limits};
 use ds_checker::Refusal;
 use ds_desk::{Broker, Feed, Front, Naming, Opened};
 use ds_domain_base::{Contract, Domain, Name};
@@ -11,7 +11,7 @@ use std::marker::Brand;
 use std::process::Abort;
 use std::sync::Wait;
 use std::test::Fail;
-use std::thread::{Threads, join};
+use std::thread::{Threads, join, map_vec};
 
 /// How often each caller sells, and each feed looks.
 const EACH: u32 = 1000;
@@ -82,55 +82,94 @@ fn of_two_callers_one_is_granted(rt: HostRuntime) -> Result<(), Fail> {
             limits,
             contracts,
         } = tight(alloc)?;
-        one_of_two::<Brand, _>(rt, alloc, Opened::new(), domain, limits, contracts.as_slice())?;
+        one_of_two::<Brand, _>(
+            rt,
+            alloc,
+            Opened::new(),
+            domain,
+            limits,
+            contracts.as_slice(),
+        )?;
     }
     Ok(())
 }
 
-/// What a caller did: which ids it was granted, and the front of its last answer.
-struct Caller<J: Naming> {
-    ids: Vec<u32>,
-    last: Front<J>,
+/// What a thread does: it sells a contract over and over, or looks over and over.
+#[derive(Drop)]
+enum Job<J: Naming> {
+    Sell(Contract),
+    Watch(Feed<J>),
 }
 
-/// Retires a contract, at the first moment of some at which its hold has passed.
+/// What a thread leaves: the ids that it was granted, and the front of its last answer; or its feed.
+#[derive(Drop)]
+enum Left<J: Naming> {
+    Sold(Vec<u32>, Front<J>),
+    Watched(Feed<J>),
+}
+
+/// What a contract is granted as. None where it is refused.
+fn granted<J: Naming, R: Wait + Drop, W: Wait>(
+    rt: &W,
+    broker: &Broker<J, R>,
+    contract: Contract,
+) -> Option<Grant> {
+    match broker.reserve(rt, contract) {
+        Ok(granted) => Some(granted.grant),
+        Err(_) => None,
+    }
+}
+
+/// The front of a retirement. None where it is refused.
+fn given_back<J: Naming, R: Wait + Drop, W: Wait>(
+    rt: &W,
+    broker: &Broker<J, R>,
+    id: u32,
+    moment: Moment,
+) -> Option<Front<J>> {
+    match broker.retire(rt, id, moment) {
+        Ok(done) => Some(done.front),
+        Err(_) => None,
+    }
+}
+
+/// Retires the contract of an id, at the first moment of some behind its beginning at which its hold has passed.
 fn give_back<J: Naming, R: Wait + Drop, W: Wait>(
     rt: &W,
     broker: &Broker<J, R>,
     id: u32,
-    since: Moment,
+    since: u64,
 ) -> Option<Front<J>> {
     for seconds in 1..1000u64 {
-        let moment = Moment::new(since.get() + seconds * 1_000_000_000).ok()?;
-        if let Ok(done) = broker.retire(rt, id, moment) {
-            return Some(done.front);
+        let moment = since.checked_add(seconds * 1_000_000_000)?;
+        let front = given_back(rt, broker, id, Moment::new(moment).ok()?);
+        if front.is_some() {
+            return front;
         }
     }
     None
 }
 
 /// Reserves, releases and retires a contract over and over. None where a command is refused.
-fn call<J: Naming, R: Wait + Drop, W: Wait>(
+fn sell_each<J: Naming, R: Wait + Drop, W: Wait>(
     rt: &W,
     alloc: Global,
     broker: &Broker<J, R>,
     sold: &Contract,
-    known: Front<J>,
-) -> Option<Caller<J>> {
+) -> Option<Left<J>> {
     let mut ids = Vec::with_capacity(alloc, 1000).ok()?;
-    let mut last = known;
+    let mut last = None;
     for _ in 0..EACH {
-        let granted = broker.reserve(rt, sold.copy(alloc).ok()?).ok()?;
-        ids.push(granted.grant.id).ok()?;
-        let since = granted.grant.since;
-        broker.release(rt, granted.grant.id, since).ok()?;
-        last = give_back(rt, broker, granted.grant.id, since)?;
+        let grant = granted(rt, broker, sold.copy(alloc).ok()?)?;
+        ids.push(grant.id).ok()?;
+        broker.release(rt, grant.id, grant.since).ok()?;
+        last = Some(give_back(rt, broker, grant.id, grant.since.get())?);
     }
-    Some(Caller { ids, last })
+    Some(Left::Sold(ids, last?))
 }
 
 /// Looks over and over. The feed, where no serial falls and each table has as many flows as contracts.
-fn watch<J: Naming>(feed: Feed<J>) -> Option<Feed<J>> {
+fn watch<J: Naming>(feed: Feed<J>) -> Option<Left<J>> {
     let mut feed = feed;
     let mut newest = 0;
     for _ in 0..EACH {
@@ -143,60 +182,80 @@ fn watch<J: Naming>(feed: Feed<J>) -> Option<Feed<J>> {
         }
         newest = serial;
     }
-    Some(feed)
+    Some(Left::Watched(feed))
 }
 
-/// What two callers and two feeds left behind.
-type Half<J> = ((Option<Caller<J>>, Option<Caller<J>>), (Option<Feed<J>>, Option<Feed<J>>));
-
-/// Two callers sell a contract each, beside two feeds that look.
-fn half<J: Naming + Send + Sync, R: Wait + Drop + Send + Sync, W: Threads + Wait + Sync>(
+/// Does the job of a thread. None where it does not come out.
+fn run<J: Naming, R: Wait + Drop, W: Wait>(
     rt: &W,
     alloc: Global,
     broker: &Broker<J, R>,
-    sold: (&Contract, &Contract),
-    known: (Front<J>, Front<J>),
-    feeds: (Feed<J>, Feed<J>),
-) -> Half<J> {
-    let (one, other) = sold;
-    let (first, second) = known;
-    let (left, right) = feeds;
-    join(
-        rt,
-        move || {
-            join(
-                rt,
-                move || call(rt, alloc, broker, one, first),
-                move || call(rt, alloc, broker, other, second),
-            )
-        },
-        move || join(rt, move || watch(left), move || watch(right)),
-    )
+    job: Job<J>,
+) -> Option<Left<J>> {
+    match job {
+        Job::Sell(sold) => sell_each(rt, alloc, broker, &sold),
+        Job::Watch(feed) => watch(feed),
+    }
 }
 
-/// Takes down what a caller was granted, and shows a feed that learned its last answer at least that much.
-fn settled<J: Naming>(
-    ids: &mut Vec<u32>,
-    caller: Option<Caller<J>>,
-    feed: Option<Feed<J>>,
-) -> Result<(), Fail> {
-    let caller = caller.ok_or("a command was refused")?;
-    for id in caller.ids.iter() {
-        ids.push(*id)?;
+/// The serial that a feed sees once it has learned of some answers.
+fn serial_behind<J: Naming>(feed: Feed<J>, fronts: &[Front<J>]) -> Result<u32, Fail> {
+    let mut feed = feed;
+    for front in fronts {
+        feed = feed.learn(front);
     }
-    let feed = feed.ok_or("a look failed")?.learn(&caller.last);
     let Ok(seen) = feed.look() else {
         return Err(Fail::from("nothing is seen"));
     };
     let serial = seen.serial();
     seen.end();
-    if serial < caller.last.serial() {
-        return Err(Fail::from("an answer is not seen"));
-    }
-    Ok(())
+    Ok(serial.get())
 }
 
-/// Four callers sell beside four feeds: all ids differ, and each feed sees what it learned.
+/// The jobs of threads that sell a contract each, and of threads that look through a feed each.
+fn jobs<J: Naming>(
+    alloc: Global,
+    contracts: &[Contract],
+    feeds: Vec<Feed<J>>,
+) -> Result<Vec<Job<J>>, Fail> {
+    let mut jobs = Vec::new(alloc);
+    for contract in contracts {
+        jobs.push(Job::Sell(contract.copy(alloc)?))?;
+    }
+    for feed in feeds {
+        jobs.push(Job::Watch(feed))?;
+    }
+    Ok(jobs)
+}
+
+/// What all threads left: the ids that they were granted, the fronts of their last answers, and their feeds.
+#[derive(Drop)]
+struct Gathered<J: Naming> {
+    ids: Vec<u32>,
+    fronts: Vec<Front<J>>,
+    feeds: Vec<Feed<J>>,
+}
+
+/// Takes together what all threads left.
+fn gather<J: Naming>(alloc: Global, all: Vec<Option<Left<J>>>) -> Result<Gathered<J>, Fail> {
+    let mut ids = Vec::new(alloc);
+    let mut fronts = Vec::new(alloc);
+    let mut feeds = Vec::new(alloc);
+    for left in all {
+        match left.ok_or("a command is refused, or a look fails")? {
+            Left::Sold(sold, front) => {
+                for id in sold.iter() {
+                    ids.push(*id)?;
+                }
+                fronts.push(front)?;
+            }
+            Left::Watched(feed) => feeds.push(feed)?,
+        }
+    }
+    Ok(Gathered { ids, fronts, feeds })
+}
+
+/// Four callers sell beside four feeds: all ids differ, and each feed sees all that was accepted.
 fn four_beside_four<J: Naming + Send + Sync, R: Threads + Wait + Abort + Copy + Drop + Send + Sync>(
     rt: R,
     alloc: Global,
@@ -207,30 +266,25 @@ fn four_beside_four<J: Naming + Send + Sync, R: Threads + Wait + Abort + Copy + 
 ) -> Result<(), Fail>
     requires log { log ≡ J.log }
     requires opening { J.opening ≡ record { domain = domain; limits = limits; history = [] } }
-    requires four { length contracts.now ≡ 4 }
 {
-    let (broker, mut feeds) = opened::<J, R>(rt, alloc, log, domain, limits, 5)?;
-    let start = feeds.pop().ok_or("five feeds")?.known().again();
-    let one = (feeds.pop().ok_or("five feeds")?, feeds.pop().ok_or("five feeds")?);
-    let two = (feeds.pop().ok_or("five feeds")?, feeds.pop().ok_or("five feeds")?);
-    let (known, beside) = ((start.again(), start.again()), (start.again(), start.again()));
+    let (broker, feeds) = opened::<J, R>(rt, alloc, log, domain, limits, 4)?;
     let (rt, shared) = (&rt, &broker);
-    let (a, b, c, d) = (&contracts[0], &contracts[1], &contracts[2], &contracts[3]);
-    let (left, right) = join(
-        rt,
-        move || half(rt, alloc, shared, (a, b), known, one),
-        move || half(rt, alloc, shared, (c, d), beside, two),
-    );
-    let mut ids = Vec::with_capacity(alloc, 4000)?;
-    settled(&mut ids, left.0.0, left.1.0)?;
-    settled(&mut ids, left.0.1, left.1.1)?;
-    settled(&mut ids, right.0.0, right.1.0)?;
-    settled(&mut ids, right.0.1, right.1.1)?;
+    let jobs = jobs(alloc, contracts, feeds)?;
+    let all = map_vec(rt, jobs, &|job| run(rt, alloc, shared, job))?;
+    let Gathered {
+        mut ids,
+        fronts,
+        feeds,
+    } = gather(alloc, all)?;
+    assert_eq!(rt; ids.len(), 4000);
     ids.as_mut_slice().sort_unstable();
     for (place, id) in ids.iter().enumerate() {
         assert_eq!(rt; *id as usize, place + 1);
     }
-    assert_eq!(rt; ids.len(), 4000);
+    assert_eq!(rt; feeds.len(), 4);
+    for feed in feeds {
+        assert_eq!(rt; serial_behind(feed, fronts.as_slice())?, 12_000);
+    }
     Ok(())
 }
 
@@ -242,7 +296,12 @@ fn four_callers_sell_beside_four_feeds(rt: HostRuntime) -> Result<(), Fail> {
         limits,
         contracts,
     } = four(alloc)?;
-    let contracts = contracts.as_slice();
-    assert_eq!(rt; contracts.len(), 4);
-    four_beside_four::<Brand, _>(rt, alloc, Opened::new(), domain, limits, contracts)
+    four_beside_four::<Brand, _>(
+        rt,
+        alloc,
+        Opened::new(),
+        domain,
+        limits,
+        contracts.as_slice(),
+    )
 }
