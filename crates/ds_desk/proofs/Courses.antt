@@ -1,6 +1,6 @@
 -- What acts do to a history.
-use Rattle.std.proofs.Common.{◌≡◌, ℕ, List, [], ◌∷◌, ◌++◌, fold, refl, ap, sym, ◌∙◌, option_to_list}
-use Rattle.std.proofs.Common.{append_assoc, subst, arith, ◌≤◌, Bool, true, false, length, take, nat_le, MatchBool}
+use Rattle.std.proofs.Common.{◌≡◌, ℕ, List, [], ◌∷◌, ◌++◌, fold, refl, ap, sym, option_to_list}
+use Rattle.std.proofs.Common.{subst, arith, ◌≤◌, Bool, true, false, length, take, nat_le, MatchBool}
 use Rattle.std.proofs.lemmas.Bool.Decides.{nat_tests}
 use mathlib.Core.List.{IsPrefix}
 use Rattle.ds_broker.specs.declared.command.Command.{Command}
@@ -30,7 +30,7 @@ fold_grows [] c = prefix_self c.accepted
 fold_grows (Tried command ∷ acts) c = fold_grows acts (course_after c (Tried command))
 fold_grows (Kept ∷ acts) c =
     prefix_trans c.accepted (c.accepted ++ option_to_list c.tried) (fold course_after (course_after c Kept) acts).accepted
-      (option_to_list c.tried, refl) (fold_grows acts (course_after c Kept))
+    (option_to_list c.tried, refl) (fold_grows acts (course_after c Kept))
 
 fold_parts : (xs ys : List Act) (c : Course) → fold course_after c (xs ++ ys) ≡ fold course_after (fold course_after c xs) ys
 fold_parts [] ys c = refl
@@ -40,8 +40,8 @@ fold_parts (x ∷ xs) ys c = fold_parts xs ys (course_after c x)
 pub history_grows : (xs ys : List Act) → IsPrefix xs ys → IsPrefix (history_in xs) (history_in ys)
 history_grows xs ys p = unfold course_of in
     subst (λ (l : List Act). IsPrefix (fold course_after opening_course xs).accepted (fold course_after opening_course l).accepted) p.1
-      (subst (λ (c : Course). IsPrefix (fold course_after opening_course xs).accepted c.accepted) (sym (fold_parts xs p.0 opening_course))
-        (fold_grows p.0 (fold course_after opening_course xs)))
+    (subst (λ (c : Course). IsPrefix (fold course_after opening_course xs).accepted c.accepted) (sym (fold_parts xs p.0 opening_course))
+    (fold_grows p.0 (fold course_after opening_course xs)))
 
 -- of two fronts of one log, each with the history that far, the one that goes further has the longer history
 pub covers_by : (xs ys zs : List Act) (n m : ℕ) → IsPrefix xs zs → IsPrefix ys zs → n ≤ length xs → m ≤ length ys → (b : Bool) → nat_le m n ≡ b

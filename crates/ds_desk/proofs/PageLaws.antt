@@ -1,5 +1,5 @@
 -- What a page stands for, as the log of its desk grows.
-use Rattle.std.proofs.Common.{◌≡◌, ℕ, suc, ◌+◌, ◌-◌, ◌<◌, ◌≤◌, List, [], ◌∷◌, ◌++◌, length, take, slice_get, Some, refl, ap, sym, subst, ◌∙◌, arith}
+use Rattle.std.proofs.Common.{◌≡◌, ℕ, suc, ◌-◌, ◌<◌, ◌≤◌, List, [], ◌∷◌, ◌++◌, length, take, slice_get, Some, refl, ap, sym, ◌∙◌, arith}
 use mathlib.Core.List.{IsPrefix}
 use Rattle.ds_checker.specs.Acceptance.{Table}
 use Rattle.ds_broker.specs.Books.{Book, table_of}

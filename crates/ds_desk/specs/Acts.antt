@@ -1,5 +1,5 @@
 -- What a desk does to its log: it tries a command, and keeps it.
-use Rattle.std.specs.Prelude.{ℕ, List, [], ◌++◌, fold, option_to_list, Option, None, Some}
+use Rattle.std.specs.Prelude.{List, [], ◌++◌, fold, option_to_list, Option, None, Some}
 use Rattle.ds_broker.specs.declared.command.Command.{Command}
 use Rattle.ds_desk.specs.declared.log.Act.{Act}
 use Rattle.ds_desk.specs.declared.log.Act.TheVariants.{Tried, Kept}

@@ -63,12 +63,7 @@ impl<J: Naming, R: Wait + Drop> Broker<J, R> {
     }
 
     /// Gives the share of a released contract back, once its hold has passed.
-    pub fn retire<W: Wait>(
-        &self,
-        rt: &W,
-        id: u32,
-        moment: Moment,
-    ) -> Result<Done<J>, Refused<J>>
+    pub fn retire<W: Wait>(&self, rt: &W, id: u32, moment: Moment) -> Result<Done<J>, Refused<J>>
         ensures retired { IfOk result (λ done. (before : List commands.Command)
             × (done.front ≡ before ++ Retire id moment ∷ [])
             × (done.serial ≡ next_serial (book_behind J.opening before))

@@ -187,13 +187,15 @@ impl<J: Naming> Log<J> {
         let mut seen = end.seen.again();
         let mut offer: Offer<Act, u64, Law, Nothing> = seen.plain::<Nothing, X, M>(about);
         let mut pen = seen.no_pen();
-        let found = self.head.compare_exchange::<Add, Nothing>(
-            end.acts,
-            end.acts + 1,
-            &mut seen,
-            &mut offer,
-            &mut pen,
-        );
+        let found = self
+            .head
+            .compare_exchange::<Add, Nothing>(
+                end.acts,
+                end.acts + 1,
+                &mut seen,
+                &mut offer,
+                &mut pen,
+            );
         if found == end.acts {
             Some(End {
                 acts: end.acts + 1,

@@ -1,4 +1,4 @@
-use Rattle.std.proofs.Common.{◌≡◌, None, length, sym, ap, ◌∙◌}
+use Rattle.std.proofs.Common.{◌≡◌, length, sym, ap, ◌∙◌}
 use Rattle.ds_desk.proofs.Adding.{adds_moves}
 use Rattle.ds_desk.proofs.log.Log.add.Goals as goal
 

@@ -1,4 +1,4 @@
-use Rattle.std.proofs.Common.{◌≡◌, ◌-◌, ◌<◌, List, length, arith, rules, ap, subst, sym, ◌∙◌}
+use Rattle.std.proofs.Common.{◌≡◌, ◌-◌, ◌<◌, List, length, rules, ap, subst, sym, ◌∙◌}
 use mathlib.Core.List.{IsPrefix}
 use Rattle.ds_desk.specs.declared.log.Act.{Act}
 use Rattle.ds_desk.proofs.PageLaws.{front_kept}

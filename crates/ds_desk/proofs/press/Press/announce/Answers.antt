@@ -9,7 +9,7 @@ pub new-page-requires-clause-table : goal.new-page-requires-clause-table
 new-page-requires-clause-table g c =
     let story = story_announced c.args.self.now.end.seen.log c.in-Some.end.seen.log c.args.command.now c.args.book.now.history c.requires.history c.in-Some.ensures.0 in
     table_told c.in-Ok.next.table (with_command c.args.book.now c.args.command.now) (story_in c.again.result.seen.log) c.in-Ok.ensures.table
-      (ap (λ e. story_in e.seen.log) c.again.ensures ∙ story)
+    (ap (λ e. story_in e.seen.log) c.again.ensures ∙ story)
 
 pub new-page-requires-clause-flows : goal.new-page-requires-clause-flows
 new-page-requires-clause-flows g c =
@@ -21,7 +21,7 @@ new-page-requires-clause-serial g c =
     let story = story_announced c.args.self.now.end.seen.log c.in-Some.end.seen.log c.args.command.now c.args.book.now.history c.requires.history c.in-Some.ensures.0 in
     let same = ap (λ e. story_in e.seen.log) c.again.ensures ∙ story in
     let serial : c.in-Ok.next.serial ≡ length (c.args.book.now.history ++ c.args.command.now ∷ []) =
-      omega (arith, c.in-Ok.ensures.serial, length-append c.args.book.now.history (c.args.command.now ∷ [])) in
+    omega (arith, c.in-Ok.ensures.serial, length-append c.args.book.now.history (c.args.command.now ∷ [])) in
     serial ∙ ap length (sym same)
 
 pub returns-in_default-new-clause-history : goal.returns-in_default-new-clause-history

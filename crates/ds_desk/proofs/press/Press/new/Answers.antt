@@ -1,4 +1,4 @@
-use Rattle.std.proofs.Common.{◌≡◌, refl, ap, sym, ◌∙◌}
+use Rattle.std.proofs.Common.{ap, sym, ◌∙◌}
 use Rattle.std.specs.Prelude.{length}
 use Rattle.ds_desk.specs.Acts.{story_in}
 use Rattle.ds_desk.specs.Histories.{flows_behind}
@@ -9,7 +9,7 @@ use Rattle.ds_desk.proofs.press.Press.new.Goals as goal
 pub new-page-requires-clause-table : goal.new-page-requires-clause-table
 new-page-requires-clause-table g c =
     table_told c.in_ok-table.table c.args.book.now (story_in c.named-log.result.1.seen.log) (c.in_ok-table.ensures ∙ c.table.ensures.value)
-      (story_opening c.named-log.result.1.seen.log c.named-log.ensures.0 ∙ sym c.requires.empty)
+    (story_opening c.named-log.result.1.seen.log c.named-log.ensures.0 ∙ sym c.requires.empty)
 
 pub new-page-requires-clause-flows : goal.new-page-requires-clause-flows
 unfolding standing_of
