@@ -2,6 +2,7 @@ pub mod BookLaws
 pub mod HoldingLaws
 pub mod HopelessLaws
 pub mod KeptLaws
+pub mod NextLaws
 pub mod RefusalLaws
 pub mod RequestLaws
 pub mod StandingLaws

@@ -47,3 +47,7 @@ unfoldable pub told_of : List (ℕ × Bool) → List Contract → List Entry
 told_of (id ∷ ids) (c ∷ contracts) =
     record { id = id.0; name = c.name; since = c.lifetime.since; until = c.lifetime.until } ∷ told_of ids contracts
 told_of ids contracts = []
+
+-- the flows of what is held, each the id less 1, in order of admission
+abbrev pub flows_of : Book → List ℕ
+flows_of b = map (λ h. h.id - 1) (held_of b)

@@ -27,6 +27,10 @@ use moment_core::Moment;
 use std::alloc::{AllocError, Global};
 use std::marker::Model;
 
+mod next;
+
+pub use next::Next;
+
 /// The book of a broker: which contracts of a domain are granted, under which ids, and until when.
 ///
 /// All that it answers follows from the commands that it accepted so far, its history: a reserve adds its contract

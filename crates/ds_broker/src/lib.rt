@@ -9,7 +9,7 @@ pub mod laws;
 pub mod limits;
 pub mod refusal;
 
-pub use book::Book;
+pub use book::{Book, Next};
 pub use command::Command;
 pub use entry::{Entry, Grant, Room, Serial};
 pub use limits::Limits;

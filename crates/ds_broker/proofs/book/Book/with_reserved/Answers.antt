@@ -1,0 +1,47 @@
+use Rattle.std.proofs.Common.{◌≡◌, None, inl, inr, rules, sym, ap, ◌∙◌}
+use Rattle.std.specs.Prelude.{max, option_map}
+use Rattle.ds_broker.specs.Books.{moment_in, newest_of, standing, table_of}
+use Rattle.ds_broker.specs.Refusals.{room_refusal}
+use Rattle.ds_broker.specs.declared.refusal.BrokerRefusal.TheVariants.{Checker}
+use Rattle.ds_broker.proofs.NextLaws.{flows-after-reserve, flows-kept, table-after-reserve}
+use Rattle.ds_broker.proofs.TableLaws.{checked-refusal}
+use Rattle.ds_broker.proofs.book.Book.with_reserved.Goals as goal
+
+pub returns-in-Err-clause-refused : goal.returns-in-Err-clause-refused
+returns-in-Err-clause-refused c =
+    let b = c.args.self.now in
+    let k = c.args.contract.now in
+    let none : room_refusal b k ≡ None = sym c.room_refusal.ensures.value ∙ c.in_default.is in
+    let table : c.in-Ok.table ≡ table_of b = c.in-Ok.ensures ∙ c.self.invariant.table ∙ ap table_of c.self.view_is in
+    let since : c.max-since.result ≡ max c.self.inside.newest k.lifetime.since = search rules in
+    let moment : c.max-since.result ≡ moment_in b k.lifetime.since = since ∙ ap (λ m. max m k.lifetime.since) (c.self.invariant.newest ∙ ap newest_of c.self.view_is) in
+    elim c.in-Err.ensures.refused [
+      | inl memory ↦ inl memory
+      | inr refused ↦ inr (checked-refusal b k c.in-Ok.table c.max-since.result none table moment ∙ refused)
+    ]
+
+pub returns-in-Ok-push-clause-table : goal.returns-in-Ok-push-clause-table
+returns-in-Ok-push-clause-table c =
+    let b = c.args.self.now in
+    let k = c.args.contract.now in
+    let table : c.in-Ok.table ≡ table_of b = c.in-Ok.ensures ∙ c.self.invariant.table ∙ ap table_of c.self.view_is in
+    let since : c.max-since.result ≡ max c.self.inside.newest k.lifetime.since = search rules in
+    let moment : c.max-since.result ≡ moment_in b k.lifetime.since = since ∙ ap (λ m. max m k.lifetime.since) (c.self.invariant.newest ∙ ap newest_of c.self.view_is) in
+    table-after-reserve b k c.in-Ok.table c.admit.new.table c.max-since.result table moment c.in_default-admit.ensures.admitted
+
+pub returns-in-Ok-push-clause-flows : goal.returns-in-Ok-push-clause-flows
+returns-in-Ok-push-clause-flows c =
+    let b = c.args.self.now in
+    let own = flows-kept c.self.inside b c.self.view_is c.self.invariant c.in-Ok-flows.flows.items c.in-Ok-flows.ensures in
+    let granted = c.self.invariant.granted ∙ ap (λ x. (standing x).granted) c.self.view_is in
+    flows-after-reserve b c.args.contract.now c.in-Ok-flows.flows.items c.push.new.self.items c.self.inside.granted own granted c.in-Ok-push.ensures.items
+
+pub returns-in-Ok-push-clause-unrefused : goal.returns-in-Ok-push-clause-unrefused
+returns-in-Ok-push-clause-unrefused c =
+    let b = c.args.self.now in
+    let k = c.args.contract.now in
+    let none : room_refusal b k ≡ None = sym c.room_refusal.ensures.value ∙ c.in_default.is in
+    let table : c.in-Ok.table ≡ table_of b = c.in-Ok.ensures ∙ c.self.invariant.table ∙ ap table_of c.self.view_is in
+    let since : c.max-since.result ≡ max c.self.inside.newest k.lifetime.since = search rules in
+    let moment : c.max-since.result ≡ moment_in b k.lifetime.since = since ∙ ap (λ m. max m k.lifetime.since) (c.self.invariant.newest ∙ ap newest_of c.self.view_is) in
+    checked-refusal b k c.in-Ok.table c.max-since.result none table moment ∙ ap (λ o. option_map Checker o) c.in_default-admit.ensures.unrefused

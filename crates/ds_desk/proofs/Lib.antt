@@ -1,0 +1,4 @@
+pub mod Adding
+pub mod Courses
+pub mod Fronts
+pub mod PageLaws

@@ -1,0 +1,45 @@
+use Rattle.std.proofs.Common.{◌≡◌, ◌++◌, ◌∷◌, [], length, arith, length-append, ap, sym, ◌∙◌}
+use Rattle.ds_broker.specs.Books.{with_command}
+use Rattle.ds_desk.specs.Acts.{story_in}
+use Rattle.ds_desk.specs.Histories.{flows_behind}
+use Rattle.ds_desk.proofs.PageLaws.{history_announced, story_announced, table_told}
+use Rattle.ds_desk.proofs.press.Press.announce.Goals as goal
+
+pub new-page-requires-clause-table : goal.new-page-requires-clause-table
+new-page-requires-clause-table g c =
+    let story = story_announced c.args.self.now.end.seen.log c.in-Some.end.seen.log c.args.command.now c.args.book.now.history c.requires.history c.in-Some.ensures.0 in
+    table_told c.in-Ok.next.table (with_command c.args.book.now c.args.command.now) (story_in c.again.result.seen.log) c.in-Ok.ensures.table
+    (ap (λ e. story_in e.seen.log) c.again.ensures ∙ story)
+
+pub new-page-requires-clause-flows : goal.new-page-requires-clause-flows
+new-page-requires-clause-flows g c =
+    let story = story_announced c.args.self.now.end.seen.log c.in-Some.end.seen.log c.args.command.now c.args.book.now.history c.requires.history c.in-Some.ensures.0 in
+    c.in-Ok.ensures.flows ∙ ap flows_behind (sym (ap (λ e. story_in e.seen.log) c.again.ensures ∙ story))
+
+pub new-page-requires-clause-serial : goal.new-page-requires-clause-serial
+new-page-requires-clause-serial g c =
+    let story = story_announced c.args.self.now.end.seen.log c.in-Some.end.seen.log c.args.command.now c.args.book.now.history c.requires.history c.in-Some.ensures.0 in
+    let same = ap (λ e. story_in e.seen.log) c.again.ensures ∙ story in
+    let serial : c.in-Ok.next.serial ≡ length (c.args.book.now.history ++ c.args.command.now ∷ []) =
+    omega (arith, c.in-Ok.ensures.serial, length-append c.args.book.now.history (c.args.command.now ∷ [])) in
+    serial ∙ ap length (sym same)
+
+pub returns-in_default-new-clause-history : goal.returns-in_default-new-clause-history
+returns-in_default-new-clause-history g c =
+    history_announced c.args.self.now.end.seen.log c.in-Some.end.seen.log c.args.command.now c.args.book.now.history c.requires.history c.in-Some.ensures.0
+
+pub returns-in_default-try_clone-clause-history : goal.returns-in_default-try_clone-clause-history
+returns-in_default-try_clone-clause-history g c =
+    history_announced c.args.self.now.end.seen.log c.in-Some.end.seen.log c.args.command.now c.args.book.now.history c.requires.history c.in-Some.ensures.0
+
+pub returns-in-Ok-append-clause-history : goal.returns-in-Ok-append-clause-history
+returns-in-Ok-append-clause-history g c =
+    history_announced c.args.self.now.end.seen.log c.in-Some.end.seen.log c.args.command.now c.args.book.now.history c.requires.history c.in-Some.ensures.0
+
+pub returns-in-Ok-append-clause-story : goal.returns-in-Ok-append-clause-story
+returns-in-Ok-append-clause-story g c =
+    story_announced c.args.self.now.end.seen.log c.in-Some.end.seen.log c.args.command.now c.args.book.now.history c.requires.history c.in-Some.ensures.0
+
+pub returns-in-Err-append-clause-history : goal.returns-in-Err-append-clause-history
+returns-in-Err-append-clause-history g c =
+    history_announced c.args.self.now.end.seen.log c.in-Some.end.seen.log c.args.command.now c.args.book.now.history c.requires.history c.in-Some.ensures.0

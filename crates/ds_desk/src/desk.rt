@@ -1,0 +1,245 @@
+//! A desk: a book, and the writer of its feeds' tables.
+ghost use Rattle.std.specs.Prelude.{◌≡◌, ◌⊎◌, ◌<◌, ◌≤◌, [], None, Some, IfErr, IfOk, OnErr, OnOk, vec_len};
+ghost use Rattle.ds_checker.specs.Acceptance.{IsAcceptable};
+ghost use Rattle.ds_broker.specs.Books.{table_of, with_command};
+ghost use Rattle.ds_broker.specs.Entries.{grant_of, next_serial};
+ghost use Rattle.ds_broker.specs.Refusals.{release_refusal, reserve_refusal, retire_refusal};
+ghost use Rattle.ds_desk.specs.Histories.{book_behind};
+
+use crate::answer::{Done, Granted, Refused};
+use crate::feed::Feed;
+use crate::log::{Front, Naming, Opened};
+use crate::press::Press;
+use ds_broker::{Book, BrokerRefusal, Command, Limits};
+use ds_checker::Accepted;
+use ds_domain_base::{Contract, Domain};
+use moment_core::Moment;
+use std::alloc::{AllocError, Global};
+use std::marker::Model;
+use std::sync::Wait;
+
+/// A book with feeds: readers in any threads, who see its table as it is, and wait for nobody. Contracts see it as its
+/// book.
+///
+/// It keeps the handle `R`, since a command, and the desk's end, wait for feeds that look at an older table.
+pub struct Desk<J: Naming, R: Wait + Drop> {
+    book: Book,
+    press: Press<J>,
+    alloc: Global,
+    rt: R,
+}
+
+impl<J: Naming, R: Wait + Drop> Model for Desk<J, R> {
+    ghost use Rattle.std.specs.Prelude.{◌≡◌};
+    ghost use Rattle.std.specs.Arc.{arc_value};
+    ghost use Rattle.ds_broker.specs.Books as books;
+    ghost use Rattle.ds_desk.specs.Acts.{history_in};
+
+    ghost Value = { books.Book };
+
+    ghost view = { λ d. d.book };
+
+    ghost invariant = { λ d. (d.press.end.seen.book ≡ J.log)
+        × (history_in d.press.end.seen.log ≡ d.book.history)
+        × (d.book.domain ≡ J.opening.domain)
+        × (d.book.limits ≡ J.opening.limits)
+        × ((arc_value d.press.tables.desk.shown.value.page).table ≡ books.table_of d.book) };
+}
+
+impl<J: Naming, R: Wait + Drop> Drop for Desk<J, R> {
+    fn drop(self) {
+        let Self {
+            book: _book,
+            press,
+            alloc: _,
+            rt,
+        } = self;
+        press.end(&rt);
+    }
+}
+
+impl<J: Naming, R: Wait + Drop> Desk<J, R> {
+    ghost use Rattle.ds_broker.specs.declared.command.Command.TheVariants.{Reserve, Release, Retire};
+    ghost use Rattle.ds_broker.specs.declared.refusal.BrokerRefusal.TheVariants.{NoMemory};
+
+    /// A desk for a domain with no contract in it, and so many feeds, which know of no command; where memory runs out it
+    /// hands the domain back.
+    pub fn new(
+        alloc: Global,
+        rt: R,
+        opened: Opened,
+        domain: Domain,
+        limits: Limits,
+        feeds: usize,
+    ) -> Result<(Self, Vec<Feed<J>>), (Domain, BrokerRefusal)>
+        requires log { opened ≡ J.log }
+        requires opening { J.opening ≡ record { domain = domain; limits = limits; history = [] } }
+        requires feeds { (0 < feeds) × (feeds ≤ 64) }
+        ensures opened { IfOk result (λ made. made.0 ≡ J.opening) }
+        ensures feeds { IfOk result (λ made. vec_len made.1 ≡ feeds) }
+        ensures back { IfErr result (λ refused. refused.0 ≡ domain) }
+        ensures memory { IfErr result (λ refused. refused.1 ≡ NoMemory) }
+    {
+        let Ok(own) = domain.copy(alloc) else {
+            return Err((domain, BrokerRefusal::NoMemory));
+        };
+        let Ok(book) = Book::new(alloc, own, limits) else {
+            return Err((domain, BrokerRefusal::NoMemory));
+        };
+        let Ok(press) = Press::new(alloc, opened, &book, feeds) else {
+            return Err((domain, BrokerRefusal::NoMemory));
+        };
+        let desk = Desk {
+            book,
+            press,
+            alloc,
+            rt,
+        };
+        match desk.feeds(feeds) {
+            Ok(feeds) => Ok((desk, feeds)),
+            Err(_) => Err((domain, BrokerRefusal::NoMemory)),
+        }
+    }
+
+    /// Grants a contract, as its book does, and shows the table with it to the feeds.
+    ///
+    /// Refused as the book refuses it: with the contract handed back, the book unchanged, and feeds seeing what they saw.
+    pub fn reserve(&mut self, contract: Contract) -> Result<Granted<J>, (Contract, Refused<J>)>
+        ensures granted { IfOk result (λ granted. granted.grant ≡ grant_of self.old contract) }
+        ensures accepted { OnOk result (self.new ≡ with_command self.old (Reserve contract)) }
+        ensures unrefused { OnOk result (reserve_refusal self.old contract ≡ None) }
+        ensures stands { IfOk result (λ granted. granted.front ≡ self.new.history) }
+        ensures back { IfErr result (λ refused. refused.0 ≡ contract) }
+        ensures refused { IfErr result (λ refused. (refused.1.refusal ≡ NoMemory)
+            ⊎ (reserve_refusal self.old contract ≡ Some refused.1.refusal)) }
+        ensures front { IfErr result (λ refused. refused.1.front ≡ self.old.history) }
+        ensures unchanged { OnErr result (self.new ≡ self.old) }
+        ensures named { self.old ≡ book_behind J.opening self.old.history }
+    {
+        let command = Command::Reserve(contract);
+        let announced = self.press.announce(self.alloc, &self.book, &command);
+        let Command::Reserve(contract) = command else {
+            unreachable!()
+        };
+        let page = match announced {
+            Ok(page) => page,
+            Err(refusal) => return Err((contract, self.refused(refusal))),
+        };
+        match self.book.reserve(contract) {
+            Ok(grant) => {
+                self.press.keep(&self.rt, &page);
+                Ok(Granted {
+                    grant,
+                    front: self.front(),
+                })
+            }
+            Err((contract, refusal)) => Err((contract, self.refused(refusal))),
+        }
+    }
+
+    /// Ends the contract of an id, as its book does, and shows the table to the feeds. Refused as the book refuses it:
+    /// unchanged, and with feeds seeing what they saw.
+    pub fn release(&mut self, id: u32, at: Moment) -> Result<Done<J>, Refused<J>>
+        ensures released { IfOk result (λ done. done.serial ≡ next_serial self.old) }
+        ensures accepted { OnOk result (self.new ≡ with_command self.old (Release id at)) }
+        ensures unrefused { OnOk result (release_refusal self.old id ≡ None) }
+        ensures stands { IfOk result (λ done. done.front ≡ self.new.history) }
+        ensures refused { IfErr result (λ refused. (refused.refusal ≡ NoMemory)
+            ⊎ (release_refusal self.old id ≡ Some refused.refusal)) }
+        ensures front { IfErr result (λ refused. refused.front ≡ self.old.history) }
+        ensures unchanged { OnErr result (self.new ≡ self.old) }
+        ensures named { self.old ≡ book_behind J.opening self.old.history }
+    {
+        let command = Command::Release { id, at };
+        let page = match self.press.announce(self.alloc, &self.book, &command) {
+            Ok(page) => page,
+            Err(refusal) => return Err(self.refused(refusal)),
+        };
+        match self.book.release(id, at) {
+            Ok(serial) => {
+                self.press.keep(&self.rt, &page);
+                Ok(Done {
+                    serial,
+                    front: self.front(),
+                })
+            }
+            Err(refusal) => Err(self.refused(refusal)),
+        }
+    }
+
+    /// Gives the share of a released contract back, as its book does, and shows the table to the feeds. Refused as the
+    /// book refuses it: unchanged, and with feeds seeing what they saw.
+    pub fn retire(&mut self, id: u32, moment: Moment) -> Result<Done<J>, Refused<J>>
+        ensures retired { IfOk result (λ done. done.serial ≡ next_serial self.old) }
+        ensures accepted { OnOk result (self.new ≡ with_command self.old (Retire id moment)) }
+        ensures unrefused { OnOk result (retire_refusal self.old id moment ≡ None) }
+        ensures stands { IfOk result (λ done. done.front ≡ self.new.history) }
+        ensures refused { IfErr result (λ refused. (refused.refusal ≡ NoMemory)
+            ⊎ (retire_refusal self.old id moment ≡ Some refused.refusal)) }
+        ensures front { IfErr result (λ refused. refused.front ≡ self.old.history) }
+        ensures unchanged { OnErr result (self.new ≡ self.old) }
+        ensures named { self.old ≡ book_behind J.opening self.old.history }
+    {
+        let command = Command::Retire { id, moment };
+        let page = match self.press.announce(self.alloc, &self.book, &command) {
+            Ok(page) => page,
+            Err(refusal) => return Err(self.refused(refusal)),
+        };
+        match self.book.retire(id, moment) {
+            Ok(serial) => {
+                self.press.keep(&self.rt, &page);
+                Ok(Done {
+                    serial,
+                    front: self.front(),
+                })
+            }
+            Err(refusal) => Err(self.refused(refusal)),
+        }
+    }
+
+    /// Its book.
+    pub fn book(&self) -> &Book
+        ensures { result.now ≡ self.now }
+    {
+        &self.book
+    }
+
+    /// The table that feeds see: what its book holds, with the least certificate.
+    pub fn published(&self) -> &Accepted
+        ensures value { result.now ≡ table_of self.now }
+        ensures acceptable { IsAcceptable result.now }
+    {
+        let table = &self.press.tables.published().page.table;
+        let _domain = table.domain();
+        table
+    }
+
+    /// Its history up to now.
+    pub fn front(&self) -> Front<J>
+        ensures { result ≡ self.now.history }
+    {
+        Front::at(&self.press.end, self.book.serial())
+    }
+
+    /// A refusal, beside the history up to now.
+    fn refused(&self, refusal: BrokerRefusal) -> Refused<J>
+        ensures { (result.refusal ≡ refusal) × (result.front ≡ self.now.history) }
+    {
+        Refused {
+            refusal,
+            front: self.front(),
+        }
+    }
+
+    /// So many feeds, which know what its history is now.
+    fn feeds(&self, count: usize) -> Result<Vec<Feed<J>>, AllocError>
+        ensures { IfOk result (λ feeds. vec_len feeds ≡ count) }
+    {
+        let mut feeds = Vec::with_capacity(self.alloc, count)?;
+        for _ in 0..count {
+            let reader = self.press.tables.factory().reader()?;
+            feeds.push(Feed::new(reader, self.front()))?;
+        }
+        Ok(feeds)
+    }
+}

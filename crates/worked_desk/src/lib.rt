@@ -1,0 +1,10 @@
+//! Worked rows of a broker that many threads call: what it and its feeds answer. They stand here, and not beside those
+//! calls, since a crate with tests is proved twice.
+#![tactic(auto)]
+
+#[cfg(test)]
+mod broker_rows;
+#[cfg(test)]
+mod desks;
+#[cfg(test)]
+mod thread_rows;
