@@ -9,6 +9,7 @@ use crate::page::{OneDesk, Sees, Shown};
 use ds_broker::Serial;
 use ds_checker::Accepted;
 use left_right::reader::{Reader, Reading};
+use meter_fabric_base::Numbered;
 use std::marker::Model;
 
 /// A reader of a desk's tables, in any thread. It waits for nobody, and takes no memory. Contracts see it as the commands
@@ -119,6 +120,17 @@ impl<J: Naming> Seen<J> {
         ensures { result.now ≡ flows_behind self.now }
     {
         self.reading.get().page.flows.as_slice()
+    }
+
+    /// The table with the flows of its contracts, by which packets of them begin.
+    pub fn numbered(&self) -> Numbered<'_>
+        ensures table { result.accepted.now ≡ table_behind J.opening.domain self.now }
+        ensures flows { result.flows.now ≡ flows_behind self.now }
+    {
+        Numbered {
+            accepted: self.table(),
+            flows: self.flows(),
+        }
     }
 
     /// The history behind the table, to be compared with others of the desk.

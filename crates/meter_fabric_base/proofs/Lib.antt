@@ -1,4 +1,5 @@
 pub mod GroundLaws
+pub mod NumberedLaws
 pub mod PathLaws
 pub mod RangeLaws
 pub mod TrailLaws

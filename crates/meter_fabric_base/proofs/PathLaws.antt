@@ -27,7 +27,7 @@ short_test long fails = grind (arith, nat_tests)
 fits_short : (d : Domain) (c : Contract) → fits d c ≡ true → length c.path ≤ 16
 fits_short d c good = short_test (length c.path) (second_fails _ _ _ _ _ good)
 
-certified_short : (d : Domain) (contracts : List Contract) (certificate : List (List Bound)) (place : ℕ) (c : Contract)
+pub certified_short : (d : Domain) (contracts : List Contract) (certificate : List (List Bound)) (place : ℕ) (c : Contract)
     → IsCertificate d contracts certificate → slice_get contracts place ≡ Some c → length c.path ≤ 16
 certified_short d [] certificate place c good is = absurd cc
 certified_short d (x ∷ contracts) [] place c good is = absurd good

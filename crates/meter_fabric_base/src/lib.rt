@@ -3,12 +3,14 @@
 
 pub mod fault;
 pub mod hop;
+pub mod numbered;
 pub mod site;
 pub mod trail;
 pub mod traveller;
 
 pub use fault::{BeginFault, VisitFault};
 pub use hop::{Hop, edge_hop};
+pub use numbered::Numbered;
 pub use site::{
     MOST_FLOWS, Opening, contract_of, edge_opening, flow_count, flows_of, opening_at, site_count,
     site_of,

@@ -1,18 +1,24 @@
-ghost use Rattle.std.specs.Prelude.{◌≡◌, ◌↔◌, None, Some, Ok, IfOk, IfErr, OnOk, OnErr, IsErrOf};
+ghost use Rattle.std.specs.Prelude.{◌≡◌, ◌<◌, ◌≤◌, ◌↔◌, [], None, Some, Ok, IfOk, IfErr, OnOk, OnErr, IsErrOf};
+ghost use Rattle.std.specs.Prelude.{length};
+ghost use Rattle.ds_domain_base.specs.Sent.{came};
 ghost use Rattle.meter_fabric_base.specs.Grounds.{contract_of, ground_of};
+ghost use Rattle.meter_fabric_base.specs.Numbered.{numbered_ground};
+ghost use Rattle.meter_fabric_base.specs.Sites.{hops_of};
 ghost use Rattle.meter_fabric_base.specs.Trails.{IsReceipt, IsTrail, arrival_at, packet_of};
 ghost use Rattle.meter_fabric_base.specs.Travels.{begun_of, comes_as, last_moment, next_hop, next_site, received};
 ghost use Rattle.meter_fabric_base.specs.Travels.{refusal_of, visit};
 
 use crate::fault::{BeginFault, VisitFault};
 use crate::hop::{Hop, hops_of};
+use crate::numbered::Numbered;
 use crate::site::contract_of;
 use crate::trail::{Receipt, Trail};
 use af_marker::Dscp;
 use ds_checker::Accepted;
+use ds_domain_base::{Contract, Domain};
 use meter_book::{Arrival, MeterBook, Row};
 use moment_core::{Colour, Moment, PacketSize};
-use std::alloc::Global;
+use std::alloc::{AllocError, Global};
 use std::marker::Model;
 
 /// A packet on its way, with the hops of its way and a receipt of each that it has visited.
@@ -59,17 +65,69 @@ impl Traveller {
         let Some(contract) = contract_of(accepted, flow) else {
             return Err(BeginFault::UnknownFlow);
         };
-        let hops = hops_of(alloc, accepted.domain(), flow, contract)?;
-        let receipts = Vec::with_capacity(alloc, hops.len())?;
         let trail = Trail {
             flow,
             packet,
             size,
             dscp,
             begun: moment,
-            receipts,
+            receipts: Vec::new(alloc),
         };
-        let came = contract.came(dscp);
+        Ok(Traveller::on_way(alloc, accepted.domain(), contract, trail)?)
+    }
+
+    /// The same, of a contract by its own flow, in a table in which its place may be another.
+    ///
+    /// Refused as `begin` is.
+    pub fn begin_numbered(
+        alloc: Global,
+        numbered: &Numbered<'_>,
+        flow: u32,
+        packet: u64,
+        size: PacketSize,
+        dscp: Dscp,
+        moment: Moment,
+    ) -> Result<Traveller, BeginFault>
+        ensures begun { IfOk result (λ traveller.
+            begun_of (numbered_ground numbered.now.accepted.now numbered.now.flows.now)
+            (record { flow = flow; number = packet; size = size; dscp = dscp; begun = moment }) ≡ Some traveller) }
+        ensures unknown { IsErrOf result BeginFault.UnknownFlow
+            ↔ (contract_of (numbered_ground numbered.now.accepted.now numbered.now.flows.now) flow ≡ None) }
+    {
+        let Some(contract) = numbered.contract_of(flow) else {
+            return Err(BeginFault::UnknownFlow);
+        };
+        let trail = Trail {
+            flow,
+            packet,
+            size,
+            dscp,
+            begun: moment,
+            receipts: Vec::new(alloc),
+        };
+        Ok(Traveller::on_way(alloc, numbered.accepted.domain(), contract, trail)?)
+    }
+
+    /// A packet at the beginning of a contract's way, with room for a receipt of each hop.
+    fn on_way(
+        alloc: Global,
+        domain: &Domain,
+        contract: &Contract,
+        mut trail: Trail,
+    ) -> Result<Traveller, AllocError>
+        requires numbered { trail.flow < 4294966272 }
+        requires short { length contract.now.path ≤ 16 }
+        requires fresh { trail.receipts.items ≡ [] }
+        ensures { IfOk result (λ traveller. traveller ≡ record {
+          packet = packet_of trail;
+          came = came contract.now trail.dscp;
+          hops = hops_of domain.now trail.flow contract.now;
+          receipts = [];
+        }) }
+    {
+        let hops = hops_of(alloc, domain, trail.flow, contract)?;
+        trail.receipts.reserve(hops.len())?;
+        let came = contract.came(trail.dscp);
         Ok(Traveller { trail, came, hops })
     }
 

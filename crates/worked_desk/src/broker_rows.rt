@@ -1,10 +1,13 @@
 ghost use Rattle.std.specs.Prelude.{◌≡◌, []};
 
 use crate::desks::{Plan, contract, opened, released, reserved, retired, tight};
+use af_marker::Dscp;
 use ds_broker::{BrokerRefusal, Limits};
 use ds_checker::Refusal;
 use ds_desk::{Broker, Feed, Naming, Opened};
 use ds_domain_base::{Contract, Domain, Name};
+use meter_fabric_base::{Numbered, Traveller};
+use moment_core::{Moment, PacketSize};
 use std::alloc::Global;
 use std::marker::Brand;
 use std::process::Abort;
@@ -24,6 +27,25 @@ fn looked<J: Naming>(feed: Feed<J>) -> Result<((u32, usize, u32), Feed<J>), Fail
         }
         Err(_) => Err(Fail::from("nothing is seen")),
     }
+}
+
+/// Whether a packet of a flow can begin over a table.
+fn begins(alloc: Global, numbered: &Numbered<'_>, flow: u32) -> Result<bool, Fail> {
+    let (size, dscp) = (PacketSize::new(100)?, Dscp::new(10)?);
+    let begun = Moment::new(2_000_000_000)?;
+    let begun = Traveller::begin_numbered(alloc, numbered, flow, 1, size, dscp, begun);
+    Ok(begun.is_ok())
+}
+
+/// Of which of the first two flows packets can begin, as a feed sees it.
+fn begun<J: Naming>(alloc: Global, feed: Feed<J>) -> Result<(bool, bool), Fail> {
+    let Ok(seen) = feed.look() else {
+        return Err(Fail::from("nothing is seen"));
+    };
+    let numbered = seen.numbered();
+    let (first, second) = (begins(alloc, &numbered, 0), begins(alloc, &numbered, 1));
+    seen.end();
+    Ok((first?, second?))
 }
 
 /// The first contract is granted, and a feed sees it once it has learned of it.
@@ -100,8 +122,9 @@ fn sold_anew<J: Naming, R: Wait + Abort + Copy + Drop>(
     assert_eq!(rt; released(rt, &broker, 1, 1_000_000_000)?, Ok((2, 2)));
     refused_meanwhile(rt, &broker, contract(alloc, contracts, 1)?)?;
     sold_again(rt, &broker, contract(alloc, contracts, 1)?)?;
-    let (seen, _feed) = looked(feed)?;
+    let (seen, feed) = looked(feed)?;
     assert_eq!(rt; seen, (4, 1, 1));
+    assert_eq!(rt; begun(alloc, feed)?, (false, true));
     Ok(())
 }
 

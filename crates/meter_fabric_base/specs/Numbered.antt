@@ -1,0 +1,10 @@
+-- What runs stand on where contracts have flows of their own.
+use Rattle.std.specs.Prelude.{ℕ, nat_lt, List}
+use Rattle.std.specs.List.{filter, zip}
+use Rattle.ds_checker.specs.Acceptance.{Table}
+use Rattle.meter_fabric_base.specs.Grounds.{Ground, most_flows}
+
+-- a table whose contracts have flows of their own, as a ground: of the flows, those that packets can be of
+abbrev pub numbered_ground : Table → List ℕ → Ground
+numbered_ground t flows =
+    record { domain = t.domain; contracts = filter (λ entry. nat_lt entry.0 most_flows) (zip flows t.contracts) }
