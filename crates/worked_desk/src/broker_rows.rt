@@ -30,11 +30,15 @@ fn looked<J: Naming>(feed: Feed<J>) -> Result<((u32, usize, u32), Feed<J>), Fail
 }
 
 /// Whether a packet of a flow can begin over a table.
-fn begins(alloc: Global, numbered: &Numbered<'_>, flow: u32) -> Result<bool, Fail> {
-    let (size, dscp) = (PacketSize::new(100)?, Dscp::new(10)?);
-    let begun = Moment::new(2_000_000_000)?;
-    let begun = Traveller::begin_numbered(alloc, numbered, flow, 1, size, dscp, begun);
-    Ok(begun.is_ok())
+fn begins(alloc: Global, numbered: &Numbered<'_>, flow: u32) -> bool {
+    let (Ok(size), Ok(dscp), Ok(begun)) = (
+        PacketSize::new(100),
+        Dscp::new(10),
+        Moment::new(2_000_000_000),
+    ) else {
+        return false;
+    };
+    Traveller::begin_numbered(alloc, numbered, flow, 1, size, dscp, begun).is_ok()
 }
 
 /// Of which of the first two flows packets can begin, as a feed sees it.
@@ -43,9 +47,9 @@ fn begun<J: Naming>(alloc: Global, feed: Feed<J>) -> Result<(bool, bool), Fail> 
         return Err(Fail::from("nothing is seen"));
     };
     let numbered = seen.numbered();
-    let (first, second) = (begins(alloc, &numbered, 0), begins(alloc, &numbered, 1));
+    let told = (begins(alloc, &numbered, 0), begins(alloc, &numbered, 1));
     seen.end();
-    Ok((first?, second?))
+    Ok(told)
 }
 
 /// The first contract is granted, and a feed sees it once it has learned of it.
