@@ -11,8 +11,8 @@ use ds_checker::Accepted;
 use left_right::reader::{Reader, Reading};
 use std::marker::Model;
 
-/// A reader of a desk's tables, in any thread. It waits for nobody, and takes no memory. Contracts see it as the commands
-/// that it knows of: those behind the tables that it saw, and behind the answers that it learned.
+/// A reader of a desk's tables, in any thread. It waits for nobody, and takes no memory. Contracts see it as the
+/// commands that it knows of: those behind the tables that it saw, and behind the answers that it learned.
 #[derive(Drop)]
 pub struct Feed<J: Naming> {
     reader: Reader<Shown, (), OneDesk<J>>,
