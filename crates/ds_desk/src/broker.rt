@@ -14,9 +14,9 @@ use std::sync::{Mutex, Wait};
 
 /// A broker: a desk under a lock. Its feeds take no lock.
 ///
-/// All its answers are of one history, that of its desk: an accepted command is the last of the history that stands beside
-/// its answer, and answered as the book behind those before it answers; and a refused one was refused by the book behind
-/// the history that stands beside the refusal.
+/// All its answers are of one history, that of its desk: an accepted command is the last of the history that stands
+/// beside its answer, and answered as the book behind those before it answers; and a refused one was refused by the
+/// book behind the history that stands beside the refusal.
 #[derive(Drop)]
 pub struct Broker<J: Naming, R: Wait + Drop> {
     desk: Mutex<Desk<J, R>>,

@@ -62,8 +62,8 @@ impl<J: Naming, R: Wait + Drop> Desk<J, R> {
     ghost use Rattle.ds_broker.specs.declared.command.Command.TheVariants.{Reserve, Release, Retire};
     ghost use Rattle.ds_broker.specs.declared.refusal.BrokerRefusal.TheVariants.{NoMemory};
 
-    /// A desk for a domain with no contract in it, and so many feeds, which know of no command; where memory runs out it
-    /// hands the domain back.
+    /// A desk for a domain with no contract in it, and so many feeds, which know of no command; where memory runs out
+    /// it hands the domain back.
     pub fn new(
         alloc: Global,
         rt: R,
@@ -103,7 +103,8 @@ impl<J: Naming, R: Wait + Drop> Desk<J, R> {
 
     /// Grants a contract, as its book does, and shows the table with it to the feeds.
     ///
-    /// Refused as the book refuses it: with the contract handed back, the book unchanged, and feeds seeing what they saw.
+    /// Refused as the book refuses it: with the contract handed back, the book unchanged, and feeds seeing what they
+    /// saw.
     pub fn reserve(&mut self, contract: Contract) -> Result<Granted<J>, (Contract, Refused<J>)>
         ensures granted { IfOk result (λ granted. granted.grant ≡ grant_of self.old contract) }
         ensures accepted { OnOk result (self.new ≡ with_command self.old (Reserve contract)) }

@@ -12,8 +12,8 @@ use left_right::reader::{Reader, Reading};
 use meter_fabric_base::Numbered;
 use std::marker::Model;
 
-/// A reader of a desk's tables, in any thread. It waits for nobody, and takes no memory. Contracts see it as the commands
-/// that it knows of: those behind the tables that it saw, and behind the answers that it learned.
+/// A reader of a desk's tables, in any thread. It waits for nobody, and takes no memory. Contracts see it as the
+/// commands that it knows of: those behind the tables that it saw, and behind the answers that it learned.
 #[derive(Drop)]
 pub struct Feed<J: Naming> {
     reader: Reader<Shown, (), OneDesk<J>>,

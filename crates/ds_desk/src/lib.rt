@@ -1,5 +1,5 @@
-//! A bandwidth broker for many callers (the idea of RFC 2638), with feeds: readers who see its newest table, and wait for
-//! nobody.
+//! A bandwidth broker for many callers (the idea of RFC 2638), with feeds: readers who see its newest table, and wait
+//! for nobody.
 #![tactic(auto)]
 
 mod answer;

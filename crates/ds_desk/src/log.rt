@@ -1,5 +1,5 @@
-//! The log of a desk: the commands that it tried and kept. The log exists in the proofs alone; what stands here is its length,
-//! and tokens of beginnings that were seen.
+//! The log of a desk: the commands that it tried and kept. The log exists in the proofs alone; what stands here is its
+//! length, and tokens of beginnings that were seen.
 ghost use Rattle.std.specs.Prelude.{◌≡◌, ◌+◌, ◌≤◌, ◌⊎◌, ◌++◌, ◌∷◌, [], None, IfSome, MatchBool, length};
 ghost use mathlib.Core.List.{IsPrefix};
 ghost use Rattle.ds_desk.specs.Acts.{history_in};
@@ -207,7 +207,8 @@ impl<J: Naming> Log<J> {
     }
 }
 
-/// A beginning of a desk's history: what an answer rests on, or what a feed saw. Contracts see it as the commands in it.
+/// A beginning of a desk's history: what an answer rests on, or what a feed saw. Contracts see it as the commands in
+/// it.
 ///
 /// Of two fronts of a desk the one begins the other.
 #[derive(Drop)]

@@ -157,8 +157,8 @@ fn kept<J: Naming, R: Wait>(rt: &R, log: &Log<J>, end: &End) -> End
 
 /// Shows the page that was laid up last. It takes no memory: the first attempt does, unless a page has 2^63 owners.
 fn shown<J: Naming, R: Wait>(rt: &R, tables: Tables<J>) -> Tables<J>
-    requires log { (last_page (arc_value tables.desk.shown.value.page) (drop tables.behind tables.log.items)).tried.seen.book
-        ≡ J.log }
+    requires log { (last_page (arc_value tables.desk.shown.value.page)
+        (drop tables.behind tables.log.items)).tried.seen.book ≡ J.log }
     requires domain { (last_page (arc_value tables.desk.shown.value.page)
         (drop tables.behind tables.log.items)).table.domain ≡ J.opening.domain }
     ensures { arc_value result.desk.shown.value.page

@@ -87,8 +87,8 @@ pub fn opened<J: Naming, R: Wait + Drop>(
     }
 }
 
-/// What a grant is, in numbers: its id, its serial, its beginning, and how many commands its front has; or a refusal, and
-/// how many commands its front has.
+/// What a grant is, in numbers: its id, its serial, its beginning, and how many commands its front has; or a refusal,
+/// and how many commands its front has.
 pub type Sold = Result<(u32, u32, u64, u32), (BrokerRefusal, u32)>;
 
 /// Reserves a contract.

@@ -51,7 +51,8 @@ impl Book {
     /// What it would hold with a contract more.
     fn with_reserved(&self, alloc: Global, contract: &Contract) -> Result<Next, BrokerRefusal>
         ensures table { IfOk result (λ next. next.table ≡ table_of (with_command self.now (Reserve contract.now))) }
-        ensures flows { IfOk result (λ next. next.flows.items ≡ flows_of (with_command self.now (Reserve contract.now))) }
+        ensures flows { IfOk result
+            (λ next. next.flows.items ≡ flows_of (with_command self.now (Reserve contract.now))) }
         ensures serial { IfOk result (λ next. next.serial ≡ next_serial self.now) }
         ensures unrefused { OnOk result (refusal_in self.now (Reserve contract.now) ≡ None) }
         ensures refused { IfErr result
