@@ -1,10 +1,11 @@
-//! Plain Rust over std alone, for comparison: what `dsedge meter --kind trtcm ..` does, with nothing proved.
+//! Plain Rust over std alone, for comparison: what `dsedge meter ..` and `dsedge envelope ..` do, with nothing proved,
+//! as fast as I could write it.
 //!
 //! It reads the same lines, writes the same answers and the same fault lines, and ends with the same statuses. Where
-//! no word is given, the first line of the input gives the words.
+//! no word is given, the first line of the input gives the words. Each byte of a line is read once: a piece is cut
+//! behind its last line's end, so that no line is searched for its own, and each kind of meter has a loop of its own.
 
 use std::env;
-use std::fmt::Write as _;
 use std::io::{self, Read, Write};
 use std::process::ExitCode;
 
@@ -31,11 +32,11 @@ enum Colour {
 }
 
 impl Colour {
-    fn name(self) -> &'static str {
+    fn line(self) -> &'static [u8] {
         match self {
-            Colour::Green => "green",
-            Colour::Yellow => "yellow",
-            Colour::Red => "red",
+            Colour::Green => b"green\n",
+            Colour::Yellow => b"yellow\n",
+            Colour::Red => b"red\n",
         }
     }
 }
@@ -89,21 +90,36 @@ impl Bucket {
         }
     }
 
-    /// Takes in the tokens of a gap: in 64 bits where the bit-nanoseconds fit them.
-    fn fill(&mut self, gap: u64) {
-        let room = self.size - self.level;
+    /// The tokens of a gap: in 64 bits where the bit-nanoseconds fit them.
+    #[inline]
+    fn draw(&mut self, gap: u64) -> u64 {
         let bits = self.rate.checked_mul(gap).and_then(|bits| bits.checked_add(self.begun));
         if let Some(bits) = bits {
-            self.level += room.min(bits / TOKEN);
             self.begun = bits % TOKEN;
+            bits / TOKEN
         } else {
             let bits = u128::from(self.rate) * u128::from(gap) + u128::from(self.begun);
-            self.level += u64::try_from(bits / u128::from(TOKEN)).map_or(room, |tokens| tokens.min(room));
             self.begun = (bits % u128::from(TOKEN)) as u64;
+            u64::try_from(bits / u128::from(TOKEN)).unwrap_or(u64::MAX)
         }
     }
 
+    /// Takes tokens in, and answers those that it has no room for.
+    #[inline]
+    fn refill(&mut self, tokens: u64) -> u64 {
+        let taken = tokens.min(self.size - self.level);
+        self.level += taken;
+        tokens - taken
+    }
+
+    #[inline]
+    fn fill(&mut self, gap: u64) {
+        let tokens = self.draw(gap);
+        self.refill(tokens);
+    }
+
     /// Takes the tokens for so many bytes out, or none.
+    #[inline]
     fn take(&mut self, bytes: u64) -> bool {
         let enough = bytes <= self.level;
         if enough {
@@ -113,29 +129,95 @@ impl Bucket {
     }
 }
 
-/// A two-rate three-colour meter (RFC 2698).
-struct Meter {
+/// What the three kinds of meters have.
+struct Parts {
     aware: bool,
     newest: u64,
     committed: Bucket,
-    peak: Bucket,
+    other: Bucket,
 }
 
-impl Meter {
-    fn admit(&mut self, moment: u64, bytes: u64, came: Colour) -> Colour {
+impl Parts {
+    /// The time since the newest moment, which becomes the later of the two.
+    #[inline]
+    fn gap_to(&mut self, moment: u64) -> u64 {
         let used = self.newest.max(moment);
         let gap = used - self.newest;
         self.newest = used;
-        self.committed.fill(gap);
-        self.peak.fill(gap);
-        let seen = if self.aware { came } else { Colour::Green };
-        if seen == Colour::Red || !self.peak.take(bytes) {
+        gap
+    }
+
+    #[inline]
+    fn seen(&self, came: Colour) -> Colour {
+        if self.aware {
+            came
+        } else {
+            Colour::Green
+        }
+    }
+
+    #[inline]
+    fn committed_or_excess(&mut self, bytes: u64, seen: Colour) -> Colour {
+        if seen == Colour::Green && self.committed.take(bytes) {
+            Colour::Green
+        } else if seen != Colour::Red && self.other.take(bytes) {
+            Colour::Yellow
+        } else {
             Colour::Red
-        } else if seen == Colour::Yellow || !self.committed.take(bytes) {
+        }
+    }
+}
+
+trait Meter {
+    fn admit(&mut self, moment: u64, bytes: u64, came: Colour) -> Colour;
+}
+
+/// A single-rate three-colour meter (RFC 2697).
+struct SrTcm(Parts);
+
+impl Meter for SrTcm {
+    #[inline]
+    fn admit(&mut self, moment: u64, bytes: u64, came: Colour) -> Colour {
+        let gap = self.0.gap_to(moment);
+        let tokens = self.0.committed.draw(gap);
+        let surplus = self.0.committed.refill(tokens);
+        self.0.other.refill(surplus);
+        let seen = self.0.seen(came);
+        self.0.committed_or_excess(bytes, seen)
+    }
+}
+
+/// A two-rate three-colour meter (RFC 2698).
+struct TrTcm(Parts);
+
+impl Meter for TrTcm {
+    #[inline]
+    fn admit(&mut self, moment: u64, bytes: u64, came: Colour) -> Colour {
+        let gap = self.0.gap_to(moment);
+        self.0.committed.fill(gap);
+        self.0.other.fill(gap);
+        let seen = self.0.seen(came);
+        if seen == Colour::Red || !self.0.other.take(bytes) {
+            Colour::Red
+        } else if seen == Colour::Yellow || !self.0.committed.take(bytes) {
             Colour::Yellow
         } else {
             Colour::Green
         }
+    }
+}
+
+/// A two-rate three-colour meter with a committed and an excess rate (RFC 4115).
+struct Rfc4115(Parts);
+
+impl Meter for Rfc4115 {
+    #[inline]
+    fn admit(&mut self, moment: u64, bytes: u64, came: Colour) -> Colour {
+        let gap = self.0.gap_to(moment);
+        self.0.committed.fill(gap);
+        self.0.other.fill(gap);
+        let seen = self.0.seen(came);
+        self.0.committed_or_excess(bytes, seen)
     }
 }
 
@@ -150,18 +232,29 @@ fn number(text: &[u8]) -> Option<u64> {
     })
 }
 
-/// The moment, the size and the colour of an arrival's line.
-fn arrival(line: &[u8]) -> Option<(u64, u64, Colour)> {
-    let mut fields = line.split(|byte| *byte == b' ');
-    let moment = number(fields.next()?).filter(|moment| *moment <= MOST_MOMENT)?;
-    let bytes = number(fields.next()?).filter(|bytes| (1..=65_535).contains(bytes))?;
-    let came = match fields.next()? {
-        b"g" => Colour::Green,
-        b"y" => Colour::Yellow,
-        b"r" => Colour::Red,
-        _ => return None,
-    };
-    fields.next().is_none().then_some((moment, bytes, came))
+/// The number at the front of a text of lines, of at most `most`, and the text from behind its last digit on.
+#[inline]
+fn leading(text: &[u8], most: u64) -> Option<(u64, &[u8])> {
+    let mut value = 0u64;
+    for (place, byte) in text.iter().enumerate() {
+        let digit = byte.wrapping_sub(b'0');
+        if digit > 9 {
+            // 19 digits fit 64 bits
+            let value = if place > 19 { number(&text[..place])? } else { value };
+            return (place > 0 && value <= most).then_some((value, &text[place..]));
+        }
+        value = value.wrapping_mul(10).wrapping_add(u64::from(digit));
+    }
+    None
+}
+
+/// A command that answers lines, each of which ends in LF.
+trait Command {
+    /// Reads the line at the front of `text`, of this number, answers it, and gives what stands behind it.
+    fn line<'a>(&mut self, number: u64, text: &'a [u8], answers: &mut Vec<u8>) -> Result<&'a [u8], Fault>;
+
+    /// Answers the end of the input, with this status.
+    fn end(&mut self, answers: &mut Vec<u8>) -> u8;
 }
 
 /// Packets and bytes that left with one colour.
@@ -171,75 +264,137 @@ struct Account {
     bytes: u64,
 }
 
-/// A run over the input: the meter, the accounts by colour, and what is answered and not yet written.
-struct Run {
-    meter: Meter,
+struct MeterRun<M> {
+    meter: M,
     accounts: [Account; 3],
-    lines: u64,
-    answers: String,
 }
 
-impl Run {
-    fn line(&mut self, line: &[u8]) -> Result<(), Fault> {
-        let (moment, bytes, came) = arrival(line).ok_or(Fault::Line(self.lines + 1))?;
-        if self.lines == MOST_ARRIVALS {
+/// The moment, the size and the colour of an arrival's line, and what stands behind it.
+#[inline]
+fn arrival(text: &[u8]) -> Option<(u64, u64, Colour, &[u8])> {
+    let (moment, text) = leading(text, MOST_MOMENT)?;
+    let (bytes, text) = leading(text.strip_prefix(b" ")?, 65_535)?;
+    let [b' ', letter, b'\n', rest @ ..] = text else {
+        return None;
+    };
+    let came = match letter {
+        b'g' => Colour::Green,
+        b'y' => Colour::Yellow,
+        b'r' => Colour::Red,
+        _ => return None,
+    };
+    (bytes > 0).then_some((moment, bytes, came, rest))
+}
+
+impl<M: Meter> Command for MeterRun<M> {
+    #[inline]
+    fn line<'a>(&mut self, number: u64, text: &'a [u8], answers: &mut Vec<u8>) -> Result<&'a [u8], Fault> {
+        let (moment, bytes, came, rest) = arrival(text).ok_or(Fault::Line(number))?;
+        if number > MOST_ARRIVALS {
             return Err(Fault::Full);
         }
-        self.lines += 1;
         let left = self.meter.admit(moment, bytes, came);
         let account = &mut self.accounts[left as usize];
         account.packets += 1;
         account.bytes += bytes;
-        self.answers.push_str(left.name());
-        self.answers.push('\n');
-        Ok(())
+        answers.extend_from_slice(left.line());
+        Ok(rest)
     }
 
-    /// Answers the lines that end in a piece, and gives the number of bytes behind the last of them.
-    fn lines(&mut self, piece: &[u8]) -> Result<usize, Fault> {
-        let mut rest = piece;
-        while let Some(end) = rest.iter().position(|byte| *byte == b'\n') {
-            self.line(&rest[..end])?;
-            rest = &rest[end + 1..];
+    fn end(&mut self, answers: &mut Vec<u8>) -> u8 {
+        for (name, Account { packets, bytes }) in ["green", "yellow", "red"].into_iter().zip(self.accounts) {
+            let _ = writeln!(answers, "{name} {packets} {bytes}");
         }
-        Ok(rest.len())
-    }
-
-    fn accounts(&mut self) {
-        for colour in [Colour::Green, Colour::Yellow, Colour::Red] {
-            let Account { packets, bytes } = self.accounts[colour as usize];
-            let _ = writeln!(self.answers, "{} {packets} {bytes}", colour.name());
-        }
-    }
-
-    fn hand_over(&mut self, output: &mut impl Write) -> Result<(), Fault> {
-        let written = output.write_all(self.answers.as_bytes());
-        self.answers.clear();
-        written
-            .and_then(|()| output.flush())
-            .map_err(|_| Fault::Write)
+        0
     }
 }
 
-/// Answers the whole input, and writes what is answered before each read.
-fn answer(run: &mut Run, input: &mut impl Read, output: &mut impl Write) -> Result<(), Fault> {
-    let mut buffer = Vec::new();
-    loop {
-        let left = run.lines(&buffer)?;
-        buffer.drain(..buffer.len() - left);
-        run.hand_over(output)?;
-        buffer.resize(left + PIECE, 0);
-        let taken = input.read(&mut buffer[left..]).map_err(|_| Fault::Read)?;
-        buffer.truncate(left + taken);
-        if taken == 0 {
-            break;
+/// A leaky bucket, with its level in bit-nanoseconds, and the first line at which it was over.
+struct EnvelopeRun {
+    rate: u64,
+    limit: u128,
+    level: u128,
+    newest: u64,
+    over: Option<u64>,
+}
+
+/// The moment and the size of a sized moment's line, and what stands behind it.
+#[inline]
+fn sized(text: &[u8]) -> Option<(u64, u64, &[u8])> {
+    let (moment, text) = leading(text, MOST_MOMENT)?;
+    let (bytes, text) = leading(text.strip_prefix(b" ")?, 65_535)?;
+    (bytes > 0).then_some((moment, bytes, text.strip_prefix(b"\n")?))
+}
+
+impl Command for EnvelopeRun {
+    #[inline]
+    fn line<'a>(&mut self, number: u64, text: &'a [u8], _: &mut Vec<u8>) -> Result<&'a [u8], Fault> {
+        let (moment, bytes, rest) = sized(text).ok_or(Fault::Line(number))?;
+        let gap = moment.checked_sub(self.newest).ok_or(Fault::Line(number))?;
+        self.newest = moment;
+        if self.over.is_none() {
+            let drained = u128::from(self.rate) * u128::from(gap);
+            self.level = self.level.saturating_sub(drained) + u128::from(TOKEN) * u128::from(bytes);
+            if self.level > self.limit {
+                self.over = Some(number);
+            }
+        }
+        Ok(rest)
+    }
+
+    fn end(&mut self, answers: &mut Vec<u8>) -> u8 {
+        match self.over {
+            None => {
+                answers.extend_from_slice(b"kept\n");
+                0
+            }
+            Some(number) => {
+                let _ = writeln!(answers, "over {number}");
+                1
+            }
         }
     }
-    if !buffer.is_empty() {
-        run.line(&buffer)?;
+}
+
+fn hand_over(answers: &mut Vec<u8>, output: &mut impl Write) -> Result<(), Fault> {
+    let written = output.write_all(answers);
+    answers.clear();
+    written
+        .and_then(|()| output.flush())
+        .map_err(|_| Fault::Write)
+}
+
+/// Answers the whole input, and writes what is answered before each read.
+fn answer(
+    mut command: impl Command,
+    answers: &mut Vec<u8>,
+    input: &mut impl Read,
+    output: &mut impl Write,
+) -> Result<u8, Fault> {
+    let mut buffer = vec![0; PIECE];
+    let mut left = 0;
+    let mut number = 0;
+    loop {
+        hand_over(answers, output)?;
+        buffer.resize(left + PIECE, 0);
+        let mut filled = left + input.read(&mut buffer[left..]).map_err(|_| Fault::Read)?;
+        let is_last = filled == left;
+        if is_last && left > 0 {
+            buffer[left] = b'\n';
+            filled += 1;
+        }
+        let end = buffer[..filled].iter().rposition(|byte| *byte == b'\n').map_or(0, |place| place + 1);
+        let mut rest = &buffer[..end];
+        while !rest.is_empty() {
+            number += 1;
+            rest = command.line(number, rest, answers)?;
+        }
+        if is_last {
+            return Ok(command.end(answers));
+        }
+        buffer.copy_within(end..filled, 0);
+        left = filled - end;
     }
-    run.accounts();
-    Ok(())
 }
 
 /// The first line of the input.
@@ -255,11 +410,11 @@ fn first_line(input: &mut impl Read) -> Result<String, Fault> {
     String::from_utf8(line).map_err(|_| Fault::Usage)
 }
 
-/// The value of an option that may be given once, as `--name VALUE` or `--name=VALUE`.
+/// The values of options that may be given once, as `--name VALUE` or `--name=VALUE`.
 struct Options(Vec<(String, String)>);
 
 impl Options {
-    fn new(words: &[String]) -> Option<Self> {
+    fn new(words: &[String], known: &[&str]) -> Option<Self> {
         let mut given: Vec<(String, String)> = Vec::new();
         let mut words = words.iter();
         while let Some(word) = words.next() {
@@ -268,8 +423,7 @@ impl Options {
                 Some((name, value)) => (name, value.to_string()),
                 None => (name, words.next()?.clone()),
             };
-            let is_known = ["kind", "mode", "cir", "cbs", "pir", "pbs", "origin"].contains(&name);
-            if !is_known || given.iter().any(|(other, _)| other == name) {
+            if !known.contains(&name) || given.iter().any(|(other, _)| other == name) {
                 return None;
             }
             given.push((name.to_string(), value));
@@ -287,60 +441,106 @@ impl Options {
     fn number(&self, name: &str, least: u64, most: u64) -> Option<u64> {
         number(self.text(name)?.as_bytes()).filter(|number| (least..=most).contains(number))
     }
-}
 
-/// The meter that words ask for.
-fn meter(words: &[String]) -> Option<Meter> {
-    let (command, words) = words.split_first()?;
-    let options = Options::new(words)?;
-    if command != "meter" || options.text("kind")? != "trtcm" {
-        return None;
+    /// A bucket by the names of its rate and its size.
+    fn bucket(&self, rate: &str, size: &str) -> Option<Bucket> {
+        let size = self.number(size, 0, u64::from(u32::MAX))?;
+        Some(Bucket::full(self.number(rate, 1, MOST_RATE)?, size))
     }
-    let aware = match options.text("mode")? {
-        "blind" => false,
-        "aware" => true,
-        _ => return None,
-    };
-    let origin = match options.text("origin") {
-        Some(_) => options.number("origin", 0, MOST_MOMENT)?,
-        None => 0,
-    };
-    let most_burst = u64::from(u32::MAX);
-    let committed = Bucket::full(
-        options.number("cir", 1, MOST_RATE)?,
-        options.number("cbs", 1, most_burst)?,
-    );
-    let peak = Bucket::full(
-        options.number("pir", 1, MOST_RATE)?,
-        options.number("pbs", 1, most_burst)?,
-    );
-    (committed.rate <= peak.rate).then_some(Meter {
-        aware,
-        newest: origin,
-        committed,
-        peak,
-    })
+
+    /// What each meter has beside its other bucket.
+    fn parts(&self, other: Bucket) -> Option<Parts> {
+        Some(Parts {
+            aware: match self.text("mode")? {
+                "blind" => false,
+                "aware" => true,
+                _ => return None,
+            },
+            newest: match self.text("origin") {
+                Some(_) => self.number("origin", 0, MOST_MOMENT)?,
+                None => 0,
+            },
+            committed: self.bucket("cir", "cbs")?,
+            other,
+        })
+    }
 }
 
-fn serve(input: &mut impl Read, output: &mut impl Write) -> Result<(), Fault> {
+fn run_of<M>(meter: M) -> MeterRun<M> {
+    MeterRun {
+        meter,
+        accounts: [Account::default(); 3],
+    }
+}
+
+/// Answers by the meter that words ask for.
+fn serve_meter(
+    words: &[String],
+    answers: &mut Vec<u8>,
+    input: &mut impl Read,
+    output: &mut impl Write,
+) -> Result<u8, Fault> {
+    let known = ["kind", "mode", "cir", "cbs", "ebs", "pir", "pbs", "eir", "origin"];
+    let options = Options::new(words, &known).ok_or(Fault::Usage)?;
+    match options.text("kind").ok_or(Fault::Usage)? {
+        "srtcm" => {
+            let excess = options.bucket("cir", "ebs").ok_or(Fault::Usage)?;
+            let parts = options.parts(excess).ok_or(Fault::Usage)?;
+            answer(run_of(SrTcm(parts)), answers, input, output)
+        }
+        "trtcm" => {
+            let peak = options.bucket("pir", "pbs").ok_or(Fault::Usage)?;
+            let parts = options.parts(peak).ok_or(Fault::Usage)?;
+            answer(run_of(TrTcm(parts)), answers, input, output)
+        }
+        "rfc4115" => {
+            let excess = options.bucket("eir", "ebs").ok_or(Fault::Usage)?;
+            let parts = options.parts(excess).ok_or(Fault::Usage)?;
+            answer(run_of(Rfc4115(parts)), answers, input, output)
+        }
+        _ => Err(Fault::Usage),
+    }
+}
+
+/// Answers by the envelope that words ask for.
+fn serve_envelope(
+    words: &[String],
+    answers: &mut Vec<u8>,
+    input: &mut impl Read,
+    output: &mut impl Write,
+) -> Result<u8, Fault> {
+    let options = Options::new(words, &["rate", "burst"]).ok_or(Fault::Usage)?;
+    let rate = options.number("rate", 1, MOST_RATE).ok_or(Fault::Usage)?;
+    let burst = options.number("burst", 0, u64::MAX).ok_or(Fault::Usage)?;
+    let run = EnvelopeRun {
+        rate,
+        limit: u128::from(TOKEN) * u128::from(burst),
+        level: 0,
+        newest: 0,
+        over: None,
+    };
+    answer(run, answers, input, output)
+}
+
+fn serve(input: &mut impl Read, output: &mut impl Write) -> Result<u8, Fault> {
     let mut words: Vec<String> = env::args().skip(1).collect();
     if words.is_empty() {
         words = first_line(input)?.split(' ').map(str::to_string).collect();
     }
-    let mut run = Run {
-        meter: meter(&words).ok_or(Fault::Usage)?,
-        accounts: [Account::default(); 3],
-        lines: 0,
-        answers: String::new(),
+    let (command, options) = words.split_first().ok_or(Fault::Usage)?;
+    let mut answers = Vec::new();
+    let answered = match command.as_str() {
+        "meter" => serve_meter(options, &mut answers, input, output),
+        "envelope" => serve_envelope(options, &mut answers, input, output),
+        _ => Err(Fault::Usage),
     };
-    let answered = answer(&mut run, input, output);
-    run.hand_over(output)?;
+    hand_over(&mut answers, output)?;
     answered
 }
 
 fn main() -> ExitCode {
     match serve(&mut io::stdin().lock(), &mut io::stdout().lock()) {
-        Ok(()) => ExitCode::SUCCESS,
+        Ok(status) => ExitCode::from(status),
         Err(fault) => {
             eprintln!("{}", fault.text());
             ExitCode::from(fault.status())

@@ -1,12 +1,14 @@
 -- Leaky buckets: the level is the backlog of a link, so a bucket overflows first where its envelope is left.
-use Rattle.std.proofs.Common.{◌≡◌, ℕ, ◌+◌, ◌*◌, ◌<◌, ◌≤◌, ◌↔◌, suc, inl, inr, List, [], ◌∷◌, ◌++◌, Option, None, Some, arith, length, take, get_or, refl, ap, append_assoc, length-append}
+use Rattle.std.proofs.Common.{◌≡◌, ℕ, true, false, ◌+◌, ◌*◌, ◌<◌, ◌≤◌, ◌↔◌, suc, inl, inr, List, [], ◌∷◌, ◌++◌, Option, None, Some, arith, length, take, get_or, refl, ap, append_assoc, length-append}
 use Rattle.std.proofs.lemmas.Bool.{cases_lt, lt-ltb, le-ltb}
+use Rattle.std.proofs.lemmas.Bool.Decides.{nat_tests}
 use Rattle.std.proofs.lemmas.List.{append-nil, take-append-le, take_all, take-take}
 use Rattle.moment_core.specs.Conformance.{Keeps}
+use Rattle.envelope_core.specs.Curve.{Curve}
 use Rattle.envelope_core.specs.Laws.{BucketsTell, IsFirstBeyond}
-use Rattle.envelope_core.specs.LeakyBucket.{filled, overflow_from, overflow_of}
+use Rattle.envelope_core.specs.LeakyBucket.{Bucket, filled, level_with, overflow_from, overflow_of, overflows, poured}
 use Rattle.envelope_core.specs.Order.{IsInOrder}
-use Rattle.envelope_core.proofs.LinearPass.{IsBacklog, IsBacklog-more, IsBacklog-nil, Keeps-more, Keeps-over, Keeps-take}
+use Rattle.envelope_core.proofs.LinearPass.{IsBacklog, IsBacklog-more, IsBacklog-nil, IsBacklog-take_more, Keeps-more, Keeps-over, Keeps-take}
 
 -- what a verdict says: none where the envelope is kept, else the first index at which it is left
 abbrev pub IsVerdict : ℕ → ℕ → List (ℕ × ℕ) → Option ℕ → Type 0
@@ -112,3 +114,29 @@ one_verdict rate burst items (Some i) (Some j) a b =
     let high = first_not_before rate burst items j i b a in
     let same : i ≡ j = omega arith in
     ap (λ k. Some k) same
+
+-- ---- a bucket, packet by packet
+
+-- where it overflows, its level would be above its depth
+pub overflows-above : (b : Bucket) (item : ℕ × ℕ) → overflows b item ≡ true → 8000000000 * b.curve.burst < level_with b item
+overflows-above b item over = grind (arith, nat_tests)
+
+-- else it is within
+pub overflows-within : (b : Bucket) (item : ℕ × ℕ) → overflows b item ≡ false → level_with b item ≤ 8000000000 * b.curve.burst
+overflows-within b item within = grind (arith, nat_tests)
+
+-- what it takes in is in it
+pub poured-within : (b : Bucket) (item : ℕ × ℕ) → overflows b item ≡ false → poured b item ≡ record b { level = level_with b item; since = item.0 }
+poured-within b item within = rw within refl
+
+-- its level behind the item at an index is the backlog
+pub bucket-take_more : (b : Bucket) (curve : Curve) (i : ℕ) (items : List (ℕ × ℕ)) (item : ℕ × ℕ)
+    → b.curve ≡ curve
+    → i < length items
+    → item ≡ get_or items i item
+    → b.since ≤ (get_or items i item).0
+    → IsBacklog curve.rate b.level b.since (take i items)
+    → IsBacklog curve.rate (level_with b item) item.0 (take (i + 1) items)
+bucket-take_more b curve i items item same in' read later before =
+    IsBacklog-take_more curve.rate b.level b.since i (level_with b item) item.0 items item in' read later refl
+    (ap (λ (c : Curve). filled c.rate b.level b.since item) same) before

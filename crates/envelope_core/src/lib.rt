@@ -5,6 +5,8 @@
 pub mod conformance;
 pub mod envelope;
 pub mod laws;
+pub mod leaky_bucket;
 
 pub use conformance::{in_order, keeps};
 pub use envelope::{Envelope, add, widen};
+pub use leaky_bucket::LeakyBucket;

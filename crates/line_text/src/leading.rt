@@ -2,7 +2,7 @@ ghost use Rattle.std.specs.Prelude.{◌≡◌, ◌≤◌, ◌↔◌, IsTrue, opt
 ghost use Rattle.line_text.specs.Lines.{fields_of};
 ghost use Rattle.line_text.specs.Numbers.{leading_number_of};
 
-use crate::numbers::MOST_DIGITS;
+use crate::numbers::{MOST_DIGITS, with_digit};
 
 /// Whether a byte ends a number of so many digits and of this value.
 fn ends_number(byte: u8, digits: usize, value: u64, most: u64) -> bool
@@ -25,8 +25,7 @@ pub fn leading_number(line: &[u8], most: u64) -> Option<(u64, &[u8])>
             }
             return None;
         }
-        let tens = value.checked_mul(10)?;
-        value = tens.checked_add(u64::from(*byte - b'0'))?;
+        value = with_digit(value, *byte)?;
     }
     None
 }

@@ -1,11 +1,29 @@
-ghost use Rattle.std.specs.Prelude.{◌≡◌, ◌++◌, decimal, OnOk, OnErr};
-ghost use Rattle.line_text.specs.Numbers.{number_of};
+ghost use Rattle.std.specs.Prelude.{◌≡◌, ◌≤◌, ◌<◌, ◌^◌, ◌++◌, decimal, OnOk, OnErr};
+ghost use Rattle.std.specs.Option.{SomeIff};
+ghost use Rattle.line_text.specs.Numbers.{number_of, with_digit};
 
 use itoa::Buffer;
 use std::alloc::AllocError;
 
 /// The most digits that a number may have.
 pub const MOST_DIGITS: usize = 20;
+
+/// The least number of 19 digits: a number below it takes one more digit within 64 bits.
+const NINETEEN_DIGITS: u64 = 1_000_000_000_000_000_000;
+
+/// A number with one more decimal digit, an ASCII byte; `None` where that is beyond 64 bits.
+#[inline]
+pub(crate) fn with_digit(value: u64, digit: u8) -> Option<u64>
+    requires least { 48 ≤ digit }
+    requires most { digit ≤ 57 }
+    ensures { SomeIff result (with_digit value digit < 2 ^ 64) (with_digit value digit) }
+{
+    let ones = u64::from(digit - b'0');
+    if value < NINETEEN_DIGITS {
+        return Some(value * 10 + ones);
+    }
+    value.checked_mul(10)?.checked_add(ones)
+}
 
 /// The number that a text is: 1 to 20 ASCII digits with a value of at most `most`. Leading zeros
 /// are read; a sign, a space or any other byte makes it no number.
@@ -20,8 +38,7 @@ pub fn number(text: &[u8], most: u64) -> Option<u64>
         if !byte.is_ascii_digit() {
             return None;
         }
-        let tens = value.checked_mul(10)?;
-        value = tens.checked_add(u64::from(*byte - b'0'))?;
+        value = with_digit(value, *byte)?;
     }
     if value <= most { Some(value) } else { None }
 }

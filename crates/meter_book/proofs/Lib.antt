@@ -3,6 +3,7 @@ pub mod KeepingLaws
 pub mod MeterLaws
 pub mod ReplayLaws
 pub mod RowLaws
+pub mod RunningLaws
 pub mod StandingLaws
 pub mod StoredRowLaws
 pub mod TallyLaws

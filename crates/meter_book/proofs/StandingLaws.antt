@@ -116,7 +116,7 @@ accounts_with-append : (a : Accounts) (rows more : List Row) → accounts_with (
 accounts_with-append a rows more =
     ap accounts_in (together-assoc (tallies_in a) (tallies_of rows) (tallies_of more) ∙ ap (together (tallies_in a)) (together-rows rows more))
 
-standing_after-append : (s : Standing) (as_ bs : List Arrival) (shut end : Option ℕ)
+pub standing_after-append : (s : Standing) (as_ bs : List Arrival) (shut end : Option ℕ)
     → standing_after (standing_after s as_ shut) bs end ≡ standing_after s (as_ ++ bs) end
 standing_after-append s as_ bs shut end =
     let place : s.place + length as_ + length bs ≡ s.place + length (as_ ++ bs) = omega (arith, length-append {A = Arrival} as_ bs) in

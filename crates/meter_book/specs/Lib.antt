@@ -4,4 +4,6 @@ pub mod Kept
 pub mod KeptColours
 pub mod Laws
 pub mod Replay
+pub mod Running
+pub mod Summed
 pub mod Tallies

@@ -8,6 +8,7 @@ ghost use Rattle.moment_core.specs.Metering.{Offer, departures};
 ghost use Rattle.envelope_core.specs.Curve.{KeepsCurve};
 ghost use Rattle.meter_book_base.specs.Envelopes.{output_in};
 ghost use Rattle.meter_book.specs.KeptColours.{GreenStaysGreen, YellowStaysYellow};
+ghost use Rattle.meter_book.specs.Running.{ColoursAsBook, StandsAsBook};
 ghost use Rattle.meter_book.specs.Laws.{
   AwareRowsNeverImprove,
   MetersStayFit,
@@ -88,4 +89,14 @@ pub fn green_stays_green()
 /// against the bucket for yellow ones keeps its rate and its burst (RFC 2697 section 3, RFC 2698 section 3, RFC 4115).
 pub fn yellow_stays_yellow()
     ensures { YellowStaysYellow }
+{}
+
+/// A running meter stands where the book of the same meter and the same arrivals does: meter, accounts and count.
+pub fn running_meters_stand_as_books()
+    ensures { StandsAsBook }
+{}
+
+/// The colours that a running meter answers are those of the rows of that book.
+pub fn running_meters_colour_as_books()
+    ensures { ColoursAsBook }
 {}

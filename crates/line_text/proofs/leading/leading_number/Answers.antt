@@ -21,30 +21,21 @@ returns-then-not-is_ascii_digit c =
     (λ space some short small. false≢true (sym c.if-ends_number.false ∙ c.ends_number.ensures.1 (space, some, short, small))) in
     sym none ∙ c.loop-place.invariant ∙ digits_on-first c.args.most (fields_of line)
 
-pub returns-in_err-tens : goal.returns-in_err-tens
-returns-in_err-tens c =
-    let line = c.args.line.now in
-    let i = c.loop-place.place in
-    let digit : is_ascii_digit (get_or line i 0) ≡ true = sym c.is_ascii_digit.ensures.value ∙ c.if-not-is_ascii_digit.false in
-    let wide : 2 ^ 64 ≤ c.loop-place.value * 10 = omega (arith, c.in_err-tens.ensures) in
-    let over = next-digit c.args.most i c.loop-place.value line c.loop-place-test.true digit ∙ digits_on-over c.args.most (i + 1) (10 * c.loop-place.value + (get_or line i 0 - 48)) _ (omega (arith, wide)) in
-    rw c.from_residual.ensures (sym over ∙ c.loop-place.invariant ∙ digits_on-first c.args.most (fields_of line))
-
 pub returns-in_err-value : goal.returns-in_err-value
 returns-in_err-value c =
     let line = c.args.line.now in
     let i = c.loop-place.place in
     let digit : is_ascii_digit (get_or line i 0) ≡ true = sym c.is_ascii_digit.ensures.value ∙ c.if-not-is_ascii_digit.false in
-    let wide : 2 ^ 64 ≤ c.loop-place.value * 10 + (get_or line i 0 - 48) = omega (arith, c.in_err-value.ensures, c.in_ok-tens.ensures) in
+    let wide : 2 ^ 64 ≤ 10 * c.loop-place.value + (get_or line i 0 - 48) = omega (arith, c.in_err-value.ensures) in
     let over = next-digit c.args.most i c.loop-place.value line c.loop-place-test.true digit ∙ digits_on-over c.args.most (i + 1) (10 * c.loop-place.value + (get_or line i 0 - 48)) _ (omega (arith, wide)) in
-    rw c.from_residual-in_err-value.ensures (sym over ∙ c.loop-place.invariant ∙ digits_on-first c.args.most (fields_of line))
+    rw c.from_residual.ensures (sym over ∙ c.loop-place.invariant ∙ digits_on-first c.args.most (fields_of line))
 
 pub loop-place-preserved : goal.loop-place-preserved
 loop-place-preserved c =
     let line = c.args.line.now in
     let i = c.loop-place.place in
     let digit : is_ascii_digit (get_or line i 0) ≡ true = sym c.is_ascii_digit.ensures.value ∙ c.if-not-is_ascii_digit.false in
-    let value : c.in_ok-value.value ≡ 10 * c.loop-place.value + (get_or line i 0 - 48) = omega (arith, c.in_ok-value.ensures, c.in_ok-tens.ensures) in
+    let value : c.in_ok-value.value ≡ 10 * c.loop-place.value + (get_or line i 0 - 48) = omega (arith, c.in_ok-value.ensures) in
     rw value (sym (next-digit c.args.most i c.loop-place.value line c.loop-place-test.true digit) ∙ c.loop-place.invariant)
 
 pub returns : goal.returns

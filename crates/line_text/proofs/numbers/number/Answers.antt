@@ -14,21 +14,13 @@ pub returns-then-not-is_ascii_digit : goal.returns-then-not-is_ascii_digit
 returns-then-not-is_ascii_digit c =
     sym (number_of-other c.args.most c.args.text.now (sym c.loop-byte.invariant.digits ∙ digits-other c.args.text.now c.loop-byte.byte-index c.loop-byte-test.true (sym c.is_ascii_digit.ensures.value ∙ c.if-not-is_ascii_digit.true)))
 
-pub returns-in_err-tens : goal.returns-in_err-tens
-returns-in_err-tens c =
-    let text = c.args.text.now in
-    let i = c.loop-byte.byte-index in
-    let wide : 2 ^ 64 ≤ c.loop-byte.value * 10 = omega (arith, c.in_err-tens.ensures) in
-    let over = value-over c.args.most c.loop-byte.value text i c.loop-byte-test.true (omega arith) in
-    c.from_residual.ensures ∙ sym (number_of-over c.args.most text (omega (arith, over, c.loop-byte.invariant.value)))
-
 pub returns-in_err-value : goal.returns-in_err-value
 returns-in_err-value c =
     let text = c.args.text.now in
     let i = c.loop-byte.byte-index in
-    let wide : 2 ^ 64 ≤ c.loop-byte.value * 10 + (get_or text i 0 - 48) = omega (arith, c.in_err-value.ensures, c.in_ok-tens.ensures) in
+    let wide : 2 ^ 64 ≤ 10 * c.loop-byte.value + (get_or text i 0 - 48) = omega (arith, c.in_err-value.ensures) in
     let over = value-over c.args.most c.loop-byte.value text i c.loop-byte-test.true (omega arith) in
-    c.from_residual-in_err-value.ensures ∙ sym (number_of-over c.args.most text (omega (arith, over, c.loop-byte.invariant.value)))
+    c.from_residual.ensures ∙ sym (number_of-over c.args.most text (omega (arith, over, c.loop-byte.invariant.value)))
 
 pub returns-then-value-most : goal.returns-then-value-most
 returns-then-value-most c =
