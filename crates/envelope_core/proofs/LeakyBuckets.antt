@@ -27,17 +27,17 @@ in_order_rises since (item ∷ items) ordered first = (
   in_order_rises item.0 items (λ i j d le in'. ordered (suc i) (suc j) d (omega arith) (omega arith)) (λ d some. ordered 0 1 d (omega arith) (omega arith)),
 )
 
-overflow_from-over : (rate burst level since index : ℕ) (item : ℕ × ℕ) (items : List (ℕ × ℕ)) → 8000000000 * burst < filled rate level since item
+pub overflow_from-over : (rate burst level since index : ℕ) (item : ℕ × ℕ) (items : List (ℕ × ℕ)) → 8000000000 * burst < filled rate level since item
     → overflow_from rate burst level since index (item ∷ items) ≡ Some index
 unfolding overflow_from
 overflow_from-over rate burst level since index item items over = rw (lt-ltb (8000000000 * burst) (filled rate level since item) over) refl
 
-overflow_from-within : (rate burst level since index : ℕ) (item : ℕ × ℕ) (items : List (ℕ × ℕ)) → filled rate level since item ≤ 8000000000 * burst
+pub overflow_from-within : (rate burst level since index : ℕ) (item : ℕ × ℕ) (items : List (ℕ × ℕ)) → filled rate level since item ≤ 8000000000 * burst
     → overflow_from rate burst level since index (item ∷ items) ≡ overflow_from rate burst (filled rate level since item) item.0 (index + 1) items
 unfolding overflow_from
 overflow_from-within rate burst level since index item items within = rw (le-ltb (8000000000 * burst) (filled rate level since item) within) refl
 
-overflow_from-nil : (rate burst level since index : ℕ) → overflow_from rate burst level since index [] ≡ None
+pub overflow_from-nil : (rate burst level since index : ℕ) → overflow_from rate burst level since index [] ≡ None
 unfolding overflow_from
 overflow_from-nil rate burst level since index = refl
 
