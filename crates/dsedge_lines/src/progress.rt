@@ -45,6 +45,7 @@ fn answer_carried<C: Command>(
 }
 
 /// Answers the line that begins with what is carried over, if anything is, and ends with `rest`.
+#[inline(always)]
 fn answer_line<C: Command>(
     command: &mut C,
     progress: &mut Progress,

@@ -1,4 +1,1 @@
-pub mod ArrivalLemmas
 pub mod FrontLemmas
-pub mod MeteredLaws
-pub mod VerdictLaws

@@ -3,7 +3,6 @@ use Rattle.std.specs.Prelude.{◌≡◌, ◌⊎◌, ◌^◌, ℕ, Bool, true, fa
 use Rattle.std.specs.Prelude.{⊤, Some, Result, Ok, Err, IfErr, IfOk, OnErr, codes, string_bytes}
 use Rattle.std.specs.Option.{option_map_or}
 use Rattle.line_text.specs.Lines.{lines_of}
-use Rattle.dsedge_serve.specs.Books.{fresh_book}
 use Rattle.pcap_capture.specs.Counts.{count_after, next_count}
 use Rattle.dsedge_base.specs.declared.work.Plan.{Plan}
 use Rattle.dsedge_base.specs.declared.work.Plan.TheVariants.{Audit, Certify, Check, Envelope, Mark, Meter, Show}
@@ -18,6 +17,8 @@ use Rattle.dsedge_lines.specs.declared.command.Ending.TheVariants as endings
 use Rattle.dsedge_lines.specs.declared.fault.PumpFault.{PumpFault}
 use Rattle.dsedge_lines.specs.declared.fault.PumpFault.TheVariants as pump_faults
 use Rattle.dsedge_lines.specs.Faults.{is_read_fault, is_write_fault}
+use Rattle.dsedge_meter.specs.Metered.{answer_of, fresh_meter}
+use Rattle.dsedge_meter.specs.Verdicts.{envelope_for, verdict_on}
 use Rattle.ds_checker.specs.Acceptance.{Table}
 use Rattle.ds_conductor_base.specs.Steps.{opened}
 use Rattle.dsedge_audit.specs.Audited.{audit_from}
@@ -32,12 +33,10 @@ use Rattle.pcap_capture.specs.Fronts.{IsFrontOf}
 use Rattle.dsedge_serve.specs.Faults.{notice_text, status_of}
 use Rattle.dsedge_serve.specs.Marked.{IsMarkedOver, IsUnmarked, marking_answer, marking_status, marking_told, refusal_outcome}
 use Rattle.dsedge_serve.specs.Marked.{rule_said}
-use Rattle.dsedge_serve.specs.Metered.{answer_of}
 use Rattle.dsedge_serve.specs.declared.notice.Notice.{Notice}
 use Rattle.dsedge_serve.specs.declared.notice.Notice.TheVariants as notices
 use Rattle.dsedge_serve.specs.declared.outcome.Outcome.{Outcome}
 use Rattle.dsedge_serve.specs.declared.outcome.Outcome.TheVariants.{Answered, Marked}
-use Rattle.dsedge_serve.specs.Verdicts.{envelope_for, verdict_on}
 
 -- a text on standard output, and how it ends
 pub record Reply : Type 0 where
@@ -107,7 +106,7 @@ abbrev pub IsAnswered : Plan → List (List ℕ) → List ℕ → List ℕ → O
 IsAnswered (Show text) texts bytes more outcome before after =
     IsReplied (whole_text (string_bytes text)) outcome before after
 IsAnswered (Meter meter) texts bytes more outcome before after =
-    IsReplied (reply_of (answer_of (fresh_book meter) 1 (lines_of bytes))) outcome before after
+    IsReplied (reply_of (answer_of (fresh_meter meter) 1 (lines_of bytes))) outcome before after
 IsAnswered (Envelope rate burst) texts bytes more outcome before after =
     IsReplied (reply_of (verdict_on (envelope_for rate burst) (lines_of bytes))) outcome before after
 IsAnswered (Certify domain) texts bytes more outcome before after =

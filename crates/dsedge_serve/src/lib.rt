@@ -1,12 +1,9 @@
 //! What the program does for a plan: what it answers, what it tells and how it ends.
 #![tactic(auto)]
 
-mod arrivals;
 mod conclusion;
-mod envelope;
 mod fault;
 mod marking;
-mod meter;
 mod notice;
 mod outcome;
 mod parts;

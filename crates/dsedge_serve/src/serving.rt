@@ -14,10 +14,8 @@ ghost use Rattle.dsedge_texts.specs.Certified.{certified};
 ghost use Rattle.line_text.specs.Lines.{lines_of};
 
 use crate::conclusion::Conclusion;
-use crate::envelope::EnvelopeCommand;
 use crate::fault::Fault;
 use crate::marking::{answer_mark, marking_status, refusal_outcome, tell_marking};
-use crate::meter::MeterCommand;
 use crate::notice::Notice;
 use crate::outcome::Outcome;
 use ds_checker::Accepted;
@@ -26,6 +24,7 @@ use ds_domain_base::{DomainFault, Kind};
 use dsedge_audit::AuditCommand;
 use dsedge_base::Plan;
 use dsedge_lines::{Command, Ending, PumpFault, pump};
+use dsedge_meter::{EnvelopeCommand, MeterCommand};
 use dsedge_texts::{TableFault, accept, certify};
 use pcap_capture::{Intake, Outlet, give_all};
 use std::alloc::Global;

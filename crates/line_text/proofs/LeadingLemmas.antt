@@ -1,11 +1,12 @@
 -- The number that the first field of a line is, read digit by digit.
-use Rattle.std.proofs.Common.{◌≡◌, ◌≢◌, ℕ, ◌+◌, ◌<◌, ◌≤◌, Bool, true, false, ◌&&◌, eqb, leb, cond, List, [], ◌∷◌, length, get_or, drop, fold, Option, None, Some, refl, ◌∙◌, arith, inl, inr}
+use Rattle.std.proofs.Common.{◌≡◌, ◌≢◌, ℕ, ◌+◌, ◌<◌, ◌≤◌, Bool, true, false, ◌&&◌, eqb, leb, cond, List, [], ◌∷◌, ◌++◌, length, get_or, take, drop, fold, Option, None, Some, refl, sym, ap, ◌∙◌, arith, inl, inr, take-append-drop}
 use Rattle.std.specs.List.{list_all, onto_first}
 use Rattle.std.specs.Option.{option_map}
 use Rattle.std.specs.Char.{is_ascii_digit}
 use Rattle.std.proofs.lemmas.Bool.{cases_eq, eq-eqb, false_from_ne_true, leb-true, ne_eqb}
 use Rattle.std.proofs.lemmas.Bool.Decides.{nat_tests}
-use Rattle.std.proofs.lemmas.List.{at_drop_more, at_drop_all}
+use Rattle.std.proofs.lemmas.List.{at_drop_more, at_drop_all, length-take-le}
+use Rattle.std.proofs.lemmas.Option.{cond_some}
 use Rattle.line_text.specs.Lines.{fields_of}
 use Rattle.line_text.specs.Numbers.{is_number, leading_number_of, number_of, value_of, with_digit}
 use Rattle.line_text.proofs.LineLemmas.{fields_of-some}
@@ -123,3 +124,45 @@ next-other most count value line below other ends =
 pub next-none : (most count value : ℕ) (line : List ℕ) → length line ≤ count → digits_on most count value (fields_of (drop count line)) ≡ None
 unfolding fields_of
 next-none most count value line all = at_drop_all (λ rest. digits_on most count value (fields_of rest)) line count all
+
+-- ---- digits that were read at once
+
+both_true : (a b : Bool) → a && b ≡ true → (a ≡ true) × (b ≡ true)
+both_true true b h = (refl, h)
+both_true false b h = absurd cc
+
+-- digits in front of a line
+digits_on-front : (most count value : ℕ) (front line : List ℕ) → list_all is_ascii_digit front ≡ true
+    → digits_on most count value (fields_of (front ++ line)) ≡ digits_on most (count + length front) (fold with_digit value front) (fields_of line)
+digits_on-front most count value [] line digits =
+    let none : count + 0 ≡ count = omega arith in
+    rw none refl
+digits_on-front most count value (byte ∷ front) line digits =
+    let parts = both_true (is_ascii_digit byte) (list_all is_ascii_digit front) digits in
+    let longer : count + 1 + length front ≡ count + length (byte ∷ front) = omega arith in
+    digits_on-digit most count value byte (front ++ line) parts.0
+    ∙ digits_on-front most (count + 1) (with_digit value byte) front line parts.1
+    ∙ ap (λ n. digits_on most n (fold with_digit value (byte ∷ front)) (fields_of line)) longer
+
+-- the digits at the front of a line, of which there are so many
+pub digits_on-first_digits : (most count : ℕ) (line : List ℕ) → count ≤ length line → list_all is_ascii_digit (take count line) ≡ true
+    → digits_on most count (value_of (take count line)) (fields_of (drop count line)) ≡ digits_on most 0 0 (fields_of line)
+unfolding value_of
+digits_on-first_digits most count line within digits =
+    let many : 0 + length (take count line) ≡ count = omega (arith, length-take-le count line within) in
+    ap (λ n. digits_on most n (fold with_digit 0 (take count line)) (fields_of (drop count line))) (sym many)
+    ∙ sym (digits_on-front most 0 0 (take count line) (drop count line) digits)
+    ∙ ap (λ whole. digits_on most 0 0 (fields_of whole)) (take-append-drop count line)
+
+third_true : (a b c d : Bool) → (a && b && c) && d ≡ true → c ≡ true
+third_true a b true d h = refl
+third_true true true false d h = absurd cc
+third_true true false false d h = absurd cc
+third_true false b false d h = absurd cc
+
+-- a number that is read is made of digits
+pub number_of_some : (most value : ℕ) (text : List ℕ) → number_of most text ≡ Some value → (list_all is_ascii_digit text ≡ true) × (value ≡ value_of text)
+unfolding number_of is_number
+number_of_some most value text is =
+    let read = cond_some _ (value_of text) value is in
+    (third_true (leb 1 (length text)) (leb (length text) 20) (list_all is_ascii_digit text) (leb (value_of text) most) read.0, sym read.1)

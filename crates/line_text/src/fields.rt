@@ -6,6 +6,7 @@ use memchr::memchr;
 
 /// What stands before the first `mark` in a text and what stands after it, or `None` where the
 /// text has no such byte.
+#[inline(always)]
 pub fn cut(text: &[u8], mark: u8) -> Option<(&[u8], &[u8])>
     ensures { MatchOption result (has_byte mark text.now ≡ false)
         (λ parts. (has_byte mark parts.0.now ≡ false)
@@ -18,6 +19,7 @@ pub fn cut(text: &[u8], mark: u8) -> Option<(&[u8], &[u8])>
 }
 
 /// Where `mark` stands first in a text.
+#[inline(always)]
 fn place_of(text: &[u8], mark: u8) -> Option<usize>
     ensures { result ≡ position (λ byte. byte == mark) text.now }
 {

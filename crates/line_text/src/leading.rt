@@ -1,8 +1,31 @@
-ghost use Rattle.std.specs.Prelude.{◌≡◌, ◌≤◌, ◌↔◌, IsTrue, option_map};
+ghost use Rattle.std.specs.Prelude.{◌≡◌, ◌≤◌, ◌↔◌, true, IsTrue, length, option_map, take};
+ghost use Rattle.std.specs.Char.{is_ascii_digit};
+ghost use Rattle.std.specs.List.{list_all};
 ghost use Rattle.line_text.specs.Lines.{fields_of};
-ghost use Rattle.line_text.specs.Numbers.{leading_number_of};
+ghost use Rattle.line_text.specs.Numbers.{leading_number_of, value_of};
 
-use crate::numbers::{MOST_DIGITS, with_digit};
+use crate::numbers::{MOST_DIGITS, number, with_digit};
+
+/// How many digits are read at once.
+const AT_ONCE: usize = 8;
+
+/// The number that the first digits of a line say, and how many they are: eight that are read at once, in a loop of
+/// that many turns, or none where the line does not begin with eight.
+#[inline(always)]
+#[tactic(auto, using(crate::proofs::LeadingLemmas::number_of_some), unfolding(crate::specs::Numbers::value_of))]
+fn first_digits(line: &[u8]) -> (u64, usize)
+    ensures within { result.1 ≤ length line.now }
+    ensures digits { list_all is_ascii_digit (take result.1 line.now) ≡ true }
+    ensures value { result.0 ≡ value_of (take result.1 line.now) }
+{
+    if line.len() < AT_ONCE {
+        return (0, 0);
+    }
+    match number(&line[..AT_ONCE], u64::MAX) {
+        Some(value) => (value, AT_ONCE),
+        None => (0, 0),
+    }
+}
 
 /// Whether a byte ends a number of so many digits and of this value.
 fn ends_number(byte: u8, digits: usize, value: u64, most: u64) -> bool
@@ -17,15 +40,16 @@ pub fn leading_number(line: &[u8], most: u64) -> Option<(u64, &[u8])>
     ensures { option_map (λ parts. (parts.0, fields_of parts.1.now)) result
         ≡ leading_number_of most (fields_of line.now) }
 {
-    let mut value = 0u64;
-    for (place, byte) in line.iter().enumerate() {
+    let (mut value, begin) = first_digits(line);
+    for place in begin..line.len() {
+        let byte = line[place];
         if !byte.is_ascii_digit() {
-            if ends_number(*byte, place, value, most) {
+            if ends_number(byte, place, value, most) {
                 return Some((value, &line[place + 1..]));
             }
             return None;
         }
-        value = with_digit(value, *byte)?;
+        value = with_digit(value, byte)?;
     }
     None
 }

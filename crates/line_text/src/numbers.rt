@@ -12,7 +12,7 @@ pub const MOST_DIGITS: usize = 20;
 const NINETEEN_DIGITS: u64 = 1_000_000_000_000_000_000;
 
 /// A number with one more decimal digit, an ASCII byte; `None` where that is beyond 64 bits.
-#[inline]
+#[inline(always)]
 pub(crate) fn with_digit(value: u64, digit: u8) -> Option<u64>
     requires least { 48 ≤ digit }
     requires most { digit ≤ 57 }
@@ -27,6 +27,7 @@ pub(crate) fn with_digit(value: u64, digit: u8) -> Option<u64>
 
 /// The number that a text is: 1 to 20 ASCII digits with a value of at most `most`. Leading zeros
 /// are read; a sign, a space or any other byte makes it no number.
+#[inline(always)]
 pub fn number(text: &[u8], most: u64) -> Option<u64>
     ensures { result ≡ number_of most text.now }
 {

@@ -13,6 +13,8 @@ mod kind_rows;
 #[cfg(test)]
 mod meters;
 #[cfg(test)]
+mod running_rows;
+#[cfg(test)]
 mod separate_rate_rows;
 #[cfg(test)]
 mod single_rate_rows;

@@ -1,10 +1,17 @@
-use Rattle.std.proofs.Common.{◌≡◌, ◌≤◌, ◌*◌, ◌+◌, ◌-◌, ◌^◌, get_or, false, true, sym, ◌∙◌, arith}
+use Rattle.std.proofs.Common.{◌≡◌, ◌≤◌, ◌*◌, ◌+◌, ◌-◌, ◌^◌, drop, get_or, false, true, ap, sym, ◌∙◌, arith}
 use Rattle.std.specs.Char.{is_ascii_digit}
 use Rattle.std.proofs.lemmas.Bool.{false≢true}
 use Rattle.std.proofs.lemmas.List.{take_rest}
 use Rattle.line_text.specs.Lines.{fields_of}
-use Rattle.line_text.proofs.LeadingLemmas.{digits_on-first, digits_on-over, next-digit, next-none, next-other, next-space}
+use Rattle.line_text.proofs.LeadingLemmas.{digits_on, digits_on-first, digits_on-first_digits, digits_on-over, next-digit, next-none, next-other, next-space}
 use Rattle.line_text.proofs.leading.leading_number.Goals as goal
+
+pub loop-place-init : goal.loop-place-init
+loop-place-init c =
+    let line = c.args.line.now in
+    let begin = c.first_digits-value.result.1 in
+    ap (λ value. digits_on c.args.most begin value (fields_of (drop begin line))) c.first_digits-value.ensures.value
+    ∙ digits_on-first_digits c.args.most begin line c.first_digits-value.ensures.within c.first_digits-value.ensures.digits
 
 pub returns-then-ends_number : goal.returns-then-ends_number
 returns-then-ends_number c =

@@ -1,0 +1,145 @@
+-- The answer of `meter`, a line at a time.
+use Rattle.std.proofs.Common.{◌≡◌, ℕ, ◌+◌, ◌-◌, ◌<◌, ◌≤◌, zero, suc, List, [], ◌∷◌, ◌++◌, length, take, flat_map, None, Some, arith, refl, sym, ap, ◌∙◌, append_assoc, inl, inr}
+use Rattle.std.specs.Prelude.{slice_index}
+use Rattle.std.proofs.lemmas.List.{append-nil}
+use Rattle.std.proofs.lemmas.Bool.{cases_lt}
+use Rattle.std.proofs.lemmas.Bool.Decides.{nat_tests}
+use Rattle.dsedge_lines.specs.Answers.{Answer, behind}
+use Rattle.dsedge_lines.specs.declared.command.Ending.{Ending}
+use Rattle.dsedge_lines.specs.declared.command.Ending.TheVariants.{Whole, BadLine, Full}
+use Rattle.meter_book_base.specs.AnyMeter.{left_of}
+use Rattle.meter_book.specs.declared.accounts.Accounts.{Accounts}
+use Rattle.meter_book.specs.declared.row.Arrival.{Arrival}
+use Rattle.meter_book.specs.declared.standing.Standing.{Standing}
+use Rattle.meter_book.specs.Replay.{accounts_with, offer_of, rows_from}
+use Rattle.meter_book.specs.Running.{Running, counted}
+use Rattle.meter_book.proofs.StandingLaws.{standing_after-append}
+use Rattle.dsedge_meter.specs.Arrivals.{arrival_in, arrivals_from}
+use Rattle.dsedge_meter.specs.Metered.{accounts_text_of, answer_of, answer_to, closing, colour_line, colour_line_of, ending_of, room_of}
+
+-- a list that room is made for by one, with an element in front
+take-suc : {X : Type 0} (room : ℕ) (x : X) (xs : List X) → 0 < room → take room (x ∷ xs) ≡ x ∷ take (room - 1) xs
+take-suc zero x xs h = absurd (omega arith)
+take-suc (suc room) x xs h =
+    let same : suc room - 1 ≡ room = omega arith in
+    rw same refl
+
+take-zero : {X : Type 0} (xs : List X) → take 0 xs ≡ []
+take-zero [] = refl
+take-zero (x ∷ xs) = refl
+
+take-none : {X : Type 0} (room : ℕ) (xs : List X) → room ≡ 0 → take room xs ≡ []
+take-none room xs e = rw e (take-zero xs)
+
+take-nil : {X : Type 0} (room : ℕ) → take {A = X} room [] ≡ []
+take-nil zero = refl
+take-nil (suc room) = refl
+
+-- a line that says no arrival
+arrivals_from-bad : (number : ℕ) (line : List ℕ) (later : List (List ℕ)) → arrival_in number line ≡ None → arrivals_from number (line ∷ later) ≡ []
+unfolding arrivals_from
+arrivals_from-bad number line later e = rw e refl
+
+-- a line that says an arrival
+arrivals_from-good : (number : ℕ) (line : List ℕ) (later : List (List ℕ)) (a : Arrival) → arrival_in number line ≡ Some a
+    → arrivals_from number (line ∷ later) ≡ a ∷ arrivals_from (number + 1) later
+unfolding arrivals_from
+arrivals_from-good number line later a e = rw e refl
+
+-- how an answer ends: too many arrivals, too few, or just as many as lines
+ending_of-full : (number room arrivals lines : ℕ) → room < arrivals → ending_of number room arrivals lines ≡ Full
+unfolding ending_of
+ending_of-full number room arrivals lines h = grind (arith, nat_tests)
+
+ending_of-short : (number room arrivals lines : ℕ) → arrivals ≤ room → arrivals < lines → ending_of number room arrivals lines ≡ BadLine (number + arrivals)
+unfolding ending_of
+ending_of-short number room arrivals lines fits short = grind (arith, nat_tests)
+
+ending_of-whole : (number room arrivals lines : ℕ) → arrivals ≤ room → lines ≤ arrivals → ending_of number room arrivals lines ≡ Whole
+unfolding ending_of
+ending_of-whole number room arrivals lines fits all = grind (arith, nat_tests)
+
+-- one line further, with one place less
+ending_of-more : (number room arrivals lines : ℕ) → 0 < room → ending_of number room (suc arrivals) (suc lines) ≡ ending_of (number + 1) (room - 1) arrivals lines
+ending_of-more number room arrivals lines h =
+    elim (cases_lt room (suc arrivals)) [
+      | inl over ↦ ending_of-full number room (suc arrivals) (suc lines) over ∙ sym (ending_of-full (number + 1) (room - 1) arrivals lines (omega arith))
+      | inr fits ↦ elim (cases_lt arrivals lines) [
+        | inl short ↦
+            let place : number + suc arrivals ≡ number + 1 + arrivals = omega arith in
+            ending_of-short number room (suc arrivals) (suc lines) fits (omega arith)
+            ∙ (ap (λ n. BadLine n) place ∙ sym (ending_of-short (number + 1) (room - 1) arrivals lines (omega arith) short))
+        | inr all ↦ ending_of-whole number room (suc arrivals) (suc lines) fits (omega arith) ∙ sym (ending_of-whole (number + 1) (room - 1) arrivals lines (omega arith) all)
+      ]
+    ]
+
+answer_to-none : (meter : Running) (number lines : ℕ) → 0 < lines → answer_to meter number lines [] ≡ record { text = []; ending = BadLine number }
+unfolding answer_to
+answer_to-none meter number lines h =
+    let here : number + 0 ≡ number = omega arith in
+    let ends : ending_of number (room_of meter) 0 lines ≡ BadLine number = ending_of-short number _ 0 lines (omega arith) h ∙ ap (λ n. BadLine n) here in
+    rw (take-nil (room_of meter), ends) refl
+
+answer_to-full : (meter : Running) (number lines : ℕ) (a : Arrival) (more : List Arrival) → room_of meter ≡ 0
+    → answer_to meter number lines (a ∷ more) ≡ record { text = []; ending = Full }
+unfolding answer_to
+answer_to-full meter number lines a more full =
+    let ends : ending_of number 0 (length (a ∷ more)) lines ≡ Full = ending_of-full number 0 (length (a ∷ more)) lines (omega arith) in
+    rw (full, ends) refl
+
+-- a line in front of an answer
+in_front : (line rows : List ℕ) (e f : Ending) (a b : Accounts) → e ≡ f → a ≡ b
+    → record { text = (line ++ rows) ++ closing e a; ending = e } ≡ behind line (record { text = rows ++ closing f b; ending = f })
+in_front line rows e f a b ends same =
+    rw (ends, same) (ap (λ t. let answer : Answer = record { text = t; ending = f } in answer) (append_assoc line rows (closing f b)))
+
+answer_to-more : (meter : Running) (number lines : ℕ) (a : Arrival) (more : List Arrival) → 0 < room_of meter
+    → answer_to meter number (suc lines) (a ∷ more)
+    ≡ behind (colour_line_of (left_of meter.standing.meter (offer_of a))) (answer_to (counted meter a) (number + 1) lines more)
+unfolding answer_to
+answer_to-more meter number lines a more room =
+    let less : room_of (counted meter a) ≡ room_of meter - 1 = omega arith in
+    let accounts = ap (λ (s : Standing). s.accounts) (sym (standing_after-append meter.standing (a ∷ []) (take (room_of meter - 1) more) None None)) in
+    rw (take-suc (room_of meter) a more room, less)
+    (in_front _ (flat_map colour_line (rows_from (counted meter a).standing.meter (counted meter a).standing.place (take (room_of meter - 1) more))) _ _ _ _
+    (ending_of-more number (room_of meter) (length more) lines room) accounts)
+
+pub answer_of-bad : (meter : Running) (number : ℕ) (line : List ℕ) (later : List (List ℕ)) → arrival_in number line ≡ None
+    → answer_of meter number (line ∷ later) ≡ record { text = []; ending = BadLine number }
+answer_of-bad meter number line later e = rw (arrivals_from-bad number line later e) (answer_to-none meter number (suc (length later)) (omega arith))
+
+pub answer_of-full : (meter : Running) (number : ℕ) (line : List ℕ) (later : List (List ℕ)) (a : Arrival) → arrival_in number line ≡ Some a
+    → meter.standing.place ≡ meter.most → answer_of meter number (line ∷ later) ≡ record { text = []; ending = Full }
+answer_of-full meter number line later a e full =
+    rw (arrivals_from-good number line later a e)
+    (answer_to-full meter number (suc (length later)) a (arrivals_from (number + 1) later) (omega (arith, full)))
+
+pub answer_of-noted : (meter : Running) (number : ℕ) (line : List ℕ) (later : List (List ℕ)) (a : Arrival) → arrival_in number line ≡ Some a
+    → meter.standing.place < meter.most
+    → answer_of meter number (line ∷ later)
+    ≡ behind (colour_line_of (left_of meter.standing.meter (offer_of a))) (answer_of (counted meter a) (number + 1) later)
+answer_of-noted meter number line later a e room =
+    rw (arrivals_from-good number line later a e)
+    (answer_to-more meter number (length later) a (arrivals_from (number + 1) later) (omega (arith, room)))
+
+-- no rows add nothing to accounts
+accounts_text-none : (a : Accounts) → accounts_text_of (accounts_with a []) ≡ accounts_text_of a
+accounts_text-none a =
+    let none : (n : ℕ) → n + 0 ≡ n = λ n. omega arith in
+    rw (none (slice_index a.packets 0), none (slice_index a.packets 1), none (slice_index a.packets 2), none (slice_index a.bytes 0), none (slice_index a.bytes 1), none (slice_index a.bytes 2)) refl
+
+pub answer_of-end : (meter : Running) (number : ℕ) → answer_of meter number [] ≡ record { text = accounts_text_of meter.standing.accounts; ending = Whole }
+unfolding answer_to arrivals_from
+answer_of-end meter number =
+    let ends : ending_of number (room_of meter) 0 0 ≡ Whole = ending_of-whole number _ 0 0 (omega arith) (omega arith) in
+    rw (take-nil (room_of meter), ends)
+    (ap (λ t. let answer : Answer = record { text = t; ending = Whole } in answer) (accounts_text-none meter.standing.accounts))
+
+-- an answer that ends here adds nothing to what stands
+pub behind-nothing : (out : List ℕ) (ending : Ending) → record { text = out; ending = ending } ≡ behind out (record { text = []; ending = ending })
+behind-nothing out ending = ap (λ t. let a : Answer = record { text = t; ending = ending } in a) (sym (append-nil out))
+
+-- what a line adds stands between what stood and the answer to come
+pub behind-line : (out now line : List ℕ) (whole later : Answer) → now ≡ out ++ line → whole ≡ behind line later → behind now later ≡ behind out whole
+behind-line out now line whole later e f =
+    rw (e, f) (ap (λ t. let a : Answer = record { text = t; ending = later.ending } in a) (append_assoc out line later.text))

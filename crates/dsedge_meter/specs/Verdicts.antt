@@ -1,0 +1,55 @@
+-- What `envelope` answers to lines of sized moments.
+use Rattle.std.specs.Prelude.{ℕ, ◌+◌, ◌^◌, nat_lt, min, List, [], ◌++◌, length, codes, decimal, Option, None, Some}
+use Rattle.std.specs.Prelude.{if◌then◌else◌}
+use Rattle.dsedge_lines.specs.Answers.{Answer}
+use Rattle.dsedge_lines.specs.declared.command.Ending.{Ending}
+use Rattle.dsedge_lines.specs.declared.command.Ending.TheVariants.{Whole, Refused, BadLine}
+use Rattle.envelope_core.specs.Curve.{Curve}
+use Rattle.envelope_core.specs.LeakyBucket.{Bucket, overflow_from}
+use Rattle.dsedge_meter.specs.Arrivals.{sized_from}
+
+-- the envelope of a rate and a burst, which holds at most 10^19 bytes
+abbrev pub envelope_for : ℕ → ℕ → Curve
+envelope_for rate burst = record { rate = rate; burst = min burst (10 ^ 19) }
+
+-- whether the envelope is kept, or else the line of the first sized moment that is over it
+abbrev pub verdict_text_of : Option ℕ → List ℕ
+verdict_text_of None = codes "kept\n"
+verdict_text_of (Some line) = codes "over " ++ decimal line ++ codes "\n"
+
+-- an envelope that is not kept is an answer that says no
+abbrev pub verdict_ending_of : Option ℕ → Ending
+verdict_ending_of None = Whole
+verdict_ending_of (Some line) = Refused
+
+abbrev pub verdict_of : Option ℕ → Answer
+verdict_of over = record { text = verdict_text_of over; ending = verdict_ending_of over }
+
+-- a test that is under way: the leaky bucket of the envelope, and the line of the first sized moment that was over it
+pub record Testing : Type 0 where
+  pub bucket : Bucket
+  pub over : Option ℕ
+
+-- a test before any line
+abbrev pub untested : Curve → Testing
+untested envelope = record { bucket = record { curve = envelope; level = 0; since = 0 }; over = None }
+
+-- the first line that is over, if one is: one that was, or else of these sized moments, the first on the line of a number
+abbrev pub first_over : Bucket → Option ℕ → ℕ → List (ℕ × ℕ) → Option ℕ
+first_over b None number items = overflow_from b.curve.rate b.curve.burst b.level b.since number items
+first_over b (Some line) number items = Some line
+
+-- The answer to so many lines from a number on, which say these sized moments before any says none: nothing is printed
+-- before the end, and at the end the verdict over all that was read, by the leaky bucket of the envelope.
+unfoldable pub verdict_to : Testing → ℕ → ℕ → List (ℕ × ℕ) → Answer
+verdict_to t number lines items =
+    if nat_lt (length items) lines then record { text = []; ending = BadLine (number + length items) }
+    else verdict_of (first_over t.bucket t.over number items)
+
+-- the answer to lines from a number on, behind sized moments of which the last was at the bucket's moment
+abbrev pub verdict_behind : Testing → ℕ → List (List ℕ) → Answer
+verdict_behind t number lines = verdict_to t number (length lines) (sized_from t.bucket.since lines)
+
+-- the answer to all lines, which are counted from 1
+abbrev pub verdict_on : Curve → List (List ℕ) → Answer
+verdict_on envelope lines = verdict_behind (untested envelope) 1 lines

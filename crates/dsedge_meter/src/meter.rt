@@ -1,0 +1,106 @@
+ghost use Rattle.std.specs.Prelude.{◌≡◌, ◌++◌, IfOk, OnOk};
+ghost use Rattle.dsedge_meter.specs.Metered.{account_line, accounts_text_of, answer_of, colour_line_of};
+
+use crate::arrivals::arrival;
+use dsedge_lines::{Command, Ending};
+use line_text::push_number;
+use meter_book::{Accounts, AnyMeter, RunningMeter};
+use moment_core::{Colour, Gap};
+use std::alloc::{AllocError, Global};
+use std::marker::Model;
+
+/// The command `meter`: it answers each arrival with the colour that the packet leaves with, and at the end the
+/// accounts. It keeps sums and no rows, so its memory does not grow.
+#[derive(Drop)]
+pub struct MeterCommand {
+    alloc: Global,
+    meter: RunningMeter,
+}
+
+impl Model for MeterCommand {
+    ghost use Rattle.meter_book.specs.Running.{Running};
+
+    ghost Value = { Running };
+
+    ghost view = { λ c. c.meter };
+}
+
+/// A line with the name of a colour.
+fn colour_line(colour: Colour) -> &'static [u8]
+    ensures { result.now ≡ colour_line_of colour }
+{
+    match colour {
+        Colour::Green => "green\n".as_bytes(),
+        Colour::Yellow => "yellow\n".as_bytes(),
+        Colour::Red => "red\n".as_bytes(),
+    }
+}
+
+/// Writes a line of the accounts: a colour's name, its packets and its bytes.
+fn push_account(text: &mut Vec<u8>, name: &str, packets: u64, bytes: u64) -> Result<(), AllocError>
+    ensures { OnOk result (text.new.items ≡ text.old.items ++ account_line name.now packets bytes) }
+{
+    text.extend_from_slice(name.as_bytes())?;
+    text.push(b' ')?;
+    push_number(text, packets)?;
+    text.push(b' ')?;
+    push_number(text, bytes)?;
+    text.push(b'\n')?;
+    Ok(())
+}
+
+/// The lines of accounts: green, yellow and red.
+fn accounts_text(alloc: Global, accounts: &Accounts) -> Result<Vec<u8>, AllocError>
+    ensures { IfOk result (λ text. text.items ≡ accounts_text_of accounts.now) }
+{
+    let mut text = Vec::new(alloc);
+    push_account(&mut text, "green", accounts.packets[0], accounts.bytes[0])?;
+    push_account(&mut text, "yellow", accounts.packets[1], accounts.bytes[1])?;
+    push_account(&mut text, "red", accounts.packets[2], accounts.bytes[2])?;
+    Ok(text)
+}
+
+impl MeterCommand {
+    ghost use Rattle.dsedge_meter.specs.Metered.{fresh_meter};
+
+    /// The most arrivals that it answers.
+    const MOST_ARRIVALS: u64 = 1 << 20;
+
+    /// The command over a meter before any arrival.
+    pub fn new(alloc: Global, meter: AnyMeter) -> Self
+        ensures { result ≡ fresh_meter meter }
+    {
+        MeterCommand {
+            alloc,
+            meter: RunningMeter::new(meter, Gap::NONE, Self::MOST_ARRIVALS),
+        }
+    }
+}
+
+impl Command for MeterCommand {
+    ghost answer = { answer_of };
+
+    fn line(
+        &mut self,
+        number: u64,
+        line: &[u8],
+        out: &mut Vec<u8>,
+    ) -> Result<Option<Ending>, AllocError> {
+        let Some(arrival) = arrival(number, line) else {
+            return Ok(Some(Ending::BadLine(number)));
+        };
+        match self.meter.note(arrival) {
+            Ok(left) => {
+                out.extend_from_slice(colour_line(left))?;
+                Ok(None)
+            }
+            Err(_) => Ok(Some(Ending::Full)),
+        }
+    }
+
+    fn end(&mut self, _number: u64, out: &mut Vec<u8>) -> Result<Ending, AllocError> {
+        let text = accounts_text(self.alloc, &self.meter.accounts())?;
+        out.extend_from_slice(text.as_slice())?;
+        Ok(Ending::Whole)
+    }
+}
