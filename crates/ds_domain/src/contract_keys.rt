@@ -131,10 +131,7 @@ fn path_at<'a>(alloc: Global, place: Place, table: &'a Table) -> Result<Vec<&'a 
     ensures ok { IfOk result (λ path. path_at place (table_view table.now) ≡ Ok (map (λ name. name.now) path.items)) }
     ensures refused { IfErr result (λ fault. (fault ≡ no_memory) ⊎ (path_at place (table_view table.now) ≡ Err fault)) }
 {
-    match required_texts(alloc, table, Field::Path.text()) {
-        Ok(path) => Ok(path),
-        Err(flaw) => Err(place.flaw(flaw, Field::Path)),
-    }
+    required_texts(alloc, table, Field::Path.text()).map_err(|flaw| place.flaw(flaw, Field::Path))
 }
 
 /// The assured forwarding class.

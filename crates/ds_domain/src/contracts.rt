@@ -113,10 +113,11 @@ fn contract_terms(
         return Err(place.fault(Kind::Twice, Field::Name));
     }
     let terms = rest.claim.terms(place)?;
-    match Lifetime::new(rest.since, rest.until) {
-        Ok(lifetime) => Ok((terms, lifetime)),
-        Err(_) => Err(place.fault(Kind::Range, Field::Until)),
-    }
+    let lifetime = Lifetime::new(rest.since, rest.until).map_err(|_| place.fault(
+        Kind::Range,
+        Field::Until,
+    ))?;
+    Ok((terms, lifetime))
 }
 
 /// The contract of these parts: its terms and lifetime, its port and path, and the rest of what its keys say.

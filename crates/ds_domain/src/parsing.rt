@@ -105,10 +105,7 @@ fn section_of<'a>(
     ensures refused { IfErr result (λ fault. (fault ≡ no_memory)
         ⊎ (section_of field (table_view table.now) ≡ Err fault)) }
 {
-    match tables_at(alloc, table, field.text()) {
-        Ok(tables) => Ok(tables),
-        Err(flaw) => Err(top().flaw(flaw, field)),
-    }
+    tables_at(alloc, table, field.text()).map_err(|flaw| top().flaw(flaw, field))
 }
 
 /// The tables of all sections.
