@@ -1,6 +1,7 @@
 //! What the program does for a plan: what it answers, what it tells and how it ends.
 #![tactic(auto)]
 
+mod advice;
 mod arrivals;
 mod conclusion;
 mod envelope;
@@ -13,6 +14,7 @@ mod parts;
 mod report;
 mod serving;
 
+pub use advice::{Advice, Ended};
 pub use conclusion::Conclusion;
 pub use fault::Fault;
 pub use outcome::Outcome;
