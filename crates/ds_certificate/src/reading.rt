@@ -120,7 +120,12 @@ fn bounds_in<'a>(
 
 /// The bound that a line says, where it is that of a name at a hop.
 #[tactic(auto, unfolding(crate::specs::Readings::bound_in))]
-fn bound_in(form: Form, name: Name, hop: u64, line: &[u8]) -> Result<Bound, CertificateFault>
+pub(crate) fn bound_in(
+    form: Form,
+    name: Name,
+    hop: u64,
+    line: &[u8],
+) -> Result<Bound, CertificateFault>
     ensures { result ≡ bound_in form name hop line.now }
 {
     let Some(entry) = entry_in(form, line) else {
@@ -249,7 +254,7 @@ fn says(digits: &[u8], value: u64) -> bool
 }
 
 /// The first line of a text, and what stands behind it; None for a text of no bytes.
-fn next_line(text: &[u8]) -> Option<(&[u8], &[u8])>
+pub(crate) fn next_line(text: &[u8]) -> Option<(&[u8], &[u8])>
     ensures { MatchOption result (lines_of text.now ≡ [])
         (λ parts. lines_of text.now ≡ parts.0.now ∷ lines_of parts.1.now) }
 {

@@ -22,7 +22,7 @@ refused_unread words (Domain why) failed is = absurd is
 refused_unread words (Certificate why) failed is = absurd is
 refused_unread words (Capture why) failed is = absurd is
 refused_unread words (Port name) failed is = absurd is
-refused_unread words (File name) failed is = absurd is
+refused_unread words (File name reason) failed is = absurd is
 refused_unread words Write failed is = absurd is
 refused_unread words Full failed is = absurd is
 

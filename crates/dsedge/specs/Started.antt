@@ -11,10 +11,12 @@ use Rattle.dsedge_base.specs.declared.fault.UsageFault.TheVariants as usage_faul
 use Rattle.dsedge_base.specs.declared.work.Plan.{Plan}
 use Rattle.dsedge_texts.specs.Readable.{texts_of}
 use Rattle.dsedge_lines.specs.FirstLine.{after_first_line, first_line_of}
+use Rattle.dsedge_serve.specs.declared.advice.Advice.{Advice}
 use Rattle.dsedge_serve.specs.declared.fault.Fault.{Fault}
 use Rattle.dsedge_serve.specs.declared.fault.Fault.TheVariants.{Usage, Line, Domain, Certificate, Capture, Port, File}
 use Rattle.dsedge_serve.specs.declared.fault.Fault.TheVariants.{Read, Write, Memory, Full}
 use Rattle.dsedge_serve.specs.declared.outcome.Outcome.{Outcome}
+use Rattle.dsedge_serve.specs.Advised.{advice_after, advice_on}
 use Rattle.dsedge_serve.specs.Faults.{fault_text, status_of}
 use Rattle.dsedge_serve.specs.Served.{IsAnswered, IsForeseen, IsOfInput, is_output_fault, status_after, told_after}
 
@@ -62,7 +64,7 @@ IsWordless given bytes (Domain fault) = ⊥
 IsWordless given bytes (Certificate fault) = ⊥
 IsWordless given bytes (Capture fault) = ⊥
 IsWordless given bytes (Port name) = ⊥
-IsWordless given bytes (File name) = ⊥
+IsWordless given bytes (File name reason) = ⊥
 IsWordless given bytes Write = ⊥
 IsWordless given bytes Full = ⊥
 
@@ -76,7 +78,7 @@ IsRefused words (Domain fault) = ⊥
 IsRefused words (Certificate fault) = ⊥
 IsRefused words (Capture fault) = ⊥
 IsRefused words (Port name) = ⊥
-IsRefused words (File name) = ⊥
+IsRefused words (File name reason) = ⊥
 IsRefused words Write = ⊥
 IsRefused words Full = ⊥
 
@@ -93,7 +95,7 @@ is_read (Domain fault) = false
 is_read (Certificate fault) = false
 is_read (Capture fault) = false
 is_read (Port name) = false
-is_read (File name) = false
+is_read (File name reason) = false
 is_read Read = true
 is_read Write = false
 is_read Memory = false
@@ -106,7 +108,7 @@ failures_with fault failed = if is_read fault then next_count failed else failed
 -- Why not all files of a plan were read: the first of them that cannot be, which is known where they tell what they
 -- hold; memory may run out.
 abbrev pub IsUnreadable : Type 0 → (List ℕ → Option (List ℕ)) → List (List ℕ) → Fault → Type 0
-IsUnreadable tells holds names (File name) = Contains names name × (tells → texts_of holds names ≡ Err name)
+IsUnreadable tells holds names (File name reason) = Contains names name × (tells → texts_of holds names ≡ Err name)
 IsUnreadable tells holds names Memory = Unit {0}
 IsUnreadable tells holds names Usage = ⊥
 IsUnreadable tells holds names (Line number) = ⊥
@@ -130,6 +132,12 @@ abbrev pub status_in : Course → ℕ
 status_in (Refused fault) = status_of fault
 status_in (Unread plan fault) = status_of fault
 status_in (Served plan texts outcome) = status_after outcome
+
+-- what there is to say behind what is told of a start
+abbrev pub advice_in : Course → Option Advice
+advice_in (Refused fault) = advice_on fault
+advice_in (Unread plan fault) = advice_on fault
+advice_in (Served plan texts outcome) = advice_after outcome
 
 -- what is told of a start on standard error
 abbrev pub told_in : Course → List ℕ

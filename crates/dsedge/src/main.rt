@@ -2,26 +2,33 @@
 #![tactic(auto)]
 
 #[cfg(test)]
+mod advice_tests;
+#[cfg(test)]
 mod excess_tests;
 #[cfg(test)]
 mod mark_tests;
+mod advising;
+mod screen;
 mod start;
 #[cfg(test)]
 mod tests;
+mod watch;
+mod watched;
 
+use crate::advising::advice_text;
+use crate::screen::Screen;
 use crate::start::{refuse, start};
+use crate::watch::Watch;
+use crate::watched::{WatchedIntake, WatchedOutlet};
 use dsedge_base::explanation;
 use dsedge_lines::Words;
-use dsedge_serve::Fault;
+use dsedge_serve::{Advice, Ended, Fault};
 use dsedge_texts::SystemFolder;
 use pcap_capture::{ReadIntake, WriteOutlet, give_all};
 use std::env;
 use std::io::{Error, ErrorKind, IsTerminal};
 use std::process::ExitCode;
 use std::rt::Env;
-
-/// The exit status of words that are refused.
-const USAGE: u8 = 2;
 
 /// Why there are no words: memory ran out, or one of them is not UTF-8.
 fn wordless(error: Error) -> Fault<'static> {
@@ -40,37 +47,55 @@ fn given_words<R: Env + AllocGlobal>(rt: &R) -> Result<Words, Fault<'static>> {
     Ok(words)
 }
 
-/// Says at a terminal what is wrong with malformed words, behind the fault's line: to a pipe or a file goes that line alone.
-fn explain(rt: &HostRuntime) {
+/// What an advice says on the words of the command line, or on what else it is.
+fn said(rt: &HostRuntime, advice: Advice) -> Option<String> {
+    match advice {
+        Advice::Words => {
+            let words = given_words(rt).ok()?;
+            if words.is_empty() {
+                return None;
+            }
+            explanation(rt.alloc(), words.as_slice())
+        }
+        advice => advice_text(rt.alloc(), advice).ok()?,
+    }
+}
+
+/// Says at a terminal what there is to say behind a fault's line: to a pipe or a file goes that line alone.
+fn advise(rt: &HostRuntime, advice: Advice) {
     if !rt.stderr().is_terminal() {
         return;
     }
-    let Ok(words) = given_words(rt) else {
-        return;
-    };
-    if words.is_empty() {
-        return;
-    }
-    if let Some(text) = explanation(rt.alloc(), words.as_slice()) {
+    if let Some(text) = said(rt, advice) {
         let _told = give_all(&mut WriteOutlet::new(rt.stderr()), text.as_bytes());
     }
 }
 
-fn main(rt: HostRuntime) -> ExitCode {
-    let mut faults = WriteOutlet::new(rt.stderr());
-    let status = match given_words(&rt) {
+/// Runs the program, under the eye of a watch, if there is one.
+fn run(rt: &HostRuntime, watch: Option<&Screen<'_>>) -> Ended {
+    let beside = if rt.stdout().is_terminal() { watch } else { None };
+    let mut faults = WatchedOutlet::new(WriteOutlet::new(rt.stderr()), watch);
+    match given_words(rt) {
         Ok(words) => start(
             rt.alloc(),
             words,
-            &SystemFolder::new(&rt),
-            &mut ReadIntake::new(rt.stdin()),
-            &mut WriteOutlet::new(rt.stdout()),
+            &SystemFolder::new(rt),
+            &mut WatchedIntake::new(ReadIntake::new(rt.stdin()), watch),
+            &mut WatchedOutlet::new(WriteOutlet::new(rt.stdout()), beside),
             &mut faults,
         ),
         Err(fault) => refuse(&fault, &mut faults),
-    };
-    if status == USAGE {
-        explain(&rt);
     }
-    ExitCode::from(status)
+}
+
+fn main(rt: HostRuntime) -> ExitCode {
+    let screen = Screen::new(&rt);
+    let ended = run(&rt, screen.as_ref());
+    if let Some(screen) = &screen {
+        screen.clear();
+    }
+    if let Some(advice) = ended.advice {
+        advise(&rt, advice);
+    }
+    ExitCode::from(ended.status)
 }

@@ -1,31 +1,36 @@
 ghost use Rattle.std.specs.Prelude.{◌≡◌, ℕ, ◌≤◌, IfErr, IfOk, MatchResult, Ok, OnOk, length, map, string_bytes};
 ghost use Rattle.dsedge_base.specs.Plans.{IsPlanOf};
 ghost use Rattle.pcap_capture.specs.Counts.{count_after};
+ghost use Rattle.dsedge_serve.specs.Advised.{advice_on};
 ghost use Rattle.dsedge_serve.specs.Faults.{fault_text, status_of};
 ghost use Rattle.dsedge_serve.specs.Served.{IsOfWrites, IsTold};
 ghost use Rattle.dsedge.specs.Started.{AreKnown, Course, HasWords, IsCourseFrom, IsFromInput, IsRefused, IsWordless};
 ghost use Rattle.dsedge.specs.Started.{IsWritten};
 ghost use Rattle.dsedge.specs.Started.{IsCourseOf, IsUnreadable, failures_with, input_from, is_unwritten, most_asked};
-ghost use Rattle.dsedge.specs.Started.{status_in, told_in, words_from};
+ghost use Rattle.dsedge.specs.Started.{advice_in, status_in, told_in, words_from};
 ghost use Rattle.dsedge_base.specs.Files.{files_of};
 ghost use Rattle.dsedge_texts.specs.Readable.{texts_of};
 
 use dsedge_base::{Plan, UsageFault, plan};
 use dsedge_lines::{FirstLineFault, Words, first_line};
-use dsedge_serve::{Fault, serve};
+use dsedge_serve::{Ended, Fault, serve};
 use dsedge_texts::{Folder, TextFault, read_texts};
 use pcap_capture::{Intake, Outlet};
 use std::alloc::Global;
 
-/// Tells a fault, and gives its exit status. A failure to write it is passed over.
-pub fn refuse<F: Outlet>(fault: &Fault<'_>, faults: &mut F) -> u8
-    ensures status { result ≡ status_of fault.now }
+/// Tells a fault, and gives its exit status, with what there is to say behind it. A failure to write it is passed over.
+pub fn refuse<F: Outlet>(fault: &Fault<'_>, faults: &mut F) -> Ended
+    ensures status { result.status ≡ status_of fault.now }
+    ensures advice { result.advice ≡ advice_on fault.now }
     ensures told { F.tells faults.old →
         IsTold (fault_text fault.now) (F.held faults.old) (F.held faults.new) (F.failed faults.old)
         (F.failed faults.new) }
 {
     let _told = fault.tell(faults);
-    fault.status()
+    Ended {
+        status: fault.status(),
+        advice: fault.advice(),
+    }
 }
 
 /// The words of a command: those given, or where there are none, those of the input's first line.
@@ -89,13 +94,14 @@ fn texts_for<'a, D: Folder>(
     };
     match read_texts(alloc, folder, names.as_slice()) {
         Ok(texts) => Ok(texts),
-        Err(TextFault::File(name)) => Err(Fault::File(name)),
+        Err(TextFault::File(name, reason)) => Err(Fault::File(name, reason)),
         Err(TextFault::NoMemory) => Err(Fault::Memory),
     }
 }
 
 /// Runs the program on its words, the name of the program left out; where there are none, the first line of the input
-/// gives them, and the rest is the input. Files that the words name come from `folder`. Gives the exit status.
+/// gives them, and the rest is the input. Files that the words name come from `folder`. Gives the exit status, and what
+/// there is to say behind what was told.
 pub fn start<D: Folder, I: Intake, O: Outlet, F: Outlet>(
     alloc: Global,
     given: Words,
@@ -103,12 +109,12 @@ pub fn start<D: Folder, I: Intake, O: Outlet, F: Outlet>(
     intake: &mut I,
     output: &mut O,
     faults: &mut F,
-) -> u8
+) -> Ended
     // Words that are refused leave the output as it was.
-    ensures usage { result ≡ 2 → O.held output.new ≡ O.held output.old }
-    // One course of things stands behind what is written, what is told and the status.
+    ensures usage { result.status ≡ 2 → O.held output.new ≡ O.held output.old }
+    // One course of things stands behind what is written, what is told, the status and the advice.
     ensures course { let texts = map string_bytes given.items in
-        (course : Course) × (result ≡ status_in course)
+        (course : Course) × (result.status ≡ status_in course)
         × (AreKnown texts (I.tells intake.old) → IsCourseFrom texts (I.left intake.old) course)
         × IsCourseOf (D.tells folder.now) (D.holds folder.now) course
         × IsWritten course (I.tells intake.old × O.tells output.old) (input_from texts (I.left intake.old))
@@ -118,7 +124,8 @@ pub fn start<D: Folder, I: Intake, O: Outlet, F: Outlet>(
         IsTold (told_in course) (F.held faults.old) (F.held faults.new) (F.failed faults.old) (F.failed faults.new))
         × IsOfWrites (is_unwritten course) (O.failed output.old) (O.failed output.new)
         × ((asked : ℕ) × (asked ≤ most_asked texts) × IsFromInput course (I.failed intake.old) (I.failed intake.new)
-        (count_after asked (I.turns intake.old)) (I.turns intake.new)) }
+        (count_after asked (I.turns intake.old)) (I.turns intake.new))
+        × (result.advice ≡ advice_in course) }
 {
     let words = match words_for(alloc, given, intake) {
         Ok(words) => words,

@@ -1,4 +1,5 @@
 use crate::start::start;
+use dsedge_serve::Advice;
 use dsedge_texts::MemoryFolder;
 use pcap_capture::{SliceIntake, VecOutlet};
 use std::alloc::{AllocError, Global};
@@ -10,7 +11,9 @@ use std::test::Fail;
 pub(crate) struct Done {
     pub output: Vec<u8>,
     pub told: Vec<u8>,
+    pub writes: u64,
     pub status: u8,
+    pub advice: Option<Advice>,
 }
 
 /// No files.
@@ -29,11 +32,13 @@ fn run(
         given.push(String::from_str(alloc, word)?)?;
     }
     let mut faults = VecOutlet::new(Vec::new(alloc));
-    let status = start(alloc, given, &files, &mut intake, &mut output, &mut faults);
+    let ended = start(alloc, given, &files, &mut intake, &mut output, &mut faults);
     Ok(Done {
         output: output.bytes,
         told: faults.bytes,
-        status,
+        writes: faults.turns,
+        status: ended.status,
+        advice: ended.advice,
     })
 }
 
@@ -198,7 +203,7 @@ fn words_on_the_first_line(rt: HostRuntime) -> Result<(), Fail> {
     let mut intake = SliceIntake::new(b"envelope --rate 1 --burst 1\n0 1\n7999999999 1\n");
     let mut output = VecOutlet::new(Vec::new(alloc));
     let mut faults = VecOutlet::new(Vec::new(alloc));
-    let status = start(
+    let ended = start(
         alloc,
         Vec::new(alloc),
         &NO_FILES,
@@ -206,7 +211,7 @@ fn words_on_the_first_line(rt: HostRuntime) -> Result<(), Fail> {
         &mut output,
         &mut faults,
     );
-    assert_eq!(rt; status, 1);
+    assert_eq!(rt; ended.status, 1);
     assert_eq!(rt; output.bytes.as_slice(), b"over 2\n".as_slice());
     assert!(rt; faults.bytes.is_empty());
     Ok(())

@@ -64,10 +64,10 @@ abbrev pub fault_text : Fault → List ℕ
 fault_text Usage = codes "dsedge: usage\n"
 fault_text (Line number) = codes "dsedge: line " ++ decimal number ++ codes "\n"
 fault_text (Domain fault) = codes "dsedge: domain " ++ domain_fault_text fault ++ codes "\n"
-fault_text (Certificate fault) = codes "dsedge: certificate " ++ certificate_fault_text fault ++ codes "\n"
+fault_text (Certificate place) = codes "dsedge: certificate " ++ certificate_fault_text place.fault ++ codes "\n"
 fault_text (Capture fault) = codes "dsedge: capture " ++ capture_fault_text fault ++ codes "\n"
 fault_text (Port name) = codes "dsedge: port " ++ name ++ codes "\n"
-fault_text (File name) = codes "dsedge: file " ++ name ++ codes "\n"
+fault_text (File name reason) = codes "dsedge: file " ++ name ++ codes "\n"
 fault_text Read = codes "dsedge: read\n"
 fault_text Write = codes "dsedge: write\n"
 fault_text Memory = codes "dsedge: memory\n"
@@ -78,10 +78,10 @@ abbrev pub status_of : Fault → ℕ
 status_of Usage = 2
 status_of (Line number) = 3
 status_of (Domain fault) = 3
-status_of (Certificate fault) = 3
+status_of (Certificate place) = 3
 status_of (Capture fault) = 3
 status_of (Port name) = 3
-status_of (File name) = 4
+status_of (File name reason) = 4
 status_of Read = 4
 status_of Write = 4
 status_of Memory = 5

@@ -1,7 +1,6 @@
-use ds_certificate::CertificateFault;
 use ds_domain_base::DomainFault;
 use dsedge_lines::Ending;
-use dsedge_texts::RefusalLine;
+use dsedge_texts::{FaultyLine, RefusalLine};
 
 /// How a reply of the program ends.
 #[derive(Debug, Drop)]
@@ -11,7 +10,7 @@ pub enum Conclusion {
     /// The text of the domain has a fault, and nothing is answered.
     Unsound(DomainFault),
     /// The text of the certificate has a fault, and nothing is answered.
-    Uncertified(CertificateFault),
+    Uncertified(FaultyLine),
     /// The checker refuses the table with this line, and nothing is answered.
     Unaccepted(RefusalLine),
 }

@@ -1,13 +1,16 @@
 ghost use Rattle.std.specs.Prelude.{◌≡◌, ◌++◌, List, ℕ, codes, MatchResult, is_ok, if◌then◌else◌};
 ghost use Rattle.pcap_capture.specs.Counts.{next_count};
 ghost use Rattle.pcap_capture.specs.Fronts.{IsFrontOf};
+ghost use Rattle.dsedge_serve.specs.Advised.{advice_on};
 ghost use Rattle.dsedge_serve.specs.Faults.{capture_fault_text, certificate_fault_text, fault_text};
 ghost use Rattle.dsedge_serve.specs.Faults.{kind_text, status_of, text_or_dash};
 
+use crate::advice::Advice;
 use crate::parts::give_parts;
 use ds_certificate::CertificateFault;
 use ds_domain_base::{DomainFault, Kind};
 use dsedge_lines::GivenName;
+use dsedge_texts::{FaultyLine, Reason};
 use itoa::Buffer;
 use pcap_capture::{DeviceFault, Outlet, PcapFault, give_all};
 
@@ -20,14 +23,14 @@ pub enum Fault<'a> {
     Line(u64),
     /// The text of the domain has a fault.
     Domain(DomainFault),
-    /// The text of the certificate has a fault.
-    Certificate(CertificateFault),
+    /// The text of the certificate has a fault, in this line.
+    Certificate(FaultyLine),
     /// The capture has a fault.
     Capture(PcapFault),
     /// The domain has no port of this name.
     Port(GivenName<'a>),
-    /// The file of this name cannot be read, or has more than 16 MiB.
-    File(GivenName<'a>),
+    /// The file of this name cannot be read, or has more than 16 MiB, for this reason.
+    File(GivenName<'a>, Reason),
     /// The input could not be read.
     Read,
     /// The output could not be written.
@@ -50,8 +53,21 @@ impl Fault<'_> {
             | Fault::Certificate(_)
             | Fault::Capture(_)
             | Fault::Port(_) => 3,
-            Fault::File(_) | Fault::Read | Fault::Write => 4,
+            Fault::File(..) | Fault::Read | Fault::Write => 4,
             Fault::Memory | Fault::Full => 5,
+        }
+    }
+
+    /// What there is to say behind the fault's line, if anything.
+    pub fn advice(&self) -> Option<Advice>
+        ensures { result ≡ advice_on self.now }
+    {
+        match self {
+            Fault::Usage => Some(Advice::Words),
+            Fault::File(_, reason) => Some(Advice::File(*reason)),
+            Fault::Certificate(place) => Some(Advice::Certificate(*place)),
+            Fault::Capture(PcapFault::IsPcapng) => Some(Advice::Pcapng),
+            _ => None,
         }
     }
 
@@ -69,12 +85,12 @@ impl Fault<'_> {
                 tell_line("dsedge: line ", Buffer::new().format(*number), faults)
             }
             Fault::Domain(fault) => tell_domain(fault, faults),
-            Fault::Certificate(fault) => {
-                tell_line("dsedge: certificate ", certificate_text(*fault), faults)
+            Fault::Certificate(place) => {
+                tell_line("dsedge: certificate ", certificate_text(place.fault), faults)
             }
             Fault::Capture(fault) => tell_line("dsedge: capture ", capture_text(*fault), faults),
             Fault::Port(name) => tell_line("dsedge: port ", name.text(), faults),
-            Fault::File(name) => tell_line("dsedge: file ", name.text(), faults),
+            Fault::File(name, _) => tell_line("dsedge: file ", name.text(), faults),
             Fault::Read => give_all(faults, b"dsedge: read\n"),
             Fault::Write => give_all(faults, b"dsedge: write\n"),
             Fault::Memory => give_all(faults, b"dsedge: memory\n"),

@@ -1,6 +1,7 @@
 //! What the program does for a plan: what it answers, what it tells and how it ends.
 #![tactic(auto)]
 
+mod advice;
 mod conclusion;
 mod fault;
 mod marking;
@@ -10,6 +11,7 @@ mod parts;
 mod report;
 mod serving;
 
+pub use advice::{Advice, Ended};
 pub use conclusion::Conclusion;
 pub use fault::Fault;
 pub use outcome::Outcome;

@@ -2,6 +2,7 @@ ghost use Rattle.std.specs.Prelude.{◌≡◌, ◌++◌, false, Some, Ok, MatchR
 ghost use Rattle.ds_conductor.specs.Reports.{nothing_read};
 ghost use Rattle.ds_domain_base.specs.Domains.{is_port};
 ghost use Rattle.pcap_capture.specs.Fronts.{IsFrontOf};
+ghost use Rattle.dsedge_serve.specs.Advised.{marking_advice};
 ghost use Rattle.dsedge_serve.specs.Marked.{capture_fault, marking_fault, marking_fault_text, marking_status};
 ghost use Rattle.dsedge_serve.specs.Marked.{marking_told, refusal_outcome};
 ghost use Rattle.dsedge_serve.specs.Served.{IsMarkedAt, IsOfInput, IsOfWrites, IsPortlessBefore, IsRefusedBefore};
@@ -9,6 +10,7 @@ ghost use Rattle.dsedge_serve.specs.Served.{is_output_fault};
 ghost use Rattle.dsedge_texts.specs.Accepted.{accepted_in};
 ghost use Rattle.pcap_capture.specs.Counts.{next_count};
 
+use crate::advice::Advice;
 use crate::conclusion::Conclusion;
 use crate::fault::Fault;
 use crate::outcome::Outcome;
@@ -17,7 +19,7 @@ use ds_checker::Accepted;
 use ds_conductor::{MarkFault, OpenGate, RedRule, Report, mark};
 use dsedge_lines::{GivenName, PumpFault};
 use dsedge_texts::{TableFault, accept};
-use pcap_capture::{DeviceFault, Intake, Outlet, PcapFault};
+use pcap_capture::{DeviceFault, Intake, Outlet, PcapFault, VecOutlet, give_all};
 use std::alloc::Global;
 
 /// Answers with the capture of the input, marked at a port of the table that two texts say.
@@ -125,8 +127,40 @@ pub(crate) fn marking_status(fault: Option<MarkFault>, port: &GivenName<'_>) -> 
     }
 }
 
-/// Tells the report of a marking, and behind it the fault, if any.
+/// What there is to say behind what is told of a marking, if anything.
+pub(crate) fn marking_advice(fault: Option<MarkFault>, port: &GivenName<'_>) -> Option<Advice>
+    ensures { result ≡ marking_advice fault port.now }
+{
+    match fault {
+        None => None,
+        Some(fault) => marking_fault(fault, port).advice(),
+    }
+}
+
+/// Tells the report of a marking, and behind it the fault, if any, in one piece; or part by part, where there is no
+/// memory to put it together.
 pub(crate) fn tell_marking<F: Outlet>(
+    alloc: Global,
+    report: &Report,
+    fault: Option<MarkFault>,
+    port: &GivenName<'_>,
+    faults: &mut F,
+) -> Result<(), DeviceFault>
+    ensures line { F.tells faults.old → MatchResult result
+        (λ _. F.held faults.new ≡ F.held faults.old ++ marking_told report.now fault port.now)
+        (λ _. IsFrontOf (F.held faults.old) (marking_told report.now fault port.now) (F.held faults.new)) }
+    ensures failures { F.failed faults.new
+        ≡ (if is_ok result then F.failed faults.old else next_count (F.failed faults.old)) }
+{
+    let mut text = VecOutlet::new(Vec::new(alloc));
+    match tell_parts(report, fault, port, &mut text) {
+        Ok(()) => give_all(faults, text.bytes.as_slice()),
+        Err(_) => tell_parts(report, fault, port, faults),
+    }
+}
+
+/// Tells the report of a marking, and behind it the fault, if any, part by part.
+fn tell_parts<F: Outlet>(
     report: &Report,
     fault: Option<MarkFault>,
     port: &GivenName<'_>,

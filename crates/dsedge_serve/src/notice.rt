@@ -1,8 +1,10 @@
 ghost use Rattle.std.specs.Prelude.{◌≡◌, ◌++◌, MatchResult, is_ok, if◌then◌else◌};
 ghost use Rattle.pcap_capture.specs.Counts.{next_count};
 ghost use Rattle.pcap_capture.specs.Fronts.{IsFrontOf};
+ghost use Rattle.dsedge_serve.specs.Advised.{advice_behind};
 ghost use Rattle.dsedge_serve.specs.Faults.{notice_text};
 
+use crate::advice::Advice;
 use crate::fault::Fault;
 use dsedge_texts::RefusalLine;
 use pcap_capture::{DeviceFault, Outlet, give_all};
@@ -17,6 +19,16 @@ pub enum Notice {
 }
 
 impl Notice {
+    /// What there is to say behind its line, if anything.
+    pub fn advice(&self) -> Option<Advice>
+        ensures { result ≡ advice_behind self.now }
+    {
+        match self {
+            Notice::Fault(fault) => fault.advice(),
+            Notice::Refusal(_) => None,
+        }
+    }
+
     /// Writes the line of a fault, or the checker's line as it is.
     pub fn tell<F: Outlet>(&self, faults: &mut F) -> Result<(), DeviceFault>
         ensures line { F.tells faults.old → MatchResult result

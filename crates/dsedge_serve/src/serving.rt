@@ -5,6 +5,7 @@ ghost use Rattle.dsedge_serve.specs.Served.{IsForeseen, IsRefusedBefore};
 ghost use Rattle.dsedge_serve.specs.Served.{IsAnswered, IsOfInput, IsOfReads, IsOfWrites, IsServed, IsTold, Reply};
 ghost use Rattle.dsedge_serve.specs.Served.{is_output_fault, notice_of, reply_by, reply_of, reply_on, reply_over};
 ghost use Rattle.dsedge_serve.specs.Served.{status_after, status_for, told_after, told_of};
+ghost use Rattle.dsedge_serve.specs.Advised.{advice_after, advice_for};
 ghost use Rattle.dsedge_serve.specs.Marked.{rule_said};
 ghost use Rattle.dsedge_serve.specs.declared.outcome.Outcome.{Outcome};
 ghost use Rattle.ds_conductor_base.specs.Steps.{opened};
@@ -13,9 +14,10 @@ ghost use Rattle.dsedge_texts.specs.Accepted.{accepted_in};
 ghost use Rattle.dsedge_texts.specs.Certified.{certified};
 ghost use Rattle.line_text.specs.Lines.{lines_of};
 
+use crate::advice::{Advice, Ended};
 use crate::conclusion::Conclusion;
 use crate::fault::Fault;
-use crate::marking::{answer_mark, marking_status, refusal_outcome, tell_marking};
+use crate::marking::{answer_mark, marking_advice, marking_status, refusal_outcome, tell_marking};
 use crate::notice::Notice;
 use crate::outcome::Outcome;
 use ds_checker::Accepted;
@@ -254,14 +256,18 @@ fn status(outcome: &Result<Conclusion, PumpFault>) -> u8
     }
 }
 
-/// Tells an outcome on standard error, where there is anything to tell. A failure to write there is passed over.
-fn tell<F: Outlet>(outcome: Result<Conclusion, PumpFault>, faults: &mut F)
-    ensures { F.tells faults.old →
+/// Tells an outcome on standard error, where there is anything to tell, and gives what there is to say behind it. A
+/// failure to write there is passed over.
+fn tell<F: Outlet>(outcome: Result<Conclusion, PumpFault>, faults: &mut F) -> Option<Advice>
+    ensures told { F.tells faults.old →
         IsTold (told_of outcome) (F.held faults.old) (F.held faults.new) (F.failed faults.old) (F.failed faults.new) }
+    ensures advice { result ≡ advice_for outcome }
 {
-    if let Some(notice) = notice(outcome) {
-        let _told = notice.tell(faults);
-    }
+    let Some(notice) = notice(outcome) else {
+        return None;
+    };
+    let _told = notice.tell(faults);
+    notice.advice()
 }
 
 /// The exit status of a plan that went so.
@@ -274,21 +280,25 @@ fn status_after(outcome: &Outcome<'_>) -> u8
     }
 }
 
-/// Tells how a plan went, where there is anything to tell. A failure to write there is passed over.
-fn tell_after<F: Outlet>(outcome: Outcome<'_>, faults: &mut F)
-    ensures { F.tells faults.old →
+/// Tells how a plan went, where there is anything to tell, and gives what there is to say behind it. A failure to write
+/// there is passed over.
+fn tell_after<F: Outlet>(alloc: Global, outcome: Outcome<'_>, faults: &mut F) -> Option<Advice>
+    ensures told { F.tells faults.old →
         IsTold (told_after outcome.entry) (F.held faults.old) (F.held faults.new) (F.failed faults.old)
         (F.failed faults.new) }
+    ensures advice { result ≡ advice_after outcome.entry }
 {
     match outcome {
         Outcome::Answered(outcome) => tell(outcome, faults),
         Outcome::Marked(report, fault, port) => {
-            let _told = tell_marking(&report, fault, &port, faults);
+            let _told = tell_marking(alloc, &report, fault, &port, faults);
+            marking_advice(fault, &port)
         }
     }
 }
 
-/// Does what a plan asks for: answers on the output, tells a fault on `faults`, and gives the exit status.
+/// Does what a plan asks for: answers on the output, tells a fault on `faults`, and gives the exit status, with what
+/// there is to say behind the fault.
 ///
 /// `texts` are the contents of the files that the plan names, in the order of its words.
 pub fn serve<I: Intake, O: Outlet, F: Outlet>(
@@ -298,10 +308,10 @@ pub fn serve<I: Intake, O: Outlet, F: Outlet>(
     intake: &mut I,
     output: &mut O,
     faults: &mut F,
-) -> u8
+) -> Ended
     requires { length texts.now ≡ length (files_of plan) }
-    // One outcome stands behind what is written, what is told and the status.
-    ensures { (outcome : Outcome) × (result ≡ status_after outcome)
+    // One outcome stands behind what is written, what is told, the status and the advice.
+    ensures { (outcome : Outcome) × (result.status ≡ status_after outcome)
         × (I.tells intake.old → O.tells output.old →
         IsAnswered plan.entry (map (λ text. text.items) texts.now) (I.left intake.old) (I.left intake.new) outcome
         (O.held output.old) (O.held output.new))
@@ -309,10 +319,11 @@ pub fn serve<I: Intake, O: Outlet, F: Outlet>(
         IsTold (told_after outcome) (F.held faults.old) (F.held faults.new) (F.failed faults.old) (F.failed faults.new))
         × IsOfWrites (is_output_fault outcome) (O.failed output.old) (O.failed output.new)
         × IsOfInput outcome (I.failed intake.old) (I.failed intake.new) (I.turns intake.old) (I.turns intake.new)
-        × IsForeseen plan.entry (map (λ text. text.items) texts.now) outcome }
+        × IsForeseen plan.entry (map (λ text. text.items) texts.now) outcome
+        × (result.advice ≡ advice_after outcome) }
 {
     let outcome = answer(alloc, plan, texts, intake, output);
     let status = status_after(&outcome);
-    tell_after(outcome, faults);
-    status
+    let advice = tell_after(alloc, outcome, faults);
+    Ended { status, advice }
 }

@@ -1,6 +1,7 @@
 -- What a domain text and a certificate text say together: a table that is acceptable, or what stands against it.
 use Rattle.std.specs.Prelude.{ℕ, List, Option, None, Some, Result, Ok, Err}
 use Rattle.ds_certificate.specs.Columns.{Bound}
+use Rattle.ds_certificate.specs.Places.{fault_line}
 use Rattle.ds_certificate.specs.Readings.{certificate_in}
 use Rattle.ds_certificate.specs.declared.fault.CertificateFault.{CertificateFault}
 use Rattle.ds_checker.specs.Acceptance.{Table, refusal_of}
@@ -21,13 +22,19 @@ judged t (Some refusal) = Err (faults.Refused (refusal_line t.contracts refusal)
 abbrev pub table_with : Domain × List Contract → List (List Bound) → Table
 table_with parsed certificate = record { domain = parsed.0; contracts = parsed.1; certificate = certificate }
 
-abbrev pub tabled : Domain × List Contract → Result (List (List Bound)) CertificateFault → Result Table TableFault
-tabled parsed (Err fault) = Err (faults.Certificate fault)
-tabled parsed (Ok certificate) = judged (table_with parsed certificate) (refusal_of (table_with parsed certificate))
+-- the fault of a certificate's text stands in the first line that is not what its turn wants
+abbrev pub tabled_by : Domain × List Contract → List ℕ → Result (List (List Bound)) CertificateFault
+    → Result Table TableFault
+tabled_by parsed text (Err fault) = Err (faults.Certificate (record { fault = fault; line = fault_line parsed.1 text }))
+tabled_by parsed text (Ok certificate) =
+    judged (table_with parsed certificate) (refusal_of (table_with parsed certificate))
+
+abbrev pub tabled : Domain × List Contract → List ℕ → Result Table TableFault
+tabled parsed text = tabled_by parsed text (certificate_in parsed.1 text)
 
 abbrev pub accepted_by : Result (Domain × List Contract) DomainFault → List ℕ → Result Table TableFault
 accepted_by (Err fault) certificate = Err (faults.Domain fault)
-accepted_by (Ok parsed) certificate = tabled parsed (certificate_in parsed.1 certificate)
+accepted_by (Ok parsed) certificate = tabled parsed certificate
 
 -- the domain's fault before the certificate's, and that before the checker's refusal
 abbrev pub accepted_in : List ℕ → List ℕ → Result Table TableFault

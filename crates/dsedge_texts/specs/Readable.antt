@@ -30,10 +30,10 @@ texts_of holds (name ∷ names) = with_text name (readable (holds name)) (texts_
 
 -- a file that gave no text is one of those that were asked for
 abbrev pub IsNamed : List (List ℕ) → TextFault → Type 0
-IsNamed names (File name) = Contains names name
+IsNamed names (File name reason) = Contains names name
 IsNamed names NoMemory = Unit {0}
 
 -- why not all files gave their texts: the first that cannot be read; memory may run out
 abbrev pub IsUnread : (List ℕ → Option (List ℕ)) → List (List ℕ) → TextFault → Type 0
-IsUnread holds names (File name) = texts_of holds names ≡ Err name
+IsUnread holds names (File name reason) = texts_of holds names ≡ Err name
 IsUnread holds names NoMemory = Unit {0}

@@ -4,18 +4,27 @@ ghost use Rattle.ds_checker.specs.Acceptance.{refusal_of, table_of};
 ghost use Rattle.dsedge_texts.specs.Accepted.{accepted_in, judged, tabled};
 
 use crate::refusing::RefusalLine;
-use ds_certificate::{CertificateFault, read};
+use ds_certificate::{CertificateFault, fault_line, read};
 use ds_checker::{Accepted, Candidate, Refusal, check};
 use ds_domain::{Contract, Domain, DomainFault, Kind, parse};
 use std::alloc::Global;
+
+/// A line of a certificate's text that is at fault.
+#[derive(Clone, Copy, Debug, PartialEq, Eq)]
+pub struct FaultyLine {
+    /// How it is.
+    pub fault: CertificateFault,
+    /// The number of the line, from 1; where lines are missing, that of the first of them.
+    pub line: usize,
+}
 
 /// Why the texts of a domain and of a certificate do not say an acceptable table.
 #[derive(Debug, Drop)]
 pub enum TableFault {
     /// The domain text has a fault.
     Domain(DomainFault),
-    /// The certificate text has a fault.
-    Certificate(CertificateFault),
+    /// The certificate text has a fault, in this line.
+    Certificate(FaultyLine),
     /// The certificate is not acceptable.
     Refused(RefusalLine),
     /// Memory ran out.
@@ -47,9 +56,9 @@ fn accept_parsed(
     certificate: &[u8],
 ) -> Result<Accepted, TableFault>
     ensures ok { IfOk result (λ accepted.
-        tabled (domain, contracts.items) (certificate_in contracts.items certificate.now) ≡ Ok accepted) }
+        tabled (domain, contracts.items) certificate.now ≡ Ok accepted) }
     ensures refused { IfErr result (λ fault. (fault ≡ TableFault.NoMemory)
-        ⊎ (tabled (domain, contracts.items) (certificate_in contracts.items certificate.now) ≡ Err fault)) }
+        ⊎ (tabled (domain, contracts.items) certificate.now ≡ Err fault)) }
 {
     match read(alloc, certificate, contracts.as_slice()) {
         Ok(certificate) => judge(
@@ -61,7 +70,10 @@ fn accept_parsed(
             },
         ),
         Err(CertificateFault::NoMemory) => Err(TableFault::NoMemory),
-        Err(fault) => Err(TableFault::Certificate(fault)),
+        Err(fault) => {
+            let line = fault_line(certificate, contracts.as_slice());
+            Err(TableFault::Certificate(FaultyLine { fault, line }))
+        }
     }
 }
 

@@ -12,9 +12,9 @@ mod texts;
 mod whole;
 mod wording;
 
-pub use accepting::{TableFault, accept};
+pub use accepting::{FaultyLine, TableFault, accept};
 pub use certifying::certify;
-pub use fault::{FileFault, TextFault};
+pub use fault::{FileFault, Reason, TextFault};
 pub use folder::Folder;
 pub use memory::MemoryFolder;
 pub use refusing::RefusalLine;

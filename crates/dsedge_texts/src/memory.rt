@@ -1,7 +1,7 @@
 ghost use Rattle.std.specs.Prelude.{◌≡◌, ◌^◌, ◌≤◌, length, IfOk, option_map};
 ghost use Rattle.dsedge_texts.specs.Readable.{held_by};
 
-use crate::fault::FileFault;
+use crate::fault::{FileFault, Reason};
 use crate::folder::Folder;
 use crate::whole::MOST_BYTES;
 use std::alloc::{AllocError, Global};
@@ -43,10 +43,10 @@ impl Folder for MemoryFolder<'_> {
 
     fn read(&self, alloc: Global, name: &str) -> Result<Vec<u8>, FileFault> {
         let Some(bytes) = self.file(name) else {
-            return Err(FileFault::Unreadable);
+            return Err(FileFault::Unreadable(Reason::Absent));
         };
         if bytes.len() > MOST_BYTES {
-            return Err(FileFault::Unreadable);
+            return Err(FileFault::Unreadable(Reason::TooLong));
         }
         match copied(alloc, bytes) {
             Ok(copy) => Ok(copy),

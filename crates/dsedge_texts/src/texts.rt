@@ -22,7 +22,9 @@ pub fn read_texts<'a, F: Folder>(
     for name in names {
         let text = match folder.read(alloc, name.text()) {
             Ok(text) => text,
-            Err(FileFault::Unreadable) => return Err(TextFault::File(GivenName::new(name.text()))),
+            Err(FileFault::Unreadable(reason)) => {
+                return Err(TextFault::File(GivenName::new(name.text()), reason));
+            }
             Err(FileFault::NoMemory) => return Err(TextFault::NoMemory),
         };
         let Ok(()) = texts.push(text) else {

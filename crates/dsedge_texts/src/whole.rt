@@ -1,7 +1,7 @@
-ghost use Rattle.std.specs.Prelude.{◌≡◌, ◌⊎◌, ◌^◌, ◌<◌, ◌≤◌, length, Err, IfOk};
+ghost use Rattle.std.specs.Prelude.{◌≡◌, ◌⊎◌, ◌^◌, ◌<◌, ◌≤◌, length, Err, IfErr, IfOk};
 ghost use Rattle.pcap_capture.specs.Counts.{next_count};
 
-use crate::fault::FileFault;
+use crate::fault::{FileFault, Reason};
 use pcap_capture::{Intake, PIECE, room};
 use std::alloc::Global;
 
@@ -10,13 +10,18 @@ pub const MOST_BYTES: usize = 1 << 24;
 
 /// All bytes that an intake still gives, at most 16 MiB.
 ///
-/// Refused: `Unreadable` where the intake fails or gives more, `NoMemory` where memory runs out.
+/// Refused: `Unreadable` where the intake fails, for the reason `Failed`, or gives more, for the reason `TooLong`;
+/// `NoMemory` where memory runs out.
 pub fn read_whole<I: Intake>(alloc: Global, intake: &mut I) -> Result<Vec<u8>, FileFault>
     ensures within { IfOk result (λ bytes. length bytes.items ≤ 2 ^ 24) }
     ensures bytes { I.tells intake.old → IfOk result (λ bytes. bytes.items ≡ I.left intake.old) }
     ensures unfailed { IfOk result (λ _. I.failed intake.new ≡ I.failed intake.old) }
-    ensures unreadable { I.tells intake.old → result ≡ Err FileFault.Unreadable →
-        (I.failed intake.new ≡ next_count (I.failed intake.old)) ⊎ (2 ^ 24 < length (I.left intake.old)) }
+    ensures failed { result ≡ Err (FileFault.Unreadable Reason.Failed) →
+        I.failed intake.new ≡ next_count (I.failed intake.old) }
+    ensures long { I.tells intake.old → result ≡ Err (FileFault.Unreadable Reason.TooLong) →
+        2 ^ 24 < length (I.left intake.old) }
+    ensures reasons { IfErr result (λ fault. (fault ≡ FileFault.NoMemory)
+        ⊎ (fault ≡ FileFault.Unreadable Reason.Failed) ⊎ (fault ≡ FileFault.Unreadable Reason.TooLong)) }
 {
     let Ok(mut piece) = room(alloc, PIECE) else {
         return Err(FileFault::NoMemory);
@@ -24,7 +29,7 @@ pub fn read_whole<I: Intake>(alloc: Global, intake: &mut I) -> Result<Vec<u8>, F
     let mut bytes = Vec::new(alloc);
     while bytes.len() <= MOST_BYTES {
         let Ok(taken) = intake.take(piece.as_mut_slice()) else {
-            return Err(FileFault::Unreadable);
+            return Err(FileFault::Unreadable(Reason::Failed));
         };
         if taken == 0 {
             return Ok(bytes);
@@ -33,5 +38,5 @@ pub fn read_whole<I: Intake>(alloc: Global, intake: &mut I) -> Result<Vec<u8>, F
             return Err(FileFault::NoMemory);
         };
     }
-    Err(FileFault::Unreadable)
+    Err(FileFault::Unreadable(Reason::TooLong))
 }

@@ -1,6 +1,6 @@
 use dsedge_lines::GivenName;
 use dsedge_texts::{
-    FileFault, Folder, MemoryFolder, SystemFolder, TextFault, read_texts, read_whole,
+    FileFault, Folder, MemoryFolder, Reason, SystemFolder, TextFault, read_texts, read_whole,
 };
 use pcap_capture::SliceIntake;
 use std::alloc::Global;
@@ -37,8 +37,9 @@ fn expect_none(
 ) -> Result<(), Fail> {
     let asked = [GivenName::new(one), GivenName::new(other)];
     match read_texts(alloc, &MemoryFolder { files: &FILES }, &asked) {
-        Err(TextFault::File(name)) => {
+        Err(TextFault::File(name, reason)) => {
             assert_eq!(rt; name.text(), wanted);
+            assert_eq!(rt; reason, Reason::Absent);
             Ok(())
         }
         Err(TextFault::NoMemory) => Err(Fail::from("no memory")),
@@ -57,7 +58,7 @@ fn texts_in_order(rt: HostRuntime) -> Result<(), Fail> {
 fn a_file_that_is_none(rt: HostRuntime) {
     let folder = MemoryFolder { files: &FILES };
     let fault = folder.read(rt.alloc(), "One").err();
-    assert_eq!(rt; fault, Some(FileFault::Unreadable));
+    assert_eq!(rt; fault, Some(FileFault::Unreadable(Reason::Absent)));
 }
 
 #[test]
@@ -76,7 +77,10 @@ fn a_file_of_the_system(rt: HostRuntime) -> Result<(), Fail> {
     let folder = SystemFolder::new(&rt);
     let text = folder.read(rt.alloc(), "/proc/version")?;
     assert!(rt; text.as_slice().starts_with(b"Linux"));
-    let fault = folder.read(rt.alloc(), "/proc/version/none").err();
-    assert_eq!(rt; fault, Some(FileFault::Unreadable));
+    for (name, number) in [("/proc/version/none", 20), ("/proc/none", 2), ("/proc", 21)] {
+        let fault = folder.read(rt.alloc(), name).err();
+        let reason = Reason::System(number);
+        assert_eq!(rt; fault, Some(FileFault::Unreadable(reason)), "{name}");
+    }
     Ok(())
 }

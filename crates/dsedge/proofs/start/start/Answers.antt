@@ -18,6 +18,7 @@ returns-in-Err-clause-course g c =
       c.refuse.ensures.told,
       refl,
       (asked.0, asked.1, (c.in-Err.ensures.failures, asked.2)),
+      c.refuse.ensures.advice,
     )
 
 pub returns-in-Err-plan_for-clause-course : goal.returns-in-Err-plan_for-clause-course
@@ -39,6 +40,7 @@ returns-in-Err-plan_for-clause-course g c =
         asked.1,
         (c.in-Ok.ensures.failures ∙ refused_unread (map string_bytes c.as_slice.result.now) fault (g.I.Intake.failed c.args.intake.now) refused, asked.2),
       ),
+      c.refuse-in-Err-plan_for.ensures.advice,
     )
 
 pub returns-in-Ok-texts_for-clause-course : goal.returns-in-Ok-texts_for-clause-course
@@ -65,6 +67,7 @@ returns-in-Ok-texts_for-clause-course g c =
       served.3,
       served.4,
       (asked.0, asked.1, reads_behind served.0 _ _ _ _ _ _ c.in-Ok.ensures.failures asked.2 served.5),
+      served.7,
     )
 
 pub returns-clause-course : goal.returns-clause-course
@@ -82,4 +85,5 @@ returns-clause-course g c =
       c.refuse-in-Err-texts_for.ensures.told,
       refl,
       (asked.0, asked.1, (c.in-Ok.ensures.failures, asked.2)),
+      c.refuse-in-Err-texts_for.ensures.advice,
     )

@@ -1,15 +1,14 @@
-use Rattle.std.proofs.lemmas.Result.{err_from_is_err_and}
-use Rattle.dsedge_serve.specs.Marked.{marking_fault_text, report_text}
-use Rattle.pcap_capture.proofs.FrontLaws.{IsFrontOf-first}
-use Rattle.dsedge_serve.proofs.FrontLemmas.{behind_told}
+use Rattle.std.proofs.Common.{◌∙◌, refl}
+use Rattle.dsedge_serve.specs.Marked.{marking_told}
+use Rattle.dsedge_serve.proofs.FrontLemmas.{given_as, given_or_front}
 use Rattle.dsedge_serve.proofs.marking.tell_marking.Goals as goal
 
-pub returns-clause-line : goal.returns-clause-line
-returns-clause-line g c told =
-    behind_told c.tell_fault.result (g.F.Outlet.held c.args.faults.now) (g.F.Outlet.held c.tell_report.new.faults) (g.F.Outlet.held c.tell_fault.new.faults)
-    (report_text c.args.report.now) (marking_fault_text c.args.port.now c.args.fault) (c.in_ok-tell_report.ensures.line told) (c.tell_fault.ensures.line (c.in_ok-tell_report.ensures.told told))
-
-pub returns-in_err-tell_report-clause-line : goal.returns-in_err-tell_report-clause-line
-returns-in_err-tell_report-clause-line g c told =
-    let p = err_from_is_err_and c.from_residual.result c.from_residual.ensures.1 in
-    rw p.1 (IsFrontOf-first (g.F.Outlet.held c.args.faults.now) (g.F.Outlet.held c.tell_report.new.faults) (report_text c.args.report.now) (marking_fault_text c.args.port.now c.args.fault) (c.in_err-tell_report.ensures.line told))
+-- what was put together in memory is what is told
+pub returns-in-Ok-clause-line : goal.returns-in-Ok-clause-line
+returns-in-Ok-clause-line g c told =
+    let before = g.F.Outlet.held c.args.faults.now in
+    let after = g.F.Outlet.held c.give_all.new.outlet in
+    let line = marking_told c.args.report.now c.args.fault c.args.port.now in
+    given_as c.give_all.result before after c.as_slice.result.now line
+    (c.as_slice.ensures.value ∙ c.in-Ok.ensures.line tt ∙ rw (c.new-text.ensures.bytes, c.new.ensures.items) refl)
+    (given_or_front c.give_all.result before after c.as_slice.result.now (c.give_all.ensures.bytes told))

@@ -9,7 +9,7 @@ returns-in-Err-Unreadable-clause-refused g c told =
     let holds = g.F.Folder.holds c.args.folder.now in
     rw (c.new.ensures, c.text-in-Err-Unreadable.ensures)
     (unread_next holds c.args.names.now (map (λ text. text.items) c.loop-name.texts.items) c.loop-name.name-index c.name-item.result
-    (c.loop-name.invariant.texts told) c.loop-name-test.true c.name-item.is (ap (λ n. readable (holds n)) (sym c.text.ensures) ∙ c.in-Err-Unreadable.ensures.unreadable told (ap (λ e. Err e) c.in-Err-Unreadable.field-0-is)))
+    (c.loop-name.invariant.texts told) c.loop-name-test.true c.name-item.is (ap (λ n. readable (holds n)) (sym c.text.ensures) ∙ c.in-Err-Unreadable.ensures.unreadable told c.in-Err-Unreadable.reason (ap (λ e. Err e) c.in-Err-Unreadable.field-0-is)))
 
 pub loop-name-preserved : goal.loop-name-preserved
 loop-name-preserved g c =

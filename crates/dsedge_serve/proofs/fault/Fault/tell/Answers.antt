@@ -1,6 +1,6 @@
 use Rattle.std.proofs.Common.{◌++◌, ap, codes}
 use Rattle.dsedge_serve.specs.Faults.{fault_text}
-use Rattle.dsedge_serve.specs.declared.fault.Fault.TheVariants.{Capture, Certificate, File, Line, Port}
+use Rattle.dsedge_serve.specs.declared.fault.Fault.TheVariants.{Capture, Certificate, Line, Port}
 use Rattle.dsedge_serve.proofs.FrontLemmas.{given_as, given_or_front}
 use Rattle.dsedge_serve.proofs.fault.Fault.tell.Goals as goal
 
@@ -34,12 +34,12 @@ returns-in-Domain-clause-line g c told = rw c.in-Domain.is (c.tell_domain.ensure
 
 pub returns-in-File-clause-line : goal.returns-in-File-clause-line
 returns-in-File-clause-line g c told =
-    rw c.in-File.is (given_as c.tell_line-in-File.result (g.F.Outlet.held c.args.faults.now) (g.F.Outlet.held c.tell_line-in-File.new.faults) _ (fault_text (File c.in-File.name))
+    rw c.in-File.is (given_as c.tell_line-in-File.result (g.F.Outlet.held c.args.faults.now) (g.F.Outlet.held c.tell_line-in-File.new.faults) _ (codes "dsedge: file " ++ c.in-File.name ++ codes "\n")
     (ap (λ text. codes "dsedge: file " ++ text ++ codes "\n") c.text-in-File.ensures) (c.tell_line-in-File.ensures.line told))
 
 pub returns-in-Certificate-clause-line : goal.returns-in-Certificate-clause-line
 returns-in-Certificate-clause-line g c told =
-    rw c.in-Certificate.is (given_as c.tell_line-in-Certificate.result (g.F.Outlet.held c.args.faults.now) (g.F.Outlet.held c.tell_line-in-Certificate.new.faults) _ (fault_text (Certificate c.in-Certificate.fault))
+    rw c.in-Certificate.is (given_as c.tell_line-in-Certificate.result (g.F.Outlet.held c.args.faults.now) (g.F.Outlet.held c.tell_line-in-Certificate.new.faults) _ (fault_text (Certificate c.in-Certificate.place))
     (ap (λ text. codes "dsedge: certificate " ++ text ++ codes "\n") c.certificate_text.ensures) (c.tell_line-in-Certificate.ensures.line told))
 
 pub returns-in-Capture-clause-line : goal.returns-in-Capture-clause-line
