@@ -2,6 +2,8 @@
 #![tactic(auto)]
 
 #[cfg(test)]
+mod drive_tests;
+#[cfg(test)]
 mod excess_tests;
 #[cfg(test)]
 mod mark_tests;
@@ -61,6 +63,7 @@ fn main(rt: HostRuntime) -> ExitCode {
     let status = match given_words(&rt) {
         Ok(words) => start(
             rt.alloc(),
+            &rt,
             words,
             &SystemFolder::new(&rt),
             &mut ReadIntake::new(rt.stdin()),

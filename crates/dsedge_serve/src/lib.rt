@@ -11,6 +11,7 @@ mod notice;
 mod outcome;
 mod parts;
 mod report;
+mod selling;
 mod serving;
 
 pub use conclusion::Conclusion;
