@@ -1,4 +1,4 @@
-ghost use Rattle.std.specs.Prelude.{◌≡◌, option_map};
+ghost use Rattle.std.specs.Prelude.{◌≡◌, ◌∷◌, [], option_map};
 ghost use Rattle.std.specs.Option.{option_copied};
 ghost use Rattle.line_text.specs.Lines.{fields_left, fields_of, has_byte};
 ghost use Rattle.dsedge_drive.specs.Requests.{alone, request_in, reserve_of, timed_of};
@@ -39,17 +39,23 @@ pub fn asked(offers: &Offers<'_>, line: &[u8]) -> Option<Request>
     ensures { result ≡ request_in offers.now line.now }
 {
     let (verb, rest) = split_field(line);
-    match verb {
-        b"reserve" => reserve(offers, rest?),
-        b"release" => release(rest?),
-        b"retire" => retire(rest?),
-        b"list" => alone(Request::List, rest),
-        b"look" => alone(Request::Look, rest),
-        _ => None,
+    if verb == b"reserve".as_slice() {
+        reserve(offers, rest?)
+    } else if verb == b"release".as_slice() {
+        release(rest?)
+    } else if verb == b"retire".as_slice() {
+        retire(rest?)
+    } else if verb == b"list".as_slice() {
+        alone(Request::List, rest)
+    } else if verb == b"look".as_slice() {
+        alone(Request::Look, rest)
+    } else {
+        None
     }
 }
 
 /// What a word asks for that stands alone.
+#[tactic(auto, using(crate::proofs::RequestLaws::not_alone))]
 fn alone(request: Request, rest: Option<&[u8]>) -> Option<Request>
     ensures { result ≡ alone request (fields_left (option_copied rest.entry)) }
 {
@@ -67,12 +73,23 @@ fn has_return(name: &[u8]) -> bool
     name.iter().any(|byte| *byte == b'\r')
 }
 
-/// What `reserve` asks for with what stands behind it: one name, without a CR.
+/// What `reserve` asks for with what stands behind it: one name.
+#[tactic(auto, using(crate::proofs::RequestLaws::not_one))]
 fn reserve(offers: &Offers<'_>, fields: &[u8]) -> Option<Request>
     ensures { result ≡ reserve_of offers.now (fields_of fields.now) }
 {
     let (name, more) = split_field(fields);
-    if more.is_some() || has_return(name) {
+    match more {
+        None => reserve_named(offers, name),
+        Some(_) => None,
+    }
+}
+
+/// What `reserve` asks for with a name, which has no CR.
+fn reserve_named(offers: &Offers<'_>, name: &[u8]) -> Option<Request>
+    ensures { result ≡ reserve_of offers.now (name.now ∷ []) }
+{
+    if has_return(name) {
         return None;
     }
     Some(Request::Reserve(offers.place(name)))

@@ -11,15 +11,15 @@ loop-place-preserved c =
     let i = c.loop-place.place in
     let named = c.bytes-name.ensures.value in
     let inside : i < length contracts = omega (arith, c.loop-place-test.true) in
-    let is_it : c.contract-item.result ≡ get_or contracts i c.contract-item.result = c.contract-item.is in
+    let is_it : c.index-contracts-place.result ≡ get_or contracts i c.index-contracts-place.result = c.index-contracts-place.is in
     elim c.if-not-contains_key.branch [
       | then-not-contains_key+in_ok-insert w ↦
           rw w.places-is
-          (noted_next (λ key. key.now) c.loop-place.places.entries _ contracts i c.contract-item.result c.bytes-name.result inside is_it named
+          (noted_next (λ key. key.now) c.loop-place.places.entries _ contracts i c.index-contracts-place.result c.bytes-name.result inside is_it named
           (sym c.contains_key.ensures ∙ w.if-not-contains_key.true) w.in_ok-insert.ensures.entries c.loop-place.invariant)
       | else-not-contains_key w ↦
-          let known : is_some (lookup (λ key. bytes_eq c.contract-item.result.name key.now) c.loop-place.places.entries) ≡ true =
+          let known : is_some (lookup (λ key. bytes_eq c.index-contracts-place.result.name key.now) c.loop-place.places.entries) ≡ true =
           subst (λ name. is_some (lookup (λ key. bytes_eq name key.now) c.loop-place.places.entries) ≡ true) named
           (sym c.contains_key.ensures ∙ w.if-not-contains_key.false) in
-          rw w.places-is (noted_again (λ key. key.now) c.loop-place.places.entries contracts i c.contract-item.result inside is_it known c.loop-place.invariant)
+          rw w.places-is (noted_again (λ key. key.now) c.loop-place.places.entries contracts i c.index-contracts-place.result inside is_it known c.loop-place.invariant)
     ]
