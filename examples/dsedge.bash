@@ -10,7 +10,7 @@ _dsedge() {
         --cir | --cbs | --ebs | --pir | --pbs | --eir | --origin | --rate | --burst | --port) return ;;
     esac
     if [ "$COMP_CWORD" -eq 1 ]; then
-        COMPREPLY=($(compgen -W 'meter envelope certify check audit mark --help --version' -- "$word"))
+        COMPREPLY=($(compgen -W 'meter envelope certify check audit drive mark --help --version' -- "$word"))
         return
     fi
     case $command in
@@ -22,7 +22,7 @@ _dsedge() {
                 *) COMPREPLY=($(compgen -f -- "$word")) ;;
             esac
             ;;
-        certify | check | audit)
+        certify | check | audit | drive)
             case $word in
                 -*) COMPREPLY=($(compgen -W '--help' -- "$word")) ;;
                 *) COMPREPLY=($(compgen -f -- "$word")) ;;

@@ -1,6 +1,7 @@
 use crate::tests::{expect_of_audit, expect_of_check, run_on_domain};
 use std::alloc::{AllocError, Global};
 use std::process::Abort;
+use std::sync::Wait;
 use std::test::Fail;
 
 /// A trusted contract whose yellow packets have an envelope of their own, but for its burst.
@@ -59,13 +60,13 @@ link = [{{ from = "p", to = "m", floor = 0, jitter = 1000000 }}]
 
 /// Expects of `certify` on a domain a certificate, and of `check` on both an output and a status.
 fn expect_least(
-    rt: &impl Abort,
+    rt: &(impl Abort + Wait),
     alloc: Global,
     domain: &str,
     certificate: &str,
     (output, status): (&str, u8),
 ) -> Result<(), Fail> {
-    let done = run_on_domain(alloc, "certify domain.toml", domain)?;
+    let done = run_on_domain(rt, alloc, "certify domain.toml", domain)?;
     assert_eq!(rt; done.output.as_slice(), certificate.as_bytes());
     assert!(rt; done.told.is_empty());
     assert_eq!(rt; done.status, 0);

@@ -4,6 +4,8 @@
 #[cfg(test)]
 mod advice_tests;
 #[cfg(test)]
+mod drive_tests;
+#[cfg(test)]
 mod excess_tests;
 #[cfg(test)]
 mod mark_tests;
@@ -78,6 +80,7 @@ fn run(rt: &HostRuntime, watch: Option<&Screen<'_>>) -> Ended {
     match given_words(rt) {
         Ok(words) => start(
             rt.alloc(),
+            rt,
             words,
             &SystemFolder::new(rt),
             &mut WatchedIntake::new(ReadIntake::new(rt.stdin()), watch),

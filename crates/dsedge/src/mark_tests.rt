@@ -1,6 +1,7 @@
 use crate::tests::{Done, domain_text, run_on_domain, run_on_table};
 use std::alloc::{AllocError, Global};
 use std::process::Abort;
+use std::sync::Wait;
 use std::test::Fail;
 
 /// A contract of UDP packets that is policed by a meter of two rates, but for its bursts.
@@ -61,18 +62,24 @@ fn capture(alloc: Global, parts: &[&[u8]]) -> Result<Vec<u8>, AllocError> {
 
 /// `mark` with words behind its files on a capture, over the domain of that contract with bursts and its least
 /// certificate.
-pub(crate) fn run_mark(alloc: Global, bursts: &str, words: &str, given: &[u8]) -> Result<Done, Fail> {
+pub(crate) fn run_mark(
+    rt: &impl Wait,
+    alloc: Global,
+    bursts: &str,
+    words: &str,
+    given: &[u8],
+) -> Result<Done, Fail> {
     let contract = format!(in alloc; "{UDP}{bursts}")?;
     let domain = domain_text(alloc, (500_000, 0), 1_000_000, contract.as_str())?;
-    let least = run_on_domain(alloc, "certify domain.toml", domain.as_str())?;
+    let least = run_on_domain(rt, alloc, "certify domain.toml", domain.as_str())?;
     let all = format!(in alloc; "mark domain.toml domain.cert {words}")?;
     let certificate = least.output.as_slice();
-    run_on_table(alloc, all.as_str(), domain.as_str(), certificate, given)
+    run_on_table(rt, alloc, all.as_str(), domain.as_str(), certificate, given)
 }
 
 /// Expects of `mark` on parts of a capture parts of another one, what is told, and a status.
 fn expect_of_mark(
-    rt: &impl Abort,
+    rt: &(impl Abort + Wait),
     alloc: Global,
     (bursts, words): (&str, &str),
     (given, wanted): (&[&[u8]], &[&[u8]]),
@@ -80,7 +87,7 @@ fn expect_of_mark(
 ) -> Result<(), Fail> {
     let given = capture(alloc, given)?;
     let wanted = capture(alloc, wanted)?;
-    let done = run_mark(alloc, bursts, words, given.as_slice())?;
+    let done = run_mark(rt, alloc, bursts, words, given.as_slice())?;
     assert_eq!(rt; done.output.as_slice(), wanted.as_slice());
     assert_eq!(rt; done.told.as_slice(), told.as_bytes());
     assert_eq!(rt; done.status, status);

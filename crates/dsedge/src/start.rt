@@ -17,6 +17,7 @@ use dsedge_serve::{Ended, Fault, serve};
 use dsedge_texts::{Folder, TextFault, read_texts};
 use pcap_capture::{Intake, Outlet};
 use std::alloc::Global;
+use std::sync::Wait;
 
 /// Tells a fault, and gives its exit status, with what there is to say behind it. A failure to write it is passed over.
 pub fn refuse<F: Outlet>(fault: &Fault<'_>, faults: &mut F) -> Ended
@@ -102,8 +103,9 @@ fn texts_for<'a, D: Folder>(
 /// Runs the program on its words, the name of the program left out; where there are none, the first line of the input
 /// gives them, and the rest is the input. Files that the words name come from `folder`. Gives the exit status, and what
 /// there is to say behind what was told.
-pub fn start<D: Folder, I: Intake, O: Outlet, F: Outlet>(
+pub fn start<R: Wait, D: Folder, I: Intake, O: Outlet, F: Outlet>(
     alloc: Global,
+    rt: &R,
     given: Words,
     folder: &D,
     intake: &mut I,
@@ -136,7 +138,7 @@ pub fn start<D: Folder, I: Intake, O: Outlet, F: Outlet>(
         Err(fault) => return refuse(&fault, faults),
     };
     match texts_for(alloc, folder, &plan) {
-        Ok(texts) => serve(alloc, plan, texts.as_slice(), intake, output, faults),
+        Ok(texts) => serve(alloc, rt, plan, texts.as_slice(), intake, output, faults),
         Err(fault) => refuse(&fault, faults),
     }
 }

@@ -4,6 +4,7 @@ use dsedge_texts::MemoryFolder;
 use pcap_capture::{SliceIntake, VecOutlet};
 use std::alloc::{AllocError, Global};
 use std::process::Abort;
+use std::sync::Wait;
 use std::test::Fail;
 
 /// What the program left behind.
@@ -20,7 +21,8 @@ pub(crate) struct Done {
 const NO_FILES: MemoryFolder<'static> = MemoryFolder { files: &[] };
 
 /// The program on words that stand one space apart, with its files, its input and its output.
-fn run(
+pub(crate) fn run(
+    rt: &impl Wait,
     alloc: Global,
     words: &str,
     files: MemoryFolder<'_>,
@@ -32,7 +34,15 @@ fn run(
         given.push(String::from_str(alloc, word)?)?;
     }
     let mut faults = VecOutlet::new(Vec::new(alloc));
-    let ended = start(alloc, given, &files, &mut intake, &mut output, &mut faults);
+    let ended = start(
+        alloc,
+        rt,
+        given,
+        &files,
+        &mut intake,
+        &mut output,
+        &mut faults,
+    );
     Ok(Done {
         output: output.bytes,
         told: faults.bytes,
@@ -44,13 +54,14 @@ fn run(
 
 /// Expects of the program on words and an input an output, what is told, and a status.
 fn expect(
-    rt: &impl Abort,
+    rt: &(impl Abort + Wait),
     alloc: Global,
     (words, input): (&str, &str),
     (output, told, status): (&str, &str, u8),
 ) -> Result<(), Fail> {
     let intake = SliceIntake::new(input.as_bytes());
     let done = run(
+        rt,
         alloc,
         words,
         NO_FILES,
@@ -96,7 +107,7 @@ const NO_ARRIVALS: &str =
     "\n0 0 g\n0 1 g\r\n0  1 g\n\x200 1 g\n0 1 g\x20\n0 1\n0 1 g 2\n0 1 b\n0 1 green\n\
     0 65536 g\n9223372036854775808 1 g\n000000000000000000000 1 g\n-1 1 g\n+1 1 g\nx 1 g";
 
-fn expect_no_arrival(rt: &impl Abort, alloc: Global, line: &str) -> Result<(), Fail> {
+fn expect_no_arrival(rt: &(impl Abort + Wait), alloc: Global, line: &str) -> Result<(), Fail> {
     let first = format!(in alloc; "{line}\n0 1 g\n")?;
     expect(
         rt,
@@ -205,6 +216,7 @@ fn words_on_the_first_line(rt: HostRuntime) -> Result<(), Fail> {
     let mut faults = VecOutlet::new(Vec::new(alloc));
     let ended = start(
         alloc,
+        &rt,
         Vec::new(alloc),
         &NO_FILES,
         &mut intake,
@@ -225,6 +237,7 @@ fn a_read_that_fails(rt: HostRuntime) -> Result<(), Fail> {
         ..SliceIntake::new(b"0 1500 g\n0 1500 g\n0 1500 g\n")
     };
     let done = run(
+        &rt,
         rt.alloc(),
         BLIND,
         NO_FILES,
@@ -249,6 +262,7 @@ fn a_write_that_fails(rt: HostRuntime) -> Result<(), Fail> {
             ..VecOutlet::new(Vec::new(rt.alloc()))
         };
         let done = run(
+            &rt,
             rt.alloc(),
             words,
             NO_FILES,
@@ -309,11 +323,16 @@ link = [{{ from = "p", to = "m", floor = 0, jitter = {jitter} }}]
 }
 
 /// The program on words, with one file `domain.toml`.
-pub(crate) fn run_on_domain(alloc: Global, words: &str, domain: &str) -> Result<Done, Fail> {
+pub(crate) fn run_on_domain(
+    rt: &impl Wait,
+    alloc: Global,
+    words: &str,
+    domain: &str,
+) -> Result<Done, Fail> {
     let files = [("domain.toml", domain.as_bytes())];
     let folder = MemoryFolder { files: &files };
     let output = VecOutlet::new(Vec::new(alloc));
-    run(alloc, words, folder, SliceIntake::new(b""), output)
+    run(rt, alloc, words, folder, SliceIntake::new(b""), output)
 }
 
 #[test]
@@ -340,7 +359,7 @@ fn least_certificates(rt: HostRuntime) -> Result<(), Fail> {
         ),
     ] {
         let domain = domain_text(rt.alloc(), (500_000, skew), jitter, contract)?;
-        let done = run_on_domain(rt.alloc(), "certify domain.toml", domain.as_str())?;
+        let done = run_on_domain(&rt, rt.alloc(), "certify domain.toml", domain.as_str())?;
         assert_eq!(rt; done.output.as_slice(), certificate.as_bytes());
         assert!(rt; done.told.is_empty());
         assert_eq!(rt; done.status, 0);
@@ -369,7 +388,7 @@ fn faults_of_domains_and_files(rt: HostRuntime) -> Result<(), Fail> {
         ),
         ("certify other.toml [", "[", ("", "dsedge: usage\n", 2)),
     ] {
-        let done = run_on_domain(rt.alloc(), words, domain)?;
+        let done = run_on_domain(&rt, rt.alloc(), words, domain)?;
         assert_eq!(rt; done.output.as_slice(), output.as_bytes(), "{words}");
         assert_eq!(rt; done.told.as_slice(), told.as_bytes(), "{words}");
         assert_eq!(rt; done.status, status, "{words}");
@@ -415,7 +434,7 @@ const LEAST_OF_THREE: &str =
 
 /// Expects of `check` on a domain and a certificate an output, what is told, and a status.
 pub(crate) fn expect_of_check(
-    rt: &impl Abort,
+    rt: &(impl Abort + Wait),
     alloc: Global,
     (domain, certificate): (&str, &str),
     (output, told, status): (&str, &str, u8),
@@ -427,7 +446,7 @@ pub(crate) fn expect_of_check(
     let folder = MemoryFolder { files: &files };
     let outlet = VecOutlet::new(Vec::new(alloc));
     let words = "check domain.toml domain.cert";
-    let done = run(alloc, words, folder, SliceIntake::new(b""), outlet)?;
+    let done = run(rt, alloc, words, folder, SliceIntake::new(b""), outlet)?;
     assert_eq!(rt; done.output.as_slice(), output.as_bytes());
     assert_eq!(rt; done.told.as_slice(), told.as_bytes());
     assert_eq!(rt; done.status, status);
@@ -515,7 +534,7 @@ fn faults_of_tables(rt: HostRuntime) -> Result<(), Fail> {
     ] {
         expect_of_check(&rt, rt.alloc(), (domain, certificate), answer)?;
     }
-    let done = run_on_domain(rt.alloc(), "check domain.toml domain.cert", "[")?;
+    let done = run_on_domain(&rt, rt.alloc(), "check domain.toml domain.cert", "[")?;
     let told = b"dsedge: file domain.cert\n";
     assert_eq!(rt; done.told.as_slice(), told.as_slice());
     assert_eq!(rt; done.status, 4);
@@ -524,6 +543,7 @@ fn faults_of_tables(rt: HostRuntime) -> Result<(), Fail> {
 
 /// The program on words, with a domain and a certificate in files `domain.toml` and `domain.cert`, and an input.
 pub(crate) fn run_on_table(
+    rt: &impl Wait,
     alloc: Global,
     words: &str,
     domain: &str,
@@ -537,25 +557,31 @@ pub(crate) fn run_on_table(
     let folder = MemoryFolder { files: &files };
     let intake = SliceIntake::new(input);
     let output = VecOutlet::new(Vec::new(alloc));
-    run(alloc, words, folder, intake, output)
+    run(rt, alloc, words, folder, intake, output)
 }
 
 /// `audit` on steps, over a domain with a certificate.
-fn run_audit(alloc: Global, domain: &str, certificate: &[u8], steps: &str) -> Result<Done, Fail> {
+fn run_audit(
+    rt: &impl Wait,
+    alloc: Global,
+    domain: &str,
+    certificate: &[u8],
+    steps: &str,
+) -> Result<Done, Fail> {
     let words = "audit domain.toml domain.cert";
-    run_on_table(alloc, words, domain, certificate, steps.as_bytes())
+    run_on_table(rt, alloc, words, domain, certificate, steps.as_bytes())
 }
 
 /// Expects of `audit` on steps, over a domain with its least certificate, how the output begins, what is told, and a
 /// status.
 pub(crate) fn expect_of_audit(
-    rt: &impl Abort,
+    rt: &(impl Abort + Wait),
     alloc: Global,
     (domain, steps): (&str, &str),
     (beginning, told, status): (&str, &str, u8),
 ) -> Result<(), Fail> {
-    let least = run_on_domain(alloc, "certify domain.toml", domain)?;
-    let done = run_audit(alloc, domain, least.output.as_slice(), steps)?;
+    let least = run_on_domain(rt, alloc, "certify domain.toml", domain)?;
+    let done = run_audit(rt, alloc, domain, least.output.as_slice(), steps)?;
     assert!(rt; done.output.as_slice().starts_with(beginning.as_bytes()));
     assert_eq!(rt; done.told.as_slice(), told.as_bytes());
     assert_eq!(rt; done.status, status);
@@ -622,6 +648,7 @@ fn packets_policed_at_the_edge(rt: HostRuntime) -> Result<(), Fail> {
 fn a_visit_of_no_packet(rt: HostRuntime) -> Result<(), Fail> {
     let domain = domain_text(rt.alloc(), (500_000, 0), 1_000_000, TRUSTED)?;
     let done = run_audit(
+        &rt,
         rt.alloc(),
         domain.as_str(),
         b"dscert 1\na 0 3000 3000\na 1 4000 4000\n",
@@ -637,7 +664,7 @@ fn a_visit_of_no_packet(rt: HostRuntime) -> Result<(), Fail> {
 fn an_audit_of_a_refused_table(rt: HostRuntime) -> Result<(), Fail> {
     let domain = domain_text(rt.alloc(), (500_000, 0), 1_000_000, TRUSTED)?;
     let low = b"dscert 1\na 0 3000 3000\na 1 3999 4000\n";
-    let done = run_audit(rt.alloc(), domain.as_str(), low, "visit 7 0\n")?;
+    let done = run_audit(&rt, rt.alloc(), domain.as_str(), low, "visit 7 0\n")?;
     let told = b"refused 3 HopBound a 1 green 4000 3999\n";
     assert!(rt; done.output.is_empty());
     assert_eq!(rt; done.told.as_slice(), told.as_slice());

@@ -1,4 +1,3 @@
 -- Lemmas on lines of steps.
 pub mod AuditLaws
-pub mod FlowLaws
 pub mod StepLaws

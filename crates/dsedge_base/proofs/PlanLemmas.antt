@@ -16,7 +16,7 @@ use Rattle.dsedge_base.specs.Plans.{IsMalformed, IsPlanOf, IsRefusalOf, IsShown,
 use Rattle.dsedge_base.specs.declared.fault.UsageFault.{UsageFault}
 use Rattle.dsedge_base.specs.declared.fault.UsageFault.TheVariants.{Usage, NoMemory}
 use Rattle.dsedge_base.specs.declared.work.Plan.{Plan}
-use Rattle.dsedge_base.specs.declared.work.Plan.TheVariants.{Audit, Certify, Check, Envelope, Mark, Meter, Show}
+use Rattle.dsedge_base.specs.declared.work.Plan.TheVariants.{Audit, Certify, Check, Drive, Envelope, Mark, Meter, Show}
 
 -- the parser says exactly what it makes of a command line such as the program's
 pub dsedge-simple : is_simple dsedge ≡ true
@@ -40,6 +40,10 @@ certify-no_text : (domain : Option (List ℕ)) (text : String Global) → (domai
 certify-no_text None text e = cc
 certify-no_text (Some d) text e = cc
 
+drive-no_text : (domain : Option (List ℕ)) (text : String Global) → (domain >>= (λ d. Some (Drive d))) ≡ Some (Show text) → ⊥
+drive-no_text None text e = cc
+drive-no_text (Some d) text e = cc
+
 check-no_text : (files : Option (List ℕ × List ℕ)) (text : String Global) → (files >>= (λ f. Some (Check f.0 f.1))) ≡ Some (Show text) → ⊥
 check-no_text None text e = cc
 check-no_text (Some f) text e = cc
@@ -59,25 +63,27 @@ unfolding mark_given
 mark-no_text given text e = mark_with-no_text (table_given given) (marking_given given) text e
 
 -- what a command asks for is no text
-commands-no_text : (is_meter is_envelope is_certify is_check is_audit is_mark : Bool) (meter : Option AnyMeter) (envelope : Option (ℕ × ℕ)) (domain : Option (List ℕ)) (files : Option (List ℕ × List ℕ)) (given : Given) (text : String Global)
+commands-no_text : (is_meter is_envelope is_certify is_drive is_check is_audit is_mark : Bool) (meter : Option AnyMeter) (envelope : Option (ℕ × ℕ)) (domain : Option (List ℕ)) (files : Option (List ℕ × List ℕ)) (given : Given) (text : String Global)
     → (if is_meter then meter >>= (λ m. Some (Meter m))
     else if is_envelope then envelope >>= (λ e. Some (Envelope e.0 e.1))
     else if is_certify then domain >>= (λ d. Some (Certify d))
+    else if is_drive then domain >>= (λ d. Some (Drive d))
     else if is_check then files >>= (λ f. Some (Check f.0 f.1))
     else if is_audit then files >>= (λ f. Some (Audit f.0 f.1))
     else if is_mark then mark_given given else None) ≡ Some (Show text) → ⊥
-commands-no_text true is_envelope is_certify is_check is_audit is_mark meter envelope domain files given text e = meter-no_text meter text e
-commands-no_text false true is_certify is_check is_audit is_mark meter envelope domain files given text e = envelope-no_text envelope text e
-commands-no_text false false true is_check is_audit is_mark meter envelope domain files given text e = certify-no_text domain text e
-commands-no_text false false false true is_audit is_mark meter envelope domain files given text e = check-no_text files text e
-commands-no_text false false false false true is_mark meter envelope domain files given text e = audit-no_text files text e
-commands-no_text false false false false false true meter envelope domain files given text e = mark-no_text given text e
-commands-no_text false false false false false false meter envelope domain files given text e = cc
+commands-no_text true is_envelope is_certify is_drive is_check is_audit is_mark meter envelope domain files given text e = meter-no_text meter text e
+commands-no_text false true is_certify is_drive is_check is_audit is_mark meter envelope domain files given text e = envelope-no_text envelope text e
+commands-no_text false false true is_drive is_check is_audit is_mark meter envelope domain files given text e = certify-no_text domain text e
+commands-no_text false false false true is_check is_audit is_mark meter envelope domain files given text e = drive-no_text domain text e
+commands-no_text false false false false true is_audit is_mark meter envelope domain files given text e = check-no_text files text e
+commands-no_text false false false false false true is_mark meter envelope domain files given text e = audit-no_text files text e
+commands-no_text false false false false false false true meter envelope domain files given text e = mark-no_text given text e
+commands-no_text false false false false false false false meter envelope domain files given text e = cc
 
 plan_of-no_text : (command : Option (Text × List Row)) (text : String Global) → option_and_then plan_of command ≡ Some (Show text) → ⊥
 plan_of-no_text None text e = cc
 plan_of-no_text (Some c) text e = commands-no_text (bytes_eq c.0 (codes "meter")) (bytes_eq c.0 (codes "envelope")) (bytes_eq c.0 (codes "certify"))
-    (bytes_eq c.0 (codes "check")) (bytes_eq c.0 (codes "audit")) (bytes_eq c.0 (codes "mark")) (meter_given (given_by c.1)) (envelope_given (given_by c.1)) (given_by c.1 (codes "domain")) (table_given (given_by c.1)) (given_by c.1) text e
+    (bytes_eq c.0 (codes "drive")) (bytes_eq c.0 (codes "check")) (bytes_eq c.0 (codes "audit")) (bytes_eq c.0 (codes "mark")) (meter_given (given_by c.1)) (envelope_given (given_by c.1)) (given_by c.1 (codes "domain")) (table_given (given_by c.1)) (given_by c.1) text e
 
 -- well formed words are answered with what they ask for, or refused where they ask for nothing
 pub asked_by-answers : (words : List Text) (asked : Option Plan) → IsWellFormed words → asked ≡ asked_by words
@@ -88,6 +94,7 @@ asked_by-answers words (Some (Envelope rate burst)) formed e = ((formed, sym e),
 asked_by-answers words (Some (Certify domain)) formed e = ((formed, sym e), tt)
 asked_by-answers words (Some (Check domain certificate)) formed e = ((formed, sym e), tt)
 asked_by-answers words (Some (Audit domain certificate)) formed e = ((formed, sym e), tt)
+asked_by-answers words (Some (Drive domain)) formed e = ((formed, sym e), tt)
 asked_by-answers words (Some (Mark domain certificate port keeps_red)) formed e = ((formed, sym e), tt)
 asked_by-answers words (Some (Show text)) formed e = absurd (plan_of-no_text (subcommand_of dsedge words) text (sym e))
 
@@ -125,6 +132,7 @@ wish-answers words kind (Envelope rate burst) fails help = absurd help.1
 wish-answers words kind (Certify domain) fails help = absurd help.1
 wish-answers words kind (Check domain certificate) fails help = absurd help.1
 wish-answers words kind (Audit domain certificate) fails help = absurd help.1
+wish-answers words kind (Drive domain) fails help = absurd help.1
 wish-answers words kind (Mark domain certificate port keeps_red) fails help = absurd help.1
 wish-answers words kind (Show text) (inl memory) help = absurd (no_memory kind help.0 memory)
 wish-answers words kind (Show text) (inr among) help = (kind, among, help.0)

@@ -56,6 +56,10 @@ check = on_table (codes "check")
 abbrev pub audit : App
 audit = on_table (codes "audit")
 
+-- contracts are sold of a domain
+abbrev pub drive : App
+drive = with_rule (new_app (codes "drive")) (positional (codes "domain"))
+
 -- a capture is marked at a port, by workers, with a rule for red frames
 abbrev pub mark : App
 mark = with_rule (with_rule (with_rule (on_table (codes "mark"))
@@ -64,4 +68,4 @@ mark = with_rule (with_rule (with_rule (on_table (codes "mark"))
     (required (codes "red"))
 
 abbrev pub dsedge : App
-dsedge = with_subcommand (with_subcommand (with_subcommand (with_subcommand (with_subcommand (with_subcommand program meter.top) envelope.top) certify.top) check.top) audit.top) mark.top
+dsedge = with_subcommand (with_subcommand (with_subcommand (with_subcommand (with_subcommand (with_subcommand (with_subcommand program meter.top) envelope.top) certify.top) check.top) audit.top) drive.top) mark.top

@@ -1,7 +1,7 @@
 -- The files that a plan names.
 use Rattle.std.specs.Prelude.{ℕ, List, [], ◌∷◌}
 use Rattle.dsedge_base.specs.declared.work.Plan.{Plan}
-use Rattle.dsedge_base.specs.declared.work.Plan.TheVariants.{Audit, Certify, Check, Envelope, Mark, Meter, Show}
+use Rattle.dsedge_base.specs.declared.work.Plan.TheVariants.{Audit, Certify, Check, Drive, Envelope, Mark, Meter, Show}
 
 -- the names of the files that are to be read, in the order of the words
 abbrev pub files_of : Plan → List (List ℕ)
@@ -11,4 +11,5 @@ files_of (Envelope rate burst) = []
 files_of (Certify domain) = domain ∷ []
 files_of (Check domain certificate) = domain ∷ certificate ∷ []
 files_of (Audit domain certificate) = domain ∷ certificate ∷ []
+files_of (Drive domain) = domain ∷ []
 files_of (Mark domain certificate port keeps_red) = domain ∷ certificate ∷ []

@@ -9,7 +9,7 @@ use Rattle.dsedge_base.specs.Options.{Given, envelope_given, marking_given, mete
 use Rattle.dsedge_base.specs.declared.fault.UsageFault.{UsageFault}
 use Rattle.dsedge_base.specs.declared.fault.UsageFault.TheVariants.{Usage, NoMemory}
 use Rattle.dsedge_base.specs.declared.work.Plan.{Plan}
-use Rattle.dsedge_base.specs.declared.work.Plan.TheVariants.{Audit, Certify, Check, Envelope, Mark, Meter, Show}
+use Rattle.dsedge_base.specs.declared.work.Plan.TheVariants.{Audit, Certify, Check, Drive, Envelope, Mark, Meter, Show}
 
 -- the texts that the options of a command were given
 abbrev pub given_by : List Row → Given
@@ -28,6 +28,7 @@ plan_of c =
     if bytes_eq c.0 (codes "meter") then meter_given (given_by c.1) >>= (λ m. Some (Meter m))
     else if bytes_eq c.0 (codes "envelope") then envelope_given (given_by c.1) >>= (λ e. Some (Envelope e.0 e.1))
     else if bytes_eq c.0 (codes "certify") then given_by c.1 (codes "domain") >>= (λ domain. Some (Certify domain))
+    else if bytes_eq c.0 (codes "drive") then given_by c.1 (codes "domain") >>= (λ domain. Some (Drive domain))
     else if bytes_eq c.0 (codes "check") then table_given (given_by c.1) >>= (λ files. Some (Check files.0 files.1))
     else if bytes_eq c.0 (codes "audit") then table_given (given_by c.1) >>= (λ files. Some (Audit files.0 files.1))
     else if bytes_eq c.0 (codes "mark") then mark_given (given_by c.1)
@@ -54,6 +55,7 @@ IsPlanOf words (Envelope rate burst) = IsWellFormed words × (asked_by words ≡
 IsPlanOf words (Certify domain) = IsWellFormed words × (asked_by words ≡ Some (Certify domain))
 IsPlanOf words (Check domain certificate) = IsWellFormed words × (asked_by words ≡ Some (Check domain certificate))
 IsPlanOf words (Audit domain certificate) = IsWellFormed words × (asked_by words ≡ Some (Audit domain certificate))
+IsPlanOf words (Drive domain) = IsWellFormed words × (asked_by words ≡ Some (Drive domain))
 IsPlanOf words (Mark domain certificate port keeps_red) =
     IsWellFormed words × (asked_by words ≡ Some (Mark domain certificate port keeps_red))
 
@@ -74,4 +76,5 @@ IsShown (Envelope rate burst) = ⊥
 IsShown (Certify domain) = ⊥
 IsShown (Check domain certificate) = ⊥
 IsShown (Audit domain certificate) = ⊥
+IsShown (Drive domain) = ⊥
 IsShown (Mark domain certificate port keeps_red) = ⊥

@@ -1,7 +1,7 @@
 ghost use Rattle.std.specs.Prelude.{◌≡◌, IfOk, true, false};
 ghost use Rattle.clap.specs.Words.{app_of, rule_of};
 ghost use Rattle.clap.specs.declared.builder.command.Command.TheViews.{out-Command as fields_of};
-ghost use Rattle.dsedge_base.specs.CommandLine.{audit, certify, check, dsedge, envelope, mark, meter, on_table};
+ghost use Rattle.dsedge_base.specs.CommandLine.{audit, certify, check, drive, dsedge, envelope, mark, meter, on_table};
 ghost use Rattle.dsedge_base.specs.CommandLine.{optional, positional, program, required};
 
 use clap::{Arg, Command};
@@ -20,6 +20,7 @@ pub(crate) fn command_line<'a>(alloc: Global) -> Result<Command<'a>, AllocError>
         .subcommand(certify_command(alloc)?)?
         .subcommand(check_command(alloc)?)?
         .subcommand(audit_command(alloc)?)?
+        .subcommand(drive_command(alloc)?)?
         .subcommand(mark_command(alloc)?)
 }
 
@@ -112,6 +113,19 @@ fn audit_command<'a>(alloc: Global) -> Result<Command<'a>, AllocError>
     let about =
         "Judges the run on standard input: lines send CONTRACT PACKET SIZE DSCP MOMENT and visit PACKET MOMENT.";
     table_command(alloc, "audit", about)
+}
+
+/// `dsedge drive`.
+fn drive_command<'a>(alloc: Global) -> Result<Command<'a>, AllocError>
+    ensures shape { IfOk result (λ command. app_of command ≡ drive) }
+    ensures local { IfOk result (λ command. (fields_of command).has_globals ≡ false) }
+{
+    let about =
+        "Sells a domain's contracts: lines reserve NAME, release ID MOMENT, retire ID MOMENT, list and look.";
+    let domain = "the domain: a TOML text of meters, ports, links and contracts";
+    Command::new(alloc, "drive")
+        .about(about)
+        .arg(word(alloc, "domain", "DOMAIN", domain))
 }
 
 /// `dsedge mark`.

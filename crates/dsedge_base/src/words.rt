@@ -72,6 +72,10 @@ fn asked_of<'a>(name: &str, options: &ArgMatches<'a>) -> Option<Plan<'a>>
             let domain = name_in(options, "domain")?;
             Some(Plan::Certify { domain })
         }
+        "drive" => {
+            let domain = name_in(options, "domain")?;
+            Some(Plan::Drive { domain })
+        }
         "check" => {
             let (domain, certificate) = table_in(options)?;
             Some(Plan::Check {

@@ -39,6 +39,11 @@ pub enum Plan<'a> {
         /// The file of the certificate.
         certificate: GivenName<'a>,
     },
+    /// Sell the contracts of a domain by the commands of standard input.
+    Drive {
+        /// The file of the domain.
+        domain: GivenName<'a>,
+    },
     /// Mark the capture of standard input at a port of a domain with a certificate of its contracts.
     Mark {
         /// The file of the domain.
@@ -60,7 +65,9 @@ impl<'a> Plan<'a> {
         let mut names = Vec::new(alloc);
         match self {
             Plan::Show(_) | Plan::Meter(_) | Plan::Envelope { .. } => {}
-            Plan::Certify { domain } => names.push(GivenName::new(domain.text()))?,
+            Plan::Certify { domain } | Plan::Drive { domain } => {
+                names.push(GivenName::new(domain.text()))?
+            }
             Plan::Check {
                 domain,
                 certificate,

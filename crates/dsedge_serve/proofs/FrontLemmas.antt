@@ -10,7 +10,8 @@ use Rattle.std.specs.Prelude.{codes, decimal, slice_index}
 use Rattle.ds_conductor.specs.declared.report.Report.{Report}
 use Rattle.ds_domain_base.specs.Faults.{field_text, kind_code, section_text}
 use Rattle.ds_domain_base.specs.declared.fault.DomainFault.{DomainFault}
-use Rattle.dsedge_serve.specs.Faults.{fault_text, kind_text, text_or_dash}
+use Rattle.dsedge_texts.specs.Wording.{kind_text}
+use Rattle.dsedge_serve.specs.Faults.{fault_text, text_or_dash}
 use Rattle.dsedge_serve.specs.Marked.{colours_text, counts_text}
 use Rattle.dsedge_serve.specs.declared.fault.Fault.TheVariants.{Domain}
 

@@ -2,10 +2,9 @@
 use Rattle.std.specs.Prelude.{◌≡◌, ℕ, List, [], ◌∷◌, ◌++◌, codes, decimal}
 use Rattle.ds_domain_base.specs.Faults.{field_text, kind_code, section_text}
 use Rattle.ds_domain_base.specs.declared.fault.DomainFault.{DomainFault}
-use Rattle.ds_domain_base.specs.declared.fault.Kind.{Kind}
-use Rattle.ds_domain_base.specs.declared.fault.Kind.TheVariants as kinds
 use Rattle.ds_certificate.specs.declared.fault.CertificateFault.{CertificateFault}
 use Rattle.ds_certificate.specs.declared.fault.CertificateFault.TheVariants as certificates
+use Rattle.dsedge_texts.specs.Wording.{kind_text}
 use Rattle.pcap_capture.specs.declared.fault.PcapFault.{PcapFault}
 use Rattle.pcap_capture.specs.declared.fault.PcapFault.TheVariants as pcaps
 use Rattle.dsedge_serve.specs.declared.fault.Fault.{Fault}
@@ -13,19 +12,6 @@ use Rattle.dsedge_serve.specs.declared.fault.Fault.TheVariants.{Usage, Line, Dom
 use Rattle.dsedge_serve.specs.declared.fault.Fault.TheVariants.{Read, Write, Memory, Full}
 use Rattle.dsedge_serve.specs.declared.notice.Notice.{Notice}
 use Rattle.dsedge_serve.specs.declared.notice.Notice.TheVariants as notices
-
--- how a kind of fault of a domain is written
-abbrev pub kind_text : Kind → List ℕ
-kind_text kinds.Text = codes "Text"
-kind_text kinds.Field = codes "Field"
-kind_text kinds.Range = codes "Range"
-kind_text kinds.Twice = codes "Twice"
-kind_text kinds.UnknownName = codes "UnknownName"
-kind_text kinds.NoLink = codes "NoLink"
-kind_text kinds.PathRepeats = codes "PathRepeats"
-kind_text kinds.PathLength = codes "PathLength"
-kind_text kinds.BlindInside = codes "BlindInside"
-kind_text kinds.NoMemory = codes "NoMemory"
 
 -- a field is written as its key, and none as `-`
 abbrev pub text_or_dash : List ℕ → List ℕ

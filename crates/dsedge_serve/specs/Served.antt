@@ -5,8 +5,10 @@ use Rattle.std.specs.Option.{option_map_or}
 use Rattle.line_text.specs.Lines.{lines_of}
 use Rattle.pcap_capture.specs.Counts.{count_after, next_count}
 use Rattle.dsedge_base.specs.declared.work.Plan.{Plan}
-use Rattle.dsedge_base.specs.declared.work.Plan.TheVariants.{Audit, Certify, Check, Envelope, Mark, Meter, Show}
-use Rattle.ds_domain_base.specs.Domains.{is_port}
+use Rattle.dsedge_base.specs.declared.work.Plan.TheVariants.{Audit, Certify, Check, Drive, Envelope, Mark, Meter, Show}
+use Rattle.ds_domain.specs.DomainTexts.{parse_of}
+use Rattle.ds_domain_base.specs.Domains.{Domain, is_port}
+use Rattle.ds_domain_base.specs.declared.contract.Contract.{Contract}
 use Rattle.ds_domain_base.specs.declared.fault.DomainFault.{DomainFault}
 use Rattle.ds_conductor.specs.Markings.{IsOfReads as IsOfCaptureReads, is_unwritten}
 use Rattle.ds_conductor.specs.Reports.{nothing_read}
@@ -22,6 +24,7 @@ use Rattle.dsedge_meter.specs.Verdicts.{envelope_for, verdict_on}
 use Rattle.ds_checker.specs.Acceptance.{Table}
 use Rattle.ds_conductor_base.specs.Steps.{opened}
 use Rattle.dsedge_audit.specs.Audited.{audit_from}
+use Rattle.dsedge_drive.specs.Driven.{driven}
 use Rattle.dsedge_texts.specs.Accepted.{accepted_in}
 use Rattle.dsedge_texts.specs.Certified.{certified}
 use Rattle.dsedge_texts.specs.declared.accepting.TableFault.{TableFault}
@@ -74,6 +77,11 @@ reply_over (Err (tables.Domain fault)) lines = record { text = []; conclusion = 
 reply_over (Err (tables.Certificate fault)) lines = record { text = []; conclusion = Uncertified fault }
 reply_over (Err tables.NoMemory) lines = whole_text []
 
+-- The contracts that a domain text says are sold by lines; the fault of the text ends it before anything is written.
+abbrev pub reply_sold : Result (Domain × List Contract) DomainFault → List (List ℕ) → Reply
+reply_sold (Ok parsed) lines = reply_of (driven parsed.0 parsed.1 lines)
+reply_sold (Err fault) lines = record { text = []; conclusion = Unsound fault }
+
 -- the text of the first file, and of the second
 abbrev pub first_text : List (List ℕ) → List ℕ
 first_text [] = []
@@ -115,6 +123,8 @@ IsAnswered (Check domain certificate) texts bytes more outcome before after =
     IsReplied (reply_on (accepted_in (first_text texts) (second_text texts))) outcome before after
 IsAnswered (Audit domain certificate) texts bytes more outcome before after =
     IsReplied (reply_over (accepted_in (first_text texts) (second_text texts)) (lines_of bytes)) outcome before after
+IsAnswered (Drive domain) texts bytes more outcome before after =
+    IsReplied (reply_sold (parse_of (first_text texts)) (lines_of bytes)) outcome before after
 IsAnswered (Mark domain certificate port keeps_red) texts bytes more outcome before after =
     IsMarkedAt (accepted_in (first_text texts) (second_text texts)) port (rule_said keeps_red) bytes more outcome before
     after
@@ -132,6 +142,10 @@ abbrev pub IsPortlessBefore : Result Table TableFault → List ℕ → Outcome �
 IsPortlessBefore found port outcome = IfOk found
     (λ t. is_port t.domain port ≡ false → IsSettled (Marked nothing_read (Some marks.UnknownPort) port) outcome)
 
+-- Where a domain's text has a fault, the outcome is settled whatever the devices do.
+abbrev pub IsUnsoundBefore : Result (Domain × List Contract) DomainFault → Outcome → Type 0
+IsUnsoundBefore found outcome = IfErr found (λ fault. IsSettled (Answered (Ok (Unsound fault))) outcome)
+
 -- what is settled of a plan's outcome, for the texts of its files
 abbrev pub IsForeseen : Plan → List (List ℕ) → Outcome → Type 0
 IsForeseen (Show text) texts outcome = ⊤
@@ -141,6 +155,7 @@ IsForeseen (Certify domain) texts outcome = ⊤
 IsForeseen (Check domain certificate) texts outcome = ⊤
 IsForeseen (Audit domain certificate) texts outcome =
     IsRefusedBefore (accepted_in (first_text texts) (second_text texts)) outcome
+IsForeseen (Drive domain) texts outcome = IsUnsoundBefore (parse_of (first_text texts)) outcome
 IsForeseen (Mark domain certificate port keeps_red) texts outcome =
     IsRefusedBefore (accepted_in (first_text texts) (second_text texts)) outcome
     × IsPortlessBefore (accepted_in (first_text texts) (second_text texts)) port outcome

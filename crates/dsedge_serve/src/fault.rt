@@ -3,14 +3,14 @@ ghost use Rattle.pcap_capture.specs.Counts.{next_count};
 ghost use Rattle.pcap_capture.specs.Fronts.{IsFrontOf};
 ghost use Rattle.dsedge_serve.specs.Advised.{advice_on};
 ghost use Rattle.dsedge_serve.specs.Faults.{capture_fault_text, certificate_fault_text, fault_text};
-ghost use Rattle.dsedge_serve.specs.Faults.{kind_text, status_of, text_or_dash};
+ghost use Rattle.dsedge_serve.specs.Faults.{status_of, text_or_dash};
 
 use crate::advice::Advice;
 use crate::parts::give_parts;
 use ds_certificate::CertificateFault;
-use ds_domain_base::{DomainFault, Kind};
+use ds_domain_base::DomainFault;
 use dsedge_lines::GivenName;
-use dsedge_texts::{FaultyLine, Reason};
+use dsedge_texts::{FaultyLine, Reason, kind_text};
 use itoa::Buffer;
 use pcap_capture::{DeviceFault, Outlet, PcapFault, give_all};
 
@@ -134,24 +134,6 @@ fn tell_domain<F: Outlet>(fault: &DomainFault, faults: &mut F) -> Result<(), Dev
             "\n",
         ],
     )
-}
-
-/// How a kind of fault of a domain is written.
-fn kind_text(kind: Kind) -> &'static str
-    ensures { result.now ≡ kind_text kind }
-{
-    match kind {
-        Kind::Text => "Text",
-        Kind::Field => "Field",
-        Kind::Range => "Range",
-        Kind::Twice => "Twice",
-        Kind::UnknownName => "UnknownName",
-        Kind::NoLink => "NoLink",
-        Kind::PathRepeats => "PathRepeats",
-        Kind::PathLength => "PathLength",
-        Kind::BlindInside => "BlindInside",
-        Kind::NoMemory => "NoMemory",
-    }
 }
 
 /// How a fault of a certificate is written, its number and its kind.

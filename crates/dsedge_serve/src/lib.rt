@@ -9,6 +9,7 @@ mod notice;
 mod outcome;
 mod parts;
 mod report;
+mod selling;
 mod serving;
 
 pub use advice::{Advice, Ended};

@@ -20,6 +20,7 @@ use crate::fault::Fault;
 use crate::marking::{answer_mark, marking_advice, marking_status, refusal_outcome, tell_marking};
 use crate::notice::Notice;
 use crate::outcome::Outcome;
+use crate::selling::answer_drive;
 use ds_checker::Accepted;
 use ds_conductor::RedRule;
 use ds_domain_base::{DomainFault, Kind};
@@ -30,12 +31,13 @@ use dsedge_meter::{EnvelopeCommand, MeterCommand};
 use dsedge_texts::{TableFault, accept, certify};
 use pcap_capture::{Intake, Outlet, give_all};
 use std::alloc::Global;
+use std::sync::Wait;
 
 /// By how many calls of `take` an input is read at most; the next is answered as a read fault.
 const TURNS: u64 = 1 << 32;
 
 /// Answers the lines of the input by a command.
-fn answer_lines<C: Command, I: Intake, O: Outlet>(
+pub(crate) fn answer_lines<C: Command, I: Intake, O: Outlet>(
     alloc: Global,
     command: &mut C,
     intake: &mut I,
@@ -159,8 +161,9 @@ fn judge_run<I: Intake, O: Outlet>(
 }
 
 /// Answers what a plan asks for, on the output, from the texts of its files.
-fn answer<'a, I: Intake, O: Outlet>(
+fn answer<'a, R: Wait, I: Intake, O: Outlet>(
     alloc: Global,
+    rt: &R,
     plan: Plan<'a>,
     texts: &[Vec<u8>],
     intake: &mut I,
@@ -197,6 +200,10 @@ fn answer<'a, I: Intake, O: Outlet>(
         Plan::Audit { .. } => {
             let (domain, certificate) = (texts[0].as_slice(), texts[1].as_slice());
             Outcome::Answered(answer_audit(alloc, domain, certificate, intake, output))
+        }
+        Plan::Drive { .. } => {
+            let domain = texts[0].as_slice();
+            Outcome::Answered(answer_drive(alloc, rt, domain, intake, output))
         }
         Plan::Mark {
             port,
@@ -300,9 +307,11 @@ fn tell_after<F: Outlet>(alloc: Global, outcome: Outcome<'_>, faults: &mut F) ->
 /// Does what a plan asks for: answers on the output, tells a fault on `faults`, and gives the exit status, with what
 /// there is to say behind the fault.
 ///
-/// `texts` are the contents of the files that the plan names, in the order of its words.
-pub fn serve<I: Intake, O: Outlet, F: Outlet>(
+/// `texts` are the contents of the files that the plan names, in the order of its words. `drive` keeps `rt`: its broker
+/// waits for feeds that look.
+pub fn serve<R: Wait, I: Intake, O: Outlet, F: Outlet>(
     alloc: Global,
+    rt: &R,
     plan: Plan<'_>,
     texts: &[Vec<u8>],
     intake: &mut I,
@@ -322,7 +331,7 @@ pub fn serve<I: Intake, O: Outlet, F: Outlet>(
         × IsForeseen plan.entry (map (λ text. text.items) texts.now) outcome
         × (result.advice ≡ advice_after outcome) }
 {
-    let outcome = answer(alloc, plan, texts, intake, output);
+    let outcome = answer(alloc, rt, plan, texts, intake, output);
     let status = status_after(&outcome);
     let advice = tell_after(alloc, outcome, faults);
     Ended { status, advice }

@@ -1,7 +1,9 @@
--- How contracts, columns and figures are written in what is told of them.
+-- How contracts, kinds of faults, columns and figures are written in what is told of them.
 use Rattle.std.specs.Prelude.{ℕ, List, [], ◌++◌, codes, decimal, slice_get}
 use Rattle.std.specs.Option.{option_map_or}
 use Rattle.ds_domain_base.specs.declared.contract.Contract.{Contract}
+use Rattle.ds_domain_base.specs.declared.fault.Kind.{Kind}
+use Rattle.ds_domain_base.specs.declared.fault.Kind.TheVariants as kinds
 use Rattle.moment_core.specs.declared.column.Column.{Column}
 use Rattle.moment_core.specs.declared.column.Column.TheVariants.{Green, All, Excess}
 
@@ -17,3 +19,16 @@ column_text Excess = codes "excess"
 -- a figure behind a space
 abbrev pub figure : ℕ → List ℕ
 figure number = codes " " ++ decimal number
+
+-- how a kind of fault of a domain is written
+abbrev pub kind_text : Kind → List ℕ
+kind_text kinds.Text = codes "Text"
+kind_text kinds.Field = codes "Field"
+kind_text kinds.Range = codes "Range"
+kind_text kinds.Twice = codes "Twice"
+kind_text kinds.UnknownName = codes "UnknownName"
+kind_text kinds.NoLink = codes "NoLink"
+kind_text kinds.PathRepeats = codes "PathRepeats"
+kind_text kinds.PathLength = codes "PathLength"
+kind_text kinds.BlindInside = codes "BlindInside"
+kind_text kinds.NoMemory = codes "NoMemory"

@@ -21,4 +21,4 @@ pub use refusing::RefusalLine;
 pub use system::SystemFolder;
 pub use texts::read_texts;
 pub use whole::{MOST_BYTES, read_whole};
-pub use wording::{column_text, push_figure, push_name};
+pub use wording::{column_text, kind_text, push_figure, push_name};

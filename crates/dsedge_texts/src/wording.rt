@@ -1,7 +1,7 @@
 ghost use Rattle.std.specs.Prelude.{◌≡◌, ◌++◌, OnOk};
-ghost use Rattle.dsedge_texts.specs.Wording.{column_text, figure, name_of};
+ghost use Rattle.dsedge_texts.specs.Wording.{column_text, figure, kind_text, name_of};
 
-use ds_domain::Contract;
+use ds_domain::{Contract, Kind};
 use line_text::push_number;
 use moment_core::Column;
 use std::alloc::AllocError;
@@ -37,4 +37,22 @@ pub fn push_figure(text: &mut Vec<u8>, number: u64) -> Result<(), AllocError>
 {
     text.push(b' ')?;
     push_number(text, number)
+}
+
+/// How a kind of fault of a domain is written.
+pub fn kind_text(kind: Kind) -> &'static str
+    ensures { result.now ≡ kind_text kind }
+{
+    match kind {
+        Kind::Text => "Text",
+        Kind::Field => "Field",
+        Kind::Range => "Range",
+        Kind::Twice => "Twice",
+        Kind::UnknownName => "UnknownName",
+        Kind::NoLink => "NoLink",
+        Kind::PathRepeats => "PathRepeats",
+        Kind::PathLength => "PathLength",
+        Kind::BlindInside => "BlindInside",
+        Kind::NoMemory => "NoMemory",
+    }
 }

@@ -1,0 +1,4 @@
+pub mod DriveLaws
+pub mod RequestLaws
+pub mod SaidLaws
+pub mod ShopLaws

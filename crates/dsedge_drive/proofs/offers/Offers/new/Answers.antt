@@ -1,0 +1,25 @@
+use Rattle.std.proofs.Common.{◌≡◌, ◌<◌, ◌∙◌, length, get_or, is_some, true, sym, subst, arith}
+use Rattle.std.specs.Map.{lookup}
+use Rattle.std.specs.Str.{bytes_eq}
+use Rattle.dsedge_texts.proofs.NamedLaws.{noted_again, noted_next}
+use Rattle.dsedge_drive.proofs.offers.Offers.new.Goals.{then-not-contains_key+in_ok-insert, else-not-contains_key}
+use Rattle.dsedge_drive.proofs.offers.Offers.new.Goals as goal
+
+pub loop-place-preserved : goal.loop-place-preserved
+loop-place-preserved c =
+    let contracts = c.args.contracts.now in
+    let i = c.loop-place.place in
+    let named = c.bytes-name.ensures.value in
+    let inside : i < length contracts = omega (arith, c.loop-place-test.true) in
+    let is_it : c.index-contracts-place.result ≡ get_or contracts i c.index-contracts-place.result = c.index-contracts-place.is in
+    elim c.if-not-contains_key.branch [
+      | then-not-contains_key+in_ok-insert w ↦
+          rw w.places-is
+          (noted_next (λ key. key.now) c.loop-place.places.entries _ contracts i c.index-contracts-place.result c.bytes-name.result inside is_it named
+          (sym c.contains_key.ensures ∙ w.if-not-contains_key.true) w.in_ok-insert.ensures.entries c.loop-place.invariant)
+      | else-not-contains_key w ↦
+          let known : is_some (lookup (λ key. bytes_eq c.index-contracts-place.result.name key.now) c.loop-place.places.entries) ≡ true =
+          subst (λ name. is_some (lookup (λ key. bytes_eq name key.now) c.loop-place.places.entries) ≡ true) named
+          (sym c.contains_key.ensures ∙ w.if-not-contains_key.false) in
+          rw w.places-is (noted_again (λ key. key.now) c.loop-place.places.entries contracts i c.index-contracts-place.result inside is_it known c.loop-place.invariant)
+    ]

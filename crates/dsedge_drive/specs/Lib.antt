@@ -1,0 +1,4 @@
+pub mod Driven
+pub mod Kept
+pub mod Requests
+pub mod Sold

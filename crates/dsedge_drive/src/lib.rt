@@ -1,0 +1,11 @@
+//! The command `drive`: contracts of a domain, sold by the lines of its input.
+#![tactic(auto)]
+
+mod answer;
+mod command;
+mod offers;
+mod request;
+mod shop;
+mod sight;
+
+pub use command::DriveCommand;
