@@ -20,7 +20,7 @@ fn a_wrong_option_is_one_line(rt: HostRuntime) -> Result<(), Fail> {
         "envelope --rate 1",
         "check domain.toml",
     ] {
-        let done = run_on_domain(rt.alloc(), words, "")?;
+        let done = run_on_domain(&rt, rt.alloc(), words, "")?;
         expect(&rt, &done, "dsedge: usage\n", Advice::Words);
         assert_eq!(rt; done.writes, 1);
     }
@@ -29,7 +29,7 @@ fn a_wrong_option_is_one_line(rt: HostRuntime) -> Result<(), Fail> {
 
 #[test]
 fn a_file_that_is_none_is_one_line(rt: HostRuntime) -> Result<(), Fail> {
-    let done = run_on_domain(rt.alloc(), "check domain.toml other.cert", "")?;
+    let done = run_on_domain(&rt, rt.alloc(), "check domain.toml other.cert", "")?;
     let told = "dsedge: file other.cert\n";
     expect(&rt, &done, told, Advice::File(Reason::Absent));
     Ok(())
@@ -60,7 +60,7 @@ fn the_line_of_a_certificate_that_is_at_fault(rt: HostRuntime) -> Result<(), Fai
         ),
     ] {
         let words = "check domain.toml domain.cert";
-        let done = run_on_table(rt.alloc(), words, domain.as_str(), text.as_bytes(), b"")?;
+        let done = run_on_table(&rt, rt.alloc(), words, domain.as_str(), text.as_bytes(), b"")?;
         expect(&rt, &done, told, Advice::Certificate(FaultyLine { fault, line }));
     }
     Ok(())
@@ -70,7 +70,7 @@ fn the_line_of_a_certificate_that_is_at_fault(rt: HostRuntime) -> Result<(), Fai
 fn a_report_is_one_write(rt: HostRuntime) -> Result<(), Fail> {
     let words = "--port p --workers 1 --red keep";
     let pcapng = [0x0a, 0x0d, 0x0d, 0x0a];
-    let done = run_mark(rt.alloc(), "cbs = 1500\npbs = 3000\n", words, &pcapng)?;
+    let done = run_mark(&rt, rt.alloc(), "cbs = 1500\npbs = 3000\n", words, &pcapng)?;
     let told = "records 0\nmarked 0\nunmatched 0\nskipped 0\nunverified 0\ndropped 0\n\
         green 0 0\nyellow 0 0\nred 0 0\ndsedge: capture 2 IsPcapng\n";
     expect(&rt, &done, told, Advice::Pcapng);

@@ -31,6 +31,7 @@ use std::env;
 use std::io::{Error, ErrorKind, IsTerminal};
 use std::process::ExitCode;
 use std::rt::Env;
+use std::sync::Wait;
 
 /// Why there are no words: memory ran out, or one of them is not UTF-8.
 fn wordless(error: Error) -> Fault<'static> {
@@ -74,13 +75,13 @@ fn advise(rt: &HostRuntime, advice: Advice) {
 }
 
 /// Runs the program, under the eye of a watch, if there is one.
-fn run(rt: &HostRuntime, watch: Option<&Screen<'_>>) -> Ended {
+fn run<W: Wait>(rt: &HostRuntime, waiting: &W, watch: Option<&Screen<'_>>) -> Ended {
     let beside = if rt.stdout().is_terminal() { watch } else { None };
     let mut faults = WatchedOutlet::new(WriteOutlet::new(rt.stderr()), watch);
     match given_words(rt) {
         Ok(words) => start(
             rt.alloc(),
-            rt,
+            waiting,
             words,
             &SystemFolder::new(rt),
             &mut WatchedIntake::new(ReadIntake::new(rt.stdin()), watch),
@@ -93,7 +94,7 @@ fn run(rt: &HostRuntime, watch: Option<&Screen<'_>>) -> Ended {
 
 fn main(rt: HostRuntime) -> ExitCode {
     let screen = Screen::new(&rt);
-    let ended = run(&rt, screen.as_ref());
+    let ended = run(&rt, &rt, screen.as_ref());
     if let Some(screen) = &screen {
         screen.clear();
     }
