@@ -40,6 +40,7 @@ pub fn moment(field: &[u8]) -> Option<Moment>
 }
 
 /// The moment, 0 to 2^63 - 1 nanoseconds, that the first field says, and what stands behind that field's space.
+#[inline(always)]
 #[tactic(auto, using(crate::proofs::QuantityLemmas::leading_at_most))]
 pub fn leading_moment(fields: &[u8]) -> Option<(Moment, &[u8])>
     ensures { option_map (λ parts. (parts.0, fields_of parts.1.now)) result
@@ -61,6 +62,7 @@ pub fn size(field: &[u8]) -> Option<PacketSize>
 }
 
 /// The size, 1 to 65,535 bytes, that the first field says, and what stands behind that field's space.
+#[inline(always)]
 #[tactic(auto, using(crate::proofs::QuantityLemmas::leading_at_most))]
 pub fn leading_size(fields: &[u8]) -> Option<(PacketSize, &[u8])>
     ensures { option_map (λ parts. (parts.0, fields_of parts.1.now)) result

@@ -18,6 +18,7 @@ pub fn colour(field: &[u8]) -> Option<Colour>
 }
 
 /// The arrival that a line says, `MOMENT SIZE COLOUR`: the line's number is the packet's. Each byte is read once.
+#[inline(always)]
 #[tactic(auto, using(crate::proofs::ArrivalLemmas::arrival_by_fields, crate::proofs::ArrivalLemmas::last_letter), unfolding(crate::specs::Arrivals::arrival_in))]
 pub fn arrival(line_number: u64, line: &[u8]) -> Option<Arrival>
     ensures { result ≡ arrival_in line_number line.now }
@@ -39,6 +40,7 @@ pub fn arrival(line_number: u64, line: &[u8]) -> Option<Arrival>
 }
 
 /// The sized moment that a line says, `MOMENT SIZE`, with the size in bytes. Each byte is read once.
+#[inline(always)]
 #[tactic(auto, using(crate::proofs::ArrivalLemmas::sized_by_fields, crate::proofs::ArrivalLemmas::last_size), unfolding(crate::specs::Arrivals::sized_in))]
 fn sized(line: &[u8]) -> Option<(Moment, u32)>
     ensures { result ≡ sized_in line.now }
@@ -50,6 +52,7 @@ fn sized(line: &[u8]) -> Option<(Moment, u32)>
 }
 
 /// The sized moment that a line says, `MOMENT SIZE`, where it is not before the newest moment.
+#[inline(always)]
 pub fn sized_moment(newest: Moment, line: &[u8]) -> Option<(Moment, u32)>
     ensures { result ≡ sized_since newest line.now }
 {

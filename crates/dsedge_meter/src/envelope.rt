@@ -82,6 +82,7 @@ impl EnvelopeCommand {
 impl Command for EnvelopeCommand {
     ghost answer = { verdict_behind };
 
+    #[inline(always)]
     fn line(
         &mut self,
         number: u64,

@@ -80,6 +80,7 @@ impl MeterCommand {
 impl Command for MeterCommand {
     ghost answer = { answer_of };
 
+    #[inline(always)]
     fn line(
         &mut self,
         number: u64,
