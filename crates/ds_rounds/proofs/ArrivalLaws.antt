@@ -1,5 +1,6 @@
 -- How late arrivals are that come in an order that keeps rounds.
-use Rattle.std.proofs.Common.{◌≡◌, ℕ, zero, suc, ◌+◌, ◌<◌, ◌≤◌, List, [], ◌∷◌, length, map, filter, get_or, sym, subst, subst₂, arith}
+use Rattle.std.proofs.Common.{◌≡◌, ℕ, zero, suc, ◌+◌, ◌<◌, ◌≤◌, List, [], ◌∷◌, length, map, filter, get_or, sym, subst}
+use Rattle.std.proofs.Common.{subst₂, arith}
 use Rattle.std.specs.Prelude.{nat_eq, All, AllPairs}
 use Rattle.std.proofs.lemmas.Bool.Decides.{nat_tests}
 use Rattle.std.proofs.lemmas.List.{get_or-map, length-map}
@@ -22,7 +23,8 @@ use Rattle.ds_rounds.proofs.OrderLaws.{none_late}
 abbrev pub AreSoon : ℕ → List ℕ → Type 0
 AreSoon skew moments = AllPairs (λ x y. x ≤ y + skew) moments
 
-pub soon-moments : (skew : ℕ) (visits : List Visit) → AllPairs (λ v w. v.moment ≤ w.moment + skew) visits → AreSoon skew (map (λ (v : Visit). v.moment) visits)
+pub soon-moments : (skew : ℕ) (visits : List Visit) → AllPairs (λ v w. v.moment ≤ w.moment + skew) visits
+    → AreSoon skew (map (λ (v : Visit). v.moment) visits)
 soon-moments skew [] all i j d first below = absurd (omega (arith, below))
 soon-moments skew (v ∷ visits) all i j d first below =
     let f : Visit → ℕ = λ w. w.moment in
@@ -45,8 +47,10 @@ unfolding used
 used_soon newest moment end h k = grind (arith, nat_tests)
 
 -- rows are late by the skew at most where the meter's newest moment is, and no arrival is more than that before others
-pub rows_soon : (skew : ℕ) (m : AnyMeter) (place : ℕ) (arrivals : List Arrival) → All (λ (a : Arrival). newest_of m ≤ a.moment + skew) arrivals
-    → AllPairs (λ (a b : Arrival). a.moment ≤ b.moment + skew) arrivals → All (λ (r : Row). r.late ≤ skew) (rows_from m place arrivals)
+pub rows_soon : (skew : ℕ) (m : AnyMeter) (place : ℕ) (arrivals : List Arrival)
+    → All (λ (a : Arrival). newest_of m ≤ a.moment + skew) arrivals
+    → AllPairs (λ (a b : Arrival). a.moment ≤ b.moment + skew) arrivals
+    → All (λ (r : Row). r.late ≤ skew) (rows_from m place arrivals)
 rows_soon skew m place [] near soon k d below = absurd (omega (arith, below))
 rows_soon skew m place (a ∷ as_) near soon zero d below =
     let here : used (newest_of m) a.moment ≤ a.moment + skew = used_soon (newest_of m) a.moment (a.moment + skew) (near 0 a (omega arith)) (omega arith) in
@@ -59,9 +63,11 @@ rows_soon skew m place (a ∷ as_) near soon (suc k) d below =
     (λ i j b first under. soon (suc i) (suc j) b (omega (arith, first)) (omega (arith, under)))
     k d (omega (arith, below))
 
-pub none_arrives_late : (skew : ℕ) (visits : List Visit) (counts : List ℕ) (order : List Visit) → DoNotFall visits → AreRounds skew visits counts
+pub none_arrives_late : (skew : ℕ) (visits : List Visit) (counts : List ℕ) (order : List Visit) → DoNotFall visits
+    → AreRounds skew visits counts
     → KeepsRounds counts visits order → (site : ℕ) (m : AnyMeter) (arrivals : List Arrival)
-    → map (λ (a : Arrival). a.moment) arrivals ≡ moments_at site order → All (λ (a : Arrival). newest_of m ≤ a.moment) arrivals
+    → map (λ (a : Arrival). a.moment) arrivals ≡ moments_at site order
+    → All (λ (a : Arrival). newest_of m ≤ a.moment) arrivals
     → All (λ (r : Row). r.late ≤ skew) (replay m arrivals)
 none_arrives_late skew visits counts order rise are keeps site m arrivals those after_origin =
     let all = AllPairs-filter (λ (v w : Visit). v.moment ≤ w.moment + skew) (λ (v : Visit). nat_eq v.hop.site site) order (none_late skew visits counts order rise are keeps) in

@@ -1,5 +1,6 @@
 -- What every order keeps that keeps rounds.
-use Rattle.std.proofs.Common.{ℕ, suc, ◌+◌, ◌≤◌, List, [], ◌∷◌, ◌++◌, length, take, drop, sym, ap, subst, subst₂, ◌∙◌, arith}
+use Rattle.std.proofs.Common.{ℕ, suc, ◌+◌, ◌≤◌, List, [], ◌∷◌, ◌++◌, length, take, drop, sym, ap, subst, subst₂, ◌∙◌}
+use Rattle.std.proofs.Common.{arith}
 use Rattle.std.specs.Prelude.{All, AllPairs, IsPermutation}
 use Rattle.std.proofs.lemmas.List.{get_or-take, get_or-drop, get_or_default, length-take, length-drop, take-append-drop}
 use Rattle.std.proofs.lemmas.List.Elements.{All-append, All-cons, All-drop, All-head, All-tail, All-take, All-weaker}
@@ -10,7 +11,8 @@ use Rattle.ds_rounds.specs.Rounds.{AreRounds, IsWithin}
 use Rattle.ds_rounds.specs.declared.visit.Visit.{Visit}
 
 -- what holds of each of the visits holds of each in an order that keeps their rounds
-pub All-order : (P : Visit → Type 0) (counts : List ℕ) (visits order : List Visit) → KeepsRounds counts visits order → All P visits → All P order
+pub All-order : (P : Visit → Type 0) (counts : List ℕ) (visits order : List Visit) → KeepsRounds counts visits order
+    → All P visits → All P order
 unfolding KeepsRounds
 All-order P [] visits order keeps all = subst (All P) (sym keeps) (λ k d below. absurd (omega (arith, below)))
 All-order P (n ∷ counts) visits order keeps all =
@@ -31,7 +33,8 @@ All-round skew (first ∷ others) rise within = λ i d below j e under.
     omega (arith, near, low)
 
 -- what holds of any two holds of any two in another order
-pub All-both : (R : Visit → Visit → Type 0) (xs ys : List Visit) → IsPermutation xs ys → All (λ v. All (R v) xs) xs → All (λ v. All (R v) ys) ys
+pub All-both : (R : Visit → Visit → Type 0) (xs ys : List Visit) → IsPermutation xs ys → All (λ v. All (R v) xs) xs
+    → All (λ v. All (R v) ys) ys
 All-both R xs ys same all =
     All-permutation (λ v. All (R v) ys) xs ys same
     (All-weaker (λ v. All (R v) xs) (λ v. All (R v) ys) (λ v each. All-permutation (R v) xs ys same each) xs all)
@@ -41,7 +44,8 @@ AllPairs-both R xs all i j d first below = all i d (omega (arith, first, below))
 
 -- ---- one round before the others
 
-pub AllPairs-append : (R : Visit → Visit → Type 0) (xs ys : List Visit) → AllPairs R xs → AllPairs R ys → All (λ v. All (R v) ys) xs → AllPairs R (xs ++ ys)
+pub AllPairs-append : (R : Visit → Visit → Type 0) (xs ys : List Visit) → AllPairs R xs → AllPairs R ys
+    → All (λ v. All (R v) ys) xs → AllPairs R (xs ++ ys)
 AllPairs-append R [] ys left right across = right
 AllPairs-append R (x ∷ xs) ys left right across =
     AllPairs-cons R x (xs ++ ys)
@@ -58,12 +62,14 @@ AllPairs-drop R n xs all i j d first below =
     subst₂ R (sym (get_or-drop n xs i d)) (sym (get_or-drop n xs j d)) (all (n + i) (n + j) d (omega (arith, first)) (omega (arith, below, length-drop n xs)))
 
 -- each of the front stands before each of what is behind
-pub All-across : (R : Visit → Visit → Type 0) (n : ℕ) (xs : List Visit) → AllPairs R xs → All (λ v. All (R v) (drop n xs)) (take n xs)
+pub All-across : (R : Visit → Visit → Type 0) (n : ℕ) (xs : List Visit) → AllPairs R xs
+    → All (λ v. All (R v) (drop n xs)) (take n xs)
 All-across R n xs all i d below j e under =
     subst₂ R (sym (get_or-take n xs i d (omega (arith, below, length-take n xs)))) (sym (get_or-drop n xs j d) ∙ get_or_default (drop n xs) j d e under)
     (all i (n + j) d (omega (arith, below, length-take n xs)) (omega (arith, under, length-drop n xs)))
 
-pub none_late : (skew : ℕ) (visits : List Visit) (counts : List ℕ) (order : List Visit) → DoNotFall visits → AreRounds skew visits counts
+pub none_late : (skew : ℕ) (visits : List Visit) (counts : List ℕ) (order : List Visit) → DoNotFall visits
+    → AreRounds skew visits counts
     → KeepsRounds counts visits order → AllPairs (λ v w. v.moment ≤ w.moment + skew) order
 unfolding AreRounds KeepsRounds
 none_late skew visits [] order rise are keeps = λ i j d first below. absurd (omega (arith, below, ap length keeps))

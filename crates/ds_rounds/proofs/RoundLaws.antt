@@ -1,9 +1,11 @@
 -- What one visit more makes of a round.
-use Rattle.std.proofs.Common.{◌≡◌, ℕ, zero, suc, ◌+◌, ◌<◌, ◌≤◌, Bool, true, false, List, [], ◌∷◌, ◌++◌, length, map, take, drop, get_or, refl, sym, ap, subst, subst₂, ◌∙◌, arith}
+use Rattle.std.proofs.Common.{◌≡◌, ℕ, zero, suc, ◌+◌, ◌<◌, ◌≤◌, Bool, true, false, List, [], ◌∷◌, ◌++◌, length, map}
+use Rattle.std.proofs.Common.{take, drop, get_or, refl, sym, ap, subst, subst₂, ◌∙◌, arith}
 use Rattle.std.specs.Prelude.{nat_eq}
 use Rattle.std.specs.List.{list_any}
 use Rattle.std.proofs.lemmas.Bool.Decides.{nat_tests}
-use Rattle.std.proofs.lemmas.List.{get_or-map, get_or_append_left, get_or_push, length-map, length_push, map-append, take_more, take-append-drop, take-take, length-append}
+use Rattle.std.proofs.lemmas.List.{get_or-map, get_or_append_left, get_or_push, length-map, length_push, map-append}
+use Rattle.std.proofs.lemmas.List.{take_more, take-append-drop, take-take, length-append}
 use Rattle.std.proofs.lemmas.List.Elements.{All-push}
 use Rattle.std.proofs.lemmas.List.Folds.{Any-from_list_any, list_any_at}
 use Rattle.std.proofs.lemmas.List.Quantifiers.{all_pairs_push}
@@ -30,7 +32,8 @@ begin_is (x ∷ visits) (suc i) d v inside here = refl
 abbrev pub IsApart : List Visit → Visit → Type 0
 IsApart round v = (k : ℕ) (d : Visit) → k < length round → ¬ ((get_or round k d).packet ≡ v.packet)
 
-pub apart : (round : List Visit) (v : Visit) → list_any (nat_eq v.packet) (map packet_of round) ≡ false → IsApart round v
+pub apart : (round : List Visit) (v : Visit) → list_any (nat_eq v.packet) (map packet_of round) ≡ false
+    → IsApart round v
 apart round v none k d below same =
     let there : list_any (nat_eq v.packet) (map packet_of round) ≡ true =
     list_any_at (nat_eq v.packet) (map packet_of round) k 0 (omega (arith, below, length-map round packet_of))
@@ -40,7 +43,8 @@ apart round v none k d below same =
     equal : (a b : ℕ) → a ≡ b → nat_eq a b ≡ true
     equal a b is = grind (arith, nat_tests)
 
-pub none_is : (round : List Visit) (v : Visit) → IsApart round v → list_any (nat_eq v.packet) (map packet_of round) ≡ false
+pub none_is : (round : List Visit) (v : Visit) → IsApart round v
+    → list_any (nat_eq v.packet) (map packet_of round) ≡ false
 none_is round v is = by_cases (list_any (nat_eq v.packet) (map packet_of round)) refl
   where
     same_number : (a b : ℕ) → nat_eq a b ≡ true → a ≡ b
@@ -60,7 +64,8 @@ pub within_push : (skew : ℕ) (round : List Visit) (v : Visit) → IsWithin ske
 within_push skew [] v is near = λ k d below. absurd (omega (arith, below))
 within_push skew (x ∷ xs) v is near = All-push (λ (w : Visit). w.moment ≤ x.moment + skew) xs v is near
 
-pub within_last : (skew : ℕ) (round : List Visit) (v : Visit) → IsWithin skew (round ++ v ∷ []) → v.moment ≤ begin_of round v + skew
+pub within_last : (skew : ℕ) (round : List Visit) (v : Visit) → IsWithin skew (round ++ v ∷ [])
+    → v.moment ≤ begin_of round v + skew
 within_last skew [] v is = omega arith
 within_last skew (x ∷ xs) v is =
     subst (λ (w : Visit). w.moment ≤ x.moment + skew) (get_or_push xs v v (length xs) refl) (is (length xs) v (omega (arith, length_push xs v)))
@@ -72,7 +77,8 @@ within_front skew (x ∷ xs) ys is = λ k d below.
 
 -- ---- a round and one visit more
 
-pub goes_on : (skew : ℕ) (round : List Visit) (v : Visit) → IsRound skew round → GoesOn skew (begin_of round v) (map packet_of round) v
+pub goes_on : (skew : ℕ) (round : List Visit) (v : Visit) → IsRound skew round
+    → GoesOn skew (begin_of round v) (map packet_of round) v
     → IsRound skew (round ++ v ∷ [])
 goes_on skew round v is goes = record {
   within = within_push skew round v is.within goes.0;
@@ -80,7 +86,8 @@ goes_on skew round v is goes = record {
   short = omega (arith, goes.1, length-map round packet_of, length_push round v);
 }
 
-pub went_on : (skew : ℕ) (round : List Visit) (v : Visit) → IsRound skew (round ++ v ∷ []) → GoesOn skew (begin_of round v) (map packet_of round) v
+pub went_on : (skew : ℕ) (round : List Visit) (v : Visit) → IsRound skew (round ++ v ∷ [])
+    → GoesOn skew (begin_of round v) (map packet_of round) v
 went_on skew round v is = (
   within_last skew round v is.within,
   omega (arith, is.short, length-map round packet_of, length_push round v),
@@ -99,7 +106,8 @@ front_round skew xs ys is = record {
   short = omega (arith, is.short, length-append xs ys);
 }
 
-pub take_round : (skew : ℕ) (visits : List Visit) (k m : ℕ) → k ≤ m → IsRound skew (take m visits) → IsRound skew (take k visits)
+pub take_round : (skew : ℕ) (visits : List Visit) (k m : ℕ) → k ≤ m → IsRound skew (take m visits)
+    → IsRound skew (take k visits)
 take_round skew visits k m less is =
     front_round skew (take k visits) (drop k (take m visits))
     (subst (IsRound skew) (sym (take-append-drop k (take m visits)) ∙ ap (λ front. front ++ drop k (take m visits)) (take-take k m visits less)) is)
@@ -113,28 +121,34 @@ nothing_yet skew = record {
   short = omega arith;
 }
 
-pub one_more : (skew : ℕ) (visits : List Visit) (i : ℕ) (d v : Visit) (keys : List ℕ) → i < length visits → v ≡ get_or visits i v
-    → keys ≡ map packet_of (take i visits) → IsRound skew (take i visits) → GoesOn skew (get_or visits 0 d).moment keys v
+pub one_more : (skew : ℕ) (visits : List Visit) (i : ℕ) (d v : Visit) (keys : List ℕ) → i < length visits
+    → v ≡ get_or visits i v
+    → keys ≡ map packet_of (take i visits) → IsRound skew (take i visits)
+    → GoesOn skew (get_or visits 0 d).moment keys v
     → IsRound skew (take (i + 1) visits)
 one_more skew visits i d v keys inside here known is goes =
     subst (IsRound skew) (ap (λ (w : Visit). take i visits ++ w ∷ []) here ∙ sym (take_more visits i v inside))
     (goes_on skew (take i visits) v is (subst₂ (λ begin packets. GoesOn skew begin packets v) (sym (begin_is visits i d v inside here)) known goes))
 
-pub went_on_there : (skew : ℕ) (visits : List Visit) (i : ℕ) (d v : Visit) (keys : List ℕ) → i < length visits → v ≡ get_or visits i v
-    → keys ≡ map packet_of (take i visits) → IsRound skew (take (i + 1) visits) → GoesOn skew (get_or visits 0 d).moment keys v
+pub went_on_there : (skew : ℕ) (visits : List Visit) (i : ℕ) (d v : Visit) (keys : List ℕ) → i < length visits
+    → v ≡ get_or visits i v
+    → keys ≡ map packet_of (take i visits) → IsRound skew (take (i + 1) visits)
+    → GoesOn skew (get_or visits 0 d).moment keys v
 went_on_there skew visits i d v keys inside here known is =
     subst₂ (λ begin packets. GoesOn skew begin packets v) (begin_is visits i d v inside here) (sym known)
     (went_on skew (take i visits) v (subst (IsRound skew) (take_more visits i v inside ∙ ap (λ (w : Visit). take i visits ++ w ∷ []) (sym here)) is))
 
 -- one visit is a round, so that one which does not go on has some
-pub some_there : (skew : ℕ) (visits : List Visit) (i : ℕ) (d v : Visit) (keys : List ℕ) → i < length visits → v ≡ get_or visits i v
+pub some_there : (skew : ℕ) (visits : List Visit) (i : ℕ) (d v : Visit) (keys : List ℕ) → i < length visits
+    → v ≡ get_or visits i v
     → keys ≡ map packet_of (take i visits) → ¬ GoesOn skew (get_or visits 0 d).moment keys v → 0 < i
 some_there skew [] i d v keys inside here known stops = absurd (omega (arith, inside))
 some_there skew (x ∷ visits) zero d v keys inside here known stops =
     absurd (stops (omega (arith, ap (λ (w : Visit). w.moment) here), omega (arith, ap length known), ap (list_any (nat_eq v.packet)) known))
 some_there skew (x ∷ visits) (suc i) d v keys inside here known stops = omega arith
 
-pub packets_more : (visits : List Visit) (i : ℕ) (v : Visit) (keys more : List ℕ) → i < length visits → v ≡ get_or visits i v
+pub packets_more : (visits : List Visit) (i : ℕ) (v : Visit) (keys more : List ℕ) → i < length visits
+    → v ≡ get_or visits i v
     → keys ≡ map packet_of (take i visits) → more ≡ keys ++ v.packet ∷ [] → more ≡ map packet_of (take (i + 1) visits)
 packets_more visits i v keys more inside here kept pushed =
     pushed ∙ ap (λ ns. ns ++ v.packet ∷ []) kept ∙ sym (map-append packet_of (take i visits) (v ∷ []))

@@ -95,13 +95,9 @@ impl<L: FabricLedger> Site<L> {
         let Some(book) = book else {
             return Err(VisitFault::NoEdge);
         };
-        match traveller.advance(book, moment) {
-            Ok(()) => {
-                pass.count(total, share, number);
-                Ok(())
-            }
-            Err(fault) => Err(fault),
-        }
+        traveller.advance(book, moment)?;
+        pass.count(total, share, number);
+        Ok(())
     }
 
     /// Visits of travellers that come here next, one after the other, each answered in its `fault`.
@@ -153,10 +149,7 @@ impl<L: FabricLedger> Site<L> {
         ensures chapter { result ≡ option_map chapter_of self.old }
         ensures after { self.new ≡ option_map after_cut self.old }
     {
-        match &mut self.book {
-            None => None,
-            Some(book) => Some(book.cut()),
-        }
+        Some(self.book.as_mut()?.cut())
     }
 
     /// Shuts the book: `NoEdge` where there is none, `TooLate` where no moment is left, with nothing changed.
