@@ -1,6 +1,7 @@
 -- What is said of a command, by what became of it.
 use Rattle.std.proofs.Common.{◌≡◌, ◌≢◌, ◌⊎◌, ℕ, List, ◌++◌, Option, None, Some, Result, Ok, Err, ap, ◌∙◌, inl, inr}
 use Rattle.std.specs.Prelude.{IfErr, IfOk, MatchResult, OnErr, OnOk}
+use Rattle.std.proofs.lemmas.Result.{on_err_weaker}
 use Rattle.ds_broker.specs.Books.{Book, contracts_in, held_of, with_command}
 use Rattle.ds_broker.specs.declared.command.Command.{Command}
 use Rattle.ds_broker.specs.declared.refusal.BrokerRefusal.{BrokerRefusal}
@@ -25,3 +26,19 @@ pub said_book : {T : Type 0} (b new : Book) (command : Command) (line : List ℕ
 said_book b new command line against (Ok v) kept free refused same answered = rw free kept
 said_book b new command line against (Err r) kept free (inl memory) same answered = absurd (answered memory)
 said_book b new command line against (Err r) kept free (inr stands) same answered = rw stands same
+
+-- the same where the line was written, if it was
+pub outcome_text : {T U E : Type 0} (r : Result U E) (b new own : Book) (command : Command) (line : T → List ℕ) (value : T) (against : Option BrokerRefusal)
+    (done : Result T BrokerRefusal) (old text : List ℕ) → IfOk done (λ v. v ≡ value) → OnOk done (against ≡ None)
+    → IfErr done (λ q. (q ≡ NoMemory) ⊎ (against ≡ Some q)) → OnErr done (new ≡ b) → own ≡ new
+    → OnOk r (MatchResult done (λ v. text ≡ old ++ line v) (λ q. text ≡ old ++ refused_line (contracts_in (held_of own)) q))
+    → OnOk r (IfErr done (λ q. q ≢ NoMemory)) → OnOk r (text ≡ old ++ (said_of b command (line value) against).text)
+outcome_text (Ok u) b new own command line value against done old text is free refused same shown written answered =
+    said_text b own command line value against done old text is free refused (on_err_weaker done (λ kept. shown ∙ kept) same) written answered
+outcome_text (Err e) b new own command line value against done old text is free refused same shown written answered = tt
+
+pub outcome_book : {T U E : Type 0} (r : Result U E) (b new : Book) (command : Command) (line : List ℕ) (against : Option BrokerRefusal) (done : Result T BrokerRefusal)
+    → OnOk done (new ≡ with_command b command) → OnOk done (against ≡ None) → IfErr done (λ q. (q ≡ NoMemory) ⊎ (against ≡ Some q)) → OnErr done (new ≡ b)
+    → OnOk r (IfErr done (λ q. q ≢ NoMemory)) → OnOk r (new ≡ (said_of b command line against).book)
+outcome_book (Ok u) b new command line against done kept free refused same answered = said_book b new command line against done kept free refused same answered
+outcome_book (Err e) b new command line against done kept free refused same answered = tt

@@ -32,10 +32,14 @@ abbrev pub said_of : Book → Command → List ℕ → Option BrokerRefusal → 
 said_of b command line None = record { text = line; book = with_command b command }
 said_of b command line (Some refusal) = only_said b (refused_line (contracts_in (held_of b)) refusal)
 
--- a contract that is offered is reserved; a name that none of them has is unknown
+-- a contract is reserved
+abbrev pub sold : Book → Contract → Said
+sold b c = said_of b (commands.Reserve c) (granted_line (grant_of b c)) (reserve_refusal b c)
+
+-- a contract that is offered is; a name that none of them has is unknown
 abbrev pub reserved : Book → Option Contract → Said
 reserved b None = only_said b (fault_line (kind_text kinds.UnknownName))
-reserved b (Some c) = said_of b (commands.Reserve c) (granted_line (grant_of b c)) (reserve_refusal b c)
+reserved b (Some c) = sold b c
 
 -- the contract of an id is released, or its share is given back
 abbrev pub released : Book → ℕ → ℕ → Said

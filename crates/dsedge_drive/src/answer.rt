@@ -14,7 +14,7 @@ use moment_core::Moment;
 use std::alloc::{AllocError, Global};
 
 /// Appends what was granted: `granted ID SERIAL SINCE`.
-pub(crate) fn push_granted(text: &mut Vec<u8>, grant: Grant) -> Result<(), AllocError>
+fn push_granted(text: &mut Vec<u8>, grant: Grant) -> Result<(), AllocError>
     ensures { OnOk result (text.new.items ≡ text.old.items ++ granted_line grant) }
 {
     text.extend_from_slice(b"granted")?;
@@ -23,6 +23,24 @@ pub(crate) fn push_granted(text: &mut Vec<u8>, grant: Grant) -> Result<(), Alloc
     push_figure(text, grant.since.get())?;
     text.push(b'\n')?;
     Ok(())
+}
+
+/// Appends what was granted, or why a book refused it. Want of memory is no answer: `AllocError`.
+pub(crate) fn push_sale(
+    alloc: Global,
+    text: &mut Vec<u8>,
+    book: &Book,
+    sale: Result<Grant, BrokerRefusal>,
+) -> Result<(), AllocError>
+    ensures line { OnOk result (MatchResult sale
+        (λ grant. text.new.items ≡ text.old.items ++ granted_line grant)
+        (λ refusal. text.new.items ≡ text.old.items ++ refused_line (contracts_in (held_of book.now)) refusal)) }
+    ensures answered { OnOk result (IfErr sale (λ refusal. refusal ≢ BrokerRefusal.NoMemory)) }
+{
+    match sale {
+        Ok(grant) => push_granted(text, grant),
+        Err(refusal) => push_refused(alloc, text, book, &refusal),
+    }
 }
 
 /// Appends what was done with the contract of an id: `released ID SERIAL` or `retired ID SERIAL`.
@@ -68,7 +86,7 @@ pub(crate) fn push_fault(text: &mut Vec<u8>, kind: &str) -> Result<(), AllocErro
 }
 
 /// Appends why a command is refused by a book. Want of memory is no answer: `AllocError`.
-pub(crate) fn push_refused(
+fn push_refused(
     alloc: Global,
     text: &mut Vec<u8>,
     book: &Book,
@@ -99,10 +117,18 @@ fn push_hold(text: &mut Vec<u8>, nanoseconds: u128) -> Result<(), AllocError>
     ensures { OnOk result (text.new.items
         ≡ text.old.items ++ refused_line [] (BrokerRefusal.HoldLeft nanoseconds)) }
 {
-    text.extend_from_slice(b"refused 9 HoldLeft ")?;
-    text.extend_from_slice(Buffer::new().format(nanoseconds).as_bytes())?;
+    text.extend_from_slice(b"refused 9 HoldLeft")?;
+    push_wide_figure(text, nanoseconds)?;
     text.push(b'\n')?;
     Ok(())
+}
+
+/// Appends a figure of up to 128 bits, behind a space.
+fn push_wide_figure(text: &mut Vec<u8>, number: u128) -> Result<(), AllocError>
+    ensures { OnOk result (text.new.items ≡ text.old.items ++ figure number) }
+{
+    text.push(b' ')?;
+    text.extend_from_slice(Buffer::new().format(number).as_bytes())
 }
 
 /// Appends a line for each contract that is held, or `none`.

@@ -1,9 +1,9 @@
 ghost use Rattle.std.specs.Prelude.{◌≡◌, ◌++◌, IfOk, OnOk, option_and_then, option_map, slice_get};
 ghost use Rattle.ds_broker.specs.Entries.{entries_of};
-ghost use Rattle.dsedge_drive.specs.Driven.{drive_from, opening_book, released, reserved, retired, said};
+ghost use Rattle.dsedge_drive.specs.Driven.{drive_from, opening_book, released, reserved, retired, said, sold};
 ghost use Rattle.dsedge_drive.specs.Sold.{list_text, look_line};
 
-use crate::answer::{push_fault, push_granted, push_list, push_outcome, push_refused, push_sight};
+use crate::answer::{push_fault, push_list, push_outcome, push_sale, push_sight};
 use crate::offers::Offers;
 use crate::request::{Request, asked};
 use crate::shop::Shop;
@@ -106,16 +106,27 @@ fn reserve<J: Naming, R: Wait + Drop>(
         ≡ text.old.items ++ (reserved shop.old (option_map (λ c. c.now) contract.entry)).text) }
     ensures book { OnOk result (shop.new ≡ (reserved shop.old (option_map (λ c. c.now) contract.entry)).book) }
 {
-    let Some(contract) = contract else {
-        return push_fault(text, kind_text(Kind::UnknownName));
-    };
-    let Ok(own) = contract.copy(alloc) else {
-        return Err(AllocError);
-    };
-    match shop.reserve(own) {
-        Ok(grant) => push_granted(text, grant),
-        Err(refusal) => push_refused(alloc, text, shop.book(), &refusal),
+    match contract {
+        None => push_fault(text, kind_text(Kind::UnknownName)),
+        Some(contract) => match contract.copy(alloc) {
+            Ok(own) => sell(alloc, shop, text, own),
+            Err(_) => Err(AllocError),
+        },
     }
+}
+
+/// Reserves a contract, and appends the answer.
+fn sell<J: Naming, R: Wait + Drop>(
+    alloc: Global,
+    shop: &mut Shop<J, R>,
+    text: &mut Vec<u8>,
+    contract: Contract,
+) -> Result<(), AllocError>
+    ensures text { OnOk result (text.new.items ≡ text.old.items ++ (sold shop.old contract).text) }
+    ensures book { OnOk result (shop.new ≡ (sold shop.old contract).book) }
+{
+    let sale = shop.reserve(contract);
+    push_sale(alloc, text, shop.book(), sale)
 }
 
 /// Releases the contract of an id, and appends the answer.
