@@ -61,7 +61,12 @@ fn capture(alloc: Global, parts: &[&[u8]]) -> Result<Vec<u8>, AllocError> {
 
 /// `mark` with words behind its files on a capture, over the domain of that contract with bursts and its least
 /// certificate.
-pub(crate) fn run_mark(alloc: Global, bursts: &str, words: &str, given: &[u8]) -> Result<Done, Fail> {
+pub(crate) fn run_mark(
+    alloc: Global,
+    bursts: &str,
+    words: &str,
+    given: &[u8],
+) -> Result<Done, Fail> {
     let contract = format!(in alloc; "{UDP}{bursts}")?;
     let domain = domain_text(alloc, (500_000, 0), 1_000_000, contract.as_str())?;
     let least = run_on_domain(alloc, "certify domain.toml", domain.as_str())?;
