@@ -16,7 +16,8 @@ pub fn advice_text(alloc: Global, advice: Advice) -> Result<Option<String>, Allo
             Ok(Some(format!(in alloc; "line {}: {}\n", place.line, place.fault)?))
         }
         Advice::Pcapng => {
-            let converted = "a classic capture is made of it by: editcap -F pcap IN.pcapng OUT.pcap\n";
+            let converted =
+                "a classic capture is made of it by: editcap -F pcap IN.pcapng OUT.pcap\n";
             Ok(Some(String::from_str(alloc, converted)?))
         }
     }

@@ -53,7 +53,10 @@ impl<'a> Screen<'a> {
 
     /// Writes a text to standard error. A failure is passed over.
     fn write(&self, text: &str) {
-        let _told = give_all(&mut WriteOutlet::new(self.runtime.stderr()), text.as_bytes());
+        let _told = give_all(
+            &mut WriteOutlet::new(self.runtime.stderr()),
+            text.as_bytes(),
+        );
     }
 }
 

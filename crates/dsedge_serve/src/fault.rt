@@ -86,7 +86,11 @@ impl Fault<'_> {
             }
             Fault::Domain(fault) => tell_domain(fault, faults),
             Fault::Certificate(place) => {
-                tell_line("dsedge: certificate ", certificate_text(place.fault), faults)
+                tell_line(
+                    "dsedge: certificate ",
+                    certificate_text(place.fault),
+                    faults,
+                )
             }
             Fault::Capture(fault) => tell_line("dsedge: capture ", capture_text(*fault), faults),
             Fault::Port(name) => tell_line("dsedge: port ", name.text(), faults),

@@ -1,7 +1,5 @@
 use crate::tables::contracts;
-use ds_certificate::{
-    Bound, Bounds, Certificate, CertificateFault, fault_line, make, read, write,
-};
+use ds_certificate::{Bound, Bounds, Certificate, CertificateFault, fault_line, make, read, write};
 use ds_domain::{Contract, parse};
 use std::alloc::Global;
 use std::process::Abort;
@@ -140,9 +138,15 @@ fn the_first_line_that_is_at_fault(rt: HostRuntime) -> Result<(), Fail> {
         ("dscert 1\n", 2),
         ("dscert 1\na 0 1 1\na 1 1 1", 4),
         ("dscert 1\na 0 1 1\na 2 1 1\na 2 1 1\n", 3),
-        ("dscert 1\na 0 1 1\na 1 1 1\na 2 1 1\nb 0 1 1000000000000001\n", 5),
+        (
+            "dscert 1\na 0 1 1\na 1 1 1\na 2 1 1\nb 0 1 1000000000000001\n",
+            5,
+        ),
         ("dscert 1\na 0 1 1\na 1 1 1\na 2 1 1\nb 0 1 1\nc 1 1 1\n", 6),
-        ("dscert 1\na 0 1 1\na 1 1 1\na 2 1 1\nb 0 1 1\nb 1 1 1\n\n", 7),
+        (
+            "dscert 1\na 0 1 1\na 1 1 1\na 2 1 1\nb 0 1 1\nb 1 1 1\n\n",
+            7,
+        ),
     ] {
         let found = fault_line(text.as_bytes(), contracts.as_slice());
         assert_eq!(rt; found, line, "{text}");
