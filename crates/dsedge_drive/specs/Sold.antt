@@ -21,8 +21,11 @@ done_line done id serial = done ++ figure id ++ figure serial ++ codes "\n"
 abbrev pub fault_line : List ℕ → List ℕ
 fault_line kind = codes "refused 1 " ++ kind ++ codes "\n"
 
--- Why a command is refused: the refusal's number and name; or the checker's line, for these contracts; or what is left
--- of a hold, in nanoseconds.
+-- how much of a hold is left, in nanoseconds
+abbrev pub hold_line : ℕ → List ℕ
+hold_line nanoseconds = codes "refused 9 HoldLeft" ++ figure nanoseconds ++ codes "\n"
+
+-- Why a command is refused: the refusal's number and name; or the checker's line, for these contracts.
 abbrev pub refused_line : List Contract → BrokerRefusal → List ℕ
 refused_line held (refusals.Contract fault) = fault_line (kind_text fault.kind)
 refused_line held refusals.TableFull = codes "refused 2 TableFull\n"
@@ -32,7 +35,7 @@ refused_line held refusals.AlreadyReleased = codes "refused 5 AlreadyReleased\n"
 refused_line held refusals.HistoryFull = codes "refused 6 HistoryFull\n"
 refused_line held refusals.NoMemory = codes "refused 7 NoMemory\n"
 refused_line held refusals.NotReleased = codes "refused 8 NotReleased\n"
-refused_line held (refusals.HoldLeft nanoseconds) = codes "refused 9 HoldLeft" ++ figure nanoseconds ++ codes "\n"
+refused_line held (refusals.HoldLeft nanoseconds) = hold_line nanoseconds
 
 -- the end of a contract, or `-` where it has none
 abbrev pub until_text : Option ℕ → List ℕ

@@ -1,9 +1,9 @@
 //! How a broker's answers are written.
-ghost use Rattle.std.specs.Prelude.{◌≡◌, ◌≢◌, ◌++◌, [], IfErr, MatchResult, OnOk, flat_map};
+ghost use Rattle.std.specs.Prelude.{◌≡◌, ◌≢◌, ◌++◌, IfErr, MatchResult, OnOk, flat_map};
 ghost use Rattle.ds_broker.specs.Books.{contracts_in, held_of};
 ghost use Rattle.dsedge_texts.specs.Wording.{figure};
-ghost use Rattle.dsedge_drive.specs.Sold.{done_line, entry_line, fault_line, granted_line, list_text, refused_line};
-ghost use Rattle.dsedge_drive.specs.Sold.{sight_line, until_text};
+ghost use Rattle.dsedge_drive.specs.Sold.{done_line, entry_line, fault_line, granted_line, hold_line, list_text};
+ghost use Rattle.dsedge_drive.specs.Sold.{refused_line, sight_line, until_text};
 
 use crate::sight::Sight;
 use ds_broker::{Book, BrokerRefusal, Entry, Grant, Serial};
@@ -114,8 +114,7 @@ fn push_refused(
 
 /// Appends how much of a hold is left: `refused 9 HoldLeft N`.
 fn push_hold(text: &mut Vec<u8>, nanoseconds: u128) -> Result<(), AllocError>
-    ensures { OnOk result (text.new.items
-        ≡ text.old.items ++ refused_line [] (BrokerRefusal.HoldLeft nanoseconds)) }
+    ensures { OnOk result (text.new.items ≡ text.old.items ++ hold_line nanoseconds) }
 {
     text.extend_from_slice(b"refused 9 HoldLeft")?;
     push_wide_figure(text, nanoseconds)?;
