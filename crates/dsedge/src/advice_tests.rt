@@ -50,8 +50,18 @@ cbs = 3000
 fn the_line_of_a_certificate_that_is_at_fault(rt: HostRuntime) -> Result<(), Fail> {
     let domain = domain_text(rt.alloc(), (500_000, 0), 1_000_000, TRUSTED)?;
     for (text, fault, line, told) in [
-        ("dscert 4\n", CertificateFault::Text, 1, "dsedge: certificate 1 Text\n"),
-        ("dscert 1\na 0 1 1\n", CertificateFault::Shape, 3, "dsedge: certificate 2 Shape\n"),
+        (
+            "dscert 4\n",
+            CertificateFault::Text,
+            1,
+            "dsedge: certificate 1 Text\n",
+        ),
+        (
+            "dscert 1\na 0 1 1\n",
+            CertificateFault::Shape,
+            3,
+            "dsedge: certificate 2 Shape\n",
+        ),
         (
             "dscert 1\na 0 1 1\na 1 1 1000000000000001\n",
             CertificateFault::Range,
@@ -60,8 +70,20 @@ fn the_line_of_a_certificate_that_is_at_fault(rt: HostRuntime) -> Result<(), Fai
         ),
     ] {
         let words = "check domain.toml domain.cert";
-        let done = run_on_table(&rt, rt.alloc(), words, domain.as_str(), text.as_bytes(), b"")?;
-        expect(&rt, &done, told, Advice::Certificate(FaultyLine { fault, line }));
+        let done = run_on_table(
+            &rt,
+            rt.alloc(),
+            words,
+            domain.as_str(),
+            text.as_bytes(),
+            b"",
+        )?;
+        expect(
+            &rt,
+            &done,
+            told,
+            Advice::Certificate(FaultyLine { fault, line }),
+        );
     }
     Ok(())
 }

@@ -3,13 +3,13 @@
 
 #[cfg(test)]
 mod advice_tests;
+mod advising;
 #[cfg(test)]
 mod drive_tests;
 #[cfg(test)]
 mod excess_tests;
 #[cfg(test)]
 mod mark_tests;
-mod advising;
 mod screen;
 mod start;
 #[cfg(test)]
@@ -76,7 +76,11 @@ fn advise(rt: &HostRuntime, advice: Advice) {
 
 /// Runs the program, under the eye of a watch, if there is one.
 fn run<W: Wait>(rt: &HostRuntime, waiting: &W, watch: Option<&Screen<'_>>) -> Ended {
-    let beside = if rt.stdout().is_terminal() { watch } else { None };
+    let beside = if rt.stdout().is_terminal() {
+        watch
+    } else {
+        None
+    };
     let mut faults = WatchedOutlet::new(WriteOutlet::new(rt.stderr()), watch);
     match given_words(rt) {
         Ok(words) => start(
