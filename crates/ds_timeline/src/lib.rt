@@ -4,5 +4,7 @@
 
 pub mod laws;
 pub mod reservation;
+pub mod timeline;
 
 pub use reservation::Reservation;
+pub use timeline::Timeline;

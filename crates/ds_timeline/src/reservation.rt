@@ -1,3 +1,6 @@
+ghost use Rattle.std.specs.Prelude.{◌≡◌};
+ghost use Rattle.ds_timeline.specs.Timelines.{is_reserved};
+
 use ds_certificate::Bounds;
 use ds_domain_base::Contract;
 use moment_core::Moment;
@@ -15,4 +18,13 @@ pub struct Reservation {
     pub from: Moment,
     /// At which moment it was retired, if it was: from then on its share is free.
     pub retirement: Option<Moment>,
+}
+
+impl Reservation {
+    /// Whether its share is reserved at a moment: from its first one on, until before its retirement.
+    pub fn is_reserved(&self, moment: Moment) -> bool
+        ensures { result ≡ is_reserved self.now moment }
+    {
+        self.from <= moment && self.retirement.is_none_or(|retirement| moment < retirement)
+    }
 }
