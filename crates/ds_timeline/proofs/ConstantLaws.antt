@@ -28,7 +28,7 @@ all-reserved flow (c ∷ contracts) [] moment = refl
 all-reserved flow (c ∷ contracts) (bounds ∷ rows) moment =
     rw (first-least moment) (ap (λ rest. constant flow c bounds ∷ rest) (all-reserved (suc flow) contracts rows moment))
 
-contracts-same : (R : Contract → List Bound → Type 0) (flow : ℕ) (contracts : List Contract) (rows : List (List Bound)) → AllZip R contracts rows
+pub contracts-same : (R : Contract → List Bound → Type 0) (flow : ℕ) (contracts : List Contract) (rows : List (List Bound)) → AllZip R contracts rows
     → map (λ r. r.contract) (reserved_from flow contracts rows) ≡ contracts
 unfolding reserved_from
 contracts-same R flow [] [] each = refl
@@ -36,7 +36,7 @@ contracts-same R flow [] (bounds ∷ rows) each = absurd each
 contracts-same R flow (c ∷ contracts) [] each = absurd each
 contracts-same R flow (c ∷ contracts) (bounds ∷ rows) each = ap (λ rest. c ∷ rest) (contracts-same R (suc flow) contracts rows each.1)
 
-bounds-same : (R : Contract → List Bound → Type 0) (flow : ℕ) (contracts : List Contract) (rows : List (List Bound)) → AllZip R contracts rows
+pub bounds-same : (R : Contract → List Bound → Type 0) (flow : ℕ) (contracts : List Contract) (rows : List (List Bound)) → AllZip R contracts rows
     → map (λ r. r.bounds) (reserved_from flow contracts rows) ≡ rows
 unfolding reserved_from
 bounds-same R flow [] [] each = refl
@@ -63,7 +63,7 @@ each-constant P flow (c ∷ contracts) [] holds = tt
 each-constant P flow (c ∷ contracts) (bounds ∷ rows) holds =
     (holds flow c bounds (omega arith), each-constant P (suc flow) contracts rows (λ number d more later. holds number d more (omega (arith, later))))
 
-all-constant : (P : Reservation → Type 0) (flow : ℕ) (contracts : List Contract) (rows : List (List Bound))
+pub all-constant : (P : Reservation → Type 0) (flow : ℕ) (contracts : List Contract) (rows : List (List Bound))
     → ((number : ℕ) (c : Contract) (bounds : List Bound) → flow ≤ number → P (constant number c bounds))
     → All P (reserved_from flow contracts rows)
 all-constant P flow contracts rows holds = All-from_recursion P (reserved_from flow contracts rows) (each-constant P flow contracts rows holds)

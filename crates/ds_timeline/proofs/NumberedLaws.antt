@@ -1,21 +1,11 @@
 -- Where flows count up, each is at its place, and they differ.
-use Rattle.std.proofs.Common.{◌≡◌, ◌≤◌, ◌<◌, ◌+◌, ℕ, zero, suc, true, false, List, [], ◌∷◌, ◌++◌, Option, None, Some, refl, sym, ap, ◌∙◌, arith}
+use Rattle.std.proofs.Common.{◌≡◌, ◌≤◌, ◌<◌, ◌+◌, ℕ, zero, suc, true, false, List, [], ◌∷◌, ◌++◌, Option, None, Some, refl, sym, ap, subst, ◌∙◌, arith}
 use Rattle.std.specs.Prelude.{All, AllPairs, find, length, nat_eq, slice_get}
 use Rattle.std.specs.List.{AllByRecursion}
 use Rattle.std.proofs.lemmas.List.Elements.{All-from_recursion}
 use Rattle.std.proofs.lemmas.List.Kept.{AllPairs-cons}
 use Rattle.ds_timeline.specs.Kept.{IsNumbered}
 use Rattle.ds_timeline.specs.declared.reservation.Reservation.{Reservation}
-
--- no flow is below the first
-pub numbered-least : (number : ℕ) (rs : List Reservation) → IsNumbered number rs → AllByRecursion (λ r. number ≤ r.flow) rs
-unfolding IsNumbered
-numbered-least number rs numbered = least number number rs (omega arith) numbered
-  where
-    least : (low number : ℕ) (rs : List Reservation) → low ≤ number → IsNumbered number rs → AllByRecursion (λ r. low ≤ r.flow) rs
-    unfolding IsNumbered
-    least low number [] below numbered = tt
-    least low number (r ∷ rs) below numbered = (omega (arith, below, numbered.0), least low (suc number) rs (omega (arith, below)) numbered.1)
 
 above-apart : (flow number : ℕ) (rs : List Reservation) → flow < number → IsNumbered number rs → AllByRecursion (λ s. ¬ (flow ≡ s.flow)) rs
 unfolding IsNumbered
@@ -38,7 +28,7 @@ found-at number zero (r ∷ rs) numbered = let here : nat_eq r.flow (number + 0)
 found-at number (suc place) (r ∷ rs) numbered =
     let other : nat_eq r.flow (number + suc place) ≡ false = grind (arith, numbered.0) in
     let next : number + suc place ≡ suc number + place = omega arith in
-    rw other (rw next (found-at (suc number) place rs numbered.1))
+    rw other (subst (λ n. find (λ x. nat_eq x.flow n) rs ≡ slice_get rs place) (sym next) (found-at (suc number) place rs numbered.1))
 
 pub numbered-found : (flow : ℕ) (rs : List Reservation) → IsNumbered 0 rs → find (λ r. nat_eq r.flow flow) rs ≡ slice_get rs flow
 numbered-found flow rs numbered = let same : 0 + flow ≡ flow = omega arith in ap (λ n. find (λ r. nat_eq r.flow n) rs) (sym same) ∙ found-at 0 flow rs numbered
