@@ -1,4 +1,4 @@
-ghost use Rattle.std.specs.Prelude.{◌≡◌, ◌≤◌, length, option_copied};
+ghost use Rattle.std.specs.Prelude.{◌≡◌, ◌≤◌, length, option_copied, slice_get};
 ghost use Rattle.ds_timeline.specs.Kept.{IsNumbered, IsTimeline};
 ghost use Rattle.ds_timeline.specs.Timelines.{IsCovered, reservation_of};
 
@@ -64,6 +64,13 @@ impl Timeline {
     pub fn reservation(&self, flow: u32) -> Option<&Reservation>
         ensures { option_copied result ≡ reservation_of self.now flow }
     {
-        self.reservations.get(flow as usize)
+        at_flow(self.reservations.as_slice(), flow)
     }
+}
+
+/// The one at the place of a flow, if there is one.
+fn at_flow(reservations: &[Reservation], flow: u32) -> Option<&Reservation>
+    ensures { option_copied result ≡ slice_get reservations.now flow }
+{
+    reservations.get(flow as usize)
 }
