@@ -1,6 +1,7 @@
 -- What the fields of a book keep is kept by each command.
-use Rattle.std.proofs.Common.{◌≡◌, ◌<◌, ◌+◌, ℕ, Bool, true, false, List, [], ◌∷◌, ◌++◌, Some, refl, sym, ap, subst, ◌∙◌, arith}
+use Rattle.std.proofs.Common.{◌≡◌, ◌<◌, ◌+◌, ℕ, Bool, true, false, List, [], ◌∷◌, ◌++◌, None, Some, refl, sym, ap, subst, ◌∙◌, arith}
 use Rattle.std.specs.Prelude.{length, max, nat_eq, nat_le, slice_get}
+use Rattle.std.proofs.Common.{append-nil, append_assoc}
 use Rattle.std.specs.List.{list_any, remove}
 use Rattle.std.specs.Str.{bytes_eq}
 use Rattle.std.proofs.lemmas.List.{map-append, length-append}
@@ -14,7 +15,9 @@ use Rattle.ds_checker.specs.Changes.{with_lifetime, without_contract}
 use Rattle.ds_broker.specs.Books.{Book, held_of, is_history_full, table_in, table_with}
 use Rattle.ds_broker.specs.Found.{IsFound}
 use Rattle.ds_broker.specs.Histories.{Holding, after, begun, ended, opening, standing_of, with_released, with_retired}
-use Rattle.ds_broker.specs.Kept.{IsBook, book_of, held_in, ids_in, names_in}
+use Rattle.ds_broker.specs.Kept.{IsBook, book_of, held_in, ids_in, names_in, opened_as}
+use Rattle.ds_broker.specs.Refusals.{refusal_in}
+use Rattle.ds_broker.specs.Requests.{AreUnrefused}
 use Rattle.ds_broker.specs.declared.book.Book.TheInside as book
 use Rattle.ds_broker.specs.declared.command.Command.{Command}
 use Rattle.ds_broker.specs.declared.command.Command.TheVariants.{Reserve, Release, Retire}
@@ -39,7 +42,28 @@ held-length held h = length-append held (h ∷ [])
 insert-name : (name : List ℕ) (names : List (List ℕ)) → list_any (bytes_eq name) names ≡ false → insert_key bytes_eq names name ≡ names ++ name ∷ []
 insert-name name names new = rw new refl
 
-pub kept-reserved : (old new : book.Inside) (c : Contract) → IsBook old → IsPassed (book_of old) c → length old.history.items < 65536
+-- nothing stood against one command more
+AreUnrefused-push : (b : Book) (commands : List Command) (command : Command) → AreUnrefused b commands → refusal_in (record b { history = b.history ++ commands }) command ≡ None
+    → AreUnrefused b (commands ++ command ∷ [])
+unfolding AreUnrefused
+AreUnrefused-push b [] command unrefused none = (subst (λ history. refusal_in (record b { history = history }) command ≡ None) (append-nil b.history) none, tt)
+AreUnrefused-push b (first ∷ commands) command unrefused none = (
+  unrefused.0,
+  AreUnrefused-push (record b { history = b.history ++ first ∷ [] }) commands command unrefused.1
+      (subst (λ history. refusal_in (record b { history = history }) command ≡ None) (sym (append_assoc b.history (first ∷ []) commands)) none),
+)
+
+unrefused-more : (old new : book.Inside) (command : Command) → AreUnrefused (opened_as old) old.history.items → refusal_in (book_of old) command ≡ None
+    → new.table.domain ≡ old.table.domain → new.limits ≡ old.limits → new.history.items ≡ old.history.items ++ command ∷ []
+    → AreUnrefused (opened_as new) new.history.items
+unrefused-more old new command unrefused none domain limits history =
+    let opened : opened_as old ≡ opened_as new =
+    ap (λ d. record { domain = d; limits = old.limits; history = [] }) (sym domain) ∙ ap (λ l. record { domain = new.table.domain; limits = l; history = [] }) (sym limits) in
+    subst (λ b. AreUnrefused b new.history.items) opened
+    (subst (AreUnrefused (opened_as old)) (sym history) (AreUnrefused-push (opened_as old) old.history.items command unrefused none))
+
+pub kept-reserved : (old new : book.Inside) (c : Contract) → IsBook old → IsPassed (book_of old) c → refusal_in (book_of old) (Reserve c) ≡ None
+    → length old.history.items < 65536
     → new.table ≡ table_with new.newest c old.table
     → IsAcceptable new.table
     → new.ids.entries ≡ insert_entry nat_eq old.ids.entries new.granted false
@@ -49,7 +73,7 @@ pub kept-reserved : (old new : book.Inside) (c : Contract) → IsBook old → Is
     → new.newest ≡ max old.newest c.lifetime.since
     → new.history.items ≡ old.history.items ++ Reserve c ∷ []
     → IsBook new
-kept-reserved old new c kept passed short table acceptable ids names limits granted newest history =
+kept-reserved old new c kept passed none short table acceptable ids names limits granted newest history =
     let s = standing_of old.history.items in
     let d = old.table.domain in
     let next : Holding = record { id = s.granted + 1; contract = begun s.newest c; released = false } in
@@ -72,10 +96,11 @@ kept-reserved old new c kept passed short table acceptable ids names limits gran
       room = omega (arith, ap (λ l. l.table) limits, (let count : length (held_in new) ≡ length (s.held ++ next ∷ []) = ap (λ x. length x.held) st in count), held-length s.held next, below old.limits.table (length s.held) passed.table);
       accepted = rw (limits, history) (omega (arith, pushed-length old.history.items (Reserve c), below old.limits.history (length old.history.items) passed.history));
       short = rw history (omega (arith, pushed-length old.history.items (Reserve c), short));
+      unrefused = unrefused-more old new (Reserve c) kept.unrefused none (ap (λ t. t.domain) table) limits history;
     }
 
 pub kept-released : (old new : book.Inside) (id at place : ℕ) (released : Bool) (lifetime : Span) (b : Book) → book_of old ≡ b → IsBook old
-    → (found : IsFound id (held_of b) place released) → is_history_full b ≡ false → length b.history < 65536
+    → (found : IsFound id (held_of b) place released) → refusal_in b (Release id at) ≡ None → is_history_full b ≡ false → length b.history < 65536
     → lifetime ≡ (ended new.newest found.holding.contract).lifetime
     → new.table ≡ with_lifetime old.table place lifetime
     → IsAcceptable new.table
@@ -86,7 +111,7 @@ pub kept-released : (old new : book.Inside) (id at place : ℕ) (released : Bool
     → new.newest ≡ max old.newest at
     → new.history.items ≡ old.history.items ++ Release id at ∷ []
     → IsBook new
-kept-released old new id at place released lifetime b view kept found full short ended_so table acceptable ids names limits granted newest history =
+kept-released old new id at place released lifetime b view kept found none full short ended_so table acceptable ids names limits granted newest history =
     let s = standing_of old.history.items in
     let d = old.table.domain in
     let here : IsFound id s.held place released = subst (λ x. IsFound id (held_of x) place released) (sym view) found in
@@ -109,10 +134,11 @@ kept-released old new id at place released lifetime b view kept found full short
       room = omega (arith, ap (λ l. l.table) limits, (let count : length (held_in new) ≡ length (with_released id m s.held) = ap (λ x. length x.held) st in count), length-released id m s.held, kept.room);
       accepted = rw (limits, history) (omega (arith, pushed-length old.history.items (Release id at), below old.limits.history (length old.history.items) long));
       short = rw history (omega (arith, pushed-length old.history.items (Release id at), short, count));
+      unrefused = unrefused-more old new (Release id at) kept.unrefused (ap (λ x. refusal_in x (Release id at)) view ∙ none) (ap (λ t. t.domain) table) limits history;
     }
 
 pub kept-retired : (old new : book.Inside) (id at place : ℕ) (released : Bool) (b : Book) → book_of old ≡ b → IsBook old
-    → IsFound id (held_of b) place released → is_history_full b ≡ false → length b.history < 65536
+    → IsFound id (held_of b) place released → refusal_in b (Retire id at) ≡ None → is_history_full b ≡ false → length b.history < 65536
     → new.table ≡ without_contract old.table place
     → IsAcceptable new.table
     → new.ids.entries ≡ remove old.ids.entries place
@@ -122,7 +148,7 @@ pub kept-retired : (old new : book.Inside) (id at place : ℕ) (released : Bool)
     → new.newest ≡ max old.newest at
     → new.history.items ≡ old.history.items ++ Retire id at ∷ []
     → IsBook new
-kept-retired old new id at place released b view kept found full short table acceptable ids names limits granted newest history =
+kept-retired old new id at place released b view kept found none full short table acceptable ids names limits granted newest history =
     let s = standing_of old.history.items in
     let d = old.table.domain in
     let here : IsFound id s.held place released = subst (λ x. IsFound id (held_of x) place released) (sym view) found in
@@ -143,11 +169,12 @@ kept-retired old new id at place released b view kept found full short table acc
       room = omega (arith, ap (λ l. l.table) limits, (let count : length (held_in new) ≡ length (with_retired id s.held) = ap (λ x. length x.held) st in count), length-retired id s.held, kept.room);
       accepted = rw (limits, history) (omega (arith, pushed-length old.history.items (Retire id at), below old.limits.history (length old.history.items) long));
       short = rw history (omega (arith, pushed-length old.history.items (Retire id at), short, count));
+      unrefused = unrefused-more old new (Retire id at) kept.unrefused (ap (λ x. refusal_in x (Retire id at)) view ∙ none) (ap (λ t. t.domain) table) limits history;
     }
 
 pub kept-opened : (i : book.Inside) (d : Domain) → i.table ≡ record { domain = d; contracts = []; certificate = [] } → IsAcceptable i.table
     → i.ids.entries ≡ [] → i.names.keys ≡ [] → i.granted ≡ 0 → i.newest ≡ 0 → i.history.items ≡ [] → IsBook i
-unfolding standing_of
+unfolding standing_of AreUnrefused
 kept-opened i d table acceptable ids names granted newest history =
     let st : standing_of i.history.items ≡ opening = ap standing_of history in
     let length_is : length i.history.items ≡ 0 = ap length history in
@@ -161,4 +188,5 @@ kept-opened i d table acceptable ids names granted newest history =
       room = omega (arith, (let count : length (held_in i) ≡ 0 = ap (λ s. length s.held) st in count));
       accepted = omega (arith, length_is);
       short = omega (arith, length_is);
+      unrefused = subst (AreUnrefused (opened_as i)) (sym history) tt;
     }

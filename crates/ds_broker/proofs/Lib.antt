@@ -1,9 +1,12 @@
 pub mod BookLaws
+pub mod CoveredLaws
 pub mod HoldingLaws
 pub mod HopelessLaws
 pub mod KeptLaws
 pub mod NextLaws
+pub mod PastLaws
 pub mod RefusalLaws
 pub mod RequestLaws
 pub mod StandingLaws
 pub mod TableLaws
+pub mod TakingLaws

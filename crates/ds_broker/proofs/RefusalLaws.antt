@@ -1,5 +1,5 @@
 -- What stands against a command, test by test.
-use Rattle.std.proofs.Common.{◌≡◌, ◌≤◌, ℕ, Bool, true, false, Option, None, Some, Result, Ok, Err, refl, sym, arith}
+use Rattle.std.proofs.Common.{◌≡◌, ◌≤◌, ℕ, Bool, true, false, Option, None, Some, Result, Ok, Err, refl, sym, ap, ◌∙◌, arith}
 use Rattle.std.specs.Prelude.{MatchResult, nat_lt, if◌then◌else◌}
 use Rattle.std.specs.Result.{result_err}
 use Rattle.ds_domain_base.specs.Faults.{fault_at}
@@ -11,7 +11,8 @@ use Rattle.ds_domain_base.specs.declared.fault.Kind.TheVariants as kinds
 use Rattle.ds_domain_base.specs.declared.fault.Section.TheVariants as sections
 use Rattle.ds_domain_base.specs.declared.fault.Field.TheVariants as fields
 use Rattle.ds_broker.specs.Books.{Book, held_of, is_held, is_history_full, is_table_full, moment_in}
-use Rattle.ds_broker.specs.Refusals.{contract_fault, ends_early, fault_or, room_refusal}
+use Rattle.ds_broker.specs.Found.{IsFound}
+use Rattle.ds_broker.specs.Refusals.{contract_fault, ends_early, fault_or, free_from, release_refusal, release_refusal_at, retire_refusal, retire_refusal_at, room_refusal}
 use Rattle.ds_broker.specs.declared.refusal.BrokerRefusal.TheVariants.{HistoryFull, TableFull}
 
 pub fault-twice : (b : Book) (c : Contract) → is_held c.name (held_of b) ≡ true → contract_fault b c ≡ Some (fault_at kinds.Twice sections.Contract 0 fields.Name)
@@ -67,3 +68,16 @@ ordered since None is = λ last some. absurd (none-last last some)
     none-last : (last : ℕ) → None ≡ Some last → ⊥
     none-last last some = cc
 ordered since (Some end) is = λ last some. let same : end ≡ last = cc in omega (arith, above since end is, same)
+
+-- what is held under an id is released, or retired, where each test is passed
+pub release-passed : (b : Book) (id place : ℕ) (released : Bool) → IsFound id (held_of b) place released → released ≡ false → is_history_full b ≡ false → release_refusal b id ≡ None
+release-passed b id place released found not_yet full =
+    let is : found.holding.released ≡ false = found.is_released ∙ not_yet in
+    ap (release_refusal_at b) found.found ∙ rw (is, full) refl
+
+pub retire-passed : (b : Book) (id moment place : ℕ) (released : Bool) → (found : IsFound id (held_of b) place released) → released ≡ true → is_history_full b ≡ false
+    → free_from b.domain found.holding.contract ≤ moment_in b moment → retire_refusal b id moment ≡ None
+retire-passed b id moment place released found done full free =
+    let is : found.holding.released ≡ true = found.is_released ∙ done in
+    let over : nat_lt (moment_in b moment) (free_from b.domain found.holding.contract) ≡ false = grind (arith, free) in
+    ap (retire_refusal_at b moment) found.found ∙ rw (is, full) (rw over refl)

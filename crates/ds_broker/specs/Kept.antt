@@ -1,12 +1,21 @@
 -- What the fields of a book stand for, and what they keep.
-use Rattle.std.specs.Prelude.{ℕ, Bool, ◌≡◌, ◌≤◌, List, length, map}
+use Rattle.std.specs.Prelude.{ℕ, Bool, ◌≡◌, ◌<◌, ◌≤◌, List, [], length, map, None}
+use Rattle.ds_domain_base.specs.Domains.{Domain}
 use Rattle.ds_checker.specs.Acceptance.{IsAcceptable}
-use Rattle.ds_broker.specs.Books.{Book, table_in}
+use Rattle.ds_broker.specs.Books.{Book, Limits, table_in}
 use Rattle.ds_broker.specs.Histories.{Holding, standing_of}
+use Rattle.ds_broker.specs.Refusals.{refusal_in}
+use Rattle.ds_broker.specs.Requests.{AreUnrefused}
+use Rattle.ds_broker.specs.Timelines.{Past, past_of}
+use Rattle.ds_broker.specs.declared.command.Command.{Command}
 use Rattle.ds_broker.specs.declared.book.Book.TheInside as book
 
 abbrev pub book_of : book.Inside → Book
 book_of b = record { domain = b.table.domain; limits = b.limits; history = b.history.items }
+
+-- as it was before its first command
+abbrev pub opened_as : book.Inside → Book
+opened_as b = record (book_of b) { history = [] }
 
 -- ids, with whether they are released, and names, in order of admission
 abbrev pub ids_in : List Holding → List (ℕ × Bool)
@@ -20,7 +29,7 @@ held_in b = (standing_of b.history.items).held
 
 -- The table is that of the history, with the least certificate, and acceptable. Ids and names are of what the history
 -- holds; the number of grants and the newest moment are its own; and neither what is held nor the history is longer than
--- its limit.
+-- its limit. When its turn came, nothing stood against any command of its history.
 pub record IsBook (b : book.Inside) : Type 0 where
   pub table : b.table ≡ table_in b.table.domain (held_in b)
   pub acceptable : IsAcceptable b.table
@@ -31,3 +40,18 @@ pub record IsBook (b : book.Inside) : Type 0 where
   pub room : length (held_in b) ≤ b.limits.table
   pub accepted : length b.history.items ≤ b.limits.history
   pub short : length b.history.items ≤ 65536
+  pub unrefused : AreUnrefused (opened_as b) b.history.items
+
+-- commands that a book of a domain accepted, one after the other, from the first on
+pub record IsAccepted (d : Domain) (history : List Command) : Type 0 where
+  pub limits : Limits
+  pub unrefused : AreUnrefused (record { domain = d; limits = limits; history = [] }) history
+  pub short : length history ≤ 65536
+
+-- what was granted so far is what a book granted, which accepts a command next
+pub record IsNext (d : Domain) (p : Past) (command : Command) : Type 0 where
+  pub book : Book
+  pub domain : book.domain ≡ d
+  pub past : p ≡ past_of book.domain book.history
+  pub unrefused : refusal_in book command ≡ None
+  pub short : length book.history < 65536

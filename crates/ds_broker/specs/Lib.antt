@@ -6,3 +6,4 @@ pub mod Histories
 pub mod Kept
 pub mod Refusals
 pub mod Requests
+pub mod Timelines

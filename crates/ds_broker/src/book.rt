@@ -11,7 +11,7 @@ ghost use Rattle.ds_broker.specs.Books.{held_of, holding_of, is_history_full, mo
 ghost use Rattle.ds_broker.specs.Books.{table_of, table_with, with_command};
 ghost use Rattle.ds_broker.specs.Entries.{entries_of, entry_in, grant_of, next_serial, room_of, told_of};
 ghost use Rattle.ds_broker.specs.Found.{IsFound};
-ghost use Rattle.ds_broker.specs.Histories.{Holding, end_by, ended};
+ghost use Rattle.ds_broker.specs.Histories.{Holding, beginning, end_by, ended};
 ghost use Rattle.ds_broker.specs.Refusals.{contract_fault, ends_early, free_from, release_refusal};
 ghost use Rattle.ds_broker.specs.Refusals.{reserve_refusal, retire_refusal, room_refusal};
 
@@ -28,6 +28,7 @@ use std::alloc::{AllocError, Global};
 use std::marker::Model;
 
 mod next;
+mod past;
 
 pub use next::Next;
 
@@ -339,9 +340,7 @@ impl Book {
         ensures { (h : Holding) → slice_get (held_of self.now) place ≡ Some h →
             result ≡ (ended moment h.contract).lifetime }
     {
-        let lifetime = self.table.contracts()[place].lifetime;
-        let until = end_by(moment, lifetime.until());
-        Lifetime::new(lifetime.since(), Some(until)).unwrap()
+        ended(self.table.contracts()[place].lifetime, moment)
     }
 
     /// How much of the hold of the contract at a place is left at a moment, in nanoseconds; 0 where it has passed. The
@@ -374,6 +373,15 @@ fn end_by(moment: Moment, until: Option<Moment>) -> Moment
         Some(end) => end.min(moment),
         None => moment,
     }
+}
+
+/// A lifetime that ends at a moment at the latest.
+fn ended(lifetime: Lifetime, moment: Moment) -> Lifetime
+    requires { lifetime.since ≤ moment }
+    ensures { result ≡ record { since = lifetime.since; until = Some (end_by moment lifetime.until) } }
+{
+    let until = end_by(moment, lifetime.until());
+    Lifetime::new(lifetime.since(), Some(until)).unwrap()
 }
 
 /// The end of a lifetime, in nanoseconds; 0 where it has none.
@@ -437,6 +445,18 @@ fn make_room(
     Ok(())
 }
 
+/// The same contract, to begin at a moment; `AllocError` where memory runs out.
+fn begun(alloc: Global, contract: &Contract, since: Moment) -> Result<Contract, AllocError>
+    requires { IsInOrder since contract.now.lifetime.until }
+    ensures { IfOk result (λ begun. begun ≡ beginning since contract.now) }
+{
+    let Ok(mut begun) = contract.copy(alloc) else {
+        return Err(AllocError);
+    };
+    begun.lifetime = Lifetime::new(since, contract.lifetime.until()).unwrap();
+    Ok(begun)
+}
+
 /// Takes a contract up in a table, to begin at a moment, with its least bounds. The table is unchanged where it is
 /// refused: by the checker, or where memory runs out.
 fn admit(
@@ -453,10 +473,9 @@ fn admit(
     ensures refused { IfErr result (λ refusal. (refusal ≡ BrokerRefusal.NoMemory)
         ⊎ (option_map BrokerRefusal.Checker (refusal_of (table_with since contract.now table.old)) ≡ Some refusal)) }
 {
-    let Ok(mut begun) = contract.copy(alloc) else {
+    let Ok(begun) = begun(alloc, contract, since) else {
         return Err(BrokerRefusal::NoMemory);
     };
-    begun.lifetime = Lifetime::new(since, contract.lifetime.until()).unwrap();
     let Ok(bounds) = bounds_of(alloc, table.domain(), &begun) else {
         return Err(BrokerRefusal::NoMemory);
     };

@@ -1,12 +1,14 @@
 //! The laws of a broker's book, each proved as the contract of a function that does nothing.
-ghost use Rattle.std.specs.Prelude.{◌≡◌, List, Some};
+ghost use Rattle.std.specs.Prelude.{◌≡◌, [], List, Some};
 ghost use Rattle.ds_certificate.specs.Columns as columns;
 ghost use Rattle.ds_checker.specs.Acceptance.{IsAcceptable};
 ghost use Rattle.ds_checker.specs.declared.refusal.Refusal as refusals;
 ghost use Rattle.ds_domain_base.specs.declared.contract.Contract as contracts;
+ghost use Rattle.ds_timeline.specs.Timelines.{IsCovered};
 ghost use Rattle.ds_broker.specs.Books.{Book, table_of, with_command};
 ghost use Rattle.ds_broker.specs.Refusals.{reserve_refusal};
-ghost use Rattle.ds_broker.specs.Requests.{IsFoldOfAccepted, LeadsTo};
+ghost use Rattle.ds_broker.specs.Requests.{AreUnrefused, IsFoldOfAccepted, LeadsTo};
+ghost use Rattle.ds_broker.specs.Timelines.{timeline_of};
 ghost use Rattle.ds_broker.specs.declared.command.Command as commands;
 ghost use Rattle.ds_broker.specs.declared.command.Command.TheVariants.{Reserve};
 ghost use Rattle.ds_broker.specs.declared.refusal.BrokerRefusal.TheVariants.{Checker};
@@ -23,4 +25,11 @@ pub fn a_contract_that_the_checker_refuses_has_no_certificate()
 pub fn a_book_is_the_fold_of_what_it_accepted()
     ensures { (b : Book) (asked : List commands.Command) (end : Book) →
         LeadsTo b asked end → IsFoldOfAccepted b asked end }
+{}
+
+/// What was granted by commands against which nothing stood is covered: at any moment what was reserved then was
+/// acceptable, and no share was given away before its hold had passed.
+pub fn what_was_granted_is_covered()
+    ensures { (b : Book) (accepted : List commands.Command) → b.history ≡ [] → AreUnrefused b accepted →
+        IsCovered (timeline_of (record b { history = accepted })) }
 {}

@@ -1,6 +1,7 @@
 //! What a desk answers: each answer beside the history that it rests on.
 use crate::log::{Front, Naming};
 use ds_broker::{BrokerRefusal, Grant, Serial};
+use ds_timeline::Timeline;
 
 /// What a contract was granted as.
 #[derive(Drop)]
@@ -26,5 +27,14 @@ pub struct Refused<J: Naming> {
     /// The refusal.
     pub refusal: BrokerRefusal,
     /// The history that it rests on.
+    pub front: Front<J>,
+}
+
+/// Every contract that a desk ever granted.
+#[derive(Drop)]
+pub struct Told<J: Naming> {
+    /// Each with what became of it.
+    pub timeline: Timeline,
+    /// The history that it is the timeline of.
     pub front: Front<J>,
 }

@@ -2,14 +2,16 @@
 ghost use Rattle.std.specs.Prelude.{◌≡◌, ◌⊎◌, ◌∷◌, ◌++◌, [], List, None, Some, IfErr, IfOk};
 ghost use Rattle.ds_broker.specs.Entries.{grant_of, next_serial};
 ghost use Rattle.ds_broker.specs.Refusals.{release_refusal, reserve_refusal, retire_refusal};
+ghost use Rattle.ds_broker.specs.Timelines.{timeline_behind};
 ghost use Rattle.ds_broker.specs.declared.command.Command as commands;
 ghost use Rattle.ds_desk.specs.Histories.{book_behind};
 
-use crate::answer::{Done, Granted, Refused};
+use crate::answer::{Done, Granted, Refused, Told};
 use crate::desk::Desk;
 use crate::log::Naming;
 use ds_domain_base::Contract;
 use moment_core::Moment;
+use std::alloc::{AllocError, Global};
 use std::sync::{Mutex, Wait};
 
 /// A broker: a desk under a lock. Its feeds take no lock.
@@ -72,5 +74,13 @@ impl<J: Naming, R: Wait + Drop> Broker<J, R> {
             ⊎ (retire_refusal (book_behind J.opening refused.front) id moment ≡ Some refused.refusal)) }
     {
         self.desk.lock(rt).retire(id, moment)
+    }
+
+    /// Every contract that it ever granted, beside the history that this is told of; `AllocError` where memory runs
+    /// out. Commands wait meanwhile.
+    pub fn timeline<W: Wait>(&self, rt: &W, alloc: Global) -> Result<Told<J>, AllocError>
+        ensures { IfOk result (λ told. told.timeline ≡ timeline_behind J.opening.domain told.front) }
+    {
+        self.desk.lock(rt).told(alloc)
     }
 }

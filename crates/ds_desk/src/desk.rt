@@ -4,15 +4,17 @@ ghost use Rattle.ds_checker.specs.Acceptance.{IsAcceptable};
 ghost use Rattle.ds_broker.specs.Books.{table_of, with_command};
 ghost use Rattle.ds_broker.specs.Entries.{grant_of, next_serial};
 ghost use Rattle.ds_broker.specs.Refusals.{release_refusal, reserve_refusal, retire_refusal};
+ghost use Rattle.ds_broker.specs.Timelines.{timeline_behind, timeline_of};
 ghost use Rattle.ds_desk.specs.Histories.{book_behind};
 
-use crate::answer::{Done, Granted, Refused};
+use crate::answer::{Done, Granted, Refused, Told};
 use crate::feed::Feed;
 use crate::log::{Front, Naming, Opened};
 use crate::press::Press;
 use ds_broker::{Book, BrokerRefusal, Command, Limits};
 use ds_checker::Accepted;
 use ds_domain_base::{Contract, Domain};
+use ds_timeline::Timeline;
 use moment_core::Moment;
 use std::alloc::{AllocError, Global};
 use std::marker::Model;
@@ -215,11 +217,31 @@ impl<J: Naming, R: Wait + Drop> Desk<J, R> {
         table
     }
 
+    /// Every contract that its book ever granted, in order of admission, and what became of each; `AllocError` where
+    /// memory runs out.
+    pub fn timeline(&self, alloc: Global) -> Result<Timeline, AllocError>
+        ensures told { IfOk result (λ timeline. timeline ≡ timeline_of self.now) }
+        ensures named { self.now ≡ book_behind J.opening self.now.history }
+    {
+        self.book.timeline(alloc)
+    }
+
     /// Its history up to now.
     pub fn front(&self) -> Front<J>
         ensures { result ≡ self.now.history }
     {
         Front::at(&self.press.end, self.book.serial())
+    }
+
+    /// Every contract that its book ever granted, beside the history up to now.
+    pub(crate) fn told(&self, alloc: Global) -> Result<Told<J>, AllocError>
+        ensures { IfOk result (λ told. told.timeline ≡ timeline_behind J.opening.domain told.front) }
+    {
+        let timeline = self.timeline(alloc)?;
+        Ok(Told {
+            timeline,
+            front: self.front(),
+        })
     }
 
     /// A refusal, beside the history up to now.

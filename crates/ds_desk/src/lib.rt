@@ -10,7 +10,7 @@ mod log;
 mod page;
 mod press;
 
-pub use answer::{Done, Granted, Refused};
+pub use answer::{Done, Granted, Refused, Told};
 pub use broker::Broker;
 pub use desk::Desk;
 pub use feed::{Feed, Seen};

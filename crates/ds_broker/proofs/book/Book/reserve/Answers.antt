@@ -5,7 +5,7 @@ use Rattle.indexmap.specs.IndexMap.{insert_entry}
 use Rattle.indexmap.specs.IndexSet.{insert_key}
 use Rattle.ds_broker.specs.Books.{moment_in, newest_of, table_of}
 use Rattle.ds_broker.specs.Kept.{book_of}
-use Rattle.ds_broker.specs.Refusals.{room_refusal}
+use Rattle.ds_broker.specs.Refusals.{reserve_refusal, room_refusal}
 use Rattle.ds_broker.specs.declared.refusal.BrokerRefusal.TheVariants.{Checker}
 use Rattle.ds_broker.proofs.KeptLaws.{kept-reserved}
 use Rattle.ds_broker.proofs.RefusalLaws.{passed}
@@ -36,8 +36,11 @@ invariant_of-self-2 c =
     let k = c.args.contract in
     let none : room_refusal (book_of i) k ≡ None = ap (λ x. room_refusal x k) c.self.view_is ∙ sym c.room_refusal.ensures.value ∙ c.in_default.is in
     let since : c.max-since.result ≡ max i.newest k.lifetime.since = search rules in
+    let moment : c.max-since.result ≡ moment_in (book_of i) k.lifetime.since = since ∙ ap (λ m. max m k.lifetime.since) c.self.invariant.newest in
+    let unrefused : reserve_refusal (book_of i) k ≡ None =
+    checked-refusal (book_of i) k i.table c.max-since.result none c.self.invariant.table moment ∙ ap (λ o. option_map Checker o) c.in_default-admit.ensures.unrefused in
     let count : length i.history.items ≡ length b.history = ap (λ x. length x.history) c.self.view_is in
-    kept-reserved i _ k c.self.invariant (passed (book_of i) k none) (omega (arith, count, c.in_default.ensures.room))
+    kept-reserved i _ k c.self.invariant (passed (book_of i) k none) unrefused (omega (arith, count, c.in_default.ensures.room))
     c.in_default-admit.ensures.admitted c.in_default-admit.ensures.acceptable
     (rw c.unwrap.ensures at c.insert.ensures.entries ∙ ap (λ es. insert_entry nat_eq es (i.granted + 1) false) c.make_room.ensures.ids)
     (rw c.unwrap-2.ensures at c.insert-2.ensures.keys ∙ ap (λ ks. insert_key bytes_eq ks k.name) c.make_room.ensures.names)

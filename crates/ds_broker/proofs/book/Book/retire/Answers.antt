@@ -1,9 +1,11 @@
-use Rattle.std.proofs.Common.{◌≡◌, true, rules, arith, refl, sym, ap, ◌∙◌}
+use Rattle.std.proofs.Common.{◌≡◌, ◌≤◌, true, rules, arith, refl, sym, ap, ◌∙◌}
 use Rattle.std.specs.Prelude.{max}
-use Rattle.ds_broker.specs.Books.{newest_of}
+use Rattle.ds_broker.specs.Books.{moment_in, newest_of}
+use Rattle.ds_broker.specs.Refusals.{free_from}
 use Rattle.ds_broker.proofs.BookLaws.{contracts-length, one-at}
 use Rattle.ds_broker.proofs.HoldingLaws.{first-below}
 use Rattle.ds_broker.proofs.KeptLaws.{kept-retired}
+use Rattle.ds_broker.proofs.RefusalLaws.{retire-passed}
 use Rattle.ds_broker.proofs.StandingLaws.{bounded-at, standing-bounded}
 use Rattle.ds_broker.proofs.book.Book.retire.Goals as goal
 
@@ -25,7 +27,11 @@ pub invariant_of-self-3 : goal.invariant_of-self-3
 invariant_of-self-3 c =
     let found = c.in-Some.ensures.found in
     let newest : c.max-newest.result ≡ max c.self.inside.newest c.args.moment = search rules in
+    let done : c.in-Some.released ≡ true = search rules in
+    let full = sym c.is_history_full.ensures.value ∙ c.if-is_history_full.false in
+    let over : free_from c.args.self.now.domain found.holding.contract ≤ moment_in c.args.self.now c.args.moment =
+    omega (arith, c.hold_left-left.ensures found.holding found.at, c.if-left-gt0.false, newest, c.self.invariant.newest ∙ ap newest_of c.self.view_is) in
     kept-retired c.self.inside _ c.args.id c.args.moment c.in-Some.place c.in-Some.released c.args.self.now c.self.view_is c.self.invariant found
-    (sym c.is_history_full.ensures.value ∙ c.if-is_history_full.false) c.if-is_history_full.ensures.room
+    (retire-passed c.args.self.now c.args.id c.args.moment c.in-Some.place c.in-Some.released found done full over) full c.if-is_history_full.ensures.room
     c.withdraw-retired.ensures.withdrawn c.withdraw-retired.ensures.acceptable c.shift_remove_index-id.ensures.entries c.shift_remove_index-name.ensures.keys
     refl refl newest (rw c.unwrap.ensures at c.push.ensures.items ∙ rw c.reserve.ensures.items refl)

@@ -1,0 +1,2 @@
+pub mod ConstantLaws
+pub mod NumberedLaws
