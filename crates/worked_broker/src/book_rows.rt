@@ -7,7 +7,7 @@ use std::process::Abort;
 use std::test::Fail;
 
 /// The domain of examples/tight_burst.toml, a meter of 16 Mbit/s and 4,500 bytes, with two of its contracts.
-const TIGHT: &str = r#"
+pub const TIGHT: &str = r#"
 meter = [{ name = "m", kind = "trtcm", cir = 16000000, cbs = 4500, pir = 24000000, pbs = 13500, skew = 500000 }]
 port = [{ name = "p", skew = 0 }]
 link = [{ from = "p", to = "m", floor = 0, jitter = 1000000 }]

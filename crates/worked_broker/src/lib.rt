@@ -6,3 +6,5 @@
 mod book_rows;
 #[cfg(test)]
 mod books;
+#[cfg(test)]
+mod timeline_rows;
