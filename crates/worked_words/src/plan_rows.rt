@@ -249,7 +249,7 @@ check domain.toml
 check domain.toml domain.cert more
 mark domain.toml domain.cert --port p --workers 2 --red keep
 mark domain.toml domain.cert --port p --workers 1 --red leave
-drive domain.toml
+drive domain.toml domain.cert
 audit domain.toml
 audit domain.toml domain.cert more";
 
