@@ -31,8 +31,8 @@ commands() {
             turn = int((number - contracts) / 3)
             moment = turn * hold
             if (number < contracts) print "reserve c" number
-            else if ((number - contracts) % 3 == 0) print "release", turn + 1, moment
-            else if ((number - contracts) % 3 == 1) print "retire", turn + 1, moment + hold
+            else if ((number - contracts) % 3 == 0) printf "release %d %.0f\n", turn + 1, moment
+            else if ((number - contracts) % 3 == 1) printf "retire %d %.0f\n", turn + 1, moment + hold
             else print "reserve c" turn % contracts
         }
     }'
