@@ -1,6 +1,6 @@
 ghost use Rattle.std.specs.Prelude.{◌≡◌, ◌≤◌, length, option_copied, slice_get};
 ghost use Rattle.ds_timeline.specs.Kept.{IsNumbered, IsTimeline};
-ghost use Rattle.ds_timeline.specs.Timelines.{IsCovered, reservation_of};
+ghost use Rattle.ds_timeline.specs.Timelines.{AreRated, IsCovered, reservation_of};
 
 use crate::reservation::Reservation;
 use ds_domain_base::Domain;
@@ -10,6 +10,7 @@ use std::marker::Model;
 ///
 /// At all times a contract sends from its reservation on at the earliest, a share is retired once its hold has passed
 /// behind its contract's end, and not before, and what is reserved at any one moment, with its bounds, is acceptable.
+/// What was retired had a rate of at least 1 bit per second in each column.
 #[derive(Debug, Drop)]
 pub struct Timeline {
     domain: Domain,
@@ -46,6 +47,7 @@ impl Timeline {
     pub fn domain(&self) -> &Domain
         ensures value { result.now ≡ self.now.domain }
         ensures covered { IsCovered self.now }
+        ensures rated { AreRated self.now }
     {
         &self.domain
     }
@@ -54,6 +56,7 @@ impl Timeline {
     pub fn reservations(&self) -> &[Reservation]
         ensures value { result.now ≡ self.now.reservations }
         ensures covered { IsCovered self.now }
+        ensures rated { AreRated self.now }
         ensures numbered { IsNumbered 0 result.now }
         ensures few { length result.now ≤ 65536 }
     {
