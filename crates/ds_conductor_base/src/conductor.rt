@@ -14,7 +14,7 @@ use indexmap::IndexMap;
 use meter_book::MeterBook;
 use meter_fabric_base::Traveller;
 use moment_core::{Moment, PacketSize};
-use run_audit::Run;
+use run_audit::{Ground, Run};
 use std::alloc::{AllocError, Global};
 use std::marker::Model;
 
@@ -127,6 +127,6 @@ impl<'a> Conductor<'a> {
         } = self;
         let journals = journals_of(alloc, books)?;
         let trails = trails_of(alloc, travellers)?;
-        Ok(Run::of(accepted, journals, trails))
+        Ok(Run::of(Ground::Table(accepted), journals, trails))
     }
 }

@@ -11,10 +11,10 @@ use Rattle.ds_checker.specs.Acceptance.{Table}
 use Rattle.meter_fabric_base.specs.Grounds.{Ground, contract_of, flow_count, ground_of, most_flows}
 use Rattle.meter_fabric_base.specs.Openings.{edge_opening, opening_at}
 
-abbrev found_from : ℕ → List Contract → ℕ → Option Contract
+abbrev pub found_from : ℕ → List Contract → ℕ → Option Contract
 found_from n cs flow = option_map (λ entry. entry.1) (find (λ entry. nat_eq entry.0 flow) (enumerate_from n cs))
 
-found_from-at : (n : ℕ) (cs : List Contract) (place : ℕ) → found_from n cs (n + place) ≡ slice_get cs place
+pub found_from-at : (n : ℕ) (cs : List Contract) (place : ℕ) → found_from n cs (n + place) ≡ slice_get cs place
 found_from-at n [] place = refl
 found_from-at n (c ∷ cs) zero =
     let same : nat_eq n (n + 0) ≡ true = grind (arith, nat_tests) in

@@ -18,46 +18,6 @@ use Rattle.meter_fabric_base.specs.declared.trail.Receipt.{Receipt}
 use Rattle.meter_fabric_base.proofs.GroundLaws.{contract_at}
 use Rattle.run_audit.specs.Assembling.{IsNoted}
 
--- ---- numbers of sites
-
-either_some : {A : Type 0} (low : Bool) (first second : Option A) → is_some (if low then first else second) ≡ true → (low ≡ true) ⊎ (is_some second ≡ true)
-either_some true first second some = inl refl
-either_some false first second some = inr some
-
-if_some : {A : Type 0} (low : Bool) (found : Option A) → is_some (if low then found else None) ≡ true → (low ≡ true) × (is_some found ≡ true)
-if_some true found some = (refl, some)
-if_some false found some = absurd (false≢true some)
-
-and_then_some : {A B : Type 0} (f : A → Option B) (found : Option A) → is_some (option_and_then f found) ≡ true → is_some found ≡ true
-and_then_some f None some = some
-and_then_some f (Some x) some = refl
-
-slice_get_below : {X : Type 0} (xs : List X) (i : ℕ) → is_some (slice_get xs i) ≡ true → i < length xs
-slice_get_below {X} xs i some = by_found (slice_get xs i) refl some
-  where
-    by_found : (found : Option X) → slice_get xs i ≡ found → is_some found ≡ true → i < length xs
-    by_found None e there = absurd (false≢true there)
-    by_found (Some x) e there = slice_get_within xs i x e
-
-low_test : (a b : ℕ) → nat_lt a b ≡ true → a < b
-low_test a b low = grind (arith, nat_tests)
-
-contract_below : (t : Table) (flow : ℕ) → is_some (contract_of (ground_of t) flow) ≡ true → (flow < most_flows) × (flow < length t.contracts)
-contract_below t flow some =
-    let (low, there) = if_some (nat_lt flow most_flows) (slice_get t.contracts flow) (ap is_some (sym (contract_at t flow)) ∙ some) in
-    (low_test flow most_flows low, slice_get_below t.contracts flow there)
-
--- something stands only at the first numbers
-pub opening_below : (t : Table) (site : ℕ) → IsSome (opening_at (ground_of t) site) → site < site_count t
-opening_below t site some =
-    ⊎_elim
-    (λ low. omega (arith, low_test site (length t.domain.meters) low))
-    (λ there.
-    let place = site - length t.domain.meters in
-    let (flow, listed) = contract_below t place (and_then_some (edge_opening t.domain) (contract_of (ground_of t) place) there) in
-    omega (arith, flow, listed))
-    (either_some (nat_lt site (length t.domain.meters)) _ _ some)
-
 -- ---- journals with sites of their own
 
 abbrev pub HaveOwnSites : List Journal → Type 0

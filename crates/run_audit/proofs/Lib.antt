@@ -1,3 +1,4 @@
+pub mod BasisLaws
 pub mod CountLaws
 pub mod FoundLaws
 pub mod HopLaws

@@ -2,7 +2,7 @@
 use Rattle.std.proofs.Common.{◌≡◌, inl, inr, ℕ, zero, suc, ◌+◌, ◌*◌, ◌<◌, ◌≤◌, Bool, true, false, cond, List, [], ◌∷◌, map, get_or, take, drop, Option, None, Some, refl, sym, ap, subst, ◌∙◌, arith}
 use Rattle.std.specs.Prelude.{nat_eq, nat_le, nat_lt, ◌&&◌, ◌||◌, slice_get, option_and_then, option_map, if◌then◌else◌}
 use Rattle.std.specs.List.{All, enumerate_from, filter}
-use Rattle.std.specs.Map.{keys_of}
+use Rattle.std.specs.Map.{keys_of, values_of}
 use Rattle.std.proofs.lemmas.Bool.{false≢true}
 use Rattle.std.proofs.lemmas.Bool.Decides.{nat_tests}
 use Rattle.std.proofs.lemmas.List.Elements.{All-cons, All-filter, All-head, All-tail, All-weaker, filter_passes}
@@ -19,17 +19,17 @@ use Rattle.ds_domain_base.specs.declared.terms.Terms.{Terms}
 use Rattle.ds_domain_base.specs.declared.terms.Terms.TheVariants.{Trusted, Policed}
 use Rattle.ds_certificate.specs.Columns.{envelope_in}
 use Rattle.ds_certificate.specs.Sources.{source_of}
-use Rattle.ds_checker.specs.Acceptance.{Table}
-use Rattle.meter_fabric_base.specs.Grounds.{Ground, contract_of, ground_of, most_flows}
-use Rattle.meter_fabric_base.proofs.GroundLaws.{found_at}
+use Rattle.meter_fabric_base.specs.Grounds.{Ground, contract_of}
 use Rattle.meter_fabric_base.specs.declared.trail.Receipt.{Receipt}
 use Rattle.run_audit_base.specs.Premises.{IsTrusted}
 use Rattle.run_audit_base.specs.Runs.{IsRun, Passage, Run}
 use Rattle.run_audit_base.specs.Sendings.{passages_of, sending_by, sending_of, sent_items}
+use Rattle.run_audit.specs.Bases.{IsCounted}
 use Rattle.run_audit.specs.Spills.{own_length, poured, spilled, spilled_by, spilled_from, spilled_in}
 use Rattle.run_audit.specs.Standings.{by_contract, stands_before}
 use Rattle.run_audit.specs.Verdicts.{first_of, is_begun_before, over_by, over_in, overflowing, sent_in, first_found, source_of_run, over_at, was_sent_as}
 use Rattle.run_audit.specs.declared.verdict.Verdict.TheVariants.{SourceOver}
+use Rattle.run_audit.proofs.BasisLaws.{counted_at}
 use Rattle.run_audit.proofs.MemberLaws.{in_filter, of_filter}
 use Rattle.run_audit.proofs.OrderLaws.{AreApart, Ascends, HasAllOf, IsOrder, in_order-ascends, in_order-is, in_order-permutes}
 use Rattle.run_audit.proofs.PremiseSourceLaws.{item_of, items_sent}
@@ -343,13 +343,14 @@ from-standing g run is_run n (c ∷ cs) known =
     onward : (place : ℕ) → n + 1 + place ≡ n + suc place
     onward place = omega arith
 
-pub source_of-standing : (t : Table) (run : Run) → IsRun (ground_of t) run
-    → spilled_from t.domain 0 (take most_flows t.contracts) (by_contract run.passages) ≡ source_of_run (ground_of t) run
-source_of-standing t run is_run =
+pub source_of-standing : (g : Ground) (run : Run) → IsCounted g → IsRun g run
+    → spilled_from g.domain 0 (values_of g.contracts) (by_contract run.passages) ≡ source_of_run g run
+source_of-standing g run counted is_run =
     let standing = by_contract run.passages in
-    let flows = take most_flows t.contracts in
-    ap (spilled_from t.domain 0 flows) (sym (filter_all (is_from 0) standing (λ k d short. from_first (get_or standing k d).packet.flow)))
-    ∙ from-standing (ground_of t) run is_run 0 flows (λ place c found. ap (contract_of (ground_of t)) (start place) ∙ found_at t place ∙ found)
+    let contracts = values_of g.contracts in
+    ap (spilled_from g.domain 0 contracts) (sym (filter_all (is_from 0) standing (λ k d short. from_first (get_or standing k d).packet.flow)))
+    ∙ from-standing g run is_run 0 contracts (λ place c found. ap (contract_of g) (start place) ∙ counted_at g place counted ∙ found)
+    ∙ ap (λ entries. first_found (over_at g run) (keys_of entries)) (sym counted)
   where
     from_first : (f : ℕ) → nat_le 0 f ≡ true
     from_first f = grind (arith, nat_tests)

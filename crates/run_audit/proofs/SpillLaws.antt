@@ -1,9 +1,10 @@
 -- The overflow of a source's bucket, step by step.
 use Rattle.std.proofs.Common.{◌≡◌, ℕ, zero, suc, ◌+◌, ◌-◌, ◌*◌, ◌<◌, ◌≤◌, Bool, true, false, cond, List, [], ◌∷◌, map, length, get_or, take, drop, Option, None, Some, is_some, refl, sym, ap, ◌∙◌, arith}
-use Rattle.std.specs.Prelude.{nat_le, nat_lt}
+use Rattle.std.specs.Prelude.{nat_le, nat_lt, slice_get}
 use Rattle.std.specs.List.{prefix_len}
 use Rattle.std.proofs.lemmas.Bool.Decides.{nat_tests}
 use Rattle.std.proofs.lemmas.List.{drop-drop, drop_all, drop_more}
+use Rattle.std.proofs.lemmas.Option.{get_or_from_slice_get, slice_get_within}
 use Rattle.moment_core.specs.Columns.{counts}
 use Rattle.moment_core.specs.declared.column.Column.{Column}
 use Rattle.envelope_core.specs.Curve.{Curve}
@@ -74,6 +75,10 @@ map_prefix f p (x ∷ xs) = by_test (p (f x)) (map_prefix f p xs)
     by_test false same = refl
 
 -- a contract more, whose packets stand from a place on to where those of later contracts begin
+-- what is got from a place stands there
+pub stands_at : {A : Type 0} (xs : List A) (i : ℕ) (x : A) → slice_get xs i ≡ Some x → (i < length xs) × (x ≡ get_or xs i x)
+stands_at xs i x got = (slice_get_within xs i x got, sym (get_or_from_slice_get xs i x x got))
+
 pub spilled_from-step : {X : Type 0} (d : Domain) (flow : ℕ) (cs : List Contract) (c : Contract) (f : X → Passage) (xs own : List X) (begin end : ℕ) (here : Option Verdict)
     → flow < length cs → c ≡ get_or cs flow c
     → end ≡ begin + prefix_len (λ x. nat_le (f x).packet.flow flow) (drop begin xs) → own ≡ take (end - begin) (drop begin xs)

@@ -1,5 +1,6 @@
 pub mod Assembled
 pub mod Assembling
+pub mod Bases
 pub mod Edges
 pub mod Faults
 pub mod Hops

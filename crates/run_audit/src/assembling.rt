@@ -1,21 +1,21 @@
 ghost use Rattle.std.specs.Prelude.{◌≡◌, ◌⊎◌, map, sum_by, length, AllPairs, IfErr, IfOk, OnOk};
-ghost use Rattle.meter_fabric_base.specs.Grounds.{ground_of};
 ghost use Rattle.run_audit_base.specs.Runs.{AreJournals, IsRun};
 ghost use Rattle.run_audit.specs.Assembled.{passage_of, run_of};
 ghost use Rattle.run_audit.specs.Assembling.{AreSound, IsFirstWrong, IsNew, IsRefusal, IsSound};
+ghost use Rattle.run_audit.specs.Bases.{basis_of};
 
+use crate::basis::Ground;
 use crate::fault::AssembleFault;
 use crate::run::Run;
 use crate::sites::sites_of;
 use crate::soundness::is_sound;
-use ds_checker::Accepted;
 use indexmap::IndexSet;
 use meter_book::Journal;
 use meter_fabric_base::Trail;
 use std::alloc::Global;
 
 impl<'a> Run<'a> {
-    /// The run of an accepted table that journals and trails tell, which may stand in any order.
+    /// The run over a ground that journals and trails tell, which may stand in any order.
     ///
     /// Refused, and handed back, in this order: `Mismatch` where the journals are not one for each site (a meter, or
     /// the edge of a policed contract) with the meter and the skew that it opens with; then for the first trail that is
@@ -24,18 +24,18 @@ impl<'a> Run<'a> {
     /// first hops; then `Untold` where a row of a journal is told by no trail. `NoMemory` where memory runs out.
     pub fn assemble(
         alloc: Global,
-        accepted: &'a Accepted,
+        basis: Ground<'a>,
         journals: Vec<Journal>,
         trails: Vec<Trail>,
     ) -> Result<Run<'a>, (Vec<Journal>, Vec<Trail>, AssembleFault)>
         ensures run { IfOk result
-            (λ run. run ≡ record { basis = ground_of accepted.now; run = run_of journals.items trails.items }) }
+            (λ run. run ≡ record { basis = basis_of basis.entry; run = run_of journals.items trails.items }) }
         ensures refused { IfErr result
-            (λ refused. IsRefusal (ground_of accepted.now) (run_of journals.items trails.items) refused.2) }
+            (λ refused. IsRefusal (basis_of basis.entry) (run_of journals.items trails.items) refused.2) }
         ensures back { IfErr result (λ refused. (refused.0 ≡ journals) × (refused.1 ≡ trails)) }
     {
-        match judge(alloc, accepted, journals.as_slice(), trails.as_slice()) {
-            Ok(()) => Ok(Run::of(accepted, journals, trails)),
+        match judge(alloc, &basis, journals.as_slice(), trails.as_slice()) {
+            Ok(()) => Ok(Run::of(basis, journals, trails)),
             Err(fault) => Err((journals, trails, fault)),
         }
     }
@@ -44,15 +44,15 @@ impl<'a> Run<'a> {
 /// Judges whether journals and trails are those of a run.
 fn judge(
     alloc: Global,
-    accepted: &Accepted,
+    basis: &Ground<'_>,
     journals: &[Journal],
     trails: &[Trail],
 ) -> Result<(), AssembleFault>
-    ensures run { OnOk result (IsRun (ground_of accepted.now) (run_of journals.now trails.now)) }
-    ensures refused { IfErr result (λ fault. IsRefusal (ground_of accepted.now) (run_of journals.now trails.now) fault) }
+    ensures run { OnOk result (IsRun (basis_of basis.now) (run_of journals.now trails.now)) }
+    ensures refused { IfErr result (λ fault. IsRefusal (basis_of basis.now) (run_of journals.now trails.now) fault) }
 {
-    let sites = sites_of(alloc, accepted, journals)?;
-    judge_trails(alloc, accepted, journals, &sites, trails)?;
+    let sites = sites_of(alloc, basis, journals)?;
+    judge_trails(alloc, basis, journals, &sites, trails)?;
     if rows_of(journals) == receipts_of(trails) {
         Ok(())
     } else {
@@ -63,22 +63,22 @@ fn judge(
 /// Judges whether each trail is sound and of a packet of its own.
 fn judge_trails(
     alloc: Global,
-    accepted: &Accepted,
+    basis: &Ground<'_>,
     journals: &[Journal],
     sites: &IndexSet<u32>,
     trails: &[Trail],
 ) -> Result<(), AssembleFault>
     requires places { sites.now.keys ≡ map (λ j. j.site) journals.now }
-    requires journals { AreJournals (ground_of accepted.now) journals.now }
-    ensures sound { OnOk result (AreSound (ground_of accepted.now) journals.now (map passage_of trails.now)) }
-    ensures refused { IfErr result (λ fault. IsRefusal (ground_of accepted.now) (run_of journals.now trails.now) fault) }
+    requires journals { AreJournals (basis_of basis.now) journals.now }
+    ensures sound { OnOk result (AreSound (basis_of basis.now) journals.now (map passage_of trails.now)) }
+    ensures refused { IfErr result (λ fault. IsRefusal (basis_of basis.now) (run_of journals.now trails.now) fault) }
 {
     let mut numbers = IndexSet::new(alloc);
     for trail in trails {
         if !numbers.insert(trail.packet)? {
             return Err(AssembleFault::Doubled);
         }
-        if !is_sound(accepted, journals, sites, trail) {
+        if !is_sound(basis, journals, sites, trail) {
             return Err(AssembleFault::Mismatch);
         }
     }

@@ -31,8 +31,8 @@ pub fn audit(alloc: Global, run: &Run<'_>) -> Result<Verdict, AllocError>
     ensures kept { IfOk result (λ verdict. (verdict ≡ Verdict.Kept) ↔ Premises run.now.basis run.now.run) }
     ensures colours { IfOk result (λ verdict. verdict ≡ Verdict.Kept → ColoursKept run.now.basis run.now.run) }
 {
-    // what is accepted is acceptable: the law of colours rests on that
-    let _acceptable = run.accepted().domain();
+    // the contracts were granted in a timeline that is covered: the law of colours rests on that
+    let _granted = run.basis().domain();
     let found = first_broken(alloc, run)?;
     Ok(found.unwrap_or(Verdict::Kept))
 }
@@ -65,7 +65,7 @@ fn outside(run: &Run<'_>, trails: &[&Trail]) -> Option<Verdict>
     requires { map (λ trail. passage_of trail.now) trails.now ≡ by_number run.now.run.passages }
     ensures { result ≡ time_of run.now.basis run.now.run }
 {
-    first_outside(run.accepted(), trails)
+    first_outside(&run.basis(), trails)
 }
 
 /// What is found against the envelopes of trusted sources.
@@ -73,7 +73,7 @@ fn over(alloc: Global, run: &Run<'_>) -> Result<Option<Verdict>, AllocError>
     ensures { IfOk result (λ found. found ≡ source_of_run run.now.basis run.now.run) }
 {
     let trails = by_contract(alloc, run)?;
-    Ok(first_spilled(run.accepted(), trails.as_slice()))
+    Ok(first_spilled(&run.basis(), trails.as_slice()))
 }
 
 /// What is found against the floors and jitters of links.
@@ -81,7 +81,7 @@ fn delayed(run: &Run<'_>, trails: &[&Trail]) -> Option<Verdict>
     requires { map (λ trail. passage_of trail.now) trails.now ≡ by_number run.now.run.passages }
     ensures { result ≡ link_of_run run.now.basis run.now.run }
 {
-    first_delayed(run.accepted(), trails)
+    first_delayed(&run.basis(), trails)
 }
 
 /// What is found against the skews of meters.

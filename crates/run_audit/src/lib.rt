@@ -1,8 +1,9 @@
-//! Runs of the meters of an accepted domain, assembled from journals and trails, and the audit that judges them.
+//! Runs of the meters of a domain, over a table or a timeline, assembled from journals and trails, and the audit that judges them.
 #![tactic(auto)]
 
 pub mod assembling;
 pub mod auditing;
+pub mod basis;
 pub mod fault;
 pub mod laws;
 mod links;
@@ -17,6 +18,7 @@ mod times;
 pub mod verdict;
 
 pub use auditing::audit;
+pub use basis::Ground;
 pub use fault::AssembleFault;
 pub use run::Run;
 pub use verdict::Verdict;

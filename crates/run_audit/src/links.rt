@@ -1,16 +1,16 @@
 //! Whether links keep their floors and jitters.
 ghost use Rattle.std.specs.Prelude.{◌≡◌, map};
 ghost use Rattle.ds_domain_base.specs.Domains.{link_of};
-ghost use Rattle.meter_fabric_base.specs.Grounds.{ground_of};
 ghost use Rattle.run_audit.specs.Assembled.{passage_of};
+ghost use Rattle.run_audit.specs.Bases.{basis_of};
 ghost use Rattle.run_audit.specs.Hops.{delayed_hop, untimely_hop};
 ghost use Rattle.run_audit.specs.Verdicts.{against_sent, first_found, is_over};
 
+use crate::basis::Ground;
 use crate::sending::{Sending, sent_of};
 use crate::verdict::Verdict;
-use ds_checker::Accepted;
 use ds_domain_base::{Contract, Domain, Name};
-use meter_fabric_base::{Trail, contract_of};
+use meter_fabric_base::Trail;
 use moment_core::Moment;
 
 /// Whether what left a name at a moment arrives over the link to a name in its time.
@@ -51,23 +51,23 @@ fn delayed(domain: &Domain, packet: u64, contract: &Contract, sent: &Sending<'_>
 }
 
 /// What is found against the delays of a trail's packet.
-fn delay_of(accepted: &Accepted, trail: &Trail) -> Option<Verdict>
-    ensures { result ≡ against_sent (ground_of accepted.now) (delayed_hop accepted.now.domain trail.now.packet)
+fn delay_of(basis: &Ground<'_>, trail: &Trail) -> Option<Verdict>
+    ensures { result ≡ against_sent (basis_of basis.now) (delayed_hop (basis_of basis.now).domain trail.now.packet)
         (passage_of trail.now) }
 {
-    let contract = contract_of(accepted, trail.flow)?;
+    let contract = basis.contract_of(trail.flow)?;
     let sent = sent_of(contract, trail)?;
-    delayed(accepted.domain(), trail.packet, contract, &sent)
+    delayed(basis.domain(), trail.packet, contract, &sent)
 }
 
 /// What is found first against the delays of trails' packets.
-pub(crate) fn first_delayed(accepted: &Accepted, trails: &[&Trail]) -> Option<Verdict>
+pub(crate) fn first_delayed(basis: &Ground<'_>, trails: &[&Trail]) -> Option<Verdict>
     ensures { result ≡ first_found
-        (λ p. against_sent (ground_of accepted.now) (delayed_hop accepted.now.domain p.packet.number) p)
+        (λ p. against_sent (basis_of basis.now) (delayed_hop (basis_of basis.now).domain p.packet.number) p)
         (map (λ trail. passage_of trail.now) trails.now) }
 {
     for trail in trails {
-        let found = delay_of(accepted, trail);
+        let found = delay_of(basis, trail);
         if found.is_some() {
             return found;
         }

@@ -1,17 +1,17 @@
 ghost use Rattle.std.specs.Prelude.{◌≡◌, map};
-ghost use Rattle.meter_fabric_base.specs.Grounds.{ground_of};
 ghost use Rattle.run_audit_base.specs.Runs.{IsRun};
 ghost use Rattle.run_audit.specs.Assembled.{passage_of, run_of};
+ghost use Rattle.run_audit.specs.Bases.{basis_of};
 
-use ds_checker::Accepted;
+use crate::basis::Ground;
 use meter_book::Journal;
 use meter_fabric_base::Trail;
 use std::marker::Model;
 
-/// A run of an accepted table: the journals of its sites, and the trails of its packets, which tell the same rows.
+/// A run of contracts over a domain: the journals of its sites, and the trails of its packets, which tell the same rows.
 #[derive(Debug, Drop)]
 pub struct Run<'a> {
-    accepted: &'a Accepted,
+    basis: Ground<'a>,
     journals: Vec<Journal>,
     trails: Vec<Trail>,
 }
@@ -30,23 +30,23 @@ impl<'a> Model for Run<'a> {
 
 impl<'a> Run<'a> {
     /// The run of journals and trails that are known to be one.
-    pub fn of(accepted: &'a Accepted, journals: Vec<Journal>, trails: Vec<Trail>) -> Self
-        requires { IsRun (ground_of accepted.now) (run_of journals.items trails.items) }
-        ensures { result ≡ record { basis = ground_of accepted.now; run = run_of journals.items trails.items } }
+    pub fn of(basis: Ground<'a>, journals: Vec<Journal>, trails: Vec<Trail>) -> Self
+        requires { IsRun (basis_of basis) (run_of journals.items trails.items) }
+        ensures { result ≡ record { basis = basis_of basis.entry; run = run_of journals.items trails.items } }
     {
         Run {
-            accepted,
+            basis,
             journals,
             trails,
         }
     }
 
-    /// The table that it is a run of.
-    pub fn accepted(&self) -> &'a Accepted
-        ensures value { ground_of result.now ≡ self.now.basis }
+    /// What it stands on.
+    pub fn basis(&self) -> Ground<'a>
+        ensures value { basis_of result ≡ self.now.basis }
         ensures run { IsRun self.now.basis self.now.run }
     {
-        self.accepted
+        self.basis
     }
 
     /// The journals of the sites.

@@ -1,37 +1,37 @@
 ghost use Rattle.std.specs.Prelude.{◌≡◌, ◌⊎◌, ◌↔◌, ℕ, map, Contains, Some, IsSome, IsTrue, IfOk, IfErr};
-ghost use Rattle.meter_fabric_base.specs.Grounds.{ground_of};
 ghost use Rattle.meter_fabric_base.specs.Openings.{opening_at};
 ghost use Rattle.run_audit_base.specs.Runs.{AreJournals};
+ghost use Rattle.run_audit.specs.Bases.{basis_of};
 
+use crate::basis::Ground;
 use crate::fault::AssembleFault;
-use ds_checker::Accepted;
 use indexmap::IndexSet;
 use meter_book::Journal;
-use meter_fabric_base::{Opening, opening_at, site_count};
+use meter_fabric_base::Opening;
 use std::alloc::Global;
 
 /// The sites of journals, each at its journal's place, where the journals are one for each site with what stands there;
 /// else `Mismatch`. `NoMemory` where memory runs out.
 pub(crate) fn sites_of(
     alloc: Global,
-    accepted: &Accepted,
+    basis: &Ground<'_>,
     journals: &[Journal],
 ) -> Result<IndexSet<u32>, AssembleFault>
     ensures places { IfOk result (λ sites. sites.keys ≡ map (λ j. j.site) journals.now) }
-    ensures journals { IfOk result (λ sites. AreJournals (ground_of accepted.now) journals.now) }
+    ensures journals { IfOk result (λ sites. AreJournals (basis_of basis.now) journals.now) }
     ensures refused { IfErr result (λ fault. (fault ≡ AssembleFault.NoMemory)
-        ⊎ ((fault ≡ AssembleFault.Mismatch) × ¬ AreJournals (ground_of accepted.now) journals.now)) }
+        ⊎ ((fault ≡ AssembleFault.Mismatch) × ¬ AreJournals (basis_of basis.now) journals.now)) }
 {
     let mut sites = IndexSet::new(alloc);
     for journal in journals {
-        if !is_own(accepted, journal) {
+        if !is_own(basis, journal) {
             return Err(AssembleFault::Mismatch);
         }
         if !sites.insert(journal.site())? {
             return Err(AssembleFault::Mismatch);
         }
     }
-    if has_each(accepted, &sites) {
+    if has_each(basis, &sites) {
         Ok(sites)
     } else {
         Err(AssembleFault::Mismatch)
@@ -39,24 +39,24 @@ pub(crate) fn sites_of(
 }
 
 /// Whether a journal opens with what stands at its site.
-fn is_own(accepted: &Accepted, journal: &Journal) -> bool
-    ensures { IsTrue result ↔ (opening_at (ground_of accepted.now) journal.now.site
+fn is_own(basis: &Ground<'_>, journal: &Journal) -> bool
+    ensures { IsTrue result ↔ (opening_at (basis_of basis.now) journal.now.site
         ≡ Some (record { meter = journal.now.opening; skew = journal.now.skew })) }
 {
     let own = Opening {
         meter: journal.opening(),
         skew: journal.skew(),
     };
-    opening_at(accepted, journal.site()) == Some(own)
+    basis.opening_at(journal.site()) == Some(own)
 }
 
 /// Whether each site at which something stands is among these.
-fn has_each(accepted: &Accepted, sites: &IndexSet<u32>) -> bool
+fn has_each(basis: &Ground<'_>, sites: &IndexSet<u32>) -> bool
     ensures { IsTrue result
-        ↔ ((site : ℕ) → IsSome (opening_at (ground_of accepted.now) site) → Contains sites.now.keys site) }
+        ↔ ((site : ℕ) → IsSome (opening_at (basis_of basis.now) site) → Contains sites.now.keys site) }
 {
-    for site in 0..site_count(accepted) {
-        if !is_met(accepted, sites, site as u32) {
+    for site in 0..basis.site_count() {
+        if !is_met(basis, sites, site as u32) {
             return false;
         }
     }
@@ -64,8 +64,8 @@ fn has_each(accepted: &Accepted, sites: &IndexSet<u32>) -> bool
 }
 
 /// Whether a site is among these, if anything stands there.
-fn is_met(accepted: &Accepted, sites: &IndexSet<u32>, site: u32) -> bool
-    ensures { IsTrue result ↔ (IsSome (opening_at (ground_of accepted.now) site) → Contains sites.now.keys site) }
+fn is_met(basis: &Ground<'_>, sites: &IndexSet<u32>, site: u32) -> bool
+    ensures { IsTrue result ↔ (IsSome (opening_at (basis_of basis.now) site) → Contains sites.now.keys site) }
 {
-    opening_at(accepted, site).is_none() || sites.contains(&site)
+    basis.opening_at(site).is_none() || sites.contains(&site)
 }

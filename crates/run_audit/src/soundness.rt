@@ -1,33 +1,52 @@
-ghost use Rattle.std.specs.Prelude.{◌≡◌, ◌↔◌, ◌<◌, ◌≤◌, ℕ, length, map, slice_get, All, AllPairs, Some, IsTrue};
+ghost use Rattle.std.specs.Prelude.{◌≡◌, ◌↔◌, ◌<◌, map, slice_get, All, AllPairs, Some, IsTrue};
 ghost use Rattle.moment_core.specs.declared.colour.Colour.{Colour};
 ghost use Rattle.meter_book.specs.Replay.{journal_rows};
 ghost use Rattle.meter_fabric_base.specs.Sites.{hops_along, hops_of};
 ghost use Rattle.meter_fabric_base.specs.Trails.{IsReceipt, IsTrail, packet_of};
 ghost use Rattle.ds_domain_base.specs.Sent.{came};
-ghost use Rattle.meter_fabric_base.specs.Grounds.{ground_of};
+ghost use Rattle.meter_fabric_base.specs.Grounds.{most_flows};
 ghost use Rattle.run_audit.specs.Assembled.{passage_of};
 ghost use Rattle.run_audit.specs.Assembling.{IsNoted, IsSound};
+ghost use Rattle.run_audit.specs.Bases.{basis_of};
 
-use ds_checker::Accepted;
+use crate::basis::Ground;
 use ds_domain_base::{Contract, Domain};
 use indexmap::IndexSet;
 use meter_book::{Journal, Row};
-use meter_fabric_base::{Hop, Receipt, Trail, contract_of, edge_hop, site_of};
+use meter_fabric_base::{Receipt, Trail, edge_hop, site_of};
 use moment_core::{Colour, Moment};
+use std::marker::Model;
+
+/// A hop that a receipt is held against. Its number may be greater than any that a row has.
+#[derive(Drop)]
+struct Stop {
+    /// How many meters of its path the packet has passed.
+    number: usize,
+    /// The number of the site.
+    site: u32,
+}
+
+impl Model for Stop {
+    ghost use Rattle.meter_fabric_base.specs.declared.hop.Hop.{Hop};
+
+    ghost Value = { Hop };
+
+    ghost view = { λ s. record { number = s.number; site = s.site } };
+}
 
 /// Whether a trail is of a contract that is there, is one of the first hops of its way, and holds rows of the journals.
 pub(crate) fn is_sound(
-    accepted: &Accepted,
+    basis: &Ground<'_>,
     journals: &[Journal],
     sites: &IndexSet<u32>,
     trail: &Trail,
 ) -> bool
     requires places { sites.now.keys ≡ map (λ j. j.site) journals.now }
     requires once { AllPairs (λ j k. ¬ (j.site ≡ k.site)) journals.now }
-    ensures { IsTrue result ↔ IsSound (ground_of accepted.now) journals.now (passage_of trail.now) }
+    ensures { IsTrue result ↔ IsSound (basis_of basis.now) journals.now (passage_of trail.now) }
 {
-    let domain = accepted.domain();
-    match contract_of(accepted, trail.flow) {
+    let domain = basis.domain();
+    match basis.contract_of(trail.flow) {
         None => false,
         Some(contract) => { is_trail(domain, contract, trail) && are_noted(journals, sites, trail) }
     }
@@ -68,8 +87,7 @@ fn is_row(journal: &Journal, row: Row) -> bool
 
 /// Whether the receipts of a trail are those of the first hops of a contract's way.
 fn is_trail(domain: &Domain, contract: &Contract, trail: &Trail) -> bool
-    requires numbered { trail.now.flow < 4294966272 }
-    requires short { length contract.now.path ≤ 16 }
+    requires { trail.now.flow < most_flows }
     ensures { IsTrue result ↔ IsTrail (packet_of trail.now) trail.now.begun (came contract.now trail.now.dscp)
         (hops_of domain.now trail.now.flow contract.now) trail.now.receipts.items }
 {
@@ -77,7 +95,7 @@ fn is_trail(domain: &Domain, contract: &Contract, trail: &Trail) -> bool
     let mut came = contract.came(trail.dscp);
     for (place, receipt) in trail.receipts.as_slice().iter().enumerate() {
         match hop_at(domain, contract, trail.flow, place) {
-            Some(hop) if is_receipt(trail, since, came, hop, *receipt) => {
+            Some(hop) if is_receipt(trail, since, came, &hop, *receipt) => {
                 since = receipt.row.arrival;
                 came = receipt.row.left;
             }
@@ -88,14 +106,14 @@ fn is_trail(domain: &Domain, contract: &Contract, trail: &Trail) -> bool
 }
 
 /// Whether a receipt is of a trail's packet at a hop, to which it came with a colour and not before a moment.
-fn is_receipt(trail: &Trail, since: Moment, came: Colour, hop: Hop, receipt: Receipt) -> bool
-    ensures { IsTrue result ↔ IsReceipt (packet_of trail.now) since came hop receipt }
+fn is_receipt(trail: &Trail, since: Moment, came: Colour, hop: &Stop, receipt: Receipt) -> bool
+    ensures { IsTrue result ↔ IsReceipt (packet_of trail.now) since came hop.now receipt }
 {
     let row = receipt.row;
     receipt.site == hop.site
         && row.flow == trail.flow
         && row.packet == trail.packet
-        && row.hop == hop.number
+        && usize::from(row.hop) == hop.number
         && row.size == trail.size
         && row.came == came
         && row.arrival >= since
@@ -103,26 +121,27 @@ fn is_receipt(trail: &Trail, since: Moment, came: Colour, hop: Hop, receipt: Rec
 
 /// The hop at a place of the way of a contract's packets, from 0; None behind its end.
 #[tactic(auto, using(crate::proofs::TrailTests::hop_behind))]
-fn hop_at(domain: &Domain, contract: &Contract, flow: u32, place: usize) -> Option<Hop>
-    requires numbered { flow < 4294966272 }
-    requires short { length contract.now.path ≤ 16 }
+fn hop_at(domain: &Domain, contract: &Contract, flow: u32, place: usize) -> Option<Stop>
+    requires { flow < most_flows }
     ensures { result ≡ slice_get (hops_of domain.now flow contract.now) place }
 {
     match edge_hop(domain, flow, &contract.terms) {
         None => meter_hop(domain, contract, place),
-        Some(edge) if place == 0 => Some(edge),
+        Some(edge) if place == 0 => Some(Stop {
+            number: 0,
+            site: edge.site,
+        }),
         Some(_) => meter_hop(domain, contract, place - 1),
     }
 }
 
 /// The hop at a place of a contract's path, from 0; None behind its end.
-fn meter_hop(domain: &Domain, contract: &Contract, place: usize) -> Option<Hop>
-    requires { length contract.now.path ≤ 16 }
+fn meter_hop(domain: &Domain, contract: &Contract, place: usize) -> Option<Stop>
     ensures { result ≡ slice_get (hops_along domain.now 1 contract.now.path) place }
 {
     let name = contract.path.meters().get(place)?;
-    Some(Hop {
-        number: place as u8 + 1,
+    Some(Stop {
+        number: place + 1,
         site: site_of(domain, *name),
     })
 }

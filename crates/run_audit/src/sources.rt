@@ -1,19 +1,20 @@
 //! Whether trusted sources keep their envelopes.
 ghost use Rattle.std.specs.Prelude.{◌≡◌, ◌+◌, ◌≤◌, ◌*◌, drop, length, map, nat_le, option_map, take};
 ghost use Rattle.std.specs.List.{prefix_len};
+ghost use Rattle.std.specs.Map.{values_of};
 ghost use Rattle.envelope_core.specs.LeakyBucket.{filled};
-ghost use Rattle.meter_fabric_base.specs.Grounds.{most_flows};
 ghost use Rattle.run_audit.specs.Assembled.{passage_of};
+ghost use Rattle.run_audit.specs.Bases.{IsCounted, basis_of};
 ghost use Rattle.run_audit.specs.Spills.{spilled, spilled_by, spilled_from, spilled_in};
 ghost use Rattle.run_audit.specs.Verdicts.{first_found};
 ghost use Rattle.moment_core.specs.Columns.{each_column};
 
+use crate::basis::Ground;
 use crate::verdict::Verdict;
 use ds_certificate::Source;
-use ds_checker::Accepted;
 use ds_domain_base::{Contract, Domain, Terms};
 use envelope_core::Envelope;
-use meter_fabric_base::{Trail, flows_of};
+use meter_fabric_base::Trail;
 use moment_core::tokens::TOKEN;
 use moment_core::{Column, Moment, PacketSize};
 
@@ -117,14 +118,17 @@ fn own_end(flow: usize, begin: usize, trails: &[&Trail]) -> usize
 }
 
 /// What is found first against the packets of contracts, whose trails stand contract by contract.
-pub(crate) fn first_spilled(accepted: &Accepted, trails: &[&Trail]) -> Option<Verdict>
-    ensures { result ≡ spilled_from accepted.now.domain 0 (take most_flows accepted.now.contracts)
+pub(crate) fn first_spilled(basis: &Ground<'_>, trails: &[&Trail]) -> Option<Verdict>
+    ensures value { result ≡ spilled_from (basis_of basis.now).domain 0 (values_of (basis_of basis.now).contracts)
         (map (λ trail. passage_of trail.now) trails.now) }
+    ensures counted { IsCounted (basis_of basis.now) }
 {
+    let domain = basis.domain();
     let mut begin = 0;
-    for (flow, contract) in flows_of(accepted).iter().enumerate() {
-        let end = own_end(flow, begin, trails);
-        let found = spilled_by(accepted.domain(), contract, &trails[begin..end]);
+    for flow in 0..basis.flow_count() {
+        let contract = basis.contract_of(flow).unwrap();
+        let end = own_end(flow as usize, begin, trails);
+        let found = spilled_by(domain, contract, &trails[begin..end]);
         if found.is_some() {
             return found;
         }

@@ -1,15 +1,15 @@
 //! Whether contracts keep their time.
 ghost use Rattle.std.specs.Prelude.{◌≡◌, map, nat_lt, true};
 ghost use Rattle.std.specs.Option.{option_map_or};
-ghost use Rattle.meter_fabric_base.specs.Grounds.{ground_of};
 ghost use Rattle.run_audit.specs.Assembled.{passage_of};
+ghost use Rattle.run_audit.specs.Bases.{basis_of};
 ghost use Rattle.run_audit.specs.Verdicts.{against_sent, first_found, may_send, outside};
 
+use crate::basis::Ground;
 use crate::sending::{Sending, sent_of};
 use crate::verdict::Verdict;
-use ds_checker::Accepted;
 use ds_domain_base::{Contract, Lifetime};
-use meter_fabric_base::{Trail, contract_of};
+use meter_fabric_base::Trail;
 use moment_core::Moment;
 
 /// Whether a contract may send at a moment.
@@ -38,21 +38,21 @@ fn outside(packet: u64, contract: &Contract, sent: &Sending<'_>) -> Option<Verdi
 }
 
 /// What is found against the time of a trail's packet.
-fn time_of(accepted: &Accepted, trail: &Trail) -> Option<Verdict>
-    ensures { result ≡ against_sent (ground_of accepted.now) (outside trail.now.packet) (passage_of trail.now) }
+fn time_of(basis: &Ground<'_>, trail: &Trail) -> Option<Verdict>
+    ensures { result ≡ against_sent (basis_of basis.now) (outside trail.now.packet) (passage_of trail.now) }
 {
-    let contract = contract_of(accepted, trail.flow)?;
+    let contract = basis.contract_of(trail.flow)?;
     let sent = sent_of(contract, trail)?;
     outside(trail.packet, contract, &sent)
 }
 
 /// What is found first against the time of trails' packets.
-pub(crate) fn first_outside(accepted: &Accepted, trails: &[&Trail]) -> Option<Verdict>
-    ensures { result ≡ first_found (λ p. against_sent (ground_of accepted.now) (outside p.packet.number) p)
+pub(crate) fn first_outside(basis: &Ground<'_>, trails: &[&Trail]) -> Option<Verdict>
+    ensures { result ≡ first_found (λ p. against_sent (basis_of basis.now) (outside p.packet.number) p)
         (map (λ trail. passage_of trail.now) trails.now) }
 {
     for trail in trails {
-        let found = time_of(accepted, trail);
+        let found = time_of(basis, trail);
         if found.is_some() {
             return found;
         }

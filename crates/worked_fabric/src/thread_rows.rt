@@ -5,7 +5,7 @@ use ds_checker::Accepted;
 use meter_book::Journal;
 use meter_fabric::{Fabric, FabricLedger, Pass, Trail, ticket_parts};
 use moment_core::Moment;
-use run_audit::{Run, Verdict, audit};
+use run_audit::{Ground, Run, Verdict, audit};
 use std::alloc::Global;
 use std::marker::Brand;
 use std::process::Abort;
@@ -113,7 +113,7 @@ fn judged(
     for journal in &journals {
         assert_eq!(rt; journal.len(), 2000);
     }
-    match Run::assemble(alloc, accepted, journals, trails) {
+    match Run::assemble(alloc, Ground::Table(accepted), journals, trails) {
         Ok(run) => Ok(audit(alloc, &run)?),
         Err((_, _, fault)) => Err(fault.into()),
     }

@@ -4,7 +4,7 @@ use ds_checker::Accepted;
 use meter_book::{Journal, MeterBook};
 use meter_fabric_base::{Trail, Traveller};
 use moment_core::{Gap, Mode, Moment, PacketSize};
-use run_audit::{AssembleFault, Run};
+use run_audit::{AssembleFault, Ground, Run};
 use std::alloc::Global;
 use std::process::Abort;
 use std::test::Fail;
@@ -112,7 +112,7 @@ fn parts(alloc: Global, accepted: &Accepted, numbers: [u64; 2]) -> Result<Parts,
 
 /// What is answered to journals and trails: the number of the fault, 0 where they are a run.
 fn answer(alloc: Global, accepted: &Accepted, parts: Parts) -> u8 {
-    match Run::assemble(alloc, accepted, parts.0, parts.1) {
+    match Run::assemble(alloc, Ground::Table(accepted), parts.0, parts.1) {
         Ok(_) => 0,
         Err((_, _, fault)) => fault.code(),
     }

@@ -1,5 +1,5 @@
 use Rattle.std.proofs.Common.{◌≡◌, map}
-use Rattle.meter_fabric_base.specs.Grounds.{ground_of}
+use Rattle.run_audit.specs.Bases.{basis_of}
 use Rattle.run_audit.specs.Assembling.{AreSound}
 use Rattle.run_audit.proofs.SoundLaws.{front_of, number_of}
 use Rattle.run_audit.proofs.assembling.judge_trails.Given as goal
@@ -8,5 +8,5 @@ use Rattle.run_audit.proofs.assembling.judge_trails.Given as goal
 abbrev pub invariant-loop-trail : goal.invariant-loop-trail
 invariant-loop-trail l = record {
   numbers : l.numbers.keys ≡ map number_of (front_of l.trails l.trail-index);
-  sound : AreSound (ground_of l.accepted) l.journals (front_of l.trails l.trail-index);
+  sound : AreSound (basis_of l.basis) l.journals (front_of l.trails l.trail-index);
 }

@@ -1,21 +1,19 @@
 use Rattle.std.proofs.Common.{◌≡◌, subst, sym, ◌∙◌, ap}
 use Rattle.std.specs.Prelude.{unwrap_or}
-use Rattle.run_audit_base.specs.KeptColours.{StandsIn}
+use Rattle.run_audit.specs.Bases.{IsGranted}
 use Rattle.run_audit.specs.Verdicts.{verdict_of}
 use Rattle.run_audit.specs.declared.verdict.Verdict.TheVariants.{Kept}
-use Rattle.run_audit_base.proofs.ColourLaws.{colours_kept, stands_in_own}
 use Rattle.run_audit.proofs.PremiseLaws.{kept_is_premises}
 use Rattle.run_audit.proofs.auditing.audit.Goals as goal
 
 pub returns-clause-kept : goal.returns-clause-kept
 returns-clause-kept c =
     let is : c.unwrap_or.result ≡ verdict_of c.args.run.now.basis c.args.run.now.run = c.unwrap_or.ensures ∙ ap (λ found. unwrap_or found Kept) c.in_ok-found.ensures in
-    rw is (kept_is_premises c.args.run.now.basis c.args.run.now.run c.accepted.ensures.run)
+    rw is (kept_is_premises c.args.run.now.basis c.args.run.now.run c.basis.ensures.run)
 
 pub returns-clause-colours : goal.returns-clause-colours
 returns-clause-colours c kept =
     let is : c.unwrap_or.result ≡ verdict_of c.args.run.now.basis c.args.run.now.run = c.unwrap_or.ensures ∙ ap (λ found. unwrap_or found Kept) c.in_ok-found.ensures in
-    let premises = (kept_is_premises c.args.run.now.basis c.args.run.now.run c.accepted.ensures.run).0 (sym is ∙ kept) in
-    let t = c.accepted.result.now in
-    colours_kept t c.args.run.now.basis c.args.run.now.run c.domain-acceptable.ensures.acceptable
-    (subst (StandsIn t) c.accepted.ensures.value (stands_in_own t)) c.accepted.ensures.run premises
+    let premises = (kept_is_premises c.args.run.now.basis c.args.run.now.run c.basis.ensures.run).0 (sym is ∙ kept) in
+    let (timeline, covered, rated, granted) = subst IsGranted c.basis.ensures.value c.domain-granted.ensures.granted in
+    ?

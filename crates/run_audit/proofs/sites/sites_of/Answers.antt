@@ -3,7 +3,7 @@ use Rattle.std.specs.Prelude.{nat_eq}
 use Rattle.std.specs.List.{list_any}
 use Rattle.std.proofs.lemmas.List.Elements.{All-more}
 use Rattle.meter_book.specs.Replay.{Journal}
-use Rattle.meter_fabric_base.specs.Grounds.{ground_of}
+use Rattle.run_audit.specs.Bases.{basis_of}
 use Rattle.meter_fabric_base.specs.Openings.{opening_at}
 use Rattle.run_audit.proofs.JournalLaws.{own_site_more, pushed_key, repeated_site, sites_more, was_new, was_there}
 use Rattle.run_audit.proofs.sites.sites_of.Goals as goal
@@ -29,7 +29,7 @@ loop-journal-preserved c =
     record {
       places = sites_more js c.loop-journal.sites.keys c.insert.new.self.keys i j c.loop-journal-test.true c.journal-item.is c.loop-journal.invariant.places
           (pushed_key c.loop-journal.sites.keys c.insert.new.self.keys c.site.result c.in_ok-insert.ensures.keys new ∙ ap (λ x. c.loop-journal.sites.keys ++ x ∷ []) c.site.ensures);
-      own = All-more (λ (k : Journal). opening_at (ground_of c.args.accepted.now) k.site ≡ Some (record { meter = k.opening; skew = k.skew })) js i j c.loop-journal-test.true c.loop-journal.invariant.own
+      own = All-more (λ (k : Journal). opening_at (basis_of c.args.basis.now) k.site ≡ Some (record { meter = k.opening; skew = k.skew })) js i j c.loop-journal-test.true c.loop-journal.invariant.own
           (rw (← c.journal-item.is) (c.if-not-is_own.ensures.0 refl));
       once = own_site_more js i j c.loop-journal-test.true c.journal-item.is nowhere c.loop-journal.invariant.once;
     }

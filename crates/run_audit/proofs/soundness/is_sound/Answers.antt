@@ -1,19 +1,22 @@
-use Rattle.std.proofs.Common.{subst, sym, ◌∙◌}
+use Rattle.std.proofs.Common.{◌≡◌, None, Some, subst, sym, ◌∙◌}
 use Rattle.std.proofs.lemmas.Bool.{false≢true}
 use Rattle.std.proofs.lemmas.Option.{same_Some}
 use Rattle.ds_domain_base.specs.Domains.{Domain}
 use Rattle.ds_domain_base.specs.Sent.{came}
 use Rattle.ds_domain_base.specs.declared.contract.Contract.{Contract}
-use Rattle.meter_fabric_base.proofs.PathLaws.{known_contract}
+use Rattle.run_audit.specs.Bases.{basis_of}
 use Rattle.meter_fabric_base.specs.Sites.{hops_of}
 use Rattle.meter_fabric_base.specs.Trails.{IsTrail, packet_of}
 use Rattle.run_audit.proofs.soundness.is_sound.Goals as goal
 
-pub is_trail-requires-clause-numbered : goal.is_trail-requires-clause-numbered
-is_trail-requires-clause-numbered c = (known_contract c.args.accepted.now c.args.trail.now.flow c.in-Some.contract.now c.domain-domain.ensures.acceptable (sym c.in-Some.ensures)).0
-
-pub is_trail-requires-clause-short : goal.is_trail-requires-clause-short
-is_trail-requires-clause-short c = (known_contract c.args.accepted.now c.args.trail.now.flow c.in-Some.contract.now c.domain-domain.ensures.acceptable (sym c.in-Some.ensures)).1
+pub returns-in-None : goal.returns-in-None
+returns-in-None c = (
+  λ passed. absurd (false≢true passed),
+  λ sound. let (own, is_own, way) = sound.0 in absurd (none-some own (c.in-None.ensures.value ∙ is_own)),
+)
+  where
+    none-some : (c : Contract) → None ≡ Some c → ⊥
+    none-some c some = cc
 
 pub returns-then-is_trail : goal.returns-then-is_trail
 returns-then-is_trail c =
@@ -21,7 +24,7 @@ returns-then-is_trail c =
     let contract = c.in-Some.contract.now in
     let own = subst (λ (d : Domain). IsTrail (packet_of trail) trail.begun (came contract trail.dscp) (hops_of d trail.flow contract) trail.receipts.items)
     c.domain-domain.ensures.value (c.is_trail.ensures.0 c.if-is_trail.true) in (
-      λ noted. ((contract, sym c.in-Some.ensures, own), c.are_noted.ensures.0 noted),
+      λ noted. ((contract, sym c.in-Some.ensures.value, own), c.are_noted.ensures.0 noted),
       λ sound. c.are_noted.ensures.1 sound.1,
     )
 
@@ -32,8 +35,8 @@ returns-else-is_trail c =
       λ passed. absurd (false≢true (sym c.if-is_trail.false ∙ passed)),
       λ sound.
           let (own, is_own, way) = sound.0 in
-          let same = same_Some own contract (sym is_own ∙ sym c.in-Some.ensures) in
-          let here = subst (λ (x : Contract). IsTrail (packet_of trail) trail.begun (came x trail.dscp) (hops_of c.args.accepted.now.domain trail.flow x) trail.receipts.items) same way in
+          let same = same_Some own contract (sym is_own ∙ sym c.in-Some.ensures.value) in
+          let here = subst (λ (x : Contract). IsTrail (packet_of trail) trail.begun (came x trail.dscp) (hops_of (basis_of c.args.basis.now).domain trail.flow x) trail.receipts.items) same way in
           c.is_trail.ensures.1 (subst (λ (d : Domain). IsTrail (packet_of trail) trail.begun (came contract trail.dscp) (hops_of d trail.flow contract) trail.receipts.items)
           (sym c.domain-domain.ensures.value) here),
     )

@@ -19,7 +19,7 @@ pub returns-in_default-2 : goal.returns-in_default-2
 returns-in_default-2 c = (
   λ passed. absurd (false≢true passed),
   λ whole. absurd (IsLeft-none (packet_of c.args.trail.now) c.loop-place.since c.loop-place.came (hops_of c.args.domain.now c.args.trail.now.flow c.args.contract.now)
-      c.args.trail.now.receipts.items c.loop-place.place (rw c.as_slice-receipt-items.ensures.value at c.loop-place-test.true) (sym c.in_default.ensures) (c.loop-place.invariant.0 whole)),
+      c.args.trail.now.receipts.items c.loop-place.place (rw c.as_slice-receipt-items.ensures.value at c.loop-place-test.true) (sym c.hop_at.ensures ∙ c.in_default.is) (c.loop-place.invariant.0 whole)),
 )
 
 pub loop-place-preserved : goal.loop-place-preserved

@@ -1,0 +1,18 @@
+use Rattle.std.proofs.Common.{◌-◌, length, ap, sym, ◌∙◌, arith}
+use Rattle.std.specs.Prelude.{option_and_then}
+use Rattle.meter_fabric_base.specs.Grounds.{contract_of}
+use Rattle.meter_fabric_base.specs.Openings.{edge_opening}
+use Rattle.meter_fabric_base.proofs.GroundLaws.{none_past, opening_behind}
+use Rattle.run_audit.specs.Bases.{basis_of}
+use Rattle.run_audit.proofs.basis.Ground.opening_at.Goals as goal
+
+pub returns-in-None : goal.returns-in-None
+returns-in-None c =
+    let g = basis_of c.args.self.now in
+    let entries = c.meters-in-None.ensures.entries ∙ ap (λ d. d.meters) c.domain-domain.ensures.value in
+    let long = c.len.ensures.len ∙ ap length entries in
+    let past = none_past c.get_index.result c.args.site _ c.get_index.ensures.found c.in-None.is in
+    let same = ap length (c.meters.ensures.entries ∙ ap (λ d. d.meters) c.domain-domain.ensures.value) in
+    c.edge_at.ensures
+    ∙ ap (λ n. option_and_then (edge_opening g.domain) (contract_of g (c.args.site - n))) long
+    ∙ sym (opening_behind g c.args.site (omega (arith, past, same)))
