@@ -21,6 +21,20 @@ sum_by-mono f g (p ∷ ps) all =
     let head = All-head (λ p. f p ≤ g p) p ps all in
     omega (arith, head, sum_by-mono f g ps (All-tail (λ p. f p ≤ g p) p ps all), sum_by-cons f p ps, sum_by-cons g p ps)
 
+-- a sum of terms that are not more than two together is not more than both sums
+pub sum_by-split : {P : Type 0} (whole some rest : P → ℕ) (ps : List P) → All (λ p. whole p ≤ some p + rest p) ps → sum_by whole ps ≤ sum_by some ps + sum_by rest ps
+sum_by-split whole some rest [] all = omega arith
+sum_by-split whole some rest (p ∷ ps) all =
+    let head = All-head (λ p. whole p ≤ some p + rest p) p ps all in
+    omega (
+      arith,
+      head,
+      sum_by-split whole some rest ps (All-tail (λ p. whole p ≤ some p + rest p) p ps all),
+      sum_by-cons whole p ps,
+      sum_by-cons some p ps,
+      sum_by-cons rest p ps,
+    )
+
 -- terms that are nothing sum to nothing
 pub sum_by-none : {P : Type 0} (f : P → ℕ) (ps : List P) → All (λ p. f p ≡ 0) ps → sum_by f ps ≡ 0
 sum_by-none f [] all = refl
