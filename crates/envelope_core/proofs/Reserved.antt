@@ -1,10 +1,12 @@
 -- Flows that come and go, each with a share of a rate and of a burst for a time (Cruz 1991, section II).
 use Rattle.std.proofs.Common.{◌≡◌, ℕ, ◌+◌, ◌-◌, ◌*◌, ◌/◌, ◌<◌, ◌≤◌, zero, suc, inl, inr, Bool, true, false, cond, List, [], ◌∷◌, refl, sym, ◌∙◌, ap, arith, get_or, Option, None, Some}
-use Rattle.std.proofs.Math.Nat.{mul-le-mul_left, mul-add}
+use Rattle.std.proofs.Math.Nat.{mul_comm, mul-le-mul_left, mul-add}
+use Rattle.std.proofs.lemmas.Grind.{div_ceil_times}
 use Rattle.std.proofs.lemmas.Bool.{cases_lt}
 use Rattle.std.specs.List.{sum_by, filter, flat_map, All}
 use Rattle.std.specs.Option.{ForSome}
 use Rattle.moment_core.specs.Conformance.{size_within, Keeps}
+use Rattle.moment_core.specs.Volume.{nanoseconds_for}
 use Rattle.envelope_core.proofs.Quotients.{bytes_within, bytes_within_back}
 use Rattle.envelope_core.proofs.Windows.{size_within_after, size_within_before, size_within_cases, size_within_inside, sum_by-filter, sum_by-flat_map, sum_by-mono, sum_by-none, sum_by-split}
 use Rattle.std.proofs.lemmas.List.Sums.{sum_by-cons}
@@ -36,6 +38,16 @@ reserved_in-least reserved start (suc count) first last begun ended held =
     counted : (here : Bool) → here ≡ true → 1 ≤ cond here 1 0
     counted here is = rw is (omega arith)
 
+-- in the time that a rate takes for some bytes it gives them
+pub bytes_given : (rate bytes time : ℕ) → 1 ≤ rate → nanoseconds_for rate bytes ≤ time → 8000000000 * bytes ≤ rate * time
+bytes_given rate bytes time some long =
+    omega (
+      arith,
+      (div_ceil_times (bytes * 8000000000) rate some).0,
+      mul_comm (nanoseconds_for rate bytes) rate,
+      mul-le-mul_left rate long,
+    )
+
 -- ---- one flow
 
 -- In each window a flow brings no more than its rate gives in the time for which its share is reserved, and its burst
@@ -44,6 +56,10 @@ abbrev pub IsPaid : ℕ → ℕ → (ℕ → Bool) → List (ℕ × ℕ) → Typ
 IsPaid rate burst reserved items =
     (start end : ℕ) → start ≤ end
     → 8000000000 * sum_by (size_within start end) items ≤ cond (reserved end) (8000000000 * burst) 0 + rate * reserved_in reserved start (end - start)
+
+-- what weighs nothing is paid by any share
+pub paid-nothing : (rate burst : ℕ) (reserved : ℕ → Bool) (items : List (ℕ × ℕ)) → ((start end : ℕ) → start ≤ end → sum_by (size_within start end) items ≡ 0) → IsPaid rate burst reserved items
+paid-nothing rate burst reserved items nothing start end ordered = omega (arith, nothing start end ordered)
 
 -- its items end by a moment, whose distance to the retirement gives its burst
 pub record IsOver (rate burst retirement : ℕ) (items : List (ℕ × ℕ)) : Type 0 where
@@ -180,15 +196,15 @@ scaled scale f (x ∷ flows) =
     sum_by-cons (λ y. scale * f y) x flows ∙ ap (λ n. scale * f x + n) (scaled scale f flows)
     ∙ sym (mul-add scale (f x) (sum_by f flows)) ∙ ap (λ n. scale * n) (sym (sum_by-cons f x flows))
 
--- Flows that are paid by their shares keep a rate and a burst together in each window that ends at a moment at which the
+-- Flows that are paid by their shares keep a rate and a burst together, in the windows that end at a moment at which the
 -- bursts that are reserved are within that burst, if at no moment the rates that are reserved are above that rate.
 pub shares-keep : {F : Type 0} (rate burst : F → ℕ) (reserved : F → ℕ → Bool) (items : F → List (ℕ × ℕ)) (flows : List F) (most_rate most_burst : ℕ)
     → All (λ f. IsPaid (rate f) (burst f) (reserved f) (items f)) flows
     → ((moment : ℕ) → sum_by rate (filter (λ f. reserved f moment) flows) ≤ most_rate)
-    → (start end : ℕ) → start ≤ end
-    → sum_by burst (filter (λ f. reserved f end) flows) ≤ most_burst
+    → (end : ℕ) → sum_by burst (filter (λ f. reserved f end) flows) ≤ most_burst
+    → (start : ℕ) → start ≤ end
     → sum_by (size_within start end) (flat_map items flows) ≤ most_burst + most_rate * (end - start) / 8000000000
-shares-keep rate burst reserved items flows most_rate most_burst paid within start end ordered enough =
+shares-keep rate burst reserved items flows most_rate most_burst paid within end enough start ordered =
     let weigh = size_within start end in
     let brought = λ (f : _). sum_by weigh (items f) in
     let kept = λ (f : _). cond (reserved f end) (burst f) 0 in
