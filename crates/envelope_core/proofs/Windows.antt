@@ -8,7 +8,7 @@ use Rattle.std.proofs.lemmas.List.Sorted.{sum_by-IsPermutation}
 use Rattle.std.proofs.lemmas.List.Elements.{All-head, All-tail}
 use Rattle.std.specs.List.{sum_by, filter, flat_map, All}
 use Rattle.std.specs.List.Sorted.{IsPermutation}
-use Rattle.moment_core.specs.Conformance.{size_within, Keeps}
+use Rattle.moment_core.specs.Conformance.{size_within, Keeps, KeepsUpTo}
 use Rattle.moment_core.specs.Volume.{bytes_over}
 use Rattle.envelope_core.proofs.Quotients.{bytes_mono, bytes_add, bytes_longer}
 
@@ -147,15 +147,24 @@ Keeps-filter rate burst test items kept start end ordered =
     cond-le false n = omega arith
     cond-le true n = omega arith
 
--- a greater rate and a greater burst are kept too
+-- a greater rate and a greater burst are kept too, in the windows that end at a moment
+pub KeepsUpTo-looser : (end rate burst more_rate more_burst : ℕ) (items : List (ℕ × ℕ))
+    → rate ≤ more_rate
+    → burst ≤ more_burst
+    → KeepsUpTo end rate burst items
+    → KeepsUpTo end more_rate more_burst items
+KeepsUpTo-looser end rate burst more_rate more_burst items faster larger kept start ordered =
+    let whole = kept start ordered in
+    omega (arith, whole, larger, bytes_mono (rate * (end - start)) (more_rate * (end - start)) (mul-le-mul_right (end - start) faster))
+
+-- and in all windows
 pub Keeps-looser : (rate burst more_rate more_burst : ℕ) (items : List (ℕ × ℕ))
     → rate ≤ more_rate
     → burst ≤ more_burst
     → Keeps rate burst items
     → Keeps more_rate more_burst items
-Keeps-looser rate burst more_rate more_burst items faster larger kept start end ordered =
-    let whole = kept start end ordered in
-    omega (arith, whole, larger, bytes_mono (rate * (end - start)) (more_rate * (end - start)) (mul-le-mul_right (end - start) faster))
+Keeps-looser rate burst more_rate more_burst items faster larger kept start end =
+    KeepsUpTo-looser end rate burst more_rate more_burst items faster larger (λ s h. kept s end h) start
 
 -- two flows that merge
 pub Keeps-append : (rate burst more_rate more_burst : ℕ) (items more : List (ℕ × ℕ))
