@@ -2,10 +2,8 @@
 use Rattle.std.specs.Prelude.{◌≡◌, ℕ, ◌+◌, ◌≤◌, Bool, false, not, ◌&&◌, nat_eq, nat_le, List, map, filter, find, All}
 use Rattle.std.specs.Prelude.{AllPairs, Option, None, Some, IsSomeAnd}
 use Rattle.std.specs.Option.{ForSome}
-use Rattle.ds_certificate.specs.Columns.{InEach, envelope_in}
-use Rattle.ds_certificate.specs.Sources.{source_of}
+use Rattle.ds_certificate.specs.Rates.{HasRates}
 use Rattle.ds_domain_base.specs.Domains.{Domain}
-use Rattle.ds_domain_base.specs.declared.contract.Contract.{Contract}
 use Rattle.ds_checker.specs.Acceptance.{IsAcceptable, Table}
 use Rattle.ds_checker.specs.Holds.{hold_of}
 use Rattle.ds_timeline.specs.declared.reservation.Reservation.{Reservation}
@@ -52,11 +50,7 @@ IsFreeBy d r moment = IsSomeAnd r.contract.lifetime.until (λ until. until + hol
 abbrev pub IsHeld : Domain → Reservation → Type 0
 IsHeld d r = ForSome r.retirement (IsFreeBy d r)
 
--- a contract has a rate in each column
-abbrev pub HasRates : Domain → Contract → Type 0
-HasRates d c = InEach (λ column. 1 ≤ (envelope_in column (source_of d c)).rate)
-
--- what was retired had one, so that there is a time in which its rate alone gives its burst
+-- What was retired has a rate in each column, so that there is a time in which that alone gives its burst.
 abbrev pub IsRated : Domain → Reservation → Type 0
 IsRated d r = ForSome r.retirement (λ moment. HasRates d r.contract)
 
