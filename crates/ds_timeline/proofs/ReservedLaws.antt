@@ -100,7 +100,8 @@ pub record IsHeldOver (d : Domain) (r : Reservation) (name : List ℕ) (skew rat
   pub held : until + way_to d name r.contract.port r.contract.path + skew ≤ retirement
   pub paid : 8000000000 * burst ≤ rate * (retirement - (until + way_to d name r.contract.port r.contract.path + skew))
 
-some-and : {X : Type 0} (P : X → Type 0) (o : Option X) → IsSomeAnd o P → (x : X) × (o ≡ Some x) × P x
+-- the value that there is
+pub some-and : {X : Type 0} (P : X → Type 0) (o : Option X) → IsSomeAnd o P → (x : X) × (o ≡ Some x) × P x
 some-and P None holds = absurd holds
 some-and P (Some x) holds = (x, refl, holds)
 

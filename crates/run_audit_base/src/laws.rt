@@ -1,6 +1,6 @@
 //! The law of colours, proved as the contract of a function that does nothing.
 ghost use Rattle.run_audit_base.specs.Examples.{SmallRunIsKept};
-ghost use Rattle.run_audit_base.specs.KeptColours.{EveryRunKeepsColours};
+ghost use Rattle.run_audit_base.specs.KeptColours.{EveryRunKeepsColours, EveryRunOverATimelineKeepsColours};
 ghost use Rattle.run_audit_base.specs.PolicedExample.{PolicedRunIsKept};
 
 /// Where the checker accepts a domain, its contracts and their certificate, then in every run of its meters by any
@@ -12,6 +12,17 @@ ghost use Rattle.run_audit_base.specs.PolicedExample.{PolicedRunIsKept};
 /// (RFC 2475 section 2.3.3; Cruz 1991, section II).
 pub fn every_run_keeps_colours()
     ensures { EveryRunKeepsColours }
+{}
+
+/// So it is where contracts come and go. Where contracts are granted so that at each moment what is reserved is
+/// acceptable, where a contract sends nothing before its share is reserved and nothing from its end on, and where its
+/// share is held behind its end for as long as its hold, every packet sent within its contract leaves every meter with
+/// its colour: also at a meter whose share was sold to one contract after another.
+///
+/// While a share is held nothing arrives that its rate would not have given: behind the end the hold is as long as the
+/// last packet takes to the meter, and then as long as the rate takes for the burst (Cruz 1991, section II).
+pub fn every_run_over_a_timeline_keeps_colours()
+    ensures { EveryRunOverATimelineKeepsColours }
 {}
 
 /// What is asked of a run can be met: a packet of 100 bytes passes the only meter of a domain.
