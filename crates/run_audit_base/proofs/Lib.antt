@@ -6,5 +6,6 @@ pub mod Loads
 pub mod Passages
 pub mod Places
 pub mod PolicedExampleLaws
+pub mod SoldTwiceLaws
 pub mod Sources
 pub mod Ways

@@ -2,6 +2,7 @@
 ghost use Rattle.run_audit_base.specs.Examples.{SmallRunIsKept};
 ghost use Rattle.run_audit_base.specs.KeptColours.{EveryRunKeepsColours, EveryRunOverATimelineKeepsColours};
 ghost use Rattle.run_audit_base.specs.PolicedExample.{PolicedRunIsKept};
+ghost use Rattle.run_audit_base.specs.SoldTwiceExample.{ShareSoldTwiceIsKept};
 
 /// Where the checker accepts a domain, its contracts and their certificate, then in every run of its meters by any
 /// workers in any order, in which trusted sources keep their buckets, links keep their jitter and meters their skew,
@@ -34,4 +35,10 @@ pub fn small_run_is_kept()
 /// rate (RFC 2697).
 pub fn policed_run_is_kept()
     ensures { PolicedRunIsKept }
+{}
+
+/// It can be met where a share is sold twice, one time after the other: two contracts of which the meter can carry only
+/// one at a time, and each of which sends its whole burst.
+pub fn a_share_sold_twice_is_kept()
+    ensures { ShareSoldTwiceIsKept }
 {}
