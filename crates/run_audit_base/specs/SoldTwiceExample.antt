@@ -1,7 +1,7 @@
 -- A share that is sold twice, one time after the other. The least domain's meter has enough for one contract at a time.
--- Its first contract ends at moment 1, and its share is held for the 1.5 seconds in which its rate gives its burst. From
--- the moment on at which it is retired, a second contract has the share. Each sends its whole burst as one packet, the
--- first at its last moment, the second at its first one.
+-- Its first contract ends at moment 1, and its share is held for the 1.5 seconds in which its rate gives its burst.
+-- From the moment on at which it is retired, a second contract has the share. Each sends its whole burst as one packet,
+-- the first at its last moment, the second at its first one.
 use Rattle.std.specs.Prelude.{ℕ, [], ◌∷◌, None, Some}
 use Rattle.moment_core.specs.declared.colour.Colour.TheVariants.{Green}
 use Rattle.meter_book_base.specs.AnyMeter.{after_any}

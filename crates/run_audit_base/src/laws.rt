@@ -15,13 +15,14 @@ pub fn every_run_keeps_colours()
     ensures { EveryRunKeepsColours }
 {}
 
-/// So it is where contracts come and go. Where contracts are granted so that at each moment what is reserved is
-/// acceptable, where a contract sends nothing before its share is reserved and nothing from its end on, and where its
-/// share is held behind its end for as long as its hold, every packet sent within its contract leaves every meter with
-/// its colour: also at a meter whose share was sold to one contract after another.
+/// So it is where contracts come and go, and a share is sold to one contract after another: where what is reserved at
+/// each moment is acceptable, no contract sends before its share is reserved, and each share is held behind its
+/// contract's end for its hold, every packet leaves every meter with the colour that it was sent with, in every run
+/// that meets the same premises.
 ///
-/// While a share is held nothing arrives that its rate would not have given: behind the end the hold is as long as the
-/// last packet takes to the meter, and then as long as the rate takes for the burst (Cruz 1991, section II).
+/// The hold is as long as the last packet may take to a meter, and then as long as the rate takes for the burst there.
+/// So what a retired contract brought into a window of time its rate alone gives, in the time for which its share was
+/// reserved (Cruz 1991, section II).
 pub fn every_run_over_a_timeline_keeps_colours()
     ensures { EveryRunOverATimelineKeepsColours }
 {}
