@@ -4,6 +4,7 @@ pub mod Inputs
 pub mod Journals
 pub mod Loads
 pub mod Passages
+pub mod Peaks
 pub mod Places
 pub mod PolicedExampleLaws
 pub mod SoldTwiceLaws

@@ -1,26 +1,30 @@
 -- What contracts bring to a meter together, and how the packets of a run are those of its contracts.
 use Rattle.std.proofs.Common.{◌≡◌, ℕ, ◌+◌, ◌<◌, ◌≤◌, inl, inr, Bool, true, false, cond, List, [], ◌∷◌, ◌++◌, map, refl, sym, ◌∙◌, ap, arith, get_or, Some, None}
-use Rattle.std.specs.Prelude.{nat_eq, find, Option, option_map, option_to_list}
-use Rattle.std.specs.List.{sum_by, filter, flat_map, All}
-use Rattle.std.proofs.lemmas.Bool.{cases_lt}
+use Rattle.std.specs.Prelude.{drop, nat_eq, find, Option, option_map, option_to_list}
+use Rattle.std.specs.List.{sum_by, filter, flat_map, list_any, All, AllByRecursion}
+use Rattle.std.proofs.lemmas.Bool.{cases_lt, false≢true}
 use Rattle.std.proofs.lemmas.Bool.Decides.{nat_tests}
 use Rattle.std.proofs.lemmas.List.{map-append}
 use Rattle.std.proofs.lemmas.List.Elements.{filter-append}
 use Rattle.std.proofs.lemmas.List.Sums.{sum_by-cons, sum_by-append}
 use Rattle.std.proofs.lemmas.Option.{none-some, same_Some}
 use Rattle.moment_core.specs.declared.column.Column.{Column}
+use Rattle.moment_core.specs.declared.column.Column.TheVariants as columns
 use Rattle.moment_core.specs.Conformance.{size_within}
 use Rattle.moment_core.specs.Volume.{bytes_over}
 use Rattle.envelope_core.specs.Curve.{Curve, KeepsCurve, widened}
-use Rattle.envelope_core.proofs.Windows.{Keeps-looser, sum_by-mono, sum_by-none, sum_by-flat_map, sum_by-filter, sum_by-split}
-use Rattle.ds_domain_base.specs.Domains.{Domain}
+use Rattle.envelope_core.proofs.Windows.{Keeps-looser, sum_by-map, sum_by-mono, sum_by-none, sum_by-flat_map, sum_by-filter, sum_by-split}
+use Rattle.ds_domain_base.specs.Domains.{Domain, port_of, skew_of}
 use Rattle.ds_domain_base.specs.Sent.{has_peak}
 use Rattle.ds_domain_base.specs.declared.contract.Contract.{Contract}
+use Rattle.ds_domain_base.specs.declared.parts.Version.{Version}
+use Rattle.ds_domain_base.specs.declared.terms.Terms.{Terms}
+use Rattle.ds_domain_base.specs.declared.terms.Terms.TheVariants.{Trusted, Policed}
 use Rattle.ds_certificate.specs.Columns.{Bound, bytes_in, envelope_in}
-use Rattle.ds_certificate.specs.Sources.{source_of}
-use Rattle.ds_checker.specs.Loads.{Share, load, share_of, shares_at}
+use Rattle.ds_certificate.specs.Sources.{source_by, source_of}
+use Rattle.ds_checker.specs.Loads.{Share, bound_into, kept, load, share_of, shares_at}
 use Rattle.ds_timeline.specs.declared.reservation.Reservation.{Reservation}
-use Rattle.run_audit_base.proofs.Ways.{KeepsBound}
+use Rattle.run_audit_base.proofs.Ways.{KeepsBound, neither}
 
 -- ---- the share of a contract
 
@@ -68,6 +72,52 @@ load-sum d name skew column test (r ∷ rs) =
       both.0 ∙ ap (λ n. rate r + n) next.0 ∙ sym (sum_by-cons rate r rs),
       both.1 ∙ ap (λ n. burst r + n) next.1 ∙ sym (sum_by-cons burst r rs),
     )
+
+-- ---- shares without a peak
+
+-- a share without a peak has in each column the same rate
+abbrev IsPlain : Share → Type 0
+IsPlain share = share.has_peak ≡ false → (envelope_in columns.All share.source).rate ≡ (envelope_in columns.Green share.source).rate
+
+plain_source : (version : Version) (skew : ℕ) (terms : Terms) → has_peak terms ≡ false
+    → (envelope_in columns.All (source_by version skew terms)).rate ≡ (envelope_in columns.Green (source_by version skew terms)).rate
+plain_source version skew (Trusted committed None) none = refl
+plain_source version skew (Trusted committed (Some peak)) none = absurd (false≢true (sym none))
+plain_source version skew (Policed parameters mode) none = absurd (false≢true (sym none))
+
+plain_contract : (d : Domain) (c : Contract) → has_peak c.terms ≡ false → (envelope_in columns.All (source_of d c)).rate ≡ (envelope_in columns.Green (source_of d c)).rate
+unfolding source_of
+plain_contract d c none = plain_source d.version (skew_of (port_of d c.port)) c.terms none
+
+plain_shares : (d : Domain) (name : List ℕ) (contracts : List Contract) (rows : List (List Bound)) → AllByRecursion IsPlain (shares_at d name contracts rows)
+unfolding shares_at
+plain_shares d name [] rows = tt
+plain_shares d name (c ∷ contracts) [] = tt
+plain_shares d name (c ∷ contracts) (bounds ∷ rows) = behind (bound_into name c.path (drop 1 bounds)) (plain_shares d name contracts rows)
+  where
+    behind : (found : Option Bound) → AllByRecursion IsPlain (shares_at d name contracts rows)
+        → AllByRecursion IsPlain (option_to_list (option_map (λ bound. record { source = source_of d c; bound = bound; has_peak = has_peak c.terms }) found) ++ shares_at d name contracts rows)
+    behind None rest = rest
+    behind (Some bound) rest = (plain_contract d c, rest)
+
+plain_rates : (shares : List Share) → AllByRecursion IsPlain shares → list_any (λ share. share.has_peak) shares ≡ false
+    → sum_by (λ share. (envelope_in columns.All share.source).rate) shares ≡ sum_by (λ share. (envelope_in columns.Green share.source).rate) shares
+plain_rates [] plain none = refl
+plain_rates (share ∷ shares) plain none =
+    let both = neither share.has_peak (list_any (λ share. share.has_peak) shares) none in
+    let rate = λ (column : Column) (share : Share). (envelope_in column share.source).rate in
+    sum_by-cons (rate columns.All) share shares ∙ ap (λ n. n + sum_by (rate columns.All) shares) (plain.0 both.0)
+    ∙ ap (λ n. rate columns.Green share + n) (plain_rates shares plain.1 both.1) ∙ sym (sum_by-cons (rate columns.Green) share shares)
+
+load-rate : (column : Column) (skew : ℕ) (shares : List Share) → (load column skew shares).rate ≡ sum_by (λ share. (envelope_in column share.source).rate) shares
+load-rate column skew shares = sum_by-map (λ (curve : Curve). curve.rate) (λ (share : Share). widened skew (kept column share)) shares
+
+-- where none has a peak, green and yellow packets together have the rate of the green ones
+pub plain_load : (d : Domain) (name : List ℕ) (skew : ℕ) (contracts : List Contract) (rows : List (List Bound)) → list_any (λ share. share.has_peak) (shares_at d name contracts rows) ≡ false
+    → (load columns.All skew (shares_at d name contracts rows)).rate ≡ (load columns.Green skew (shares_at d name contracts rows)).rate
+plain_load d name skew contracts rows none =
+    let shares = shares_at d name contracts rows in
+    load-rate columns.All skew shares ∙ plain_rates shares (plain_shares d name contracts rows) none ∙ sym (load-rate columns.Green skew shares)
 
 -- ---- the packets of contracts
 

@@ -114,16 +114,6 @@ other_site d name to site apart other s is_site = by_test (nat_eq s site) refl
     by_test true here = absurd (false≢true (sym other ∙ apart (sym is_site ∙ nat_eq-true s site here)))
     by_test false here = refl
 
-crossing-absent : (d : Domain) (name : List ℕ) (site skew weight : ℕ) (from : List ℕ) (path : List (List ℕ)) (moment : ℕ) (rs : List Receipt)
-    → IsApart d name site path → list_any (bytes_eq name) path ≡ false → Goes d site skew from path moment rs → crossing site weight rs ≡ []
-unfolding Goes IsApart
-crossing-absent d name site skew weight from path moment [] apart absent goes = refl
-crossing-absent d name site skew weight from [] moment (r ∷ rs) apart absent goes = absurd goes
-crossing-absent d name site skew weight from (to ∷ path) moment (r ∷ rs) apart absent goes =
-    let both = neither (bytes_eq name to) (list_any (bytes_eq name) path) absent in
-    crossing-other site weight r rs (other_site d name to site apart.0 both.0 r.site goes.0)
-    ∙ crossing-absent d name site skew weight to path r.row.arrival rs apart.1 both.1 goes.3
-
 -- no receipt is of a site that a path does not come to
 abbrev pub IsElsewhere : ℕ → List Receipt → Type 0
 IsElsewhere site rs = All (λ r. r.site ≡ site → ⊥) rs
@@ -140,6 +130,19 @@ absent d name site skew from (to ∷ path) moment (r ∷ rs) apart none goes zer
     not_there site r (other_site d name to site apart.0 (neither (bytes_eq name to) (list_any (bytes_eq name) path) none).0 r.site goes.0)
 absent d name site skew from (to ∷ path) moment (r ∷ rs) apart none goes (suc k) e h =
     absent d name site skew to path r.row.arrival rs apart.1 (neither (bytes_eq name to) (list_any (bytes_eq name) path) none).1 goes.3 k e (omega (arith, h))
+
+-- and then no moment is used there
+pub crossing-elsewhere : (site weight : ℕ) (rs : List Receipt) → IsElsewhere site rs → crossing site weight rs ≡ []
+crossing-elsewhere site weight [] none = refl
+crossing-elsewhere site weight (r ∷ rs) none = by_site (nat_eq r.site site) refl (crossing-elsewhere site weight rs (λ k e h. none (suc k) e (omega (arith, h))))
+  where
+    by_site : (b : Bool) → nat_eq r.site site ≡ b → crossing site weight rs ≡ [] → crossing site weight (r ∷ rs) ≡ []
+    by_site true here onward = absurd (none 0 r (omega arith) (nat_eq-true r.site site here))
+    by_site false other onward = crossing-other site weight r rs other ∙ onward
+
+crossing-absent : (d : Domain) (name : List ℕ) (site skew weight : ℕ) (from : List ℕ) (path : List (List ℕ)) (moment : ℕ) (rs : List Receipt)
+    → IsApart d name site path → list_any (bytes_eq name) path ≡ false → Goes d site skew from path moment rs → crossing site weight rs ≡ []
+crossing-absent d name site skew weight from path moment rs apart none goes = crossing-elsewhere site weight rs (absent d name site skew from path moment rs apart none goes)
 
 -- nor of a site that is not the one of its name
 pub elsewhere : (d : Domain) (name : List ℕ) (site skew : ℕ) (from : List ℕ) (path : List (List ℕ)) (moment : ℕ) (rs : List Receipt)
@@ -198,15 +201,6 @@ pub All-flat_map : {P X : Type 0} (Q : X → Type 0) (some : P → List X) (ps :
 All-flat_map Q some [] each = All-nil Q
 All-flat_map Q some (p ∷ ps) each =
     All-append Q (some p) (flat_map some ps) (each 0 p (omega arith)) (All-flat_map Q some ps (λ k e h. each (suc k) e (omega (arith, h))))
-
--- and where no receipt is of it, none are
-pub crossing-elsewhere : (site weight : ℕ) (rs : List Receipt) → IsElsewhere site rs → crossing site weight rs ≡ []
-crossing-elsewhere site weight [] none = refl
-crossing-elsewhere site weight (r ∷ rs) none = by_site (nat_eq r.site site) refl (crossing-elsewhere site weight rs (λ k e h. none (suc k) e (omega (arith, h))))
-  where
-    by_site : (b : Bool) → nat_eq r.site site ≡ b → crossing site weight rs ≡ [] → crossing site weight (r ∷ rs) ≡ []
-    by_site true here onward = absurd (none 0 r (omega arith) (nat_eq-true r.site site here))
-    by_site false other onward = crossing-other site weight r rs other ∙ onward
 
 -- ---- a step of a path
 
