@@ -18,7 +18,7 @@ use Rattle.ds_checker.specs.declared.refusal.Refusal.{Refusal}
 use Rattle.ds_checker.proofs.AcceptanceLaws.{acceptable}
 use Rattle.ds_checker.proofs.ChangeLaws.{acceptable-taken}
 use Rattle.ds_timeline.specs.Kept.{IsTimeline}
-use Rattle.ds_timeline.specs.Timelines.{IsCovered, IsFreeBy, IsHeld, is_by, is_reserved, table_by}
+use Rattle.ds_timeline.specs.Timelines.{IsCovered, IsFreeBy, IsHeld, IsRated, is_by, is_reserved, table_by}
 use Rattle.ds_timeline.specs.declared.reservation.Reservation.{Reservation}
 use Rattle.ds_timeline.proofs.NumberedLaws.{numbered-apart}
 use Rattle.ds_broker.specs.Books.{Book, Limits, contracts_in, held_of, holding_of, moment_in, standing, table_in, table_of, with_command}
@@ -26,13 +26,14 @@ use Rattle.ds_broker.specs.Found.{IsFirst}
 use Rattle.ds_broker.specs.Histories.{Holding, Standing, after, begun, end_by, with_retired}
 use Rattle.ds_broker.specs.Refusals.{free_from, hold_left, refusal_in, refusal_or_checked, retire_refusal_at, room_refusal}
 use Rattle.ds_broker.specs.Requests.{AreUnrefused}
-use Rattle.ds_broker.specs.Timelines.{Past, changed, ending_by, granted_as, id_of, past_after, past_of, retired_at, timeline_behind}
+use Rattle.ds_broker.specs.Timelines.{IsOfRates, Past, changed, ending_by, granted_as, id_of, past_after, past_of, retired_at, timeline_behind}
 use Rattle.ds_broker.specs.declared.command.Command.{Command}
 use Rattle.ds_broker.specs.declared.command.Command.TheVariants.{Reserve, Release, Retire}
 use Rattle.ds_broker.specs.declared.refusal.BrokerRefusal.{BrokerRefusal}
 use Rattle.ds_broker.specs.declared.refusal.BrokerRefusal.TheVariants.{Checker, HistoryFull, NotReleased}
 use Rattle.ds_broker.proofs.HoldingLaws.{first-below}
 use Rattle.ds_broker.proofs.PastLaws.{IsGiven, IsOnly, IsPast, IsTold, held-only, held_as, is_unretired, past-kept, past-next, past-push}
+use Rattle.ds_broker.proofs.RatedLaws.{rated-behind}
 use Rattle.ds_broker.proofs.StandingLaws.{granted-most, standing-push}
 use Rattle.ds_broker.proofs.TableLaws.{none-acceptable, table-retired}
 
@@ -353,9 +354,11 @@ covered-behind d limits history unrefused =
     }
 
 pub timeline-kept : (d : Domain) (limits : Limits) (history : List Command) → AreUnrefused (record { domain = d; limits = limits; history = [] }) history → length history ≤ 65536
+    → AllByRecursion (IsOfRates d) history
     → IsTimeline (timeline_behind d history)
-timeline-kept d limits history unrefused short = record {
+timeline-kept d limits history unrefused short rates = record {
   covered = covered-behind d limits history unrefused;
+  rated = All-from_recursion (IsRated d) (past_of d history).granted (rated-behind d history rates);
   numbered = (past-kept d history).numbered;
   few = omega (arith, (past-kept d history).count, granted-most history, short);
 }

@@ -5,6 +5,7 @@ pub mod HopelessLaws
 pub mod KeptLaws
 pub mod NextLaws
 pub mod PastLaws
+pub mod RatedLaws
 pub mod RefusalLaws
 pub mod RequestLaws
 pub mod StandingLaws

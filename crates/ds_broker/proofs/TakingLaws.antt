@@ -17,7 +17,7 @@ use Rattle.ds_broker.specs.Histories.{Holding, end_by, ended}
 use Rattle.ds_broker.specs.Kept.{IsNext}
 use Rattle.ds_broker.specs.Refusals.{refusal_in, refusal_or_checked, release_refusal_at, reserve_refusal, retire_refusal_at, room_refusal}
 use Rattle.ds_broker.specs.Requests.{AreUnrefused}
-use Rattle.ds_broker.specs.Timelines.{Past, changed, ending_by, id_of, past_after, past_of, retired_at, timeline_behind}
+use Rattle.ds_broker.specs.Timelines.{IsOfRates, Past, changed, ending_by, id_of, past_after, past_of, retired_at, timeline_behind}
 use Rattle.ds_broker.specs.declared.command.Command.{Command}
 use Rattle.ds_broker.specs.declared.command.Command.TheVariants.{Reserve, Release, Retire}
 use Rattle.ds_broker.specs.declared.refusal.BrokerRefusal.{BrokerRefusal}
@@ -149,6 +149,15 @@ past-more d history place command p q inside at before is =
     is ∙ ap (λ x. past_after d x command) before ∙ sym (past-push d (take place history) command)
     ∙ ap (λ next. past_of d (take place history ++ next ∷ [])) at ∙ ap (past_of d) (sym (take_more history place command inside))
 
+-- what holds of the commands so far holds of them and the next one
+pub each-more : (P : Command → Type 0) (history : List Command) (place : ℕ) (command : Command) → place < length history → command ≡ get_or history place command
+    → P command → AllByRecursion P (take place history) → AllByRecursion P (take (place + 1) history)
+each-more P [] place command inside at holds each = absurd (omega (arith, inside))
+each-more P (first ∷ history) zero command inside at holds each = (subst P at holds, tt)
+each-more P (first ∷ history) (suc place) command inside at holds each =
+    let next : suc place + 1 ≡ suc (place + 1) = omega arith in
+    rw next (each.0, each-more P history place command (omega (arith, inside)) at holds each.1)
+
 -- before the first command
 pub past-start : (d : Domain) (p : Past) → p.newest ≡ 0 → p.granted ≡ [] → p ≡ past_of d []
 unfolding past_of
@@ -157,13 +166,14 @@ past-start d p newest granted =
 
 -- what was granted by an accepted history is a timeline
 pub timeline-taken : (d domain : Domain) (limits : Limits) (history : List Command) (rs : List Reservation) (p : Past)
-    → AreUnrefused (record { domain = d; limits = limits; history = [] }) history → length history ≤ 65536 → domain ≡ d → rs ≡ p.granted → p ≡ past_of d history
+    → AreUnrefused (record { domain = d; limits = limits; history = [] }) history → length history ≤ 65536 → AllByRecursion (IsOfRates d) history
+    → domain ≡ d → rs ≡ p.granted → p ≡ past_of d history
     → IsTimeline (record { domain = domain; reservations = rs })
-timeline-taken d domain limits history rs p unrefused short same granted past =
+timeline-taken d domain limits history rs p unrefused short rates same granted past =
     let is : Timeline = record { domain = domain; reservations = rs } in
     let told : is ≡ timeline_behind d history =
     ap (λ x. record { domain = x; reservations = rs }) same ∙ ap (λ list. record { domain = d; reservations = list }) (granted ∙ ap (λ x. x.granted) past) in
-    subst IsTimeline (sym told) (timeline-kept d limits history unrefused short)
+    subst IsTimeline (sym told) (timeline-kept d limits history unrefused short rates)
 
 -- the contract of an id is written over
 pub past-ended : (rs : List Reservation) (newest at moment id : ℕ) (new : List Reservation) (r s : Reservation) (lifetime : Span) → moment ≡ max newest at

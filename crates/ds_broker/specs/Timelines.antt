@@ -1,9 +1,10 @@
 -- Every contract that a broker's book ever granted, and for how long its share is reserved.
-use Rattle.std.specs.Prelude.{ℕ, ◌+◌, max, nat_eq, List, [], ◌∷◌, ◌++◌, length, map, fold, None, Some}
+use Rattle.std.specs.Prelude.{ℕ, ◌+◌, ⊤, max, nat_eq, List, [], ◌∷◌, ◌++◌, length, map, fold, None, Some}
 use Rattle.std.specs.Prelude.{if◌then◌else◌}
 use Rattle.ds_domain_base.specs.Domains.{Domain}
 use Rattle.ds_domain_base.specs.declared.contract.Contract.{Contract}
 use Rattle.ds_certificate.specs.Bounds.{least_of}
+use Rattle.ds_certificate.specs.Rates.{HasRates}
 use Rattle.ds_timeline.specs.Timelines.{Timeline}
 use Rattle.ds_timeline.specs.declared.reservation.Reservation.{Reservation}
 use Rattle.ds_broker.specs.Books.{Book}
@@ -67,3 +68,9 @@ timeline_behind d history = record { domain = d; reservations = (past_of d histo
 -- the timeline of a book: that of its history
 abbrev pub timeline_of : Book → Timeline
 timeline_of b = timeline_behind b.domain b.history
+
+-- a contract that is reserved has a rate in each column
+abbrev pub IsOfRates : Domain → Command → Type 0
+IsOfRates d (Reserve c) = HasRates d c
+IsOfRates d (Release id at) = ⊤
+IsOfRates d (Retire id moment) = ⊤

@@ -3,6 +3,7 @@ pub mod Columns
 pub mod Faults
 pub mod Places
 pub mod Ranges
+pub mod Rates
 pub mod Readings
 pub mod Sources
 pub mod Texts

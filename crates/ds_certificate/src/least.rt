@@ -1,4 +1,4 @@
-ghost use Rattle.std.specs.Prelude.{◌≡◌, ◌+◌, ◌*◌, ◌≤◌, ◌^◌, ◌⊎◌, false, true, List, IsTrue, IfOk, IfErr};
+ghost use Rattle.std.specs.Prelude.{◌≡◌, ◌+◌, ◌*◌, ◌≤◌, ◌^◌, ◌⊎◌, false, true, List, IsTrue, IfOk, IfErr, OnOk};
 ghost use Rattle.std.specs.List.{AllZip, list_all};
 ghost use Rattle.ds_certificate.specs.Bounds.{AreAtMost, HasShape, IsAtMost, IsCertificate, Meets, delayed, entering};
 ghost use Rattle.ds_certificate.specs.Bounds.{fits, least, least_of};
@@ -6,6 +6,7 @@ ghost use Rattle.ds_certificate.specs.Columns.{InEach, bytes_in, envelope_in};
 ghost use Rattle.ds_certificate.specs.Columns as columns;
 ghost use Rattle.moment_core.specs.Volume.{bytes_over};
 ghost use Rattle.ds_certificate.specs.Ranges.{IsModerate, IsWithin};
+ghost use Rattle.ds_certificate.specs.Rates.{HasRates};
 
 use crate::bound::Bound;
 use crate::certificate::{Bounds, Certificate};
@@ -42,7 +43,8 @@ pub fn make(
     Ok(Certificate::new(bounds))
 }
 
-/// The least bounds of one contract, from hop 0 on: those that `make` gives it among any others.
+/// The least bounds of one contract, from hop 0 on: those that `make` gives it among any others. What has bounds has a
+/// rate of at least 1 bit per second in each column.
 ///
 /// Refused: `Shape` where the contract does not fit the domain, `NoMemory` where memory runs out.
 pub fn bounds_of(
@@ -56,6 +58,7 @@ pub fn bounds_of(
     ensures least { IfOk result (λ bounds. (other : List columns.Bound) →
         HasShape domain.now contract.now other → Meets domain.now contract.now other →
         AllZip IsAtMost bounds.items other) }
+    ensures rated { OnOk result (HasRates domain.now contract.now) }
     ensures refused { IfErr result (λ fault.
         ((fault ≡ CertificateFault.NoMemory) × (fits domain.now contract.now ≡ true))
         ⊎ ((fault ≡ CertificateFault.Shape) × (fits domain.now contract.now ≡ false))) }
@@ -80,7 +83,8 @@ fn least_bounds(
     contract: &Contract,
 ) -> Result<Vec<Bound>, AllocError>
     requires { IsTrue (fits domain.now contract.now) }
-    ensures { IfOk result (λ bounds. bounds.items ≡ least_of domain.now contract.now) }
+    ensures value { IfOk result (λ bounds. bounds.items ≡ least_of domain.now contract.now) }
+    ensures rated { HasRates domain.now contract.now }
 {
     let source = Source::of(domain, contract);
     let path = contract.path.meters();

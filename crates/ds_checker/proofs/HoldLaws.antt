@@ -23,7 +23,7 @@ unfolding greatest
 greatest-append [] b = grind arith
 greatest-append (n ∷ a) b = ap (max n) (greatest-append a b) ∙ sym (max-assoc n (greatest a) (greatest b))
 
-along-next : (d : Domain) (s : Source) (way : ℕ) (from to : List ℕ) (path : List (List ℕ)) (b : Bound) (bounds : List Bound)
+pub along-next : (d : Domain) (s : Source) (way : ℕ) (from to : List ℕ) (path : List (List ℕ)) (b : Bound) (bounds : List Bound)
     → greatest (holds_along d s way from (to ∷ path) (b ∷ bounds))
     ≡ max (greatest (holds_at_hop s (way + link_delay d from to) (meter_skew (meter_of d to)) b)) (greatest (holds_along d s (way + link_delay d from to) to path bounds))
 unfolding holds_along

@@ -7,3 +7,4 @@ pub mod LeastTableLaws
 pub mod LifetimeLaws
 pub mod LoadLaws
 pub mod PlaceLaws
+pub mod WayLaws

@@ -1,2 +1,3 @@
 pub mod ConstantLaws
 pub mod NumberedLaws
+pub mod ReservedLaws

@@ -2,8 +2,7 @@
 use Rattle.std.specs.Prelude.{◌≡◌, ℕ, ◌+◌, ◌≤◌, Bool, false, not, ◌&&◌, nat_eq, nat_le, List, map, filter, find, All}
 use Rattle.std.specs.Prelude.{AllPairs, Option, None, Some, IsSomeAnd}
 use Rattle.std.specs.Option.{ForSome}
-use Rattle.ds_certificate.specs.Columns.{InEach, envelope_in}
-use Rattle.ds_certificate.specs.Sources.{source_of}
+use Rattle.ds_certificate.specs.Rates.{HasRates}
 use Rattle.ds_domain_base.specs.Domains.{Domain}
 use Rattle.ds_checker.specs.Acceptance.{IsAcceptable, Table}
 use Rattle.ds_checker.specs.Holds.{hold_of}
@@ -51,10 +50,9 @@ IsFreeBy d r moment = IsSomeAnd r.contract.lifetime.until (λ until. until + hol
 abbrev pub IsHeld : Domain → Reservation → Type 0
 IsHeld d r = ForSome r.retirement (IsFreeBy d r)
 
--- What was retired has a rate in each column, so that there is a time in which its rate alone gives its burst.
+-- What was retired has a rate in each column, so that there is a time in which that alone gives its burst.
 abbrev pub IsRated : Domain → Reservation → Type 0
-IsRated d r =
-    ForSome r.retirement (λ moment. InEach (λ column. 1 ≤ (envelope_in column (source_of d r.contract)).rate))
+IsRated d r = ForSome r.retirement (λ moment. HasRates d r.contract)
 
 abbrev pub AreRated : Timeline → Type 0
 AreRated t = All (IsRated t.domain) t.reservations

@@ -3,4 +3,5 @@ pub mod LeakyBuckets
 pub mod LinearPass
 pub mod Merging
 pub mod Quotients
+pub mod Reserved
 pub mod Windows

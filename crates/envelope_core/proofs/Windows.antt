@@ -8,7 +8,7 @@ use Rattle.std.proofs.lemmas.List.Sorted.{sum_by-IsPermutation}
 use Rattle.std.proofs.lemmas.List.Elements.{All-head, All-tail}
 use Rattle.std.specs.List.{sum_by, filter, flat_map, All}
 use Rattle.std.specs.List.Sorted.{IsPermutation}
-use Rattle.moment_core.specs.Conformance.{size_within, Keeps}
+use Rattle.moment_core.specs.Conformance.{size_within, Keeps, KeepsUpTo}
 use Rattle.moment_core.specs.Volume.{bytes_over}
 use Rattle.envelope_core.proofs.Quotients.{bytes_mono, bytes_add, bytes_longer}
 
@@ -20,6 +20,20 @@ sum_by-mono f g [] all = omega arith
 sum_by-mono f g (p ∷ ps) all =
     let head = All-head (λ p. f p ≤ g p) p ps all in
     omega (arith, head, sum_by-mono f g ps (All-tail (λ p. f p ≤ g p) p ps all), sum_by-cons f p ps, sum_by-cons g p ps)
+
+-- a sum of terms that are not more than two together is not more than both sums
+pub sum_by-split : {P : Type 0} (whole some rest : P → ℕ) (ps : List P) → All (λ p. whole p ≤ some p + rest p) ps → sum_by whole ps ≤ sum_by some ps + sum_by rest ps
+sum_by-split whole some rest [] all = omega arith
+sum_by-split whole some rest (p ∷ ps) all =
+    let head = All-head (λ p. whole p ≤ some p + rest p) p ps all in
+    omega (
+      arith,
+      head,
+      sum_by-split whole some rest ps (All-tail (λ p. whole p ≤ some p + rest p) p ps all),
+      sum_by-cons whole p ps,
+      sum_by-cons some p ps,
+      sum_by-cons rest p ps,
+    )
 
 -- terms that are nothing sum to nothing
 pub sum_by-none : {P : Type 0} (f : P → ℕ) (ps : List P) → All (λ p. f p ≡ 0) ps → sum_by f ps ≡ 0
@@ -133,15 +147,24 @@ Keeps-filter rate burst test items kept start end ordered =
     cond-le false n = omega arith
     cond-le true n = omega arith
 
--- a greater rate and a greater burst are kept too
+-- a greater rate and a greater burst are kept too, in the windows that end at a moment
+pub KeepsUpTo-looser : (end rate burst more_rate more_burst : ℕ) (items : List (ℕ × ℕ))
+    → rate ≤ more_rate
+    → burst ≤ more_burst
+    → KeepsUpTo end rate burst items
+    → KeepsUpTo end more_rate more_burst items
+KeepsUpTo-looser end rate burst more_rate more_burst items faster larger kept start ordered =
+    let whole = kept start ordered in
+    omega (arith, whole, larger, bytes_mono (rate * (end - start)) (more_rate * (end - start)) (mul-le-mul_right (end - start) faster))
+
+-- and in all windows
 pub Keeps-looser : (rate burst more_rate more_burst : ℕ) (items : List (ℕ × ℕ))
     → rate ≤ more_rate
     → burst ≤ more_burst
     → Keeps rate burst items
     → Keeps more_rate more_burst items
-Keeps-looser rate burst more_rate more_burst items faster larger kept start end ordered =
-    let whole = kept start end ordered in
-    omega (arith, whole, larger, bytes_mono (rate * (end - start)) (more_rate * (end - start)) (mul-le-mul_right (end - start) faster))
+Keeps-looser rate burst more_rate more_burst items faster larger kept start end =
+    KeepsUpTo-looser end rate burst more_rate more_burst items faster larger (λ s h. kept s end h) start
 
 -- two flows that merge
 pub Keeps-append : (rate burst more_rate more_burst : ℕ) (items more : List (ℕ × ℕ))

@@ -1,6 +1,6 @@
 -- The rate and the burst of an envelope, and how envelopes grow and add (Cruz 1991, section II).
 use Rattle.std.specs.Prelude.{ℕ, ◌+◌, ◌^◌, ◌≤◌, List, sum_by}
-use Rattle.moment_core.specs.Conformance.{Keeps}
+use Rattle.moment_core.specs.Conformance.{Keeps, KeepsUpTo}
 use Rattle.moment_core.specs.Volume.{bytes_over}
 
 -- a rate in bits per second and a burst in bytes
@@ -15,6 +15,10 @@ IsInRange curve = (curve.rate ≤ 10 ^ 17) × (curve.burst ≤ 10 ^ 19)
 -- sized moments keep an envelope
 abbrev pub KeepsCurve : Curve → List (ℕ × ℕ) → Type 0
 KeepsCurve curve items = Keeps curve.rate curve.burst items
+
+-- they keep it up to a moment, in the windows that end at it
+abbrev pub KeepsCurveUpTo : ℕ → Curve → List (ℕ × ℕ) → Type 0
+KeepsCurveUpTo end curve items = KeepsUpTo end curve.rate curve.burst items
 
 -- delays that differ by at most a gap add to the burst what the rate gives over that gap, rounded up
 abbrev pub widened : ℕ → Curve → Curve

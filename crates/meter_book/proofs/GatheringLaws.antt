@@ -1,9 +1,9 @@
 -- Chapters that go on from one another, and one more behind them.
-use Rattle.std.proofs.Common.{◌≡◌, ℕ, zero, suc, ◌+◌, ◌-◌, ◌<◌, ◌≤◌, List, [], ◌∷◌, ◌++◌, length, map, flat_map, Option, None, Some, refl, sym, ◌∙◌, ap, subst, inl, inr, length-append, append-nil, arith}
+use Rattle.std.proofs.Common.{◌≡◌, ℕ, zero, suc, ◌+◌, ◌-◌, ◌<◌, List, [], ◌∷◌, ◌++◌, length, map, flat_map, Option, None, Some, refl, sym, ◌∙◌, ap, subst, inl, inr, length-append, arith}
 use Rattle.std.specs.Prelude.{get_or, slice_get}
 use Rattle.std.proofs.lemmas.Bool.{cases_lt}
 use denote.Bor.{Bor}
-use Rattle.meter_book.specs.Chapters.{AreChapters, Chapter, Follows, GoesOn, IsStanding, chapter_rows, closing_of, joined}
+use Rattle.meter_book.specs.Chapters.{AreChapters, Chapter, Follows, IsStanding, chapter_rows, closing_of, joined}
 use Rattle.meter_book.specs.Gathering.{AreJoint, IsNext, last_in}
 use Rattle.meter_book.specs.Kept.{stored_of}
 use Rattle.meter_book.specs.declared.stored_row.StoredRow.{StoredRow}

@@ -5,7 +5,7 @@ use Rattle.moment_core.specs.declared.colour.Colour.TheVariants.{Green, Yellow}
 use Rattle.moment_core.specs.declared.colour.Mode.TheVariants.{Aware}
 use Rattle.moment_core.specs.Colours.{is_green, is_in_profile}
 use Rattle.moment_core.specs.Columns.{counts}
-use Rattle.envelope_core.specs.Curve.{KeepsCurve}
+use Rattle.envelope_core.specs.Curve.{KeepsCurve, KeepsCurveUpTo}
 use Rattle.meter_book_base.specs.declared.any_meter.Parameters.{Parameters}
 use Rattle.meter_book_base.specs.declared.any_meter.Parameters.TheVariants.{SrTcm, TrTcm, Rfc4115}
 use Rattle.meter_book.specs.declared.row.Arrival.{Arrival}
@@ -50,3 +50,33 @@ YellowStaysYellow =
     → Stays Green (aware_rows p origin arrivals)
     → KeepsCurve (all_limit p) (row_input (counts (held_column p)) (aware_rows p origin arrivals))
     → Stays Yellow (aware_rows p origin arrivals)
+
+-- ---- moment by moment
+
+-- every row that came with a colour and was metered at a moment left with it
+abbrev pub StaysAt : ℕ → Colour → List Row → Type 0
+StaysAt moment colour rows = All (λ r. r.used ≡ moment → r.came ≡ colour → r.left ≡ colour) rows
+
+-- what the peak bucket needs of the windows that end at a moment
+abbrev pub PeakIsKeptUpTo : ℕ → Parameters → List Row → Type 0
+PeakIsKeptUpTo end (SrTcm p) rows = Unit {0}
+PeakIsKeptUpTo end (TrTcm p) rows = KeepsCurveUpTo end (all_limit (TrTcm p)) (row_input is_in_profile rows)
+PeakIsKeptUpTo end (Rfc4115 p) rows = Unit {0}
+
+-- The windows that end at a moment decide over its green packets: an aware meter lets these through as green, if in
+-- those windows what came green keeps what the meter has for it.
+abbrev pub GreenStaysGreenAt : Type 0
+GreenStaysGreenAt =
+    (p : Parameters) (origin : ℕ) (arrivals : List Arrival) (moment : ℕ)
+    → KeepsCurveUpTo moment (green_limit p) (row_input is_green (aware_rows p origin arrivals))
+    → PeakIsKeptUpTo moment p (aware_rows p origin arrivals)
+    → StaysAt moment Green (aware_rows p origin arrivals)
+
+-- They decide over its yellow packets too: where every green packet leaves green, the meter lets these through as
+-- yellow, if in those windows what is held against them keeps what the meter has for green and yellow ones.
+abbrev pub YellowStaysYellowAt : Type 0
+YellowStaysYellowAt =
+    (p : Parameters) (origin : ℕ) (arrivals : List Arrival) (moment : ℕ)
+    → Stays Green (aware_rows p origin arrivals)
+    → KeepsCurveUpTo moment (all_limit p) (row_input (counts (held_column p)) (aware_rows p origin arrivals))
+    → StaysAt moment Yellow (aware_rows p origin arrivals)

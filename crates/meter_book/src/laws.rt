@@ -7,7 +7,12 @@ ghost use Rattle.moment_core.specs.Columns.{counts};
 ghost use Rattle.moment_core.specs.Metering.{Offer, departures};
 ghost use Rattle.envelope_core.specs.Curve.{KeepsCurve};
 ghost use Rattle.meter_book_base.specs.Envelopes.{output_in};
-ghost use Rattle.meter_book.specs.KeptColours.{GreenStaysGreen, YellowStaysYellow};
+ghost use Rattle.meter_book.specs.KeptColours.{
+  GreenStaysGreen,
+  GreenStaysGreenAt,
+  YellowStaysYellow,
+  YellowStaysYellowAt,
+};
 ghost use Rattle.meter_book.specs.Running.{ColoursAsBook, StandsAsBook};
 ghost use Rattle.meter_book.specs.Laws.{
   AwareRowsNeverImprove,
@@ -81,14 +86,21 @@ pub fn meters_stay_fit()
 /// A packet that comes green to an aware meter leaves it green, where green packets keep the committed rate and burst,
 /// and with two rates also green and yellow ones together the peak rate and burst (RFC 2697 section 3, RFC 2698 section
 /// 3, RFC 4115).
+///
+/// For the packets of one moment, in nanoseconds, it is enough that they do so in the windows that end then.
 pub fn green_stays_green()
-    ensures { GreenStaysGreen }
+    ensures throughout { GreenStaysGreen }
+    ensures at_moment { GreenStaysGreenAt }
 {}
 
 /// A packet that comes yellow to an aware meter leaves it yellow, where green packets leave green and what is held
 /// against the bucket for yellow ones keeps its rate and its burst (RFC 2697 section 3, RFC 2698 section 3, RFC 4115).
+///
+/// For the packets of one moment, in nanoseconds, it is enough that this does so in the windows that end then. With a
+/// single rate green packets may so come, while no yellow ones do, in a greater burst than the excess bucket's.
 pub fn yellow_stays_yellow()
-    ensures { YellowStaysYellow }
+    ensures throughout { YellowStaysYellow }
+    ensures at_moment { YellowStaysYellowAt }
 {}
 
 /// A running meter stands where the book of the same meter and the same arrivals does: meter, accounts and count.

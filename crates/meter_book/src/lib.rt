@@ -6,8 +6,8 @@
 //!
 //! - what leaves it keeps them, whatever arrives → `Laws.RowsKeepEnvelopes`, and `output_keeps` of `Meter` →
 //!   `laws::rows_keep_envelopes`, `laws::meters_keep_envelopes`
-//! - an aware meter keeps the colours of what keeps its limits → `KeptColours` → `laws::green_stays_green`,
-//!   `laws::yellow_stays_yellow`
+//! - an aware meter keeps the colours of what keeps its limits, and those of a moment's packets where the windows that
+//!   end then do → `KeptColours` → `laws::green_stays_green`, `laws::yellow_stays_yellow`
 //! - a running meter answers and sums up as the book of the same arrivals → `Running.StandsAsBook`,
 //!   `Running.ColoursAsBook` → `laws::running_meters_stand_as_books`, `laws::running_meters_colour_as_books`
 #![tactic(auto)]

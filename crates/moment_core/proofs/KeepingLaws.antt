@@ -2,14 +2,14 @@
 use Rattle.std.proofs.Common.{◌≡◌, ℕ, ◌+◌, ◌≤◌, false, cond, ltb, List, refl, arith}
 use Rattle.std.proofs.lemmas.Bool.Decides.{nat_tests}
 use Rattle.moment_core.specs.Colours.{is_green, is_in_profile, is_yellow}
-use Rattle.moment_core.specs.Conformance.{Keeps}
+use Rattle.moment_core.specs.Conformance.{KeepsUpTo}
 use Rattle.moment_core.specs.Excess.{Levels, coloured, committed_or_excess, without}
 use Rattle.moment_core.specs.Metering.{Departure, Offer, departures, how, levels_at, opening, used}
 use Rattle.moment_core.specs.declared.colour.Colour.{Colour}
 use Rattle.moment_core.specs.declared.colour.Colour.TheVariants.{Green, Yellow, Red}
 use Rattle.moment_core.specs.declared.colour.Mode.TheVariants.{Aware}
 use Rattle.moment_core.proofs.MeteringLaws.{IsFilledAt}
-use Rattle.moment_core.proofs.RoomLaws.{Along-any, Holds, IsAware, IsAware-after, Keeping, bucket_holds, departures-along, input, left_aware}
+use Rattle.moment_core.proofs.RoomLaws.{Along-any, Holds, IsAware, IsAware-after, KeepingAt, bucket_holds, departures-along, input, left_aware}
 
 pub not_short : (level size : ℕ) → size ≤ level → ltb level size ≡ false
 not_short level size h = grind (arith, nat_tests)
@@ -53,19 +53,21 @@ excess_drains l size Green stays = rw (stays refl) (omega arith)
 excess_drains l size Yellow stays = grind (arith, nat_tests)
 excess_drains l size Red stays = omega arith
 
--- so in a meter with these buckets green packets that keep the committed bucket's rate and size leave green
+-- so in a meter with these buckets a green packet leaves green where, in the windows that end with it, green packets keep
+-- the committed bucket's rate and size
 pub green_stays_green : {P : Type 0} (full : P → Levels) (gain : P → ℕ → ℕ → Levels → Levels) (size rate : P → ℕ)
     → IsFilledAt (committed_or_excess full gain) (λ l. l.committed) size rate → ((p : P) → (full p).committed ≡ size p)
-    → (p : P) (origin : ℕ) (offers : List Offer)
-    → Keeps (rate p) (size p) (input is_green (departures (how (committed_or_excess full gain)) (opening (committed_or_excess full gain) p Aware origin) offers))
-    → Keeping Green (departures (how (committed_or_excess full gain)) (opening (committed_or_excess full gain) p Aware origin) offers)
+    → (end : ℕ) (p : P) (origin : ℕ) (offers : List Offer)
+    → KeepsUpTo end (rate p) (size p) (input is_green (departures (how (committed_or_excess full gain)) (opening (committed_or_excess full gain) p Aware origin) offers))
+    → KeepingAt end Green (departures (how (committed_or_excess full gain)) (opening (committed_or_excess full gain) p Aware origin) offers)
 unfolding opening
-green_stays_green full gain size rate fill is_full p origin offers kept =
+green_stays_green full gain size rate fill is_full end p origin offers kept =
     let rules = committed_or_excess full gain in
     let m = opening rules p Aware origin in
-    let held = bucket_holds rules (λ _ _. Unit {0}) is_green (λ l. l.committed) size rate fill is_full
+    let held = bucket_holds rules (λ _ _. Unit {0}) is_green (λ l. l.committed) size rate end fill is_full
     (λ m o _ _. committed_drains (levels_at rules m (used m.newest o.moment)) o.size o.came) p origin offers (Along-any rules m offers) kept
     in
-    departures-along rules IsAware (Holds rules is_green (λ l. l.committed)) (λ _ _. Unit {0}) (λ (d : Departure). d.came ≡ Green → d.left ≡ Green)
-    (λ m o aware held _. left_aware rules m o Green aware (green_stays (levels_at rules m (used m.newest o.moment)) o.size o.came held))
+    departures-along rules IsAware (Holds rules is_green (λ l. l.committed) end) (λ _ _. Unit {0})
+    (λ (d : Departure). d.used ≡ end → d.came ≡ Green → d.left ≡ Green)
+    (λ m o aware held _ last. left_aware rules m o Green aware (green_stays (levels_at rules m (used m.newest o.moment)) o.size o.came (held last)))
     (IsAware-after rules) m refl offers held (Along-any rules m offers)

@@ -1,10 +1,10 @@
 -- A bucket cannot run short while what drains it keeps an envelope of its rate and its size.
-use Rattle.std.proofs.Common.{◌≡◌, ℕ, ◌+◌, ◌-◌, ◌*◌, ◌/◌, ◌≤◌, ◌⊎◌, zero, suc, Bool, cond, List, [], ◌∷◌, map, sum_by, ap, refl, arith, inl, inr}
+use Rattle.std.proofs.Common.{◌≡◌, ℕ, ◌+◌, ◌-◌, ◌*◌, ◌/◌, ◌≤◌, ◌⊎◌, ◌↔◌, zero, suc, Bool, cond, List, [], ◌∷◌, map, sum_by, ap, refl, arith, inl, inr}
 use Rattle.std.specs.List.{All, filter}
 use Rattle.std.proofs.lemmas.Bool.{cases_lt}
 use Rattle.std.proofs.lemmas.Bool.Decides.{nat_tests}
 use Rattle.std.proofs.lemmas.List.Elements.{All-head, All-tail}
-use Rattle.moment_core.specs.Conformance.{Keeps, size_within}
+use Rattle.moment_core.specs.Conformance.{Keeps, KeepsUpTo, size_within}
 use Rattle.moment_core.specs.Metering.{Departure, Offer, Rules, State, after, colour_of, departure, departures, how, levels_at, opening, used}
 use Rattle.moment_core.specs.Tokens.{given, with_tokens}
 use Rattle.moment_core.specs.declared.colour.Colour.{Colour}
@@ -13,6 +13,12 @@ use Rattle.moment_core.proofs.FillingLaws.{div-add, with_tokens_over}
 use Rattle.moment_core.proofs.MeteringLaws.{IsFilledAt, newest_le-used}
 use Rattle.moment_core.proofs.OutputLaws.{sum_where, weight}
 use Rattle.moment_core.proofs.TokenLaws.{given-mono, product-since, with_tokens_fits, with_tokens_full}
+
+-- ---- windows that end at a moment
+
+-- what keeps a rate and a burst keeps them in the windows that end at each moment
+pub Keeps-up_to : (rate burst : ℕ) (items : List (ℕ × ℕ)) → Keeps rate burst items ↔ ((end : ℕ) → KeepsUpTo end rate burst items)
+Keeps-up_to rate burst items = (λ kept end start ordered. kept start end ordered, λ kept start end ordered. kept end start ordered)
 
 -- ---- tokens
 
@@ -95,47 +101,49 @@ brought-tail start end picked d ds = omega (arith, brought-cons start end picked
 
 -- ---- room for it
 
--- What comes finds room, with some bytes to spare: from the newest moment on in the level and the tokens given since, and
--- in each later window in the size and the tokens given in it.
-pub record Room (given : ℕ → ℕ) (size spare : ℕ) (picked : Colour → Bool) (newest level : ℕ) (ds : List Departure) : Type 0 where
-  pub in_level : (end : ℕ) → newest ≤ end → brought newest end picked ds + spare + given newest ≤ level + given end
-  pub in_size : (start end : ℕ) → newest ≤ start → start ≤ end → brought start end picked ds + spare + given start ≤ size + given end
+-- What comes up to a moment finds room, with some bytes to spare: from the newest moment on in the level and the tokens
+-- given since, and in each window that begins later in the size and the tokens given in it.
+pub record Room (given : ℕ → ℕ) (size spare : ℕ) (picked : Colour → Bool) (end newest level : ℕ) (ds : List Departure) : Type 0 where
+  pub in_level : newest ≤ end → brought newest end picked ds + spare + given newest ≤ level + given end
+  pub in_size : (start : ℕ) → newest ≤ start → start ≤ end → brought start end picked ds + spare + given start ≤ size + given end
 
 -- once the tokens up to a moment are in
-Room-filled : (given : ℕ → ℕ) (size spare : ℕ) (picked : Colour → Bool) (newest level used now : ℕ) (ds : List Departure)
-    → Room given size spare picked newest level ds → newest ≤ used → FillsUp given size newest level used now
-    → Room given size spare picked used now ds
-Room-filled given size spare picked newest level used now ds room later (inl all) = record {
-  in_level = λ end h. omega (arith, all, room.in_level end (omega (arith, later, h)), brought-narrow newest used end picked ds later);
-  in_size = λ start end h k. room.in_size start end (omega (arith, later, h)) k;
+Room-filled : (given : ℕ → ℕ) (size spare : ℕ) (picked : Colour → Bool) (end newest level used now : ℕ) (ds : List Departure)
+    → Room given size spare picked end newest level ds → newest ≤ used → FillsUp given size newest level used now
+    → Room given size spare picked end used now ds
+Room-filled given size spare picked end newest level used now ds room later (inl all) = record {
+  in_level = λ h. omega (arith, all, room.in_level (omega (arith, later, h)), brought-narrow newest used end picked ds later);
+  in_size = λ start h k. room.in_size start (omega (arith, later, h)) k;
 }
-Room-filled given size spare picked newest level used now ds room later (inr full) = record {
-  in_level = λ end h. omega (arith, full, room.in_size used end later h);
-  in_size = λ start end h k. room.in_size start end (omega (arith, later, h)) k;
+Room-filled given size spare picked end newest level used now ds room later (inr full) = record {
+  in_level = λ h. omega (arith, full, room.in_size used later h);
+  in_size = λ start h k. room.in_size start (omega (arith, later, h)) k;
 }
 
--- so the bucket has enough for a packet of that moment
-Room-admits : (given : ℕ → ℕ) (size spare : ℕ) (picked : Colour → Bool) (now : ℕ) (d : Departure) (ds : List Departure)
-    → Room given size spare picked d.used now (d ∷ ds) → cond (picked d.came) d.size 0 + spare ≤ now
-Room-admits given size spare picked now d ds room =
-    let here : d.used ≤ d.used = omega arith in
-    omega (arith, room.in_level d.used here, brought-cons d.used d.used picked d ds, weight-here d.used d.used (picked d.came) d.size here)
+-- so the bucket has enough for a packet that is metered at the moment
+Room-admits : (given : ℕ → ℕ) (size spare : ℕ) (picked : Colour → Bool) (end now : ℕ) (d : Departure) (ds : List Departure)
+    → Room given size spare picked end d.used now (d ∷ ds) → d.used ≡ end → cond (picked d.came) d.size 0 + spare ≤ now
+Room-admits given size spare picked end now d ds room last =
+    let here : d.used ≤ end = omega (arith, last) in
+    let same = ap given last in
+    omega (arith, room.in_level here, brought-cons d.used end picked d ds, weight-here d.used end (picked d.came) d.size here, same)
 
 -- and once that packet took no more than its bytes, there is room for those behind it
-Room-rest : (given : ℕ → ℕ) (size spare : ℕ) (picked : Colour → Bool) (now rest : ℕ) (d : Departure) (ds : List Departure)
-    → Room given size spare picked d.used now (d ∷ ds) → now ≤ rest + cond (picked d.came) d.size 0
-    → Room given size spare picked d.used rest ds
-Room-rest given size spare picked now rest d ds room took = record {
-  in_level = λ end h. omega (arith, took, room.in_level end h, brought-cons d.used end picked d ds, weight-here d.used end (picked d.came) d.size h);
-  in_size = λ start end h k. omega (arith, room.in_size start end h k, brought-tail start end picked d ds);
+Room-rest : (given : ℕ → ℕ) (size spare : ℕ) (picked : Colour → Bool) (end now rest : ℕ) (d : Departure) (ds : List Departure)
+    → Room given size spare picked end d.used now (d ∷ ds) → now ≤ rest + cond (picked d.came) d.size 0
+    → Room given size spare picked end d.used rest ds
+Room-rest given size spare picked end now rest d ds room took = record {
+  in_level = λ h. omega (arith, took, room.in_level h, brought-cons d.used end picked d ds, weight-here d.used end (picked d.came) d.size h);
+  in_size = λ start h k. omega (arith, room.in_size start h k, brought-tail start end picked d ds);
 }
 
--- What keeps the rate of a bucket that is full at its origin, and what its size has beside the spare bytes, finds room.
-pub Room-opening : (rate origin burst size spare : ℕ) (picked : Colour → Bool) (ds : List Departure) → burst + spare ≤ size
-    → Keeps rate burst (input picked ds) → Room (given rate origin) size spare picked origin size ds
-Room-opening rate origin burst size spare picked ds large kept = record {
-  in_level = λ end h. omega (arith, large, kept origin end h, given-window_least rate origin origin end (omega arith) h);
-  in_size = λ start end h k. omega (arith, large, kept start end k, given-window_least rate origin start end h k);
+-- What keeps, in the windows that end at the moment, the rate of a bucket that is full at its origin, and what its size
+-- has beside the spare bytes, finds room.
+pub Room-opening : (rate origin burst size spare : ℕ) (picked : Colour → Bool) (end : ℕ) (ds : List Departure) → burst + spare ≤ size
+    → KeepsUpTo end rate burst (input picked ds) → Room (given rate origin) size spare picked end origin size ds
+Room-opening rate origin burst size spare picked end ds large kept = record {
+  in_level = λ h. omega (arith, large, kept origin h, given-window_least rate origin origin end (omega arith) h);
+  in_size = λ start h k. omega (arith, large, kept start k, given-window_least rate origin start end h k);
 }
 
 -- ---- meters that follow some rules
@@ -168,36 +176,40 @@ departures-along rules fits one other such says stays m ok (o ∷ os) a b zero d
 departures-along rules fits one other such says stays m ok (o ∷ os) a b (suc k) d below =
     departures-along rules fits one other such says stays (after rules m o) (stays m o ok) os a.1 b.1 k d (omega (arith, below))
 
--- A meter's bucket, as a number of its levels, has enough for each packet of a picked colour, with some bytes to spare: it
--- fills up before each packet, a packet takes no more than its bytes, and only where it came with a picked colour, and
--- what comes finds room.
+-- A meter's bucket, as a number of its levels, has enough for each packet of a picked colour that is metered at a moment,
+-- with some bytes to spare: it fills up before each packet, a packet takes no more than its bytes, and only where it came
+-- with a picked colour, and what comes up to the moment finds room.
 pub enough : {P L : Type 0} (rules : Rules P L) (fits : State P L → Type 0) (such : State P L → Offer → Type 0) (picked : Colour → Bool)
-    (level : L → ℕ) (size spare : P → ℕ) (given : P → ℕ → ℕ → ℕ)
+    (level : L → ℕ) (size spare : P → ℕ) (given : P → ℕ → ℕ → ℕ) (end : ℕ)
     → ((m : State P L) (moment : ℕ)
     → FillsUp (given m.parameters m.origin) (size m.parameters) m.newest (level m.levels) (used m.newest moment) (level (levels_at rules m (used m.newest moment))))
     → ((m : State P L) (o : Offer) → fits m → such m o → level (levels_at rules m (used m.newest o.moment)) ≤ level (after rules m o).levels + cond (picked o.came) o.size 0)
     → ((m : State P L) (o : Offer) → fits m → fits (after rules m o))
     → (m : State P L) → fits m → (offers : List Offer) → Along rules such m offers
-    → Room (given m.parameters m.origin) (size m.parameters) (spare m.parameters) picked m.newest (level m.levels) (departures (how rules) m offers)
-    → Along rules (λ m o. cond (picked o.came) o.size 0 + spare m.parameters ≤ level (levels_at rules m (used m.newest o.moment))) m offers
+    → Room (given m.parameters m.origin) (size m.parameters) (spare m.parameters) picked end m.newest (level m.levels) (departures (how rules) m offers)
+    → Along rules (λ m o. used m.newest o.moment ≡ end → cond (picked o.came) o.size 0 + spare m.parameters ≤ level (levels_at rules m (used m.newest o.moment))) m offers
 unfolding after
-enough rules fits such picked level size spare given fills drains stays m ok [] along room = tt
-enough rules fits such picked level size spare given fills drains stays m ok (o ∷ os) along room =
+enough rules fits such picked level size spare given end fills drains stays m ok [] along room = tt
+enough rules fits such picked level size spare given end fills drains stays m ok (o ∷ os) along room =
     let g = given m.parameters m.origin in
     let before = level (levels_at rules m (used m.newest o.moment)) in
     let d = departure (how rules) m o in
     let ds = departures (how rules) (after rules m o) os in
-    let filled = Room-filled g (size m.parameters) (spare m.parameters) picked m.newest (level m.levels) (used m.newest o.moment) before (d ∷ ds) room
+    let filled = Room-filled g (size m.parameters) (spare m.parameters) picked end m.newest (level m.levels) (used m.newest o.moment) before (d ∷ ds) room
     (newest_le-used m.newest o.moment) (fills m o.moment)
     in
-    let rest = Room-rest g (size m.parameters) (spare m.parameters) picked before (level (after rules m o).levels) d ds filled (drains m o ok along.0) in (
-      Room-admits g (size m.parameters) (spare m.parameters) picked before d ds filled,
-      enough rules fits such picked level size spare given fills drains stays (after rules m o) (stays m o ok) os along.1 rest,
+    let rest = Room-rest g (size m.parameters) (spare m.parameters) picked end before (level (after rules m o).levels) d ds filled (drains m o ok along.0) in (
+      Room-admits g (size m.parameters) (spare m.parameters) picked end before d ds filled,
+      enough rules fits such picked level size spare given end fills drains stays (after rules m o) (stays m o ok) os along.1 rest,
     )
 
 -- each packet that came with a colour left with it
 abbrev pub Keeping : Colour → List Departure → Type 0
 Keeping colour ds = All (λ (d : Departure). d.came ≡ colour → d.left ≡ colour) ds
+
+-- each packet that came with a colour and was metered at a moment left with it
+abbrev pub KeepingAt : ℕ → Colour → List Departure → Type 0
+KeepingAt moment colour ds = All (λ (d : Departure). d.used ≡ moment → d.came ≡ colour → d.left ≡ colour) ds
 
 -- a meter that heeds the colours that packets come with
 abbrev pub IsAware : {P L : Type 0} → State P L → Type 0
@@ -223,24 +235,24 @@ pub drains_aware : {P L : Type 0} (rules : Rules P L) (picked : Colour → Bool)
 unfolding after colour_of levels_at
 drains_aware rules picked level m o aware drains = rw aware drains
 
--- before each packet a bucket has the bytes of one that came with a picked colour
-abbrev pub Holds : {P L : Type 0} → Rules P L → (Colour → Bool) → (L → ℕ) → State P L → Offer → Type 0
-Holds rules picked level m o = cond (picked o.came) o.size 0 + 0 ≤ level (levels_at rules m (used m.newest o.moment))
+-- before each packet that is metered at a moment a bucket has the bytes of one that came with a picked colour
+abbrev pub Holds : {P L : Type 0} → Rules P L → (Colour → Bool) → (L → ℕ) → ℕ → State P L → Offer → Type 0
+Holds rules picked level end m o = used m.newest o.moment ≡ end → cond (picked o.came) o.size 0 + 0 ≤ level (levels_at rules m (used m.newest o.moment))
 
--- A bucket of an aware meter that a rate fills has enough for the packets of a picked colour, where those keep its rate and
--- its size, and it gives no more than their bytes.
-pub bucket_holds : {P L : Type 0} (rules : Rules P L) (such : State P L → Offer → Type 0) (picked : Colour → Bool) (level : L → ℕ) (size rate : P → ℕ)
+-- A bucket of an aware meter that a rate fills has enough for the packets of a picked colour that are metered at a moment,
+-- where in the windows that end then those keep its rate and its size, and it gives no more than their bytes.
+pub bucket_holds : {P L : Type 0} (rules : Rules P L) (such : State P L → Offer → Type 0) (picked : Colour → Bool) (level : L → ℕ) (size rate : P → ℕ) (end : ℕ)
     → IsFilledAt rules level size rate → ((p : P) → level (rules.full p) ≡ size p)
     → ((m : State P L) (o : Offer) → IsAware m → such m o
     → level (levels_at rules m (used m.newest o.moment))
     ≤ level (rules.without (levels_at rules m (used m.newest o.moment)) o.size (rules.coloured (levels_at rules m (used m.newest o.moment)) o.size o.came)) + cond (picked o.came) o.size 0)
     → (p : P) (origin : ℕ) (offers : List Offer) → Along rules such (opening rules p Aware origin) offers
-    → Keeps (rate p) (size p) (input picked (departures (how rules) (opening rules p Aware origin) offers))
-    → Along rules (Holds rules picked level) (opening rules p Aware origin) offers
+    → KeepsUpTo end (rate p) (size p) (input picked (departures (how rules) (opening rules p Aware origin) offers))
+    → Along rules (Holds rules picked level end) (opening rules p Aware origin) offers
 unfolding opening
-bucket_holds rules such picked level size rate fill full drains p origin offers along kept =
+bucket_holds rules such picked level size rate end fill full drains p origin offers along kept =
     let m = opening rules p Aware origin in
-    let room = Room-opening (rate p) origin (size p) (size p) 0 picked (departures (how rules) m offers) (omega arith) kept in
-    enough rules IsAware such picked level size (λ _. 0) (λ p. given (rate p))
+    let room = Room-opening (rate p) origin (size p) (size p) 0 picked end (departures (how rules) m offers) (omega arith) kept in
+    enough rules IsAware such picked level size (λ _. 0) (λ p. given (rate p)) end
     (λ m moment. rw (fill m moment) (FillsUp-with_tokens (rate m.parameters) m.origin (size m.parameters) m.newest moment (level m.levels)))
     (λ m o aware found. drains_aware rules picked level m o aware (drains m o aware found)) (IsAware-after rules) m refl offers along (rw (full p) room)

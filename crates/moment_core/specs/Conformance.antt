@@ -10,3 +10,8 @@ size_within start end item = if nat_le start item.0 && nat_le item.0 end then it
 abbrev pub Keeps : ℕ → ℕ → List (ℕ × ℕ) → Type 0
 Keeps rate burst items =
     (start end : ℕ) → start ≤ end → sum_by (size_within start end) items ≤ burst + rate * (end - start) / 8000000000
+
+-- Up to a moment they keep them when no window that ends at that moment holds more.
+abbrev pub KeepsUpTo : ℕ → ℕ → ℕ → List (ℕ × ℕ) → Type 0
+KeepsUpTo end rate burst items =
+    (start : ℕ) → start ≤ end → sum_by (size_within start end) items ≤ burst + rate * (end - start) / 8000000000

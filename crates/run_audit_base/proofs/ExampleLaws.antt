@@ -56,21 +56,26 @@ no_site parameters terms bound flow =
     let edge : suc (suc flow) - 1 ≡ suc flow = omega arith in
     rw behind (rw edge (ap (option_and_then (edge_opening (domain_with parameters))) (nobody parameters terms bound flow)))
 
--- what holds of the only packet of a run as it was sent
+-- what holds of a packet as it was sent
+pub as_sent : (g : Ground) (p : Passage) (c : Contract) (s : Sending) (P : Contract → Sending → Type 0)
+    → contract_of g p.packet.flow ≡ Some c → sending_of c p ≡ Some s → P c s
+    → ForSome (contract_of g p.packet.flow) (λ d. ForSome (sending_of d p) (P d))
+as_sent g p c s P there sent holds d is t told =
+    let contract : c ≡ d = same_Some c d (sym there ∙ is) in
+    subst (λ (x : Contract). sending_of x p ≡ Some t → P x t) contract
+    (λ own. subst (P c) (same_Some s t (sym sent ∙ own)) holds)
+    told
+
+-- what holds of the only packet of a run
 pub only_sent : (g : Ground) (journals : List Journal) (p : Passage) (c : Contract) (s : Sending) (P : Contract → Sending → Type 0)
     → contract_of g p.packet.flow ≡ Some c → sending_of c p ≡ Some s → P c s
     → ForSent g (record { journals = journals; passages = p ∷ [] }) P
 only_sent g journals p c s P there sent holds =
-    only (λ q. ForSome (contract_of g q.packet.flow) (λ d. ForSome (sending_of d q) (P d))) p
-    (λ d is t told.
-    let contract : c ≡ d = same_Some c d (sym there ∙ is) in
-    subst (λ (x : Contract). sending_of x p ≡ Some t → P x t) contract
-    (λ own. subst (P c) (same_Some s t (sym sent ∙ own)) holds)
-    told)
+    only (λ q. ForSome (contract_of g q.packet.flow) (λ d. ForSome (sending_of d q) (P d))) p (as_sent g p c s P there sent holds)
 
 -- ---- the small run
 
-Keeps-one : (rate burst moment size : ℕ) → size ≤ burst → Keeps rate burst ((moment, size) ∷ [])
+pub Keeps-one : (rate burst moment size : ℕ) → size ≤ burst → Keeps rate burst ((moment, size) ∷ [])
 Keeps-one rate burst moment size small start end ordered =
     elim (size_within_cases start end (moment, size)) [
       | inl inside ↦ omega (arith, inside.2, small)

@@ -1,6 +1,6 @@
 -- The journals of a run, and what holds of the receipts from their sites.
 use Rattle.std.proofs.Common.{◌≡◌, ℕ, ◌+◌, ◌<◌, ◌≤◌, zero, suc, true, List, [], ◌∷◌, length, refl, sym, ◌∙◌, ap, subst, arith, get_or, Some}
-use Rattle.std.specs.Prelude.{nat_eq, nat_lt, is_some, slice_get, IsPermutation}
+use Rattle.std.specs.Prelude.{nat_eq, nat_lt, find, is_some, slice_get, IsPermutation}
 use Rattle.std.specs.List.{All}
 use Rattle.std.proofs.lemmas.Bool.Decides.{nat_tests}
 use Rattle.std.proofs.lemmas.List.{get_or-map, length-map}
@@ -13,27 +13,39 @@ use Rattle.meter_book.specs.Replay.{Journal, journal_rows, offer_of, rows_from}
 use Rattle.meter_book_base.specs.declared.any_meter.AnyMeter.{AnyMeter}
 use Rattle.meter_book.specs.declared.row.Arrival.{Arrival}
 use Rattle.meter_book.specs.declared.row.Row.{Row}
+use Rattle.ds_domain_base.specs.Domains.{Domain}
 use Rattle.ds_domain_base.specs.declared.contract.Contract.{Contract}
 use Rattle.ds_domain_base.specs.declared.parts.Meter.{Meter}
 use Rattle.ds_domain_base.specs.declared.terms.Terms.{Terms}
 use Rattle.ds_domain_base.specs.declared.terms.Terms.TheVariants.{Trusted, Policed}
-use Rattle.ds_checker.specs.Acceptance.{IsAcceptable, Table}
+use Rattle.ds_certificate.specs.Bounds.{HasShape, Meets}
+use Rattle.ds_timeline.specs.Timelines.{IsCovered, IsHeld, IsRated, hold_in, is_reserved}
+use Rattle.ds_timeline.specs.declared.reservation.Reservation.{Reservation}
+use Rattle.ds_timeline.proofs.ReservedLaws.{found-holds, is_reserved-at, shaped, some-and}
 use Rattle.meter_fabric_base.specs.Grounds.{Ground, contract_of}
 use Rattle.meter_fabric_base.specs.Openings.{meter_opening, opening_at}
 use Rattle.meter_fabric_base.specs.Sites.{hops_along}
 use Rattle.meter_fabric_base.specs.Trails.{IsTrail}
 use Rattle.meter_fabric_base.specs.declared.site.Opening.{Opening}
 use Rattle.meter_fabric_base.specs.declared.trail.Receipt.{Receipt}
-use Rattle.run_audit_base.specs.Premises.{Premises}
+use Rattle.run_audit_base.specs.Premises.{IsInTime, Premises}
 use Rattle.run_audit_base.specs.Runs.{IsRun, Passage, Run, told}
 use Rattle.run_audit_base.specs.Sendings.{Sending, sending_by, sending_of}
 use Rattle.run_audit_base.proofs.Passages.{receipts_along, told_each, trail_sent}
-use Rattle.run_audit_base.proofs.Places.{IsMeter, fits_at, fits_names, found_at, meters_known}
+use Rattle.run_audit_base.proofs.Places.{IsMeter, fits_names, found_at, meters_known}
 
--- a table that is acceptable over the domain of a ground, in which the contracts of that stand at the places of their flows
-pub record IsOver (g : Ground) (t : Table) : Type 0 where
-  pub acceptable : IsAcceptable (record t { domain = g.domain })
-  pub contracts : (flow : ℕ) (c : Contract) → contract_of g flow ≡ Some c → slice_get t.contracts flow ≡ Some c
+-- the reservation of a contract with a flow
+pub record IsReserved (rs : List Reservation) (flow : ℕ) (c : Contract) : Type 0 where
+  pub reservation : Reservation
+  pub found : find (λ r. nat_eq r.flow flow) rs ≡ Some reservation
+  pub contract : reservation.contract ≡ c
+
+-- reservations that are covered over the domain of a ground and had rates, in which the contracts of that stand with
+-- their flows
+pub record IsOver (g : Ground) (rs : List Reservation) : Type 0 where
+  pub covered : IsCovered (record { domain = g.domain; reservations = rs })
+  pub rated : All (IsRated g.domain) rs
+  pub granted : (flow : ℕ) (c : Contract) → contract_of g flow ≡ Some c → IsReserved rs flow c
 
 -- ---- rows of a replay
 
@@ -108,34 +120,61 @@ sent_from run site o j P stands all k e h c s sent =
 
 -- ---- each packet that was sent
 
--- its contract, which fits, and its trail from the meters on
-pub record IsSent (g : Ground) (t : Table) (p : Passage) (c : Contract) (s : Sending) : Type 0 where
-  pub place : slice_get t.contracts p.packet.flow ≡ Some c
+-- Its contract has a reservation, whose share is reserved when it is sent, and it fits; and its trail from the meters on.
+pub record IsSent (g : Ground) (rs : List Reservation) (p : Passage) (c : Contract) (s : Sending) : Type 0 where
+  pub reservation : Reservation
+  pub found : find (λ r. nat_eq r.flow p.packet.flow) rs ≡ Some reservation
+  pub contract : reservation.contract ≡ c
+  pub in_time : IsInTime c s
+  pub shape : HasShape g.domain c reservation.bounds
   pub known : All (IsMeter g.domain) c.path
   pub trail : IsTrail p.packet s.moment s.colour (hops_along g.domain 1 c.path) s.receipts
 
 abbrev pub ForEachSent : Ground → Run → (Passage → Contract → Sending → Type 0) → Type 0
 ForEachSent g run P = All (λ p. (c : Contract) → contract_of g p.packet.flow ≡ Some c → (s : Sending) → sending_of c p ≡ Some s → P p c s) run.passages
 
-pub each_sent : (g : Ground) (t : Table) (run : Run) → IsOver g t → IsRun g run → ForEachSent g run (IsSent g t)
-each_sent g t run good is_run k e h c is s sent =
+-- a share is reserved when a packet of its contract is sent
+pub sent_reserved : (d : Domain) (r : Reservation) (s : Sending) → r.from ≤ r.contract.lifetime.since → IsHeld d r → IsInTime r.contract s → is_reserved r s.moment ≡ true
+sent_reserved d r s begun held in_time =
+    is_reserved-at r s.moment (omega (arith, begun, in_time.0))
+    (λ end retired.
+    let (until, ended, free) = some-and (λ until. until + hold_in d r ≤ end) r.contract.lifetime.until (held end retired) in
+    let early = in_time.1 until ended in
+    omega (arith, early, free))
+
+pub each_sent : (g : Ground) (rs : List Reservation) (run : Run) → IsOver g rs → IsRun g run → Premises g run → ForEachSent g run (IsSent g rs)
+each_sent g rs run good is_run premises k e h c is s sent =
     let p = get_or run.passages k e in
+    let test = λ (r : Reservation). nat_eq r.flow p.packet.flow in
     let (own, is_own, trail) = is_run.passages k e h in
     let same : own ≡ c = same_Some own c (sym is_own ∙ is) in
-    let place = good.contracts p.packet.flow c is in
+    let granted = good.granted p.packet.flow c is in
+    let r = granted.reservation in
+    let in_time = premises.time k e h c is s sent in
+    let reserved = sent_reserved g.domain r s
+    (found-holds (λ x. x.from ≤ x.contract.lifetime.since) test rs r good.covered.begun granted.found)
+    (found-holds (IsHeld g.domain) test rs r good.covered.held granted.found)
+    (subst (λ x. IsInTime x s) (sym granted.contract) in_time) in
+    let shape = subst (λ x. HasShape g.domain x r.bounds) granted.contract
+    (found-holds (λ x. is_reserved x s.moment ≡ true → HasShape g.domain x.contract x.bounds × Meets g.domain x.contract x.bounds) test rs r
+    (shaped (record { domain = g.domain; reservations = rs }) good.covered s.moment) granted.found reserved).0 in
     record {
-      place = place;
-      known = meters_known g.domain c.path (fits_names g.domain c (fits_at g.domain t.contracts t.certificate p.packet.flow c good.acceptable.0 place)).0;
+      reservation = r;
+      found = granted.found;
+      contract = granted.contract;
+      in_time = in_time;
+      shape = shape;
+      known = meters_known g.domain c.path (fits_names g.domain c shape.0).0;
       trail = trail_sent g.domain p.packet.flow p.packet p.packet.begun _ c.terms c.path p.receipts s (rw same at trail) sent;
     }
 
 -- what holds of the rows of each meter holds of all receipts from the meters on
-pub everywhere : (g : Ground) (t : Table) (run : Run) → IsOver g t → IsRun g run → Premises g run → (P : Row → Type 0)
+pub everywhere : (g : Ground) (rs : List Reservation) (run : Run) → IsOver g rs → IsRun g run → Premises g run → (P : Row → Type 0)
     → ((site : ℕ) (entry : List ℕ × Meter) (j : Journal) → slice_get g.domain.meters site ≡ Some entry → Stands run site (meter_opening entry.1) j → All P (journal_rows j))
     → ForEachSent g run (λ p c s. All (λ r. P r.row) s.receipts)
-everywhere g t run good is_run premises P each k e h c is s sent i d l =
+everywhere g rs run good is_run premises P each k e h c is s sent i d l =
     let p = get_or run.passages k e in
-    let known = each_sent g t run good is_run k e h c is s sent in
+    let known = each_sent g rs run good is_run premises k e h c is s sent in
     let r = get_or s.receipts i d in
     let (entry, at_site) = receipts_along g.domain p.packet 1 s.moment s.colour c.path s.receipts (λ x. (entry : List ℕ × Meter) × (slice_get g.domain.meters x.site ≡ Some entry))
     (λ n x m y site size. let (entry, there, named) = found_at g.domain (get_or c.path n x) (known.known n x m) in (entry, rw site there))

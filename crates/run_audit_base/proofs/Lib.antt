@@ -4,7 +4,9 @@ pub mod Inputs
 pub mod Journals
 pub mod Loads
 pub mod Passages
+pub mod Peaks
 pub mod Places
 pub mod PolicedExampleLaws
+pub mod SoldTwiceLaws
 pub mod Sources
 pub mod Ways

@@ -1,5 +1,5 @@
 -- What is known of the contracts of an acceptable table and of the meters that they name.
-use Rattle.std.proofs.Common.{◌≡◌, ℕ, ◌+◌, ◌<◌, zero, suc, Bool, true, false, cond, List, [], ◌∷◌, map, length, refl, sym, ◌∙◌, ap, subst, arith, Some, None}
+use Rattle.std.proofs.Common.{◌≡◌, ℕ, ◌+◌, ◌<◌, zero, suc, Bool, true, false, cond, List, [], ◌∷◌, map, length, refl, sym, ◌∙◌, ap, arith, Some, None}
 use Rattle.std.specs.Prelude.{nat_eq, nat_lt, not, ◌||◌, is_none, is_some, slice_get, if◌then◌else◌}
 use Rattle.std.specs.List.{All, flat_map, list_any, position_or_len}
 use Rattle.std.specs.Map.{keys_of, lookup}
@@ -7,7 +7,7 @@ use Rattle.std.specs.Str.{bytes_eq}
 use Rattle.std.proofs.lemmas.Bool.{false≢true}
 use Rattle.std.proofs.lemmas.Bool.Decides.{nat_tests}
 use Rattle.std.proofs.lemmas.List.{length-map}
-use Rattle.std.proofs.lemmas.Option.{same_Some, slice_get_within}
+use Rattle.std.proofs.lemmas.Option.{none-some, same_Some, slice_get_within}
 use Rattle.std.proofs.lemmas.Slice.Eq.{bytes_eq-Decides}
 use Rattle.moment_core.specs.declared.colour.Colour.{Colour}
 use Rattle.moment_core.specs.declared.column.Column.{Column}
@@ -23,7 +23,7 @@ use Rattle.ds_domain_base.specs.declared.fault.Section.TheVariants as sections
 use Rattle.ds_domain_base.specs.declared.contract.Contract.{Contract}
 use Rattle.ds_domain_base.specs.declared.fault.DomainFault.{DomainFault}
 use Rattle.ds_domain_base.specs.declared.parts.Meter.{Meter}
-use Rattle.ds_certificate.specs.Bounds.{HasShape, IsCertificate, MeetsIn, fits}
+use Rattle.ds_certificate.specs.Bounds.{HasShape, MeetsIn, fits}
 use Rattle.ds_certificate.specs.Columns.{Bound, bytes_in, envelope_in}
 use Rattle.ds_certificate.specs.Sources.{jitters_of, source_of}
 use Rattle.ds_checker.specs.Loads.{bound_into, load, share_of}
@@ -54,14 +54,6 @@ fits_names d c good =
     (fault_at kinds.PathRepeats sections.Contract 0 fields.Path)
     (fault_at kinds.NoLink sections.Contract 0 fields.Path)
     good
-
-pub fits_at : (d : Domain) (contracts : List Contract) (certificate : List (List Bound)) (place : ℕ) (c : Contract)
-    → IsCertificate d contracts certificate → slice_get contracts place ≡ Some c → fits d c ≡ true
-fits_at d [] certificate place c good is = absurd cc
-fits_at d (x ∷ contracts) [] place c good is = absurd good
-fits_at d (x ∷ contracts) (bounds ∷ certificate) zero c good is =
-    let same : x ≡ c = cc in subst (λ (known : Contract). fits d known ≡ true) same good.0.0.0
-fits_at d (x ∷ contracts) (bounds ∷ certificate) (suc place) c good is = fits_at d contracts certificate place c good.1 is
 
 -- ---- the meters of a path
 
@@ -109,6 +101,43 @@ found_at d to there =
     let test : nat_lt place (length (keys_of d.meters)) ≡ true = grind (arith, nat_tests) in
     let is_place : site_of d to ≡ place = rw test refl in
     (entry, rw is_place at_place, passes)
+
+-- the meter of a name is the one at the site of that name
+found_value : {X : Type 0} (test : List ℕ → Bool) (entries : List (List ℕ × X)) (entry : List ℕ × X)
+    → slice_get entries (position_or_len test (keys_of entries)) ≡ Some entry → lookup test entries ≡ Some entry.1
+found_value test [] entry at_place = absurd (none-some entry at_place)
+found_value {X} test (e ∷ entries) entry at_place = by_test (test e.0) at_place (found_value test entries entry)
+  where
+    by_test : (b : Bool) → slice_get (e ∷ entries) (cond (not b) (1 + position_or_len test (keys_of entries)) 0) ≡ Some entry
+        → (slice_get entries (position_or_len test (keys_of entries)) ≡ Some entry → lookup test entries ≡ Some entry.1)
+        → cond b (Some e.1) (lookup test entries) ≡ Some entry.1
+    by_test true here onward = ap (λ x. Some x.1) (same_Some e entry here)
+    by_test false there onward =
+        let next : 1 + position_or_len test (keys_of entries) ≡ suc (position_or_len test (keys_of entries)) = omega arith in
+        onward (rw next at there)
+
+known_at : {X : Type 0} (test : List ℕ → Bool) (entries : List (List ℕ × X)) (place : ℕ) (entry : List ℕ × X) → slice_get entries place ≡ Some entry → test entry.0 ≡ true
+    → is_some (lookup test entries) ≡ true
+known_at test [] place entry at_place passes = absurd (none-some entry at_place)
+known_at {X} test (e ∷ entries) zero entry at_place passes =
+    let here : test e.0 ≡ true = ap (λ x. test x.0) (same_Some e entry at_place) ∙ passes in
+    rw here refl
+known_at {X} test (e ∷ entries) (suc place) entry at_place passes = by_test (test e.0) (known_at test entries place entry at_place passes)
+  where
+    by_test : (b : Bool) → is_some (lookup test entries) ≡ true → is_some (cond b (Some e.1) (lookup test entries)) ≡ true
+    by_test true onward = refl
+    by_test false onward = onward
+
+pub named_meter : (d : Domain) (name : List ℕ) (m : Meter) (site : ℕ) → slice_get d.meters site ≡ Some (name, m) → site_of d name ≡ site → meter_of d name ≡ Some m
+named_meter d name m site there same =
+    let test = bytes_eq name in
+    let place = position_or_len test (keys_of d.meters) in
+    let (entry, at_place, passes) = found_first test d.meters (known_at test d.meters site (name, m) there ((bytes_eq-Decides name name).1 refl)) in
+    let short : place < length (keys_of d.meters) = omega (arith, slice_get_within d.meters place entry at_place, length-map d.meters (λ (e : List ℕ × Meter). e.0)) in
+    let inside : nat_lt place (length (keys_of d.meters)) ≡ true = grind (arith, nat_tests) in
+    let is_place : site_of d name ≡ place = rw inside refl in
+    let own : entry ≡ (name, m) = same_Some entry (name, m) (sym at_place ∙ ap (λ n. slice_get d.meters n) (sym is_place ∙ same) ∙ there) in
+    found_value test d.meters entry at_place ∙ ap (λ e. Some e.1) own
 
 pub apart_names : (d : Domain) (name : List ℕ) (m : Meter) (site : ℕ) (path : List (List ℕ)) → slice_get d.meters site ≡ Some (name, m)
     → All (IsMeter d) path → IsApart d name site path

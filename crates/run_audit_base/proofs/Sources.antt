@@ -1,23 +1,23 @@
 -- What is sent into a domain keeps the envelopes of its source.
-use Rattle.std.proofs.Common.{◌≡◌, ℕ, ◌+◌, ◌-◌, ◌≤◌, ◌⊎◌, inl, inr, Bool, true, false, cond, List, [], ◌∷◌, ◌++◌, map, length, refl, sym, ◌∙◌, ap, subst, arith, get_or, Some, None}
-use Rattle.std.specs.Prelude.{nat_eq, nat_lt, not, ◌&&◌, slice_get, Option, if◌then◌else◌}
+use Rattle.std.proofs.Common.{◌≡◌, ℕ, ◌+◌, ◌-◌, ◌≤◌, inl, inr, Bool, true, false, cond, List, [], ◌∷◌, ◌++◌, map, length, refl, sym, ◌∙◌, ap, subst, arith, get_or, Some, None}
+use Rattle.std.specs.Prelude.{nat_eq, nat_lt, not, ◌&&◌, Option, if◌then◌else◌}
 use Rattle.std.specs.List.{sum_by, filter, All}
 use Rattle.std.proofs.lemmas.Bool.{false≢true}
 use Rattle.std.proofs.lemmas.Bool.Decides.{nat_tests}
 use Rattle.std.proofs.lemmas.List.Elements.{All-filter, filter_passes}
 use Rattle.std.proofs.lemmas.List.Sums.{sum_by-cons}
 use Rattle.std.proofs.lemmas.List.Sorted.{sum_by-IsPermutation}
-use Rattle.std.proofs.lemmas.Option.{same_Some, none-some}
+use Rattle.std.proofs.lemmas.Option.{same_Some}
 use Rattle.moment_core.specs.declared.colour.Colour.{Colour}
 use Rattle.moment_core.specs.declared.colour.Colour.TheVariants.{Green, Yellow, Red}
 use Rattle.moment_core.specs.declared.colour.Mode.{Mode}
 use Rattle.moment_core.specs.Colours.{is_in_profile, is_yellow}
 use Rattle.moment_core.specs.Columns.{counts}
-use Rattle.moment_core.specs.Conformance.{size_within, Keeps}
+use Rattle.moment_core.specs.Conformance.{size_within}
 use Rattle.moment_core.specs.declared.column.Column.{Column}
 use Rattle.moment_core.specs.declared.column.Column.TheVariants as columns
 use Rattle.envelope_core.specs.Curve.{Curve, KeepsCurve, widened}
-use Rattle.envelope_core.proofs.Windows.{Keeps-lighter, bytes_delayed, size_within_cases, size_within_inside, sum_by-mono, sum_by-none, sum_by-map, sum_by-flat_map, sum_by-filter}
+use Rattle.envelope_core.proofs.Windows.{Keeps-lighter, bytes_delayed, size_within_cases, size_within_inside, sum_by-mono, sum_by-map, sum_by-flat_map, sum_by-filter}
 use Rattle.meter_book_base.specs.AnyMeter.{opening_of}
 use Rattle.meter_book_base.specs.Envelopes.{output_in}
 use Rattle.meter_book.specs.Laws.{row_output}
@@ -35,7 +35,6 @@ use Rattle.ds_domain_base.specs.declared.terms.Terms.TheVariants.{Trusted, Polic
 use Rattle.ds_certificate.specs.Columns.{envelope_in}
 use Rattle.ds_certificate.specs.Sources.{source_by, source_of}
 use Rattle.ds_certificate.proofs.ColumnLaws.{in_column}
-use Rattle.ds_checker.specs.Acceptance.{Table}
 use Rattle.meter_fabric_base.specs.Grounds.{Ground, contract_of}
 use Rattle.meter_fabric_base.specs.Openings.{opening_at}
 use Rattle.meter_fabric_base.specs.Sites.{edge_hops, hops_along, hops_of}
@@ -46,7 +45,7 @@ use Rattle.run_audit_base.specs.Premises.{IsTrusted, Premises}
 use Rattle.run_audit_base.specs.Runs.{IsRun, Passage, Run, told, told_by}
 use Rattle.run_audit_base.specs.Sendings.{Sending, passages_of, sending_by, sending_of, sent_items}
 use Rattle.run_audit_base.proofs.Inputs.{SourcesKeep, passages_of-contract}
-use Rattle.run_audit_base.proofs.Journals.{IsOver, Stands, journal_at, receipts_from}
+use Rattle.run_audit_base.proofs.Journals.{Stands, journal_at, receipts_from}
 use Rattle.run_audit_base.proofs.Passages.{Keeps-sent, item_of, moment_of, weight_of}
 
 -- ---- what left an edge
@@ -94,12 +93,12 @@ cond-most true m = omega arith
 cond-most false m = omega arith
 
 -- where what leaves an edge keeps an envelope, what it sends keeps that, widened by the skew
-policed_keeps : (g : Ground) (t : Table) (run : Run) → IsOver g t → IsRun g run → (flow : ℕ) (c : Contract) → slice_get t.contracts flow ≡ Some c
+policed_keeps : (g : Ground) (run : Run) → IsRun g run → (flow : ℕ) (c : Contract) → contract_of g flow ≡ Some c
     → (parameters : Parameters) (mode : Mode) → c.terms ≡ Policed parameters mode
     → (o : Opening) (j : Journal) → Stands run (length g.domain.meters + flow) o j
     → (picked : Colour → Bool) (out : Curve) → KeepsCurve out (row_output picked (journal_rows j))
     → KeepsCurve (widened o.skew out) (map (item_of picked c) (passages_of flow run))
-policed_keeps g t run good is_run flow c found parameters mode policed o j stands picked out kept start end ordered =
+policed_keeps g run is_run flow c found parameters mode policed o j stands picked out kept start end ordered =
     let site = length g.domain.meters + flow in
     let rows = journal_rows j in
     let is_flow = λ (p : Passage). nat_eq p.packet.flow flow in
@@ -133,7 +132,7 @@ policed_keeps g t run good is_run flow c found parameters mode policed o j stand
         let passes : nat_eq p.packet.flow flow ≡ true = filter_passes is_flow run.passages k e h in
         let same_flow : p.packet.flow ≡ flow = grind (arith, nat_tests) in
         let (own, is_own, trail) = All-filter is_flow (λ q. (x : Contract) × (contract_of g q.packet.flow ≡ Some x) × IsTrail q.packet q.packet.begun (came x q.packet.dscp) (hops_of g.domain q.packet.flow x) q.receipts) run.passages is_run.passages k e h in
-        let same : own ≡ c = same_Some own c (sym is_own ∙ passages_of-contract g t run good is_run flow c found k e h) in
+        let same : own ≡ c = same_Some own c (sym is_own ∙ passages_of-contract g run flow c found k e h) in
         let late = All-filter is_flow (λ q. All (λ r. nat_eq r.site site ≡ true → (r.row.arrival ≤ r.row.used) × (r.row.used ≤ r.row.arrival + o.skew)) q.receipts) run.passages
         (receipts_from run site o j (λ r. (r.arrival ≤ r.used) × (r.used ≤ r.arrival + o.skew)) stands stands.used) k e h in
         let way : IsTrail p.packet p.packet.begun (came c p.packet.dscp) (edge_hops g.domain p.packet.flow (Policed parameters mode) ++ hops_along g.domain 1 c.path) p.receipts =
@@ -148,28 +147,7 @@ policed_keeps g t run good is_run flow c found parameters mode policed o j stand
         (edge_weight g.domain p.packet.flow p.packet p.packet.begun (came c p.packet.dscp) parameters mode c.path p.receipts picked site o.skew start end
         (ap (λ n. length g.domain.meters + n) (sym same_flow)) way late)
 
--- ---- the sources of a table
-
--- a contract of the table is one of the ground, or has no packets
-known_or_not : (g : Ground) (t : Table) → IsOver g t → (flow : ℕ) (c : Contract) → slice_get t.contracts flow ≡ Some c
-    → ◌⊎◌ (contract_of g flow ≡ Some c) (contract_of g flow ≡ None)
-known_or_not g t good flow c found = by_look (contract_of g flow) refl
-  where
-    by_look : (own : Option Contract) → contract_of g flow ≡ own → ◌⊎◌ (contract_of g flow ≡ Some c) (contract_of g flow ≡ None)
-    by_look None none = inr none
-    by_look (Some own) is = inl (is ∙ sym (good.contracts flow own is) ∙ found)
-
-Keeps-nobody : (g : Ground) (t : Table) (run : Run) → IsOver g t → IsRun g run → (flow : ℕ) (c : Contract) → slice_get t.contracts flow ≡ Some c → contract_of g flow ≡ None
-    → (rate burst : ℕ) (item : Passage → ℕ × ℕ) → Keeps rate burst (map item (passages_of flow run))
-Keeps-nobody g t run good is_run flow c found none rate burst item start end ordered =
-    let is_flow = λ (p : Passage). nat_eq p.packet.flow flow in
-    let nothing = sum_by-none (λ p. size_within start end (item p)) (passages_of flow run)
-    (λ k e h.
-    let p = get_or (passages_of flow run) k e in
-    let passes : nat_eq p.packet.flow flow ≡ true = filter_passes is_flow run.passages k e h in
-    let same_flow : p.packet.flow ≡ flow = grind (arith, nat_tests) in
-    absurd (none-some c (sym none ∙ ap (contract_of g) (sym same_flow) ∙ passages_of-contract g t run good is_run flow c found k e h))) in
-    omega (arith, nothing, sum_by-map (size_within start end) item (passages_of flow run))
+-- ---- the sources of a ground
 
 -- what stands at the edge of a policed contract
 edge_at : (g : Ground) (flow : ℕ) (c : Contract) (parameters : Parameters) (mode : Mode) → contract_of g flow ≡ Some c → c.terms ≡ Policed parameters mode
@@ -201,14 +179,14 @@ yellow_keeps c curve ps =
     Keeps-lighter (item_of is_in_profile c) (item_of is_yellow c) curve.rate curve.burst ps
     (λ start end k e h. let p = get_or ps k e in yellow_lighter start end p.packet.size (sending_of c p))
 
-source_keeps : (g : Ground) (t : Table) (run : Run) → IsOver g t → IsRun g run → Premises g run → (flow : ℕ) (c : Contract) → slice_get t.contracts flow ≡ Some c → contract_of g flow ≡ Some c
+source_keeps : (g : Ground) (run : Run) → IsRun g run → Premises g run → (flow : ℕ) (c : Contract) → contract_of g flow ≡ Some c
     → (terms : Terms) → c.terms ≡ terms → (column : Column) → KeepsCurve (envelope_in column (source_of g.domain c)) (map (item_of (counts column) c) (passages_of flow run))
-source_keeps g t run good is_run premises flow c found is (Trusted committed peak) trusted column =
+source_keeps g run is_run premises flow c is (Trusted committed peak) trusted column =
     let kept = in_column (λ k. KeepsCurve (envelope_in k (source_of g.domain c)) (sent_items (counts k) c (passages_of flow run)))
     (premises.source flow c is (subst IsTrusted (sym trusted) tt)) column in
     let curve = envelope_in column (source_of g.domain c) in
     Keeps-sent (counts column) c (passages_of flow run) curve.rate curve.burst kept
-source_keeps g t run good is_run premises flow c found is (Policed parameters mode) policed column =
+source_keeps g run is_run premises flow c is (Policed parameters mode) policed column =
     subst (λ source. KeepsCurve (envelope_in column source) (map (item_of (counts column) c) (passages_of flow run)))
     (sym (source_policed g.domain c parameters mode policed)) (by_version g.domain.version column)
   where
@@ -218,7 +196,7 @@ source_keeps g t run good is_run premises flow c found is (Policed parameters mo
     in_output : (k : Column) → KeepsCurve (widened (skew_of (port_of g.domain c.port)) (output_in k parameters)) (map (item_of (counts k) c) (passages_of flow run))
     in_output k =
         let (j, stands) = journal_at g run is_run premises (length g.domain.meters + flow) o (edge_at g flow c parameters mode is policed) in
-        policed_keeps g t run good is_run flow c found parameters mode policed o j stands (counts k) (output_in k parameters)
+        policed_keeps g run is_run flow c is parameters mode policed o j stands (counts k) (output_in k parameters)
         (subst (λ m. KeepsCurve (output_in k parameters) (row_output (counts k) (replay m j.arrivals))) (sym stands.meter)
         (opened_rows_keep parameters mode c.lifetime.since j.arrivals k))
 
@@ -229,13 +207,8 @@ source_keeps g t run good is_run premises flow c found is (Policed parameters mo
     by_version One columns.Excess = yellow_keeps c _ (passages_of flow run) (in_output columns.All)
     by_version Two columns.Excess = in_output columns.Excess
 
-pub sources_keep : (g : Ground) (t : Table) (run : Run) → IsOver g t → IsRun g run → Premises g run → (column : Column) → SourcesKeep g t run column
-sources_keep g t run good is_run premises column flow c found =
-    let curve = envelope_in column (source_of g.domain c) in
-    elim (known_or_not g t good flow c found) [
-      | inl is ↦ source_keeps g t run good is_run premises flow c found is c.terms refl column
-      | inr none ↦ Keeps-nobody g t run good is_run flow c found none curve.rate curve.burst (item_of (counts column) c)
-    ]
+pub sources_keep : (g : Ground) (run : Run) → IsRun g run → Premises g run → (column : Column) → SourcesKeep g run column
+sources_keep g run is_run premises column flow c is = source_keeps g run is_run premises flow c is c.terms refl column
 
 -- ---- no contract without a peak sends yellow packets
 

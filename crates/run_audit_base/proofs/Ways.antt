@@ -1,10 +1,11 @@
 -- What packets keep along a path, from one meter to the next.
-use Rattle.std.proofs.Common.{◌≡◌, ℕ, ◌+◌, ◌<◌, ◌≤◌, Bool, true, false, cond, List, [], ◌∷◌, map, length, refl, sym, ◌∙◌, ap, arith, get_or, Some, None}
+use Rattle.std.proofs.Common.{◌≡◌, ℕ, ◌+◌, ◌<◌, ◌≤◌, zero, suc, Bool, true, false, cond, List, [], ◌∷◌, map, length, refl, sym, ◌∙◌, ap, subst, arith, get_or, Some, None}
 use Rattle.std.specs.Prelude.{nat_eq, ◌||◌, ⊤, MatchOption, Option, if◌then◌else◌}
 use Rattle.std.specs.List.{sum_by, filter, flat_map, All, list_any}
 use Rattle.std.specs.Str.{bytes_eq}
 use Rattle.std.proofs.lemmas.Bool.{false≢true}
 use Rattle.std.proofs.lemmas.Bool.Decides.{nat_tests}
+use Rattle.std.proofs.lemmas.List.Elements.{All-append, All-cons, All-nil}
 use Rattle.std.proofs.lemmas.List.Sums.{sum_by-cons}
 use Rattle.std.proofs.lemmas.Slice.Eq.{bytes_eq-Decides}
 use Rattle.moment_core.specs.declared.column.Column.{Column}
@@ -17,7 +18,9 @@ use Rattle.ds_certificate.specs.Bounds.{Grows}
 use Rattle.ds_certificate.specs.Columns.{Bound, bytes_in, envelope_in}
 use Rattle.ds_certificate.specs.Sources.{jitters_along}
 use Rattle.ds_certificate.specs.declared.source.Source.{Source}
+use Rattle.ds_checker.specs.Holds.{link_delay}
 use Rattle.ds_checker.specs.Loads.{bound_into}
+use Rattle.ds_checker.proofs.WayLaws.{way_to}
 use Rattle.meter_fabric_base.specs.Sites.{site_of}
 use Rattle.meter_fabric_base.specs.declared.trail.Receipt.{Receipt}
 use Rattle.run_audit_base.specs.Premises.{IsOver}
@@ -72,7 +75,7 @@ next_delayed d site skew from to path moment weight [] floor jitter over goes so
 next_delayed d site skew from to path moment weight (r ∷ rs) floor jitter over goes some =
     let there = over r.row.arrival goes.1 in (omega arith, there.0, there.1)
 
-nat_eq-true : (m n : ℕ) → nat_eq m n ≡ true → m ≡ n
+pub nat_eq-true : (m n : ℕ) → nat_eq m n ≡ true → m ≡ n
 nat_eq-true m n same = grind (arith, nat_tests)
 
 used_delayed : (d : Domain) (site skew : ℕ) (from to : List ℕ) (path : List (List ℕ)) (moment weight : ℕ) (rs : List Receipt)
@@ -111,15 +114,93 @@ other_site d name to site apart other s is_site = by_test (nat_eq s site) refl
     by_test true here = absurd (false≢true (sym other ∙ apart (sym is_site ∙ nat_eq-true s site here)))
     by_test false here = refl
 
+-- no receipt is of a site that a path does not come to
+abbrev pub IsElsewhere : ℕ → List Receipt → Type 0
+IsElsewhere site rs = All (λ r. r.site ≡ site → ⊥) rs
+
+not_there : (site : ℕ) (r : Receipt) → nat_eq r.site site ≡ false → r.site ≡ site → ⊥
+not_there site r other same = absurd (false≢true (sym other ∙ ap (λ n. nat_eq n site) same ∙ nat_eq-refl site))
+
+absent : (d : Domain) (name : List ℕ) (site skew : ℕ) (from : List ℕ) (path : List (List ℕ)) (moment : ℕ) (rs : List Receipt)
+    → IsApart d name site path → list_any (bytes_eq name) path ≡ false → Goes d site skew from path moment rs → IsElsewhere site rs
+unfolding Goes IsApart
+absent d name site skew from path moment [] apart none goes k e h = absurd (omega (arith, h))
+absent d name site skew from [] moment (r ∷ rs) apart none goes k e h = absurd goes
+absent d name site skew from (to ∷ path) moment (r ∷ rs) apart none goes zero e h =
+    not_there site r (other_site d name to site apart.0 (neither (bytes_eq name to) (list_any (bytes_eq name) path) none).0 r.site goes.0)
+absent d name site skew from (to ∷ path) moment (r ∷ rs) apart none goes (suc k) e h =
+    absent d name site skew to path r.row.arrival rs apart.1 (neither (bytes_eq name to) (list_any (bytes_eq name) path) none).1 goes.3 k e (omega (arith, h))
+
+-- and then no moment is used there
+pub crossing-elsewhere : (site weight : ℕ) (rs : List Receipt) → IsElsewhere site rs → crossing site weight rs ≡ []
+crossing-elsewhere site weight [] none = refl
+crossing-elsewhere site weight (r ∷ rs) none = by_site (nat_eq r.site site) refl (crossing-elsewhere site weight rs (λ k e h. none (suc k) e (omega (arith, h))))
+  where
+    by_site : (b : Bool) → nat_eq r.site site ≡ b → crossing site weight rs ≡ [] → crossing site weight (r ∷ rs) ≡ []
+    by_site true here onward = absurd (none 0 r (omega arith) (nat_eq-true r.site site here))
+    by_site false other onward = crossing-other site weight r rs other ∙ onward
+
 crossing-absent : (d : Domain) (name : List ℕ) (site skew weight : ℕ) (from : List ℕ) (path : List (List ℕ)) (moment : ℕ) (rs : List Receipt)
     → IsApart d name site path → list_any (bytes_eq name) path ≡ false → Goes d site skew from path moment rs → crossing site weight rs ≡ []
+crossing-absent d name site skew weight from path moment rs apart none goes = crossing-elsewhere site weight rs (absent d name site skew from path moment rs apart none goes)
+
+-- nor of a site that is not the one of its name
+pub elsewhere : (d : Domain) (name : List ℕ) (site skew : ℕ) (from : List ℕ) (path : List (List ℕ)) (moment : ℕ) (rs : List Receipt)
+    → IsApart d name site path → ¬ (site_of d name ≡ site) → Goes d site skew from path moment rs → IsElsewhere site rs
 unfolding Goes IsApart
-crossing-absent d name site skew weight from path moment [] apart absent goes = refl
-crossing-absent d name site skew weight from [] moment (r ∷ rs) apart absent goes = absurd goes
-crossing-absent d name site skew weight from (to ∷ path) moment (r ∷ rs) apart absent goes =
-    let both = neither (bytes_eq name to) (list_any (bytes_eq name) path) absent in
-    crossing-other site weight r rs (other_site d name to site apart.0 both.0 r.site goes.0)
-    ∙ crossing-absent d name site skew weight to path r.row.arrival rs apart.1 both.1 goes.3
+elsewhere d name site skew from path moment [] apart differs goes k e h = absurd (omega (arith, h))
+elsewhere d name site skew from [] moment (r ∷ rs) apart differs goes k e h = absurd goes
+elsewhere d name site skew from (to ∷ path) moment (r ∷ rs) apart differs goes zero e h =
+    λ here.
+    let there : site_of d to ≡ site = sym goes.0 ∙ here in
+    absurd (differs (ap (site_of d) ((bytes_eq-Decides name to).0 (apart.0 there)) ∙ there))
+elsewhere d name site skew from (to ∷ path) moment (r ∷ rs) apart differs goes (suc k) e h =
+    elsewhere d name site skew to path r.row.arrival rs apart.1 differs goes.3 k e (omega (arith, h))
+
+-- At the meter of a name a packet is used not before its moment, and by the longest way to it and the meter's skew later.
+abbrev pub IsUsedBy : ℕ → ℕ → ℕ → List Receipt → Type 0
+IsUsedBy site first last rs = All (λ r. r.site ≡ site → (first ≤ r.row.used) × (r.row.used ≤ last)) rs
+
+pub used_by : (d : Domain) (name : List ℕ) (site skew : ℕ) (from : List ℕ) (path : List (List ℕ)) (moment : ℕ) (rs : List Receipt)
+    → IsApart d name site path → repeats path ≡ false → Goes d site skew from path moment rs
+    → IsUsedBy site moment (moment + way_to d name from path + skew) rs
+unfolding Goes IsApart repeats way_to
+used_by d name site skew from path moment [] apart once goes k e h = absurd (omega (arith, h))
+used_by d name site skew from [] moment (r ∷ rs) apart once goes k e h = absurd goes
+used_by d name site skew from (to ∷ path) moment (r ∷ rs) apart once goes k e h =
+    by_name (bytes_eq name to) refl (used_by d name site skew to path r.row.arrival rs apart.1 single.1 goes.3) k e h
+  where
+    single : (list_any (bytes_eq to) path ≡ false) × (repeats path ≡ false)
+    single = neither (list_any (bytes_eq to) path) (repeats path) once
+
+    arrived : (moment ≤ r.row.arrival) × (r.row.arrival ≤ moment + link_delay d from to)
+    arrived = (omega (arith, goes.1.0), omega (arith, goes.1.1))
+
+    by_name : (t : Bool) → bytes_eq name to ≡ t → IsUsedBy site r.row.arrival (r.row.arrival + way_to d name to path + skew) rs
+        → IsUsedBy site moment (moment + (link_delay d from to + (if t then 0 else way_to d name to path)) + skew) (r ∷ rs)
+    by_name true same onward zero e h = λ here. let used = goes.2 here in (omega (arith, arrived.0, used.0), omega (arith, arrived.1, used.1))
+    by_name true same onward (suc k) e h =
+        let none : list_any (bytes_eq name) path ≡ false = rw ((bytes_eq-Decides name to).0 same) single.0 in
+        λ here. absurd (absent d name site skew to path r.row.arrival rs apart.1 none goes.3 k e (omega (arith, h)) here)
+    by_name false differs onward zero e h = λ here. absurd (not_there site r (other_site d name to site apart.0 differs r.site goes.0) here)
+    by_name false differs onward (suc k) e h =
+        λ here. let used = onward k e (omega (arith, h)) here in (omega (arith, arrived.0, used.0), omega (arith, arrived.1, used.1))
+
+-- what holds of the moments used at a site
+pub All-crossing : (P : ℕ × ℕ → Type 0) (site weight : ℕ) (rs : List Receipt) → All (λ r. r.site ≡ site → P (r.row.used, weight)) rs → All P (crossing site weight rs)
+All-crossing P site weight [] each = All-nil P
+All-crossing P site weight (r ∷ rs) each = by_site (nat_eq r.site site) refl (All-crossing P site weight rs (λ k e h. each (suc k) e (omega (arith, h))))
+  where
+    by_site : (b : Bool) → nat_eq r.site site ≡ b → All P (crossing site weight rs) → All P (crossing site weight (r ∷ rs))
+    by_site true here onward =
+        subst (All P) (sym (crossing-here site weight r rs here))
+        (All-cons P (r.row.used, weight) (crossing site weight rs) (each 0 r (omega arith) (nat_eq-true r.site site here)) onward)
+    by_site false other onward = subst (All P) (sym (crossing-other site weight r rs other)) onward
+
+pub All-flat_map : {P X : Type 0} (Q : X → Type 0) (some : P → List X) (ps : List P) → All (λ p. All Q (some p)) ps → All Q (flat_map some ps)
+All-flat_map Q some [] each = All-nil Q
+All-flat_map Q some (p ∷ ps) each =
+    All-append Q (some p) (flat_map some ps) (each 0 p (omega arith)) (All-flat_map Q some ps (λ k e h. each (suc k) e (omega (arith, h))))
 
 -- ---- a step of a path
 

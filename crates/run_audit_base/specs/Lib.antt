@@ -4,3 +4,4 @@ pub mod PolicedExample
 pub mod Premises
 pub mod Runs
 pub mod Sendings
+pub mod SoldTwiceExample

@@ -1,7 +1,8 @@
 //! The law of colours, proved as the contract of a function that does nothing.
 ghost use Rattle.run_audit_base.specs.Examples.{SmallRunIsKept};
-ghost use Rattle.run_audit_base.specs.KeptColours.{EveryRunKeepsColours};
+ghost use Rattle.run_audit_base.specs.KeptColours.{EveryRunKeepsColours, EveryRunOverATimelineKeepsColours};
 ghost use Rattle.run_audit_base.specs.PolicedExample.{PolicedRunIsKept};
+ghost use Rattle.run_audit_base.specs.SoldTwiceExample.{ShareSoldTwiceIsKept};
 
 /// Where the checker accepts a domain, its contracts and their certificate, then in every run of its meters by any
 /// workers in any order, in which trusted sources keep their buckets, links keep their jitter and meters their skew,
@@ -14,6 +15,18 @@ pub fn every_run_keeps_colours()
     ensures { EveryRunKeepsColours }
 {}
 
+/// So it is where contracts come and go, and a share is sold to one contract after another: where what is reserved at
+/// each moment is acceptable, no contract sends before its share is reserved, and each share is held behind its
+/// contract's end for its hold, every packet leaves every meter with the colour that it was sent with, in every run
+/// that meets the same premises.
+///
+/// The hold is as long as the last packet may take to a meter, and then as long as the rate takes for the burst there.
+/// So what a retired contract brought into a window of time its rate alone gives, in the time for which its share was
+/// reserved (Cruz 1991, section II).
+pub fn every_run_over_a_timeline_keeps_colours()
+    ensures { EveryRunOverATimelineKeepsColours }
+{}
+
 /// What is asked of a run can be met: a packet of 100 bytes passes the only meter of a domain.
 pub fn small_run_is_kept()
     ensures { SmallRunIsKept }
@@ -23,4 +36,10 @@ pub fn small_run_is_kept()
 /// rate (RFC 2697).
 pub fn policed_run_is_kept()
     ensures { PolicedRunIsKept }
+{}
+
+/// It can be met where a share is sold twice, one time after the other: two contracts of which the meter can carry only
+/// one at a time, and each of which sends its whole burst.
+pub fn a_share_sold_twice_is_kept()
+    ensures { ShareSoldTwiceIsKept }
 {}

@@ -2,13 +2,13 @@
 use Rattle.std.proofs.Common.{◌≡◌, ℕ, ◌+◌, ◌≤◌, cond, List, refl, arith}
 use Rattle.std.proofs.lemmas.Bool.Decides.{nat_tests}
 use Rattle.moment_core.specs.Colours.{is_green, is_in_profile}
-use Rattle.moment_core.specs.Conformance.{Keeps}
+use Rattle.moment_core.specs.Conformance.{KeepsUpTo}
 use Rattle.moment_core.specs.Metering.{Departure, Offer, State, colour_of, departures, how, levels_at, opening, used}
 use Rattle.moment_core.specs.declared.colour.Colour.{Colour}
 use Rattle.moment_core.specs.declared.colour.Colour.TheVariants.{Green, Yellow, Red}
 use Rattle.moment_core.specs.declared.colour.Mode.TheVariants.{Aware}
 use Rattle.moment_core.proofs.KeepingLaws.{not_short}
-use Rattle.moment_core.proofs.RoomLaws.{Along, Along-any, Holds, IsAware, IsAware-after, Keeping, bucket_holds, departures-along, input, left_aware}
+use Rattle.moment_core.proofs.RoomLaws.{Along, Along-any, Holds, IsAware, IsAware-after, KeepingAt, bucket_holds, departures-along, input, left_aware}
 use Rattle.trtcm_core.specs.declared.parameters.TrTcmParameters.{TrTcmParameters}
 use Rattle.trtcm_core.specs.TwoRate.{Levels, coloured, full, two_rate, without}
 use Rattle.trtcm_core.proofs.TwoRateLaws.{committed_filled, peak_filled}
@@ -46,55 +46,59 @@ peak_drains l size Red = omega arith
 
 -- ---- the meter
 
--- the committed bucket has enough for a green packet, and the peak bucket for one in profile
-abbrev GreenIsHeld : State TrTcmParameters Levels → Offer → Type 0
+-- the committed bucket has enough for a green packet that is metered at a moment, and the peak bucket for one in profile
+abbrev GreenIsHeld : ℕ → State TrTcmParameters Levels → Offer → Type 0
 GreenIsHeld = Holds two_rate is_green (λ l. l.committed)
 
-abbrev InProfileIsHeld : State TrTcmParameters Levels → Offer → Type 0
+abbrev InProfileIsHeld : ℕ → State TrTcmParameters Levels → Offer → Type 0
 InProfileIsHeld = Holds two_rate is_in_profile (λ l. l.peak)
 
-green_left : (m : State TrTcmParameters Levels) (o : Offer) → IsAware m → GreenIsHeld m o → InProfileIsHeld m o → o.came ≡ Green → colour_of two_rate m o ≡ Green
+green_left : (end : ℕ) (m : State TrTcmParameters Levels) (o : Offer) → IsAware m → GreenIsHeld end m o → InProfileIsHeld end m o
+    → used m.newest o.moment ≡ end → o.came ≡ Green → colour_of two_rate m o ≡ Green
 unfolding two_rate
-green_left m o aware held peak_held =
-    left_aware two_rate m o Green aware (green_stays (levels_at two_rate m (used m.newest o.moment)) o.size o.came held peak_held)
+green_left end m o aware held peak_held last =
+    left_aware two_rate m o Green aware (green_stays (levels_at two_rate m (used m.newest o.moment)) o.size o.came (held last) (peak_held last))
 
-yellow_left : (m : State TrTcmParameters Levels) (o : Offer) → IsAware m → InProfileIsHeld m o → o.came ≡ Yellow → colour_of two_rate m o ≡ Yellow
+yellow_left : (end : ℕ) (m : State TrTcmParameters Levels) (o : Offer) → IsAware m → InProfileIsHeld end m o
+    → used m.newest o.moment ≡ end → o.came ≡ Yellow → colour_of two_rate m o ≡ Yellow
 unfolding two_rate
-yellow_left m o aware held =
-    left_aware two_rate m o Yellow aware (yellow_stays (levels_at two_rate m (used m.newest o.moment)) o.size o.came held)
+yellow_left end m o aware held last =
+    left_aware two_rate m o Yellow aware (yellow_stays (levels_at two_rate m (used m.newest o.moment)) o.size o.came (held last))
 
-green_held : (p : TrTcmParameters) (origin : ℕ) (offers : List Offer)
-    → Keeps p.committed_rate p.committed_burst (input is_green (departures (how two_rate) (opening two_rate p Aware origin) offers))
-    → Along two_rate GreenIsHeld (opening two_rate p Aware origin) offers
+green_held : (end : ℕ) (p : TrTcmParameters) (origin : ℕ) (offers : List Offer)
+    → KeepsUpTo end p.committed_rate p.committed_burst (input is_green (departures (how two_rate) (opening two_rate p Aware origin) offers))
+    → Along two_rate (GreenIsHeld end) (opening two_rate p Aware origin) offers
 unfolding two_rate full
-green_held p origin offers kept =
-    bucket_holds two_rate (λ _ _. Unit {0}) is_green (λ l. l.committed) (λ p. p.committed_burst) (λ p. p.committed_rate) committed_filled (λ _. refl)
+green_held end p origin offers kept =
+    bucket_holds two_rate (λ _ _. Unit {0}) is_green (λ l. l.committed) (λ p. p.committed_burst) (λ p. p.committed_rate) end committed_filled (λ _. refl)
     (λ m o _ _. committed_drains (levels_at two_rate m (used m.newest o.moment)) o.size o.came) p origin offers (Along-any two_rate (opening two_rate p Aware origin) offers) kept
 
-in_profile_held : (p : TrTcmParameters) (origin : ℕ) (offers : List Offer)
-    → Keeps p.peak_rate p.peak_burst (input is_in_profile (departures (how two_rate) (opening two_rate p Aware origin) offers))
-    → Along two_rate InProfileIsHeld (opening two_rate p Aware origin) offers
+in_profile_held : (end : ℕ) (p : TrTcmParameters) (origin : ℕ) (offers : List Offer)
+    → KeepsUpTo end p.peak_rate p.peak_burst (input is_in_profile (departures (how two_rate) (opening two_rate p Aware origin) offers))
+    → Along two_rate (InProfileIsHeld end) (opening two_rate p Aware origin) offers
 unfolding two_rate full
-in_profile_held p origin offers kept =
-    bucket_holds two_rate (λ _ _. Unit {0}) is_in_profile (λ l. l.peak) (λ p. p.peak_burst) (λ p. p.peak_rate) peak_filled (λ _. refl)
+in_profile_held end p origin offers kept =
+    bucket_holds two_rate (λ _ _. Unit {0}) is_in_profile (λ l. l.peak) (λ p. p.peak_burst) (λ p. p.peak_rate) end peak_filled (λ _. refl)
     (λ m o _ _. peak_drains (levels_at two_rate m (used m.newest o.moment)) o.size o.came) p origin offers (Along-any two_rate (opening two_rate p Aware origin) offers) kept
 
--- where green packets keep the committed rate and burst, and those in profile the peak rate and burst, green ones leave green
-pub green_stays_green : (p : TrTcmParameters) (origin : ℕ) (offers : List Offer)
-    → Keeps p.committed_rate p.committed_burst (input is_green (departures (how two_rate) (opening two_rate p Aware origin) offers))
-    → Keeps p.peak_rate p.peak_burst (input is_in_profile (departures (how two_rate) (opening two_rate p Aware origin) offers))
-    → Keeping Green (departures (how two_rate) (opening two_rate p Aware origin) offers)
+-- a green packet leaves green where, in the windows that end with it, green ones keep the committed rate and burst, and those
+-- in profile the peak rate and burst
+pub green_stays_green : (end : ℕ) (p : TrTcmParameters) (origin : ℕ) (offers : List Offer)
+    → KeepsUpTo end p.committed_rate p.committed_burst (input is_green (departures (how two_rate) (opening two_rate p Aware origin) offers))
+    → KeepsUpTo end p.peak_rate p.peak_burst (input is_in_profile (departures (how two_rate) (opening two_rate p Aware origin) offers))
+    → KeepingAt end Green (departures (how two_rate) (opening two_rate p Aware origin) offers)
 unfolding opening
-green_stays_green p origin offers kept all_kept =
-    departures-along two_rate IsAware GreenIsHeld InProfileIsHeld (λ (d : Departure). d.came ≡ Green → d.left ≡ Green) green_left
-    (IsAware-after two_rate) (opening two_rate p Aware origin) refl offers (green_held p origin offers kept) (in_profile_held p origin offers all_kept)
+green_stays_green end p origin offers kept all_kept =
+    departures-along two_rate IsAware (GreenIsHeld end) (InProfileIsHeld end) (λ (d : Departure). d.used ≡ end → d.came ≡ Green → d.left ≡ Green) (green_left end)
+    (IsAware-after two_rate) (opening two_rate p Aware origin) refl offers (green_held end p origin offers kept) (in_profile_held end p origin offers all_kept)
 
--- where packets in profile keep the peak rate and burst, yellow ones leave yellow
-pub yellow_stays_yellow : (p : TrTcmParameters) (origin : ℕ) (offers : List Offer)
-    → Keeps p.peak_rate p.peak_burst (input is_in_profile (departures (how two_rate) (opening two_rate p Aware origin) offers))
-    → Keeping Yellow (departures (how two_rate) (opening two_rate p Aware origin) offers)
+-- a yellow packet leaves yellow where, in the windows that end with it, those in profile keep the peak rate and burst
+pub yellow_stays_yellow : (end : ℕ) (p : TrTcmParameters) (origin : ℕ) (offers : List Offer)
+    → KeepsUpTo end p.peak_rate p.peak_burst (input is_in_profile (departures (how two_rate) (opening two_rate p Aware origin) offers))
+    → KeepingAt end Yellow (departures (how two_rate) (opening two_rate p Aware origin) offers)
 unfolding opening
-yellow_stays_yellow p origin offers kept =
-    let held = in_profile_held p origin offers kept in
-    departures-along two_rate IsAware InProfileIsHeld InProfileIsHeld (λ (d : Departure). d.came ≡ Yellow → d.left ≡ Yellow) (λ m o aware held _. yellow_left m o aware held)
+yellow_stays_yellow end p origin offers kept =
+    let held = in_profile_held end p origin offers kept in
+    departures-along two_rate IsAware (InProfileIsHeld end) (InProfileIsHeld end) (λ (d : Departure). d.used ≡ end → d.came ≡ Yellow → d.left ≡ Yellow)
+    (λ m o aware held _. yellow_left end m o aware held)
     (IsAware-after two_rate) (opening two_rate p Aware origin) refl offers held held

@@ -2,11 +2,12 @@
 ghost use Rattle.std.specs.Prelude.{◌≡◌, ◌≤◌, ◌<◌, IfOk, OnOk, false, length, max, true};
 ghost use Rattle.std.specs.List.{AllByRecursion};
 ghost use Rattle.ds_certificate.specs.Bounds.{fits};
+ghost use Rattle.ds_certificate.specs.Rates.{HasRates};
 ghost use Rattle.ds_domain_base.specs.Lifetimes.{IsInOrder};
 ghost use Rattle.ds_timeline.specs.Kept.{IsNumbered};
 ghost use Rattle.ds_broker.specs.Histories.{beginning};
 ghost use Rattle.ds_broker.specs.Kept.{IsAccepted, IsNext};
-ghost use Rattle.ds_broker.specs.Timelines.{changed, ending_by, granted_as, past_after, past_of};
+ghost use Rattle.ds_broker.specs.Timelines.{IsOfRates, changed, ending_by, granted_as, past_after, past_of};
 ghost use Rattle.ds_broker.specs.Timelines.{retired_at, timeline_of};
 
 use super::{Book, begun, ended};
@@ -61,7 +62,8 @@ impl Past {
     /// What a history of accepted commands granted.
     fn of(alloc: Global, domain: &Domain, history: &[Command]) -> Result<Self, AllocError>
         requires { IsAccepted domain.now history.now }
-        ensures { IfOk result (λ past. past ≡ past_of domain.now history.now) }
+        ensures value { IfOk result (λ past. past ≡ past_of domain.now history.now) }
+        ensures rated { OnOk result (AllByRecursion (IsOfRates domain.now) history.now) }
     {
         let mut past = Past {
             newest: Moment::new(0).unwrap(),
@@ -76,7 +78,8 @@ impl Past {
     /// One command more.
     fn take(&mut self, alloc: Global, domain: &Domain, command: &Command) -> Result<(), AllocError>
         requires { IsNext domain.now self.old command.now }
-        ensures { OnOk result (self.new ≡ past_after domain.now self.old command.now) }
+        ensures value { OnOk result (self.new ≡ past_after domain.now self.old command.now) }
+        ensures rated { OnOk result (IsOfRates domain.now command.now) }
     {
         match command {
             Command::Reserve(contract) => self.grant(alloc, domain, contract),
@@ -101,7 +104,8 @@ impl Past {
         requires fit { fits domain.now contract.now ≡ true }
         requires order { IsInOrder (max self.old.newest contract.now.lifetime.since) contract.now.lifetime.until }
         requires few { length self.old.granted < 65536 }
-        ensures { OnOk result (self.new ≡ past_after domain.now self.old (Reserve contract.now)) }
+        ensures value { OnOk result (self.new ≡ past_after domain.now self.old (Reserve contract.now)) }
+        ensures rated { OnOk result (HasRates domain.now contract.now) }
     {
         let flow = self.granted.len() as u32;
         let since = self.newest.max(contract.lifetime.since());
@@ -152,7 +156,9 @@ fn granted(
 ) -> Result<Reservation, AllocError>
     requires fit { fits domain.now contract.now ≡ true }
     requires order { IsInOrder since contract.now.lifetime.until }
-    ensures { IfOk result (λ reservation. reservation ≡ granted_as domain.now flow (beginning since contract.now)) }
+    ensures value { IfOk result
+        (λ reservation. reservation ≡ granted_as domain.now flow (beginning since contract.now)) }
+    ensures rated { OnOk result (HasRates domain.now (beginning since contract.now)) }
 {
     let contract = begun(alloc, contract, since)?;
     let bounds = match bounds_of(alloc, domain, &contract) {

@@ -21,8 +21,8 @@ loop-to-preserved c =
       range = (omega arith, (omega arith, (omega arith, tt)));
     }
 
-pub returns : goal.returns
-returns c =
+pub returns-clause-value : goal.returns-clause-value
+returns-clause-value c =
     let path = c.meters-path.result.now in
     let i = c.loop-to.to-index in
     let ended = drop_all i path (omega arith) in

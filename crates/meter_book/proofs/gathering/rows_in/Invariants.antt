@@ -1,5 +1,5 @@
 use Rattle.std.proofs.Common.{◌≡◌, ◌++◌, drop, flat_map, map}
-use Rattle.meter_book.specs.Chapters.{Chapter, chapter_rows}
+use Rattle.meter_book.specs.Chapters.{chapter_rows}
 use Rattle.meter_book.specs.Kept.{stored_of}
 use Rattle.meter_book.proofs.gathering.rows_in.Given as goal
 

@@ -1,5 +1,6 @@
-use Rattle.std.proofs.Common.{ap, ◌∙◌}
-use Rattle.ds_broker.specs.Timelines.{past_of}
+use Rattle.std.proofs.Common.{ap, subst, ◌∙◌}
+use Rattle.std.specs.List.{AllByRecursion}
+use Rattle.ds_broker.specs.Timelines.{IsOfRates, past_of}
 use Rattle.ds_broker.proofs.TakingLaws.{timeline-taken}
 use Rattle.ds_broker.proofs.book.Book.timeline.Goals as goal
 
@@ -7,5 +8,6 @@ pub new-requires : goal.new-requires
 new-requires c =
     let i = c.self.inside in
     timeline-taken i.table.domain c.in-Ok.domain i.limits i.history.items c.granted.inside.granted.items c.in_ok-granted.field-0 c.self.invariant.unrefused c.self.invariant.short
+    (subst (AllByRecursion (IsOfRates i.table.domain)) c.as_slice.ensures.value (subst (λ d. AllByRecursion (IsOfRates d) c.as_slice.result.now) c.domain.ensures.value c.in_ok-granted.ensures.rated))
     (c.in-Ok.ensures.copied ∙ c.domain-2.ensures.value) (ap (λ p. p.granted) c.granted.view_is)
-    (c.in_ok-granted.ensures ∙ ap (λ d. past_of d c.as_slice.result.now) c.domain.ensures.value ∙ ap (past_of i.table.domain) c.as_slice.ensures.value)
+    (c.in_ok-granted.ensures.value ∙ ap (λ d. past_of d c.as_slice.result.now) c.domain.ensures.value ∙ ap (past_of i.table.domain) c.as_slice.ensures.value)

@@ -1,4 +1,4 @@
-use Rattle.std.proofs.Common.{◌≡◌, ◌∷◌, ◌++◌, [], Some, map, ap, refl, subst, sym, ◌∙◌}
+use Rattle.std.proofs.Common.{◌∷◌, ◌++◌, [], Some, map, ap, refl, subst, sym, ◌∙◌}
 use denote.Bor.{Bor}
 use Rattle.meter_book.specs.Chapters.{Chapter, IsStanding}
 use Rattle.meter_book.specs.Gathering.{last_part}

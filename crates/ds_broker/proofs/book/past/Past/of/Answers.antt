@@ -1,17 +1,23 @@
 use Rattle.std.proofs.lemmas.Result.{OkIff-at_ok}
-use Rattle.ds_broker.proofs.TakingLaws.{next-at, past-more, past-start}
+use Rattle.ds_broker.specs.Timelines.{IsOfRates}
+use Rattle.ds_broker.proofs.TakingLaws.{each-more, next-at, past-more, past-start}
 use Rattle.ds_broker.proofs.book.past.Past.of.Goals as goal
 
 pub loop-command-init : goal.loop-command-init
-loop-command-init c =
-    past-start c.args.domain.now _ (OkIff-at_ok c.new.result _ _ c.unwrap.result c.new.ensures c.unwrap.ensures).1 c.new-2.ensures.items
+loop-command-init c = record {
+  value = past-start c.args.domain.now _ (OkIff-at_ok c.new.result _ _ c.unwrap.result c.new.ensures c.unwrap.ensures).1 c.new-2.ensures.items;
+  rated = tt;
+}
 
 pub take-requires : goal.take-requires
 take-requires c =
     next-at c.args.domain.now c.requires.limits c.args.history.now c.loop-command.command-index c.command-item.result c.loop-command.past c.requires.unrefused c.requires.short
-    c.loop-command-test.true c.command-item.is c.loop-command.invariant
+    c.loop-command-test.true c.command-item.is c.loop-command.invariant.value
 
 pub loop-command-preserved : goal.loop-command-preserved
-loop-command-preserved c =
-    past-more c.args.domain.now c.args.history.now c.loop-command.command-index c.command-item.result c.loop-command.past c.take.new.self
-    c.loop-command-test.true c.command-item.is c.loop-command.invariant c.in_ok-take.ensures
+loop-command-preserved c = record {
+  value = past-more c.args.domain.now c.args.history.now c.loop-command.command-index c.command-item.result c.loop-command.past c.take.new.self
+      c.loop-command-test.true c.command-item.is c.loop-command.invariant.value c.in_ok-take.ensures.value;
+  rated = each-more (IsOfRates c.args.domain.now) c.args.history.now c.loop-command.command-index c.command-item.result
+      c.loop-command-test.true c.command-item.is c.in_ok-take.ensures.rated c.loop-command.invariant.rated;
+}

@@ -1,7 +1,11 @@
 use Rattle.std.proofs.Common.{◌≡◌, take}
-use Rattle.ds_broker.specs.Timelines.{past_of}
+use Rattle.std.specs.List.{AllByRecursion}
+use Rattle.ds_broker.specs.Timelines.{IsOfRates, past_of}
 use Rattle.ds_broker.proofs.book.past.Past.of.Given as goal
 
--- what the commands so far granted
+-- what the commands so far granted, and that each contract among them has its rates
 abbrev pub invariant-loop-command : goal.invariant-loop-command
-invariant-loop-command l = l.past ≡ past_of l.domain (take l.command-index l.history)
+invariant-loop-command l = record {
+  value : l.past ≡ past_of l.domain (take l.command-index l.history);
+  rated : AllByRecursion (IsOfRates l.domain) (take l.command-index l.history);
+}
