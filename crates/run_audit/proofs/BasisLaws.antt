@@ -1,9 +1,9 @@
 -- What is known of the ground of a table and of that of a timeline: each contract stands at the place of its flow, and was
 -- granted in a timeline that is covered.
-use Rattle.std.proofs.Common.{Bor, ◌≡◌, ◌⊎◌, inl, inr, ◌≤◌, ◌<◌, ◌+◌, ◌-◌, ⊎_elim, ℕ, zero, suc, Bool, true, false, List, [], ◌∷◌, map, length, Option, None, Some, refl, sym, ap, subst, ◌∙◌, arith}
+use Rattle.std.proofs.Common.{Bor, ◌≡◌, ◌⊎◌, inl, inr, ◌≤◌, ◌<◌, ◌+◌, ◌-◌, ⊎_elim, ℕ, suc, Bool, true, false, List, [], ◌∷◌, map, length, Option, None, Some, refl, sym, ap, ◌∙◌, arith}
 use Rattle.std.specs.Prelude.{nat_eq, nat_lt, find, is_some, option_map, option_and_then, slice_get, take, IfSome, IsSome, if◌then◌else◌}
 use Rattle.std.specs.Option.{option_copied}
-use Rattle.std.specs.List.{AllZip, enumerate_from}
+use Rattle.std.specs.List.{enumerate_from}
 use Rattle.std.specs.Map.{values_of}
 use Rattle.std.proofs.lemmas.Bool.{false≢true}
 use Rattle.std.proofs.lemmas.Bool.Decides.{nat_tests}
@@ -12,19 +12,16 @@ use Rattle.std.proofs.lemmas.List.FromFn.{length-enumerate_from}
 use Rattle.std.proofs.lemmas.Map.Entries.{length-values_of}
 use Rattle.std.proofs.lemmas.Option.{slice_get-map, slice_get_within}
 use Rattle.ds_domain_base.specs.declared.contract.Contract.{Contract}
-use Rattle.ds_certificate.specs.Bounds.{HasShape, Meets}
-use Rattle.ds_certificate.specs.Columns.{Bound}
 use Rattle.ds_checker.specs.Acceptance.{IsAcceptable, Table}
-use Rattle.ds_timeline.specs.Constant.{reserved_from, timeline_of}
+use Rattle.ds_timeline.specs.Constant.{timeline_of}
 use Rattle.ds_timeline.specs.Kept.{IsNumbered}
-use Rattle.ds_timeline.specs.Timelines.{AreRated, IsCovered, IsRated, Timeline, reservation_of}
+use Rattle.ds_timeline.specs.Timelines.{AreRated, IsCovered, Timeline, reservation_of}
 use Rattle.ds_timeline.specs.declared.reservation.Reservation.{Reservation}
-use Rattle.ds_timeline.proofs.ConstantLaws.{all-constant, contracts-same, covered-constant}
-use Rattle.ds_timeline.proofs.NumberedLaws.{numbered-found}
+use Rattle.ds_timeline.proofs.ConstantLaws.{covered-constant}
+use Rattle.ds_timeline.proofs.ReservedLaws.{granted-constant, rated-constant}
 use Rattle.meter_fabric_base.specs.Grounds.{Ground, contract_of, flow_count, ground_of, most_flows}
 use Rattle.meter_fabric_base.specs.Openings.{edge_opening, opening_at}
 use Rattle.meter_fabric_base.proofs.GroundLaws.{found_from-at, place_of}
-use Rattle.run_audit_base.specs.KeptColours.{WasGranted}
 use Rattle.run_audit.specs.Bases.{IsCounted, IsGranted, ground_along, site_count}
 
 -- ---- each contract stands at the place of its flow
@@ -138,31 +135,10 @@ line_granted t covered rated =
 
 -- ---- the contracts of a table that is never changed
 
-constant-numbered : (flow : ℕ) (contracts : List Contract) (rows : List (List Bound)) → IsNumbered flow (reserved_from flow contracts rows)
-unfolding IsNumbered reserved_from
-constant-numbered flow [] rows = tt
-constant-numbered flow (c ∷ contracts) [] = tt
-constant-numbered flow (c ∷ contracts) (bounds ∷ rows) = (refl, constant-numbered (suc flow) contracts rows)
-
-constant-rated : (t : Table) → AreRated (timeline_of t)
-constant-rated t =
-    all-constant (IsRated t.domain) 0 t.contracts t.certificate (λ number c bounds later moment some. absurd (none-some moment some))
-  where
-    none-some : (moment : ℕ) → None ≡ Some moment → ⊥
-    none-some moment some = cc
-
-constant-granted : (t : Table) → IsAcceptable t → WasGranted (timeline_of t) (ground_of t)
-constant-granted t met =
-    let rs = reserved_from 0 t.contracts t.certificate in
-    let R : Contract → List Bound → Type 0 = λ c bounds. HasShape t.domain c bounds × Meets t.domain c bounds in
-    record {
-      domain = refl;
-      contracts = λ flow c is.
-          ap (option_map (λ (r : Reservation). r.contract)) (numbered-found flow rs (constant-numbered 0 t.contracts t.certificate))
-          ∙ sym (slice_get-map (λ (r : Reservation). r.contract) rs flow)
-          ∙ ap (λ cs. slice_get cs flow) (contracts-same R 0 t.contracts t.certificate met.0)
-          ∙ (place_of t flow c is).1;
-    }
-
 pub table_granted : (t : Table) → IsAcceptable t → IsGranted (ground_of t)
-table_granted t met = (timeline_of t, covered-constant t met, constant-rated t, constant-granted t met)
+table_granted t met = (
+  timeline_of t,
+  covered-constant t met,
+  rated-constant t,
+  record { domain = refl; contracts = λ flow c is. granted-constant t met flow c (place_of t flow c is).1 },
+)

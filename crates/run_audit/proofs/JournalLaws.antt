@@ -1,21 +1,16 @@
 -- What is known of journals that are one for each site, and of a front of them.
-use Rattle.std.proofs.Common.{◌≡◌, ◌⊎◌, inl, inr, ⊎_elim, ℕ, ◌+◌, ◌-◌, ◌<◌, min, not, Bool, true, false, List, [], ◌∷◌, ◌++◌, map, length, take, get_or, refl, sym, ◌∙◌, ap, arith, Option, Some, None}
-use Rattle.std.specs.Prelude.{nat_eq, nat_lt, is_some, slice_get, position, option_and_then, AllPairs, Contains, IsSome, IsTrue, if◌then◌else◌}
+use Rattle.std.proofs.Common.{◌≡◌, ⊎_elim, ℕ, ◌+◌, ◌<◌, not, Bool, true, false, List, [], ◌∷◌, ◌++◌, map, length, take, get_or, refl, sym, ◌∙◌, ap, arith, Some}
+use Rattle.std.specs.Prelude.{nat_eq, slice_get, position, AllPairs, Contains, IsTrue, if◌then◌else◌}
 use Rattle.std.specs.List.{list_any}
-use Rattle.std.proofs.lemmas.Bool.{cases_lt, cases_eq, false≢true, true≢false}
+use Rattle.std.proofs.lemmas.Bool.{cases_lt, cases_eq, true≢false}
 use Rattle.std.proofs.lemmas.Bool.Decides.{nat_tests}
 use Rattle.std.proofs.lemmas.List.{get_or-map, get_or-take, get_or_default, length-map, length-take, take_more}
 use Rattle.std.proofs.lemmas.List.Elements.{at_from_Contains}
 use Rattle.std.proofs.lemmas.List.Folds.{Any-from_list_any, list_any_at}
 use Rattle.std.proofs.lemmas.List.Quantifiers.{all_pairs_push, position-Some}
-use Rattle.std.proofs.lemmas.Option.{slice_get_within}
 use Rattle.indexmap.specs.IndexSet.{insert_key}
 use Rattle.meter_book.specs.Replay.{Journal, journal_rows}
-use Rattle.ds_checker.specs.Acceptance.{Table}
-use Rattle.meter_fabric_base.specs.Grounds.{contract_of, ground_of, most_flows}
-use Rattle.meter_fabric_base.specs.Openings.{edge_opening, opening_at, site_count}
 use Rattle.meter_fabric_base.specs.declared.trail.Receipt.{Receipt}
-use Rattle.meter_fabric_base.proofs.GroundLaws.{contract_at}
 use Rattle.run_audit.specs.Assembling.{IsNoted}
 
 -- ---- journals with sites of their own

@@ -1,8 +1,7 @@
-use Rattle.std.proofs.Common.{◌∙◌, ◌≤◌, arith, ap, length, map, refl, sym, take, drop, ◌-◌, Bor}
+use Rattle.std.proofs.Common.{◌∙◌, ◌≤◌, arith, ap, length, map, refl, sym, take, drop, ◌-◌}
 use Rattle.std.specs.Map.{values_of}
 use Rattle.std.specs.Option.{option_copied}
 use Rattle.std.proofs.lemmas.Map.Entries.{length-values_of}
-use Rattle.ds_domain_base.specs.declared.contract.Contract.{Contract}
 use Rattle.run_audit.specs.Assembled.{passage_of}
 use Rattle.run_audit.specs.Bases.{basis_of}
 use Rattle.run_audit.specs.Spills.{spilled_by}

@@ -1,4 +1,4 @@
-use Rattle.std.proofs.Common.{◌∙◌, ap, sym, arith}
+use Rattle.std.proofs.Common.{◌∙◌, ap, sym}
 use Rattle.std.specs.Prelude.{is_some}
 use Rattle.run_audit.specs.Bases.{ground_along}
 use Rattle.meter_fabric_base.specs.Grounds.{ground_of}
