@@ -1,0 +1,118 @@
+//! Packets in numbers, and how a thread takes them on their way.
+use af_marker::Dscp;
+use meter_fabric::{Fabric, FabricLedger, Pass, Trail, Traveller, VisitFault};
+use meter_fabric_base::Numbered;
+use moment_core::{Moment, PacketSize};
+use std::alloc::Global;
+use std::sync::Wait;
+use std::test::Fail;
+
+/// A packet in numbers.
+#[derive(Clone, Copy, Debug)]
+pub struct Packet {
+    /// Its number.
+    pub number: u64,
+    /// Its size in bytes.
+    pub size: u64,
+    /// Its code point.
+    pub dscp: u8,
+    /// When it begins.
+    pub begun: u64,
+    /// When it comes to each of its hops.
+    pub comes: u64,
+}
+
+/// A packet on its way, and when it comes to each of its hops.
+#[derive(Drop)]
+pub struct OnWay {
+    traveller: Traveller,
+    comes: Moment,
+}
+
+/// A packet of a flow at its beginning, over a table that a feed sees.
+fn begun(
+    alloc: Global,
+    numbered: &Numbered<'_>,
+    flow: u32,
+    packet: &Packet,
+) -> Result<OnWay, Fail> {
+    let size = PacketSize::new(packet.size)?;
+    let dscp = Dscp::new(packet.dscp)?;
+    let begun = Moment::new(packet.begun)?;
+    let traveller = Traveller::begin_numbered(
+        alloc,
+        numbered,
+        flow,
+        packet.number,
+        size,
+        dscp,
+        begun,
+    )?;
+    let comes = Moment::new(packet.comes)?;
+    Ok(OnWay { traveller, comes })
+}
+
+/// Packets of a flow at their beginning.
+pub fn all_begun(
+    alloc: Global,
+    numbered: &Numbered<'_>,
+    flow: u32,
+    packets: &[Packet],
+) -> Result<Vec<OnWay>, Fail> {
+    let mut ways = Vec::with_capacity(alloc, packets.len())?;
+    for packet in packets {
+        ways.push(begun(alloc, numbered, flow, packet)?)?;
+    }
+    Ok(ways)
+}
+
+/// Takes a packet through the meters until its way has ended, or its edge is shut: what it carried away.
+fn passed<L: FabricLedger, R: Wait>(
+    rt: &R,
+    fabric: &Fabric<'_, L>,
+    pass: &mut Pass<L>,
+    way: OnWay,
+) -> Option<Trail> {
+    let OnWay {
+        mut traveller,
+        comes,
+    } = way;
+    for _ in 0..4 {
+        match fabric.advance(rt, pass, &mut traveller, comes) {
+            Ok(()) => {}
+            Err(VisitFault::PathEnded | VisitFault::Shut) => return Some(traveller.into_trail()),
+            Err(_) => return None,
+        }
+    }
+    None
+}
+
+/// What a thread hands back: its pass, and what its packets carried away; None where a visit was refused.
+pub type Taken<L> = (Pass<L>, Option<Vec<Trail>>);
+
+/// What a thread does: it takes packets through the meters, one after the other.
+pub fn take_all<L: FabricLedger, R: Wait>(
+    rt: &R,
+    alloc: Global,
+    fabric: &Fabric<'_, L>,
+    mut pass: Pass<L>,
+    ways: Vec<OnWay>,
+) -> Taken<L> {
+    let trails = trails_of(rt, alloc, fabric, &mut pass, ways);
+    (pass, trails)
+}
+
+/// What packets carry away.
+fn trails_of<L: FabricLedger, R: Wait>(
+    rt: &R,
+    alloc: Global,
+    fabric: &Fabric<'_, L>,
+    pass: &mut Pass<L>,
+    ways: Vec<OnWay>,
+) -> Option<Vec<Trail>> {
+    let mut trails = Vec::with_capacity(alloc, ways.len()).ok()?;
+    for way in ways {
+        trails.push(passed(rt, fabric, pass, way)?).ok()?;
+    }
+    Some(trails)
+}
