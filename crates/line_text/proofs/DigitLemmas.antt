@@ -1,10 +1,10 @@
 -- Digits that are read at once, as lanes of a vector.
-use Rattle.std.proofs.Common.{◌≡◌, ℕ, zero, suc, ◌+◌, ◌-◌, ◌*◌, ◌%◌, ◌^◌, ◌<◌, ◌≤◌, eqb, ltb, Bool, true, false, not, T, w8, Fits, subst, map, get_or, replicate, List, [], ◌∷◌, ◌++◌, length, take, drop, fold, cond, refl, sym, ap, ◌∙◌, inl, inr, arith, length-append}
-use Rattle.std.proofs.lemmas.Bool.{agree_below, agree_below_at, cases_lt, lt-ltb, le-ltb}
+use Rattle.std.proofs.Common.{◌≡◌, ℕ, zero, suc, ◌+◌, ◌-◌, ◌*◌, ◌%◌, ◌^◌, ◌<◌, ◌≤◌, eqb, ltb, Bool, true, false, not, w8, Fits, subst, map, get_or, replicate, List, [], ◌∷◌, ◌++◌, length, take, drop, fold, cond, refl, sym, ap, ◌∙◌, inl, inr, arith, length-append}
+use Rattle.std.proofs.lemmas.Bool.{agree_below_at, cases_lt, lt-ltb, le-ltb}
 use Rattle.std.proofs.lemmas.List.{ext_get_or, length-map, length-replicate, length-take-le, take-take}
 use Rattle.std.proofs.lemmas.List.FromFn.{length-map-range_with_len, get_or-map-range_with_len}
 use Rattle.std.proofs.lemmas.List.Sums.{prefix_len-le-length}
-use Rattle.std.proofs.lemmas.Simd.{Each1-replicate, SwzOk, first_set_mask_l, mask_l-mod, swz_l, tops_compared, zip2_splat, zip2_splat_left}
+use Rattle.std.proofs.lemmas.Simd.{Each1-replicate, SwzOk, first_set_mask_l, mask_l-mod, swz_l, tops_compared, zip2_splat_left}
 use Rattle.std.proofs.lemmas.Bool.Decides.{nat_tests}
 use Rattle.std.specs.Prelude.{⊤}
 use Rattle.std.specs.Char.{is_ascii_digit}

@@ -1,9 +1,8 @@
-ghost use Rattle.std.specs.Prelude.{◌≡◌, ◌≤◌, ◌<◌, nat_lt, not, [], ◌∷◌, ◌++◌, ◌-◌, length, take, replicate, MatchOption};
-ghost use Rattle.std.specs.Char.{is_ascii_digit};
+ghost use Rattle.std.specs.Prelude.{◌≡◌, ◌≤◌, ◌<◌, ◌⊎◌, nat_lt, not, [], ◌∷◌, ◌++◌, ◌-◌, length, take, drop, replicate, MatchOption};
 ghost use Rattle.std.specs.List.{prefix_len};
 ghost use Rattle.std.specs.Simd.Lanes.{chunk};
 ghost use Rattle.line_text.specs.Digits.{AreDigits, number_in};
-ghost use Rattle.line_text.specs.Numbers.{value_of};
+ghost use Rattle.line_text.specs.Numbers.{front_count, value_of};
 
 use std::simd::prelude::*;
 
@@ -67,10 +66,9 @@ fn count_digits(digits: u8x16) -> usize
 /// The number that the digits at the front of a text say, and how many they are among its first 16 bytes; `None` where
 /// it has fewer bytes.
 #[inline(always)]
-pub fn front_digits(text: &[u8]) -> Option<(u64, usize)>
+pub(crate) fn front_digits(text: &[u8]) -> Option<(u64, usize)>
     ensures { MatchOption result (length text.now < 16)
-        (λ front. (front.1 ≡ prefix_len is_ascii_digit (take 16 text.now))
-        × (front.0 ≡ value_of (take front.1 text.now))) }
+        (λ front. (front.1 ≡ front_count text.now) × (front.0 ≡ value_of (take front.1 text.now))) }
 {
     if text.len() < AT_ONCE {
         return None;
@@ -78,4 +76,19 @@ pub fn front_digits(text: &[u8]) -> Option<(u64, usize)>
     let digits = u8x16::from_slice(text) - u8x16::splat(b'0');
     let count = count_digits(digits);
     Some((number_of_lanes(moved_back(digits, count)), count))
+}
+
+/// The number that the digits at the front of a text say, and what stands behind them; of more than 16 digits the first
+/// 16. `None` where no digit stands there, or the text has fewer than 16 bytes.
+#[inline(always)]
+pub fn front_number(text: &[u8]) -> Option<(u64, &[u8])>
+    ensures { MatchOption result ((length text.now < 16) ⊎ (front_count text.now ≡ 0))
+        (λ front. (0 < front_count text.now) × (front.0 ≡ value_of (take (front_count text.now) text.now))
+        × (front.1.now ≡ drop (front_count text.now) text.now)) }
+{
+    let (value, count) = front_digits(text)?;
+    if count == 0 {
+        return None;
+    }
+    Some((value, &text[count..]))
 }
