@@ -1,4 +1,4 @@
-ghost use Rattle.std.specs.Prelude.{◌≡◌, ℕ, ◌+◌, List, ◌∷◌, ◌++◌, Some, IfOk, OnOk};
+ghost use Rattle.std.specs.Prelude.{◌≡◌, ℕ, ◌+◌, List, ◌∷◌, ◌++◌, Some, IfOk, OnErr, OnOk};
 ghost use Rattle.dsedge_meter.specs.Metered.{account_line, accounts_text_of, answer_of, colour_line_of};
 
 use crate::arrivals::{arrival, front_arrival};
@@ -25,14 +25,18 @@ impl Model for MeterCommand {
     ghost view = { λ c. c.meter };
 }
 
-/// A line with the name of a colour.
-fn colour_line(colour: Colour) -> &'static [u8]
-    ensures { result.now ≡ colour_line_of colour }
+/// Writes a line with the name of a colour. A branch for each has a copy of a known length.
+///
+/// An error leaves the text as it was.
+#[inline(always)]
+fn push_colour(text: &mut Vec<u8>, colour: Colour) -> Result<(), AllocError>
+    ensures ok { OnOk result (text.new.items ≡ text.old.items ++ colour_line_of colour) }
+    ensures err { OnErr result (text.new.items ≡ text.old.items) }
 {
     match colour {
-        Colour::Green => "green\n".as_bytes(),
-        Colour::Yellow => "yellow\n".as_bytes(),
-        Colour::Red => "red\n".as_bytes(),
+        Colour::Green => text.extend_from_slice(b"green\n"),
+        Colour::Yellow => text.extend_from_slice(b"yellow\n"),
+        Colour::Red => text.extend_from_slice(b"red\n"),
     }
 }
 
@@ -88,7 +92,7 @@ impl MeterCommand {
     {
         match self.meter.note(arrival) {
             Ok(left) => {
-                out.extend_from_slice(colour_line(left))?;
+                push_colour(out, left)?;
                 Ok(None)
             }
             Err(_) => Ok(Some(Ending::Full)),
