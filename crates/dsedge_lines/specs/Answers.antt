@@ -27,10 +27,10 @@ abbrev pub Answers : {E : Type 0} → Answer → Answer → List ℕ → Result 
 Answers whole on text result = MatchResult result (GoesOn whole on text) (λ _. BeginsWith whole text)
 
 -- what a call did that may answer a front of the input, of which it then gives the rest: the whole answer goes on as
--- `on` says of that rest, or ends here; it is still `same` where nothing was answered; it begins with the text where the
--- call failed
-abbrev pub AnswersFront : {R E : Type 0} → Result (Option (Option Ending × R)) E → Answer → Answer → (R → Answer) → List ℕ
-    → Type 0
+-- `on` says of that rest, or ends here; it is still `same` where nothing was answered; it begins with the text where
+-- the call failed
+abbrev pub AnswersFront : {R E : Type 0} → Result (Option (Option Ending × R)) E → Answer → Answer → (R → Answer)
+    → List ℕ → Type 0
 AnswersFront result whole same on text =
     MatchResult result (λ front. MatchOption front (same ≡ whole) (λ parts. GoesOn whole (on parts.1) text parts.0))
     (λ _. BeginsWith whole text)

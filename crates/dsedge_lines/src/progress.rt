@@ -69,8 +69,8 @@ fn answer_line<C: Command>(
     answered
 }
 
-/// Answers the line that begins with what is carried over, if anything is, and ends at the front of `text`, and gives what
-/// stands behind its LF; `None` where the text has no LF.
+/// Answers the line that begins with what is carried over, if anything is, and ends at the front of a text, and gives
+/// what stands behind its LF; `None` where the text has no LF.
 #[inline(always)]
 fn answer_front<'a, C: Command>(
     command: &mut C,

@@ -38,7 +38,10 @@ untested envelope = record { bucket = record { curve = envelope; level = 0; sinc
 -- a test with one more sized moment, on the line of a number
 abbrev pub tested : Testing → ℕ → ℕ × ℕ → Testing
 tested t number item =
-    record { bucket = poured t.bucket item; over = option_or t.over (if overflows t.bucket item then Some number else None) }
+    record {
+      bucket = poured t.bucket item;
+      over = option_or t.over (if overflows t.bucket item then Some number else None);
+    }
 
 -- the first line that is over, if one is: one that was, or else of these sized moments, the first on the line of a number
 abbrev pub first_over : Bucket → Option ℕ → ℕ → List (ℕ × ℕ) → Option ℕ

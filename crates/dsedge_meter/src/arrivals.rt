@@ -38,8 +38,8 @@ fn behind(byte: u8, text: &[u8]) -> Option<&[u8]>
     if *first == byte { Some(rest) } else { None }
 }
 
-/// The two numbers at the front of a text, one space apart, and what stands behind them. It reads none that has more than
-/// 16 digits, nor any near the end of the text.
+/// The two numbers at the front of a text, one space apart, and what stands behind them. It reads none that has more
+/// than 16 digits, nor any near the end of the text.
 #[inline(always)]
 fn front_numbers(text: &[u8]) -> Option<(u64, u64, &[u8])>
     ensures { IfSome result (λ front. IsPairFront text.now front.0 front.1 front.2.now) }
@@ -61,8 +61,8 @@ fn sized_of(nanoseconds: u64, bytes: u64) -> Option<(Moment, PacketSize)>
     Some((moment, size))
 }
 
-/// The arrival that the line at the front of a text says, and what stands behind its LF, where `front_numbers` reads its
-/// moment and its size.
+/// The arrival that the line at the front of a text says, and what stands behind its LF, where `front_numbers` reads
+/// its moment and its size.
 #[inline(always)]
 pub fn front_arrival(line_number: u64, text: &[u8]) -> Option<(Arrival, &[u8])>
     ensures { IfSome result (λ front. (line : List ℕ) × IsFirstLine text.now line front.1.now
@@ -83,8 +83,8 @@ pub fn front_arrival(line_number: u64, text: &[u8]) -> Option<(Arrival, &[u8])>
     Some((arrival, rest))
 }
 
-/// The sized moment that the line at the front of a text says, where it is not before the newest moment, and what stands
-/// behind its LF, where `front_numbers` reads it.
+/// The sized moment that the line at the front of a text says, where it is not before the newest moment, and what
+/// stands behind its LF, where `front_numbers` reads it.
 #[inline(always)]
 pub fn front_sized_moment(newest: Moment, text: &[u8]) -> Option<((Moment, u32), &[u8])>
     ensures { IfSome result (λ front. (line : List ℕ) × IsFirstLine text.now line front.1.now

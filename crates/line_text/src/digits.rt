@@ -1,4 +1,5 @@
-ghost use Rattle.std.specs.Prelude.{◌≡◌, ◌≤◌, ◌<◌, ◌⊎◌, nat_lt, not, [], ◌∷◌, ◌++◌, ◌-◌, length, take, drop, replicate, MatchOption};
+ghost use Rattle.std.specs.Prelude.{◌≡◌, ◌≤◌, ◌<◌, ◌-◌, ◌⊎◌, nat_lt, not, [], ◌∷◌, ◌++◌, length, take, drop};
+ghost use Rattle.std.specs.Prelude.{replicate, MatchOption};
 ghost use Rattle.std.specs.List.{prefix_len};
 ghost use Rattle.std.specs.Simd.Lanes.{chunk};
 ghost use Rattle.line_text.specs.Digits.{AreDigits, number_in};
@@ -9,7 +10,7 @@ use std::simd::prelude::*;
 /// How many bytes are read at once.
 const AT_ONCE: usize = 16;
 
-/// The places of lanes that are moved back: from the place `count` on, the first `count` lanes stand last, behind none.
+/// Places of lanes, of which 128 is none: the sixteen from `count` on move the first `count` lanes to the end.
 static PLACES: [u8; 32] = [
     128, 128, 128, 128, 128, 128, 128, 128, 128, 128, 128, 128, 128, 128, 128, 128, 0, 1, 2, 3, 4,
     5, 6, 7, 8, 9, 10, 11, 12, 13, 14, 15,
