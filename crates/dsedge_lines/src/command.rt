@@ -1,4 +1,5 @@
-ghost use Rattle.std.specs.Prelude.{◌≡◌, ℕ, ◌+◌, List, [], ◌∷◌};
+ghost use Rattle.std.specs.Prelude.{◌≡◌, ℕ, ◌+◌, ◌<◌, List, [], ◌∷◌, ◌++◌, length, IfOk, IfSome};
+ghost use Rattle.line_text.specs.Lines.{lines_of};
 
 use std::alloc::AllocError;
 
@@ -17,7 +18,7 @@ pub enum Ending {
 
 /// A command that answers the lines of its input.
 pub trait Command {
-    ghost use Rattle.dsedge_lines.specs.Answers.{Answer, behind, Answers, AnswersAll};
+    ghost use Rattle.dsedge_lines.specs.Answers.{Answer, behind, Answers, AnswersAll, AnswersFront};
 
     // What is answered from here on to these lines, the first of which has this number.
     ghost answer: { Self → ℕ → List (List ℕ) → Answer };
@@ -34,6 +35,26 @@ pub trait Command {
         ensures { (later : List (List ℕ)) →
             Answers (behind out.old.items (answer self.old number (line.now ∷ later)))
             (behind out.new.items (answer self.new (number + 1) later)) out.new.items result };
+
+    /// Answers the line at the front of a text behind `out`, where the command reads it together with its LF, and gives
+    /// what stands behind that, or says how the answer ends before the line. Where it answers none, `line` is to do it.
+    ///
+    /// Where memory runs out, `out` holds a front of the answer, and the command is of no more use.
+    fn front_line<'a>(
+        &mut self,
+        number: u64,
+        text: &'a [u8],
+        out: &mut Vec<u8>,
+    ) -> Result<Option<(Option<Ending>, &'a [u8])>, AllocError>
+        ensures shorter { IfOk result (λ front. IfSome front (λ parts. length parts.1.now < length text.now)) }
+        ensures answer { (later : List ℕ) → AnswersFront result
+            (behind out.old.items (answer self.old number (lines_of (text.now ++ later))))
+            (behind out.new.items (answer self.new number (lines_of (text.now ++ later))))
+            (λ rest. behind out.new.items (answer self.new (number + 1) (lines_of (rest.now ++ later))))
+            out.new.items }
+    {
+        Ok(None)
+    }
 
     /// Answers the end of the input behind `out`, where `number` is that of a line to come, and
     /// says how the answer ends.

@@ -1,6 +1,7 @@
 ghost use Rattle.std.specs.Prelude.{◌≡◌, ℕ, ◌+◌, ◌^◌, ◌<◌, ◌≤◌, false, List, [], ◌∷◌, ◌++◌, length, IfOk, IfNone};
+ghost use Rattle.std.specs.Prelude.{MatchOption};
 ghost use Rattle.line_text.specs.Lines.{has_byte};
-ghost use Rattle.dsedge_lines.specs.Answers.{Answers, AnswersAll};
+ghost use Rattle.dsedge_lines.specs.Answers.{Answers, AnswersAll, AnswersFront};
 ghost use Rattle.dsedge_lines.specs.Underway.{answer_with};
 
 use super::command::{Command, Ending};
@@ -68,6 +69,40 @@ fn answer_line<C: Command>(
     answered
 }
 
+/// Answers the line that begins with what is carried over, if anything is, and ends at the front of a text, and gives
+/// what stands behind its LF; `None` where the text has no LF.
+#[inline(always)]
+fn answer_front<'a, C: Command>(
+    command: &mut C,
+    progress: &mut Progress,
+    text: &'a [u8],
+) -> Result<Option<(Option<Ending>, &'a [u8])>, AllocError>
+    requires number { progress.old.number + length text.now < 2 ^ 64 }
+    requires carried { has_byte 10 progress.old.carry.items ≡ false }
+    ensures answer { (later : List ℕ) → AnswersFront result
+        (answer_with (C.answer command.old) progress.old (text.now ++ later))
+        (answer_with (C.answer command.new) progress.new (text.now ++ later))
+        (λ rest. answer_with (C.answer command.new) progress.new (rest.now ++ later)) progress.new.out.items }
+    ensures unended { IfOk result (λ front. IfNone front (has_byte 10 text.now ≡ false)) }
+    ensures carried { IfOk result (λ front. MatchOption front (has_byte 10 progress.new.carry.items ≡ false)
+        (λ parts. IfNone parts.0 (has_byte 10 progress.new.carry.items ≡ false))) }
+    ensures number { IfOk result (λ front. MatchOption front (progress.new.number ≡ progress.old.number)
+        (λ parts. (length parts.1.now < length text.now)
+        × IfNone parts.0 (progress.new.number ≡ progress.old.number + 1))) }
+{
+    if progress.carry.is_empty() {
+        if let Some(front) = command.front_line(progress.number, text, &mut progress.out)? {
+            progress.number += 1;
+            return Ok(Some(front));
+        }
+    }
+    let Some((line, later)) = cut(text, b'\n') else {
+        return Ok(None);
+    };
+    let ended = answer_line(command, progress, line)?;
+    Ok(Some((ended, later)))
+}
+
 /// Answers the lines that end in a piece, and carries the rest of it over.
 pub fn answer_piece<C: Command>(
     command: &mut C,
@@ -84,8 +119,8 @@ pub fn answer_piece<C: Command>(
         (progress.new.number ≤ progress.old.number + length piece.now)) }
 {
     let mut rest = piece;
-    while let Some((line, later)) = cut(rest, b'\n') {
-        match answer_line(command, progress, line)? {
+    while let Some((ended, later)) = answer_front(command, progress, rest)? {
+        match ended {
             Some(ending) => return Ok(Some(ending)),
             None => rest = later,
         }

@@ -2,3 +2,4 @@
 pub mod ArrivalLemmas
 pub mod MeteredLaws
 pub mod VerdictLaws
+pub mod FrontLemmas

@@ -8,7 +8,7 @@ use Rattle.envelope_core.proofs.LeakyBuckets.{overflow_from-nil, overflow_from-o
 use Rattle.dsedge_lines.specs.Answers.{Answer}
 use Rattle.dsedge_lines.specs.declared.command.Ending.TheVariants.{BadLine}
 use Rattle.dsedge_meter.specs.Arrivals.{sized_from, sized_in, sized_since}
-use Rattle.dsedge_meter.specs.Verdicts.{Testing, first_over, verdict_behind, verdict_of, verdict_to}
+use Rattle.dsedge_meter.specs.Verdicts.{Testing, first_over, tested, verdict_behind, verdict_of, verdict_to}
 
 -- an answer with no text, which ends at a bad line
 abbrev pub bad_line : ℕ → Answer
@@ -52,11 +52,6 @@ pub first_over-more : (b : Bucket) (over : Option ℕ) (number : ℕ) (item : �
     ≡ first_over (poured b item) (option_or over (if overflows b item then Some number else None)) (number + 1) items
 first_over-more b None number item items = over_by b number item items (overflows b item) refl
 first_over-more b (Some line) number item items = refl
-
--- a test with one more sized moment, on the line of a number
-abbrev pub tested : Testing → ℕ → ℕ × ℕ → Testing
-tested t number item =
-    record { bucket = poured t.bucket item; over = option_or t.over (if overflows t.bucket item then Some number else None) }
 
 verdict_to-more : (t : Testing) (number lines : ℕ) (item : ℕ × ℕ) (items : List (ℕ × ℕ))
     → verdict_to t number (suc lines) (item ∷ items) ≡ verdict_to (tested t number item) (number + 1) lines items

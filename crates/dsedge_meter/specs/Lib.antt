@@ -1,4 +1,5 @@
 -- What `meter` and `envelope` answer.
 pub mod Arrivals
+pub mod Fronts
 pub mod Metered
 pub mod Verdicts

@@ -1,11 +1,12 @@
 -- What `envelope` answers to lines of sized moments.
 use Rattle.std.specs.Prelude.{ℕ, ◌+◌, ◌^◌, nat_lt, min, List, [], ◌++◌, length, codes, decimal, Option, None, Some}
 use Rattle.std.specs.Prelude.{if◌then◌else◌}
+use Rattle.std.specs.Option.{option_or}
 use Rattle.dsedge_lines.specs.Answers.{Answer}
 use Rattle.dsedge_lines.specs.declared.command.Ending.{Ending}
 use Rattle.dsedge_lines.specs.declared.command.Ending.TheVariants.{Whole, Refused, BadLine}
 use Rattle.envelope_core.specs.Curve.{Curve}
-use Rattle.envelope_core.specs.LeakyBucket.{Bucket, overflow_from}
+use Rattle.envelope_core.specs.LeakyBucket.{Bucket, overflow_from, overflows, poured}
 use Rattle.dsedge_meter.specs.Arrivals.{sized_from}
 
 -- the envelope of a rate and a burst, which holds at most 10^19 bytes
@@ -33,6 +34,14 @@ pub record Testing : Type 0 where
 -- a test before any line
 abbrev pub untested : Curve → Testing
 untested envelope = record { bucket = record { curve = envelope; level = 0; since = 0 }; over = None }
+
+-- a test with one more sized moment, on the line of a number
+abbrev pub tested : Testing → ℕ → ℕ × ℕ → Testing
+tested t number item =
+    record {
+      bucket = poured t.bucket item;
+      over = option_or t.over (if overflows t.bucket item then Some number else None);
+    }
 
 -- the first line that is over, if one is: one that was, or else of these sized moments, the first on the line of a number
 abbrev pub first_over : Bucket → Option ℕ → ℕ → List (ℕ × ℕ) → Option ℕ

@@ -1,13 +1,13 @@
-ghost use Rattle.std.specs.Prelude.{◌≡◌, IfOk, if◌then◌else◌, None, Some};
+ghost use Rattle.std.specs.Prelude.{◌≡◌, ◌≤◌, IfOk, if◌then◌else◌, None, Some};
 ghost use Rattle.std.specs.Option.{option_or};
 ghost use Rattle.dsedge_meter.specs.Verdicts.{envelope_for, untested, verdict_behind, verdict_ending_of};
 ghost use Rattle.dsedge_meter.specs.Verdicts.{verdict_text_of};
 
-use crate::arrivals::sized_moment;
+use crate::arrivals::{front_sized_moment, sized_moment};
 use dsedge_lines::{Command, Ending};
 use envelope_core::{Envelope, LeakyBucket};
 use line_text::push_number;
-use moment_core::Rate;
+use moment_core::{Moment, Rate};
 use std::alloc::{AllocError, Global};
 use std::marker::Model;
 
@@ -77,6 +77,18 @@ impl EnvelopeCommand {
             over: None,
         }
     }
+
+    ghost use Rattle.dsedge_meter.specs.Verdicts.{tested};
+
+    /// Tests the sized moment that the line of a number says.
+    #[inline(always)]
+    fn test(&mut self, number: u64, item: (Moment, u32))
+        requires { self.old.bucket.since ≤ item.0 }
+        ensures { self.new ≡ tested self.old number item }
+    {
+        let overflows = self.bucket.pour(item.0, item.1);
+        self.over = over_with(self.over, overflows, number);
+    }
 }
 
 impl Command for EnvelopeCommand {
@@ -92,9 +104,22 @@ impl Command for EnvelopeCommand {
         let Some(item) = sized_moment(self.bucket.newest(), line) else {
             return Ok(Some(Ending::BadLine(number)));
         };
-        let overflows = self.bucket.pour(item.0, item.1);
-        self.over = over_with(self.over, overflows, number);
+        self.test(number, item);
         Ok(None)
+    }
+
+    #[inline(always)]
+    fn front_line<'a>(
+        &mut self,
+        number: u64,
+        text: &'a [u8],
+        _out: &mut Vec<u8>,
+    ) -> Result<Option<(Option<Ending>, &'a [u8])>, AllocError> {
+        let Some((item, rest)) = front_sized_moment(self.bucket.newest(), text) else {
+            return Ok(None);
+        };
+        self.test(number, item);
+        Ok(Some((None, rest)))
     }
 
     fn end(&mut self, _number: u64, out: &mut Vec<u8>) -> Result<Ending, AllocError> {

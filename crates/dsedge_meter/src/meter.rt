@@ -1,10 +1,10 @@
-ghost use Rattle.std.specs.Prelude.{◌≡◌, ◌++◌, IfOk, OnOk};
+ghost use Rattle.std.specs.Prelude.{◌≡◌, ℕ, ◌+◌, List, ◌∷◌, ◌++◌, Some, IfOk, OnErr, OnOk};
 ghost use Rattle.dsedge_meter.specs.Metered.{account_line, accounts_text_of, answer_of, colour_line_of};
 
-use crate::arrivals::arrival;
+use crate::arrivals::{arrival, front_arrival};
 use dsedge_lines::{Command, Ending};
 use line_text::push_number;
-use meter_book::{Accounts, AnyMeter, RunningMeter};
+use meter_book::{Accounts, AnyMeter, Arrival, RunningMeter};
 use moment_core::{Colour, Gap};
 use std::alloc::{AllocError, Global};
 use std::marker::Model;
@@ -25,14 +25,18 @@ impl Model for MeterCommand {
     ghost view = { λ c. c.meter };
 }
 
-/// A line with the name of a colour.
-fn colour_line(colour: Colour) -> &'static [u8]
-    ensures { result.now ≡ colour_line_of colour }
+/// Writes a line with the name of a colour. A branch for each has a copy of a known length.
+///
+/// An error leaves the text as it was.
+#[inline(always)]
+fn push_colour(text: &mut Vec<u8>, colour: Colour) -> Result<(), AllocError>
+    ensures ok { OnOk result (text.new.items ≡ text.old.items ++ colour_line_of colour) }
+    ensures err { OnErr result (text.new.items ≡ text.old.items) }
 {
     match colour {
-        Colour::Green => "green\n".as_bytes(),
-        Colour::Yellow => "yellow\n".as_bytes(),
-        Colour::Red => "red\n".as_bytes(),
+        Colour::Green => text.extend_from_slice(b"green\n"),
+        Colour::Yellow => text.extend_from_slice(b"yellow\n"),
+        Colour::Red => text.extend_from_slice(b"red\n"),
     }
 }
 
@@ -75,6 +79,25 @@ impl MeterCommand {
             meter: RunningMeter::new(meter, Gap::NONE, Self::MOST_ARRIVALS),
         }
     }
+
+    ghost use Rattle.dsedge_lines.specs.Answers.{Answers, behind};
+    ghost use Rattle.dsedge_meter.specs.Arrivals.{arrival_in};
+
+    /// Answers the arrival that a line says behind `out`, or says that there is no room for it.
+    #[inline(always)]
+    fn answer(&mut self, arrival: Arrival, out: &mut Vec<u8>) -> Result<Option<Ending>, AllocError>
+        ensures { (number : ℕ) (line : List ℕ) (later : List (List ℕ)) → arrival_in number line ≡ Some arrival →
+            Answers (behind out.old.items (answer_of self.old number (line ∷ later)))
+            (behind out.new.items (answer_of self.new (number + 1) later)) out.new.items result }
+    {
+        match self.meter.note(arrival) {
+            Ok(left) => {
+                push_colour(out, left)?;
+                Ok(None)
+            }
+            Err(_) => Ok(Some(Ending::Full)),
+        }
+    }
 }
 
 impl Command for MeterCommand {
@@ -87,16 +110,24 @@ impl Command for MeterCommand {
         line: &[u8],
         out: &mut Vec<u8>,
     ) -> Result<Option<Ending>, AllocError> {
-        let Some(arrival) = arrival(number, line) else {
-            return Ok(Some(Ending::BadLine(number)));
-        };
-        match self.meter.note(arrival) {
-            Ok(left) => {
-                out.extend_from_slice(colour_line(left))?;
-                Ok(None)
-            }
-            Err(_) => Ok(Some(Ending::Full)),
+        match arrival(number, line) {
+            Some(arrival) => self.answer(arrival, out),
+            None => Ok(Some(Ending::BadLine(number))),
         }
+    }
+
+    #[inline(always)]
+    fn front_line<'a>(
+        &mut self,
+        number: u64,
+        text: &'a [u8],
+        out: &mut Vec<u8>,
+    ) -> Result<Option<(Option<Ending>, &'a [u8])>, AllocError> {
+        let Some((arrival, rest)) = front_arrival(number, text) else {
+            return Ok(None);
+        };
+        let ended = self.answer(arrival, out)?;
+        Ok(Some((ended, rest)))
     }
 
     fn end(&mut self, _number: u64, out: &mut Vec<u8>) -> Result<Ending, AllocError> {

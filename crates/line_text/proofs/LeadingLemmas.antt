@@ -1,16 +1,17 @@
 -- The number that the first field of a line is, read digit by digit.
-use Rattle.std.proofs.Common.{◌≡◌, ◌≢◌, ℕ, ◌+◌, ◌<◌, ◌≤◌, Bool, true, false, ◌&&◌, eqb, leb, cond, List, [], ◌∷◌, ◌++◌, length, get_or, take, drop, fold, Option, None, Some, refl, sym, ap, ◌∙◌, arith, inl, inr, take-append-drop}
-use Rattle.std.specs.List.{list_all, onto_first}
+use Rattle.std.proofs.Common.{◌≡◌, ◌≢◌, ℕ, ◌+◌, ◌<◌, ◌≤◌, zero, suc, Bool, true, false, ◌&&◌, eqb, leb, cond, List, [], ◌∷◌, ◌++◌, length, get_or, take, drop, fold, Option, None, Some, refl, sym, ap, ◌∙◌, arith, inl, inr, take-append-drop}
+use Rattle.std.specs.List.{list_all, onto_first, prefix_len}
 use Rattle.std.specs.Option.{option_map}
 use Rattle.std.specs.Char.{is_ascii_digit}
-use Rattle.std.proofs.lemmas.Bool.{cases_eq, eq-eqb, false_from_ne_true, leb-true, ne_eqb}
+use Rattle.std.proofs.lemmas.Bool.{cases_eq, eq-eqb, false_from_ne_true, false≢true, leb-true, ne_eqb}
 use Rattle.std.proofs.lemmas.Bool.Decides.{nat_tests}
-use Rattle.std.proofs.lemmas.List.{at_drop_more, at_drop_all, length-take-le}
+use Rattle.std.proofs.lemmas.List.{at_drop_more, at_drop_all, length-take, length-take-le}
+use Rattle.std.proofs.lemmas.List.Sums.{prefix_len-le-length}
 use Rattle.std.proofs.lemmas.Option.{cond_some}
-use Rattle.line_text.specs.Lines.{fields_of}
-use Rattle.line_text.specs.Numbers.{is_number, leading_number_of, number_of, value_of, with_digit}
+use Rattle.line_text.specs.Lines.{fields_of, has_byte}
+use Rattle.line_text.specs.Numbers.{front_count, is_number, leading_number_of, number_of, value_of, with_digit}
 use Rattle.line_text.proofs.LineLemmas.{fields_of-some}
-use Rattle.line_text.proofs.NumberLemmas.{value-grows}
+use Rattle.line_text.proofs.NumberLemmas.{number_of-value, value-grows}
 
 -- the number of the first field and the other fields, where digits of that field were read before
 abbrev pub digits_on : ℕ → ℕ → ℕ → List (List ℕ) → Option (ℕ × List (List ℕ))
@@ -153,6 +154,51 @@ digits_on-first_digits most count line within digits =
     ap (λ n. digits_on most n (fold with_digit 0 (take count line)) (fields_of (drop count line))) (sym many)
     ∙ sym (digits_on-front most 0 0 (take count line) (drop count line) digits)
     ∙ ap (λ whole. digits_on most 0 0 (fields_of whole)) (take-append-drop count line)
+
+-- ---- digits at the front of a text
+
+front_all : (test : Bool) (byte : ℕ) (bytes text : List ℕ) → is_ascii_digit byte ≡ test
+    → list_all is_ascii_digit (take (prefix_len is_ascii_digit bytes) text) ≡ true
+    → list_all is_ascii_digit (take (cond test (1 + prefix_len is_ascii_digit bytes) 0) (byte ∷ text)) ≡ true
+front_all false byte bytes text other later = refl
+front_all true byte bytes text digit later =
+    let one : 1 + prefix_len is_ascii_digit bytes ≡ suc (prefix_len is_ascii_digit bytes) = omega arith in
+    rw (one, digit) later
+
+front_within : (count : ℕ) (text : List ℕ) → list_all is_ascii_digit (take (prefix_len is_ascii_digit (take count text)) text) ≡ true
+front_within zero text = refl
+front_within (suc count) [] = refl
+front_within (suc count) (byte ∷ text) = front_all (is_ascii_digit byte) byte (take count text) text refl (front_within count text)
+
+-- they are digits
+pub front_count-digits : (text : List ℕ) → list_all is_ascii_digit (take (front_count text) text) ≡ true
+front_count-digits text = front_within 16 text
+
+-- there are no more than the text has, nor more than 16
+pub front_count-most : (text : List ℕ) → (front_count text ≤ length text) × (front_count text ≤ 16)
+front_count-most text =
+    let least = prefix_len-le-length is_ascii_digit (take 16 text) in
+    (omega (arith, least, length-take 16 text), omega (arith, least, length-take 16 text))
+
+-- and where there are any, they are a number
+pub front_count-number : (most : ℕ) (text : List ℕ) → 0 < front_count text → value_of (take (front_count text) text) ≤ most
+    → number_of most (take (front_count text) text) ≡ Some (value_of (take (front_count text) text))
+unfolding value_of
+front_count-number most text some small =
+    let within = front_count-most text in
+    let many = length-take-le (front_count text) text within.0 in
+    number_of-value most (take (front_count text) text) (omega (arith, many, some)) (omega (arith, many, within.1)) (front_count-digits text) small
+
+-- digits have no other byte
+pub digits-no_byte : (mark : ℕ) (digits : List ℕ) → is_ascii_digit mark ≡ false → list_all is_ascii_digit digits ≡ true → has_byte mark digits ≡ false
+unfolding has_byte
+digits-no_byte mark [] other all = refl
+digits-no_byte mark (byte ∷ digits) other all =
+    let parts = both_true (is_ascii_digit byte) (list_all is_ascii_digit digits) all in
+    elim (cases_eq byte mark) [
+      | inl same ↦ absurd (false≢true (sym other ∙ ap is_ascii_digit (sym same) ∙ parts.0))
+      | inr differs ↦ rw (ne_eqb byte mark differs) (digits-no_byte mark digits other parts.1)
+    ]
 
 third_true : (a b c d : Bool) → (a && b && c) && d ≡ true → c ≡ true
 third_true a b true d h = refl

@@ -1,7 +1,7 @@
 -- Numbers in a text.
 use Rattle.std.specs.Prelude.{ℕ, ◌+◌, ◌-◌, ◌*◌, Bool, ◌&&◌, nat_le, List, length, fold, Option, None, Some, option_map}
-use Rattle.std.specs.Prelude.{◌∷◌, if◌then◌else◌}
-use Rattle.std.specs.List.{list_all}
+use Rattle.std.specs.Prelude.{◌∷◌, if◌then◌else◌, take}
+use Rattle.std.specs.List.{list_all, prefix_len}
 use Rattle.std.specs.Char.{is_ascii_digit}
 
 -- a number with one more decimal digit, an ASCII byte ('0' is 48)
@@ -24,3 +24,7 @@ number_of most text = if is_number text && nat_le (value_of text) most then Some
 abbrev pub leading_number_of : ℕ → List (List ℕ) → Option (ℕ × List (List ℕ))
 leading_number_of most (field ∷ next ∷ more) = option_map (λ number. (number, next ∷ more)) (number_of most field)
 leading_number_of most _ = None
+
+-- how many digits stand at the front of a text, among its first 16 bytes
+abbrev pub front_count : List ℕ → ℕ
+front_count text = prefix_len is_ascii_digit (take 16 text)

@@ -4,28 +4,20 @@ ghost use Rattle.std.specs.List.{list_all};
 ghost use Rattle.line_text.specs.Lines.{fields_of};
 ghost use Rattle.line_text.specs.Numbers.{leading_number_of, value_of};
 
-use crate::numbers::{MOST_DIGITS, number, with_digit};
+use crate::digits::front_digits;
+use crate::numbers::{MOST_DIGITS, with_digit};
 
-/// How many digits are read at once.
-const AT_ONCE: usize = 8;
-
-/// The least number of so many digits.
-const LEAST_AT_ONCE: u64 = 10_000_000;
-
-/// The number that the first digits of a line say, and how many they are: eight that are read at once, in a loop of
-/// that many turns, or none where the line does not begin with eight, or where a number of at most `most` has fewer.
+/// The number that the first digits of a line say, and how many they are: of its first 16 bytes, or none where it has
+/// fewer.
 #[inline(always)]
-#[tactic(auto, using(crate::proofs::LeadingLemmas::number_of_some), unfolding(crate::specs::Numbers::value_of))]
-fn first_digits(line: &[u8], most: u64) -> (u64, usize)
+#[tactic(auto, unfolding(crate::specs::Numbers::value_of))]
+fn first_digits(line: &[u8]) -> (u64, usize)
     ensures within { result.1 ≤ length line.now }
     ensures digits { list_all is_ascii_digit (take result.1 line.now) ≡ true }
     ensures value { result.0 ≡ value_of (take result.1 line.now) }
 {
-    if most < LEAST_AT_ONCE || line.len() < AT_ONCE {
-        return (0, 0);
-    }
-    match number(&line[..AT_ONCE], u64::MAX) {
-        Some(value) => (value, AT_ONCE),
+    match front_digits(line) {
+        Some(digits) => digits,
         None => (0, 0),
     }
 }
@@ -44,7 +36,7 @@ pub fn leading_number(line: &[u8], most: u64) -> Option<(u64, &[u8])>
     ensures { option_map (λ parts. (parts.0, fields_of parts.1.now)) result
         ≡ leading_number_of most (fields_of line.now) }
 {
-    let (mut value, begin) = first_digits(line, most);
+    let (mut value, begin) = first_digits(line);
     for place in begin..line.len() {
         let byte = line[place];
         if !byte.is_ascii_digit() {

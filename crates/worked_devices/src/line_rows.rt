@@ -1,4 +1,4 @@
-use line_text::{leading_number, number, push_number, three_fields, two_fields};
+use line_text::{front_number, leading_number, number, push_number, three_fields, two_fields};
 use std::process::Abort;
 use std::test::Fail;
 
@@ -36,6 +36,26 @@ fn a_number_and_what_stands_behind_its_space(rt: HostRuntime) {
     expect_leading(&rt, b"15", 15, None);
     // no digit
     expect_leading(&rt, b" g", 15, None);
+}
+
+/// Expects of a text the number at its front, and what stands behind it.
+fn expect_front(rt: &impl Abort, text: &[u8], wanted: Option<(u64, &[u8])>) {
+    assert_eq!(rt; front_number(text), wanted);
+}
+
+#[test]
+fn a_number_at_the_front_of_a_text(rt: HostRuntime) {
+    expect_front(&rt, b"1234567 1500 g\n8", Some((1_234_567, b" 1500 g\n8")));
+    // of 17 digits the first 16
+    expect_front(
+        &rt,
+        b"90071992547409931",
+        Some((9_007_199_254_740_993, b"1")),
+    );
+    // no digit
+    expect_front(&rt, b"/1500:1234567890", None);
+    // fewer than 16 bytes
+    expect_front(&rt, b"1234567 1500 g\n", None);
 }
 
 /// Expects of a text the number that it is, of at most so much.
