@@ -38,7 +38,7 @@ all_still : {A : Type 0} (P Q : A → Type 0) → ((x : A) → P x → Q x) → 
 all_still P Q still [] all = tt
 all_still P Q still (x ∷ xs) all = (still x all.0, all_still P Q still xs all.1)
 
-distinct_both : {A : Type 0} (same : A → A → Bool) (xs ys : List A) → IsDistinct same xs → IsDistinct same ys
+pub distinct_both : {A : Type 0} (same : A → A → Bool) (xs ys : List A) → IsDistinct same xs → IsDistinct same ys
     → AllByRecursion (λ x. AllByRecursion (λ y. same x y ≡ false) ys) xs → IsDistinct same (xs ++ ys)
 unfolding IsDistinct
 distinct_both same [] ys first next across = next

@@ -1,85 +1,129 @@
--- What a visit makes, by what is found of its site and its packet.
-use Rattle.std.proofs.Common.{◌≡◌, inl, inr, ℕ, zero, suc, Bool, true, false, List, [], ◌∷◌, length, set, Option, None, Some, refl, sym, ◌∙◌, ap}
-use Rattle.std.specs.Prelude.{◌⊎◌, nat_eq, option_map, Result, Ok, Err, IfErr, OnOk, slice_get, slice_set, if◌then◌else◌}
-use Rattle.std.proofs.lemmas.Option.{same_Some}
-use Rattle.moment_core.specs.declared.colour.Colour.{Colour}
-use Rattle.meter_book.specs.Replay.{Book}
-use Rattle.ds_conductor_base.specs.Steps.{some_of}
-use Rattle.ds_visits.specs.Noting.{noted_there}
-use Rattle.ds_visits.specs.Passing.{Traffic, arrival_of, passed, passed_by}
-use Rattle.meter_book.specs.declared.book.NoteFault.{NoteFault}
-use Rattle.meter_book.specs.declared.book.NoteFault.TheVariants.{JournalFull, NoMemory}
-use Rattle.ds_visits.specs.declared.sent.Sent.{Sent}
+-- What visits make of packets that stand before or behind others.
+use Rattle.std.proofs.Common.{◌≡◌, ◌<◌, ◌≤◌, ◌-◌, ℕ, zero, suc, List, [], ◌∷◌, ◌++◌, length, length-set, map, Option, None, Some, refl, ap, ◌∙◌, arith}
+use Rattle.std.specs.Prelude.{slice_get, slice_set}
+use Rattle.std.specs.List.{All}
+use Rattle.std.proofs.lemmas.List.{set-append_left}
+use Rattle.std.proofs.lemmas.List.Elements.{All-head, All-tail}
+use Rattle.meter_book_base.specs.declared.any_meter.AnyMeter.{AnyMeter}
+use Rattle.ds_visits.specs.Kept.{IsAmong}
+use Rattle.ds_visits.specs.Passing.{Carried, Traffic, met, meter_in, passed, passed_all, passed_by}
+use Rattle.ds_visits.specs.Streams.{with_packets}
 use Rattle.ds_visits.specs.declared.visit.Visit.{Visit}
 
--- what is found, written back, changes nothing
-set_found : {X : Type 0} (xs : List X) (i : ℕ) (x : X) → slice_get xs i ≡ Some x → set xs i x ≡ xs
-set_found [] i x there = refl
-set_found (z ∷ xs) zero x there = ap (λ y. y ∷ xs) (sym (same_Some z x there))
-set_found (z ∷ xs) (suc i) x there = ap (λ ys. z ∷ ys) (set_found xs i x there)
+-- ---- visits one behind the other
 
-module _ (sent : List Sent) (g : Traffic) (v : Visit) where
-  no_packet : (b : Option Book) (came : Option Colour) → passed_by g v b None came ≡ Some g
-  no_packet None came = refl
-  no_packet (Some b) came = refl
+pub passed_all-both : (g : Traffic) (xs ys : List Visit) → passed_all g (xs ++ ys) ≡ passed_all (passed_all g xs) ys
+unfolding passed_all
+passed_all-both g [] ys = refl
+passed_all-both g (v ∷ xs) ys = passed_all-both (passed g v) xs ys
 
-  no_colour : (b : Option Book) (s : Option Sent) → passed_by g v b s None ≡ Some g
-  no_colour None s = refl
-  no_colour (Some b) None = refl
-  no_colour (Some b) (Some s) = refl
+-- ---- as many packets stay, and the first keeps its place
 
-  -- without a site, a packet or its colour, all stays as it is
-  pub passed_no_site : slice_get g.books v.hop.site ≡ None → passed sent g v ≡ Some g
-  unfolding passed
-  passed_no_site none = rw none refl
+passed_by-first : (g : Traffic) (v : Visit) (p : Option Carried) → (passed_by g v p).first ≡ g.first
+passed_by-first g v None = refl
+passed_by-first g v (Some p) = refl
 
-  pub passed_no_packet : slice_get sent v.place ≡ None → passed sent g v ≡ Some g
-  unfolding passed
-  passed_no_packet none = rw none (no_packet (some_of (slice_get g.books v.hop.site)) (slice_get g.colours v.place))
+passed_by-count : (g : Traffic) (v : Visit) (p : Option Carried) → length (passed_by g v p).packets ≡ length g.packets
+passed_by-count g v None = refl
+passed_by-count g v (Some p) = length-set g.packets (v.place - g.first) (record p { colour = (met (meter_in g.meters v.hop.site) v p).1 })
 
-  no_colour_there : slice_get g.colours v.place ≡ None → passed sent g v ≡ Some g
-  unfolding passed
-  no_colour_there none = rw none (no_colour (some_of (slice_get g.books v.hop.site)) (slice_get sent v.place))
+pub passed-first : (g : Traffic) (v : Visit) → (passed g v).first ≡ g.first
+unfolding passed
+passed-first g v = passed_by-first g v (slice_get g.packets (v.place - g.first))
 
-  -- with the book that was found written back
-  pub passed_no_colour : (b : Option Book) → slice_get g.books v.hop.site ≡ Some b → slice_get g.colours v.place ≡ None
-      → passed sent g v ≡ Some (record { books = slice_set g.books v.hop.site b; colours = g.colours })
-  passed_no_colour b book none =
-      no_colour_there none ∙ ap (λ bs. Some (record { books = bs; colours = g.colours })) (sym (set_found g.books v.hop.site b book))
+pub passed-count : (g : Traffic) (v : Visit) → length (passed g v).packets ≡ length g.packets
+unfolding passed
+passed-count g v = passed_by-count g v (slice_get g.packets (v.place - g.first))
 
-  -- what is written back of the site and of the packet
-  abbrev behind : Option (Option Book × Colour) → Option Traffic
-  behind made = option_map (λ m. record { books = slice_set g.books v.hop.site m.0; colours = slice_set g.colours v.place m.1 }) made
+pub passed_all-first : (g : Traffic) (visits : List Visit) → (passed_all g visits).first ≡ g.first
+unfolding passed_all
+passed_all-first g [] = refl
+passed_all-first g (v ∷ visits) = passed_all-first (passed g v) visits ∙ passed-first g v
 
-  same_stage : (s : Sent) (came : Colour) → slice_get g.books v.hop.site ≡ Some None → slice_get g.colours v.place ≡ Some came
-      → Some g ≡ behind (Some (None, came))
-  same_stage s came book colour =
-      ap (λ bs. Some (record { books = bs; colours = g.colours })) (sym (set_found g.books v.hop.site None book))
-      ∙ ap (λ cs. Some (record { books = set g.books v.hop.site None; colours = cs })) (sym (set_found g.colours v.place came colour))
+pub passed_all-count : (g : Traffic) (visits : List Visit) → length (passed_all g visits).packets ≡ length g.packets
+unfolding passed_all
+passed_all-count g [] = refl
+passed_all-count g (v ∷ visits) = passed_all-count (passed g v) visits ∙ passed-count g v
 
-  passed_by_noting : (b : Option Book) (s : Sent) (came : Colour) → slice_get g.books v.hop.site ≡ Some b → slice_get g.colours v.place ≡ Some came
-      → passed_by g v b (Some s) (Some came) ≡ behind (noted_there b (arrival_of s v came))
-  passed_by_noting None s came book colour = same_stage s came book colour
-  passed_by_noting (Some b) s came book colour = refl
+-- ---- packets that stand behind those of the visits stay as they are
 
-  -- where there are all three
-  passed_noting : (b : Option Book) (s : Sent) (came : Colour) → slice_get g.books v.hop.site ≡ Some b → slice_get sent v.place ≡ Some s
-      → slice_get g.colours v.place ≡ Some came → passed sent g v ≡ behind (noted_there b (arrival_of s v came))
-  unfolding passed
-  passed_noting b s came book packet colour = rw (book, packet, colour) (passed_by_noting b s came book colour)
+get_front : {A : Type 0} (xs ys : List A) (i : ℕ) → i < length xs → slice_get (xs ++ ys) i ≡ slice_get xs i
+get_front [] ys i short = absurd (omega (arith, short))
+get_front (x ∷ xs) ys zero short = refl
+get_front (x ∷ xs) ys (suc i) short = get_front xs ys i (omega (arith, short))
 
-  module _ (b : Option Book) (s : Sent) (came : Colour) (book : slice_get g.books v.hop.site ≡ Some b) (packet : slice_get sent v.place ≡ Some s)
-      (colour : slice_get g.colours v.place ≡ Some came) where
-    -- there the packet is noted, or the journal is full
-    pub passed_done : {A : Type 0} (new : Option Book) (left : Colour) (result : Result A NoteFault)
-        → OnOk result (noted_there b (arrival_of s v came) ≡ Some (new, left))
-        → OnOk result (passed sent g v ≡ Some (record { books = slice_set g.books v.hop.site new; colours = slice_set g.colours v.place left }))
-    passed_done new left (Ok x) done = passed_noting b s came book packet colour ∙ ap behind done
-    passed_done new left (Err fault) done = done
+passed_by-with : (g : Traffic) (v : Visit) (behind : List Carried) (p : Option Carried) → v.place - g.first < length g.packets
+    → passed_by (with_packets g behind) v p ≡ with_packets (passed_by g v p) behind
+passed_by-with g v behind None short = refl
+passed_by-with g v behind (Some p) short =
+    let m = met (meter_in g.meters v.hop.site) v p in
+    let ms : List (Option AnyMeter) = slice_set g.meters v.hop.site m.0 in
+    ap (λ (packets : List Carried). let h : Traffic = record { meters = ms; first = g.first; packets = packets } in h)
+    (set-append_left g.packets behind (v.place - g.first) (record p { colour = m.1 }) short)
 
-    pub passed_refused : {A : Type 0} (result : Result A NoteFault)
-        → IfErr result (λ fault. (fault ≡ NoMemory) ⊎ ((fault ≡ JournalFull) × (noted_there b (arrival_of s v came) ≡ None)))
-        → IfErr result (λ fault. (fault ≡ NoMemory) ⊎ ((fault ≡ JournalFull) × (passed sent g v ≡ None)))
-    passed_refused (Ok x) refused = refused
-    passed_refused (Err fault) (inl memory) = inl memory
-    passed_refused (Err fault) (inr full) = inr (full.0, passed_noting b s came book packet colour ∙ ap behind full.1)
+passed-with : (g : Traffic) (v : Visit) (behind : List Carried) → v.place - g.first < length g.packets
+    → passed (with_packets g behind) v ≡ with_packets (passed g v) behind
+unfolding passed
+passed-with g v behind short =
+    ap (passed_by (with_packets g behind) v) (get_front g.packets behind (v.place - g.first) short)
+    ∙ passed_by-with g v behind (slice_get g.packets (v.place - g.first)) short
+
+pub passed_all-with : (g : Traffic) (visits : List Visit) (behind : List Carried) → All (IsAmong g.first (length g.packets)) visits
+    → passed_all (with_packets g behind) visits ≡ with_packets (passed_all g visits) behind
+unfolding passed_all
+passed_all-with g [] behind among = refl
+passed_all-with g (v ∷ visits) behind among =
+    let here = All-head (IsAmong g.first (length g.packets)) v visits among in
+    let count = passed-count g v in
+    let first = passed-first g v in
+    ap (λ (h : Traffic). passed_all h visits) (passed-with g v behind (omega (arith, here.0, here.1)))
+    ∙ passed_all-with (passed g v) visits behind
+    (λ k d short. let there = All-tail (IsAmong g.first (length g.packets)) v visits among k d short in (omega (arith, there.0, first), omega (arith, there.1, first, count)))
+
+-- ---- a packet that stands before those of the visits stays as it is
+
+-- the packets with one before them
+abbrev pub with_first : ℕ → Carried → Traffic → Traffic
+with_first first p g = record { meters = g.meters; first = first; packets = p ∷ g.packets }
+
+passed_by-behind : (g : Traffic) (first : ℕ) (q : Carried) (v : Visit) (p : Option Carried) → v.place - first ≡ suc (v.place - g.first)
+    → passed_by (with_first first q g) v p ≡ with_first first q (passed_by g v p)
+passed_by-behind g first q v None place = refl
+passed_by-behind g first q v (Some p) place =
+    let m = met (meter_in g.meters v.hop.site) v p in
+    let ms : List (Option AnyMeter) = slice_set g.meters v.hop.site m.0 in
+    let c : Carried = record p { colour = m.1 } in
+    ap (λ (i : ℕ). let h : Traffic = record { meters = ms; first = first; packets = slice_set (q ∷ g.packets) i c } in h) place
+
+passed-behind : (g : Traffic) (first : ℕ) (q : Carried) (v : Visit) → v.place - first ≡ suc (v.place - g.first)
+    → passed (with_first first q g) v ≡ with_first first q (passed g v)
+unfolding passed
+passed-behind g first q v place =
+    ap (λ (i : ℕ). passed_by (with_first first q g) v (slice_get (q ∷ g.packets) i)) place
+    ∙ passed_by-behind g first q v (slice_get g.packets (v.place - g.first)) place
+
+pub passed_all-behind : (g : Traffic) (first : ℕ) (q : Carried) (visits : List Visit) → g.first ≡ suc first → All (λ v. suc first ≤ v.place) visits
+    → passed_all (with_first first q g) visits ≡ with_first first q (passed_all g visits)
+unfolding passed_all
+passed_all-behind g first q [] next behind = refl
+passed_all-behind g first q (v ∷ visits) next behind =
+    let here = All-head (λ v. suc first ≤ v.place) v visits behind in
+    ap (λ (h : Traffic). passed_all h visits) (passed-behind g first q v (omega (arith, here, next)))
+    ∙ passed_all-behind (passed g v) first q visits (passed-first g v ∙ next) (All-tail (λ v. suc first ≤ v.place) v visits behind)
+
+-- ---- what a visit writes
+
+-- without a site
+pub set_past : {A : Type 0} (xs : List A) (i : ℕ) (x : A) → length xs ≤ i → slice_set xs i x ≡ xs
+set_past [] i x past = refl
+set_past (z ∷ xs) zero x past = absurd (omega (arith, past))
+set_past (z ∷ xs) (suc i) x past = ap (λ ys. z ∷ ys) (set_past xs i x (omega (arith, past)))
+
+pub map_set : {A B : Type 0} (f : A → B) (xs : List A) (i : ℕ) (x : A) → map f (slice_set xs i x) ≡ slice_set (map f xs) i (f x)
+map_set f [] i x = refl
+map_set f (z ∷ xs) zero x = refl
+map_set f (z ∷ xs) (suc i) x = ap (λ ys. f z ∷ ys) (map_set f xs i x)
+
+pub passed_found : (g : Traffic) (v : Visit) (p : Carried) → slice_get g.packets (v.place - g.first) ≡ Some p → passed g v ≡ passed_by g v (Some p)
+unfolding passed
+passed_found g v p found = ap (passed_by g v) found

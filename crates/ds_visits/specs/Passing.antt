@@ -1,70 +1,93 @@
--- What visits make of the books of the sites, and of the colours that packets carry.
-use Rattle.std.specs.Prelude.{ℕ, List, [], ◌∷◌, map, slice_get, slice_set, option_map, option_and_then, Option, None}
-use Rattle.std.specs.Prelude.{Some, if◌then◌else◌}
+-- What visits make of the meters at the sites, and of the colours that packets carry.
+use Rattle.std.specs.Prelude.{ℕ, ◌-◌, List, [], ◌∷◌, map, slice_get, slice_set, option_map, Option, None, Some}
+use Rattle.std.specs.Option.{option_flatten}
+use Rattle.std.specs.List.{range_with_len}
 use Rattle.moment_core.specs.declared.colour.Colour.{Colour}
 use Rattle.moment_core.specs.declared.colour.Colour.TheVariants.{Red}
-use Rattle.meter_book.specs.Replay.{Book}
-use Rattle.meter_book.specs.declared.row.Arrival.{Arrival}
+use Rattle.moment_core.specs.Metering.{Offer}
+use Rattle.meter_book_base.specs.AnyMeter.{after_any, left_of}
+use Rattle.meter_book_base.specs.declared.any_meter.AnyMeter.{AnyMeter}
 use Rattle.ds_domain_base.specs.Sent.{came}
 use Rattle.ds_domain_base.specs.declared.contract.Contract.{Contract}
 use Rattle.ds_checker.specs.Acceptance.{Table}
 use Rattle.meter_fabric_base.specs.Grounds.{contract_of, ground_of}
-use Rattle.ds_conductor_base.specs.Steps.{opened, some_of}
-use Rattle.ds_visits.specs.Noting.{noted_by}
+use Rattle.meter_fabric_base.specs.Openings.{opening_at, site_count}
 use Rattle.ds_visits.specs.Visits.{visits_of}
 use Rattle.ds_visits.specs.declared.sent.Sent.{Sent}
 use Rattle.ds_visits.specs.declared.visit.Visit.{Visit}
 
--- the books of the sites, each at its number, and the colour that each packet carries, in the order in which they were
--- sent
+-- a packet on its way: its size, and the colour that it carries
+pub record Carried : Type 0 where
+  pub size : ℕ
+  pub colour : Colour
+
+-- The meters of the sites as they stand, each at its number, and packets in the order in which they were sent, of which
+-- the first has this place among all.
 pub record Traffic : Type 0 where
-  pub books : List (Option Book)
-  pub colours : List Colour
+  pub meters : List (Option AnyMeter)
+  pub first : ℕ
+  pub packets : List Carried
 
 abbrev pub came_by : Option Contract → ℕ → Colour
 came_by None dscp = Red
 came_by (Some c) dscp = came c dscp
 
--- the colour that a packet comes in with
+-- the colour that a packet comes in with: that of its code point in its contract's class
 abbrev pub came_of : Table → Sent → Colour
 came_of t s = came_by (contract_of (ground_of t) s.flow) s.dscp
 
--- before the first visit: empty books, and the colours that the packets come in with
+-- a packet as it comes in
+abbrev pub came_in : Table → Sent → Carried
+came_in t s = record { size = s.size; colour = came_of t s }
+
+-- the meter at a site before the first packet, with full buckets; where none stands, as at a trusted contract's number,
+-- there is none
+abbrev pub meter_at : Table → ℕ → Option AnyMeter
+meter_at t site = option_map (λ o. o.meter) (opening_at (ground_of t) site)
+
+-- before the first visit
 abbrev pub entered : Table → List Sent → Traffic
-entered t sent = record { books = (opened t).books; colours = map (came_of t) sent }
+entered t sent = record {
+  meters = map (meter_at t) (range_with_len 0 (site_count t));
+  first = 0;
+  packets = map (came_in t) sent;
+}
 
--- a packet as it arrives, with the colour that it carries
-abbrev pub arrival_of : Sent → Visit → Colour → Arrival
-arrival_of s v came =
-    record { flow = s.flow; packet = s.packet; hop = v.hop.number; moment = v.moment; size = s.size; came = came }
+-- a packet on a visit as it is offered to a meter
+abbrev pub offer_of : Visit → Carried → Offer
+offer_of v p = record { moment = v.moment; size = p.size; came = p.colour }
 
--- a book notes the arrival, and the packet carries on the colour that it leaves with; a book without room stops all
-abbrev pub noting : Traffic → Visit → Book → Arrival → Option Traffic
-noting g v b a = option_map
-    (λ behind. record {
-      books = slice_set g.books v.hop.site behind.0;
-      colours = slice_set g.colours v.place behind.1;
-    })
-    (noted_by b a)
+-- a packet on a visit at a site: the meter behind it, and the colour that the packet leaves with, which is that which it
+-- carries where no meter stands
+abbrev pub met : Option AnyMeter → Visit → Carried → Option AnyMeter × Colour
+met None v p = (None, p.colour)
+met (Some m) v p = (Some (after_any m (offer_of v p)), left_of m (offer_of v p))
 
--- a visit of a packet with a colour at a book, if there are all three
-abbrev pub passed_by : Traffic → Visit → Option Book → Option Sent → Option Colour → Option Traffic
-passed_by g v (Some b) (Some s) (Some came) = noting g v b (arrival_of s v came)
-passed_by g v (Some b) (Some s) None = Some g
-passed_by g v (Some b) None came = Some g
-passed_by g v None s came = Some g
+-- the meter that stands at a site, if there is one
+abbrev pub meter_in : List (Option AnyMeter) → ℕ → Option AnyMeter
+meter_in meters site = option_flatten (slice_get meters site)
 
--- what a visit makes; None where the journal of its site is full
-unfoldable pub passed : List Sent → Traffic → Visit → Option Traffic
-passed sent g v =
-    passed_by g v (some_of (slice_get g.books v.hop.site)) (slice_get sent v.place) (slice_get g.colours v.place)
+abbrev pub passed_by : Traffic → Visit → Option Carried → Traffic
+passed_by g v None = g
+passed_by g v (Some p) = let behind = met (meter_in g.meters v.hop.site) v p in record g {
+  meters = slice_set g.meters v.hop.site behind.0;
+  packets = slice_set g.packets (v.place - g.first) (record p { colour = behind.1 });
+}
 
--- what visits make, one after the other; None where a journal is full before
-unfoldable pub passed_all : List Sent → Traffic → List Visit → Option Traffic
-passed_all sent g [] = Some g
-passed_all sent g (v ∷ visits) = option_and_then (λ h. passed_all sent h visits) (passed sent g v)
+-- What a visit makes: its packet, if it is there, carries on the colour that it leaves the meter of its site with.
+unfoldable pub passed : Traffic → Visit → Traffic
+passed g v = passed_by g v (slice_get g.packets (v.place - g.first))
 
--- The colours with which packets leave their last meters, by the replays of all visits in their order; None where a
--- journal is full before that.
-unfoldable pub colours_of : Table → List Sent → Option (List Colour)
-colours_of t sent = option_map (λ g. g.colours) (passed_all sent (entered t sent) (visits_of t sent))
+-- what visits make, one after the other
+unfoldable pub passed_all : Traffic → List Visit → Traffic
+passed_all g [] = g
+passed_all g (v ∷ visits) = passed_all (passed g v) visits
+
+-- the colours that packets carry
+abbrev pub colours_in : List Carried → List Colour
+colours_in packets = map (λ p. p.colour) packets
+
+-- The colours with which packets leave their last meters, in the order in which they were sent: all visits are made in
+-- their order, each by the meter of its site as it then stands.
+unfoldable pub colours_of : Table → List Sent → List Colour
+colours_of t sent = colours_in (passed_all (entered t sent) (visits_of t sent)).packets

@@ -1,5 +1,5 @@
 -- The visits that packets make, in order.
-use Rattle.std.specs.Prelude.{ℕ, suc, ◌+◌, ◌-◌, ◌^◌, min, nat_eq, nat_lt, Bool, true, ◌&&◌, ◌||◌, List, [], ◌∷◌, ◌++◌}
+use Rattle.std.specs.Prelude.{ℕ, suc, ◌+◌, ◌-◌, ◌^◌, min, nat_eq, nat_lt, Bool, ◌&&◌, ◌||◌, List, [], ◌∷◌, ◌++◌}
 use Rattle.std.specs.Prelude.{map}
 use Rattle.ds_checker.specs.Acceptance.{Table}
 use Rattle.run_audit.specs.Orders.{in_order}
@@ -35,12 +35,3 @@ visits_of t sent = in_order is_before (visits_from t 0 sent)
 -- whether two visits are those of one packet to one hop
 abbrev pub is_same : Visit → Visit → Bool
 is_same v w = nat_eq v.place w.place && nat_eq v.hop.number w.hop.number
-
--- whether visits behind another stand in their order: each comes before the next
-unfoldable pub are_behind : Visit → List Visit → Bool
-are_behind v [] = true
-are_behind v (w ∷ visits) = is_before v w && are_behind w visits
-
-abbrev pub are_in_order : List Visit → Bool
-are_in_order [] = true
-are_in_order (v ∷ visits) = are_behind v visits

@@ -5,12 +5,17 @@
 pub mod colouring;
 pub mod gate;
 pub mod laws;
+mod meters;
+pub(crate) mod passing;
+pub(crate) mod queue;
 pub mod sent;
+pub mod under_way;
 pub mod visit;
 pub mod way;
 
 pub use colouring::colours;
 pub use gate::{Gate, OpenGate};
 pub use sent::Sent;
-pub use visit::{Visit, visits};
+pub use under_way::UnderWay;
+pub use visit::Visit;
 pub use way::Stop;

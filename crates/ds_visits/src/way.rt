@@ -1,4 +1,4 @@
-ghost use Rattle.std.specs.Prelude.{◌≡◌, ◌+◌, ◌*◌, ◌<◌, ◌≤◌, ◌^◌, IfOk, length};
+ghost use Rattle.std.specs.Prelude.{◌≡◌, ◌+◌, ◌*◌, ◌<◌, ◌≤◌, ◌^◌, [], IfOk, length, slice_get, unwrap_or};
 ghost use Rattle.ds_visits.specs.Ways.{AreWays, stops_at, stops_of};
 
 use ds_checker::Accepted;
@@ -51,6 +51,16 @@ pub(crate) fn all_ways(alloc: Global, accepted: &Accepted) -> Result<Vec<Way>, A
         ways.push(way_at(alloc, accepted, flow)?)?;
     }
     Ok(ways)
+}
+
+/// The stops that stand at a contract's number, none behind the last.
+pub(crate) fn stops_at(ways: &[Way], flow: u32) -> &[Stop]
+    ensures { result.now ≡ unwrap_or (slice_get ways.now flow) [] }
+{
+    match ways.get(flow as usize) {
+        Some(way) => way.stops(),
+        None => &[],
+    }
 }
 
 /// The stops of the packets of a contract's number, none where there is no such contract; `AllocError` where memory
