@@ -8,8 +8,8 @@ use Rattle.pcap_capture.specs.declared.heading.Heading.{Heading}
 use Rattle.pcap_capture.proofs.HeadingLaws.{heading-append}
 use Rattle.moment_core.specs.declared.colour.Colour.{Colour}
 use Rattle.ds_checker.specs.Acceptance.{Table}
-use Rattle.ds_visits.specs.Passing.{colours_of}
-use Rattle.ds_visits.specs.declared.sent.Sent.{Sent}
+use Rattle.ds_visits_base.specs.Passing.{colours_of}
+use Rattle.ds_visits_base.specs.declared.sent.Sent.{Sent}
 use Rattle.ds_conductor.specs.Markings.{IsMarkedAs, IsMarkedBut, IsPassed, IsPassedOf, IsWhole, IsWholeSoFar, IsWholeWith, Marking, answer_of, is_read_whole, is_starved, marking_behind, marking_in, marking_of, marking_with, marking_told, nothing_marked, see}
 use Rattle.ds_conductor.specs.Readings.{IsHeadingTold, IsReading, IsReadTo, heading_in, is_own}
 use Rattle.ds_conductor.specs.Reports.{nothing_read}

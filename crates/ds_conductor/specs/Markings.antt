@@ -13,8 +13,8 @@ use Rattle.ds_domain_base.specs.Domains.{is_port}
 use Rattle.ds_checker.specs.Acceptance.{Table}
 use Rattle.frame_marker.specs.Sights.{sight_of}
 use Rattle.frame_marker.specs.declared.sight.Sight.{Sight}
-use Rattle.ds_visits.specs.Passing.{colours_of}
-use Rattle.ds_visits.specs.declared.sent.Sent.{Sent}
+use Rattle.ds_visits_base.specs.Passing.{colours_of}
+use Rattle.ds_visits_base.specs.declared.sent.Sent.{Sent}
 use Rattle.ds_conductor.specs.Reports.{nothing_read, report_of, unmarked_report}
 use Rattle.ds_conductor.specs.Sendings.{sent_of}
 use Rattle.ds_conductor.specs.Texts.{text_from}

@@ -5,7 +5,7 @@ use Rattle.moment_core.specs.Colours.{is_green, is_red, is_yellow}
 use Rattle.pcap_capture.specs.Frames.{FrameValue}
 use Rattle.frame_marker.specs.declared.sight.Sight.{Sight}
 use Rattle.frame_marker.specs.declared.sight.Sight.TheVariants.{Matched, Skipped, Unmatched}
-use Rattle.ds_visits.specs.declared.sent.Sent.{Sent}
+use Rattle.ds_visits_base.specs.declared.sent.Sent.{Sent}
 use Rattle.ds_conductor.specs.Texts.{is_dropped}
 use Rattle.ds_conductor.specs.declared.report.Report.{Report}
 use Rattle.ds_conductor.specs.declared.rule.RedRule.{RedRule}

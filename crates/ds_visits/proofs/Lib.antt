@@ -1,14 +1,6 @@
 -- Lemmas for the proofs of this crate.
-pub mod ApartLaws
 pub mod ColouringLaws
 pub mod CountLaws
-pub mod InOrderLaws
-pub mod JoinLaws
 pub mod PacketLaws
-pub mod PassLaws
 pub mod QueueLaws
-pub mod StopLaws
-pub mod StreamLaws
 pub mod UnderWayLaws
-pub mod VisitLaws
-pub mod WayLaws

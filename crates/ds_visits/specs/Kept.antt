@@ -1,16 +1,16 @@
 -- What the fields of packets under way and of their waiting visits stand for, and what they keep.
-use Rattle.std.specs.Prelude.{◌≡◌, ℕ, ◌+◌, ◌<◌, ◌≤◌, ◌^◌, nat_eq, List, length, count_by, slice_index}
+use Rattle.std.specs.Prelude.{◌≡◌, ℕ, ◌+◌, ◌<◌, ◌^◌, nat_eq, List, length, count_by, slice_index}
 use Rattle.std.specs.BinaryHeap.{IsHeap, heap_items}
-use Rattle.std.specs.List.{All, IsDistinct}
+use Rattle.std.specs.List.{IsDistinct}
 use Rattle.run_audit.specs.Orders.{in_order}
 use Rattle.ds_visits.specs.Packets.{carried_in, lefts_of}
-use Rattle.ds_visits.specs.Streams.{Stream}
-use Rattle.ds_visits.specs.Visits.{is_before, is_same}
+use Rattle.ds_visits_base.specs.Streams.{IsStream, Stream}
+use Rattle.ds_visits_base.specs.Visits.{is_before, is_same}
 use Rattle.ds_visits.specs.Waits.{first_on_top, visits_in}
-use Rattle.ds_visits.specs.Ways.{AreWays}
+use Rattle.ds_visits_base.specs.Ways.{AreWays}
 use Rattle.ds_visits.specs.declared.queue.VisitQueue.TheInside as queues
 use Rattle.ds_visits.specs.declared.under_way.UnderWay.TheInside as streams
-use Rattle.ds_visits.specs.declared.visit.Visit.{Visit}
+use Rattle.ds_visits_base.specs.declared.visit.Visit.{Visit}
 
 -- ---- the queue of waiting visits
 
@@ -36,18 +36,6 @@ stream_of u = record {
 abbrev pub AreCounted : ℕ → List ℕ → List Visit → Type 0
 AreCounted first lefts visits =
     (k : ℕ) → k < length lefts → slice_index lefts k ≡ count_by (λ v. nat_eq v.place (first + k)) visits
-
--- whether a visit is of one of so many packets, of which the first has this place
-abbrev pub IsAmong : ℕ → ℕ → Visit → Type 0
-IsAmong first count v = (first ≤ v.place) × (v.place < first + count)
-
--- Waiting visits stand in their order, no two are those of one packet to one hop, and each is of a packet that is there,
--- at a moment that there is.
-pub record IsStream (u : Stream) : Type 0 where
-  pub ordered : in_order is_before u.waiting ≡ u.waiting
-  pub apart : IsDistinct is_same u.waiting
-  pub among : All (IsAmong u.traffic.first (length u.traffic.packets)) u.waiting
-  pub timed : All (λ v. v.moment < 2 ^ 63) u.waiting
 
 pub record IsUnderWay (u : streams.Inside) : Type 0 where
   pub ways : AreWays u.accepted.now u.ways.items

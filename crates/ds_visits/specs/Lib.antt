@@ -1,9 +1,4 @@
--- The visits of packets where each link takes its floor, and the colours that the packets leave with.
+-- What the fields of packets under way stand for.
 pub mod Kept
-pub mod Laws
 pub mod Packets
-pub mod Passing
-pub mod Streams
-pub mod Visits
 pub mod Waits
-pub mod Ways

@@ -4,7 +4,7 @@ use Rattle.std.specs.Ordering.{nat_cmp, ordering_then}
 use Rattle.std.specs.declared.cmp.Ordering.{Ordering}
 use Rattle.std.specs.declared.cmp.Reverse.{Reverse}
 use Rattle.ds_visits.specs.declared.queue.Waiting.{Waiting}
-use Rattle.ds_visits.specs.declared.visit.Visit.{Visit}
+use Rattle.ds_visits_base.specs.declared.visit.Visit.{Visit}
 
 -- the visit that waits
 abbrev pub visit_in : Reverse Waiting → Visit

@@ -1,10 +1,10 @@
 ghost use Rattle.std.specs.Prelude.{◌≡◌, IfOk};
-ghost use Rattle.ds_visits.specs.Passing.{came_of, colours_of};
+ghost use Rattle.ds_visits_base.specs.Passing.{came_of, colours_of};
 
 use crate::gate::Gate;
-use crate::sent::Sent;
 use crate::under_way::UnderWay;
 use ds_checker::Accepted;
+use ds_visits_base::Sent;
 use meter_fabric_base::contract_of;
 use moment_core::Colour;
 use std::alloc::{AllocError, Global};

@@ -4,11 +4,9 @@ ghost use Rattle.std.specs.BinaryHeap.{IsHeap, heap_capacity, heap_items, heap_l
 ghost use Rattle.ds_visits.specs.Waits.{first_on_top, visit_in, visits_in};
 ghost use Rattle.std.specs.List.{All, IsDistinct};
 ghost use Rattle.run_audit.specs.Orders.{in_order};
-ghost use Rattle.ds_visits.specs.Visits.{is_before, is_same, visit_to};
+ghost use Rattle.ds_visits_base.specs.Visits.{is_before, is_same, visit_to};
 
-use crate::sent::Sent;
-use crate::visit::{Visit, visit_to};
-use crate::way::Stop;
+use ds_visits_base::{Sent, Stop, Visit, visit_to};
 use meter_fabric_base::Hop;
 use moment_core::Moment;
 use std::alloc::{AllocError, Global};
@@ -33,7 +31,7 @@ pub(crate) struct VisitQueue {
 
 impl Model for VisitQueue {
     ghost use Rattle.std.specs.Prelude.{List};
-    ghost use Rattle.ds_visits.specs.declared.visit.Visit.{Visit};
+    ghost use Rattle.ds_visits_base.specs.declared.visit.Visit.{Visit};
 
     ghost Value = { List Visit };
 

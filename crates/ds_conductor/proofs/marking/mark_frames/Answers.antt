@@ -1,8 +1,8 @@
 use Rattle.std.proofs.Common.{ℕ, List, ◌++◌, zip, Some, refl, subst, sym, ap, ap₂, ◌∙◌, arith, inl}
 use Rattle.pcap_capture.specs.Frames.{FrameValue}
 use Rattle.moment_core.specs.declared.colour.Colour.{Colour}
-use Rattle.ds_visits.specs.Passing.{colours_of}
-use Rattle.ds_visits.specs.declared.sent.Sent.{Sent}
+use Rattle.ds_visits_base.specs.Passing.{colours_of}
+use Rattle.ds_visits_base.specs.declared.sent.Sent.{Sent}
 use Rattle.ds_conductor.specs.Markings.{Marking, see}
 use Rattle.ds_conductor.specs.Reports.{report_of}
 use Rattle.ds_conductor.specs.Sendings.{IsSending}

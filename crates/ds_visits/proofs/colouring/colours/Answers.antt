@@ -1,6 +1,6 @@
 use Rattle.std.proofs.Common.{ap}
-use Rattle.ds_visits.specs.Passing.{colours_of}
-use Rattle.ds_visits.specs.Streams.{next_place}
+use Rattle.ds_visits_base.specs.Passing.{colours_of}
+use Rattle.ds_visits_base.specs.Streams.{next_place}
 use Rattle.ds_visits.proofs.ColouringLaws.{handed_out, sent_first}
 use Rattle.ds_visits.proofs.colouring.colours.Goals as goal
 

@@ -1,7 +1,7 @@
 use Rattle.std.proofs.Common.{◌≤◌, ◌+◌, ◌++◌, length, map, drop}
 use Rattle.std.specs.Prelude.{IsPermutation}
 use Rattle.std.specs.BinaryHeap.{IsHeap, heap_capacity, heap_items, heap_len}
-use Rattle.ds_visits.specs.Visits.{visit_to}
+use Rattle.ds_visits_base.specs.Visits.{visit_to}
 use Rattle.ds_visits.specs.Waits.{first_on_top, visits_in}
 use Rattle.ds_visits.proofs.queue.push_visits.Given as goal
 

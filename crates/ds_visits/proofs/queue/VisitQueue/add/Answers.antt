@@ -2,7 +2,7 @@ use Rattle.std.proofs.Common.{◌≡◌, ◌++◌, map, ap, subst, sym, ◌∙�
 use Rattle.std.specs.BinaryHeap.{IsHeap, heap_items}
 use Rattle.std.specs.List.{IsDistinct}
 use Rattle.run_audit.specs.Orders.{in_order}
-use Rattle.ds_visits.specs.Visits.{is_before, is_same, visit_to}
+use Rattle.ds_visits_base.specs.Visits.{is_before, is_same, visit_to}
 use Rattle.ds_visits.specs.Waits.{first_on_top, visits_in}
 use Rattle.ds_visits.proofs.QueueLaws.{added_apart, added_order, added_rows}
 use Rattle.ds_visits.proofs.queue.VisitQueue.add.Goals as goal

@@ -1,7 +1,7 @@
 use Rattle.std.proofs.Common.{ap, subst, sym}
 use Rattle.std.specs.List.{IsDistinct}
 use Rattle.run_audit.specs.Orders.{in_order}
-use Rattle.ds_visits.specs.Visits.{is_before, is_same}
+use Rattle.ds_visits_base.specs.Visits.{is_before, is_same}
 use Rattle.ds_visits.specs.Waits.{visits_in}
 use Rattle.ds_visits.proofs.queue.VisitQueue.new.Goals as goal
 
