@@ -50,15 +50,6 @@ nothing_read = record {
   bytes = 0 ∷ 0 ∷ 0 ∷ [];
 }
 
--- the report of frames none of which could be marked
-abbrev pub unmarked_report : (List ℕ → Sight) → List FrameValue → Report
-unmarked_report see frames =
-    record nothing_read {
-      records = length frames;
-      unmatched = seen_as see is_unmatched frames;
-      skipped = seen_as see is_skipped frames;
-    }
-
 -- the report of frames, and of the packets that they sent, with the colours that these left with
 abbrev pub report_of : (List ℕ → Sight) → RedRule → List FrameValue → List (Sent × Colour) → Report
 report_of see red frames coloured = record {
