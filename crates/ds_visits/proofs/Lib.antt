@@ -2,5 +2,4 @@
 pub mod ColouringLaws
 pub mod CountLaws
 pub mod PacketLaws
-pub mod QueueLaws
 pub mod UnderWayLaws

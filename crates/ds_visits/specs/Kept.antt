@@ -1,29 +1,10 @@
--- What the fields of packets under way and of their waiting visits stand for, and what they keep.
+-- What the fields of packets under way stand for, and what they keep.
 use Rattle.std.specs.Prelude.{◌≡◌, ℕ, ◌+◌, ◌<◌, ◌^◌, nat_eq, List, length, count_by, slice_index}
-use Rattle.std.specs.BinaryHeap.{IsHeap, heap_items}
-use Rattle.std.specs.List.{IsDistinct}
-use Rattle.run_audit.specs.Orders.{in_order}
 use Rattle.ds_visits.specs.Packets.{carried_in, lefts_of}
 use Rattle.ds_visits_base.specs.Streams.{IsStream, Stream}
-use Rattle.ds_visits_base.specs.Visits.{is_before, is_same}
-use Rattle.ds_visits.specs.Waits.{first_on_top, visits_in}
 use Rattle.ds_visits_base.specs.Ways.{AreWays}
-use Rattle.ds_visits.specs.declared.queue.VisitQueue.TheInside as queues
 use Rattle.ds_visits.specs.declared.under_way.UnderWay.TheInside as streams
 use Rattle.ds_visits_base.specs.declared.visit.Visit.{Visit}
-
--- ---- the queue of waiting visits
-
--- in their order, however they are stored
-abbrev pub queue_of : queues.Inside → List Visit
-queue_of q = in_order is_before (visits_in (heap_items q.heap))
-
--- the first is on top, and no two are those of one packet to one hop
-pub record IsQueue (q : queues.Inside) : Type 0 where
-  pub ordered : IsHeap first_on_top (heap_items q.heap)
-  pub apart : IsDistinct is_same (visits_in (heap_items q.heap))
-
--- ---- packets under way
 
 abbrev pub stream_of : streams.Inside → Stream
 stream_of u = record {

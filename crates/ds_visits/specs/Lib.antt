@@ -1,4 +1,3 @@
 -- What the fields of packets under way stand for.
 pub mod Kept
 pub mod Packets
-pub mod Waits

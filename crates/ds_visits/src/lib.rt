@@ -5,7 +5,6 @@ pub mod colouring;
 pub mod gate;
 mod meters;
 pub(crate) mod passing;
-pub(crate) mod queue;
 pub mod under_way;
 
 pub use colouring::colours;

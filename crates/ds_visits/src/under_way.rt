@@ -7,7 +7,6 @@ use crate::colouring::came;
 use crate::gate::Gate;
 use crate::meters::opened_meters;
 use crate::passing::{OnTheWay, pass};
-use crate::queue::VisitQueue;
 use ds_checker::Accepted;
 use ds_visits_base::{Sent, Way, all_ways, stops_at};
 use meter_book_base::AnyMeter;
@@ -15,6 +14,7 @@ use moment_core::{Colour, Moment};
 use std::alloc::{AllocError, Global};
 use std::collections::VecDeque;
 use std::marker::Model;
+use visit_queue::VisitQueue;
 
 /// Packets under way through a domain, where each link takes its floor: those that were sent and whose colours were not
 /// handed out, and the visits that they still make. It holds one meter a site, and nothing of what was handed out.

@@ -1,5 +1,5 @@
 -- Packets under way: those that were sent and whose colours were not handed out, and the visits that they still make.
-use Rattle.std.specs.Prelude.{◌≡◌, ◌<◌, ◌^◌}
+use Rattle.std.specs.Prelude.{◌≡◌, ◌<◌, ◌^◌, Bool, true, ◌&&◌}
 use Rattle.std.specs.Prelude.{ℕ, suc, ◌+◌, ◌≤◌, nat_eq, nat_le, nat_lt, List, [], ◌∷◌, ◌++◌, length, map, Option}
 use Rattle.std.specs.Prelude.{None, Some, if◌then◌else◌}
 use Rattle.std.specs.List.{All, IsDistinct, filter, list_any}
@@ -80,6 +80,11 @@ handed u = handed_by (decided u) u
 -- packets that are sent at a moment or later
 abbrev pub AreSentFrom : ℕ → List Sent → Type 0
 AreSentFrom moment sent = All (λ s. moment ≤ s.moment) sent
+
+-- whether packets are sent at moments that do not fall, and the first at this moment or later
+unfoldable pub rise_from : ℕ → List Sent → Bool
+rise_from moment [] = true
+rise_from moment (s ∷ sent) = nat_le moment s.moment && rise_from s.moment sent
 
 -- The colours that are still to come, in the order in which their packets were sent, where these packets are sent
 -- behind those that are there, and no others.

@@ -3,7 +3,7 @@ use Rattle.std.specs.Prelude.{List, map}
 use Rattle.std.specs.Ordering.{nat_cmp, ordering_then}
 use Rattle.std.specs.declared.cmp.Ordering.{Ordering}
 use Rattle.std.specs.declared.cmp.Reverse.{Reverse}
-use Rattle.ds_visits.specs.declared.queue.Waiting.{Waiting}
+use Rattle.visit_queue.specs.declared.queue.Waiting.{Waiting}
 use Rattle.ds_visits_base.specs.declared.visit.Visit.{Visit}
 
 -- the visit that waits

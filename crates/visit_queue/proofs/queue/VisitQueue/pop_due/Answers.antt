@@ -3,9 +3,9 @@ use Rattle.std.specs.BinaryHeap.{heap_items}
 use Rattle.std.specs.List.{All}
 use Rattle.run_audit.specs.Orders.{in_order}
 use Rattle.ds_visits_base.specs.Visits.{is_before}
-use Rattle.ds_visits.specs.Waits.{visits_in}
-use Rattle.ds_visits.proofs.QueueLaws.{none_late, popped_apart, popped_first, popped_rest, same_top, top_late}
-use Rattle.ds_visits.proofs.queue.VisitQueue.pop_due.Goals as goal
+use Rattle.visit_queue.specs.Waits.{visits_in}
+use Rattle.visit_queue.proofs.QueueLaws.{none_late, popped_apart, popped_first, popped_rest, same_top, top_late}
+use Rattle.visit_queue.proofs.queue.VisitQueue.pop_due.Goals as goal
 
 pub returns-in_err-first : goal.returns-in_err-first
 returns-in_err-first c =

@@ -2,8 +2,8 @@ use Rattle.std.proofs.Common.{◌≤◌, ◌+◌, ◌++◌, length, map, drop}
 use Rattle.std.specs.Prelude.{IsPermutation}
 use Rattle.std.specs.BinaryHeap.{IsHeap, heap_capacity, heap_items, heap_len}
 use Rattle.ds_visits_base.specs.Visits.{visit_to}
-use Rattle.ds_visits.specs.Waits.{first_on_top, visits_in}
-use Rattle.ds_visits.proofs.queue.push_visits.Given as goal
+use Rattle.visit_queue.specs.Waits.{first_on_top, visits_in}
+use Rattle.visit_queue.proofs.queue.push_visits.Given as goal
 
 -- there is room for the visits that are left, and with them all are there
 abbrev pub invariant-loop-stop : goal.invariant-loop-stop

@@ -2,8 +2,8 @@ use Rattle.std.proofs.Common.{ap, subst, sym}
 use Rattle.std.specs.List.{IsDistinct}
 use Rattle.run_audit.specs.Orders.{in_order}
 use Rattle.ds_visits_base.specs.Visits.{is_before, is_same}
-use Rattle.ds_visits.specs.Waits.{visits_in}
-use Rattle.ds_visits.proofs.queue.VisitQueue.new.Goals as goal
+use Rattle.visit_queue.specs.Waits.{visits_in}
+use Rattle.visit_queue.proofs.queue.VisitQueue.new.Goals as goal
 
 pub invariant_of-result : goal.invariant_of-result
 unfolding IsDistinct

@@ -1,7 +1,7 @@
 ghost use Rattle.std.specs.Prelude.{◌≡◌, ◌+◌, ◌<◌, ◌≤◌, ◌++◌, ◌∷◌, [], length, map, MatchOption, OnErr, OnOk};
 ghost use Rattle.std.specs.Prelude.{IsPermutation};
 ghost use Rattle.std.specs.BinaryHeap.{IsHeap, heap_capacity, heap_items, heap_len};
-ghost use Rattle.ds_visits.specs.Waits.{first_on_top, visit_in, visits_in};
+ghost use Rattle.visit_queue.specs.Waits.{first_on_top, visit_in, visits_in};
 ghost use Rattle.std.specs.List.{All, IsDistinct};
 ghost use Rattle.run_audit.specs.Orders.{in_order};
 ghost use Rattle.ds_visits_base.specs.Visits.{is_before, is_same, visit_to};
@@ -16,7 +16,7 @@ use std::marker::Model;
 
 /// A visit that waits. It compares as visits are made: by moment, then by packet, then by hop.
 #[derive(Clone, Copy, Debug, PartialEq, Eq, PartialOrd, Ord)]
-pub(crate) struct Waiting {
+pub struct Waiting {
     moment: Moment,
     place: usize,
     number: u8,
@@ -25,7 +25,7 @@ pub(crate) struct Waiting {
 
 /// The visits that wait, in their order.
 #[derive(Drop)]
-pub(crate) struct VisitQueue {
+pub struct VisitQueue {
     heap: BinaryHeap<Reverse<Waiting>>,
 }
 
@@ -35,7 +35,7 @@ impl Model for VisitQueue {
 
     ghost Value = { List Visit };
 
-    ghost use Rattle.ds_visits.specs.Kept.{IsQueue, queue_of};
+    ghost use Rattle.visit_queue.specs.Kept.{IsQueue, queue_of};
 
     ghost view = { queue_of };
 
@@ -44,7 +44,7 @@ impl Model for VisitQueue {
 
 impl VisitQueue {
     /// No visits.
-    pub(crate) fn new(alloc: Global) -> Self
+    pub fn new(alloc: Global) -> Self
         ensures { result ≡ [] }
     {
         VisitQueue {
@@ -55,12 +55,7 @@ impl VisitQueue {
     /// Puts the visits of the packet of a place to its stops among the others.
     ///
     /// `AllocError` where memory runs out; all is then as it was.
-    pub(crate) fn add(
-        &mut self,
-        place: usize,
-        packet: &Sent,
-        stops: &[Stop],
-    ) -> Result<(), AllocError>
+    pub fn add(&mut self, place: usize, packet: &Sent, stops: &[Stop]) -> Result<(), AllocError>
         requires { IsDistinct is_same (self.old ++ map (visit_to place packet.now) stops.now) }
         ensures added { OnOk result
             (self.new ≡ in_order is_before (self.old ++ map (visit_to place packet.now) stops.now)) }
@@ -72,7 +67,7 @@ impl VisitQueue {
     }
 
     /// Takes the first visit out, if it is at or before the moment at so many nanoseconds.
-    pub(crate) fn pop_due(&mut self, moment: u64) -> Option<Visit>
+    pub fn pop_due(&mut self, moment: u64) -> Option<Visit>
         ensures { MatchOption result
             ((self.new ≡ self.old) × All (λ v. moment < v.moment) self.old)
             (λ v. (v.moment ≤ moment) × (self.old ≡ v ∷ self.new)) }

@@ -1,8 +1,8 @@
 use Rattle.std.proofs.Common.{◌<◌, ◌∙◌, arith}
 use Rattle.std.specs.Prelude.{IsOk}
 use Rattle.std.specs.BinaryHeap.{heap_capacity, heap_len}
-use Rattle.ds_visits.proofs.QueueLaws.{on_ok, pushed_all, pushed_more}
-use Rattle.ds_visits.proofs.queue.push_visits.Goals as goal
+use Rattle.visit_queue.proofs.QueueLaws.{on_ok, pushed_all, pushed_more}
+use Rattle.visit_queue.proofs.queue.push_visits.Goals as goal
 
 pub loop-stop-preserved : goal.loop-stop-preserved
 loop-stop-preserved c =

@@ -3,9 +3,9 @@ use Rattle.std.specs.BinaryHeap.{IsHeap, heap_items}
 use Rattle.std.specs.List.{IsDistinct}
 use Rattle.run_audit.specs.Orders.{in_order}
 use Rattle.ds_visits_base.specs.Visits.{is_before, is_same, visit_to}
-use Rattle.ds_visits.specs.Waits.{first_on_top, visits_in}
-use Rattle.ds_visits.proofs.QueueLaws.{added_apart, added_order, added_rows}
-use Rattle.ds_visits.proofs.queue.VisitQueue.add.Goals as goal
+use Rattle.visit_queue.specs.Waits.{first_on_top, visits_in}
+use Rattle.visit_queue.proofs.QueueLaws.{added_apart, added_order, added_rows}
+use Rattle.visit_queue.proofs.queue.VisitQueue.add.Goals as goal
 
 pub invariant_of-self : goal.invariant_of-self
 invariant_of-self c = record {

@@ -15,8 +15,8 @@ use Rattle.run_audit.proofs.OrderLaws.{Ascends, in_order-permutes}
 use Rattle.ds_visits_base.proofs.InOrderLaws.{visit_order}
 use Rattle.ds_visits_base.proofs.JoinLaws.{in_order-rises, in_order-same, in_order-told}
 use Rattle.ds_visits_base.specs.Visits.{is_before, is_same, visit_to}
-use Rattle.ds_visits.specs.Waits.{first_on_top, visit_in, visits_in}
-use Rattle.ds_visits.specs.declared.queue.Waiting.{Waiting}
+use Rattle.visit_queue.specs.Waits.{first_on_top, visit_in, visits_in}
+use Rattle.visit_queue.specs.declared.queue.Waiting.{Waiting}
 use Rattle.ds_visits_base.specs.declared.sent.Sent.{Sent}
 use Rattle.ds_visits_base.specs.declared.visit.Visit.{Visit}
 use Rattle.ds_visits_base.specs.declared.way.Stop.{Stop}
