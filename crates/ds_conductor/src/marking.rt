@@ -34,8 +34,8 @@ const TURNS: u64 = 1 << 32;
 ///
 /// Refused, with the report of what was read: `UnknownPort` exactly where the domain has no port of that name (nothing
 /// is read); `NoMemory` (a front is written, or nothing with a report of nothing); `Capture` with the first fault that
-/// stands in the capture, or a read fault, where every record before it is written, or with a write fault, where a front
-/// is written. It never answers `JournalFull`: no journal is kept.
+/// stands in the capture, or a read fault, where every record before it is written, or with a write fault, where a
+/// front is written. It never answers `JournalFull`: no journal is kept.
 pub fn mark<I: Intake, O: Outlet, G: Gate>(
     alloc: Global,
     accepted: &Accepted,

@@ -49,8 +49,8 @@ fn rise(sent: &[Sent]) -> bool
     true
 }
 
-/// Where packets are sent at moments that do not fall, makes the visits at or before a moment, and hands out the colours
-/// that are decided then; else nothing is made yet. `AllocError` where memory runs out.
+/// Where packets are sent at moments that do not fall, makes the visits at or before a moment, and hands out the
+/// colours that are decided then; else nothing is made yet. `AllocError` where memory runs out.
 fn hand_out_due<G: Gate>(
     rise: bool,
     moment: Moment,

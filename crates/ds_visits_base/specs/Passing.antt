@@ -57,8 +57,8 @@ entered t sent = record {
 abbrev pub offer_of : Visit → Carried → Offer
 offer_of v p = record { moment = v.moment; size = p.size; came = p.colour }
 
--- a packet on a visit at a site: the meter behind it, and the colour that the packet leaves with, which is that which it
--- carries where no meter stands
+-- a packet on a visit at a site: the meter behind it, and the colour that the packet leaves with, which is that which
+-- it carries where no meter stands
 abbrev pub met : Option AnyMeter → Visit → Carried → Option AnyMeter × Colour
 met None v p = (None, p.colour)
 met (Some m) v p = (Some (after_any m (offer_of v p)), left_of m (offer_of v p))

@@ -97,8 +97,8 @@ colours_left u back = colours_in
 abbrev pub IsAmong : ℕ → ℕ → Visit → Type 0
 IsAmong first count v = (first ≤ v.place) × (v.place < first + count)
 
--- Waiting visits stand in their order, no two are those of one packet to one hop, and each is of a packet that is there,
--- at a moment that there is.
+-- Waiting visits stand in their order, no two are those of one packet to one hop, and each is of a packet that is
+-- there, at a moment that there is.
 pub record IsStream (u : Stream) : Type 0 where
   pub ordered : in_order is_before u.waiting ≡ u.waiting
   pub apart : IsDistinct is_same u.waiting
