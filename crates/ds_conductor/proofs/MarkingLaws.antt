@@ -8,8 +8,8 @@ use Rattle.pcap_capture.specs.declared.heading.Heading.{Heading}
 use Rattle.pcap_capture.proofs.HeadingLaws.{heading-append}
 use Rattle.moment_core.specs.declared.colour.Colour.{Colour}
 use Rattle.ds_checker.specs.Acceptance.{Table}
-use Rattle.ds_visits.specs.Passing.{colours_of}
-use Rattle.ds_visits.specs.declared.sent.Sent.{Sent}
+use Rattle.ds_visits_base.specs.Passing.{colours_of}
+use Rattle.ds_visits_base.specs.declared.sent.Sent.{Sent}
 use Rattle.ds_conductor.specs.Markings.{IsMarkedAs, IsMarkedBut, IsPassed, IsPassedOf, IsWhole, IsWholeSoFar, IsWholeWith, Marking, answer_of, is_read_whole, is_starved, marking_behind, marking_in, marking_of, marking_with, marking_told, nothing_marked, see}
 use Rattle.ds_conductor.specs.Readings.{IsHeadingTold, IsReading, IsReadTo, heading_in, is_own}
 use Rattle.ds_conductor.specs.Reports.{nothing_read}
@@ -185,7 +185,7 @@ stopped_as marked bytes more before after (report, marks.Capture fault) of =
     subst (λ f. IsMarkedBut marked bytes more before after report f) (sym of.passed.0)
     (record { read = of.read; front = of.front; passed = (refl, of.passed.1, of.passed.2) })
 stopped_as marked bytes more before after (report, marks.UnknownPort) of = of.passed
-stopped_as marked bytes more before after (report, marks.JournalFull) of = of
+stopped_as marked bytes more before after (report, marks.JournalFull) of = of.passed
 stopped_as marked bytes more before after (report, marks.NoMemory) of = of
 
 -- and so are frames whose marking was stopped
@@ -230,7 +230,7 @@ pub well_by : (fault : Option PcapFault) → is_starved fault ≡ false → ¬ (
 well_by fault well starved = let is : true ≡ false = sym (ap is_starved starved) ∙ well in cc
 
 -- the marking of frames, by what they send and the colours of that
-pub marked_with : (t : Table) (port : List ℕ) (red : RedRule) (heading : Heading) (frames : List FrameValue) (sent : List Sent) (colours : Option (List Colour))
+pub marked_with : (t : Table) (port : List ℕ) (red : RedRule) (heading : Heading) (frames : List FrameValue) (sent : List Sent) (colours : List Colour)
     → sent ≡ sent_of (see t port heading.link) frames → colours_of t sent ≡ colours → marking_of t port red heading frames ≡ marking_with t port red heading frames sent colours
 marked_with t port red heading frames sent colours is of =
     ap (λ s. marking_with t port red heading frames s (colours_of t s)) (sym is) ∙ ap (marking_with t port red heading frames sent) of

@@ -3,7 +3,7 @@ use Rattle.std.proofs.Common.{◌≡◌, ◌⊎◌, inl, inr, ℕ, ◌+◌, ◌-
 use Rattle.std.specs.Prelude.{zip}
 use Rattle.std.proofs.lemmas.List.Sums.{sum_by-cons}
 use Rattle.moment_core.specs.declared.colour.Colour.{Colour}
-use Rattle.ds_visits.specs.declared.sent.Sent.{Sent}
+use Rattle.ds_visits_base.specs.declared.sent.Sent.{Sent}
 use Rattle.ds_conductor.specs.Reports.{bytes_as, packets_as}
 use Rattle.ds_conductor.specs.Tallies.{AreWithin, IsWithin, grown, tally_of}
 use Rattle.ds_conductor.specs.declared.tally.Tallies.{Tallies}

@@ -1,12 +1,12 @@
 -- What is written of a text, and the records of frames one after the other.
-use Rattle.std.proofs.Common.{◌≡◌, ℕ, zero, suc, ◌+◌, ◌≤◌, nat_eq, Bool, true, false, if◌then◌else◌, List, [], ◌∷◌, ◌++◌, take, drop, zip, slice_get, is_some, Option, None, Some, Result, Ok, Err, MatchResult, refl, sym, ap, ◌∙◌, append_assoc, append-nil, arith}
+use Rattle.std.proofs.Common.{◌≡◌, ℕ, zero, suc, ◌+◌, ◌≤◌, nat_eq, Bool, true, false, if◌then◌else◌, List, [], ◌∷◌, ◌++◌, drop, zip, slice_get, is_some, Option, None, Some, Result, Ok, Err, MatchResult, refl, sym, ap, ◌∙◌, append_assoc, append-nil, arith}
 use Rattle.std.specs.Int.{from_bool}
-use Rattle.std.proofs.lemmas.List.{drop-drop, take-append-drop}
+use Rattle.std.proofs.lemmas.List.{drop-drop}
 use Rattle.moment_core.specs.declared.colour.Colour.{Colour}
 use Rattle.pcap_capture.specs.Frames.{FrameValue}
 use Rattle.pcap_capture.specs.declared.heading.LinkType.{LinkType}
 use Rattle.ds_checker.specs.Acceptance.{Table}
-use Rattle.ds_visits.specs.declared.sent.Sent.{Sent}
+use Rattle.ds_visits_base.specs.declared.sent.Sent.{Sent}
 use Rattle.ds_conductor.specs.Texts.{marked_text, packet_at, plain_text, record_text, text_from}
 use Rattle.pcap_capture.specs.Fronts.{IsFrontOf}
 use Rattle.ds_conductor.specs.Writings.{IsWrittenTo}

@@ -13,9 +13,9 @@ use Rattle.ds_domain_base.specs.Domains.{is_port}
 use Rattle.ds_checker.specs.Acceptance.{Table}
 use Rattle.frame_marker.specs.Sights.{sight_of}
 use Rattle.frame_marker.specs.declared.sight.Sight.{Sight}
-use Rattle.ds_visits.specs.Passing.{colours_of}
-use Rattle.ds_visits.specs.declared.sent.Sent.{Sent}
-use Rattle.ds_conductor.specs.Reports.{nothing_read, report_of, unmarked_report}
+use Rattle.ds_visits_base.specs.Passing.{colours_of}
+use Rattle.ds_visits_base.specs.declared.sent.Sent.{Sent}
+use Rattle.ds_conductor.specs.Reports.{nothing_read, report_of}
 use Rattle.ds_conductor.specs.Sendings.{sent_of}
 use Rattle.ds_conductor.specs.Texts.{text_from}
 use Rattle.pcap_capture.specs.Fronts.{IsFrontOf}
@@ -25,25 +25,20 @@ use Rattle.ds_conductor.specs.declared.fault.MarkFault.TheVariants as marks
 use Rattle.ds_conductor.specs.declared.report.Report.{Report}
 use Rattle.ds_conductor.specs.declared.rule.RedRule.{RedRule}
 
--- what is written, what is told, and whether a journal was full before all visits were made
+-- what is written, and what is told
 pub record Marking : Type 0 where
   pub text : List ℕ
   pub report : Report
-  pub is_full : Bool
 
 -- what a frame is at a port of a table
 abbrev pub see : Table → List ℕ → LinkType → List ℕ → Sight
 see t port link bytes = sight_of t.contracts port link bytes
 
 -- frames behind their heading, marked with the colours that their packets left with
-abbrev pub marking_with : Table → List ℕ → RedRule → Heading → List FrameValue → List Sent → Option (List Colour)
-    → Marking
-marking_with t port red heading frames sent None =
-    record { text = []; report = unmarked_report (see t port heading.link) frames; is_full = true }
-marking_with t port red heading frames sent (Some colours) = record {
+abbrev pub marking_with : Table → List ℕ → RedRule → Heading → List FrameValue → List Sent → List Colour → Marking
+marking_with t port red heading frames sent colours = record {
   text = heading.bytes ++ text_from t red heading.link 0 frames (zip sent colours);
   report = report_of (see t port heading.link) red frames (zip sent colours);
-  is_full = false;
 }
 
 -- the marking of frames that stand behind a heading
@@ -54,7 +49,7 @@ marking_of t port red heading frames =
 
 -- without a heading there is nothing to mark
 abbrev pub nothing_marked : Marking
-nothing_marked = record { text = []; report = nothing_read; is_full = false }
+nothing_marked = record { text = []; report = nothing_read }
 
 abbrev pub marking_behind : Table → List ℕ → RedRule → Option (Result Heading PcapFault) → List FrameValue → Marking
 marking_behind t port red (Some (Ok heading)) frames = marking_of t port red heading frames
@@ -74,17 +69,16 @@ marking_told t port red (Some heading) frames = marking_of t port red heading fr
 pub record IsWhole (m : Marking) (report : Report) (before after : List ℕ) : Type 0 where
   pub written : after ≡ before ++ m.text
   pub told : report ≡ m.report
-  pub room : m.is_full ≡ false
 
 -- What was written of frames, and what is told of them: all; or a front, with the whole report, where the device failed
--- or memory ran out on the way; or nothing, where a journal was full, or where memory ran out before, and then nothing
--- is told either.
+-- or memory ran out on the way; or nothing, where memory ran out before, and then nothing is told either. No journal is
+-- kept, so none is full.
 abbrev pub IsPassed : Marking → List ℕ → List ℕ → Result Report (Report × MarkFault) → Type 0
 IsPassed m before after (Ok report) = IsWhole m report before after
 IsPassed m before after (Err (report, marks.Capture fault)) =
     (fault ≡ pcaps.WriteFault) × IsFrontOf before m.text after × (report ≡ m.report)
 IsPassed m before after (Err (report, marks.UnknownPort)) = ⊥
-IsPassed m before after (Err (report, marks.JournalFull)) = (after ≡ before) × (report ≡ m.report) × (m.is_full ≡ true)
+IsPassed m before after (Err (report, marks.JournalFull)) = ⊥
 IsPassed m before after (Err (report, marks.NoMemory)) =
     ((after ≡ before) × (report ≡ nothing_read)) ⊎ (IsFrontOf before m.text after × (report ≡ m.report))
 
@@ -138,8 +132,7 @@ IsMarkedAs marked bytes more before after (Ok report) = IsWholeWith marked bytes
 IsMarkedAs marked bytes more before after (Err (report, marks.Capture fault)) =
     IsMarkedBut marked bytes more before after report fault
 IsMarkedAs marked bytes more before after (Err (report, marks.UnknownPort)) = ⊥
-IsMarkedAs marked bytes more before after (Err (report, marks.JournalFull)) =
-    IsPassedOf marked bytes more before after (Err (report, marks.JournalFull))
+IsMarkedAs marked bytes more before after (Err (report, marks.JournalFull)) = ⊥
 IsMarkedAs marked bytes more before after (Err (report, marks.NoMemory)) =
     IsPassedOf marked bytes more before after (Err (report, marks.NoMemory))
 

@@ -5,7 +5,7 @@ use Rattle.moment_core.specs.Colours.{is_green, is_red, is_yellow}
 use Rattle.pcap_capture.specs.Frames.{FrameValue}
 use Rattle.frame_marker.specs.declared.sight.Sight.{Sight}
 use Rattle.frame_marker.specs.declared.sight.Sight.TheVariants.{Matched, Skipped, Unmatched}
-use Rattle.ds_visits.specs.declared.sent.Sent.{Sent}
+use Rattle.ds_visits_base.specs.declared.sent.Sent.{Sent}
 use Rattle.ds_conductor.specs.Texts.{is_dropped}
 use Rattle.ds_conductor.specs.declared.report.Report.{Report}
 use Rattle.ds_conductor.specs.declared.rule.RedRule.{RedRule}
@@ -49,15 +49,6 @@ nothing_read = record {
   packets = 0 ∷ 0 ∷ 0 ∷ [];
   bytes = 0 ∷ 0 ∷ 0 ∷ [];
 }
-
--- the report of frames none of which could be marked
-abbrev pub unmarked_report : (List ℕ → Sight) → List FrameValue → Report
-unmarked_report see frames =
-    record nothing_read {
-      records = length frames;
-      unmatched = seen_as see is_unmatched frames;
-      skipped = seen_as see is_skipped frames;
-    }
 
 -- the report of frames, and of the packets that they sent, with the colours that these left with
 abbrev pub report_of : (List ℕ → Sight) → RedRule → List FrameValue → List (Sent × Colour) → Report

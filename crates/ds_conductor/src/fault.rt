@@ -13,7 +13,7 @@ pub enum MarkFault {
     /// The domain has no port of that name.
     #[error("no such port")]
     UnknownPort,
-    /// The journal of a site has as many rows as it can take.
+    /// The journal of a site has as many rows as it can take. `mark` keeps no journals and never answers it.
     #[error("the journal is full")]
     JournalFull,
     /// Memory ran out.

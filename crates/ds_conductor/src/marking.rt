@@ -10,7 +10,7 @@ ghost use Rattle.ds_conductor.specs.Sendings.{IsSending};
 
 use crate::fault::MarkFault;
 use crate::reading::{Reading, read_capture};
-use crate::report::{Report, marked_report, unmarked_report};
+use crate::report::{Report, marked_report};
 use crate::rule::RedRule;
 use crate::sending::{Traffic, send_frames};
 use crate::writing::write_capture;
@@ -18,7 +18,6 @@ use ds_checker::Accepted;
 use ds_domain_base::Name;
 use ds_visits::{Gate, colours};
 use frame_marker::PortClassifier;
-use meter_book::NoteFault;
 use pcap_capture::{Frame, Heading, Intake, LinkType, Outlet, PcapFault};
 use std::alloc::{AllocError, Global};
 
@@ -30,14 +29,13 @@ const TURNS: u64 = 1 << 32;
 /// `RedRule::Drop` not at all where that is red.
 ///
 /// The whole capture is read first. A frame is sent at the greatest stamp so far and comes to each hop after the floors
-/// of the links; the visits are made in the order of moment, record and hop, on books of 2^20 rows, the gate being
-/// called round each with worker 0. Then the capture is written: its heading and each record as they came but for the
-/// marks.
+/// of the links; the visits are made in the order of moment, record and hop, the gate being called round each with
+/// worker 0. Then the capture is written: its heading and each record as they came but for the marks.
 ///
 /// Refused, with the report of what was read: `UnknownPort` exactly where the domain has no port of that name (nothing
-/// is read); `JournalFull` where a site is visited more than 2^20 times (nothing is written); `NoMemory` (a front is
-/// written, or nothing with a report of nothing); `Capture` with the first fault that stands in the capture, or a read
-/// fault, where every record before it is written, or with a write fault, where a front is written.
+/// is read); `NoMemory` (a front is written, or nothing with a report of nothing); `Capture` with the first fault that
+/// stands in the capture, or a read fault, where every record before it is written, or with a write fault, where a
+/// front is written. It never answers `JournalFull`: no journal is kept.
 pub fn mark<I: Intake, O: Outlet, G: Gate>(
     alloc: Global,
     accepted: &Accepted,
@@ -171,19 +169,14 @@ fn mark_frames<O: Outlet, G: Gate>(
         return Err((Report::nothing(), MarkFault::NoMemory));
     };
     let records = frames.len() as u64;
-    match colours(alloc, accepted, sending.sent.as_slice(), gate) {
-        Err(NoteFault::NoMemory) => Err((Report::nothing(), MarkFault::NoMemory)),
-        Err(NoteFault::JournalFull | NoteFault::Shut) => {
-            Err((unmarked_report(&sending, records), MarkFault::JournalFull))
-        }
-        Ok(colours) => {
-            let (sent, colours) = (sending.sent.as_slice(), colours.as_slice());
-            let report = marked_report(&sending, records, red, colours);
-            match write_capture(alloc, accepted, red, heading, frames, sent, colours, outlet) {
-                Ok(()) => Ok(report),
-                Err(fault) => Err((report, fault)),
-            }
-        }
+    let Ok(colours) = colours(alloc, accepted, sending.sent.as_slice(), gate) else {
+        return Err((Report::nothing(), MarkFault::NoMemory));
+    };
+    let (sent, colours) = (sending.sent.as_slice(), colours.as_slice());
+    let report = marked_report(&sending, records, red, colours);
+    match write_capture(alloc, accepted, red, heading, frames, sent, colours, outlet) {
+        Ok(()) => Ok(report),
+        Err(fault) => Err((report, fault)),
     }
 }
 

@@ -1,7 +1,7 @@
 ghost use Rattle.std.specs.Prelude.{◌≡◌, ℕ, List, length, zip};
 ghost use Rattle.pcap_capture.specs.Frames.{FrameValue};
 ghost use Rattle.frame_marker.specs.declared.sight.Sight.{Sight};
-ghost use Rattle.ds_conductor.specs.Reports.{nothing_read, report_of, unmarked_report};
+ghost use Rattle.ds_conductor.specs.Reports.{nothing_read, report_of};
 ghost use Rattle.ds_conductor.specs.Sendings.{IsSending};
 
 use crate::rule::RedRule;
@@ -45,20 +45,6 @@ impl Report {
             packets: [0; 3],
             bytes: [0; 3],
         }
-    }
-}
-
-/// The report of so many frames none of which could be marked.
-pub(crate) fn unmarked_report(sending: &Traffic, records: u64) -> Report
-    ensures { (see : List ℕ → Sight) (frames : List FrameValue) → IsSending see frames sending.now → length frames
-        ≡ records
-        → result ≡ unmarked_report see frames }
-{
-    Report {
-        records,
-        unmatched: sending.unmatched,
-        skipped: sending.skipped,
-        ..Report::nothing()
     }
 }
 

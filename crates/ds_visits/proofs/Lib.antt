@@ -1,8 +1,5 @@
 -- Lemmas for the proofs of this crate.
-pub mod ApartLaws
 pub mod ColouringLaws
-pub mod InOrderLaws
-pub mod KeepingLaws
-pub mod PassLaws
-pub mod StopLaws
-pub mod WayLaws
+pub mod CountLaws
+pub mod PacketLaws
+pub mod UnderWayLaws

@@ -1,6 +1,3 @@
--- The visits of packets where each link takes its floor, and the colours that the packets leave with.
-pub mod Laws
-pub mod Noting
-pub mod Passing
-pub mod Visits
-pub mod Ways
+-- What the fields of packets under way stand for.
+pub mod Kept
+pub mod Packets

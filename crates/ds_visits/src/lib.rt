@@ -1,16 +1,13 @@
-//! Visits of packets along their contracts' paths, where each link takes its floor, and the colours that the packets
-//! leave with.
+//! Packets under way through a domain, and the colours that they leave with.
 #![tactic(auto)]
 
 pub mod colouring;
 pub mod gate;
-pub mod laws;
-pub mod sent;
-pub mod visit;
-pub mod way;
+mod meters;
+pub(crate) mod passing;
+pub mod under_way;
 
 pub use colouring::colours;
+pub use ds_visits_base::{Sent, Stop, Visit};
 pub use gate::{Gate, OpenGate};
-pub use sent::Sent;
-pub use visit::{Visit, visits};
-pub use way::Stop;
+pub use under_way::UnderWay;

@@ -1,8 +1,8 @@
-use Rattle.std.proofs.Common.{ℕ, List, ◌++◌, zip, Some, refl, subst, sym, ap, ap₂, ◌∙◌, arith, inl}
+use Rattle.std.proofs.Common.{ℕ, List, ◌++◌, zip, refl, subst, sym, ap, ap₂, ◌∙◌, arith, inl}
 use Rattle.pcap_capture.specs.Frames.{FrameValue}
 use Rattle.moment_core.specs.declared.colour.Colour.{Colour}
-use Rattle.ds_visits.specs.Passing.{colours_of}
-use Rattle.ds_visits.specs.declared.sent.Sent.{Sent}
+use Rattle.ds_visits_base.specs.Passing.{colours_of}
+use Rattle.ds_visits_base.specs.declared.sent.Sent.{Sent}
 use Rattle.ds_conductor.specs.Markings.{Marking, see}
 use Rattle.ds_conductor.specs.Reports.{report_of}
 use Rattle.ds_conductor.specs.Sendings.{IsSending}
@@ -13,8 +13,8 @@ use Rattle.ds_conductor.proofs.marking.mark_frames.Goals as goal
 pub returns-in_default-clause-passed : goal.returns-in_default-clause-passed
 returns-in_default-clause-passed g c told = inl (refl, c.nothing.ensures)
 
-pub returns-in-Err-NoMemory-clause-passed : goal.returns-in-Err-NoMemory-clause-passed
-returns-in-Err-NoMemory-clause-passed g c told = inl (refl, c.nothing-in-Err-NoMemory.ensures)
+pub returns-in_default-colours-clause-passed : goal.returns-in_default-colours-clause-passed
+returns-in_default-colours-clause-passed g c told = inl (refl, c.nothing-in_default-colours.ensures)
 
 pub returns-clause-passed : goal.returns-clause-passed
 returns-clause-passed g c told =
@@ -25,8 +25,8 @@ returns-clause-passed g c told =
     let colours = c.in-Ok-colours.colours.items in
     let look = see t c.args.port heading.link in
     let sends : IsSending look frames c.in-Ok.sending = subst (λ (f : List FrameValue). IsSending look f c.in-Ok.sending) c.as_slice.ensures.value c.in-Ok.ensures in
-    let is = marked_with t c.args.port c.args.red heading frames sent (Some colours) sends.sent
-    (ap (colours_of t) (sym c.as_slice-2.ensures.value) ∙ c.in-Ok-colours.ensures.colours) in
+    let is = marked_with t c.args.port c.args.red heading frames sent colours sends.sent
+    (ap (colours_of t) (sym c.as_slice-2.ensures.value) ∙ sym c.in-Ok-colours.ensures) in
     let text : List Sent → List Colour → List ℕ = λ ss cs. heading.bytes ++ text_from t c.args.red heading.link 0 frames (zip ss cs) in
     write_stopped _ _ _ (text c.as_slice-sent.result.now c.as_slice-colours.result.now) c.marked_report-report.result c.in-Err.fault
     (ap (λ (m : Marking). m.text) is ∙ ap₂ text (sym c.as_slice-sent.ensures.value) (sym c.as_slice-colours.ensures.value))

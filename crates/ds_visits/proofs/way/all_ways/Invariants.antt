@@ -1,8 +1,0 @@
-use Rattle.std.proofs.Common.{◌≡◌, map}
-use Rattle.std.specs.List.{range_with_len}
-use Rattle.ds_visits.specs.Ways.{stops_at}
-use Rattle.ds_visits.proofs.way.all_ways.Given as goal
-
--- the stops of the contracts up to here
-abbrev pub invariant-loop-flow : goal.invariant-loop-flow
-invariant-loop-flow l = l.ways.items ≡ map (stops_at l.accepted) (range_with_len 0 l.flow)

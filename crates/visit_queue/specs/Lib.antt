@@ -1,0 +1,3 @@
+-- A queue of visits.
+pub mod Kept
+pub mod Waits
