@@ -1,9 +1,14 @@
 -- What the fields of a book keep, and what a command makes of them.
-use Rattle.std.proofs.Common.{◌≡◌, ◌≤◌, ◌+◌, ◌-◌, ℕ, Bool, List, [], ◌∷◌, ◌++◌, Option, None, Some, Result, Ok, Err, refl, sym, ap, subst, ◌∙◌, arith}
-use Rattle.std.specs.Prelude.{length, map, nat_eq, option_map, position, slice_get, slice_index_or, IsOk, OnErr}
+use Rattle.std.proofs.Common.{◌≡◌, ◌≤◌, ◌<◌, ◌+◌, ◌-◌, ℕ, Bool, List, [], ◌∷◌, ◌++◌, Option, None, Some, Result, Ok, Err, refl, sym, ap, subst, ◌∙◌, arith, inl, inr}
+use Rattle.std.specs.Prelude.{length, map, nat_lt, slice_get, slice_index_or, MatchResult}
+use Rattle.std.proofs.Common.{get_or}
 use Rattle.std.specs.List.{list_any}
-use Rattle.std.specs.Map.{keys_of, lookup}
+use Rattle.std.specs.List.Sorted.{IsBinarySearchResult}
+use Rattle.std.specs.Ordering.{nat_cmp}
+use Rattle.std.specs.Result.{result_ok}
 use Rattle.std.specs.Str.{bytes_eq}
+use Rattle.std.proofs.lemmas.Bool.{cases_Bool}
+use Rattle.std.proofs.lemmas.List.Sorted.{searched}
 use Rattle.ds_domain_base.specs.declared.contract.Contract.{Contract}
 use Rattle.std.proofs.lemmas.List.{length-map}
 use Rattle.std.proofs.lemmas.Option.{slice_get-map}
@@ -14,38 +19,60 @@ use Rattle.ds_broker.specs.Books.{Book, contracts_in, held_of, holding_of, is_he
 use Rattle.ds_broker.specs.Entries.{entries_of, told_of}
 use Rattle.ds_broker.specs.Found.{IsFound}
 use Rattle.ds_broker.specs.Histories.{Holding}
-use Rattle.ds_broker.specs.Kept.{IsBook, book_of, held_in}
+use Rattle.ds_broker.specs.Kept.{IsBook, book_of, held_in, ids_in}
 use Rattle.ds_broker.specs.declared.book.Book.TheInside as book
 use Rattle.ds_broker.specs.declared.command.Command.{Command}
-use Rattle.ds_broker.proofs.HoldingLaws.{any-names, contract-at, first-holding, first-position, lookup-released, none-missing, some-released, told-held}
+use Rattle.ds_broker.proofs.HoldingLaws.{first-holding, looked-at, told-held}
+use Rattle.ds_broker.proofs.IdLaws.{first-rising, missing-apart, rising-sorted, standing-rising}
 
 -- whether a name is held is whether it stands among the names
 pub names-held : (i : book.Inside) (b : Book) → book_of i ≡ b → IsBook i → (name : List ℕ) → list_any (bytes_eq name) i.names.keys ≡ is_held name (held_of b)
-names-held i b view kept name =
-    ap (λ keys. list_any (bytes_eq name) keys) kept.names ∙ any-names name (held_in i) ∙ ap (λ x. is_held name (held_of x)) view
+names-held i b view kept name = kept.names name ∙ ap (λ x. is_held name (held_of x)) view
+
+-- a search among its ids: the place of one, or where it would stand
+abbrev HasSought : ℕ → List ℕ → Result ℕ ℕ → Type 0
+HasSought id ids r =
+    MatchResult r (λ place. (place < length ids) × (get_or ids place 0 ≡ id))
+    (λ place. (place ≤ length ids) × ((k : ℕ) → k < place → get_or ids k 0 < id) × ((k : ℕ) → place ≤ k → k < length ids → id < get_or ids k 0))
+
+searched-ids : (i : book.Inside) → IsBook i → (id : ℕ) (r : Result ℕ ℕ) → IsBinarySearchResult (λ y. nat_cmp y id) i.ids.items r → HasSought id (ids_in (held_in i)) r
+searched-ids i kept id r is =
+    searched (ids_in (held_in i)) id r (subst (λ ids. IsBinarySearchResult (λ y. nat_cmp y id) ids r) kept.ids is) (rising-sorted (held_in i) (standing-rising i.history.items))
+
+sought-some : (id : ℕ) (ids : List ℕ) (r : Result ℕ ℕ) (place : ℕ) → HasSought id ids r → result_ok r ≡ Some place → (place < length ids) × (get_or ids place 0 ≡ id)
+sought-some id ids (Ok p) place has ok = let same : p ≡ place = cc in subst (λ q. (q < length ids) × (get_or ids q 0 ≡ id)) same has
+sought-some id ids (Err p) place has ok = cc
+
+sought-none : (id : ℕ) (ids : List ℕ) (r : Result ℕ ℕ) → HasSought id ids r → result_ok r ≡ None → (k : ℕ) → k < length ids → get_or ids k 0 ≡ id → ⊥
+sought-none id ids (Ok p) has none k within here = cc
+sought-none id ids (Err p) has none k within here = elim (cases_Bool (nat_lt k p)) [
+  | inl lower ↦ let below = has.1 k (grind (arith, lower)) in omega (arith, below, here)
+  | inr above ↦ let over = has.2 k (grind (arith, above)) within in omega (arith, over, here)
+]
 
 -- what is held under an id
-pub found-at : (i : book.Inside) (b : Book) → book_of i ≡ b → IsBook i → (id place : ℕ) (released : Bool) → position (nat_eq id) (keys_of i.ids.entries) ≡ Some place
-    → lookup (nat_eq id) i.ids.entries ≡ Some released → IsFound id (held_of b) place released
-found-at i b view kept id place released index value =
+pub found-at : (i : book.Inside) (b : Book) → book_of i ≡ b → IsBook i → (id : ℕ) (r : Result ℕ ℕ) → IsBinarySearchResult (λ y. nat_cmp y id) i.ids.items r
+    → (place : ℕ) (released : Bool) → result_ok r ≡ Some place → released ≡ slice_index_or i.released.items place released → IsFound id (held_of b) place released
+found-at i b view kept id r answer place released ok flag =
     let held = held_in i in
-    let first = first-position id held place (ap (λ entries. position (nat_eq id) (keys_of entries)) (sym kept.ids) ∙ index) in
+    let here = sought-some id (ids_in held) r place (searched-ids i kept id r answer) ok in
+    let first = first-rising id held place (standing-rising i.history.items) here.0 here.1 in
     let there = first-holding id held place first in
-    let flag = sym (lookup-released id held) ∙ ap (λ entries. lookup (nat_eq id) entries) (sym kept.ids) ∙ value in
     let found : IsFound id held place released = record {
       holding = there.0;
       first = first;
       at = there.1;
       found = there.2;
       named = there.3;
-      is_released = some-released (holding_of id held) there.0 released there.2 flag;
+      is_released = sym (looked-at (λ h. h.released) held place there.0 released there.1) ∙ ap (λ bs. slice_index_or bs place released) (sym kept.released) ∙ sym flag;
     } in
     subst (λ x. IsFound id (held_of x) place released) view found
 
-pub missing-at : (i : book.Inside) (b : Book) → book_of i ≡ b → IsBook i → (id : ℕ) → lookup (nat_eq id) i.ids.entries ≡ None → holding_of id (held_of b) ≡ None
-missing-at i b view kept id value =
-    none-missing (holding_of id (held_of b))
-    (ap (λ x. option_map (λ h. h.released) (holding_of id (held_of x))) (sym view) ∙ sym (lookup-released id (held_in i)) ∙ ap (λ entries. lookup (nat_eq id) entries) (sym kept.ids) ∙ value)
+pub missing-at : (i : book.Inside) (b : Book) → book_of i ≡ b → IsBook i → (id : ℕ) (r : Result ℕ ℕ) → IsBinarySearchResult (λ y. nat_cmp y id) i.ids.items r
+    → result_ok r ≡ None → holding_of id (held_of b) ≡ None
+missing-at i b view kept id r answer none =
+    subst (λ x. holding_of id (held_of x) ≡ None) view
+    (missing-apart id (held_in i) (sought-none id (ids_in (held_in i)) r (searched-ids i kept id r answer) none))
 
 -- a book whose history has one command more, and whose limits and domain are the same
 pub accepted-view : (old new : book.Inside) (b : Book) (command : Command) → book_of old ≡ b → new.table.domain ≡ old.table.domain → new.limits ≡ old.limits
@@ -57,7 +84,7 @@ pub contract-placed : (i : book.Inside) (b : Book) → book_of i ≡ b → IsBoo
     → (place : ℕ) (h : Holding) (other : Contract) → slice_get (held_of b) place ≡ Some h → slice_index_or contracts place other ≡ h.contract
 contract-placed i b view kept contracts is place h other at =
     ap (λ cs. slice_index_or cs place other) (is ∙ ap (λ t. t.contracts) kept.table)
-    ∙ contract-at (held_in i) place h other (ap (λ x. slice_get (held_of x) place) view ∙ at)
+    ∙ looked-at (λ g. g.contract) (held_in i) place h other (ap (λ x. slice_get (held_of x) place) view ∙ at)
 
 hold-at : (d : Domain) (held : List Holding) (place : ℕ) (h : Holding) → slice_get held place ≡ Some h → hold_at (table_in d held) place ≡ hold_of d h.contract (least_of d h.contract)
 hold-at d held place h at =
@@ -74,27 +101,11 @@ hold-placed i b view kept place h at =
 pub left-of : (hold passed moment end : ℕ) → passed ≡ moment - end → end ≤ moment → hold - passed ≡ (end + hold) - moment
 left-of hold passed moment end is over = omega (arith, is, over)
 
--- an id that is held is among the ids
-pub ids-present : (i : book.Inside) (b : Book) → book_of i ≡ b → IsBook i → (id place : ℕ) (released : Bool) → IsFound id (held_of b) place released
-    → lookup (nat_eq id) i.ids.entries ≡ Some released
-ids-present i b view kept id place released found =
-    ap (λ entries. lookup (nat_eq id) entries) kept.ids ∙ lookup-released id (held_in i) ∙ ap (λ x. option_map (λ h. h.released) (holding_of id (held_of x))) view
-    ∙ ap (λ o. option_map (λ h. h.released) o) found.found ∙ ap Some found.is_released
-
--- an insert at a key that is there cannot fail
-pub insert-present : {T E : Type 0} (r : Result T E) (o : Option Bool) (value : Bool) → OnErr r (o ≡ None) → o ≡ Some value → IsOk r
-insert-present (Ok x) o value absent there = refl
-insert-present (Err e) o value absent there = absurd (none-some o value absent there)
-  where
-    none-some : (o : Option Bool) (value : Bool) → o ≡ None → o ≡ Some value → ⊥
-    none-some None value none some = cc
-    none-some (Some other) value none some = cc
-
 -- what is told of its ids and of its contracts is what is told of it
 pub told-listed : (i : book.Inside) (b : Book) → book_of i ≡ b → IsBook i → (contracts : List Contract) → contracts ≡ i.table.contracts
-    → told_of i.ids.entries contracts ≡ entries_of b
+    → told_of i.ids.items contracts ≡ entries_of b
 told-listed i b view kept contracts is =
-    ap (λ cs. told_of i.ids.entries cs) (is ∙ ap (λ t. t.contracts) kept.table) ∙ ap (λ ids. told_of ids (contracts_in (held_in i))) kept.ids
+    ap (λ cs. told_of i.ids.items cs) (is ∙ ap (λ t. t.contracts) kept.table) ∙ ap (λ ids. told_of ids (contracts_in (held_in i))) kept.ids
     ∙ told-held (held_in i) ∙ ap entries_of view
 
 pub contracts-length : (i : book.Inside) (b : Book) → book_of i ≡ b → IsBook i → length i.table.contracts ≡ length (held_of b)

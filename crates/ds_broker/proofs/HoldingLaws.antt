@@ -1,38 +1,20 @@
--- What is held, as lists of ids, names and contracts: where the contract of an id stands in them, and what becomes of them.
-use Rattle.std.proofs.Common.{◌≡◌, ◌⊎◌, ◌≤◌, ◌<◌, ℕ, zero, suc, Bool, true, false, List, [], ◌∷◌, Option, None, Some, refl, ap, arith, inl, inr}
-use Rattle.std.specs.Prelude.{length, map, nat_eq, option_map, position, slice_get, slice_index_or}
-use Rattle.std.proofs.Common.{get_or}
-use Rattle.std.specs.List.{list_any, remove}
-use Rattle.std.specs.Map.{keys_of, lookup}
-use Rattle.std.specs.Str.{bytes_eq}
+-- What is held, as lists of ids and contracts: where the contract of an id stands in them, and what becomes of them.
+use Rattle.std.proofs.Common.{◌≡◌, ◌⊎◌, ◌≤◌, ◌<◌, ℕ, zero, suc, true, List, [], ◌∷◌, Option, None, Some, refl, ap, arith, inl, inr}
+use Rattle.std.specs.Prelude.{length, map, nat_eq, slice_get, slice_index_or}
+use Rattle.std.specs.List.{remove}
+use Rattle.std.proofs.Math.ListN.{set}
 use Rattle.std.proofs.lemmas.Bool.{cases_Bool}
-use Rattle.std.proofs.lemmas.List.Quantifiers.{position-Some}
-use Rattle.indexmap.specs.IndexMap.{insert_entry}
 use Rattle.ds_domain_base.specs.Domains.{Domain}
 use Rattle.ds_domain_base.specs.Lifetimes.{IsInOrder}
 use Rattle.ds_domain_base.specs.declared.contract.Contract.{Contract}
 use Rattle.ds_certificate.specs.Bounds.{least, least_of}
 use Rattle.ds_certificate.specs.Sources.{source_of}
 use Rattle.ds_checker.specs.Changes.{lasting_at}
-use Rattle.ds_broker.specs.Books.{contracts_in, holding_of, is_held}
+use Rattle.ds_broker.specs.Books.{contracts_in, holding_of}
 use Rattle.ds_broker.specs.Entries.{entry_of, told_of}
 use Rattle.ds_broker.specs.Found.{IsFirst}
 use Rattle.ds_broker.specs.Histories.{Holding, end_by, ended, with_released, with_retired}
-use Rattle.ds_broker.specs.Kept.{ids_in, names_in}
-
--- the place of an id among ids is that of its contract
-first_at : (id : ℕ) (held : List Holding) (i : ℕ) → i < length (keys_of (ids_in held)) → nat_eq id (get_or (keys_of (ids_in held)) i 0) ≡ true
-    → ((k : ℕ) → k < i → nat_eq id (get_or (keys_of (ids_in held)) k 0) ≡ false) → IsFirst id held i
-unfolding IsFirst
-first_at id [] i within here before = omega arith
-first_at id (h ∷ held) zero within here before = here
-first_at id (h ∷ held) (suc i) within here before =
-    (before 0 (omega arith), first_at id held i (omega arith) here (λ k lower. before (suc k) (omega arith)))
-
-pub first-position : (id : ℕ) (held : List Holding) (place : ℕ) → position (nat_eq id) (keys_of (ids_in held)) ≡ Some place → IsFirst id held place
-first-position id held place at =
-    let some = position-Some (nat_eq id) (keys_of (ids_in held)) place 0 at in
-    first_at id held place some.0 some.1 some.2
+use Rattle.ds_broker.specs.Kept.{ids_in, released_in}
 
 pub first-below : (id : ℕ) (held : List Holding) (place : ℕ) → IsFirst id held place → place < length held
 unfolding IsFirst
@@ -50,28 +32,7 @@ first-holding id (h ∷ held) (suc place) first =
     let rest = first-holding id held place first.1 in
     (rest.0, rest.1, rw first.0 rest.2, rest.3)
 
--- whether it is released is what the ids tell
-pub lookup-released : (id : ℕ) (held : List Holding) → lookup (nat_eq id) (ids_in held) ≡ option_map (λ h. h.released) (holding_of id held)
-lookup-released id [] = refl
-lookup-released id (h ∷ held) = elim (cases_Bool (nat_eq id h.id)) [
-  | inl same ↦ rw same refl
-  | inr other ↦ rw other (lookup-released id held)
-]
-
-pub none-missing : (o : Option Holding) → option_map (λ h. h.released) o ≡ None → o ≡ None
-none-missing None none = refl
-none-missing (Some h) none = cc
-
-pub some-released : (o : Option Holding) (h : Holding) (released : Bool) → o ≡ Some h → option_map (λ h. h.released) o ≡ Some released → h.released ≡ released
-some-released None h released some flag = cc
-some-released (Some other) h released some flag = cc
-
--- a name among names is held
-pub any-names : (name : List ℕ) (held : List Holding) → list_any (bytes_eq name) (names_in held) ≡ is_held name held
-any-names name [] = refl
-any-names name (h ∷ held) = rw (any-names name held) refl
-
--- Released: the contract ends, and its id is marked.
+-- Released: the contract ends, and it is marked.
 pub contracts-released : (id moment : ℕ) (held : List Holding) (place : ℕ) (h : Holding) → IsFirst id held place → slice_get held place ≡ Some h
     → contracts_in (with_released id moment held) ≡ lasting_at place (ended moment h.contract).lifetime (contracts_in held)
 unfolding IsFirst with_released lasting_at
@@ -91,19 +52,19 @@ least-released d id moment (h ∷ held) = elim (cases_Bool (nat_eq id h.id)) [
   | inr other ↦ rw other (ap (λ rest. least_of d h.contract ∷ rest) (least-released d id moment held))
 ]
 
-pub ids-released : (id moment : ℕ) (held : List Holding) (place : ℕ) → IsFirst id held place
-    → ids_in (with_released id moment held) ≡ insert_entry nat_eq (ids_in held) id true
+pub released-set : (id moment : ℕ) (held : List Holding) (place : ℕ) → IsFirst id held place
+    → released_in (with_released id moment held) ≡ set (released_in held) place true
 unfolding IsFirst with_released
-ids-released id moment [] place first = absurd first
-ids-released id moment (h ∷ held) zero first = rw first refl
-ids-released id moment (h ∷ held) (suc place) first = rw first.0 (ap (λ rest. (h.id, h.released) ∷ rest) (ids-released id moment held place first.1))
+released-set id moment [] place first = absurd first
+released-set id moment (h ∷ held) zero first = rw first refl
+released-set id moment (h ∷ held) (suc place) first = rw first.0 (ap (λ rest. h.released ∷ rest) (released-set id moment held place first.1))
 
-pub names-released : (id moment : ℕ) (held : List Holding) → names_in (with_released id moment held) ≡ names_in held
+pub ids-released : (id moment : ℕ) (held : List Holding) → ids_in (with_released id moment held) ≡ ids_in held
 unfolding with_released
-names-released id moment [] = refl
-names-released id moment (h ∷ held) = elim (cases_Bool (nat_eq id h.id)) [
+ids-released id moment [] = refl
+ids-released id moment (h ∷ held) = elim (cases_Bool (nat_eq id h.id)) [
   | inl same ↦ rw same refl
-  | inr other ↦ rw other (ap (λ rest. h.contract.name ∷ rest) (names-released id moment held))
+  | inr other ↦ rw other (ap (λ rest. h.id ∷ rest) (ids-released id moment held))
 ]
 
 pub length-released : (id moment : ℕ) (held : List Holding) → length (with_released id moment held) ≡ length held
@@ -143,10 +104,12 @@ holding-at [] place within = let none : ⊥ = omega arith in absurd none
 holding-at (h ∷ held) zero within = (h, refl)
 holding-at (h ∷ held) (suc place) within = holding-at held place (omega arith)
 
-pub contract-at : (held : List Holding) (place : ℕ) (h : Holding) (other : Contract) → slice_get held place ≡ Some h → slice_index_or (contracts_in held) place other ≡ h.contract
-contract-at [] place h other at = cc
-contract-at (g ∷ held) zero h other at = let same : g ≡ h = cc in ap (λ x. x.contract) same
-contract-at (g ∷ held) (suc place) h other at = contract-at held place h other at
+-- and what of it is looked at
+pub looked-at : {A : Type 0} (f : Holding → A) (held : List Holding) (place : ℕ) (h : Holding) (other : A) → slice_get held place ≡ Some h
+    → slice_index_or (map f held) place other ≡ f h
+looked-at f [] place h other at = cc
+looked-at f (g ∷ held) zero h other at = let same : g ≡ h = cc in ap f same
+looked-at f (g ∷ held) (suc place) h other at = looked-at f held place h other at
 
 pub in_order-ended : (since moment : ℕ) (until : Option ℕ) → IsInOrder since until → since ≤ moment → since ≤ end_by moment until
 in_order-ended since moment None order early = early
@@ -161,13 +124,13 @@ unfolding told_of
 told-held [] = refl
 told-held (h ∷ held) = ap (λ rest. entry_of h ∷ rest) (told-held held)
 
-pub told-next : (ids more : List (ℕ × Bool)) (id : ℕ) (released : Bool) (contracts others : List Contract) (c : Contract)
-    → ids ≡ (id, released) ∷ more → contracts ≡ c ∷ others
+pub told-next : (ids more : List ℕ) (id : ℕ) (contracts others : List Contract) (c : Contract)
+    → ids ≡ id ∷ more → contracts ≡ c ∷ others
     → told_of ids contracts ≡ record { id = id; name = c.name; since = c.lifetime.since; until = c.lifetime.until } ∷ told_of more others
 unfolding told_of
-told-next ids more id released contracts others c is_ids is_contracts = rw is_ids (rw is_contracts refl)
+told-next ids more id contracts others c is_ids is_contracts = rw is_ids (rw is_contracts refl)
 
-pub told-ended : (ids : List (ℕ × Bool)) (contracts : List Contract) → (ids ≡ []) ⊎ (contracts ≡ []) → told_of ids contracts ≡ []
+pub told-ended : (ids : List ℕ) (contracts : List Contract) → (ids ≡ []) ⊎ (contracts ≡ []) → told_of ids contracts ≡ []
 unfolding told_of
 told-ended [] contracts ended = refl
 told-ended (id ∷ ids) [] ended = refl

@@ -2,7 +2,9 @@ pub mod BookLaws
 pub mod CoveredLaws
 pub mod HoldingLaws
 pub mod HopelessLaws
+pub mod IdLaws
 pub mod KeptLaws
+pub mod NameLaws
 pub mod NextLaws
 pub mod PastLaws
 pub mod RatedLaws

@@ -2,7 +2,6 @@
 use Rattle.std.proofs.Common.{◌≡◌, ◌+◌, ◌-◌, ℕ, Bool, false, List, [], ◌∷◌, ◌++◌, refl, sym, ap, ◌∙◌, arith, inl, inr}
 use Rattle.std.specs.Prelude.{map, max, nat_eq}
 use Rattle.std.specs.List.{remove}
-use Rattle.std.specs.Map.{keys_of}
 use Rattle.std.proofs.lemmas.Bool.{cases_Bool}
 use Rattle.std.proofs.lemmas.List.{map-append}
 use Rattle.ds_domain_base.specs.Lifetimes.{Span}
@@ -46,14 +45,14 @@ table-after-retire b id moment place released own next is found taken =
 abbrev pub flow_of : Holding → ℕ
 flow_of h = h.id - 1
 
-flows-held : (held : List Holding) → map (λ (id : ℕ). id - 1) (keys_of (ids_in held)) ≡ map flow_of held
+flows-held : (held : List Holding) → map (λ (id : ℕ). id - 1) (ids_in held) ≡ map flow_of held
 flows-held [] = refl
 flows-held (h ∷ held) = ap (λ rest. flow_of h ∷ rest) (flows-held held)
 
 -- the flows of its ids are its flows
-pub flows-kept : (i : book.Inside) (b : Book) → book_of i ≡ b → IsBook i → (flows : List ℕ) → flows ≡ map (λ (id : ℕ). id - 1) (keys_of i.ids.entries) → flows ≡ flows_of b
+pub flows-kept : (i : book.Inside) (b : Book) → book_of i ≡ b → IsBook i → (flows : List ℕ) → flows ≡ map (λ (id : ℕ). id - 1) i.ids.items → flows ≡ flows_of b
 flows-kept i b view kept flows is =
-    is ∙ ap (λ (es : List (ℕ × Bool)). map (λ (id : ℕ). id - 1) (keys_of es)) kept.ids ∙ flows-held (held_of (book_of i)) ∙ ap flows_of view
+    is ∙ ap (λ (ns : List ℕ). map (λ (id : ℕ). id - 1) ns) kept.ids ∙ flows-held (held_of (book_of i)) ∙ ap flows_of view
 
 pub flows-after-reserve : (b : Book) (c : Contract) (own next : List ℕ) (granted : ℕ) → own ≡ flows_of b → granted ≡ (standing b).granted
     → next ≡ own ++ granted ∷ [] → next ≡ flows_of (with_command b (Reserve c))

@@ -1,12 +1,10 @@
 -- What stands after some commands: one command more, and what bounds ids, moments and numbers.
-use Rattle.std.proofs.Common.{◌≡◌, ◌≤◌, ◌+◌, ℕ, zero, suc, true, false, List, [], ◌∷◌, ◌++◌, Option, None, Some, refl, sym, ap, arith, inl, inr, true≢false}
+use Rattle.std.proofs.Common.{◌≡◌, ◌≤◌, ◌+◌, ℕ, zero, suc, true, false, List, [], ◌∷◌, ◌++◌, Option, None, Some, sym, arith, inl, inr, true≢false}
 use Rattle.std.specs.Prelude.{fold, length, max, nat_eq, slice_get, unwrap_or}
 use Rattle.std.specs.List.{AllByRecursion}
 use Rattle.std.proofs.lemmas.Bool.{cases_Bool}
 use Rattle.std.proofs.lemmas.List.Sums.{fold-append}
-use Rattle.indexmap.specs.IndexMap.{insert_entry}
 use Rattle.ds_broker.specs.Histories.{Holding, Standing, after, begun, end_by, opening, standing_of, with_released, with_retired}
-use Rattle.ds_broker.specs.Kept.{ids_in}
 use Rattle.ds_broker.specs.declared.command.Command.{Command}
 use Rattle.ds_broker.specs.declared.command.Command.TheVariants.{Reserve, Release, Retire}
 
@@ -58,7 +56,7 @@ AreBounded-retired granted newest id (h ∷ held) all = elim (cases_Bool (nat_eq
   | inr other ↦ rw other (all.0, AreBounded-retired granted newest id held all.1)
 ]
 
-bounded-after : (s : Standing) (command : Command) → AreBounded s.granted s.newest s.held → AreBounded (after s command).granted (after s command).newest (after s command).held
+pub bounded-after : (s : Standing) (command : Command) → AreBounded s.granted s.newest s.held → AreBounded (after s command).granted (after s command).newest (after s command).held
 bounded-after s (Reserve c) all =
     AreBounded-push (s.granted + 1) (max s.newest c.lifetime.since) s.held (record { id = s.granted + 1; contract = begun s.newest c; released = false })
     (AreBounded-weaker s.granted s.newest (s.granted + 1) (max s.newest c.lifetime.since) s.held (omega arith) (omega arith) all)
@@ -85,14 +83,6 @@ pub bounded-at : (granted newest : ℕ) (held : List Holding) (place : ℕ) (h :
 bounded-at granted newest [] place h all at = cc
 bounded-at granted newest (g ∷ held) zero h all at = let same : g ≡ h = cc in rw (← same) all.0
 bounded-at granted newest (g ∷ held) (suc place) h all at = bounded-at granted newest held place h all.1 at
-
--- an id that was not given yet goes behind the others
-pub insert-next : (granted newest : ℕ) (held : List Holding) → AllByRecursion (IsBounded granted newest) held
-    → insert_entry nat_eq (ids_in held) (granted + 1) false ≡ ids_in held ++ (granted + 1, false) ∷ []
-insert-next granted newest [] all = refl
-insert-next granted newest (h ∷ held) all =
-    let other : nat_eq (granted + 1) h.id ≡ false = grind (arith, all.0.0) in
-    rw other (ap (λ rest. (h.id, h.released) ∷ rest) (insert-next granted newest held all.1))
 
 -- no more is granted than there are commands
 granted-after : (s : Standing) (command : Command) → (after s command).granted ≤ s.granted + 1

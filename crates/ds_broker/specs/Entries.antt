@@ -1,5 +1,5 @@
 -- What a broker's book answers: which contracts it holds, how much room it has, and what a command was accepted as.
-use Rattle.std.specs.Prelude.{ℕ, Bool, ◌+◌, ◌-◌, List, [], ◌∷◌, length, map, option_map, Option}
+use Rattle.std.specs.Prelude.{ℕ, ◌+◌, ◌-◌, List, [], ◌∷◌, length, map, option_map, Option}
 use Rattle.ds_domain_base.specs.declared.contract.Contract.{Contract}
 use Rattle.ds_broker.specs.Books.{Book, held_of, holding_of, moment_in, standing}
 use Rattle.ds_broker.specs.Histories.{Holding}
@@ -43,9 +43,9 @@ grant_of b c = record {
 }
 
 -- what is told of ids and contracts, pair by pair
-unfoldable pub told_of : List (ℕ × Bool) → List Contract → List Entry
+unfoldable pub told_of : List ℕ → List Contract → List Entry
 told_of (id ∷ ids) (c ∷ contracts) =
-    record { id = id.0; name = c.name; since = c.lifetime.since; until = c.lifetime.until } ∷ told_of ids contracts
+    record { id = id; name = c.name; since = c.lifetime.since; until = c.lifetime.until } ∷ told_of ids contracts
 told_of ids contracts = []
 
 -- the flows of what is held, each the id less 1, in order of admission

@@ -1,8 +1,10 @@
 -- What the fields of a book stand for, and what they keep.
 use Rattle.std.specs.Prelude.{ℕ, Bool, ◌≡◌, ◌<◌, ◌≤◌, List, [], length, map, None}
+use Rattle.std.specs.List.{IsDistinct, list_any}
+use Rattle.std.specs.Str.{bytes_eq}
 use Rattle.ds_domain_base.specs.Domains.{Domain}
 use Rattle.ds_checker.specs.Acceptance.{IsAcceptable}
-use Rattle.ds_broker.specs.Books.{Book, Limits, table_in}
+use Rattle.ds_broker.specs.Books.{Book, Limits, is_held, table_in}
 use Rattle.ds_broker.specs.Histories.{Holding, standing_of}
 use Rattle.ds_broker.specs.Refusals.{refusal_in}
 use Rattle.ds_broker.specs.Requests.{AreUnrefused}
@@ -17,9 +19,12 @@ book_of b = record { domain = b.table.domain; limits = b.limits; history = b.his
 abbrev pub opened_as : book.Inside → Book
 opened_as b = record (book_of b) { history = [] }
 
--- ids, with whether they are released, and names, in order of admission
-abbrev pub ids_in : List Holding → List (ℕ × Bool)
-ids_in held = map (λ h. (h.id, h.released)) held
+-- ids, whether each is released, and names, in order of admission
+abbrev pub ids_in : List Holding → List ℕ
+ids_in held = map (λ h. h.id) held
+
+abbrev pub released_in : List Holding → List Bool
+released_in held = map (λ h. h.released) held
 
 abbrev pub names_in : List Holding → List (List ℕ)
 names_in held = map (λ h. h.contract.name) held
@@ -27,14 +32,17 @@ names_in held = map (λ h. h.contract.name) held
 abbrev pub held_in : book.Inside → List Holding
 held_in b = (standing_of b.history.items).held
 
--- The table is that of the history, with the least certificate, and acceptable. Ids and names are of what the history
--- holds; the number of grants and the newest moment are its own; and neither what is held nor the history is longer than
--- its limit. When its turn came, nothing stood against any command of its history.
+-- The table is that of the history, with the least certificate, and acceptable. Ids are of what the history holds, in
+-- its order, and so is whether each is released; names are those of what it holds, which differ; the number of grants and
+-- the newest moment are its own; and neither what is held nor the history is longer than its limit. When its turn came,
+-- nothing stood against any command of its history.
 pub record IsBook (b : book.Inside) : Type 0 where
   pub table : b.table ≡ table_in b.table.domain (held_in b)
   pub acceptable : IsAcceptable b.table
-  pub ids : b.ids.entries ≡ ids_in (held_in b)
-  pub names : b.names.keys ≡ names_in (held_in b)
+  pub ids : b.ids.items ≡ ids_in (held_in b)
+  pub released : b.released.items ≡ released_in (held_in b)
+  pub names : (name : List ℕ) → list_any (bytes_eq name) b.names.keys ≡ is_held name (held_in b)
+  pub apart : IsDistinct bytes_eq (names_in (held_in b))
   pub granted : b.granted ≡ (standing_of b.history.items).granted
   pub newest : b.newest ≡ (standing_of b.history.items).newest
   pub room : length (held_in b) ≤ b.limits.table

@@ -1,11 +1,13 @@
-ghost use Rattle.std.specs.Prelude.{◌≡◌, ◌⊎◌, ◌≤◌, ◌+◌, ◌-◌, [], None, Some, IfErr, IfOk, IfSome, OnErr, OnOk, length};
+ghost use Rattle.std.specs.Prelude.{◌≡◌, ◌⊎◌, ◌≤◌, ◌+◌, ◌-◌, [], ℕ, List, None, Some, IfErr, IfOk, IfSome};
+ghost use Rattle.std.specs.Prelude.{OnErr, OnOk, length};
 ghost use Rattle.std.specs.Prelude.{◌<◌, IfNone, option_map, slice_get, unwrap_or, vec_capacity, vec_len};
 ghost use Rattle.std.specs.Bool.{OnFalse};
+ghost use Rattle.std.specs.List.{list_any};
 ghost use Rattle.ds_checker.specs.Acceptance.{IsAcceptable, refusal_of};
 ghost use Rattle.ds_domain_base.specs.Faults.{fault_at};
 ghost use Rattle.ds_domain_base.specs.Lifetimes.{IsInOrder};
-ghost use Rattle.indexmap.specs.IndexMap.{spare as map_spare};
-ghost use Rattle.indexmap.specs.IndexSet.{spare as set_spare};
+ghost use Rattle.std.specs.HashSet.{spare};
+ghost use Rattle.std.specs.Str.{bytes_eq};
 ghost use Rattle.ds_broker.specs.Books as books;
 ghost use Rattle.ds_broker.specs.Books.{held_of, holding_of, is_history_full, moment_in, newest_of};
 ghost use Rattle.ds_broker.specs.Books.{table_of, table_with, with_command};
@@ -22,9 +24,9 @@ use crate::refusal::BrokerRefusal;
 use ds_certificate::{Certificate, bounds_of};
 use ds_checker::{Accepted, Candidate, check};
 use ds_domain_base::{Contract, Domain, DomainFault, Field, Kind, Lifetime, Name, Section, fits};
-use indexmap::{IndexMap, IndexSet};
 use moment_core::Moment;
 use std::alloc::{AllocError, Global};
+use std::collections::HashSet;
 use std::marker::Model;
 
 mod next;
@@ -41,10 +43,12 @@ pub use next::Next;
 pub struct Book {
     /// What it holds, with the least certificate.
     table: Accepted,
-    /// The ids of what it holds, and whether they are released, in order of admission.
-    ids: IndexMap<u32, bool>,
-    /// The names of what it holds, in order of admission.
-    names: IndexSet<Name>,
+    /// The ids of what it holds, in order of admission: they count up.
+    ids: Vec<u32>,
+    /// Whether each of it is released.
+    released: Vec<bool>,
+    /// The names of what it holds.
+    names: HashSet<Name>,
     limits: Limits,
     granted: u32,
     newest: Moment,
@@ -88,8 +92,9 @@ impl Book {
         match check(alloc, candidate) {
             Ok(table) => Ok(Book {
                 table,
-                ids: IndexMap::new(alloc),
-                names: IndexSet::new(alloc),
+                ids: Vec::new(alloc),
+                released: Vec::new(alloc),
+                names: HashSet::new(alloc),
                 limits,
                 granted: 0,
                 newest: Moment::new(0).unwrap(),
@@ -120,7 +125,14 @@ impl Book {
         }
         let serial = self.next_serial();
         let since = self.newest.max(contract.lifetime.since());
-        if make_room(&mut self.ids, &mut self.names, &mut self.history).is_err() {
+        if make_room(
+            &mut self.ids,
+            &mut self.released,
+            &mut self.names,
+            &mut self.history,
+        )
+        .is_err()
+        {
             return Err((contract, BrokerRefusal::NoMemory));
         }
         let alloc = *self.ids.allocator();
@@ -128,7 +140,8 @@ impl Book {
             return Err((contract, refusal));
         }
         let id = self.granted + 1;
-        self.ids.insert(id, false).unwrap();
+        self.ids.push(id).unwrap();
+        self.released.push(false).unwrap();
         self.names.insert(contract.name).unwrap();
         self.granted = id;
         self.newest = since;
@@ -165,7 +178,7 @@ impl Book {
         }
         let serial = self.next_serial();
         self.table.set_lifetime(place, lifetime);
-        self.ids.insert(id, true).unwrap();
+        self.released[place] = true;
         self.newest = moment;
         self.history.push(Command::Release { id, at }).unwrap();
         Ok(serial)
@@ -202,9 +215,10 @@ impl Book {
             return Err(BrokerRefusal::NoMemory);
         }
         let serial = self.next_serial();
-        let _retired = self.table.withdraw(place);
-        let _id = self.ids.shift_remove_index(place);
-        let _name = self.names.shift_remove_index(place);
+        let (contract, _) = self.table.withdraw(place);
+        let _id = self.ids.remove(place);
+        let _released = self.released.remove(place);
+        self.names.remove(&contract.name);
         self.newest = newest;
         self.history.push(Command::Retire { id, moment }).unwrap();
         Ok(serial)
@@ -214,7 +228,7 @@ impl Book {
     pub fn list(&self, alloc: Global) -> Result<Vec<Entry>, AllocError>
         ensures { IfOk result (λ entries. entries.items ≡ entries_of self.now) }
     {
-        entries(alloc, &self.ids, self.table.contracts())
+        entries(alloc, self.ids.as_slice(), self.table.contracts())
     }
 
     /// What it holds under an id, if it does.
@@ -329,8 +343,8 @@ impl Book {
         ensures found { IfSome result (λ found. IsFound id (held_of self.now) found.0 found.1) }
         ensures missing { IfNone result (holding_of id (held_of self.now) ≡ None) }
     {
-        let (place, _, released) = self.ids.get_full(&id)?;
-        Some((place, *released))
+        let place = self.ids.as_slice().binary_search(&id).ok()?;
+        Some((place, self.released[place]))
     }
 
     /// The lifetime of the contract at a place once it is released at a moment.
@@ -412,15 +426,11 @@ fn entry_of(id: u32, contract: &Contract) -> Entry
 }
 
 /// What is told of contracts by their ids, in their order; `AllocError` where memory runs out.
-fn entries(
-    alloc: Global,
-    ids: &IndexMap<u32, bool>,
-    contracts: &[Contract],
-) -> Result<Vec<Entry>, AllocError>
-    ensures { IfOk result (λ entries. entries.items ≡ told_of ids.now.entries contracts.now) }
+fn entries(alloc: Global, ids: &[u32], contracts: &[Contract]) -> Result<Vec<Entry>, AllocError>
+    ensures { IfOk result (λ entries. entries.items ≡ told_of ids.now contracts.now) }
 {
     let mut entries = Vec::with_capacity(alloc, contracts.len())?;
-    for ((id, _), contract) in ids.iter().zip(contracts) {
+    for (id, contract) in ids.iter().zip(contracts) {
         entries.push(entry_of(*id, contract))?;
     }
     Ok(entries)
@@ -428,18 +438,22 @@ fn entries(
 
 /// Makes room for one contract and one command more.
 fn make_room(
-    ids: &mut IndexMap<u32, bool>,
-    names: &mut IndexSet<Name>,
+    ids: &mut Vec<u32>,
+    released: &mut Vec<bool>,
+    names: &mut HashSet<Name>,
     history: &mut Vec<Command>,
 ) -> Result<(), AllocError>
-    ensures ids { ids.new.entries ≡ ids.old.entries }
-    ensures names { names.new.keys ≡ names.old.keys }
+    ensures ids { ids.new.items ≡ ids.old.items }
+    ensures released { released.new.items ≡ released.old.items }
+    ensures names { (name : List ℕ) → list_any (bytes_eq name) names.new.keys ≡ list_any (bytes_eq name) names.old.keys }
     ensures history { history.new.items ≡ history.old.items }
-    ensures id_room { OnOk result (1 ≤ map_spare ids.new) }
-    ensures name_room { OnOk result (1 ≤ set_spare names.new) }
+    ensures id_room { OnOk result (vec_len ids.new + 1 ≤ vec_capacity ids.new) }
+    ensures released_room { OnOk result (vec_len released.new + 1 ≤ vec_capacity released.new) }
+    ensures name_room { OnOk result (1 ≤ spare names.new) }
     ensures command_room { OnOk result (vec_len history.new + 1 ≤ vec_capacity history.new) }
 {
     ids.reserve(1)?;
+    released.reserve(1)?;
     names.reserve(1)?;
     history.reserve(1)?;
     Ok(())

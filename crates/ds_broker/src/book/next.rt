@@ -1,6 +1,5 @@
 //! What a book would hold with a command more, on a copy.
 ghost use Rattle.std.specs.Prelude.{◌≡◌, ◌⊎◌, ◌-◌, None, Some, IfErr, IfOk, OnOk, map};
-ghost use Rattle.indexmap.specs.IndexMap.{keys};
 ghost use Rattle.ds_broker.specs.Books.{table_of, with_command};
 ghost use Rattle.ds_broker.specs.Entries.{flows_of, next_serial};
 ghost use Rattle.ds_broker.specs.Refusals.{refusal_in};
@@ -11,7 +10,6 @@ use crate::entry::Serial;
 use crate::refusal::BrokerRefusal;
 use ds_checker::Accepted;
 use ds_domain_base::Contract;
-use indexmap::IndexMap;
 use moment_core::Moment;
 use std::alloc::{AllocError, Global};
 
@@ -69,7 +67,7 @@ impl Book {
         if let Err(refusal) = admit(alloc, &mut table, contract, since) {
             return Err(refusal);
         }
-        let Ok(mut flows) = flows(alloc, &self.ids) else {
+        let Ok(mut flows) = flows(alloc, self.ids.as_slice()) else {
             return Err(BrokerRefusal::NoMemory);
         };
         match flows.push(self.granted) {
@@ -106,7 +104,7 @@ impl Book {
             return Err(BrokerRefusal::NoMemory);
         };
         table.set_lifetime(place, lifetime);
-        match flows(alloc, &self.ids) {
+        match flows(alloc, self.ids.as_slice()) {
             Ok(flows) => Ok(Next {
                 table,
                 flows,
@@ -142,7 +140,7 @@ impl Book {
         let Ok(table) = self.table.without(alloc, place) else {
             return Err(BrokerRefusal::NoMemory);
         };
-        let Ok(mut flows) = flows(alloc, &self.ids) else {
+        let Ok(mut flows) = flows(alloc, self.ids.as_slice()) else {
             return Err(BrokerRefusal::NoMemory);
         };
         let _flow = flows.remove(place);
@@ -155,8 +153,8 @@ impl Book {
 }
 
 /// The flows of ids, in their order: each id less 1.
-fn flows(alloc: Global, ids: &IndexMap<u32, bool>) -> Result<Vec<u32>, AllocError>
-    ensures { IfOk result (λ flows. flows.items ≡ map (λ id. id - 1) (keys ids.now)) }
+fn flows(alloc: Global, ids: &[u32]) -> Result<Vec<u32>, AllocError>
+    ensures { IfOk result (λ flows. flows.items ≡ map (λ id. id - 1) ids.now) }
 {
-    ids.keys().map(|id| id.saturating_sub(1)).collect(alloc)
+    ids.iter().map(|id| id.saturating_sub(1)).collect(alloc)
 }

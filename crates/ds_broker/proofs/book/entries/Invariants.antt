@@ -7,4 +7,4 @@ use Rattle.ds_broker.proofs.book.entries.Given as goal
 -- what is told so far, and what is to be told of what is left
 abbrev pub invariant-loop-id : goal.invariant-loop-id
 invariant-loop-id l =
-    l.entries.items ++ told_of (zip_first l.id-iterator) (iter_rest (zip_second l.id-iterator)) ≡ told_of l.ids.entries l.contracts
+    l.entries.items ++ told_of (iter_rest (zip_first l.id-iterator)) (iter_rest (zip_second l.id-iterator)) ≡ told_of l.ids l.contracts

@@ -6,4 +6,5 @@ use Rattle.ds_broker.proofs.book.Book.list.Goals as goal
 pub returns : goal.returns
 returns c =
     subst (λ told. IfOk c.entries.result (λ entries. entries.items ≡ told))
-    (told-listed c.self.inside c.args.self.now c.self.view_is c.self.invariant c.contracts.result.now c.contracts.ensures.value) c.entries.ensures
+    (told-listed c.self.inside c.args.self.now c.self.view_is c.self.invariant c.contracts.result.now c.contracts.ensures.value)
+    (rw c.as_slice.ensures.value at c.entries.ensures)

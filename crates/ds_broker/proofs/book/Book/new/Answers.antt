@@ -7,8 +7,8 @@ use Rattle.ds_broker.proofs.book.Book.new.Goals as goal
 pub invariant_of-result : goal.invariant_of-result
 invariant_of-result c =
     kept-opened _ c.args.domain (c.in-Ok.ensures.accepted ∙ rw (c.new-3.ensures, c.new-2.ensures.items, c.new.ensures.items) refl) c.in-Ok.ensures.acceptable
-    c.new-in-Ok.ensures.empty c.new-in-Ok-2.ensures.empty refl (OkIff-at_ok c.new-in-Ok-3.result _ _ c.unwrap.result c.new-in-Ok-3.ensures c.unwrap.ensures).1
-    c.new-in-Ok-4.ensures.items
+    c.new-in-Ok.ensures.items c.new-in-Ok-2.ensures.items c.new-in-Ok-3.ensures.empty refl
+    (OkIff-at_ok c.new-in-Ok-4.result _ _ c.unwrap.result c.new-in-Ok-4.ensures c.unwrap.ensures).1 c.new-in-Ok-5.ensures.items
 
 pub returns-in-Err-clause-memory : goal.returns-in-Err-clause-memory
 returns-in-Err-clause-memory c =

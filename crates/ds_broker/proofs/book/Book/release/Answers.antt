@@ -1,14 +1,8 @@
 use Rattle.std.proofs.Common.{◌≡◌, false, rules, refl, sym, ◌∙◌}
 use Rattle.std.specs.Prelude.{max}
-use Rattle.ds_broker.proofs.BookLaws.{ids-present, insert-present}
 use Rattle.ds_broker.proofs.KeptLaws.{kept-released}
 use Rattle.ds_broker.proofs.RefusalLaws.{release-passed}
 use Rattle.ds_broker.proofs.book.Book.release.Goals as goal
-
-pub unwrap-requires : goal.unwrap-requires
-unwrap-requires c =
-    insert-present c.insert.result _ _ c.insert.ensures.absent
-    (ids-present c.self.inside c.args.self.now c.self.view_is c.self.invariant c.args.id c.in-Some.place c.in-Some.released c.in-Some.ensures.found)
 
 pub invariant_of-self-3 : goal.invariant_of-self-3
 invariant_of-self-3 c =
@@ -18,5 +12,5 @@ invariant_of-self-3 c =
     let full = sym c.is_history_full.ensures.value ∙ c.if-is_history_full.false in
     kept-released c.self.inside _ c.args.id c.args.at c.in-Some.place c.in-Some.released c.ended-lifetime.result c.args.self.now c.self.view_is c.self.invariant found
     (release-passed c.args.self.now c.args.id c.in-Some.place c.in-Some.released found not_yet full) full c.if-is_history_full.ensures.room (c.ended-lifetime.ensures found.holding found.at)
-    c.set_lifetime.ensures.set c.set_lifetime.ensures.acceptable (rw c.unwrap.ensures at c.insert.ensures.entries) refl refl refl newest
-    (rw c.unwrap-2.ensures at c.push.ensures.items ∙ rw c.reserve.ensures.items refl)
+    c.set_lifetime.ensures.set c.set_lifetime.ensures.acceptable refl refl refl refl refl newest
+    (rw c.unwrap.ensures at c.push.ensures.items ∙ rw c.reserve.ensures.items refl)

@@ -1,8 +1,6 @@
-use Rattle.std.proofs.Common.{◌≡◌, ◌+◌, false, None, inl, inr, rules, arith, refl, sym, ap, ◌∙◌}
-use Rattle.std.specs.Prelude.{length, max, nat_eq, option_map}
+use Rattle.std.proofs.Common.{◌≡◌, None, true, inl, inr, rules, arith, refl, sym, ap, ◌∙◌}
+use Rattle.std.specs.Prelude.{cond, length, max, option_map}
 use Rattle.std.specs.Str.{bytes_eq}
-use Rattle.indexmap.specs.IndexMap.{insert_entry}
-use Rattle.indexmap.specs.IndexSet.{insert_key}
 use Rattle.ds_broker.specs.Books.{moment_in, newest_of, table_of}
 use Rattle.ds_broker.specs.Kept.{book_of}
 use Rattle.ds_broker.specs.Refusals.{reserve_refusal, room_refusal}
@@ -42,10 +40,11 @@ invariant_of-self-2 c =
     let count : length i.history.items ≡ length b.history = ap (λ x. length x.history) c.self.view_is in
     kept-reserved i _ k c.self.invariant (passed (book_of i) k none) unrefused (omega (arith, count, c.in_default.ensures.room))
     c.in_default-admit.ensures.admitted c.in_default-admit.ensures.acceptable
-    (rw c.unwrap.ensures at c.insert.ensures.entries ∙ ap (λ es. insert_entry nat_eq es (i.granted + 1) false) c.make_room.ensures.ids)
-    (rw c.unwrap-2.ensures at c.insert-2.ensures.keys ∙ ap (λ ks. insert_key bytes_eq ks k.name) c.make_room.ensures.names)
+    (rw c.unwrap.ensures at c.push.ensures.items ∙ rw c.make_room.ensures.ids refl)
+    (rw c.unwrap-2.ensures at c.push-2.ensures.items ∙ rw c.make_room.ensures.released refl)
+    (λ name. (rw c.unwrap-3.ensures at c.insert.ensures.updates).0 name ∙ ap (cond (bytes_eq k.name name) true) (c.make_room.ensures.names name))
     refl refl since
-    (rw c.unwrap-3.ensures at c.push.ensures.items ∙ rw c.make_room.ensures.history refl)
+    (rw c.unwrap-4.ensures at c.push-3.ensures.items ∙ rw c.make_room.ensures.history refl)
 
 pub returns-clause-unrefused : goal.returns-clause-unrefused
 returns-clause-unrefused c =

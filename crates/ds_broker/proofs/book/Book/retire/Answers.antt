@@ -18,8 +18,8 @@ hold_left-left-requires-clause-over c h at =
     let newest : c.max-newest.result ≡ max c.self.inside.newest c.args.moment = search rules in
     omega (arith, over, newest, c.self.invariant.newest ∙ ap newest_of c.self.view_is)
 
-pub withdraw-retired-requires : goal.withdraw-retired-requires
-withdraw-retired-requires c =
+pub withdraw-contract-requires : goal.withdraw-contract-requires
+withdraw-contract-requires c =
     let found = c.in-Some.ensures.found in
     omega (arith, contracts-length c.self.inside c.args.self.now c.self.view_is c.self.invariant, first-below _ _ _ found.first)
 
@@ -31,7 +31,8 @@ invariant_of-self-3 c =
     let full = sym c.is_history_full.ensures.value ∙ c.if-is_history_full.false in
     let over : free_from c.args.self.now.domain found.holding.contract ≤ moment_in c.args.self.now c.args.moment =
     omega (arith, c.hold_left-left.ensures found.holding found.at, c.if-left-gt0.false, newest, c.self.invariant.newest ∙ ap newest_of c.self.view_is) in
-    kept-retired c.self.inside _ c.args.id c.args.moment c.in-Some.place c.in-Some.released c.args.self.now c.self.view_is c.self.invariant found
+    kept-retired c.self.inside _ c.args.id c.args.moment c.in-Some.place c.in-Some.released c.args.self.now c.withdraw-contract.result.0 c.self.view_is c.self.invariant found
+    c.withdraw-contract.ensures.contract
     (retire-passed c.args.self.now c.args.id c.args.moment c.in-Some.place c.in-Some.released found done full over) full c.if-is_history_full.ensures.room
-    c.withdraw-retired.ensures.withdrawn c.withdraw-retired.ensures.acceptable c.shift_remove_index-id.ensures.entries c.shift_remove_index-name.ensures.keys
+    c.withdraw-contract.ensures.withdrawn c.withdraw-contract.ensures.acceptable c.remove-id.ensures.items c.remove-released.ensures.items c.remove.ensures.updates.0
     refl refl newest (rw c.unwrap.ensures at c.push.ensures.items ∙ rw c.reserve.ensures.items refl)

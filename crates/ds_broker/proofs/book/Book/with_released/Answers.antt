@@ -17,5 +17,5 @@ returns-in-Ok-flows-clause-table c =
 
 pub returns-in-Ok-flows-clause-flows : goal.returns-in-Ok-flows-clause-flows
 returns-in-Ok-flows-clause-flows c =
-    let own = flows-kept c.self.inside c.args.self.now c.self.view_is c.self.invariant c.in-Ok-flows.flows.items c.in-Ok-flows.ensures in
+    let own = flows-kept c.self.inside c.args.self.now c.self.view_is c.self.invariant c.in-Ok-flows.flows.items (rw c.as_slice.ensures.value at c.in-Ok-flows.ensures) in
     flows-after-release c.args.self.now c.args.id c.args.at c.in-Ok-flows.flows.items own

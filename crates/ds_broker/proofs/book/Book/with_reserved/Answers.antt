@@ -1,11 +1,22 @@
-use Rattle.std.proofs.Common.{◌≡◌, None, inl, inr, rules, sym, ap, ◌∙◌}
+use Rattle.std.proofs.Common.{◌≡◌, None, inl, inr, rules, sym, ap, subst, ◌∙◌}
 use Rattle.std.specs.Prelude.{max, option_map}
+use Rattle.ds_domain_base.specs.Lifetimes.{IsInOrder}
 use Rattle.ds_broker.specs.Books.{moment_in, newest_of, standing, table_of}
 use Rattle.ds_broker.specs.Refusals.{room_refusal}
 use Rattle.ds_broker.specs.declared.refusal.BrokerRefusal.TheVariants.{Checker}
 use Rattle.ds_broker.proofs.NextLaws.{flows-after-reserve, flows-kept, table-after-reserve}
+use Rattle.ds_broker.proofs.RefusalLaws.{ordered, passed}
 use Rattle.ds_broker.proofs.TableLaws.{checked-refusal}
 use Rattle.ds_broker.proofs.book.Book.with_reserved.Goals as goal
+
+pub admit-requires : goal.admit-requires
+admit-requires c =
+    let b = c.args.self.now in
+    let k = c.args.contract.now in
+    let none : room_refusal b k ≡ None = sym c.room_refusal.ensures.value ∙ c.in_default.is in
+    let since : c.max-since.result ≡ max c.self.inside.newest k.lifetime.since = search rules in
+    let moment : c.max-since.result ≡ moment_in b k.lifetime.since = since ∙ ap (λ m. max m k.lifetime.since) (c.self.invariant.newest ∙ ap newest_of c.self.view_is) in
+    subst (λ m. IsInOrder m k.lifetime.until) (sym moment) (ordered (moment_in b k.lifetime.since) k.lifetime.until (passed b k none).ordered)
 
 pub returns-in-Err-clause-refused : goal.returns-in-Err-clause-refused
 returns-in-Err-clause-refused c =
@@ -32,7 +43,7 @@ returns-in-Ok-push-clause-table c =
 pub returns-in-Ok-push-clause-flows : goal.returns-in-Ok-push-clause-flows
 returns-in-Ok-push-clause-flows c =
     let b = c.args.self.now in
-    let own = flows-kept c.self.inside b c.self.view_is c.self.invariant c.in-Ok-flows.flows.items c.in-Ok-flows.ensures in
+    let own = flows-kept c.self.inside b c.self.view_is c.self.invariant c.in-Ok-flows.flows.items (rw c.as_slice.ensures.value at c.in-Ok-flows.ensures) in
     let granted = c.self.invariant.granted ∙ ap (λ x. (standing x).granted) c.self.view_is in
     flows-after-reserve b c.args.contract.now c.in-Ok-flows.flows.items c.push.new.self.items c.self.inside.granted own granted c.in-Ok-push.ensures.items
 

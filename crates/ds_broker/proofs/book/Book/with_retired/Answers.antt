@@ -25,7 +25,7 @@ without-requires c =
 pub remove-flow-requires : goal.remove-flow-requires
 remove-flow-requires c =
     let b = c.args.self.now in
-    let own = flows-kept c.self.inside b c.self.view_is c.self.invariant c.in-Ok-flows.flows.items c.in-Ok-flows.ensures in
+    let own = flows-kept c.self.inside b c.self.view_is c.self.invariant c.in-Ok-flows.flows.items (rw c.as_slice.ensures.value at c.in-Ok-flows.ensures) in
     omega (arith, ap length own, length-map (held_of b) flow_of, first-below _ _ _ c.in-Some.ensures.found.first)
 
 pub returns-clause-table : goal.returns-clause-table
@@ -37,6 +37,6 @@ returns-clause-table c =
 pub returns-clause-flows : goal.returns-clause-flows
 returns-clause-flows c =
     let b = c.args.self.now in
-    let own = flows-kept c.self.inside b c.self.view_is c.self.invariant c.in-Ok-flows.flows.items c.in-Ok-flows.ensures in
+    let own = flows-kept c.self.inside b c.self.view_is c.self.invariant c.in-Ok-flows.flows.items (rw c.as_slice.ensures.value at c.in-Ok-flows.ensures) in
     flows-after-retire b c.args.id c.args.moment c.in-Some.place c.in-Some.released c.in-Ok-flows.flows.items c.remove-flow.new.self.items own
     c.in-Some.ensures.found c.remove-flow.ensures.items

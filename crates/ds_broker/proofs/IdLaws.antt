@@ -1,0 +1,109 @@
+-- Ids that are held count up: where one stands among them, or that it does not.
+use Rattle.std.proofs.Common.{◌≡◌, ◌≤◌, ◌<◌, ◌+◌, ℕ, zero, suc, false, List, [], ◌∷◌, ◌++◌, None, refl, arith, inl, inr}
+use Rattle.std.proofs.Common.{get_or}
+use Rattle.std.specs.Prelude.{⊤, fold, length, nat_eq}
+use Rattle.std.specs.List.{AllByRecursion}
+use Rattle.std.proofs.lemmas.Bool.{cases_Bool}
+use Rattle.ds_broker.specs.Books.{holding_of}
+use Rattle.ds_broker.specs.Found.{IsFirst}
+use Rattle.ds_broker.specs.Histories.{Holding, Standing, after, begun, opening, standing_of, with_released, with_retired}
+use Rattle.ds_broker.specs.Kept.{ids_in}
+use Rattle.ds_broker.specs.declared.command.Command.{Command}
+use Rattle.ds_broker.specs.declared.command.Command.TheVariants.{Reserve, Release, Retire}
+use Rattle.ds_broker.proofs.StandingLaws.{IsBounded, bounded-after}
+
+-- no id is above another behind it
+unfoldable pub IsRising : List Holding → Type 0
+IsRising [] = ⊤
+IsRising (h ∷ held) = AllByRecursion (λ g. h.id < g.id) held × IsRising held
+
+rising-push : (held : List Holding) (h : Holding) → AllByRecursion (λ g. g.id < h.id) held → IsRising held → IsRising (held ++ h ∷ [])
+unfolding IsRising
+rising-push [] h below rising = (tt, tt)
+rising-push (g ∷ held) h below rising = (above-push g held h rising.0 below.0, rising-push held h below.1 rising.1)
+  where
+    above-push : (g : Holding) (held : List Holding) (h : Holding) → AllByRecursion (λ x. g.id < x.id) held → g.id < h.id → AllByRecursion (λ x. g.id < x.id) (held ++ h ∷ [])
+    above-push g [] h all one = (one, tt)
+    above-push g (x ∷ held) h all one = (all.0, above-push g held h all.1 one)
+
+above-released : (n id moment : ℕ) (held : List Holding) → AllByRecursion (λ g. n < g.id) held → AllByRecursion (λ g. n < g.id) (with_released id moment held)
+unfolding with_released
+above-released n id moment [] all = tt
+above-released n id moment (h ∷ held) all = elim (cases_Bool (nat_eq id h.id)) [
+  | inl same ↦ rw same all
+  | inr other ↦ rw other (all.0, above-released n id moment held all.1)
+]
+
+rising-released : (id moment : ℕ) (held : List Holding) → IsRising held → IsRising (with_released id moment held)
+unfolding IsRising with_released
+rising-released id moment [] rising = tt
+rising-released id moment (h ∷ held) rising = elim (cases_Bool (nat_eq id h.id)) [
+  | inl same ↦ rw same rising
+  | inr other ↦ rw other (above-released h.id id moment held rising.0, rising-released id moment held rising.1)
+]
+
+above-retired : (n id : ℕ) (held : List Holding) → AllByRecursion (λ g. n < g.id) held → AllByRecursion (λ g. n < g.id) (with_retired id held)
+unfolding with_retired
+above-retired n id [] all = tt
+above-retired n id (h ∷ held) all = elim (cases_Bool (nat_eq id h.id)) [
+  | inl same ↦ rw same all.1
+  | inr other ↦ rw other (all.0, above-retired n id held all.1)
+]
+
+rising-retired : (id : ℕ) (held : List Holding) → IsRising held → IsRising (with_retired id held)
+unfolding IsRising with_retired
+rising-retired id [] rising = tt
+rising-retired id (h ∷ held) rising = elim (cases_Bool (nat_eq id h.id)) [
+  | inl same ↦ rw same rising.1
+  | inr other ↦ rw other (above-retired h.id id held rising.0, rising-retired id held rising.1)
+]
+
+below-next : (granted newest : ℕ) (held : List Holding) → AllByRecursion (IsBounded granted newest) held → AllByRecursion (λ g. g.id < granted + 1) held
+below-next granted newest [] all = tt
+below-next granted newest (g ∷ held) all = (omega (arith, all.0.0), below-next granted newest held all.1)
+
+rising-after : (s : Standing) (command : Command) → AllByRecursion (IsBounded s.granted s.newest) s.held → IsRising s.held → IsRising (after s command).held
+rising-after s (Reserve c) bounded rising =
+    rising-push s.held (record { id = s.granted + 1; contract = begun s.newest c; released = false }) (below-next s.granted s.newest s.held bounded) rising
+rising-after s (Release id at) bounded rising = rising-released id _ s.held rising
+rising-after s (Retire id moment) bounded rising = rising-retired id s.held rising
+
+rising-fold : (s : Standing) (commands : List Command) → AllByRecursion (IsBounded s.granted s.newest) s.held → IsRising s.held → IsRising (fold after s commands).held
+rising-fold s [] bounded rising = rising
+rising-fold s (command ∷ commands) bounded rising = rising-fold (after s command) commands (bounded-after s command bounded) (rising-after s command bounded rising)
+
+pub standing-rising : (history : List Command) → IsRising (standing_of history).held
+unfolding standing_of IsRising
+standing-rising history = rising-fold opening history tt tt
+
+above-at : (n : ℕ) (held : List Holding) (place : ℕ) → AllByRecursion (λ g. n < g.id) held → place < length (ids_in held) → n < get_or (ids_in held) place 0
+above-at n [] place all within = absurd (let none : ⊥ = omega (arith, within) in none)
+above-at n (h ∷ held) zero all within = all.0
+above-at n (h ∷ held) (suc place) all within = above-at n held place all.1 (omega (arith, within))
+
+-- so they are sorted
+pub rising-sorted : (held : List Holding) → IsRising held → (i j : ℕ) → i ≤ j → j < length (ids_in held) → get_or (ids_in held) i 0 ≤ get_or (ids_in held) j 0
+unfolding IsRising
+rising-sorted [] rising i j lower within = absurd (let none : ⊥ = omega (arith, within) in none)
+rising-sorted (h ∷ held) rising zero zero lower within = omega arith
+rising-sorted (h ∷ held) rising zero (suc j) lower within = omega (arith, above-at h.id held j rising.0 (omega (arith, within)))
+rising-sorted (h ∷ held) rising (suc i) zero lower within = absurd (let none : ⊥ = omega (arith, lower) in none)
+rising-sorted (h ∷ held) rising (suc i) (suc j) lower within = rising-sorted held rising.1 i j (omega (arith, lower)) (omega (arith, within))
+
+-- the place of an id is that of its contract
+pub first-rising : (id : ℕ) (held : List Holding) (place : ℕ) → IsRising held → place < length (ids_in held) → get_or (ids_in held) place 0 ≡ id → IsFirst id held place
+unfolding IsRising IsFirst
+first-rising id [] place rising within here = absurd (let none : ⊥ = omega (arith, within) in none)
+first-rising id (h ∷ held) zero rising within here = grind (arith, here)
+first-rising id (h ∷ held) (suc place) rising within here =
+    let inside : place < length (ids_in held) = omega (arith, within) in
+    let above = above-at h.id held place rising.0 inside in
+    (grind (arith, above, here), first-rising id held place rising.1 inside here)
+
+-- and where none is the id, nothing is held under it
+pub missing-apart : (id : ℕ) (held : List Holding) → ((k : ℕ) → k < length (ids_in held) → get_or (ids_in held) k 0 ≡ id → ⊥) → holding_of id held ≡ None
+missing-apart id [] none = refl
+missing-apart id (h ∷ held) none = elim (cases_Bool (nat_eq id h.id)) [
+  | inl same ↦ absurd (none 0 (omega arith) (grind (arith, same)))
+  | inr other ↦ rw other (missing-apart id held (λ k within here. none (suc k) (omega (arith, within)) here))
+]
