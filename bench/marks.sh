@@ -1,7 +1,7 @@
 #!/bin/sh
 # Marks a capture of frames of 100 contracts over 10 meters by `dsedge mark` and by the plain program, in turns, once keeping red
 # frames and once dropping them, and prints the best times, their ratio, and the most memory that each took. Both have to write
-# the same capture and tell the same report. At most 5,000,000 records: beyond that a journal is full.
+# the same capture and tell the same report.
 #
 #     bench/marks.sh [RECORDS] [REPEATS]
 set -eu
