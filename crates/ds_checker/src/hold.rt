@@ -7,8 +7,11 @@ use ds_certificate::{Bound, Source};
 use ds_domain_base::{Contract, Domain, Name};
 use moment_core::{Column, Gap, bytes_over_ceil, drain_gap};
 
-/// How long the share of a contract with these bounds is to be held once the contract has ended, in nanoseconds.
-pub(crate) fn hold_of(domain: &Domain, contract: &Contract, bounds: &[Bound]) -> u128
+/// How long the share of a contract with these bounds, that of its port and those behind its meters, is to be held once
+/// the contract has ended, in nanoseconds: the greatest, over the hops of its path and the columns, of what delays can be
+/// up to that hop, the meter's skew, and the time in which the column's rate gives the bound there, widened by that skew
+/// (Cruz 1991, section II).
+pub fn hold_of(domain: &Domain, contract: &Contract, bounds: &[Bound]) -> u128
     ensures { result ≡ hold_of domain.now contract.now bounds.now }
 {
     let Some((_, behind)) = bounds.split_first() else {

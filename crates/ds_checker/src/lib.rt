@@ -6,7 +6,7 @@ pub mod acceptance;
 mod admission;
 pub mod bounds;
 pub mod candidate;
-mod hold;
+pub mod hold;
 pub mod laws;
 pub mod load;
 pub mod refusal;
@@ -14,4 +14,5 @@ pub mod table;
 
 pub use acceptance::check;
 pub use candidate::{Accepted, Candidate};
+pub use hold::hold_of;
 pub use refusal::Refusal;

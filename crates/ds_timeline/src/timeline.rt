@@ -1,8 +1,9 @@
-ghost use Rattle.std.specs.Prelude.{◌≡◌, ◌≤◌, length, option_copied, slice_get};
+ghost use Rattle.std.specs.Prelude.{◌≡◌, ◌≤◌, length, option_copied, option_map, slice_get};
 ghost use Rattle.ds_timeline.specs.Kept.{IsNumbered, IsTimeline};
-ghost use Rattle.ds_timeline.specs.Timelines.{AreRated, IsCovered, reservation_of};
+ghost use Rattle.ds_timeline.specs.Timelines.{AreRated, IsCovered, hold_in, reservation_of};
 
 use crate::reservation::Reservation;
+use ds_checker::hold_of;
 use ds_domain_base::Domain;
 use std::marker::Model;
 
@@ -68,6 +69,19 @@ impl Timeline {
         ensures { option_copied result ≡ reservation_of self.now flow }
     {
         at_flow(self.reservations.as_slice(), flow)
+    }
+
+    /// How long the share of the contract of a flow is held once the contract has ended, in nanoseconds, if one was
+    /// granted.
+    pub fn hold(&self, flow: u32) -> Option<u128>
+        ensures { result ≡ option_map (hold_in self.now.domain) (reservation_of self.now flow) }
+    {
+        let reservation = self.reservation(flow)?;
+        Some(hold_of(
+            &self.domain,
+            &reservation.contract,
+            reservation.bounds.hops(),
+        ))
     }
 }
 

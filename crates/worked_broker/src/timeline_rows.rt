@@ -53,6 +53,8 @@ fn expect_one_behind_the_other(rt: &impl Abort, timeline: &Timeline) -> Result<(
     );
     assert_eq!(rt; (a.is_reserved(then), b.is_reserved(then)), (false, true));
     assert_eq!(rt; a.bounds.hops().len(), 2);
+    assert_eq!(rt; timeline.hold(0), Some(6_000_000));
+    assert_eq!(rt; timeline.hold(2), None);
     Ok(())
 }
 
