@@ -1,0 +1,6 @@
+//! The run behind packets that are sent where each link takes its floor and one worker makes all visits in their order.
+//!
+//! - what can be sent, and judged (`Behind.AreSendable`)
+//! - a run whose packets are those that are sent, each of which made all its visits, and whose packets left their last
+//!   meters with the colours that are marked (`Behind.IsBehind`)
+#![tactic(auto)]
