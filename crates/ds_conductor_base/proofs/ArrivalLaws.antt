@@ -11,9 +11,9 @@ use Rattle.meter_fabric_base.specs.Openings.{opening_at}
 use Rattle.meter_fabric_base.specs.Travels.{Traveller, begun_of}
 use Rattle.meter_fabric_base.specs.declared.hop.Hop.{Hop}
 use Rattle.run_audit_base.specs.Runs.{Run}
-use Rattle.ds_conductor_base.specs.Conducting.{as_run, conducted, conducted_from, going_on, run_so_far}
+use Rattle.ds_conductor_base.specs.Conducting.{as_run, conducted_from, conducted_with, going_on, run_so_far}
 use Rattle.ds_conductor_base.specs.Laws.{arrival_by, arrival_from, arrival_there, behind_step, brought, brought_by}
-use Rattle.ds_conductor_base.specs.Steps.{Stage, book_at, numbers_of, opened, sent, some_of, stepped, visited_from}
+use Rattle.ds_conductor_base.specs.Steps.{Stage, book_at, numbers_of, opened_with, sent, some_of, stepped, visited_from}
 use Rattle.ds_conductor_base.specs.declared.fault.ConductFault.{ConductFault}
 use Rattle.ds_conductor_base.specs.declared.fault.StepFault.{StepFault}
 use Rattle.ds_conductor_base.specs.declared.fault.StepFault.TheVariants.{BadStep}
@@ -86,22 +86,22 @@ module _ (site : ℕ) where
       (λ k. conducted_grows t k h (suc index) rest) refl done
 
   -- from the first step on
-  all_brought : (t : Table) (g : Stage) (all : List Step) (b : Book) → conducted_from t (opened t) 0 all ≡ Ok g → book_at g site ≡ Some b
-      → b.arrivals ≡ brought t site (opened t) all
-  all_brought t g all b done there =
-      let (was, at, more) = conducted_grows t (opened t) g 0 all done b there in
-      let none = no_arrivals (opening_at (ground_of t) site) was (sym (opened_book t site) ∙ at) in
-      more ∙ ap (λ items. items ++ brought t site (opened t) all) none
+  all_brought : (capacity : ℕ) (t : Table) (g : Stage) (all : List Step) (b : Book) → conducted_from t (opened_with capacity t) 0 all ≡ Ok g → book_at g site ≡ Some b
+      → b.arrivals ≡ brought t site (opened_with capacity t) all
+  all_brought capacity t g all b done there =
+      let (was, at, more) = conducted_grows t (opened_with capacity t) g 0 all done b there in
+      let none = no_arrivals capacity (opening_at (ground_of t) site) was (sym (opened_book capacity t site) ∙ at) in
+      more ∙ ap (λ items. items ++ brought t site (opened_with capacity t) all) none
 
-run_brought : (t : Table) (all : List Step) (made : Result Stage ConductFault) (run : Run) → conducted_from t (opened t) 0 all ≡ made → as_run made ≡ Ok run
-    → All (λ j. j.arrivals ≡ brought t j.site (opened t) all) run.journals
-run_brought t all (Ok g) run is done =
-    subst (λ (r : Run). All (λ j. j.arrivals ≡ brought t j.site (opened t) all) r.journals) (same_Ok (run_so_far g) run done)
-    (All-journals_from (λ j. j.arrivals ≡ brought t j.site (opened t) all) 0 g.books
+run_brought : (capacity : ℕ) (t : Table) (all : List Step) (made : Result Stage ConductFault) (run : Run) → conducted_from t (opened_with capacity t) 0 all ≡ made → as_run made ≡ Ok run
+    → All (λ j. j.arrivals ≡ brought t j.site (opened_with capacity t) all) run.journals
+run_brought capacity t all (Ok g) run is done =
+    subst (λ (r : Run). All (λ j. j.arrivals ≡ brought t j.site (opened_with capacity t) all) r.journals) (same_Ok (run_so_far g) run done)
+    (All-journals_from (λ j. j.arrivals ≡ brought t j.site (opened_with capacity t) all) 0 g.books
     (λ k b there.
     let place : k ≡ 0 + k = omega arith in
-    subst (λ n. b.arrivals ≡ brought t n (opened t) all) place (all_brought k t g all b is (ap some_of there))))
-run_brought t all (Err fault) run is done = absurd cc
+    subst (λ n. b.arrivals ≡ brought t n (opened_with capacity t) all) place (all_brought k capacity t g all b is (ap some_of there))))
+run_brought capacity t all (Err fault) run is done = absurd cc
 
-pub journals_are_visits : (t : Table) (all : List Step) (run : Run) → conducted t all ≡ Ok run → All (λ j. j.arrivals ≡ brought t j.site (opened t) all) run.journals
-journals_are_visits t all run done = run_brought t all (conducted_from t (opened t) 0 all) run refl done
+pub journals_are_visits : (capacity : ℕ) (t : Table) (all : List Step) (run : Run) → conducted_with capacity t all ≡ Ok run → All (λ j. j.arrivals ≡ brought t j.site (opened_with capacity t) all) run.journals
+journals_are_visits capacity t all run done = run_brought capacity t all (conducted_from t (opened_with capacity t) 0 all) run refl done

@@ -11,8 +11,8 @@ use Rattle.meter_fabric_base.specs.Travels.{Traveller, begun_of}
 use Rattle.ds_checker.specs.Acceptance.{Table}
 use Rattle.meter_fabric_base.specs.Grounds.{contract_of, ground_of}
 use Rattle.run_audit_base.specs.Runs.{IsRun, Passage, Run}
-use Rattle.ds_conductor_base.specs.Conducting.{as_run, conducted, conducted_from, going_on, passage_of, run_so_far}
-use Rattle.ds_conductor_base.specs.Steps.{Stage, numbers_of, opened, sent, stepped, visited_from}
+use Rattle.ds_conductor_base.specs.Conducting.{as_run, conducted_from, conducted_with, going_on, passage_of, run_so_far}
+use Rattle.ds_conductor_base.specs.Steps.{Stage, numbers_of, opened_with, sent, stepped, visited_from}
 use Rattle.ds_conductor_base.specs.Laws.{sent_by}
 use Rattle.ds_conductor_base.specs.UnderWay.{IsUnderWay}
 use Rattle.ds_conductor_base.specs.declared.fault.ConductFault.{ConductFault}
@@ -42,9 +42,9 @@ run_of_stage : (t : Table) (made : Result Stage ConductFault) (run : Run) → ((
 run_of_stage t (Ok g) run way done = subst (IsRun (ground_of t)) (same_Ok (run_so_far g) run done) (run_under_way t g (way g refl))
 run_of_stage t (Err fault) run way done = absurd cc
 
-pub conducted_is_run : (t : Table) (all : List Step) (run : Run) → conducted t all ≡ Ok run → IsRun (ground_of t) run
-conducted_is_run t all run done =
-    run_of_stage t (conducted_from t (opened t) 0 all) run (λ g. conducted_under_way t (opened t) g 0 all (opened_under_way t)) done
+pub conducted_is_run : (capacity : ℕ) (t : Table) (all : List Step) (run : Run) → conducted_with capacity t all ≡ Ok run → IsRun (ground_of t) run
+conducted_is_run capacity t all run done =
+    run_of_stage t (conducted_from t (opened_with capacity t) 0 all) run (λ g. conducted_under_way t (opened_with capacity t) g 0 all (opened_under_way capacity t)) done
 
 -- ---- the packets that were sent
 
@@ -92,12 +92,12 @@ conducted-packets t g h index (s ∷ rest) done =
     going-packets t g h s index (λ k. conducted_from t k (suc index) rest) (stepped t g s) (flat_map sent_by rest)
     (λ k. conducted-packets t k h (suc index) rest) refl done
 
-run-packets : (t : Table) (all : List Step) (made : Result Stage ConductFault) (run : Run) → conducted_from t (opened t) 0 all ≡ made → as_run made ≡ Ok run
+run-packets : (capacity : ℕ) (t : Table) (all : List Step) (made : Result Stage ConductFault) (run : Run) → conducted_from t (opened_with capacity t) 0 all ≡ made → as_run made ≡ Ok run
     → map (λ p. p.packet) run.passages ≡ flat_map sent_by all
-run-packets t all (Ok g) run is done =
+run-packets capacity t all (Ok g) run is done =
     ap (λ (r : Run). map (λ p. p.packet) r.passages) (sym (same_Ok (run_so_far g) run done))
-    ∙ map-map (λ (p : Passage). p.packet) passage_of g.travellers ∙ conducted-packets t (opened t) g 0 all is
-run-packets t all (Err fault) run is done = absurd cc
+    ∙ map-map (λ (p : Passage). p.packet) passage_of g.travellers ∙ conducted-packets t (opened_with capacity t) g 0 all is
+run-packets capacity t all (Err fault) run is done = absurd cc
 
-pub packets_are_sent : (t : Table) (all : List Step) (run : Run) → conducted t all ≡ Ok run → map (λ p. p.packet) run.passages ≡ flat_map sent_by all
-packets_are_sent t all run done = run-packets t all (conducted_from t (opened t) 0 all) run refl done
+pub packets_are_sent : (capacity : ℕ) (t : Table) (all : List Step) (run : Run) → conducted_with capacity t all ≡ Ok run → map (λ p. p.packet) run.passages ≡ flat_map sent_by all
+packets_are_sent capacity t all run done = run-packets capacity t all (conducted_from t (opened_with capacity t) 0 all) run refl done

@@ -17,7 +17,7 @@ use Rattle.meter_fabric_base.specs.Travels.{Traveller}
 use Rattle.run_audit_base.specs.Runs.{AreJournals, IsPassage, IsRun, told}
 use Rattle.meter_fabric_base.specs.Openings.{opening_at, site_count}
 use Rattle.ds_conductor_base.specs.Conducting.{AreWhole, passage_of, run_so_far}
-use Rattle.ds_conductor_base.specs.Steps.{Stage, book_at, numbers_of, opened, opened_at, some_of, stepped}
+use Rattle.ds_conductor_base.specs.Steps.{Stage, book_at, numbers_of, opened_at, opened_with, some_of, stepped}
 use Rattle.ds_conductor_base.specs.UnderWay.{IsOnItsWay, IsUnderWay, opened_by}
 use Rattle.ds_conductor_base.specs.declared.step.Step.{Step}
 use Rattle.ds_conductor_base.specs.declared.step.Step.TheVariants.{Send, Visit}
@@ -29,13 +29,13 @@ use Rattle.ds_conductor_base.proofs.VisitLaws.{visited_under_way}
 
 -- ---- at first
 
-pub opened_under_way : (t : Table) → IsUnderWay t (opened t)
-opened_under_way t = record {
-  count = length-map-range_with_len (opened_at t) 0 (site_count t);
-  openings = λ site. ap (option_map (λ (b : Book). b.opening)) (opened_book t site) ∙ opening_of-opened (opening_at (ground_of t) site);
+pub opened_under_way : (capacity : ℕ) (t : Table) → IsUnderWay t (opened_with capacity t)
+opened_under_way capacity t = record {
+  count = length-map-range_with_len (opened_at capacity t) 0 (site_count t);
+  openings = λ site. ap (option_map (λ (b : Book). b.opening)) (opened_book capacity t site) ∙ opening_of-opened capacity (opening_at (ground_of t) site);
   travellers = All-nil (IsOnItsWay t);
   numbers = λ i j d first below. absurd (omega (arith, below));
-  rows = λ site b there. rw (no_rows (opening_at (ground_of t) site) b (sym (opened_book t site) ∙ there)) (IsPermutation-refl []);
+  rows = λ site b there. rw (no_rows capacity (opening_at (ground_of t) site) b (sym (opened_book capacity t site) ∙ there)) (IsPermutation-refl []);
 }
 
 -- ---- after each step
@@ -85,7 +85,7 @@ whole_under_way t g way k d below = by (get_or g.books k d) (ap some_of (within 
     by (Some b) there = (opened_here t g k b way there).1
 
 -- a site where something stands has a book
-book_there : (found : Option Book) (opening : Option Opening) → option_map (λ (b : Book). b.opening) found ≡ option_map opened_by opening → IsSome opening
+pub book_there : (found : Option Book) (opening : Option Opening) → option_map (λ (b : Book). b.opening) found ≡ option_map opened_by opening → IsSome opening
     → (b : Book) × (found ≡ Some b)
 book_there None None is there = absurd (false≢true there)
 book_there None (Some o) is there = absurd (none-some (opened_by o) is)

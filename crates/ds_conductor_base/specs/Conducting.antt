@@ -1,10 +1,10 @@
 -- The run that a list of steps makes.
-use Rattle.std.specs.Prelude.{◌≡◌, ℕ, suc, List, [], ◌∷◌, map, All, IfSome, Option, None, Some, Result, Ok, Err}
+use Rattle.std.specs.Prelude.{◌≡◌, ℕ, ◌^◌, suc, List, [], ◌∷◌, map, All, IfSome, Option, None, Some, Result, Ok, Err}
 use Rattle.meter_book.specs.Replay.{Book, Journal}
 use Rattle.ds_checker.specs.Acceptance.{Table}
 use Rattle.meter_fabric_base.specs.Travels.{Traveller}
 use Rattle.run_audit_base.specs.Runs.{Passage, Run}
-use Rattle.ds_conductor_base.specs.Steps.{Stage, opened, stepped}
+use Rattle.ds_conductor_base.specs.Steps.{Stage, opened_with, stepped}
 use Rattle.ds_conductor_base.specs.declared.fault.ConductFault.{ConductFault}
 use Rattle.ds_conductor_base.specs.declared.fault.ConductFault.TheVariants as conducts
 use Rattle.ds_conductor_base.specs.declared.fault.StepFault.{StepFault}
@@ -58,6 +58,10 @@ abbrev pub as_run : Result Stage ConductFault → Result Run ConductFault
 as_run (Ok g) = Ok (run_so_far g)
 as_run (Err fault) = Err fault
 
--- the run of a list of steps
+-- the run of a list of steps, where each book takes so many rows
+abbrev pub conducted_with : ℕ → Table → List Step → Result Run ConductFault
+conducted_with capacity t all = as_run (conducted_from t (opened_with capacity t) 0 all)
+
+-- where it takes 2^20
 abbrev pub conducted : Table → List Step → Result Run ConductFault
-conducted t all = as_run (conducted_from t (opened t) 0 all)
+conducted t all = conducted_with (2 ^ 20) t all

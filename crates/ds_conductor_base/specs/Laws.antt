@@ -9,23 +9,25 @@ use Rattle.meter_fabric_base.specs.Trails.{Packet, arrival_at}
 use Rattle.meter_fabric_base.specs.Travels.{Traveller, comes_as, next_hop}
 use Rattle.meter_fabric_base.specs.declared.hop.Hop.{Hop}
 use Rattle.run_audit_base.specs.Runs.{IsRun, Run}
-use Rattle.ds_conductor_base.specs.Conducting.{conducted, run_so_far}
-use Rattle.ds_conductor_base.specs.Steps.{Stage, numbers_of, opened, stepped}
+use Rattle.ds_conductor_base.specs.Conducting.{conducted_with, run_so_far}
+use Rattle.ds_conductor_base.specs.Steps.{Stage, numbers_of, opened_with, stepped}
 use Rattle.ds_conductor_base.specs.UnderWay.{IsUnderWay}
 use Rattle.ds_conductor_base.specs.declared.fault.StepFault.{StepFault}
 use Rattle.ds_conductor_base.specs.declared.step.Step.{Step}
 use Rattle.ds_conductor_base.specs.declared.step.Step.TheVariants.{Send, Visit}
 
--- What opens is under way, each step that is made keeps it so, and what is under way is a run.
+-- What opens is under way, however many rows books take, each step that is made keeps it so, and what is under way is a run.
 abbrev pub StepsKeepOnTheWay : Type 0
 StepsKeepOnTheWay =
-    ((t : Table) → IsUnderWay t (opened t))
+    ((capacity : ℕ) (t : Table) → IsUnderWay t (opened_with capacity t))
     × ((t : Table) (g h : Stage) (s : Step) → IsUnderWay t g → stepped t g s ≡ Ok h → IsUnderWay t h)
     × ((t : Table) (g : Stage) → IsUnderWay t g → IsRun (ground_of t) (run_so_far g))
 
 -- What a list of steps makes is a run.
 abbrev pub StepsMakeRuns : Type 0
-StepsMakeRuns = (t : Table) (all : List Step) (run : Run) → conducted t all ≡ Ok run → IsRun (ground_of t) run
+StepsMakeRuns =
+    (capacity : ℕ) (t : Table) (all : List Step) (run : Run) → conducted_with capacity t all ≡ Ok run
+    → IsRun (ground_of t) run
 
 -- what a step sends
 abbrev pub sent_by : Step → List Packet
@@ -36,7 +38,7 @@ sent_by (Visit packet moment) = []
 -- The packets of the run that a list of steps makes are those that it sends, in its order.
 abbrev pub PacketsAreThoseSent : Type 0
 PacketsAreThoseSent =
-    (t : Table) (all : List Step) (run : Run) → conducted t all ≡ Ok run
+    (capacity : ℕ) (t : Table) (all : List Step) (run : Run) → conducted_with capacity t all ≡ Ok run
     → map (λ p. p.packet) run.passages ≡ flat_map sent_by all
 
 -- a packet arrives at its next hop, if that is at the site, with the colour that it left its last hop with
@@ -72,5 +74,5 @@ brought t site g (s ∷ rest) = brought_by site g s ++ behind_step (λ h. brough
 -- of the list.
 abbrev pub JournalsAreTheVisits : Type 0
 JournalsAreTheVisits =
-    (t : Table) (all : List Step) (run : Run) → conducted t all ≡ Ok run
-    → All (λ j. j.arrivals ≡ brought t j.site (opened t) all) run.journals
+    (capacity : ℕ) (t : Table) (all : List Step) (run : Run) → conducted_with capacity t all ≡ Ok run
+    → All (λ j. j.arrivals ≡ brought t j.site (opened_with capacity t) all) run.journals

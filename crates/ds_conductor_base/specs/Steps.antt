@@ -20,13 +20,18 @@ pub record Stage : Type 0 where
   pub travellers : List Traveller
   pub books : List (Option Book)
 
--- an empty book of what stands at a site, which takes 2^20 rows
-abbrev pub opened_at : Table → ℕ → Option Book
-opened_at t site = option_map (book_with (2 ^ 20)) (opening_at (ground_of t) site)
+-- an empty book of what stands at a site, which takes so many rows
+abbrev pub opened_at : ℕ → Table → ℕ → Option Book
+opened_at capacity t site = option_map (book_with capacity) (opening_at (ground_of t) site)
 
--- before the first step
+-- before the first step, where each book takes so many rows
+abbrev pub opened_with : ℕ → Table → Stage
+opened_with capacity t =
+    record { travellers = []; books = map (opened_at capacity t) (range_with_len 0 (site_count t)) }
+
+-- where it takes 2^20
 abbrev pub opened : Table → Stage
-opened t = record { travellers = []; books = map (opened_at t) (range_with_len 0 (site_count t)) }
+opened t = opened_with (2 ^ 20) t
 
 -- the book of a site, if there is one
 abbrev pub some_of : {A : Type 0} → Option (Option A) → Option A

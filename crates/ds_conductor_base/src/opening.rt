@@ -25,7 +25,7 @@ pub fn opened_books(
 
 /// The book of the site of a number, without rows; None where no meter stands there.
 fn opened_book(alloc: Global, accepted: &Accepted, site: u32) -> Option<MeterBook>
-    ensures { result ≡ opened_at accepted.now site }
+    ensures { result ≡ opened_at (2 ^ 20) accepted.now site }
 {
     let opening = opening_at(accepted, site)?;
     Some(opening.book(alloc, MeterBook::MOST_ROWS))

@@ -1,8 +1,9 @@
 -- The run behind packets that are sent, where each link takes its floor and one worker makes all visits in their order.
 use Rattle.std.specs.Prelude.{◌≡◌, ℕ, ◌-◌, ◌<◌, ◌≤◌, ◌^◌, nat_eq, true, List, All, AllPairs, IsSome, filter, length}
-use Rattle.std.specs.Prelude.{is_some, map, option_map, slice_get, Option, Some}
+use Rattle.std.specs.Prelude.{is_some, map, option_map, slice_get, unwrap_or, Option, Some}
 use Rattle.std.specs.List.{range_with_len}
 use Rattle.moment_core.specs.declared.colour.Colour.{Colour}
+use Rattle.meter_book.specs.declared.row.Arrival.{Arrival}
 use Rattle.ds_checker.specs.Acceptance.{Table}
 use Rattle.meter_fabric_base.specs.Grounds.{contract_of, ground_of}
 use Rattle.meter_fabric_base.specs.Openings.{opening_at, site_count}
@@ -44,6 +45,17 @@ MadeItsVisits t place s p = map (visit_told place) p.receipts ≡ map (visit_to 
 abbrev pub left_last : Passage → Option Colour
 left_last p = option_map (λ r. r.row.left) (last_receipt p.receipts)
 
+-- the number of the packet of a place
+abbrev pub number_at : List Sent → ℕ → ℕ
+number_at sent place = unwrap_or (option_map (λ s. s.packet) (slice_get sent place)) 0
+
+-- what an arrival and a visit say: the packet's number, the number of its hop, and when
+abbrev pub arrival_told : Arrival → ℕ × ℕ × ℕ
+arrival_told a = (a.packet, a.hop, a.moment)
+
+abbrev pub visit_noted : List Sent → Visit → ℕ × ℕ × ℕ
+visit_noted sent v = (number_at sent v.place, v.hop.number, v.moment)
+
 -- the visits to a site, in their order
 abbrev pub visits_at : Table → List Sent → ℕ → List Visit
 visits_at t sent site = filter (λ v. nat_eq v.hop.site site) (visits_of t sent)
@@ -56,6 +68,7 @@ pub record IsBehind (t : Table) (sent : List Sent) (made : Run) : Type 0 where
   pub visits : (place : ℕ) (s : Sent) (p : Passage) → slice_get sent place ≡ Some s
       → slice_get made.passages place ≡ Some p → MadeItsVisits t place s p
   pub journals : All (λ j. map (λ a. a.moment) j.arrivals ≡ map (λ v. v.moment) (visits_at t sent j.site)) made.journals
+  pub arrivals : All (λ j. map arrival_told j.arrivals ≡ map (visit_noted sent) (visits_at t sent j.site)) made.journals
   pub sites : map (λ j. j.site) made.journals
       ≡ filter (λ site. is_some (opening_at (ground_of t) site)) (range_with_len 0 (site_count t))
   pub colours : map left_last made.passages ≡ map (λ c. Some c) (colours_of t sent)

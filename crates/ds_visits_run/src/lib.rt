@@ -4,3 +4,5 @@
 //! - a run whose packets are those that are sent, each of which made all its visits, and whose packets left their last
 //!   meters with the colours that are marked (`Behind.IsBehind`)
 #![tactic(auto)]
+
+pub mod laws;
