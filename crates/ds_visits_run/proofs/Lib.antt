@@ -3,6 +3,7 @@ pub mod GoingLaws
 pub mod KnownLaws
 pub mod ListLaws
 pub mod MadeLaws
+pub mod MarkLaws
 pub mod MeetLaws
 pub mod RunLaws
 pub mod SendLaws

@@ -1,9 +1,15 @@
-//! The run behind packets that are sent, proved as the contract of a function that does nothing.
-ghost use Rattle.ds_visits_run.specs.Laws.{TheRunIsBehind};
+//! The run behind packets that are sent, proved as the contracts of functions that do nothing.
+ghost use Rattle.ds_visits_run.specs.Laws.{KeptMarksAreSentColours, TheRunIsBehind};
 
 /// Where a table is acceptable and packets can be sent, there is a run behind them: its packets are those that are
 /// sent, each with the receipts of all its visits, its journals note the visits in their order, and the colour that a
 /// packet left its last meter with is the one that is marked.
 pub fn the_run_is_behind()
     ensures { TheRunIsBehind }
+{}
+
+/// Where the verdict on a run behind packets is `Kept`, each of them is marked with the colour that it was sent with:
+/// what is trusted with the one that its code point shows, what is policed with the one that its edge gave.
+pub fn kept_marks_are_sent_colours()
+    ensures { KeptMarksAreSentColours }
 {}

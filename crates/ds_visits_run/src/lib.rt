@@ -3,6 +3,8 @@
 //! - what can be sent, and judged (`Behind.AreSendable`)
 //! - a run whose packets are those that are sent, each of which made all its visits, and whose packets left their last
 //!   meters with the colours that are marked (`Behind.IsBehind`)
+//! - all are sent in their order, and then all visits are made in theirs (`Making.run_behind`)
+//! - what holds of it (`Laws`) → `laws`
 #![tactic(auto)]
 
 pub mod laws;
