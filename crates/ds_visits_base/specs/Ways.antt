@@ -1,5 +1,6 @@
 -- The way of a contract's packets where each link takes its floor.
-use Rattle.std.specs.Prelude.{◌≡◌, ℕ, suc, ◌+◌, List, [], ◌∷◌, ◌++◌, map, slice_get, unwrap_or, Option, None, Some}
+use Rattle.std.specs.Prelude.{◌≡◌, ℕ, suc, ◌+◌, ◌*◌, ◌^◌, ◌≤◌, List, [], ◌∷◌, ◌++◌, All, map, slice_get, unwrap_or, Option}
+use Rattle.std.specs.Prelude.{None, Some}
 use Rattle.ds_domain_base.specs.Domains.{Domain, floor_of, link_of}
 use Rattle.ds_domain_base.specs.declared.contract.Contract.{Contract}
 use Rattle.ds_domain_base.specs.declared.terms.Terms.{Terms}
@@ -38,3 +39,10 @@ stops_at t flow = stops_by t.domain flow (contract_of (ground_of t) flow)
 -- the stops of each contract stand at its number
 abbrev pub AreWays : Table → List (List Stop) → Type 0
 AreWays t ways = (flow : ℕ) → unwrap_or (slice_get ways flow) [] ≡ stops_at t flow
+
+-- no stop is further than sixteen links of the greatest floor, 10^10 nanoseconds
+abbrev pub AreNear : List Stop → Type 0
+AreNear stops = All (λ stop. stop.delay ≤ 16 * 10 ^ 10) stops
+
+abbrev pub AreInReach : Table → Type 0
+AreInReach t = (flow : ℕ) → AreNear (stops_at t flow)

@@ -8,5 +8,5 @@ pub mod visit;
 pub mod way;
 
 pub use sent::Sent;
-pub use visit::{Visit, visit_to};
+pub use visit::{Visit, later, visit_to};
 pub use way::{Stop, Way, all_ways, stops_at};

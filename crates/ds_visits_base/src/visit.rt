@@ -29,7 +29,7 @@ pub fn visit_to(place: usize, packet: &Sent, stop: &Stop) -> Visit
 }
 
 /// So long after a moment, but not behind the last moment that there is.
-fn later(moment: Moment, delay: Gap) -> Moment
+pub fn later(moment: Moment, delay: Gap) -> Moment
     ensures { result ≡ later moment delay }
 {
     let last = (1 << 63) - 1;

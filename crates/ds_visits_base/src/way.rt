@@ -1,5 +1,5 @@
 ghost use Rattle.std.specs.Prelude.{◌≡◌, ◌+◌, ◌*◌, ◌<◌, ◌≤◌, ◌^◌, [], IfOk, length, slice_get, unwrap_or};
-ghost use Rattle.ds_visits_base.specs.Ways.{AreWays, stops_at, stops_of};
+ghost use Rattle.ds_visits_base.specs.Ways.{AreInReach, AreNear, AreWays, stops_at, stops_of};
 
 use ds_checker::Accepted;
 use ds_domain_base::{Contract, Domain};
@@ -43,7 +43,8 @@ impl Way {
 
 /// The stops of each contract at its number; `AllocError` where memory runs out.
 pub fn all_ways(alloc: Global, accepted: &Accepted) -> Result<Vec<Way>, AllocError>
-    ensures { IfOk result (λ ways. AreWays accepted.now ways.items) }
+    ensures ways { IfOk result (λ ways. AreWays accepted.now ways.items) }
+    ensures reach { IfOk result (λ ways. AreInReach accepted.now) }
 {
     let count = flow_count(accepted);
     let mut ways = Vec::with_capacity(alloc, count as usize)?;
@@ -66,7 +67,8 @@ pub fn stops_at(ways: &[Way], flow: u32) -> &[Stop]
 /// The stops of the packets of a contract's number, none where there is no such contract; `AllocError` where memory
 /// runs out.
 fn way_at(alloc: Global, accepted: &Accepted, flow: u32) -> Result<Way, AllocError>
-    ensures { IfOk result (λ way. way ≡ stops_at accepted.now flow) }
+    ensures value { IfOk result (λ way. way ≡ stops_at accepted.now flow) }
+    ensures reach { IfOk result (λ way. AreNear (stops_at accepted.now flow)) }
 {
     let stops = match contract_of(accepted, flow) {
         Some(contract) => stops_of(alloc, accepted.domain(), flow, contract)?,
@@ -85,7 +87,8 @@ fn stops_of(
 ) -> Result<Vec<Stop>, AllocError>
     requires numbered { flow < 4294966272 }
     requires short { length contract.now.path ≤ 16 }
-    ensures { IfOk result (λ stops. stops.items ≡ stops_of domain.now flow contract.now) }
+    ensures value { IfOk result (λ stops. stops.items ≡ stops_of domain.now flow contract.now) }
+    ensures reach { IfOk result (λ stops. AreNear stops.items) }
 {
     let path = contract.path.meters();
     let mut stops = Vec::with_capacity(alloc, path.len() + 1)?;

@@ -158,7 +158,7 @@ is_less-either b n b' n' apart last = grind (arith, nat_tests)
 is_less-within : (f b n f' b' n' : ℕ) → f ≡ f' → (nat_lt f f' || nat_eq f f' && (nat_lt b b' || nat_eq b b' && nat_lt n n')) ≡ true → (nat_lt b b' || nat_eq b b' && nat_lt n n') ≡ true
 is_less-within f b n f' b' n' same less = grind (arith, nat_tests)
 
-begun_order : IsOrder is_begun_before
+pub begun_order : IsOrder is_begun_before
 begun_order = record {
   one_way = λ p q less. is_less-one_way p.packet.begun p.packet.number q.packet.begun q.packet.number less;
   through = λ p q r less next. is_less-through p.packet.begun p.packet.number q.packet.begun q.packet.number r.packet.begun r.packet.number less next;
@@ -217,7 +217,7 @@ sent-standing g run is_run n c column =
 
 -- ---- a bucket into which they are poured one after another
 
-overflow-next : (rate burst level since index next : ℕ) (items : List (ℕ × ℕ)) → next ≡ suc index
+pub overflow-next : (rate burst level since index next : ℕ) (items : List (ℕ × ℕ)) → next ≡ suc index
     → overflow_from rate burst level since next items ≡ option_map (λ i. suc i) (overflow_from rate burst level since index items)
 unfolding overflow_from
 overflow-next rate burst level since index next [] is = refl
@@ -230,11 +230,11 @@ overflow-next rate burst level since index next (item ∷ items) is =
     by_test true behind further same = ap Some is
     by_test false behind further same = same
 
-found-next : {A : Type 0} (x : A) (xs : List A) (at : Option ℕ) → option_and_then (slice_get (x ∷ xs)) (option_map (λ i. suc i) at) ≡ option_and_then (slice_get xs) at
+pub found-next : {A : Type 0} (x : A) (xs : List A) (at : Option ℕ) → option_and_then (slice_get (x ∷ xs)) (option_map (λ i. suc i) at) ≡ option_and_then (slice_get xs) at
 found-next x xs None = refl
 found-next x xs (Some i) = refl
 
-counts-sent : (picked : Colour → Bool) (terms : Terms) (colour : Colour) (begun : ℕ) (receipts : List Receipt) → IsTrusted terms
+pub counts-sent : (picked : Colour → Bool) (terms : Terms) (colour : Colour) (begun : ℕ) (receipts : List Receipt) → IsTrusted terms
     → picked colour ≡ was_sent_as picked (sending_by terms colour begun receipts)
 counts-sent picked (Trusted committed peak) colour begun receipts trusted = refl
 counts-sent picked (Policed parameters mode) colour begun receipts trusted = absurd trusted

@@ -14,11 +14,12 @@ mod sites;
 mod skews;
 mod soundness;
 mod sources;
-mod times;
+pub mod times;
 pub mod verdict;
 
 pub use auditing::audit;
 pub use basis::Ground;
 pub use fault::AssembleFault;
 pub use run::Run;
+pub use times::may_send;
 pub use verdict::Verdict;

@@ -13,7 +13,7 @@ use meter_fabric_base::Trail;
 use moment_core::Moment;
 
 /// Whether a contract may send at a moment.
-fn may_send(lifetime: Lifetime, moment: Moment) -> bool
+pub fn may_send(lifetime: Lifetime, moment: Moment) -> bool
     ensures { result ≡ may_send lifetime moment }
 {
     lifetime.since() <= moment && is_before(moment, lifetime.until())

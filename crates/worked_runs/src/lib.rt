@@ -19,4 +19,6 @@ mod tables;
 #[cfg(test)]
 mod traveller_rows;
 #[cfg(test)]
+mod verdict_rows;
+#[cfg(test)]
 mod visit_rows;

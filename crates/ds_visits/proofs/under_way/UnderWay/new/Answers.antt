@@ -6,7 +6,7 @@ use Rattle.ds_visits.proofs.under_way.UnderWay.new.Goals as goal
 
 pub invariant_of-result : goal.invariant_of-result
 invariant_of-result c = record {
-  ways = c.in_ok-ways.ensures;
+  ways = c.in_ok-ways.ensures.ways;
   stream = begun_stream c.args.accepted.now c.in_ok-meters.meters.items (carried_in c.new.result.items) c.new-2.result (ap carried_in c.new.ensures.items) c.new-2.ensures;
   counted = counted_none 0 (lefts_of c.new.result.items) c.new-2.result (ap lefts_of c.new.ensures.items);
   numbered = let none = ap length c.new.ensures.items in omega (arith, none);

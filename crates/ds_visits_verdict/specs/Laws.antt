@@ -1,0 +1,21 @@
+-- What the verdict on packets that are sent is of the run behind them.
+use Rattle.std.specs.Prelude.{◌≡◌, List}
+use Rattle.ds_checker.specs.Acceptance.{Table}
+use Rattle.meter_fabric_base.specs.Grounds.{ground_of}
+use Rattle.run_audit_base.specs.Runs.{Run}
+use Rattle.run_audit.specs.Verdicts.{verdict_of}
+use Rattle.ds_visits_base.specs.Ways.{AreInReach}
+use Rattle.ds_visits_base.specs.declared.sent.Sent.{Sent}
+use Rattle.ds_visits_run.specs.Behind.{AreSendable, IsBehind}
+use Rattle.ds_visits_verdict.specs.Judged.{judged}
+use Rattle.ds_visits_verdict.specs.Judging.{unjudged, verdict_with}
+
+-- The verdict on each run behind packets that are sent is told of these packets alone.
+abbrev pub TheRunIsJudged : Type 0
+TheRunIsJudged =
+    (t : Table) (sent : List Sent) (run : Run) → AreInReach t → AreSendable t sent → IsBehind t sent run
+    → verdict_of (ground_of t) run ≡ judged t sent
+
+-- It is told of what is kept of them.
+abbrev pub TheJudgeTells : Type 0
+TheJudgeTells = (t : Table) (sent : List Sent) → AreSendable t sent → verdict_with (unjudged t) sent ≡ judged t sent
