@@ -1,12 +1,13 @@
 -- What the verdict on packets that are sent is of the run behind them.
 use Rattle.std.specs.Prelude.{◌≡◌, List}
-use Rattle.ds_checker.specs.Acceptance.{Table}
+use Rattle.ds_checker.specs.Acceptance.{IsAcceptable, Table}
 use Rattle.meter_fabric_base.specs.Grounds.{ground_of}
 use Rattle.run_audit_base.specs.Runs.{Run}
 use Rattle.run_audit.specs.Verdicts.{verdict_of}
 use Rattle.ds_visits_base.specs.Ways.{AreInReach}
 use Rattle.ds_visits_base.specs.declared.sent.Sent.{Sent}
 use Rattle.ds_visits_run.specs.Behind.{AreSendable, IsBehind}
+use Rattle.ds_visits_run.specs.Making.{run_behind}
 use Rattle.ds_visits_verdict.specs.Judged.{judged}
 use Rattle.ds_visits_verdict.specs.Judging.{unjudged, verdict_with}
 
@@ -19,3 +20,9 @@ TheRunIsJudged =
 -- It is told of what is kept of them.
 abbrev pub TheJudgeTells : Type 0
 TheJudgeTells = (t : Table) (sent : List Sent) → AreSendable t sent → verdict_with (unjudged t) sent ≡ judged t sent
+
+-- Where a table is acceptable, it is the verdict on the run that is made of them.
+abbrev pub TheMadeRunIsJudged : Type 0
+TheMadeRunIsJudged =
+    (t : Table) (sent : List Sent) → IsAcceptable t → AreInReach t → AreSendable t sent
+    → verdict_with (unjudged t) sent ≡ verdict_of (ground_of t) (run_behind t sent)
