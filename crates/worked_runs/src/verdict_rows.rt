@@ -38,7 +38,9 @@ pub const TRUSTED_LEAST: &str = "dscert 2\na 0 3000 4000 1000\na 1 4000 6000 200
 
 /// The code points of class 1: green, yellow and red.
 const AF11: u8 = 10;
+
 const AF12: u8 = 12;
+
 const AF13: u8 = 14;
 
 /// The verdict on packets of the contract, each with its number, its size, its code point and its moment.
@@ -52,7 +54,7 @@ fn verdict(
         judge.note(&Sent {
             flow: 0,
             packet: *packet,
-            size: PacketSize::new(*size)?,
+            size: PacketSize::new(u64::from(*size))?,
             dscp: Dscp::new(*dscp)?,
             moment: Moment::new(*moment)?,
         });
@@ -85,7 +87,11 @@ fn over(column: Column, packet: u64) -> Verdict {
 #[test]
 fn a_burst_that_is_just_kept(rt: HostRuntime) -> Result<(), Fail> {
     let second = 1_000_000_000;
-    let burst = [(4, 1_500, AF11, second), (6, 1_500, AF11, second), (7, 1_000, AF12, second)];
+    let burst = [
+        (4, 1_500, AF11, second),
+        (6, 1_500, AF11, second),
+        (7, 1_000, AF12, second),
+    ];
     expect(&rt, rt.alloc(), &[], Verdict::Kept)?;
     expect(&rt, rt.alloc(), &burst, Verdict::Kept)
 }
@@ -93,8 +99,16 @@ fn a_burst_that_is_just_kept(rt: HostRuntime) -> Result<(), Fail> {
 #[test]
 fn a_byte_more_than_a_burst(rt: HostRuntime) -> Result<(), Fail> {
     let second = 1_000_000_000;
-    let early = [(4, 3_000, AF11, second), (6, 9_000, AF13, second), (7, 1, AF11, second + 999)];
-    let drained = [(4, 3_000, AF11, second), (6, 9_000, AF13, second), (7, 1, AF11, second + 1_000)];
+    let early = [
+        (4, 3_000, AF11, second),
+        (6, 9_000, AF13, second),
+        (7, 1, AF11, second + 999),
+    ];
+    let drained = [
+        (4, 3_000, AF11, second),
+        (6, 9_000, AF13, second),
+        (7, 1, AF11, second + 1_000),
+    ];
     expect(&rt, rt.alloc(), &early, over(Column::Green, 7))?;
     expect(&rt, rt.alloc(), &drained, Verdict::Kept)
 }
@@ -102,8 +116,16 @@ fn a_byte_more_than_a_burst(rt: HostRuntime) -> Result<(), Fail> {
 #[test]
 fn columns_are_judged_in_their_order(rt: HostRuntime) -> Result<(), Fail> {
     let second = 1_000_000_000;
-    let yellow = [(4, 1_000, AF12, second), (6, 1, AF12, second), (7, 1, AF12, second)];
-    let both = [(4, 1_001, AF12, second), (6, 2_999, AF11, second), (7, 1, AF11, second)];
+    let yellow = [
+        (4, 1_000, AF12, second),
+        (6, 1, AF12, second),
+        (7, 1, AF12, second),
+    ];
+    let both = [
+        (4, 1_001, AF12, second),
+        (6, 2_999, AF11, second),
+        (7, 1, AF11, second),
+    ];
     expect(&rt, rt.alloc(), &yellow, over(Column::Excess, 6))?;
     expect(&rt, rt.alloc(), &both, over(Column::All, 7))
 }
@@ -127,6 +149,16 @@ fn a_packet_that_comes_before_its_meter(rt: HostRuntime) -> Result<(), Fail> {
         place: 0,
         late: Gap::new(500_001)?,
     };
-    expect(&rt, rt.alloc(), &[(4, 100, AF11, 998_499_999), (6, 100, AF11, 998_600_000)], late)?;
-    expect(&rt, rt.alloc(), &[(4, 100, AF11, 998_500_000)], Verdict::Kept)
+    expect(
+        &rt,
+        rt.alloc(),
+        &[(4, 100, AF11, 998_499_999), (6, 100, AF11, 998_600_000)],
+        late,
+    )?;
+    expect(
+        &rt,
+        rt.alloc(),
+        &[(4, 100, AF11, 998_500_000)],
+        Verdict::Kept,
+    )
 }
