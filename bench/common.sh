@@ -1,13 +1,18 @@
 # Shared by the scripts that time a proved program of this folder. They set `bench`, this folder, and `folder`, one of their own.
 
-# Proves and builds the program of bench/NAME, which uses the libraries that are named, in a copy of this repository with what is
-# built here already; its path goes into `proved`.
+# Proves and builds the program of bench/NAME, which uses the libraries that are named, in a copy of these and what is below them
+# with what is built here already; its path goes into `proved`.
 #
 #     build NAME LIBRARY..
 build() {
     name=$1
     shift
-    cp -R "$bench/../crates" "$bench/../crates.txt" "$bench/../HANDLES" "$folder"
+    mkdir -p "$folder/crates"
+    cp "$bench/../HANDLES" "$folder"
+    below "$@" > "$folder/crates.txt"
+    cut -d : -f 1 "$folder/crates.txt" | while read -r crate; do
+        cp -R "$bench/../crates/$crate" "$folder/crates"
+    done
     mkdir -p "$folder/crates/${name}_bench/src"
     # it stands under another ending here, since the gate wants each .rt file in a crate
     cp "$bench/$name/main.rattle" "$folder/crates/${name}_bench/src/main.rt"
@@ -25,6 +30,25 @@ build() {
         tail "$folder/build.log" >&2
         exit 2
     fi
+}
+
+# The lines of crates.txt for these crates and all below them.
+#
+#     below LIBRARY..
+below() {
+    awk -F ': *' -v names="$*" '
+        function mark(name,    count, place, used) {
+            if (name in marked || !(name in line)) return
+            marked[name] = 1
+            count = split(uses[name], used, " ")
+            for (place = 1; place <= count; place++) mark(used[place])
+        }
+        !/^#/ { line[$1] = $0; uses[$1] = $2; order[++lines] = $1 }
+        END {
+            count = split(names, given, " ")
+            for (place = 1; place <= count; place++) mark(given[place])
+            for (place = 1; place <= lines; place++) if (order[place] in marked) print line[order[place]]
+        }' "$bench/../crates.txt"
 }
 
 # The time that a program takes with these words, in nanoseconds; its input is INPUT, and its output goes to OUTPUT.

@@ -1,7 +1,7 @@
 #!/bin/sh
 # Takes packets through meters that 1, 2 and 4 threads share, 1,000,000 visits by each thread, over 64 meters and all over one, by
-# the proved fabric and by plain mutexes, in turns, and prints the time of a visit and their ratio; then what it takes where 64
-# packets visit each meter together.
+# the proved fabric and by plain mutexes, in turns, and prints the time of a visit, with its share of the packet's beginning, and
+# their ratio; what a packet's beginning takes alone; and then what a visit takes where 64 packets visit each meter together.
 #
 #     bench/fabrics.sh [REPEATS]
 set -eu
@@ -27,6 +27,11 @@ for shape in spread one; do
                 shape, threads, proved / 1e6 / threads, plain / 1e6 / threads, proved / plain
         }'
     done
+    # packets that begin and visit nothing
+    beside "$repeats" "$shape" 0 "$travellers"
+    awk -v shape="$shape" -v count="$travellers" -v proved="$proved_time" -v plain="$plain_time" 'BEGIN {
+        printf "%-7s a packet begins: proved %6.1f ns  plain %6.1f ns\n", shape, proved / count, plain / count
+    }'
 done
 
 "$bench/generate_fabric.sh" spread > "$given"

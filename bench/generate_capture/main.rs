@@ -24,6 +24,9 @@ const HEADING: [u8; 24] = [
     0xd4, 0xc3, 0xb2, 0xa1, 2, 0, 4, 0, 0, 0, 0, 0, 0, 0, 0, 0, 100, 0, 0, 0, 1, 0, 0, 0,
 ];
 
+/// The front of an IPv6 header: 32 bytes of UDP follow.
+const IPV6: [u8; 7] = [0x60, 0, 0, 0, 0, 32, 17];
+
 /// Numbers from 0 to 65,535 without a pattern, the same ones in each run.
 struct Numbers {
     state: u32,
@@ -222,6 +225,9 @@ fn fill_frame(numbers: &mut Numbers, frame: &mut [u8; CAPTURED]) -> u32 {
     frame[..12].copy_from_slice(&[2, 0, 0, 0, 0, 1, 2, 0, 0, 0, 0, 2]);
     let start = fill_types(numbers, kind, frame);
     frame[start..].fill(pick as u8);
+    if kind == 0x86dd {
+        frame[start..start + IPV6.len()].copy_from_slice(&IPV6);
+    }
     if kind != 0x0800 {
         return CAPTURED as u32;
     }

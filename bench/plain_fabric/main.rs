@@ -1,8 +1,10 @@
 //! Plain Rust over std alone, for comparison: meters that threads share, each behind a mutex with the rows that it keeps, as an
 //! engineer would write it for speed. `fabric SHAPE THREADS TRAVELLERS`: so many packets by each thread, each over 16 of 64
 //! meters (`spread`) or over one meter (`one`). Prints how many rows there are.
+//! With THREADS 0 one thread lets packets begin, and they visit nothing.
 
 use std::env;
+use std::hint::black_box;
 use std::process::ExitCode;
 use std::sync::Mutex;
 use std::thread;
@@ -144,7 +146,7 @@ struct Fabric {
 
 impl Fabric {
     /// Takes a packet over all meters of its way, and counts its visits.
-    fn travel(&self, counts: &mut [u64], flow: usize, packet: u64) {
+    fn travel(&self, counts: &mut [u64], flow: usize, packet: u64, visited: usize) {
         let mut traveller = Traveller {
             flow: flow as u32,
             packet,
@@ -152,22 +154,23 @@ impl Fabric {
             colour: Colour::Green,
             receipts: Vec::with_capacity(self.hops),
         };
-        for hop in 0..self.hops {
+        for hop in 0..visited {
             let site = flow * self.hops + hop;
             let row = self.sites[site].0.lock().unwrap().note(&traveller, hop as u8 + 1, packet * 1_000 + hop as u64);
             traveller.colour = row.left;
             traveller.receipts.push(row);
             counts[site] += 1;
         }
+        black_box(traveller);
     }
 }
 
-fn work(fabric: &Fabric, thread: u64, travellers: u64) -> Vec<u64> {
+fn work(fabric: &Fabric, thread: u64, travellers: u64, visited: usize) -> Vec<u64> {
     let flows = fabric.sites.len() / fabric.hops;
     let mut counts = vec![0; fabric.sites.len()];
     for number in 0..travellers {
         let flow = (number + thread) as usize % flows;
-        fabric.travel(&mut counts, flow, thread * travellers + number);
+        fabric.travel(&mut counts, flow, thread * travellers + number, visited);
     }
     counts
 }
@@ -183,9 +186,10 @@ fn main() -> ExitCode {
     let (meters, hops) = if shape == "one" { (1, 1) } else { (64, 16) };
     let sites = (0..meters).map(|_| Site(Mutex::new(Book::new()))).collect();
     let fabric = Fabric { sites, hops };
+    let visited = if threads == 0 { 0 } else { hops };
     let counted: u64 = thread::scope(|scope| {
         let workers: Vec<_> =
-            (0..threads).map(|thread| scope.spawn({ let fabric = &fabric; move || work(fabric, thread, travellers) })).collect();
+            (0..threads.max(1)).map(|thread| scope.spawn({ let fabric = &fabric; move || work(fabric, thread, travellers, visited) })).collect();
         workers.into_iter().flat_map(|worker| worker.join().unwrap()).sum()
     });
     let rows: usize = fabric.sites.iter().map(|site| site.0.lock().unwrap().len()).sum();

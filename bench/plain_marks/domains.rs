@@ -76,14 +76,54 @@ pub struct Domain {
     pub sites: Vec<Meter>,
     pub contracts: Vec<Contract>,
     // rules stand apart from their contracts, and sources apart from the rest, since each frame looks at most of them
-    sources: Vec<Prefix>,
+    sources: Vec<Sources>,
     rests: Vec<Rest>,
+}
+
+/// How many sources are looked at together.
+const TOGETHER: usize = 16;
+
+/// The sources of neighbouring contracts.
+struct Sources {
+    masks: [u32; TOGETHER],
+    bits: [u32; TOGETHER],
+}
+
+impl Sources {
+    /// Of fewer sources than there is room for; what is left holds of no address.
+    fn of(prefixes: &[Prefix]) -> Self {
+        let mut sources = Sources { masks: [0; TOGETHER], bits: [1; TOGETHER] };
+        for (place, prefix) in prefixes.iter().enumerate() {
+            sources.masks[place] = prefix.mask;
+            sources.bits[place] = prefix.bits;
+        }
+        sources
+    }
+
+    /// A bit for each source that holds of an address.
+    fn holding(&self, address: u32) -> u32 {
+        let mut holding = 0;
+        for place in 0..TOGETHER {
+            holding |= u32::from(address & self.masks[place] == self.bits[place]) << place;
+        }
+        holding
+    }
 }
 
 impl Domain {
     /// The first contract whose rule holds of a packet.
     pub fn first_match(&self, header: &Header) -> Option<usize> {
-        (0..self.sources.len()).find(|flow| self.sources[*flow].holds(header.source) && self.rests[*flow].holds(header))
+        for (group, sources) in self.sources.iter().enumerate() {
+            let mut holding = sources.holding(header.source);
+            while holding != 0 {
+                let flow = group * TOGETHER + holding.trailing_zeros() as usize;
+                if self.rests[flow].holds(header) {
+                    return Some(flow);
+                }
+                holding &= holding - 1;
+            }
+        }
+        None
     }
 }
 
@@ -192,6 +232,7 @@ pub fn domain(text: &str, port: &str) -> Option<Domain> {
     let entries = |section| sections.get(section).map_or(&[][..], Vec::as_slice);
     let ways = Ways::new(entries("meter"), entries("link"))?;
     let sites = entries("meter").iter().map(|entry| meter(entry, "origin")).collect::<Option<_>>()?;
+    let mut sources = Vec::new();
     let mut domain = Domain { sites, contracts: Vec::new(), sources: Vec::new(), rests: Vec::new() };
     for entry in entries("contract").iter().filter(|entry| name(entry, "port") == Some(port)) {
         let mut stops = ways.stops(entry)?;
@@ -202,8 +243,9 @@ pub fn domain(text: &str, port: &str) -> Option<Domain> {
         }
         let has_peak = !is_trusted || entry.contains_key("pir");
         domain.contracts.push(Contract { class: number(entry, "class")?, has_peak, stops });
-        domain.sources.push(prefix(entry, "src")?);
+        sources.push(prefix(entry, "src")?);
         domain.rests.push(rest(entry)?);
     }
+    domain.sources = sources.chunks(TOGETHER).map(Sources::of).collect();
     Some(domain)
 }

@@ -1,0 +1,49 @@
+#!/bin/sh
+# Checks the man page and the completion for bash against the program: man has no warning of the page, and each command and each
+# option that `--help` tells stands in both.
+#
+#     docs/check.sh
+set -eu
+
+docs=$(CDPATH='' cd -- "$(dirname -- "$0")" && pwd)
+program=$docs/../crates/dsedge/out/dsedge
+page=$docs/dsedge.1
+completion=$docs/../examples/dsedge.bash
+
+if [ ! -x "$program" ]; then
+    echo "check.sh: $program is not built: ./dsedge builds it" >&2
+    exit 2
+fi
+
+# A line of the list of commands in `--help`: its name.
+commands() {
+    "$program" --help | awk '/^Commands:/ { within = 1; next } /^$/ { within = 0 } within && $1 != "help" { print $1 }'
+}
+
+# Each long and short option of a command's help.
+options() {
+    "$program" "$@" --help | grep -oE '(^|[ ,])--?[A-Za-z][a-z-]*' | tr -d ' ,' | sort -u
+}
+
+missing=0
+lacks() {
+    echo "check.sh: $1 lacks $2" >&2
+    missing=1
+}
+
+warnings=$(man --warnings -E UTF-8 -l -Tutf8 -Z "$page" 2>&1 > /dev/null)
+[ -z "$warnings" ] || lacks "$page" "what man warns of: $warnings"
+
+for command in $(commands); do
+    grep -qx "\.B $command" "$page" || lacks "$page" "$command"
+    grep -qw "$command" "$completion" || lacks "$completion" "$command"
+    for option in $(options "$command"); do
+        # the page writes a dash as \-
+        grep -qF -- "$(printf '%s' "$option" | sed 's/-/\\-/g')" "$page" || lacks "$page" "$option of $command"
+        case $option in
+            --*) grep -q -- "$option" "$completion" || lacks "$completion" "$option of $command" ;;
+        esac
+    done
+done
+[ "$missing" -eq 0 ] && echo "the man page and the completion name all commands and options"
+exit "$missing"
