@@ -2,6 +2,7 @@ pub mod ArrivalLaws
 pub mod ClosingLaws
 pub mod ConductLaws
 pub mod ConductedLaws
+pub mod GoingLaws
 pub mod JournalLaws
 pub mod ListLaws
 pub mod OpenedLaws

@@ -78,7 +78,7 @@ stage_behind g place p hop b moment = record {
 }
 
 -- what holds of all holds of the one of a place
-at_place : {X : Type 0} (P : X → Type 0) (xs : List X) (place : ℕ) (x : X) → All P xs → slice_get xs place ≡ Some x → P x
+pub at_place : {X : Type 0} (P : X → Type 0) (xs : List X) (place : ℕ) (x : X) → All P xs → slice_get xs place ≡ Some x → P x
 at_place P xs place x all there = subst P (get_or_from_slice_get xs place x x there) (all place x (slice_get_within xs place x there))
 
 stays_on_its_way : (t : Table) (g : Stage) (place : ℕ) (p : Traveller) (hop : Hop) (b : Book) (moment : ℕ) → Visits g place p hop b moment

@@ -1,5 +1,4 @@
 -- Lemmas for the proofs of this crate and of those above it.
-pub mod GoingLaws
 pub mod KnownLaws
 pub mod ListLaws
 pub mod MadeLaws

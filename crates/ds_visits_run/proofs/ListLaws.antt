@@ -8,21 +8,6 @@ use Rattle.std.proofs.lemmas.List.Sorted.{sum_by-IsPermutation}
 use Rattle.std.proofs.lemmas.List.Sums.{length-filter}
 use Rattle.std.proofs.lemmas.Option.{get_or_from_slice_get, none-some, same_Some, slice_get-get_or, slice_get_within}
 
--- ---- numbers that are told apart
-
-pub same_itself : (n : ℕ) → nat_eq n n ≡ true
-same_itself n = grind (arith, nat_tests)
-
-pub same_number : (m n : ℕ) → nat_eq m n ≡ true → m ≡ n
-same_number m n test = grind (arith, nat_tests)
-
-pub other_number : (m n : ℕ) → (m ≡ n → ⊥) → nat_eq m n ≡ false
-other_number m n other = by_test (nat_eq m n) refl
-  where
-    by_test : (b : Bool) → nat_eq m n ≡ b → b ≡ false
-    by_test true test = absurd (other (same_number m n test))
-    by_test false test = refl
-
 -- ---- what a test keeps
 
 pub keep_all : {A : Type 0} (p : A → Bool) (xs : List A) → All (λ x. p x ≡ true) xs → filter p xs ≡ xs
@@ -74,10 +59,6 @@ of_seam {A} {B} f (z ∷ zs) (x ∷ xs) y ys same = of_seam f zs xs y ys rest
   where
     rest : xs ++ y ∷ ys ≡ map f zs
     rest = cc
-
--- what holds of all holds of the one at a place
-pub at_place : {A : Type 0} (P : A → Type 0) (xs : List A) (place : ℕ) (x : A) → All P xs → slice_get xs place ≡ Some x → P x
-at_place P xs place x all there = subst P (get_or_from_slice_get xs place x x there) (all place x (slice_get_within xs place x there))
 
 -- what holds of the one at each place holds of all
 pub All-places : {A : Type 0} (P : A → Type 0) (xs : List A) → ((place : ℕ) (x : A) → slice_get xs place ≡ Some x → P x) → All P xs

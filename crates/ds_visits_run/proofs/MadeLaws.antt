@@ -2,7 +2,7 @@
 use Rattle.std.proofs.Common.{◌≡◌, ◌<◌, ◌≤◌, ◌-◌, ◌^◌, ℕ, suc, Bool, true, false, List, [], ◌∷◌, ◌++◌, append_assoc, length, length-append, map, nat_eq, Option, None, Some, refl, sym, ap, ◌∙◌, subst, arith, inl, inr}
 use Rattle.std.specs.Prelude.{◌⊎◌, ◌&&◌, ◌||◌, nat_lt, option_map, position, slice_get, unwrap_or, IsSome, Ok}
 use Rattle.std.specs.List.{All, filter}
-use Rattle.std.proofs.lemmas.Bool.{cases_eq}
+use Rattle.std.proofs.lemmas.Bool.{cases_eq, eq-eqb, ne_eqb}
 use Rattle.std.proofs.lemmas.Bool.Decides.{nat_tests}
 use Rattle.std.proofs.lemmas.List.{length-map, map_push}
 use Rattle.std.proofs.lemmas.List.Elements.{All-cons, All-head, All-nil, All-tail}
@@ -22,7 +22,7 @@ use Rattle.ds_conductor_base.specs.Steps.{Stage, book_at, numbers_of, stepped}
 use Rattle.ds_conductor_base.specs.UnderWay.{IsOnItsWay, IsUnderWay}
 use Rattle.ds_conductor_base.proofs.ListLaws.{map-set_same, set_elsewhere, set_here, some_of-some}
 use Rattle.ds_conductor_base.proofs.UnderWayLaws.{book_there, stepped_under_way, whole_under_way}
-use Rattle.ds_conductor_base.proofs.VisitLaws.{Visits, behind, book_elsewhere, book_here, coming, same_site, stage_behind}
+use Rattle.ds_conductor_base.proofs.VisitLaws.{Visits, at_place, behind, book_elsewhere, book_here, coming, same_site, stage_behind}
 use Rattle.ds_visits_base.specs.Passing.{passed_all}
 use Rattle.ds_visits_base.specs.Visits.{is_before, later, visit_to}
 use Rattle.ds_visits_base.specs.Ways.{stops_at, stops_by}
@@ -31,8 +31,8 @@ use Rattle.ds_visits_base.specs.declared.visit.Visit.{Visit}
 use Rattle.ds_visits_base.specs.declared.way.Stop.{Stop}
 use Rattle.ds_visits_run.specs.Behind.{AreSendable, arrival_told, number_at, packet_sent, visit_noted, visit_told, visits_at}
 use Rattle.ds_visits_run.specs.Making.{visit_step}
-use Rattle.ds_visits_run.proofs.GoingLaws.{no_fault, place_of, visit_goes}
-use Rattle.ds_visits_run.proofs.ListLaws.{at_place, is_there, keep_no, keep_yes, of_seam, other_number, same_itself, there_too, told_same}
+use Rattle.ds_conductor_base.proofs.GoingLaws.{no_fault, place_of, visit_goes}
+use Rattle.ds_visits_run.proofs.ListLaws.{is_there, keep_no, keep_yes, of_seam, there_too, told_same}
 use Rattle.ds_visits_run.proofs.MeetLaws.{passes, traffic_of}
 use Rattle.ds_visits_run.proofs.StopLaws.{hop_in, stops-ascend, stops_of-hops}
 use Rattle.ds_visits_run.proofs.VisitLaws.{ComesOnce, few_visits, of_place, to_site}
@@ -145,7 +145,7 @@ room_next : (t : Table) (sent : List Sent) (v : Visit) (rest : List Visit) (b : 
 room_next t sent v rest b noted few least =
     let site = v.hop.site in
     let more = filter (to_site site) rest in
-    let here = ap (λ vs. length (map (visit_noted sent) vs)) (keep_yes (to_site site) v rest (same_itself site)) in
+    let here = ap (λ vs. length (map (visit_noted sent) vs)) (keep_yes (to_site site) v rest (eq-eqb site site refl)) in
     let all = ap length noted in
     let sum = length-append (map arrival_told b.arrivals) (map (visit_noted sent) (filter (to_site site) (v ∷ rest))) in
     omega (arith, here, all, sum, few, least, length-map b.arrivals arrival_told, length-map (visits_at t sent site) (visit_noted sent))
@@ -172,7 +172,7 @@ is_next t sent g v rest made known =
     let (p, travels) = there_too sent g.travellers v.place s count was_sent in
     let same : p.packet ≡ packet_sent s = told_same (λ (p : Traveller). p.packet) packet_sent g.travellers sent v.place p s made.packets travels was_sent in
     let whole : Wholly t s p.receipts v (filter (of_place v.place) rest) =
-    ap (λ vs. map (visit_told v.place) p.receipts ++ vs) (sym (keep_yes (of_place v.place) v rest (same_itself v.place))) ∙ made.told v.place s p was_sent travels in
+    ap (λ vs. map (visit_told v.place) p.receipts ++ vs) (sym (keep_yes (of_place v.place) v rest (eq-eqb v.place v.place refl))) ∙ made.told v.place s p was_sent travels in
     let (r, stop) = stop_next t s p.receipts v (filter (of_place v.place) rest) whole in
     let (b, there) = book_next t g s p.receipts v r made.under_way (known.stand s.flow) stop in
     let timed = at_place (λ (s : Sent). s.moment < 2 ^ 63 - 2 ^ 40) sent v.place s known.sendable.timed was_sent in
@@ -248,7 +248,7 @@ module _ (t : Table) (sent : List Sent) (g : Stage) (v : Visit) (rest : List Vis
       ap (λ as_. as_ ++ more) (map_push arrival_told next.book.arrivals arriving)
       ∙ append_assoc (map arrival_told next.book.arrivals) (arrival_told arriving ∷ []) more
       ∙ ap (λ n. map arrival_told next.book.arrivals ++ (n, v.hop.number, v.moment) ∷ more) (sym number_is)
-      ∙ ap (λ vs. map arrival_told next.book.arrivals ++ map (visit_noted sent) vs) (sym (keep_yes (to_site v.hop.site) v rest (same_itself v.hop.site)))
+      ∙ ap (λ vs. map arrival_told next.book.arrivals ++ map (visit_noted sent) vs) (sym (keep_yes (to_site v.hop.site) v rest (eq-eqb v.hop.site v.hop.site refl)))
       ∙ made.noted v.hop.site next.book next.visits.book
 
   noted_behind : (site : ℕ) (b : Book) → book_at after site ≡ Some b → Noted site b
@@ -279,7 +279,7 @@ module _ (t : Table) (sent : List Sent) (g : Stage) (v : Visit) (rest : List Vis
           let is : q ≡ p = same_Some q p (sym (set_here g.travellers v.place next.traveller q next.visits.packet) ∙ ap (slice_get after.travellers) here ∙ travels) in
           subst (λ n. Told n s p) here (subst (Told v.place s) is (subst (λ r. Told v.place r q) sent_is told_here))
       by_case (inr other) =
-          ap (λ vs. map (visit_told place) p.receipts ++ vs) (sym (keep_no (of_place place) v rest (other_number v.place place other)))
+          ap (λ vs. map (visit_told place) p.receipts ++ vs) (sym (keep_no (of_place place) v rest (ne_eqb v.place place other)))
           ∙ made.told place s p was_sent
           (sym (set_elsewhere g.travellers v.place place (behind next.traveller v.hop next.book v.moment) other) ∙ travels)
 

@@ -24,6 +24,7 @@ use Rattle.ds_conductor_base.specs.declared.step.Step.{Step}
 use Rattle.ds_conductor_base.proofs.JournalLaws.{All-journals_from}
 use Rattle.ds_conductor_base.proofs.OpenedLaws.{no_arrivals, opened_book}
 use Rattle.ds_conductor_base.proofs.UnderWayLaws.{opened_under_way, run_under_way}
+use Rattle.ds_conductor_base.proofs.VisitLaws.{at_place}
 use Rattle.ds_visits_base.specs.Passing.{Carried, Traffic, colours_in, colours_of, entered, meter_at, passed_all}
 use Rattle.ds_visits_base.specs.Visits.{visit_to, visits_of}
 use Rattle.ds_visits_base.specs.Ways.{stops_at}
@@ -33,7 +34,7 @@ use Rattle.ds_visits_run.specs.Behind.{AreSendable, IsBehind, MadeItsVisits, arr
 use Rattle.ds_visits_run.specs.Laws.{TheRunIsBehind}
 use Rattle.ds_visits_run.specs.Making.{run_behind, run_or_none, visit_step}
 use Rattle.ds_visits_run.proofs.KnownLaws.{are_known, stops-long}
-use Rattle.ds_visits_run.proofs.ListLaws.{All-places, at_place, is_there, there_too}
+use Rattle.ds_visits_run.proofs.ListLaws.{All-places, is_there, there_too}
 use Rattle.ds_visits_run.proofs.MadeLaws.{AreMade, IsMade, all_made}
 use Rattle.ds_visits_run.proofs.MeetLaws.{carried_by, meter_now, traffic_of}
 use Rattle.ds_visits_run.proofs.SendLaws.{AreSent, all_sent}

@@ -2,6 +2,7 @@
 use Rattle.std.proofs.Common.{◌≡◌, ◌<◌, ℕ, suc, false, List, [], ◌∷◌, ◌++◌, append-nil, append_assoc, get_or, map, nat_eq, Option, None, Some, refl, sym, ap, ◌∙◌, arith}
 use Rattle.std.specs.Prelude.{◌||◌, option_map, AllPairs, IsSome, Ok, Result}
 use Rattle.std.specs.List.{All, list_any}
+use Rattle.std.proofs.lemmas.Bool.{ne_eqb}
 use Rattle.std.proofs.lemmas.List.{map_push}
 use Rattle.std.proofs.lemmas.List.Elements.{All-head, All-push, All-tail}
 use Rattle.ds_domain_base.specs.declared.contract.Contract.{Contract}
@@ -21,7 +22,6 @@ use Rattle.ds_visits_base.specs.Passing.{Carried, came_by, came_in}
 use Rattle.ds_visits_base.specs.declared.sent.Sent.{Sent}
 use Rattle.ds_visits_run.specs.Behind.{packet_sent}
 use Rattle.ds_visits_run.specs.Making.{send_step}
-use Rattle.ds_visits_run.proofs.ListLaws.{other_number}
 use Rattle.ds_visits_run.proofs.MeetLaws.{carried_by}
 
 -- no number is as great as one above all
@@ -29,7 +29,7 @@ none_above : (number : ℕ) (ts : List Traveller) → All (λ p. p.packet.number
 none_above number [] below = refl
 none_above number (p ∷ ts) below =
     let first = All-head (λ (p : Traveller). p.packet.number < number) p ts below in
-    ap (λ b. b || list_any (nat_eq number) (numbers_of ts)) (other_number number p.packet.number (λ same. omega (arith, first, same)))
+    ap (λ b. b || list_any (nat_eq number) (numbers_of ts)) (ne_eqb number p.packet.number (λ same. omega (arith, first, same)))
     ∙ none_above number ts (All-tail (λ (p : Traveller). p.packet.number < number) p ts below)
 
 found : {A : Type 0} (o : Option A) → IsSome o → (x : A) × (o ≡ Some x)

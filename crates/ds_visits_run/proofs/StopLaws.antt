@@ -3,7 +3,7 @@ use Rattle.std.proofs.Common.{◌≡◌, ◌<◌, ◌≤◌, ◌+◌, ◌-◌, �
 use Rattle.std.specs.Prelude.{◌&&◌, ◌||◌, nat_eq, nat_lt, option_and_then, slice_get, IsSome}
 use Rattle.std.specs.List.{All, filter, list_any}
 use Rattle.std.specs.Str.{bytes_eq}
-use Rattle.std.proofs.lemmas.Bool.{false≢true}
+use Rattle.std.proofs.lemmas.Bool.{eqb-true, false≢true, ne_eqb}
 use Rattle.std.proofs.lemmas.Bool.Decides.{nat_tests}
 use Rattle.std.proofs.lemmas.List.Elements.{All-cons, All-head, All-map, All-nil, All-tail, All-weaker}
 use Rattle.std.proofs.lemmas.Option.{same_Some, slice_get_within}
@@ -27,7 +27,7 @@ use Rattle.ds_visits_base.specs.Visits.{is_before, later, visit_to}
 use Rattle.ds_visits_base.specs.Ways.{delay_over, edge_stops, stops_along, stops_by, stops_of}
 use Rattle.ds_visits_base.specs.declared.sent.Sent.{Sent}
 use Rattle.ds_visits_base.specs.declared.way.Stop.{Stop}
-use Rattle.ds_visits_run.proofs.ListLaws.{keep_no, keep_none, keep_yes, other_number, same_number}
+use Rattle.ds_visits_run.proofs.ListLaws.{keep_no, keep_none, keep_yes}
 
 -- ---- their hops
 
@@ -179,7 +179,7 @@ module _ (d : Domain) (site : ℕ) where
       let first : Stop = record { hop = record { number = number; site = site_of d to }; delay = delay_over d from to delay } in
       let both = neither (bytes_eq name to) (list_any (bytes_eq name) path) none in
       All-cons (λ r. at_site site r ≡ false) first (stops_along d (suc number) to (delay_over d from to delay) path)
-      (other_number (site_of d to) site (λ same. false≢true (sym both.0 ∙ one_name d name to known (All-head (IsMeter d) to path all) (is ∙ sym same))))
+      (ne_eqb (site_of d to) site (λ same. false≢true (sym both.0 ∙ one_name d name to known (All-head (IsMeter d) to path all) (is ∙ sym same))))
       (none_along name (suc number) to (delay_over d from to delay) path known is (All-tail (IsMeter d) to path all) both.1)
 
   once_along : (number : ℕ) (from : List ℕ) (delay : ℕ) (path : List (List ℕ)) → All (IsMeter d) path → repeats path ≡ false
@@ -202,7 +202,7 @@ module _ (d : Domain) (site : ℕ) where
       by_test : (b : Bool) → nat_eq (site_of d to) site ≡ b → length (filter (at_site site) rest) ≤ 1 → length (filter (at_site site) (first ∷ rest)) ≤ 1
       by_test true here onward =
           let none = keep_none (at_site site) rest
-          (none_along to (suc number) to (delay_over d from to delay) path (All-head (IsMeter d) to path all) (same_number (site_of d to) site here) (All-tail (IsMeter d) to path all) both.0) in
+          (none_along to (suc number) to (delay_over d from to delay) path (All-head (IsMeter d) to path all) (eqb-true (site_of d to) site here) (All-tail (IsMeter d) to path all) both.0) in
           rw (keep_yes (at_site site) first rest here, none) (omega arith)
       by_test false other onward = rw (keep_no (at_site site) first rest other) onward
 
@@ -216,7 +216,7 @@ module _ (d : Domain) (site : ℕ) where
       let (entry, at_place, passes) = found_at d to (All-head (IsMeter d) to path all) in
       let low = slice_get_within d.meters (site_of d to) entry at_place in
       All-cons (λ r. at_site site r ≡ false) first (stops_along d (suc number) to (delay_over d from to delay) path)
-      (other_number (site_of d to) site (λ same. omega (arith, low, behind, same)))
+      (ne_eqb (site_of d to) site (λ same. omega (arith, low, behind, same)))
       (low_along (suc number) to (delay_over d from to delay) path (All-tail (IsMeter d) to path all) behind)
 
   pub stops-once : (flow : ℕ) (c : Contract) → All (IsMeter d) c.path → repeats c.path ≡ false → length (filter (at_site site) (stops_of d flow c)) ≤ 1
@@ -234,7 +234,7 @@ module _ (d : Domain) (site : ℕ) where
 
           by_test : (b : Bool) → nat_eq (length d.meters + flow) site ≡ b → length (filter (at_site site) (edge ∷ stops_along d 1 c.port 0 c.path)) ≤ 1
           by_test true here =
-              let same = same_number (length d.meters + flow) site here in
+              let same = eqb-true (length d.meters + flow) site here in
               let none = keep_none (at_site site) (stops_along d 1 c.port 0 c.path) (low_along 1 c.port 0 c.path all (omega (arith, same))) in
               rw (keep_yes (at_site site) edge (stops_along d 1 c.port 0 c.path) here, none) (omega arith)
           by_test false other = rw (keep_no (at_site site) edge (stops_along d 1 c.port 0 c.path) other) (once_along 1 c.port 0 c.path all once)

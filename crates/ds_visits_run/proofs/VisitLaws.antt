@@ -1,7 +1,8 @@
 -- The visits of a packet, and those to a site, among all visits.
-use Rattle.std.proofs.Common.{◌≡◌, ◌<◌, ◌≤◌, ◌+◌, ℕ, zero, suc, Bool, true, false, List, [], ◌∷◌, ◌++◌, append-nil, length, length-append, map, sym, ap, ◌∙◌, subst, arith}
+use Rattle.std.proofs.Common.{◌≡◌, ◌<◌, ◌≤◌, ◌+◌, ℕ, zero, suc, Bool, true, false, List, [], ◌∷◌, ◌++◌, append-nil, length, length-append, map, refl, sym, ap, ◌∙◌, subst, arith}
 use Rattle.std.specs.Prelude.{Contains, nat_eq, slice_get, Some}
 use Rattle.std.specs.List.{All, filter}
+use Rattle.std.proofs.lemmas.Bool.{eq-eqb, ne_eqb}
 use Rattle.std.proofs.lemmas.List.{length-map}
 use Rattle.std.proofs.lemmas.List.Elements.{All-weaker, filter-append}
 use Rattle.std.proofs.lemmas.List.Sorted.{All-permutation, Contains-permutation, IsPermutation-sym}
@@ -20,7 +21,7 @@ use Rattle.ds_visits_base.specs.Ways.{stops_at}
 use Rattle.ds_visits_base.specs.declared.sent.Sent.{Sent}
 use Rattle.ds_visits_base.specs.declared.visit.Visit.{Visit}
 use Rattle.ds_visits_run.specs.Behind.{visits_at}
-use Rattle.ds_visits_run.proofs.ListLaws.{keep_all, keep_map, keep_moved, keep_none, other_number, same_itself}
+use Rattle.ds_visits_run.proofs.ListLaws.{keep_all, keep_map, keep_moved, keep_none}
 use Rattle.ds_visits_run.proofs.StopLaws.{at_site, stops-ascend}
 
 -- whether a visit is of the packet of a place, and whether it is to a site
@@ -44,10 +45,10 @@ own_visits t first (r ∷ sent) zero s there =
     subst (λ n. filter (of_place n) (own ++ rest) ≡ map (visit_to n s) (stops_at t s.flow)) place
     (filter-append (of_place first) own rest
     ∙ ap (λ vs. vs ++ filter (of_place first) rest)
-    (keep_all (of_place first) own (visits_to-all (λ v. of_place first v ≡ true) first r (stops_at t r.flow) (λ q. same_itself first)))
+    (keep_all (of_place first) own (visits_to-all (λ v. of_place first v ≡ true) first r (stops_at t r.flow) (λ q. eq-eqb first first refl)))
     ∙ ap (λ vs. own ++ vs)
     (keep_none (of_place first) rest
-    (All-weaker (λ v. suc first ≤ v.place) (λ v. of_place first v ≡ false) (λ v behind. other_number v.place first (λ at. omega (arith, at, behind))) rest
+    (All-weaker (λ v. suc first ≤ v.place) (λ v. of_place first v ≡ false) (λ v behind. ne_eqb v.place first (λ at. omega (arith, at, behind))) rest
     (visits_from-behind t (suc first) (suc first) sent (omega arith))))
     ∙ append-nil own
     ∙ ap (λ (q : Sent). map (visit_to first q) (stops_at t q.flow)) same)
@@ -59,7 +60,7 @@ own_visits t first (r ∷ sent) (suc k) s there =
     (filter-append (of_place (suc first + k)) own rest
     ∙ ap (λ vs. vs ++ filter (of_place (suc first + k)) rest)
     (keep_none (of_place (suc first + k)) own
-    (visits_to-all (λ v. of_place (suc first + k) v ≡ false) first r (stops_at t r.flow) (λ q. other_number first (suc first + k) (λ at. omega (arith, at)))))
+    (visits_to-all (λ v. of_place (suc first + k) v ≡ false) first r (stops_at t r.flow) (λ q. ne_eqb first (suc first + k) (λ at. omega (arith, at)))))
     ∙ own_visits t (suc first) sent k s there)
 
 -- among all visits they stand in the order of the packet's stops

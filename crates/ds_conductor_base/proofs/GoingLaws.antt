@@ -2,6 +2,7 @@
 use Rattle.std.proofs.Common.{◌≡◌, ◌<◌, ◌≤◌, ◌+◌, ◌-◌, ℕ, zero, suc, true, false, cond, List, [], ◌∷◌, length, map, min, nat_eq, None, Some, refl, sym, ap, ◌∙◌, subst, arith}
 use Rattle.std.specs.Prelude.{nat_lt, not, option_map, position, slice_get, AllPairs, Ok, Err, if◌then◌else◌}
 use Rattle.std.specs.List.{position_or_len}
+use Rattle.std.proofs.lemmas.Bool.{eq-eqb, ne_eqb}
 use Rattle.std.proofs.lemmas.Bool.Decides.{nat_tests}
 use Rattle.std.proofs.lemmas.List.{length-map}
 use Rattle.std.proofs.lemmas.Option.{none-some, same_Some, slice_get_within, get_or_from_slice_get}
@@ -13,7 +14,6 @@ use Rattle.meter_fabric_base.specs.declared.hop.Hop.{Hop}
 use Rattle.ds_conductor_base.specs.Steps.{Stage, as_step, numbers_of, put_back, stepped, visit_there, visited_at, visited_by, visited_from, with_books}
 use Rattle.ds_conductor_base.specs.declared.step.Step.TheVariants.{Visit}
 use Rattle.ds_conductor_base.proofs.VisitLaws.{Visits, coming, stage_behind}
-use Rattle.ds_visits_run.proofs.ListLaws.{other_number, same_itself}
 
 -- ---- the place of a number
 
@@ -21,13 +21,13 @@ place_or_len : {A : Type 0} (key : A → ℕ) (xs : List A) (i : ℕ) (x : A) �
     → position_or_len (nat_eq (key x)) (map key xs) ≡ i
 place_or_len key [] i x there apart = absurd (none-some x there)
 place_or_len key (y ∷ xs) zero x there apart =
-    let test : nat_eq (key x) (key y) ≡ true = subst (λ z. nat_eq (key x) (key z) ≡ true) (sym (same_Some y x there)) (same_itself (key x)) in
+    let test : nat_eq (key x) (key y) ≡ true = subst (λ z. nat_eq (key x) (key z) ≡ true) (sym (same_Some y x there)) (eq-eqb (key x) (key x) refl) in
     ap (λ b. cond (not b) (1 + position_or_len (nat_eq (key x)) (map key xs)) 0) test
 place_or_len {A} key (y ∷ xs) (suc i) x there apart =
     let is_x = get_or_from_slice_get xs i x x there in
     let differs : ¬ (key x ≡ key y) = λ same. apart 0 (suc i) x (omega arith) (omega (arith, slice_get_within xs i x there)) (sym same ∙ ap key (sym is_x)) in
     let onward = place_or_len key xs i x there (λ m n d below short. apart (suc m) (suc n) d (omega (arith, below)) (omega (arith, short))) in
-    ap (λ b. cond (not b) (1 + position_or_len (nat_eq (key x)) (map key xs)) 0) (other_number (key x) (key y) differs)
+    ap (λ b. cond (not b) (1 + position_or_len (nat_eq (key x)) (map key xs)) 0) (ne_eqb (key x) (key y) differs)
     ∙ ap (λ n. 1 + n) onward ∙ omega arith
 
 pub place_of : {A : Type 0} (key : A → ℕ) (xs : List A) (i : ℕ) (x : A) → slice_get xs i ≡ Some x → AllPairs (λ y z. ¬ (key y ≡ key z)) xs
