@@ -1,5 +1,6 @@
 -- What a capture becomes whose frames are marked.
 pub mod Faults
+pub mod Laws
 pub mod Markings
 pub mod Readings
 pub mod Reports
