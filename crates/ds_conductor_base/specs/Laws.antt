@@ -16,7 +16,8 @@ use Rattle.ds_conductor_base.specs.declared.fault.StepFault.{StepFault}
 use Rattle.ds_conductor_base.specs.declared.step.Step.{Step}
 use Rattle.ds_conductor_base.specs.declared.step.Step.TheVariants.{Send, Visit}
 
--- What opens is under way, however many rows books take, each step that is made keeps it so, and what is under way is a run.
+-- What opens is under way, however many rows books take, each step that is made keeps it so, and what is under way is a
+-- run.
 abbrev pub StepsKeepOnTheWay : Type 0
 StepsKeepOnTheWay =
     ((capacity : ℕ) (t : Table) → IsUnderWay t (opened_with capacity t))

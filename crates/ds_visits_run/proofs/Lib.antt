@@ -1,4 +1,5 @@
 -- Lemmas for the proofs of this crate and of those above it.
+pub mod ExampleLaws
 pub mod KnownLaws
 pub mod ListLaws
 pub mod MadeLaws

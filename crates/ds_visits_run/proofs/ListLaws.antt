@@ -1,12 +1,11 @@
 -- What a test keeps of a list, and elements at their places.
-use Rattle.std.proofs.Common.{◌≡◌, ◌<◌, ◌-◌, ℕ, zero, suc, Bool, true, false, cond, List, [], ◌∷◌, ◌++◌, length, length-append, get_or, map, Some, refl, sym, ap, ◌∙◌, subst, arith}
-use Rattle.std.specs.Prelude.{IsPermutation, nat_eq, slice_get}
+use Rattle.std.proofs.Common.{◌≡◌, ◌<◌, ◌-◌, ℕ, zero, suc, Bool, true, false, cond, List, [], ◌∷◌, ◌++◌, length, length-append, get_or, map, Some, refl, sym, ap, ◌∙◌, arith}
+use Rattle.std.specs.Prelude.{IsPermutation, slice_get}
 use Rattle.std.specs.List.{All, filter}
-use Rattle.std.proofs.lemmas.Bool.Decides.{nat_tests}
 use Rattle.std.proofs.lemmas.List.Elements.{All-head, All-tail}
 use Rattle.std.proofs.lemmas.List.Sorted.{sum_by-IsPermutation}
 use Rattle.std.proofs.lemmas.List.Sums.{length-filter}
-use Rattle.std.proofs.lemmas.Option.{get_or_from_slice_get, none-some, same_Some, slice_get-get_or, slice_get_within}
+use Rattle.std.proofs.lemmas.Option.{none-some, same_Some, slice_get-get_or}
 
 -- ---- what a test keeps
 

@@ -16,7 +16,8 @@ use Rattle.ds_visits_run.specs.Making.{run_behind}
 
 -- Where a table is acceptable, the run that is made of packets that can be sent is behind them.
 abbrev pub TheRunIsBehind : Type 0
-TheRunIsBehind = (t : Table) (sent : List Sent) → IsAcceptable t → AreSendable t sent → IsBehind t sent (run_behind t sent)
+TheRunIsBehind = (t : Table) (sent : List Sent)
+    → IsAcceptable t → AreSendable t sent → IsBehind t sent (run_behind t sent)
 
 -- Each packet is marked with the colour that it was sent with: what is policed with the colour that its edge gave, and
 -- what is trusted with the one that its code point shows.

@@ -1,3 +1,4 @@
 pub mod Behind
+pub mod Example
 pub mod Laws
 pub mod Making

@@ -1,4 +1,5 @@
 //! The run behind packets that are sent, proved as the contracts of functions that do nothing.
+ghost use Rattle.ds_visits_run.specs.Example.{SmallPacketIsMarked};
 ghost use Rattle.ds_visits_run.specs.Laws.{KeptMarksAreSentColours, TheRunIsBehind};
 
 /// Where a table is acceptable and packets can be sent, there is a run behind them: its packets are those that are
@@ -12,4 +13,10 @@ pub fn the_run_is_behind()
 /// what is trusted with the one that its code point shows, what is policed with the one that its edge gave.
 pub fn kept_marks_are_sent_colours()
     ensures { KeptMarksAreSentColours }
+{}
+
+/// What is asked can be met: in the least domain a packet of 100 bytes is sent; the run behind it is that of the
+/// example, the verdict is `Kept`, and the packet is marked green.
+pub fn a_small_packet_is_marked()
+    ensures { SmallPacketIsMarked }
 {}
