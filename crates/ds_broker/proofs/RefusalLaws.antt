@@ -1,6 +1,6 @@
 -- What stands against a command, test by test.
 use Rattle.std.proofs.Common.{◌≡◌, ◌≤◌, ℕ, Bool, true, false, Option, None, Some, Result, Ok, Err, refl, sym, ap, ◌∙◌, arith}
-use Rattle.std.specs.Prelude.{MatchResult, nat_lt, if◌then◌else◌}
+use Rattle.std.specs.Prelude.{MatchResult, is_none, nat_lt, if◌then◌else◌}
 use Rattle.std.specs.Result.{result_err}
 use Rattle.ds_domain_base.specs.Faults.{fault_at}
 use Rattle.ds_domain_base.specs.Fitting.{way_fault}
@@ -10,7 +10,9 @@ use Rattle.ds_domain_base.specs.declared.fault.DomainFault.{DomainFault}
 use Rattle.ds_domain_base.specs.declared.fault.Kind.TheVariants as kinds
 use Rattle.ds_domain_base.specs.declared.fault.Section.TheVariants as sections
 use Rattle.ds_domain_base.specs.declared.fault.Field.TheVariants as fields
-use Rattle.ds_broker.specs.Books.{Book, held_of, is_held, is_history_full, is_table_full, moment_in}
+use Rattle.ds_certificate.specs.Bounds.{fits}
+use Rattle.ds_checker.specs.Acceptance.{Table}
+use Rattle.ds_broker.specs.Books.{Book, held_of, is_held, is_history_full, is_table_full, moment_in, table_of}
 use Rattle.ds_broker.specs.Found.{IsFound}
 use Rattle.ds_broker.specs.Refusals.{contract_fault, ends_early, fault_or, free_from, release_refusal, release_refusal_at, retire_refusal, retire_refusal_at, room_refusal}
 use Rattle.ds_broker.specs.declared.refusal.BrokerRefusal.TheVariants.{HistoryFull, TableFull}
@@ -68,6 +70,10 @@ ordered since None is = λ last some. absurd (none-last last some)
     none-last : (last : ℕ) → None ≡ Some last → ⊥
     none-last last some = cc
 ordered since (Some end) is = λ last some. let same : end ≡ last = cc in omega (arith, above since end is, same)
+
+-- a contract against which nothing stands fits the domain
+pub fitting : (b : Book) (c : Contract) (t : Table) → room_refusal b c ≡ None → t ≡ table_of b → fits t.domain c ≡ true
+fitting b c t none is = ap (λ (x : Table). fits x.domain c) is ∙ ap is_none (passed b c none).way
 
 -- what is held under an id is released, or retired, where each test is passed
 pub release-passed : (b : Book) (id place : ℕ) (released : Bool) → IsFound id (held_of b) place released → released ≡ false → is_history_full b ≡ false → release_refusal b id ≡ None

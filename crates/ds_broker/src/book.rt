@@ -1,8 +1,9 @@
 ghost use Rattle.std.specs.Prelude.{◌≡◌, ◌⊎◌, ◌≤◌, ◌+◌, ◌-◌, [], ℕ, List, None, Some, IfErr, IfOk, IfSome};
 ghost use Rattle.std.specs.Prelude.{OnErr, OnOk, length};
-ghost use Rattle.std.specs.Prelude.{◌<◌, IfNone, option_map, slice_get, unwrap_or, vec_capacity, vec_len};
+ghost use Rattle.std.specs.Prelude.{◌<◌, IfNone, IsTrue, option_map, slice_get, unwrap_or, vec_capacity, vec_len};
 ghost use Rattle.std.specs.Bool.{OnFalse};
 ghost use Rattle.std.specs.List.{list_any};
+ghost use Rattle.ds_certificate.specs.Bounds.{fits};
 ghost use Rattle.ds_checker.specs.Acceptance.{IsAcceptable, refusal_of};
 ghost use Rattle.ds_domain_base.specs.Faults.{fault_at};
 ghost use Rattle.ds_domain_base.specs.Lifetimes.{IsInOrder};
@@ -21,7 +22,7 @@ use crate::command::Command;
 use crate::entry::{Entry, Grant, Room, Serial};
 use crate::limits::Limits;
 use crate::refusal::BrokerRefusal;
-use ds_certificate::{Certificate, bounds_of};
+use ds_certificate::Certificate;
 use ds_checker::{Accepted, Candidate, check};
 use ds_domain_base::{Contract, Domain, DomainFault, Field, Kind, Lifetime, Name, Section, fits};
 use moment_core::Moment;
@@ -479,7 +480,8 @@ fn admit(
     contract: &Contract,
     since: Moment,
 ) -> Result<(), BrokerRefusal>
-    requires { IsInOrder since contract.now.lifetime.until }
+    requires fit { IsTrue (fits table.old.domain contract.now) }
+    requires order { IsInOrder since contract.now.lifetime.until }
     ensures admitted { OnOk result (table.new ≡ table_with since contract.now table.old) }
     ensures acceptable { OnOk result (IsAcceptable table.new) }
     ensures unrefused { OnOk result (refusal_of (table_with since contract.now table.old) ≡ None) }
@@ -490,13 +492,8 @@ fn admit(
     let Ok(begun) = begun(alloc, contract, since) else {
         return Err(BrokerRefusal::NoMemory);
     };
-    let Ok(bounds) = bounds_of(alloc, table.domain(), &begun) else {
-        return Err(BrokerRefusal::NoMemory);
-    };
-    let refused = match table.admit(begun, bounds) {
-        Ok(()) => return Ok(()),
-        Err(refused) => refused,
-    };
-    let (_contract, _bounds, refusal) = refused;
-    Err(BrokerRefusal::from(refusal))
+    match table.admit_least(alloc, begun) {
+        Ok(()) => Ok(()),
+        Err((_contract, refusal)) => Err(BrokerRefusal::from(refusal)),
+    }
 }

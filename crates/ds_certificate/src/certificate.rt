@@ -2,30 +2,35 @@ ghost use Rattle.std.specs.Prelude.{◌≡◌, ◌<◌, ◌∷◌, [], ◌++◌,
 ghost use Rattle.std.specs.List.{remove, slice_index_or};
 
 use crate::bound::Bound;
-use std::alloc::{AllocError, Global};
+use std::alloc::{AllocError, AllocFailed, Global};
 use std::marker::Model;
+use std::sync::Arc;
 
-/// The bounds of a contract: one for each hop from 0, where its traffic enters, to its last meter.
+/// The bounds of a contract: one for each hop from 0, where its traffic enters, to its last meter. Their copies share
+/// them.
 #[derive(Debug, Drop)]
 pub struct Bounds {
-    hops: Vec<Bound>,
+    hops: Arc<Vec<Bound>, Global>,
 }
 
 impl Model for Bounds {
+    ghost use Rattle.std.specs.Arc.{arc_value};
     ghost use Rattle.std.specs.Prelude.{List};
     ghost use Rattle.ds_certificate.specs.Columns as columns;
 
     ghost Value = { List columns.Bound };
 
-    ghost view = { λ b. b.hops.items };
+    ghost view = { λ b. (arc_value b.hops).items };
 }
 
 impl Bounds {
-    /// These bounds, from hop 0 on.
-    pub fn new(hops: Vec<Bound>) -> Self
-        ensures { result ≡ hops.items }
+    /// These bounds, from hop 0 on; where memory runs out it hands them back.
+    pub fn new(alloc: Global, hops: Vec<Bound>) -> Result<Self, AllocFailed<Vec<Bound>>>
+        ensures made { IfOk result (λ bounds. bounds ≡ hops.items) }
+        ensures back { IfErr result (λ failed. failed.value ≡ hops) }
     {
-        Bounds { hops }
+        let hops = Arc::new(alloc, hops)?;
+        Ok(Bounds { hops })
     }
 
     /// The bounds, from hop 0 on.
@@ -35,19 +40,15 @@ impl Bounds {
         self.hops.as_slice()
     }
 
-    /// The list of the bounds, from hop 0 on.
-    pub fn into_hops(self) -> Vec<Bound>
-        ensures { result.items ≡ self }
-    {
-        self.hops
-    }
-
-    /// The same bounds again; `AllocError` where memory runs out.
+    /// The same bounds again, over the same in memory, as long as they can have one owner more; `AllocError` where
+    /// memory runs out.
     pub fn copy(&self, alloc: Global) -> Result<Bounds, AllocError>
         ensures { IfOk result (λ bounds. bounds ≡ self.now) }
     {
-        let hops = self.hops.as_slice().to_vec(alloc)?;
-        Ok(Bounds { hops })
+        match Arc::try_clone(&self.hops) {
+            Ok(hops) => Ok(Bounds { hops }),
+            Err(_) => Ok(Bounds::new(alloc, self.hops().to_vec(alloc)?)?),
+        }
     }
 }
 
@@ -80,15 +81,22 @@ impl Certificate {
     {
         self.bounds.as_slice()
     }
+
     /// Takes up the bounds of one contract more, behind the others; where memory runs out it hands them back, and is as
     /// it was.
-    pub fn push(&mut self, bounds: Bounds) -> Result<(), Bounds>
-        ensures pushed { OnOk result (self.new ≡ self.old ++ bounds ∷ []) }
+    pub fn push(&mut self, hops: Vec<Bound>) -> Result<(), Vec<Bound>>
+        ensures pushed { OnOk result (self.new ≡ self.old ++ hops.items ∷ []) }
         ensures unchanged { OnErr result (self.new ≡ self.old) }
-        ensures back { IfErr result (λ back. back ≡ bounds) }
+        ensures back { IfErr result (λ back. back ≡ hops) }
     {
-        match self.bounds.push(bounds) {
-            Ok(()) => Ok(()),
+        if self.bounds.reserve(1).is_err() {
+            return Err(hops);
+        }
+        match Bounds::new(*self.bounds.allocator(), hops) {
+            Ok(bounds) => {
+                self.bounds.push(bounds).unwrap();
+                Ok(())
+            }
             Err(failed) => Err(failed.value),
         }
     }

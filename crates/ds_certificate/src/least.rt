@@ -38,7 +38,7 @@ pub fn make(
     let mut bounds = Vec::with_capacity(alloc, contracts.len())?;
     for contract in contracts {
         let hops = bounds_of(alloc, domain, contract)?;
-        bounds.push(Bounds::new(hops))?;
+        bounds.push(Bounds::new(alloc, hops)?)?;
     }
     Ok(Certificate::new(bounds))
 }
@@ -76,8 +76,8 @@ pub fn is_fit(domain: &Domain, contract: &Contract) -> bool
     fits(domain, contract).is_ok()
 }
 
-/// The least bounds of a contract that fits a domain.
-fn least_bounds(
+/// The least bounds of a contract that fits a domain, as `bounds_of` gives them; `AllocError` where memory runs out.
+pub fn least_bounds(
     alloc: Global,
     domain: &Domain,
     contract: &Contract,

@@ -115,7 +115,7 @@ fn bounds_in<'a>(
         }
         rest = later;
     }
-    Ok((Bounds::new(hops), rest))
+    Ok((Bounds::new(alloc, hops)?, rest))
 }
 
 /// The bound that a line says, where it is that of a name at a hop.

@@ -14,7 +14,7 @@ use Rattle.ds_certificate.specs.Bounds.{Grows, HasShape, IsCertificate, MeetsIn,
 use Rattle.ds_certificate.specs.Columns.{Bound}
 use Rattle.ds_certificate.specs.Sources.{jitters_of, source_of}
 use Rattle.ds_certificate.specs.declared.source.Source.{Source}
-use Rattle.ds_checker.specs.Acceptance.{Carries, IsAcceptable, Table, refusal_behind, refusal_of}
+use Rattle.ds_checker.specs.Acceptance.{Carries, IsAcceptable, Table, bounds_refusal_behind, bounds_refusal_of, refusal_behind, refusal_of}
 use Rattle.ds_checker.specs.BoundTests.{bound_tests, first_test, hop_test, hop_tests, misfit, tests_along}
 use Rattle.ds_checker.specs.Loads.{Share, shares_at}
 use Rattle.ds_checker.specs.TableTests.{meter_tests, table_tests}
@@ -109,7 +109,7 @@ meets number s jitters (first ∷ bounds) is column =
     let both = each_passes each_column test (hop_tests number 1 s jitters first bounds) is in
     (in_column (λ k. IsPassed (test k)) both.0 column, grows number 1 s jitters first bounds both.1 column)
 
-met_by : (number : ℕ) (s : Source) (jitters : List ℕ) (bounds : List Bound) → ((column : Column) → MeetsIn column s jitters bounds)
+pub met_by : (number : ℕ) (s : Source) (jitters : List ℕ) (bounds : List Bound) → ((column : Column) → MeetsIn column s jitters bounds)
     → first_failed (tests_along number s jitters bounds) ≡ None
 met_by number s jitters [] met = none_nil
 met_by number s jitters (first ∷ bounds) met =
@@ -233,3 +233,8 @@ unrefused t met =
     ap (refusal_behind t) (fitting 0 t.domain t.contracts t.certificate met.0)
     ∙ together (bound_tests 0 t.domain t.contracts t.certificate) (table_tests t.domain t.contracts t.certificate t.domain.meters)
     (bounded 0 t.domain t.contracts t.certificate met.0) (all_carried t.domain t.contracts t.certificate t.domain.meters met.1)
+
+-- and nothing against its shape and its bounds
+pub bounds_stand : (t : Table) → IsAcceptable t → bounds_refusal_of t ≡ None
+bounds_stand t met =
+    ap (bounds_refusal_behind t) (fitting 0 t.domain t.contracts t.certificate met.0) ∙ bounded 0 t.domain t.contracts t.certificate met.0

@@ -1,6 +1,6 @@
 -- A table with one contract more, and one with one fewer.
 use Rattle.std.proofs.Common.{arith, ◌≡◌, ℕ, zero, suc, ◌+◌, ◌*◌, ◌^◌, ◌≤◌, ◌<◌, Bool, true, false, nat_eq, ◌&&◌, List, [], ◌∷◌, ◌++◌, length, map, append-nil, drop, filter, take, is_some, option_to_list, slice_get, get_or, if◌then◌else◌, Option, None, Some, option_map, refl, sym, ap, subst, ◌∙◌}
-use Rattle.std.specs.Prelude.{All}
+use Rattle.std.specs.Prelude.{All, IsTrue}
 use Rattle.std.specs.List.{AllByRecursion, fold, list_any, remove}
 use Rattle.std.specs.Str.{bytes_eq}
 use Rattle.std.specs.Map.{keys_of}
@@ -18,7 +18,9 @@ use Rattle.moment_core.specs.declared.column.Column.TheVariants as columns
 use Rattle.ds_domain_base.specs.Domains.{Domain}
 use Rattle.ds_domain_base.specs.declared.contract.Contract.{Contract}
 use Rattle.ds_domain_base.specs.declared.parts.Meter.{Meter}
-use Rattle.ds_certificate.specs.Bounds.{HasShape, IsCertificate, fits}
+use Rattle.ds_certificate.specs.Bounds.{HasShape, IsCertificate, Meets, MeetsIn, fits, least_of}
+use Rattle.ds_certificate.proofs.ColumnLaws.{in_column}
+use Rattle.ds_certificate.proofs.LeastLaws.{HasShape-least, Meets-least}
 use Rattle.ds_certificate.specs.Columns.{Bound}
 use Rattle.ds_certificate.specs.Sources.{jitters_of, source_of}
 use Rattle.ds_checker.specs.Acceptance.{Carries, IsAcceptable, IsWithin, Table, refusal_behind, refusal_of}
@@ -32,7 +34,7 @@ use Rattle.ds_checker.specs.Tests.{first_failed}
 use Rattle.ds_checker.specs.declared.load.Loads.{Loads}
 use Rattle.ds_checker.specs.declared.refusal.Refusal.{Refusal}
 use Rattle.ds_checker.specs.declared.refusal.Refusal.TheVariants.{Shape}
-use Rattle.ds_checker.proofs.AcceptanceLaws.{acceptable, all_carried, bounded, carried, has_shape, is_shaped, misfit-shaped, misfit-unshaped}
+use Rattle.ds_checker.proofs.AcceptanceLaws.{acceptable, all_carried, bounded, carried, has_shape, is_shaped, met_by, misfit-shaped, misfit-unshaped}
 use Rattle.ds_checker.proofs.BoundLaws.{first_failed-append, found}
 use Rattle.ds_checker.proofs.PlaceLaws.{same_loads}
 use Rattle.ds_checker.proofs.LoadLaws.{AreBelow-more, bound_into-absent, counted_is, green_is, places_kept, same_curve, sums_tests-are, with_share-below, written}
@@ -416,6 +418,13 @@ shape_at d (own ∷ contracts) (row ∷ rows) (suc i) c bounds met inside = shap
 abbrev pub table : Domain → List Contract → List (List Bound) → Table
 table d contracts rows = record { domain = d; contracts = contracts; certificate = rows }
 
+-- a table whose domain is read from where it is shared
+pub sound-of : (d own : Domain) (contracts : List Contract) (rows : List (List Bound)) (sums : List Loads) → d ≡ own → IsSound (table own contracts rows) sums → IsSound (table d contracts rows) sums
+sound-of d own contracts rows sums is sound = subst (λ (x : Domain). IsSound (table x contracts rows) sums) (sym is) sound
+
+pub self-of : (d own : Domain) (contracts : List Contract) (rows : List (List Bound)) (self : Table) → d ≡ own → table own contracts rows ≡ self → table d contracts rows ≡ self
+self-of d own contracts rows self is is_self = ap (λ (x : Domain). table x contracts rows) is ∙ is_self
+
 pub refused-unshaped : (d : Domain) (contracts : List Contract) (rows : List (List Bound)) (sums : List Loads) (self : Table) (c : Contract) (bounds : List Bound) (number : ℕ) (answer : Bool)
     → IsSound (table d contracts rows) sums → table d contracts rows ≡ self → number ≡ length contracts
     → answer ≡ (fits d c && nat_eq (length bounds) (suc (length c.path))) → answer ≡ false → Some (Shape number) ≡ refusal_of (with_contract self c bounds)
@@ -437,6 +446,19 @@ refused-shaped d contracts rows sums own self c bounds hops number answer refusa
     ∙ ap (λ list. first_failed (sums_tests d.meters (with_brought (λ name. share_of d name c bounds) (keys_of d.meters) list))) is_own)
     ∙ sym (refused-behind (table d contracts rows) c bounds sums number sound.acceptable sound.kept.sums is_number (sym is_answer ∙ holds))
     ∙ ap (λ t. refusal_of (with_contract t c bounds)) is_self
+
+-- the least bounds of a contract that fits are never too low: what is left are the meters
+pub refused-least : (d : Domain) (contracts : List Contract) (rows : List (List Bound)) (sums own : List Loads) (self : Table) (c : Contract) (bounds : List Bound) (found : Option Refusal)
+    → IsSound (table d contracts rows) sums → table d contracts rows ≡ self → own ≡ sums → IsTrue (fits d c) → bounds ≡ least_of d c
+    → found ≡ first_failed (sums_tests d.meters (with_brought (λ name. share_of d name c bounds) (keys_of d.meters) own))
+    → found ≡ refusal_of (with_contract self c bounds)
+unfolding is_shaped
+refused-least d contracts rows sums own self c bounds found sound is_self is_own fit least is_found =
+    let shape : HasShape d c bounds = subst (HasShape d c) (sym least) (HasShape-least d c fit) in
+    let met : Meets d c bounds = subst (Meets d c) (sym least) (Meets-least d c) in
+    let none : first_failed (tests_along (length contracts) (source_of d c) (jitters_of d c) bounds) ≡ None =
+    met_by (length contracts) (source_of d c) (jitters_of d c) bounds (in_column (λ k. MeetsIn k (source_of d c) (jitters_of d c) bounds) met) in
+    refused-shaped d contracts rows sums own self c bounds bounds (length contracts) true None found sound is_self refl is_own refl (sym (has_shape d c bounds shape)) refl (sym none) is_found
 
 pub found_by_bounds : (d : Domain) (contracts : List Contract) (rows : List (List Bound)) (sums : List Loads) (self : Table) (c : Contract) (bounds : List Bound) (number : ℕ) (answer : Bool)
     (refusal : Option Refusal) → IsSound (table d contracts rows) sums → table d contracts rows ≡ self → number ≡ length contracts

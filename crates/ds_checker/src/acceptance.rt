@@ -22,7 +22,10 @@ pub fn check(alloc: Global, candidate: Candidate) -> Result<Accepted, (Candidate
         ⊎ (refusal_of (table_of candidate) ≡ Some refused.1)) }
 {
     match judged(alloc, &candidate) {
-        Ok(sums) => Ok(Accepted::new(candidate, sums)),
+        Ok(sums) => match Accepted::new(alloc, candidate, sums) {
+            Ok(accepted) => Ok(accepted),
+            Err(candidate) => Err((candidate, Refusal::NoMemory)),
+        },
         Err(refusal) => Err((candidate, refusal)),
     }
 }

@@ -7,7 +7,7 @@ ghost use Rattle.ds_checker.specs.Tests.{first_failed};
 ghost use Rattle.ds_checker.specs.declared.refusal.Refusal.TheVariants.{Shape};
 
 use crate::refusal::Refusal;
-use ds_certificate::{Bound, Bounds, Certificate, Source, is_fit};
+use ds_certificate::{Bound, Certificate, Source, is_fit};
 use ds_domain_base::{Contract, Domain};
 use moment_core::{Column, Gap, bytes_over_ceil};
 
@@ -26,7 +26,7 @@ pub(crate) fn shape_refusal(
         let Some(bounds) = rows.get(number) else {
             return Some(Refusal::Shape { contract: number });
         };
-        if !has_shape(domain, contract, bounds) {
+        if !has_shape(domain, contract, bounds.hops()) {
             return Some(Refusal::Shape { contract: number });
         }
     }
@@ -36,10 +36,10 @@ pub(crate) fn shape_refusal(
 }
 
 /// Whether a contract fits the domain and has one bound more than its path has meters.
-pub(crate) fn has_shape(domain: &Domain, contract: &Contract, bounds: &Bounds) -> bool
+pub(crate) fn has_shape(domain: &Domain, contract: &Contract, bounds: &[Bound]) -> bool
     ensures { result ≡ (fits domain.now contract.now && nat_eq (length bounds.now) (suc (length contract.now.path))) }
 {
-    is_fit(domain, contract) && bounds.hops().len() == contract.path.meters().len() + 1
+    is_fit(domain, contract) && bounds.len() == contract.path.meters().len() + 1
 }
 
 /// The refusal of the first bound that is too low, contract by contract, hop by hop, column by column. It looks
@@ -53,7 +53,7 @@ pub(crate) fn bounds_refusal(
     ensures { result ≡ first_failed (bound_tests 0 domain.now contracts.now certificate.now) }
 {
     for (number, (contract, bounds)) in contracts.iter().zip(certificate.bounds()).enumerate() {
-        let refusal = contract_refusal(domain, number, contract, bounds);
+        let refusal = contract_refusal(domain, number, contract, bounds.hops());
         if refusal.is_some() {
             return refusal;
         }
@@ -66,12 +66,12 @@ pub(crate) fn contract_refusal(
     domain: &Domain,
     number: usize,
     contract: &Contract,
-    bounds: &Bounds,
+    bounds: &[Bound],
 ) -> Option<Refusal>
     ensures { result ≡ first_failed
         (tests_along number (source_of domain.now contract.now) (jitters_of domain.now contract.now) bounds.now) }
 {
-    let (first, behind) = bounds.hops().split_first()?;
+    let (first, behind) = bounds.split_first()?;
     let source = Source::of(domain, contract);
     first_refusal(number, &source, *first).or_else(|| hops_refusal(
         domain, number, contract, &source, *first, behind,

@@ -1,4 +1,5 @@
-ghost use Rattle.std.specs.Prelude.{◌≡◌, ◌<◌, ◌⊎◌, None, Some, IfOk, IfErr, OnErr, OnOk, length, slice_get};
+ghost use Rattle.std.specs.Prelude.{◌≡◌, ◌<◌, ◌⊎◌, None, Some, IfOk, IfErr, IsTrue, OnErr, OnOk, length, slice_get};
+ghost use Rattle.ds_certificate.specs.Bounds.{fits, least_of};
 ghost use Rattle.ds_checker.specs.Acceptance.{IsAcceptable, refusal_of, table_of};
 ghost use Rattle.ds_checker.specs.Changes.{with_contract, with_lifetime, without_contract};
 ghost use Rattle.ds_checker.specs.Holds.{hold_at};
@@ -10,10 +11,11 @@ use crate::hold::hold_of;
 use crate::load::Loads;
 use crate::refusal::Refusal;
 use crate::table::{add_contract, take_contract};
-use ds_certificate::{Bound, Bounds, Certificate};
+use ds_certificate::{Bound, Bounds, Certificate, least_bounds};
 use ds_domain_base::{Contract, Domain, Lifetime};
 use std::alloc::{AllocError, Global};
 use std::marker::Model;
+use std::sync::Arc;
 
 /// A domain, contracts, and a certificate of theirs that is still to be checked.
 #[derive(Debug, Drop)]
@@ -29,10 +31,11 @@ pub struct Candidate {
 /// A domain, contracts, and an acceptable certificate of theirs.
 ///
 /// It keeps for each meter the sums of what its contracts bring there, so that a contract more or less costs what its
-/// own path is long, and not what the table is.
+/// own path is long, and not what the table is. Its copies share the domain, and the path and the bounds of each
+/// contract.
 #[derive(Debug, Drop)]
 pub struct Accepted {
-    domain: Domain,
+    domain: Arc<Domain, Global>,
     contracts: Vec<Contract>,
     certificate: Certificate,
     /// What the contracts bring to each meter, in the order of the meters.
@@ -40,34 +43,55 @@ pub struct Accepted {
 }
 
 impl Model for Accepted {
+    ghost use Rattle.std.specs.Arc.{arc_value};
     ghost use Rattle.ds_checker.specs.Acceptance.{Table};
     ghost use Rattle.ds_checker.specs.Sums.{IsSound};
 
     ghost Value = { Table };
 
-    ghost view = { λ a. record { domain = a.domain; contracts = a.contracts.items; certificate = a.certificate } };
+    ghost view = { λ a. record {
+      domain = arc_value a.domain;
+      contracts = a.contracts.items;
+      certificate = a.certificate;
+    } };
 
-    ghost invariant = { λ a. IsSound
-        (record { domain = a.domain; contracts = a.contracts.items; certificate = a.certificate }) a.sums.items };
+    ghost invariant = { λ a. IsSound (record {
+      domain = arc_value a.domain;
+      contracts = a.contracts.items;
+      certificate = a.certificate;
+    }) a.sums.items };
 }
 
 impl Accepted {
-    /// What was checked, once it is known to be acceptable, with the sums of what its contracts bring to each meter.
-    pub(crate) fn new(candidate: Candidate, sums: Vec<Loads>) -> Self
+    /// What was checked, once it is known to be acceptable, with the sums of what its contracts bring to each meter;
+    /// where memory runs out it hands the candidate back.
+    pub(crate) fn new(
+        alloc: Global,
+        candidate: Candidate,
+        sums: Vec<Loads>,
+    ) -> Result<Self, Candidate>
         requires acceptable { IsAcceptable (table_of candidate) }
         requires kept { IsKept (table_of candidate) sums.items }
-        ensures { result ≡ table_of candidate }
+        ensures made { IfOk result (λ accepted. accepted ≡ table_of candidate) }
+        ensures back { IfErr result (λ back. back ≡ candidate) }
     {
         let Candidate {
             domain,
             contracts,
             certificate,
         } = candidate;
-        Accepted {
-            domain,
-            contracts,
-            certificate,
-            sums,
+        match Arc::new(alloc, domain) {
+            Ok(domain) => Ok(Accepted {
+                domain,
+                contracts,
+                certificate,
+                sums,
+            }),
+            Err(failed) => Err(Candidate {
+                domain: failed.value,
+                contracts,
+                certificate,
+            }),
         }
     }
 
@@ -115,11 +139,8 @@ impl Accepted {
     pub fn copy(&self, alloc: Global) -> Result<Accepted, AllocError>
         ensures { IfOk result (λ accepted. accepted ≡ self.now) }
     {
-        let Ok(domain) = self.domain.copy(alloc) else {
-            return Err(AllocError);
-        };
         Ok(Accepted {
-            domain,
+            domain: Arc::try_clone(&self.domain)?,
             contracts: copied(alloc, self.contracts.as_slice())?,
             certificate: self.certificate.copy(alloc)?,
             sums: self.sums.as_slice().to_vec(alloc)?,
@@ -144,13 +165,43 @@ impl Accepted {
             ((refused.2 ≡ Refusal.NoMemory) × (refusal_of (with_contract self.old contract bounds.items) ≡ None))
             ⊎ (refusal_of (with_contract self.old contract bounds.items) ≡ Some refused.2)) }
     {
-        let bounds = Bounds::new(bounds);
-        if let Some(refusal) = self.refusal_with(&contract, &bounds) {
-            return Err((contract, bounds.into_hops(), refusal));
+        if let Some(refusal) = self.refusal_with(&contract, bounds.as_slice()) {
+            return Err((contract, bounds, refusal));
         }
         match self.take_up(contract, bounds) {
             Ok(()) => Ok(()),
-            Err((contract, bounds)) => Err((contract, bounds.into_hops(), Refusal::NoMemory)),
+            Err((contract, bounds)) => Err((contract, bounds, Refusal::NoMemory)),
+        }
+    }
+
+    /// Takes up one contract more that fits the domain, behind the others, with its least bounds, where the table is
+    /// acceptable with it. Nothing can stand against such bounds, so it looks at the meters of the contract's path alone.
+    ///
+    /// Else it hands the contract back, is as it was, and tells the first test that fails; or `NoMemory` where memory
+    /// runs out.
+    pub fn admit_least(
+        &mut self,
+        alloc: Global,
+        contract: Contract,
+    ) -> Result<(), (Contract, Refusal)>
+        requires { IsTrue (fits self.old.domain contract) }
+        ensures admitted { OnOk result
+            (self.new ≡ with_contract self.old contract (least_of self.old.domain contract)) }
+        ensures acceptable { IsAcceptable self.new }
+        ensures unchanged { OnErr result (self.new ≡ self.old) }
+        ensures back { IfErr result (λ refused. refused.0 ≡ contract) }
+        ensures refused { IfErr result (λ refused. (refused.1 ≡ Refusal.NoMemory)
+            ⊎ (refusal_of (with_contract self.old contract (least_of self.old.domain contract)) ≡ Some refused.1)) }
+    {
+        let Ok(bounds) = least_bounds(alloc, self.domain(), &contract) else {
+            return Err((contract, Refusal::NoMemory));
+        };
+        if let Some(refusal) = self.refusal_at_meters(&contract, bounds.as_slice()) {
+            return Err((contract, refusal));
+        }
+        match self.take_up(contract, bounds) {
+            Ok(()) => Ok(()),
+            Err((contract, _)) => Err((contract, Refusal::NoMemory)),
         }
     }
 
@@ -168,16 +219,15 @@ impl Accepted {
             ((refused.2 ≡ Refusal.NoMemory) × (refusal_of (with_contract self.now contract bounds.items) ≡ None))
             ⊎ (refusal_of (with_contract self.now contract bounds.items) ≡ Some refused.2)) }
     {
-        let bounds = Bounds::new(bounds);
-        if let Some(refusal) = self.refusal_with(&contract, &bounds) {
-            return Err((contract, bounds.into_hops(), refusal));
+        if let Some(refusal) = self.refusal_with(&contract, bounds.as_slice()) {
+            return Err((contract, bounds, refusal));
         }
         let Ok(mut larger) = self.copy(alloc) else {
-            return Err((contract, bounds.into_hops(), Refusal::NoMemory));
+            return Err((contract, bounds, Refusal::NoMemory));
         };
         match larger.take_up(contract, bounds) {
             Ok(()) => Ok(larger),
-            Err((contract, bounds)) => Err((contract, bounds.into_hops(), Refusal::NoMemory)),
+            Err((contract, bounds)) => Err((contract, bounds, Refusal::NoMemory)),
         }
     }
 
@@ -192,7 +242,7 @@ impl Accepted {
     {
         let contract = self.contracts.remove(index);
         let bounds = self.certificate.remove(index);
-        let domain = &self.domain;
+        let domain: &Domain = &self.domain;
         take_contract(self.sums.as_mut_slice(), domain, &contract, bounds.hops());
         (contract, bounds)
     }
@@ -218,11 +268,11 @@ impl Accepted {
     }
 
     /// The first test that fails of the table with one contract more, if one does.
-    fn refusal_with(&self, contract: &Contract, bounds: &Bounds) -> Option<Refusal>
+    fn refusal_with(&self, contract: &Contract, bounds: &[Bound]) -> Option<Refusal>
         ensures value { result ≡ refusal_of (with_contract self.now contract.now bounds.now) }
         ensures acceptable { IsAcceptable self.now }
     {
-        let domain = &self.domain;
+        let domain: &Domain = &self.domain;
         let number = self.contracts.len();
         if !has_shape(domain, contract, bounds) {
             return Some(Refusal::Shape { contract: number });
@@ -231,13 +281,28 @@ impl Accepted {
         if refusal.is_some() {
             return refusal;
         }
-        contract_refusal_at_meters(domain, self.sums.as_slice(), contract, bounds.hops())
+        contract_refusal_at_meters(domain, self.sums.as_slice(), contract, bounds)
+    }
+
+    /// The first test that fails of the table with one contract more that fits the domain and has its least bounds.
+    fn refusal_at_meters(&self, contract: &Contract, bounds: &[Bound]) -> Option<Refusal>
+        requires fit { IsTrue (fits self.now.domain contract.now) }
+        requires least { bounds.now ≡ least_of self.now.domain contract.now }
+        ensures value { result ≡ refusal_of (with_contract self.now contract.now bounds.now) }
+        ensures acceptable { IsAcceptable self.now }
+    {
+        let domain: &Domain = &self.domain;
+        contract_refusal_at_meters(domain, self.sums.as_slice(), contract, bounds)
     }
 
     /// Takes up a contract against which nothing stands; where memory runs out it hands it back, and is as it was.
-    fn take_up(&mut self, contract: Contract, bounds: Bounds) -> Result<(), (Contract, Bounds)>
-        requires { refusal_of (with_contract self.old contract bounds) ≡ None }
-        ensures admitted { OnOk result (self.new ≡ with_contract self.old contract bounds) }
+    fn take_up(
+        &mut self,
+        contract: Contract,
+        bounds: Vec<Bound>,
+    ) -> Result<(), (Contract, Vec<Bound>)>
+        requires { refusal_of (with_contract self.old contract bounds.items) ≡ None }
+        ensures admitted { OnOk result (self.new ≡ with_contract self.old contract bounds.items) }
         ensures acceptable { IsAcceptable self.new }
         ensures unchanged { OnErr result (self.new ≡ self.old) }
         ensures back { IfErr result (λ back. (back.0 ≡ contract) × (back.1 ≡ bounds)) }
@@ -249,7 +314,7 @@ impl Accepted {
             Ok(()) => {}
             Err(bounds) => return Err((contract, bounds)),
         }
-        let domain = &self.domain;
+        let domain: &Domain = &self.domain;
         let _meters = domain.meters();
         let bounds = &self.certificate.bounds()[self.contracts.len()];
         add_contract(self.sums.as_mut_slice(), domain, &contract, bounds.hops());

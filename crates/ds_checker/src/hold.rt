@@ -34,7 +34,10 @@ fn link_delay(domain: &Domain, from: Name, to: Name) -> u128
     ensures value { result ≡ link_delay domain.now from to }
     ensures range { result ≤ 2 * 10 ^ 10 }
 {
-    u128::from(domain.floor(from, to).get()) + u128::from(domain.jitter(from, to).get())
+    match domain.link(from, to) {
+        Some(link) => u128::from(link.floor.gap().get()) + u128::from(link.jitter.gap().get()),
+        None => 0,
+    }
 }
 
 /// The skew of the meter of a name; none where there is no such meter.

@@ -76,7 +76,7 @@ fn way_named(
         return Err(place.fault(Kind::PathLength, Field::Path));
     }
     match meters_named(alloc, domain, path)? {
-        Some(meters) => Ok((port, Path::new(meters))),
+        Some(meters) => Ok((port, Path::new(alloc, meters)?)),
         None => Err(place.fault(Kind::UnknownName, Field::Path)),
     }
 }

@@ -177,7 +177,7 @@ fn short(alloc: Global) -> Result<Certificate, Fail> {
     let mut hops = Vec::new(alloc);
     hops.push(Bound::new(3000, 3000, 3000)?)?;
     let mut rows = Vec::new(alloc);
-    rows.push(Bounds::new(hops))?;
+    rows.push(Bounds::new(alloc, hops)?)?;
     Ok(Certificate::new(rows))
 }
 

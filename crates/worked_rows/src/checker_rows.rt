@@ -158,7 +158,7 @@ fn bounds(alloc: Global, row: &[(u64, u64)]) -> Result<Bounds, Fail> {
     for (green, all) in row {
         hops.push(Bound::new(*green, *all, *all)?)?;
     }
-    Ok(Bounds::new(hops))
+    Ok(Bounds::new(alloc, hops)?)
 }
 
 /// A certificate of a list for each contract, of the bounds that are given.

@@ -162,7 +162,7 @@ fn granted(
 {
     let contract = begun(alloc, contract, since)?;
     let bounds = match bounds_of(alloc, domain, &contract) {
-        Ok(bounds) => Bounds::new(bounds),
+        Ok(bounds) => Bounds::new(alloc, bounds)?,
         Err(CertificateFault::NoMemory) => return Err(AllocError),
         Err(_) => unreachable!(),
     };

@@ -12,7 +12,7 @@ returns-then-is_some c =
     let refusal = c.contract_refusal-refusal.result in
     let moved = Zip-more (enumerate_source s) (enumerate_source t) _ (c.in-Some.contract, c.in-Some.bounds) refl steps.0 in
     let step = contracts-step c.args.domain.now _ _ _ _ c.in-Some.contract.now c.in-Some.bounds.now (enumerate_count s) c.in-Some.number (enumerate_count t) refusal
-    moved.0 moved.1 steps.1 steps.2 c.contract_refusal-refusal.ensures in
+    moved.0 moved.1 steps.1 steps.2 (rw c.hops.ensures at c.contract_refusal-refusal.ensures) in
     found refusal _ _ (sym c.is_some.ensures ∙ c.if-is_some.true) (sym step ∙ c.loop-number.invariant)
 
 pub loop-number-preserved : goal.loop-number-preserved
@@ -23,7 +23,7 @@ loop-number-preserved c =
     let refusal = c.contract_refusal-refusal.result in
     let moved = Zip-more (enumerate_source s) (enumerate_source t) _ (c.in-Some.contract, c.in-Some.bounds) refl steps.0 in
     let step = contracts-step c.args.domain.now _ _ _ _ c.in-Some.contract.now c.in-Some.bounds.now (enumerate_count s) c.in-Some.number (enumerate_count t) refusal
-    moved.0 moved.1 steps.1 steps.2 c.contract_refusal-refusal.ensures in
+    moved.0 moved.1 steps.1 steps.2 (rw c.hops.ensures at c.contract_refusal-refusal.ensures) in
     not_found refusal _ _ (sym c.is_some.ensures ∙ c.if-is_some.false) (sym step ∙ c.loop-number.invariant)
 
 pub returns : goal.returns

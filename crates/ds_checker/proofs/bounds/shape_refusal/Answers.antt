@@ -16,7 +16,7 @@ returns-then-not-has_shape c =
     let i = c.loop-number.number in
     let row = c.in-Some.ensures.lookup in
     let step = misfit-step c.args.domain.now c.args.contracts.now c.bounds-rows.result.now i c.index-contracts-number.result c.in-Some.bounds.now false c.loop-number-test.true
-    c.index-contracts-number.is row.3.0 row.1 (sym c.if-not-has_shape.true ∙ c.has_shape.ensures) in
+    c.index-contracts-number.is row.3.0 row.1 (sym c.if-not-has_shape.true ∙ (rw c.hops.ensures at c.has_shape.ensures)) in
     ap (option_map Shape) (sym step ∙ c.loop-number.invariant)
 
 pub loop-number-preserved : goal.loop-number-preserved
@@ -24,7 +24,7 @@ loop-number-preserved c =
     let i = c.loop-number.number in
     let row = c.in-Some.ensures.lookup in
     let step = misfit-step c.args.domain.now c.args.contracts.now c.bounds-rows.result.now i c.index-contracts-number.result c.in-Some.bounds.now true c.loop-number-test.true
-    c.index-contracts-number.is row.3.0 row.1 (sym c.if-not-has_shape.false ∙ c.has_shape.ensures) in
+    c.index-contracts-number.is row.3.0 row.1 (sym c.if-not-has_shape.false ∙ (rw c.hops.ensures at c.has_shape.ensures)) in
     sym step ∙ c.loop-number.invariant
 
 pub returns : goal.returns

@@ -6,10 +6,17 @@ use Rattle.ds_broker.specs.Kept.{book_of}
 use Rattle.ds_broker.specs.Refusals.{reserve_refusal, room_refusal}
 use Rattle.ds_broker.specs.declared.refusal.BrokerRefusal.TheVariants.{Checker}
 use Rattle.ds_broker.proofs.KeptLaws.{kept-reserved}
-use Rattle.ds_broker.proofs.RefusalLaws.{passed}
+use Rattle.ds_broker.proofs.RefusalLaws.{fitting, passed}
 use Rattle.ds_broker.proofs.StandingLaws.{granted-most}
 use Rattle.ds_broker.proofs.TableLaws.{checked-refusal}
 use Rattle.ds_broker.proofs.book.Book.reserve.Goals as goal
+
+pub admit-requires-clause-fit : goal.admit-requires-clause-fit
+admit-requires-clause-fit c =
+    let b = c.args.self.now in
+    let k = c.args.contract in
+    let none : room_refusal b k ≡ None = sym c.room_refusal.ensures.value ∙ c.in_default.is in
+    fitting b k c.self.inside.table none (c.self.invariant.table ∙ ap table_of c.self.view_is)
 
 pub returns-in-Err-clause-refused : goal.returns-in-Err-clause-refused
 returns-in-Err-clause-refused c =

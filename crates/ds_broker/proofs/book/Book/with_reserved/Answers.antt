@@ -5,12 +5,19 @@ use Rattle.ds_broker.specs.Books.{moment_in, newest_of, standing, table_of}
 use Rattle.ds_broker.specs.Refusals.{room_refusal}
 use Rattle.ds_broker.specs.declared.refusal.BrokerRefusal.TheVariants.{Checker}
 use Rattle.ds_broker.proofs.NextLaws.{flows-after-reserve, flows-kept, table-after-reserve}
-use Rattle.ds_broker.proofs.RefusalLaws.{ordered, passed}
+use Rattle.ds_broker.proofs.RefusalLaws.{fitting, ordered, passed}
 use Rattle.ds_broker.proofs.TableLaws.{checked-refusal}
 use Rattle.ds_broker.proofs.book.Book.with_reserved.Goals as goal
 
-pub admit-requires : goal.admit-requires
-admit-requires c =
+pub admit-requires-clause-fit : goal.admit-requires-clause-fit
+admit-requires-clause-fit c =
+    let b = c.args.self.now in
+    let k = c.args.contract.now in
+    let none : room_refusal b k ≡ None = sym c.room_refusal.ensures.value ∙ c.in_default.is in
+    fitting b k c.in-Ok.table none (c.in-Ok.ensures ∙ c.self.invariant.table ∙ ap table_of c.self.view_is)
+
+pub admit-requires-clause-order : goal.admit-requires-clause-order
+admit-requires-clause-order c =
     let b = c.args.self.now in
     let k = c.args.contract.now in
     let none : room_refusal b k ≡ None = sym c.room_refusal.ensures.value ∙ c.in_default.is in

@@ -1,18 +1,19 @@
 use Rattle.std.proofs.Common.{rules, refl}
+use Rattle.std.specs.Arc.{arc_value}
 use Rattle.ds_checker.proofs.LifetimeLaws.{sound-lasting, table-lasting}
 use Rattle.ds_checker.proofs.candidate.Accepted.set_lifetime.Goals as goal
 
 pub invariant_of-self : goal.invariant_of-self
 invariant_of-self c =
-    sound-lasting c.self.inside.domain c.self.inside.contracts.items _ c.self.inside.certificate c.self.inside.sums.items c.args.index c.args.lifetime c.index_mut.result.now
+    sound-lasting (arc_value c.self.inside.domain) c.self.inside.contracts.items _ c.self.inside.certificate c.self.inside.sums.items c.args.index c.args.lifetime c.index_mut.result.now
     (search rules) c.index_mut.ensures.value refl c.self.invariant
 
 pub returns-clause-set : goal.returns-clause-set
 returns-clause-set c =
-    table-lasting c.self.inside.domain c.self.inside.contracts.items _ c.self.inside.certificate c.args.index c.args.lifetime c.index_mut.result.now c.args.self.now
+    table-lasting (arc_value c.self.inside.domain) c.self.inside.contracts.items _ c.self.inside.certificate c.args.index c.args.lifetime c.index_mut.result.now c.args.self.now
     (search rules) c.index_mut.ensures.value refl c.self.view_is
 
 pub returns-clause-acceptable : goal.returns-clause-acceptable
 returns-clause-acceptable c =
-    (sound-lasting c.self.inside.domain c.self.inside.contracts.items _ c.self.inside.certificate c.self.inside.sums.items c.args.index c.args.lifetime c.index_mut.result.now
+    (sound-lasting (arc_value c.self.inside.domain) c.self.inside.contracts.items _ c.self.inside.certificate c.self.inside.sums.items c.args.index c.args.lifetime c.index_mut.result.now
     (search rules) c.index_mut.ensures.value refl c.self.invariant).acceptable
