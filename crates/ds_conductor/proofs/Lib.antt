@@ -1,7 +1,12 @@
 -- Lemmas for the proofs of this crate.
+pub mod AskedLaws
+pub mod BoundLaws
+pub mod ConditionLaws
+pub mod FrameLaws
 pub mod MarkingLaws
+pub mod PassingLaws
 pub mod ReadingLaws
 pub mod ReportLaws
-pub mod SendingLaws
+pub mod SizeLaws
 pub mod TallyLaws
 pub mod WritingLaws

@@ -5,8 +5,10 @@
 //! all callers.
 #![tactic(auto)]
 
+mod conditioner;
 pub mod fault;
 pub mod marking;
+mod port;
 pub mod reading;
 pub mod report;
 pub mod rule;
