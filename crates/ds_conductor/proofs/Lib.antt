@@ -1,9 +1,14 @@
 -- Lemmas for the proofs of this crate.
+pub mod AskedLaws
+pub mod BoundLaws
+pub mod ConditionLaws
+pub mod FrameLaws
 pub mod MarkingLaws
+pub mod PassingLaws
 pub mod ReadingLaws
 pub mod ReportLaws
 pub mod SendableLaws
-pub mod SendingLaws
+pub mod SizeLaws
 pub mod StampLaws
 pub mod TallyLaws
 pub mod WritingLaws

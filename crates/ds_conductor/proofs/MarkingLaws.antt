@@ -1,25 +1,39 @@
 -- What of a capture is marked, by what was read of it.
-use Rattle.std.proofs.Common.{◌≡◌, ◌⊎◌, ℕ, Bool, true, false, cond, List, [], ◌++◌, Option, None, Some, Result, Ok, Err, append-nil, refl, subst, sym, ◌∙◌, ap, inl, inr}
+use Rattle.std.proofs.Common.{◌≡◌, ◌⊎◌, ℕ, Bool, true, false, cond, List, [], ◌++◌, Option, None, Some, Result, Ok, Err, append-nil, zip, refl, subst, sym, ◌∙◌, ap, inl, inr}
 use Rattle.pcap_capture.specs.Frames.{FrameValue}
 use Rattle.pcap_capture.specs.Grammar.{Reading, after_heading, capture, fault_in, heading_of}
 use Rattle.pcap_capture.specs.declared.fault.PcapFault.{PcapFault}
 use Rattle.pcap_capture.specs.declared.fault.PcapFault.TheVariants as pcaps
 use Rattle.pcap_capture.specs.declared.heading.Heading.{Heading}
 use Rattle.pcap_capture.proofs.HeadingLaws.{heading-append}
-use Rattle.moment_core.specs.declared.colour.Colour.{Colour}
+use Rattle.ds_domain_base.specs.Domains.{Domain, is_port}
 use Rattle.ds_checker.specs.Acceptance.{Table}
 use Rattle.ds_visits_base.specs.Passing.{colours_of}
-use Rattle.ds_visits_base.specs.declared.sent.Sent.{Sent}
-use Rattle.ds_conductor.specs.Markings.{IsMarkedAs, IsMarkedBut, IsPassed, IsPassedOf, IsWhole, IsWholeSoFar, IsWholeWith, Marking, answer_of, is_read_whole, is_starved, marking_behind, marking_in, marking_of, marking_with, marking_told, nothing_marked, see}
+use Rattle.ds_conductor.specs.Markings.{IsMarked, IsMarkedAs, IsMarkedBut, IsWhole, IsWholeSoFar, IsWholeWith, Marking, answer_of, is_read_whole, marking_behind, marking_in, marking_of, nothing_marked, see}
 use Rattle.ds_conductor.specs.Readings.{IsHeadingTold, IsReading, IsReadTo, heading_in, is_own}
-use Rattle.ds_conductor.specs.Reports.{nothing_read}
-use Rattle.ds_conductor.specs.Sendings.{sent_of}
+use Rattle.ds_conductor.specs.Conditionings.{see_at}
+use Rattle.ds_conductor.specs.Faults.{fault_of}
+use Rattle.ds_conductor.specs.Passings.{IsBrokenOff, IsFinished, marking_at}
+use Rattle.ds_conductor.specs.Reports.{nothing_read, report_of}
+use Rattle.ds_conductor.specs.Texts.{text_from}
+use Rattle.ds_conductor.specs.declared.conditioner.Conditioner.{Conditioner}
+use Rattle.ds_conductor.specs.declared.port.Port.{Port}
+use Rattle.ds_conductor.proofs.ConditionLaws.{front}
+use Rattle.pcap_capture.proofs.FrontLaws.{IsFrontOf-none}
+use Rattle.frame_marker.specs.declared.sight.Sight.{Sight}
+use mathlib.Core.Path.{fun_ext}
+use Rattle.ds_conductor.specs.Sendings.{sent_from, sent_of}
 use Rattle.pcap_capture.specs.Fronts.{IsFrontOf}
 use Rattle.ds_conductor.specs.declared.fault.MarkFault.{MarkFault}
 use Rattle.ds_conductor.specs.declared.fault.MarkFault.TheVariants as marks
 use Rattle.ds_conductor.specs.declared.report.Report.{Report}
 use Rattle.ds_conductor.specs.declared.rule.RedRule.{RedRule}
 use Rattle.ds_conductor.proofs.ReadingLaws.{fault_in_own, fault_stands}
+
+-- the marking of frames whose heading is there, or not
+abbrev pub marking_told : Table → List ℕ → RedRule → Option Heading → List FrameValue → Marking
+marking_told t port red None frames = nothing_marked
+marking_told t port red (Some heading) frames = marking_of t port red heading frames
 
 -- how the bytes of a capture end that were read with a fault, or without
 abbrev pub EndsAs : Option PcapFault → List ℕ → List ℕ → Type 0
@@ -163,51 +177,164 @@ marked_but marked bytes read more before after report pcaps.ReadFault well unwri
 marked_but marked bytes read more before after report pcaps.WriteFault well unwritten front stays ended whole = absurd (unwritten refl)
 marked_but marked bytes read more before after report pcaps.NoMemory well unwritten front stays ended whole = absurd (well refl)
 
+abbrev IsAnswered : (List ℕ → Marking) → List ℕ → List ℕ → List ℕ → List ℕ → Report → Option PcapFault → Type 0
+IsAnswered marked bytes more before after report None = IsWholeWith marked bytes before after report None
+IsAnswered marked bytes more before after report (Some fault) = IsMarkedBut marked bytes more before after report fault
+
 answered : (marked : List ℕ → Marking) (bytes read more before after : List ℕ) (report : Report) (fault : Option PcapFault) → ¬ (fault ≡ Some pcaps.NoMemory)
     → ¬ (fault ≡ Some pcaps.WriteFault) → bytes ≡ read ++ more → StaysOn marked read more → EndsAs fault read more → IsWhole (marked read) report before after
-    → IsMarkedAs marked bytes more before after (answer_of report fault)
+    → IsAnswered marked bytes more before after report fault
 answered marked bytes read more before after report None well unwritten front stays ended whole = whole_of marked bytes read more before after report front ended.0 ended.1 whole
 answered marked bytes read more before after report (Some fault) well unwritten front stays ended whole =
     marked_but marked bytes read more before after report fault well unwritten front stays ended whole
 
+as_answered : (t : Table) (port : List ℕ) (red : RedRule) (bytes more before after : List ℕ) (report : Report) (fault : Option PcapFault)
+    → IsAnswered (marking_in t port red) bytes more before after report fault → IsMarkedAs t port red bytes more before after (answer_of report fault)
+as_answered t port red bytes more before after report None is = is
+as_answered t port red bytes more before after report (Some fault) is = is
+
 -- frames that were marked are the marked capture, by what was read of it
 pub all_marked : (t : Table) (port : List ℕ) (red : RedRule) (bytes more before after : List ℕ) (heading : Option Heading) (frames : List FrameValue) (report : Report)
     (fault : Option PcapFault) → ¬ (fault ≡ Some pcaps.NoMemory) → ¬ (fault ≡ Some pcaps.WriteFault) → IsSeen bytes more heading frames fault
-    → IsWhole (marking_told t port red heading frames) report before after → IsMarkedAs (marking_in t port red) bytes more before after (answer_of report fault)
+    → IsWhole (marking_told t port red heading frames) report before after → IsMarkedAs t port red bytes more before after (answer_of report fault)
 all_marked t port red bytes more before after heading frames report fault well unwritten at whole =
-    answered (marking_in t port red) bytes at.read more before after report fault well unwritten at.front
+    as_answered t port red bytes more before after report fault
+    (answered (marking_in t port red) bytes at.read more before after report fault well unwritten at.front
     (λ stands why. marking_on t port red at.read more heading stands at.told why) at.ended
-    (subst (λ m. IsWhole m report before after) (marked_is t port red at.read heading frames at.told at.shown) whole)
+    (subst (λ m. IsWhole m report before after) (marked_is t port red at.read heading frames at.told at.shown) whole))
 
-stopped_as : (marked : List ℕ → Marking) (bytes more before after : List ℕ) (refusal : Report × MarkFault) → IsPassedOf marked bytes more before after (Err refusal)
-    → IsMarkedAs marked bytes more before after (Err refusal)
-stopped_as marked bytes more before after (report, marks.Capture fault) of =
-    subst (λ f. IsMarkedBut marked bytes more before after report f) (sym of.passed.0)
-    (record { read = of.read; front = of.front; passed = (refl, of.passed.1, of.passed.2) })
-stopped_as marked bytes more before after (report, marks.UnknownPort) of = of.passed
-stopped_as marked bytes more before after (report, marks.JournalFull) of = of.passed
-stopped_as marked bytes more before after (report, marks.NoMemory) of = of
+nothing_is : (t : Table) (port : List ℕ) (red : RedRule) (heading : Heading) → nothing_read ≡ (marking_of t port red heading []).report
+unfolding sent_from
+nothing_is t port red heading = refl
 
--- and so are frames whose marking was stopped
-pub stopped_marked : (t : Table) (port : List ℕ) (red : RedRule) (bytes more before after : List ℕ) (heading : Option Heading) (frames : List FrameValue)
-    (fault : Option PcapFault) (refusal : Report × MarkFault) → IsSeen bytes more heading frames fault
-    → IsPassed (marking_told t port red heading frames) before after (Err refusal) → IsMarkedAs (marking_in t port red) bytes more before after (Err refusal)
-stopped_marked t port red bytes more before after heading frames fault refusal at passed =
-    stopped_as (marking_in t port red) bytes more before after refusal (record {
-      read = at.read;
-      front = at.front;
-      passed = subst (λ m. IsPassed m before after (Err refusal)) (marked_is t port red at.read heading frames at.told at.shown) passed;
-    })
+nothing_behind : (t : Table) (port : List ℕ) (red : RedRule) (found : Option (Result Heading PcapFault)) → nothing_read ≡ (marking_behind t port red found []).report
+nothing_behind t port red None = refl
+nothing_behind t port red (Some (Err fault)) = refl
+nothing_behind t port red (Some (Ok heading)) = nothing_is t port red heading
 
 -- memory ran out before anything was written
-pub starved_marked : (t : Table) (port : List ℕ) (red : RedRule) (bytes more before after : List ℕ) (heading : Option Heading) (frames : List FrameValue)
-    (fault : Option PcapFault) (report : Report) → IsReading bytes more heading frames fault → after ≡ before → report ≡ nothing_read
-    → IsMarkedAs (marking_in t port red) bytes more before after (Err (report, marks.NoMemory))
-starved_marked t port red bytes more before after heading frames fault report reading same told = record {
-  read = reading.read;
-  front = reading.front;
-  passed = inl (same, told);
+pub starved_marked : (t : Table) (port : List ℕ) (red : RedRule) (bytes read more before after : List ℕ) (report : Report) → bytes ≡ read ++ more → after ≡ before → report ≡ nothing_read
+    → IsMarkedAs t port red bytes more before after (Err (report, marks.NoMemory))
+starved_marked t port red bytes read more before after report front same told = record {
+  read = read;
+  frames = [];
+  others = (capture read).frames;
+  front = front;
+  parted = refl;
+  written = subst (λ now. IsFrontOf before (marking_in t port red read).text now) (sym same) (IsFrontOf-none before (marking_in t port red read).text);
+  told = told ∙ nothing_behind t port red (heading_of read);
 }
+
+-- a fault before the heading was there
+unheaded_by : (t : Table) (port : List ℕ) (red : RedRule) (bytes more before after : List ℕ) (frames : List FrameValue) (fault : PcapFault) → ¬ (fault ≡ pcaps.NoMemory)
+    → ¬ (fault ≡ pcaps.WriteFault) → IsReading bytes more None frames (Some fault) → after ≡ before
+    → IsMarkedAs t port red bytes more before after (Err (nothing_read, marks.Capture fault))
+unheaded_by t port red bytes more before after frames fault well writable reading same =
+    let memory : ¬ (Some fault ≡ Some pcaps.NoMemory) = λ e. well cc in
+    let unwritten : ¬ (Some fault ≡ Some pcaps.WriteFault) = λ e. writable cc in
+    all_marked t port red bytes more before after None frames nothing_read (Some fault) memory unwritten (seen bytes more None frames (Some fault) memory reading)
+    (record { written = same ∙ sym (append-nil before); told = refl })
+
+abbrev told_of : PcapFault → Result Heading PcapFault
+told_of fault = Err fault
+
+unheaded_at : (t : Table) (port : List ℕ) (red : RedRule) (bytes more before after : List ℕ) (frames : List FrameValue) (fault : PcapFault) → ¬ (told_of fault ≡ told_of pcaps.WriteFault)
+    → IsReading bytes more None frames (Some fault) → after ≡ before → IsMarkedAs t port red bytes more before after (Err (nothing_read, fault_of fault))
+unheaded_at t port red bytes more before after frames pcaps.NotPcap w r same = unheaded_by t port red bytes more before after frames pcaps.NotPcap (λ e. cc) (λ e. cc) r same
+unheaded_at t port red bytes more before after frames pcaps.IsPcapng w r same = unheaded_by t port red bytes more before after frames pcaps.IsPcapng (λ e. cc) (λ e. cc) r same
+unheaded_at t port red bytes more before after frames pcaps.BadVersion w r same = unheaded_by t port red bytes more before after frames pcaps.BadVersion (λ e. cc) (λ e. cc) r same
+unheaded_at t port red bytes more before after frames (pcaps.LinkType number) w r same = unheaded_by t port red bytes more before after frames (pcaps.LinkType number) (λ e. cc) (λ e. cc) r same
+unheaded_at t port red bytes more before after frames (pcaps.RecordTooLong count) w r same =
+    unheaded_by t port red bytes more before after frames (pcaps.RecordTooLong count) (λ e. cc) (λ e. cc) r same
+unheaded_at t port red bytes more before after frames pcaps.Truncated w r same = unheaded_by t port red bytes more before after frames pcaps.Truncated (λ e. cc) (λ e. cc) r same
+unheaded_at t port red bytes more before after frames pcaps.ReadFault w r same = unheaded_by t port red bytes more before after frames pcaps.ReadFault (λ e. cc) (λ e. cc) r same
+unheaded_at t port red bytes more before after frames pcaps.WriteFault w r same = absurd (w refl)
+unheaded_at t port red bytes more before after frames pcaps.NoMemory w r same = starved_marked t port red bytes r.read more before after nothing_read r.front same refl
+unheaded_at t port red bytes more before after frames pcaps.Failed w r same = unheaded_by t port red bytes more before after frames pcaps.Failed (λ e. cc) (λ e. cc) r same
+
+-- what is answered to it
+pub unheaded : (t : Table) (port : List ℕ) (red : RedRule) (bytes more before after : List ℕ) (frames : List FrameValue) (fault : PcapFault) (report : Report) (told : MarkFault)
+    → ¬ (told_of fault ≡ told_of pcaps.WriteFault) → told ≡ fault_of fault → report ≡ nothing_read → IsReading bytes more None frames (Some fault) → after ≡ before
+    → IsMarkedAs t port red bytes more before after (Err (report, told))
+unheaded t port red bytes more before after frames fault report told writable is nothing reading same =
+    subst (λ r. IsMarkedAs t port red bytes more before after (Err (r, told))) (sym nothing)
+    (subst (λ f. IsMarkedAs t port red bytes more before after (Err (nothing_read, f))) (sym is) (unheaded_at t port red bytes more before after frames fault writable reading same))
+
+-- the marking at a port is that of its table, its name, its rule for red frames, and the heading
+pub at_port : (p : Port) (t : Table) (port : List ℕ) (red : RedRule) (heading : Heading) (frames : List FrameValue) → p.accepted.now ≡ t → p.red ≡ red → p.heading ≡ heading
+    → ((bytes : List ℕ) → see_at p bytes ≡ see t port heading.link bytes) → marking_at p frames ≡ marking_of t port red heading frames
+at_port p t port red heading frames table rule head sees =
+    let by : (List ℕ → Sight) → Table → RedRule → Heading → Marking = λ look u r h. record {
+      text = h.bytes ++ text_from u r h.link 0 frames (zip (sent_of look frames) (colours_of u (sent_of look frames)));
+      report = report_of look r frames (zip (sent_of look frames) (colours_of u (sent_of look frames)));
+    } in
+    let look : see_at p ≡ see t port heading.link = fun_ext sees in
+    ap (λ f. by f p.accepted.now p.red p.heading) look ∙ ap (λ u. by (see t port heading.link) u p.red p.heading) table
+    ∙ ap (λ r. by (see t port heading.link) t r p.heading) rule ∙ ap (by (see t port heading.link) t red) head
+
+-- a marking that was stopped, by its fault
+stopped_as : (t : Table) (port : List ℕ) (red : RedRule) (bytes read more before after : List ℕ) (heading : Heading) (frames others : List FrameValue) (fault : MarkFault)
+    → bytes ≡ read ++ more → heading_of read ≡ Some (Ok heading) → (capture read).frames ≡ frames ++ others → (fault ≡ marks.Capture pcaps.WriteFault → others ≡ [])
+    → (fault ≡ marks.Capture pcaps.WriteFault) ⊎ (fault ≡ marks.NoMemory)
+    → IsFrontOf before (marking_of t port red heading (frames ++ others)).text after
+    → IsMarkedAs t port red bytes more before after (Err ((marking_of t port red heading frames).report, fault))
+stopped_as t port red bytes read more before after heading frames others fault front headed parted all (inl unwritten) written =
+    let report = (marking_of t port red heading frames).report in
+    let is : marking_of t port red heading (frames ++ others) ≡ marking_in t port red read = marked_is t port red read (Some heading) (frames ++ others) headed (sym parted) in
+    let same : frames ++ others ≡ frames = ap (λ fs. frames ++ fs) (all unwritten) ∙ append-nil frames in
+    subst (λ f. IsMarkedAs t port red bytes more before after (Err (report, f))) (sym unwritten) (record {
+      read = read;
+      front = front;
+      written = subst (λ (m : Marking). IsFrontOf before m.text after) is written;
+      told = ap (λ fs. (marking_of t port red heading fs).report) (sym same) ∙ ap (λ (m : Marking). m.report) is;
+    })
+stopped_as t port red bytes read more before after heading frames others fault front headed parted all (inr memory) written =
+    let report = (marking_of t port red heading frames).report in
+    let is : marking_of t port red heading (frames ++ others) ≡ marking_in t port red read = marked_is t port red read (Some heading) (frames ++ others) headed (sym parted) in
+    subst (λ f. IsMarkedAs t port red bytes more before after (Err (report, f))) (sym memory) (record {
+      read = read;
+      frames = frames;
+      others = others;
+      front = front;
+      parted = parted;
+      written = subst (λ (m : Marking). IsFrontOf before m.text after) is written;
+      told = ap (λ found. (marking_behind t port red found frames).report) (sym headed);
+    })
+
+-- a marking that was broken off
+pub broken_marked : (p : Port) (t : Table) (port : List ℕ) (red : RedRule) (heading : Heading) (bytes more before after : List ℕ) (c : Conditioner) (fault : MarkFault) (report : Report)
+    → p.accepted.now ≡ t → p.red ≡ red → p.heading ≡ heading → ((look : List ℕ) → see_at p look ≡ see t port heading.link look)
+    → (fault ≡ marks.Capture pcaps.WriteFault) ⊎ (fault ≡ marks.NoMemory) → (off : IsBrokenOff p bytes more before after c fault) → report ≡ (marking_at p off.frames).report
+    → IsMarkedAs t port red bytes more before after (Err (report, fault))
+broken_marked p t port red heading bytes more before after c fault report table rule head sees why off told =
+    let is = at_port p t port red heading off.frames table rule head sees in
+    let all = at_port p t port red heading (off.frames ++ off.others) table rule head sees in
+    subst (λ r. IsMarkedAs t port red bytes more before after (Err (r, fault))) (sym (told ∙ ap (λ (m : Marking). m.report) is))
+    (stopped_as t port red bytes off.read more before after heading off.frames off.others fault off.front (off.headed ∙ ap (λ (h : Heading). Some (Ok h)) head) off.parted off.all why
+    (subst (λ (m : Marking). IsFrontOf before m.text after) all (front p off.frames off.others off.text before after c off.conditioned off.written)))
+
+-- a marking that was finished
+finished_by : (p : Port) (t : Table) (port : List ℕ) (red : RedRule) (heading : Heading) (bytes more before after : List ℕ) (frames : List FrameValue) (fault : Option PcapFault)
+    (m : Marking) (answer : Result Report (Report × MarkFault)) → m ≡ marking_of t port red heading frames
+    → ¬ (fault ≡ Some pcaps.NoMemory) → ¬ (fault ≡ Some pcaps.WriteFault) → IsSeen bytes more (Some heading) frames fault
+    → IsFinished m fault before after answer → IsMarkedAs t port red bytes more before after answer
+finished_by p t port red heading bytes more before after frames fault m answer is well writable at (inl (whole, told)) =
+    subst (IsMarkedAs t port red bytes more before after) (sym told)
+    (all_marked t port red bytes more before after (Some heading) frames m.report fault well writable at
+    (subst (λ (n : Marking). IsWhole n m.report before after) is whole))
+finished_by p t port red heading bytes more before after frames fault m answer is well writable at (inr (unwritten, why, written, told)) =
+    subst (IsMarkedAs t port red bytes more before after) (sym told)
+    (subst (λ (n : Marking). IsMarkedAs t port red bytes more before after (Err (n.report, unwritten))) (sym is)
+    (stopped_as t port red bytes at.read more before after heading frames [] unwritten at.front at.told (sym at.shown ∙ sym (append-nil frames)) (λ e. refl) why
+    (subst (λ fs. IsFrontOf before (marking_of t port red heading fs).text after) (sym (append-nil frames)) (subst (λ (n : Marking). IsFrontOf before n.text after) is written))))
+
+pub finished_marked : (p : Port) (t : Table) (port : List ℕ) (red : RedRule) (heading : Heading) (bytes more before after : List ℕ) (frames : List FrameValue) (fault : Option PcapFault)
+    (answer : Result Report (Report × MarkFault)) → p.accepted.now ≡ t → p.red ≡ red → p.heading ≡ heading → ((look : List ℕ) → see_at p look ≡ see t port heading.link look)
+    → ¬ (fault ≡ Some pcaps.NoMemory) → ¬ (fault ≡ Some pcaps.WriteFault) → IsReading bytes more (Some p.heading) frames fault
+    → IsFinished (marking_at p frames) fault before after answer → IsMarkedAs t port red bytes more before after answer
+finished_marked p t port red heading bytes more before after frames fault answer table rule head sees well writable reading done =
+    let at = seen bytes more (Some heading) frames fault well (subst (λ (h : Heading). IsReading bytes more (Some h) frames fault) head reading) in
+    finished_by p t port red heading bytes more before after frames fault (marking_at p frames) answer (at_port p t port red heading frames table rule head sees) well writable at done
 
 -- the answer to a capture that was marked whole comes of no read fault
 pub read_whole_by : (report : Report) (fault : Option PcapFault) → is_read_whole (answer_of report fault) ≡ true → ¬ (fault ≡ Some pcaps.ReadFault)
@@ -225,20 +352,9 @@ pub port_missed : (is : Bool) (text : List ℕ) → None ≡ cond is (Some text)
 port_missed true text e = absurd cc
 port_missed false text e = refl
 
--- memory was there
-pub well_by : (fault : Option PcapFault) → is_starved fault ≡ false → ¬ (fault ≡ Some pcaps.NoMemory)
-well_by fault well starved = let is : true ≡ false = sym (ap is_starved starved) ∙ well in cc
-
--- the marking of frames, by what they send and the colours of that
-pub marked_with : (t : Table) (port : List ℕ) (red : RedRule) (heading : Heading) (frames : List FrameValue) (sent : List Sent) (colours : List Colour)
-    → sent ≡ sent_of (see t port heading.link) frames → colours_of t sent ≡ colours → marking_of t port red heading frames ≡ marking_with t port red heading frames sent colours
-marked_with t port red heading frames sent colours is of =
-    ap (λ s. marking_with t port red heading frames s (colours_of t s)) (sym is) ∙ ap (marking_with t port red heading frames sent) of
-
--- the writing of a marking was stopped
-pub write_stopped : (m : Marking) (before after text : List ℕ) (report : Report) (fault : MarkFault) → m.text ≡ text → report ≡ m.report
-    → (fault ≡ marks.Capture pcaps.WriteFault) ⊎ (fault ≡ marks.NoMemory) → IsFrontOf before text after → IsPassed m before after (Err (report, fault))
-write_stopped m before after text report fault written told (inl unwritten) front =
-    subst (λ f. IsPassed m before after (Err (report, f))) (sym unwritten) (refl, subst (λ all. IsFrontOf before all after) (sym written) front, told)
-write_stopped m before after text report fault written told (inr memory) front =
-    subst (λ f. IsPassed m before after (Err (report, f))) (sym memory) (inr (subst (λ all. IsFrontOf before all after) (sym written) front, told))
+-- a port that is found is one, by its own name
+pub marked_at : (t : Table) (d : Domain) (port name : List ℕ) (red : RedRule) (bytes more before after : List ℕ) (answer : Result Report (Report × MarkFault)) → d ≡ t.domain
+    → Some name ≡ cond (is_port d port) (Some port) None → IsMarkedAs t name red bytes more before after answer → IsMarked t port red bytes more before after answer
+marked_at t d port name red bytes more before after answer same found is =
+    let there = port_found (is_port d port) port name found in
+    inr (ap (λ e. is_port e port) (sym same) ∙ there.0, subst (λ n. IsMarkedAs t n red bytes more before after answer) there.1 is)

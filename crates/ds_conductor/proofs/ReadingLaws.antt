@@ -1,5 +1,5 @@
 -- What was read of a capture, as far as it was read.
-use Rattle.std.proofs.Common.{◌≡◌, ℕ, zero, suc, ◌-◌, ◌<◌, ◌≤◌, Bool, true, false, cond, List, [], ◌++◌, length, drop, Option, None, Some, Result, Ok, Err, append_assoc, append-nil, length-append, refl, subst, sym, ◌∙◌, ap, inl, inr, arith}
+use Rattle.std.proofs.Common.{◌≡◌, ◌⊎◌, ℕ, zero, suc, ◌-◌, ◌<◌, ◌≤◌, Bool, true, false, cond, List, [], ◌++◌, length, drop, Option, None, Some, Result, Ok, Err, append_assoc, append-nil, length-append, refl, subst, sym, ◌∙◌, ap, inl, inr, arith}
 use Rattle.std.proofs.Math.ListN.{drop_of_length-le}
 use Rattle.pcap_capture.specs.Frames.{FrameValue}
 use Rattle.pcap_capture.specs.Grammar.{CaptureState, IsSoFar, Next, Partial, TooLong, Whole, Reading, Stops, after_heading, after_magic, capture, continued_from, ending, fault_after, fault_in, from_next, has_version, heading_of, link_number, link_of, linked, magic_of, next_of, prepend, read_on, reading, records, records_within, versioned}
@@ -12,9 +12,9 @@ use Rattle.pcap_capture.specs.declared.heading.LinkType.{LinkType}
 use Rattle.pcap_capture.specs.declared.heading.TimeUnit.{TimeUnit}
 use Rattle.pcap_capture.specs.declared.stage.Stage.{Stage}
 use Rattle.pcap_capture.specs.declared.stage.Stage.TheVariants.{Opening, Records, Broken}
-use Rattle.pcap_capture.proofs.CutLaws.{capture-cut}
-use Rattle.pcap_capture.proofs.HeadingLaws.{heading-append, heading_waits}
-use Rattle.ds_conductor.specs.Readings.{IsEnded, IsHeadingTold, IsReading, IsReadTo, IsUnderway, heading_at, heading_in, is_own}
+use Rattle.pcap_capture.proofs.CutLaws.{capture-cut, so_far}
+use Rattle.pcap_capture.proofs.HeadingLaws.{heading-append, heading_read, heading_waits}
+use Rattle.ds_conductor.specs.Readings.{IsEnded, IsHeadingTold, IsReading, IsReadOn, IsReadTo, IsUnderway, heading_at, heading_in, is_own}
 use Rattle.ds_conductor.specs.declared.reading.Progress.{Progress}
 
 some_is : {T : Type 0} (a b : T) → Some a ≡ Some b → a ≡ b
@@ -206,21 +206,21 @@ stopped_told read piece None frames fault none h room stops = told_none read pie
 stopped_told read piece (Some heading) frames fault none h room stops = inl (heading-append read piece (Ok heading) h)
 
 -- the heading that is known is that of the bytes
-told : (bytes more : List ℕ) (progress : Progress) (at : IsUnderway bytes more progress) → heading_in at.read progress.heading
-told bytes more progress at = subst (λ heading. heading_in at.read heading) (sym at.known) (so_far_told at.read progress.capture progress.frames.items at.so_far)
+told : (gone : List FrameValue) (bytes more : List ℕ) (progress : Progress) (at : IsUnderway gone bytes more progress) → heading_in at.read progress.heading
+told gone bytes more progress at = subst (λ heading. heading_in at.read heading) (sym at.known) (so_far_told at.read progress.capture (gone ++ progress.frames.items) at.so_far)
 
 -- a piece has no byte behind a heading that is not there
-room : (bytes piece more : List ℕ) (progress : Progress) (at : IsUnderway bytes more progress) → (0 < progress.missing → length piece ≤ progress.missing)
+room : (gone : List FrameValue) (bytes piece more : List ℕ) (progress : Progress) (at : IsUnderway gone bytes more progress) → (0 < progress.missing → length piece ≤ progress.missing)
     → progress.heading ≡ None → length piece ≤ 24 - length at.read
-room bytes piece more progress at within none =
-    let short = capture_short at.read (so_far_fault at.read progress.capture progress.frames.items at.so_far)
-    (subst (λ heading. heading_in at.read heading) none (told bytes more progress at)) in
+room gone bytes piece more progress at within none =
+    let short = capture_short at.read (so_far_fault at.read progress.capture (gone ++ progress.frames.items) at.so_far)
+    (subst (λ heading. heading_in at.read heading) none (told gone bytes more progress at)) in
     let least : 0 < progress.missing = omega (arith, at.to_come) in
     omega (arith, at.to_come, within least)
 
 -- at first nothing was read
 pub begun : (bytes : List ℕ) (progress : Progress) → IsSoFar [] [] progress.capture progress.frames.items → progress.capture.stage ≡ Opening
-    → progress.heading ≡ None → progress.missing ≡ 24 → IsUnderway bytes bytes progress
+    → progress.heading ≡ None → progress.missing ≡ 24 → IsUnderway [] bytes bytes progress
 begun bytes progress so_far opening none missing = record {
   read = [];
   front = refl;
@@ -229,59 +229,195 @@ begun bytes progress so_far opening none missing = record {
   to_come = missing;
 }
 
+prepend_twice : (fs gs : List FrameValue) (r : Reading) → prepend (fs ++ gs) r ≡ prepend fs (prepend gs r)
+prepend_twice fs gs r = ap (λ (all : List FrameValue). record r { frames = all }) (append_assoc fs gs r.frames)
+
+-- a piece that was read
+pub fed : (gone : List FrameValue) (read piece : List ℕ) (state after : CaptureState) (old new : List FrameValue) → IsSoFar read [] state (gone ++ old)
+    → record { frames = new; fault = None; state = after } ≡ prepend old (reading state piece) → IsSoFar (read ++ piece) [] after (gone ++ new)
+fed gone read piece state after old new at now =
+    ap (prepend gone) now ∙ sym (prepend_twice gone old (reading state piece)) ∙ sym (so_far read piece [] (gone ++ old) state at)
+
+fed_stops : (gone : List FrameValue) (wanted : Reading) (frames : List FrameValue) (fault : PcapFault) → Stops wanted frames fault → Stops (prepend gone wanted) (gone ++ frames) fault
+fed_stops gone wanted frames fault (inl found) = inl (ap (prepend gone) found)
+fed_stops gone wanted frames fault (inr memory) = inr (memory.0, (memory.1.0, append_assoc gone frames memory.1.0 ∙ ap (λ fs. gone ++ fs) memory.1.1))
+
+-- and one that stopped the reading of a capture
+fed_stopped : (gone : List FrameValue) (read piece : List ℕ) (state : CaptureState) (old new : List FrameValue) (fault : PcapFault) → IsSoFar read [] state (gone ++ old)
+    → Stops (prepend old (reading state piece)) new fault → Stops (prepend [] (capture (read ++ piece))) (gone ++ new) fault
+fed_stopped gone read piece state old new fault at stops =
+    subst (λ wanted. Stops wanted (gone ++ new) fault) (sym (prepend_twice gone old (reading state piece)) ∙ sym (so_far read piece [] (gone ++ old) state at))
+    (fed_stops gone (prepend old (reading state piece)) new fault stops)
+
 -- a piece that stopped the reading
-pub stopped : (bytes piece more : List ℕ) (progress : Progress) (frames : List FrameValue) (fault : PcapFault) (at : IsUnderway bytes (piece ++ more) progress)
-    → (0 < progress.missing → length piece ≤ progress.missing) → Stops (prepend [] (capture (at.read ++ piece))) frames fault
-    → IsReading bytes more progress.heading frames (Some fault)
-stopped bytes piece more progress frames fault at within stops = record {
-  read = at.read ++ piece;
-  front = at.front ∙ sym (append_assoc at.read piece more);
-  told =
-      stopped_told at.read piece progress.heading frames fault (so_far_fault at.read progress.capture progress.frames.items at.so_far)
-      (told bytes (piece ++ more) progress at) (room bytes piece (piece ++ more) progress at within) stops;
-  ended = stopped_to (at.read ++ piece) more frames fault stops;
-}
+pub stopped : (gone : List FrameValue) (bytes piece more : List ℕ) (progress : Progress) (frames : List FrameValue) (fault : PcapFault) (at : IsUnderway gone bytes (piece ++ more) progress)
+    → (0 < progress.missing → length piece ≤ progress.missing) → Stops (prepend progress.frames.items (reading progress.capture piece)) frames fault
+    → IsReading bytes more progress.heading (gone ++ frames) (Some fault)
+stopped gone bytes piece more progress frames fault at within stops =
+    let all = fed_stopped gone at.read piece progress.capture progress.frames.items frames fault at.so_far stops in record {
+      read = at.read ++ piece;
+      front = at.front ∙ sym (append_assoc at.read piece more);
+      told =
+          stopped_told at.read piece progress.heading (gone ++ frames) fault (so_far_fault at.read progress.capture (gone ++ progress.frames.items) at.so_far)
+          (told gone bytes (piece ++ more) progress at) (room gone bytes piece (piece ++ more) progress at within) all;
+      ended = stopped_to (at.read ++ piece) more (gone ++ frames) fault all;
+    }
 
 -- a device that failed behind what was read
-pub failed : (bytes old more : List ℕ) (progress : Progress) (fault : PcapFault) → IsUnderway bytes old progress → more ≡ old → fault ≡ ReadFault
-    → IsEnded bytes more progress (Some fault)
-failed bytes old more progress fault at same is = record {
+pub failed : (gone : List FrameValue) (bytes old more : List ℕ) (progress : Progress) (fault : PcapFault) → IsUnderway gone bytes old progress → more ≡ old → fault ≡ ReadFault
+    → IsEnded gone bytes more progress (Some fault)
+failed gone bytes old more progress fault at same is = record {
   read = at.read;
   front = at.front ∙ ap (λ left. at.read ++ left) (sym same);
-  told = inl (told bytes old progress at);
+  told = inl (told gone bytes old progress at);
   ended =
-      inl (is, so_far_frames at.read progress.capture progress.frames.items at.so_far, so_far_fault at.read progress.capture progress.frames.items at.so_far);
-}
-
--- want of memory behind what was read
-pub starved : (bytes more : List ℕ) (progress : Progress) → IsUnderway bytes more progress → IsEnded bytes more progress (Some NoMemory)
-starved bytes more progress at = record {
-  read = at.read;
-  front = at.front;
-  told = inl (told bytes more progress at);
-  ended = inr (inl (refl, ([], append-nil progress.frames.items ∙ so_far_frames at.read progress.capture progress.frames.items at.so_far)));
+      inl (is, so_far_frames at.read progress.capture (gone ++ progress.frames.items) at.so_far, so_far_fault at.read progress.capture (gone ++ progress.frames.items) at.so_far);
 }
 
 -- a capture that ends whole
-pub ended : (bytes : List ℕ) (progress : Progress) (at : IsUnderway bytes [] progress) → fault_in at.read ≡ None → IsEnded bytes [] progress None
-ended bytes progress at whole = record {
+pub ended : (gone : List FrameValue) (bytes : List ℕ) (progress : Progress) (at : IsUnderway gone bytes [] progress) → fault_in at.read ≡ None → IsEnded gone bytes [] progress None
+ended gone bytes progress at whole = record {
   read = at.read;
   front = at.front;
-  told = inl (told bytes [] progress at);
-  ended = (refl, so_far_frames at.read progress.capture progress.frames.items at.so_far, whole);
+  told = inl (told gone bytes [] progress at);
+  ended = (refl, so_far_frames at.read progress.capture (gone ++ progress.frames.items) at.so_far, whole);
 }
 
 -- and one that is cut short
-pub cut : (bytes : List ℕ) (progress : Progress) (fault : PcapFault) (at : IsUnderway bytes [] progress) → fault_in at.read ≡ Some fault
-    → IsEnded bytes [] progress (Some fault)
-cut bytes progress fault at found = record {
+pub cut : (gone : List FrameValue) (bytes : List ℕ) (progress : Progress) (fault : PcapFault) (at : IsUnderway gone bytes [] progress) → fault_in at.read ≡ Some fault
+    → IsEnded gone bytes [] progress (Some fault)
+cut gone bytes progress fault at found = record {
   read = at.read;
   front = at.front;
-  told = inl (told bytes [] progress at);
+  told = inl (told gone bytes [] progress at);
   ended =
       inr (inr (
-        so_far_frames at.read progress.capture progress.frames.items at.so_far ∙ ap (λ all. (capture all).frames) (sym (append-nil at.read)),
+        so_far_frames at.read progress.capture (gone ++ progress.frames.items) at.so_far ∙ ap (λ all. (capture all).frames) (sym (append-nil at.read)),
         ap fault_in (append-nil at.read) ∙ found,
         inl refl,
       ));
 }
+
+-- frames that are taken out
+pub taken : (gone : List FrameValue) (bytes more : List ℕ) (before after : Progress) → after.capture ≡ before.capture → after.heading ≡ before.heading → after.missing ≡ before.missing
+    → after.frames.items ≡ [] → IsUnderway gone bytes more before → IsUnderway (gone ++ before.frames.items) bytes more after
+taken gone bytes more before after same heading missing none at = record {
+  read = at.read;
+  front = at.front;
+  so_far = taken_frames gone at.read before.capture after.capture before.frames.items after.frames.items same none at.so_far;
+  known = heading ∙ at.known ∙ ap (λ (s : CaptureState). heading_at s.stage) (sym same);
+  to_come = missing ∙ at.to_come;
+}
+  where
+    taken_frames : (gone : List FrameValue) (read : List ℕ) (before after : CaptureState) (old new : List FrameValue) → after ≡ before → new ≡ [] → IsSoFar read [] before (gone ++ old)
+        → IsSoFar read [] after ((gone ++ old) ++ new)
+    taken_frames gone read before after old new same none at =
+        subst (λ (s : CaptureState). IsSoFar read [] s ((gone ++ old) ++ new)) (sym same)
+        (subst (λ (fs : List FrameValue). IsSoFar read [] before fs) (sym (ap (λ fs. (gone ++ old) ++ fs) none ∙ append-nil (gone ++ old))) at)
+
+least_by : (read : List ℕ) (found : Option (Result Heading PcapFault)) → heading_of read ≡ found
+    → fault_after (after_heading read found).fault (after_heading read found).state ≡ None → 24 ≤ length read
+least_by read None is none = absurd cc
+least_by read (Some (Err fault)) is none = absurd cc
+least_by read (Some (Ok heading)) is none = heading_read read heading is
+
+least : (read : List ℕ) → fault_in read ≡ None → 24 ≤ length read
+unfolding capture
+least read none = least_by read (heading_of read) refl none
+
+-- a capture that ends whole has a whole heading
+pub whole_heading : (gone : List FrameValue) (bytes more : List ℕ) (progress : Progress) (at : IsUnderway gone bytes more progress) → fault_in at.read ≡ None → progress.missing ≡ 0
+whole_heading gone bytes more progress at none =
+    let long = least at.read none in
+    omega (arith, at.to_come, long)
+
+-- once none is, the heading is there
+pub headed : (gone : List FrameValue) (bytes more : List ℕ) (progress : Progress) (at : IsUnderway gone bytes more progress) → progress.missing ≡ 0 → progress.heading ≡ None → ⊥
+headed gone bytes more progress at whole none =
+    let short = capture_short at.read (so_far_fault at.read progress.capture (gone ++ progress.frames.items) at.so_far)
+    (subst (λ heading. heading_in at.read heading) none (told gone bytes more progress at)) in
+    omega (arith, at.to_come, whole, short)
+
+-- without a whole heading none is told
+no_heading : (read : List ℕ) (heading : Option Heading) → heading_in read heading → length read < 24 → heading ≡ None
+no_heading read None told short = refl
+no_heading read (Some heading) told short = let long = heading_read read heading told in absurd (omega (arith, long, short))
+
+-- a reading that ended before the heading was there
+pub unheaded : (bytes old more : List ℕ) (before after : Progress) (fault : PcapFault) (at : IsUnderway [] bytes old before) → 0 < before.missing → after.heading ≡ before.heading
+    → IsEnded [] bytes more after (Some fault) → (frames : List FrameValue) × IsReading bytes more None frames (Some fault)
+unheaded bytes old more before after fault at some same ended =
+    let short : length at.read < 24 = omega (arith, at.to_come, some) in
+    let none = same ∙ no_heading at.read before.heading (told [] bytes old before at) short in
+    (after.frames.items, subst (λ (h : Option Heading). IsReading bytes more h after.frames.items (Some fault)) none ended)
+
+-- a capture whose records come has its heading from then on
+pub stays_records : (heading : Heading) (state after : CaptureState) (piece : List ℕ) (old new : List FrameValue) → state.stage ≡ Records heading
+    → record { frames = new; fault = None; state = after } ≡ prepend old (reading state piece) → after.stage ≡ Records heading
+stays_records heading state after piece old new records is =
+    let by : reading state piece ≡ read_on (Records heading) (state.rest ++ piece) = ap (λ s. read_on s (state.rest ++ piece)) records in
+    let none = sym (ap (λ (r : Reading). r.fault) by) ∙ sym (ap (λ (r : Reading). r.fault) is) in
+    ap (λ (r : Reading). r.state.stage) is ∙ ap (λ (r : Reading). r.state.stage) by ∙ records_stage heading (state.rest ++ piece) none
+
+pub stage_of : (stage : Stage) (heading : Heading) → heading_at stage ≡ Some heading → stage ≡ Records heading
+stage_of Opening heading is = absurd cc
+stage_of (Records other) heading is = cc
+stage_of Broken heading is = absurd cc
+
+-- What was read, its frames, and those that memory was not there for.
+pub record IsFrontRead (bytes more : List ℕ) (heading : Heading) (frames : List FrameValue) : Type 0 where
+  pub read : List ℕ
+  pub others : List FrameValue
+  pub front : bytes ≡ read ++ more
+  pub headed : heading_of read ≡ Some (Ok heading)
+  pub parted : (capture read).frames ≡ frames ++ others
+
+told_heading : (read : List ℕ) (heading : Heading) (fault : Option PcapFault) → IsHeadingTold read (Some heading) fault → heading_of read ≡ Some (Ok heading)
+told_heading read heading fault (inl told) = told
+told_heading read heading fault (inr none) = absurd cc
+
+rest_frames : (read more : List ℕ) (fault : PcapFault) → (more ≡ []) ⊎ ((capture read).fault ≡ Some fault) → (capture (read ++ more)).frames ≡ (capture read).frames
+rest_frames read more fault (inl nothing) = ap (λ all. (capture all).frames) (ap (λ m. read ++ m) nothing ∙ append-nil read)
+rest_frames read more fault (inr stands) = ap (λ (r : Reading). r.frames) (fault_stands read more fault stands)
+
+frames_read : (read more : List ℕ) (frames : List FrameValue) (fault : Option PcapFault) → IsReadTo read more frames fault → (others : List FrameValue) × ((capture read).frames ≡ frames ++ others)
+frames_read read more frames None ended = ([], sym ended.1 ∙ sym (append-nil frames))
+frames_read read more frames (Some fault) (inl unread) = ([], sym unread.1 ∙ sym (append-nil frames))
+frames_read read more frames (Some fault) (inr (inl memory)) = (memory.1.0, sym memory.1.1)
+frames_read read more frames (Some fault) (inr (inr stands)) = ([], sym (stands.0 ∙ rest_frames read more fault stands.2) ∙ sym (append-nil frames))
+
+pub front_ended : (bytes more : List ℕ) (heading : Heading) (frames : List FrameValue) (fault : Option PcapFault) → IsReading bytes more (Some heading) frames fault
+    → IsFrontRead bytes more heading frames
+front_ended bytes more heading frames fault reading =
+    let parts = frames_read reading.read more frames fault reading.ended in record {
+      read = reading.read;
+      others = parts.0;
+      front = reading.front;
+      headed = told_heading reading.read heading fault reading.told;
+      parted = parts.1;
+    }
+
+pub front_underway : (gone : List FrameValue) (bytes more : List ℕ) (progress : Progress) (heading : Heading) → progress.heading ≡ Some heading → IsUnderway gone bytes more progress
+    → IsFrontRead bytes more heading (gone ++ progress.frames.items)
+front_underway gone bytes more progress heading is at = record {
+  read = at.read;
+  others = [];
+  front = at.front;
+  headed = subst (λ (h : Option Heading). heading_in at.read h) is (told gone bytes more progress at);
+  parted = sym (so_far_frames at.read progress.capture (gone ++ progress.frames.items) at.so_far) ∙ sym (append-nil (gone ++ progress.frames.items));
+}
+
+-- where no fault was found so far, all frames that were read are there
+pub whole_underway : (gone : List FrameValue) (bytes more : List ℕ) (progress : Progress) (heading : Heading) → progress.heading ≡ Some heading → IsUnderway gone bytes more progress
+    → (read : List ℕ) × (bytes ≡ read ++ more) × (heading_of read ≡ Some (Ok heading)) × ((capture read).frames ≡ gone ++ progress.frames.items)
+whole_underway gone bytes more progress heading is at =
+    (at.read, at.front, subst (λ (h : Option Heading). heading_in at.read h) is (told gone bytes more progress at), sym (so_far_frames at.read progress.capture (gone ++ progress.frames.items) at.so_far))
+
+-- the same, whatever a call that reads a piece came to
+pub front_read : (gone : List FrameValue) (bytes more : List ℕ) (progress : Progress) (heading : Heading) (result : Result Bool PcapFault) → progress.heading ≡ Some heading
+    → IsReadOn gone bytes more progress result → IsFrontRead bytes more heading (gone ++ progress.frames.items)
+front_read gone bytes more progress heading (Ok true) is at = front_underway gone bytes more progress heading is at
+front_read gone bytes more progress heading (Ok false) is at =
+    front_ended bytes more heading (gone ++ progress.frames.items) None (subst (λ (h : Option Heading). IsReading bytes more h (gone ++ progress.frames.items) None) is at)
+front_read gone bytes more progress heading (Err fault) is at =
+    front_ended bytes more heading (gone ++ progress.frames.items) (Some fault) (subst (λ (h : Option Heading). IsReading bytes more h (gone ++ progress.frames.items) (Some fault)) is at)

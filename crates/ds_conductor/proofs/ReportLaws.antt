@@ -1,19 +1,19 @@
 -- A report, from the sums by colour.
 use Rattle.std.proofs.Common.{◌≡◌, ℕ, cond, false, List, [], ◌∷◌, length, refl, sym, ap, ◌∙◌, arith}
 use Rattle.std.proofs.lemmas.List.Sums.{sum_by-cons}
-use Rattle.moment_core.specs.Colours.{is_green, is_red, is_yellow}
+use Rattle.moment_core.specs.Colours.{is_red}
 use Rattle.moment_core.specs.declared.colour.Colour.{Colour}
 use Rattle.pcap_capture.specs.Frames.{FrameValue}
 use Rattle.frame_marker.specs.declared.sight.Sight.{Sight}
 use Rattle.ds_visits_base.specs.declared.sent.Sent.{Sent}
 use Rattle.ds_conductor.specs.Reports.{packets_as, report_of}
-use Rattle.ds_conductor.specs.Sendings.{IsSending}
-use Rattle.ds_conductor.specs.Tallies.{tally_of}
+use Rattle.ds_conductor.specs.Sendings.{AreCounted, sent_of}
+use Rattle.ds_conductor.specs.Tallies.{AreTallied}
 use Rattle.ds_conductor.specs.Texts.{is_dropped}
 use Rattle.ds_conductor.specs.declared.report.Report.{Report}
 use Rattle.ds_conductor.specs.declared.rule.RedRule.{RedRule}
 use Rattle.ds_conductor.specs.declared.rule.RedRule.TheVariants.{Drop, Keep}
-use Rattle.ds_conductor.specs.declared.sending.Traffic.{Traffic}
+use Rattle.ds_conductor.specs.declared.sending.Counts.{Counts}
 use Rattle.ds_conductor.specs.declared.tally.Tallies.{Tallies}
 
 -- where red packets are kept, none is left out
@@ -26,21 +26,21 @@ dropped_by : (rule : RedRule) (coloured : List (Sent × Colour)) (red dropped : 
 dropped_by Keep coloured red dropped reds kept left_out = kept refl ∙ sym (none_dropped coloured)
 dropped_by Drop coloured red dropped reds kept left_out = left_out refl ∙ reds
 
--- the report that the sums of the three colours make
-pub told : (see : List ℕ → Sight) (rule : RedRule) (frames : List FrameValue) (s : Traffic) (coloured : List (Sent × Colour)) (records marked dropped : ℕ) (sums : Tallies)
-    → IsSending see frames s → length frames ≡ records → marked ≡ length coloured
-    → sums.green ≡ tally_of is_green coloured → sums.yellow ≡ tally_of is_yellow coloured → sums.red ≡ tally_of is_red coloured
+-- the report that counts and the sums of the three colours make
+pub told : (see : List ℕ → Sight) (rule : RedRule) (frames : List FrameValue) (c : Counts) (coloured : List (Sent × Colour)) (dropped : ℕ) (sums : Tallies)
+    → AreCounted see frames c → length coloured ≡ length (sent_of see frames) → AreTallied coloured sums
     → (rule ≡ Keep → dropped ≡ 0) → (rule ≡ Drop → dropped ≡ sums.red.packets)
     → (let made : Report = record {
-      records = records;
-      marked = marked;
-      unmatched = s.unmatched;
-      skipped = s.skipped;
-      unverified = s.unverified;
+      records = c.records;
+      marked = c.matched;
+      unmatched = c.unmatched;
+      skipped = c.skipped;
+      unverified = c.unverified;
       dropped = dropped;
       packets = sums.green.packets ∷ sums.yellow.packets ∷ sums.red.packets ∷ [];
       bytes = sums.green.bytes ∷ sums.yellow.bytes ∷ sums.red.bytes ∷ [];
     } in made ≡ report_of see rule frames coloured)
-told see rule frames s coloured records marked dropped sums sending long marks green yellow red kept left_out =
-    let reds = dropped_by rule coloured sums.red.packets dropped (ap (λ t. t.packets) red) kept left_out in
-    rw (← long, marks, sending.unmatched, sending.skipped, sending.unverified, reds, green, yellow, red) refl
+told see rule frames c coloured dropped sums counted long tallied kept left_out =
+    let reds = dropped_by rule coloured sums.red.packets dropped (ap (λ t. t.packets) tallied.red) kept left_out in
+    let marked : c.matched ≡ length coloured = counted.matched ∙ sym long in
+    rw (counted.records, marked, counted.unmatched, counted.skipped, counted.unverified, reds, tallied.green, tallied.yellow, tallied.red) refl

@@ -1,5 +1,7 @@
--- The numbers of the faults.
+-- The faults of a marking, and their numbers.
 use Rattle.std.specs.Prelude.{ℕ}
+use Rattle.pcap_capture.specs.declared.fault.PcapFault.{PcapFault}
+use Rattle.pcap_capture.specs.declared.fault.PcapFault.TheVariants as pcaps
 use Rattle.ds_conductor.specs.declared.fault.MarkFault.{MarkFault}
 use Rattle.ds_conductor.specs.declared.fault.MarkFault.TheVariants.{Capture, UnknownPort, JournalFull, NoMemory}
 
@@ -8,3 +10,16 @@ code_of (Capture fault) = 1
 code_of UnknownPort = 2
 code_of JournalFull = 3
 code_of NoMemory = 4
+
+-- what is answered where a capture could not be read on
+abbrev pub fault_of : PcapFault → MarkFault
+fault_of pcaps.NotPcap = Capture pcaps.NotPcap
+fault_of pcaps.IsPcapng = Capture pcaps.IsPcapng
+fault_of pcaps.BadVersion = Capture pcaps.BadVersion
+fault_of (pcaps.LinkType number) = Capture (pcaps.LinkType number)
+fault_of (pcaps.RecordTooLong count) = Capture (pcaps.RecordTooLong count)
+fault_of pcaps.Truncated = Capture pcaps.Truncated
+fault_of pcaps.ReadFault = Capture pcaps.ReadFault
+fault_of pcaps.WriteFault = Capture pcaps.WriteFault
+fault_of pcaps.NoMemory = NoMemory
+fault_of pcaps.Failed = Capture pcaps.Failed

@@ -1,7 +1,9 @@
 -- What a capture becomes whose frames are marked.
+pub mod Conditionings
 pub mod Faults
 pub mod Laws
 pub mod Markings
+pub mod Passings
 pub mod Readings
 pub mod Reports
 pub mod Sendings

@@ -60,34 +60,29 @@ marking_behind t port red None frames = nothing_marked
 abbrev pub marking_in : Table → List ℕ → RedRule → List ℕ → Marking
 marking_in t port red bytes = marking_behind t port red (heading_of bytes) (capture bytes).frames
 
--- the marking of frames whose heading is there, or not
-abbrev pub marking_told : Table → List ℕ → RedRule → Option Heading → List FrameValue → Marking
-marking_told t port red None frames = nothing_marked
-marking_told t port red (Some heading) frames = marking_of t port red heading frames
-
 -- a marking was written whole behind what stood, and this is its report
 pub record IsWhole (m : Marking) (report : Report) (before after : List ℕ) : Type 0 where
   pub written : after ≡ before ++ m.text
   pub told : report ≡ m.report
 
--- What was written of frames, and what is told of them: all; or a front, with the whole report, where the device failed
--- or memory ran out on the way; or nothing, where memory ran out before, and then nothing is told either. No journal is
--- kept, so none is full.
-abbrev pub IsPassed : Marking → List ℕ → List ℕ → Result Report (Report × MarkFault) → Type 0
-IsPassed m before after (Ok report) = IsWhole m report before after
-IsPassed m before after (Err (report, marks.Capture fault)) =
-    (fault ≡ pcaps.WriteFault) × IsFrontOf before m.text after × (report ≡ m.report)
-IsPassed m before after (Err (report, marks.UnknownPort)) = ⊥
-IsPassed m before after (Err (report, marks.JournalFull)) = ⊥
-IsPassed m before after (Err (report, marks.NoMemory)) =
-    ((after ≡ before) × (report ≡ nothing_read)) ⊎ (IsFrontOf before m.text after × (report ≡ m.report))
-
--- the same of the bytes that a device gave, which still has these
-pub record IsPassedOf (marked : List ℕ → Marking) (bytes more before after : List ℕ)
-    (answer : Result Report (Report × MarkFault)) : Type 0 where
+-- The device that takes bytes failed: a front of the marking of what was read is written, and its report is told.
+pub record IsCutOff (marked : List ℕ → Marking) (bytes more before after : List ℕ) (report : Report) : Type 0 where
   pub read : List ℕ
   pub front : bytes ≡ read ++ more
-  pub passed : IsPassed (marked read) before after answer
+  pub written : IsFrontOf before (marked read).text after
+  pub told : report ≡ (marked read).report
+
+-- Memory ran out: a front of the marking of what was read is written, and told is the report of those of its frames that
+-- memory was there for.
+pub record IsStarved (t : Table) (port : List ℕ) (red : RedRule) (bytes more before after : List ℕ) (report : Report)
+    : Type 0 where
+  pub read : List ℕ
+  pub frames : List FrameValue
+  pub others : List FrameValue
+  pub front : bytes ≡ read ++ more
+  pub parted : (capture read).frames ≡ frames ++ others
+  pub written : IsFrontOf before (marking_in t port red read).text after
+  pub told : report ≡ (marking_behind t port red (heading_of read) frames).report
 
 -- The marking of the bytes that a device gave before it failed was written whole, and no fault stands in them.
 pub record IsWholeSoFar (marked : List ℕ → Marking) (bytes more before after : List ℕ) (report : Report) : Type 0 where
@@ -117,24 +112,24 @@ IsMarkedBut marked bytes more before after report (pcaps.RecordTooLong count) =
 IsMarkedBut marked bytes more before after report pcaps.Truncated =
     IsWholeWith marked bytes before after report (Some pcaps.Truncated)
 IsMarkedBut marked bytes more before after report pcaps.ReadFault = IsWholeSoFar marked bytes more before after report
-IsMarkedBut marked bytes more before after report pcaps.WriteFault =
-    IsPassedOf marked bytes more before after (Err (report, marks.Capture pcaps.WriteFault))
+IsMarkedBut marked bytes more before after report pcaps.WriteFault = IsCutOff marked bytes more before after report
 IsMarkedBut marked bytes more before after report pcaps.NoMemory = ⊥
 IsMarkedBut marked bytes more before after report pcaps.Failed =
     IsWholeWith marked bytes before after report (Some pcaps.Failed)
 
 -- What was written behind what stood, and what is answered, for the bytes that a device had and those that it still
 -- has: all of the marked capture, up to its end or to the first fault that stands in it; or all of what the device gave
--- before it failed; or a front; or nothing.
-abbrev pub IsMarkedAs : (List ℕ → Marking) → List ℕ → List ℕ → List ℕ → List ℕ → Result Report (Report × MarkFault)
-    → Type 0
-IsMarkedAs marked bytes more before after (Ok report) = IsWholeWith marked bytes before after report None
-IsMarkedAs marked bytes more before after (Err (report, marks.Capture fault)) =
-    IsMarkedBut marked bytes more before after report fault
-IsMarkedAs marked bytes more before after (Err (report, marks.UnknownPort)) = ⊥
-IsMarkedAs marked bytes more before after (Err (report, marks.JournalFull)) = ⊥
-IsMarkedAs marked bytes more before after (Err (report, marks.NoMemory)) =
-    IsPassedOf marked bytes more before after (Err (report, marks.NoMemory))
+-- before it failed; or a front, where the other device failed or memory ran out.
+abbrev pub IsMarkedAs : Table → List ℕ → RedRule → List ℕ → List ℕ → List ℕ → List ℕ
+    → Result Report (Report × MarkFault) → Type 0
+IsMarkedAs t port red bytes more before after (Ok report) =
+    IsWholeWith (marking_in t port red) bytes before after report None
+IsMarkedAs t port red bytes more before after (Err (report, marks.Capture fault)) =
+    IsMarkedBut (marking_in t port red) bytes more before after report fault
+IsMarkedAs t port red bytes more before after (Err (report, marks.UnknownPort)) = ⊥
+IsMarkedAs t port red bytes more before after (Err (report, marks.JournalFull)) = ⊥
+IsMarkedAs t port red bytes more before after (Err (report, marks.NoMemory)) =
+    IsStarved t port red bytes more before after report
 
 -- nothing was written, since there is no such port
 abbrev pub IsWithoutPort : List ℕ → List ℕ → Result Report (Report × MarkFault) → Type 0
@@ -146,7 +141,7 @@ abbrev pub IsMarked : Table → List ℕ → RedRule → List ℕ → List ℕ �
     → Type 0
 IsMarked t port red bytes more before after answer =
     ((is_port t.domain port ≡ false) × IsWithoutPort before after answer)
-    ⊎ ((is_port t.domain port ≡ true) × IsMarkedAs (marking_in t port red) bytes more before after answer)
+    ⊎ ((is_port t.domain port ≡ true) × IsMarkedAs t port red bytes more before after answer)
 
 -- whether the marked capture could not be written
 abbrev pub is_unwritten : Result Report (Report × MarkFault) → Bool
@@ -204,17 +199,3 @@ pub record IsOfReads (answer : Result Report (Report × MarkFault)) (failed now 
 abbrev pub answer_of : Report → Option PcapFault → Result Report (Report × MarkFault)
 answer_of report None = Ok report
 answer_of report (Some fault) = Err (report, marks.Capture fault)
-
--- whether memory ran out
-abbrev pub is_starved : Option PcapFault → Bool
-is_starved None = false
-is_starved (Some pcaps.NotPcap) = false
-is_starved (Some pcaps.IsPcapng) = false
-is_starved (Some pcaps.BadVersion) = false
-is_starved (Some (pcaps.LinkType number)) = false
-is_starved (Some (pcaps.RecordTooLong count)) = false
-is_starved (Some pcaps.Truncated) = false
-is_starved (Some pcaps.ReadFault) = false
-is_starved (Some pcaps.WriteFault) = false
-is_starved (Some pcaps.NoMemory) = true
-is_starved (Some pcaps.Failed) = false

@@ -1,6 +1,7 @@
 -- What is read of a capture that a device gives.
-use Rattle.std.specs.Prelude.{◌≡◌, ◌≢◌, ◌⊎◌, ℕ, ◌-◌, Bool, true, false, List, [], ◌++◌, length, Option, None, Some}
+use Rattle.std.specs.Prelude.{◌≡◌, ◌≢◌, ◌⊎◌, ℕ, ◌+◌, ◌-◌, ◌*◌, ◌^◌, ◌≤◌, Bool, true, false, List, [], ◌++◌, length, Option, None, Some}
 use Rattle.std.specs.Prelude.{Result, Ok, Err}
+use Rattle.pcap_capture.specs.Counts.{count_after, next_count}
 use Rattle.pcap_capture.specs.Frames.{FrameValue}
 use Rattle.pcap_capture.specs.Grammar.{IsSoFar, capture, fault_in, heading_of}
 use Rattle.pcap_capture.specs.declared.fault.PcapFault.{PcapFault}
@@ -45,24 +46,40 @@ heading_at Opening = None
 heading_at (Records heading) = Some heading
 heading_at Broken = None
 
--- what was read of bytes in which no fault was found so far: the front of them, the heading once it is there, how many
--- bytes of it are still to come, and the frames
-pub record IsUnderway (bytes more : List ℕ) (progress : Progress) : Type 0 where
+-- What was read of bytes in which no fault was found so far: the front of them, the heading once it is there, how many
+-- bytes of it are still to come, and the frames, of which these were taken out.
+pub record IsUnderway (gone : List FrameValue) (bytes more : List ℕ) (progress : Progress) : Type 0 where
   pub read : List ℕ
   pub front : bytes ≡ read ++ more
-  pub so_far : IsSoFar read [] progress.capture progress.frames.items
+  pub so_far : IsSoFar read [] progress.capture (gone ++ progress.frames.items)
   pub known : progress.heading ≡ heading_at progress.capture.stage
   pub to_come : progress.missing ≡ 24 - length read
 
 -- a reading that ended with this fault, or at the capture's end
-abbrev pub IsEnded : List ℕ → List ℕ → Progress → Option PcapFault → Type 0
-IsEnded bytes more progress fault = IsReading bytes more progress.heading progress.frames.items fault
+abbrev pub IsEnded : List FrameValue → List ℕ → List ℕ → Progress → Option PcapFault → Type 0
+IsEnded gone bytes more progress fault = IsReading bytes more progress.heading (gone ++ progress.frames.items) fault
 
 -- what a call that reads a piece comes to: more may come, or it ended
-abbrev pub IsReadOn : List ℕ → List ℕ → Progress → Result Bool PcapFault → Type 0
-IsReadOn bytes more progress (Ok true) = IsUnderway bytes more progress
-IsReadOn bytes more progress (Ok false) = IsEnded bytes more progress None
-IsReadOn bytes more progress (Err fault) = IsEnded bytes more progress (Some fault)
+abbrev pub IsReadOn : List FrameValue → List ℕ → List ℕ → Progress → Result Bool PcapFault → Type 0
+IsReadOn gone bytes more progress (Ok true) = IsUnderway gone bytes more progress
+IsReadOn gone bytes more progress (Ok false) = IsEnded gone bytes more progress None
+IsReadOn gone bytes more progress (Err fault) = IsEnded gone bytes more progress (Some fault)
+
+-- how much was read and may be read: a frame has sixteen bytes of its own at least, and a call gives 65,536 at most
+abbrev pub bytes_of : Progress → ℕ
+bytes_of progress = 16 * length progress.frames.items + length progress.capture.rest + 65536 * progress.turns
+
+-- The device that gives bytes did not fail, and was asked as often as calls are spent of 2^32.
+pub record IsAsked (left failed now asked_before asked : ℕ) : Type 0 where
+  pub some : left ≤ 2 ^ 32
+  pub unfailed : now ≡ failed
+  pub spent : asked ≡ count_after (2 ^ 32 - left) asked_before
+
+-- what is known of it behind a call: where it is told to have failed, it did, or all calls were spent
+abbrev pub IsAskedOn : Bool → ℕ → ℕ → ℕ → ℕ → ℕ → Type 0
+IsAskedOn false left failed now asked_before asked = IsAsked left failed now asked_before asked
+IsAskedOn true left failed now asked_before asked =
+    (now ≡ next_count failed) ⊎ ((now ≡ failed) × (asked ≡ count_after (2 ^ 32) asked_before))
 
 -- whether a device failed that gives bytes
 abbrev pub is_read_fault : {T : Type 0} → Result T PcapFault → Bool
@@ -90,3 +107,16 @@ is_own ReadFault = false
 is_own WriteFault = false
 is_own NoMemory = true
 is_own Failed = true
+
+-- whether memory ran out
+abbrev pub is_starved : PcapFault → Bool
+is_starved NotPcap = false
+is_starved IsPcapng = false
+is_starved BadVersion = false
+is_starved (LinkType number) = false
+is_starved (RecordTooLong count) = false
+is_starved Truncated = false
+is_starved ReadFault = false
+is_starved WriteFault = false
+is_starved NoMemory = true
+is_starved Failed = false

@@ -1,18 +1,22 @@
 -- Which packets the frames of a capture send, and when.
-use Rattle.std.specs.Prelude.{◌≡◌, ℕ, suc, List, [], ◌∷◌, ◌++◌, max}
+use Rattle.std.specs.Prelude.{◌≡◌, ℕ, suc, ◌+◌, List, [], ◌∷◌, ◌++◌, length, max, Option, None, Some}
+use Rattle.std.specs.Prelude.{option_to_list, if◌then◌else◌}
 use Rattle.pcap_capture.specs.Frames.{FrameValue}
 use Rattle.frame_marker.specs.declared.sight.Sight.{Sight}
 use Rattle.frame_marker.specs.declared.sight.Sight.TheVariants.{Matched, Skipped, Unmatched}
 use Rattle.ds_visits_base.specs.declared.sent.Sent.{Sent}
 use Rattle.ds_conductor.specs.Reports.{is_skipped, is_unmatched, is_unverified, seen_as}
-use Rattle.ds_conductor.specs.declared.sending.Traffic.{Traffic}
+use Rattle.ds_conductor.specs.declared.sending.Counts.{Counts}
 
--- the packet of a frame that a contract takes
+-- the packet of a frame, if a contract takes it
+abbrev pub packet_of : Sight → ℕ → ℕ → Option Sent
+packet_of Skipped number moment = None
+packet_of Unmatched number moment = None
+packet_of (Matched flow header) number moment =
+    Some (record { flow = flow; packet = number; size = header.total; dscp = header.dscp; moment = moment })
+
 abbrev pub sent_by : Sight → ℕ → ℕ → List Sent
-sent_by Skipped number moment = []
-sent_by Unmatched number moment = []
-sent_by (Matched flow header) number moment =
-    record { flow = flow; packet = number; size = header.total; dscp = header.dscp; moment = moment } ∷ []
+sent_by sight number moment = option_to_list (packet_of sight number moment)
 
 -- The packets of the frames that contracts take, each with the number of its record, at the greatest stamp so far. The
 -- first frame has this number, and the greatest stamp before it is this moment.
@@ -25,9 +29,24 @@ sent_from see number newest (f ∷ frames) =
 abbrev pub sent_of : (List ℕ → Sight) → List FrameValue → List Sent
 sent_of see frames = sent_from see 0 0 frames
 
--- The packets are those that the frames of a capture send at a port, and the others are counted by what they are there.
-pub record IsSending (see : List ℕ → Sight) (frames : List FrameValue) (s : Traffic) : Type 0 where
-  pub sent : s.sent.items ≡ sent_of see frames
-  pub unmatched : s.unmatched ≡ seen_as see is_unmatched frames
-  pub skipped : s.skipped ≡ seen_as see is_skipped frames
-  pub unverified : s.unverified ≡ seen_as see is_unverified frames
+-- Frames are counted, by what they are at a port.
+pub record AreCounted (see : List ℕ → Sight) (frames : List FrameValue) (c : Counts) : Type 0 where
+  pub records : c.records ≡ length frames
+  pub matched : c.matched ≡ length (sent_of see frames)
+  pub unmatched : c.unmatched ≡ seen_as see is_unmatched frames
+  pub skipped : c.skipped ≡ seen_as see is_skipped frames
+  pub unverified : c.unverified ≡ seen_as see is_unverified frames
+
+-- before the first frame
+abbrev pub nothing_counted : Counts
+nothing_counted = record { records = 0; unmatched = 0; skipped = 0; matched = 0; unverified = 0 }
+
+-- one frame more, by what it is
+abbrev pub counted_on : Counts → Sight → Counts
+counted_on c sight = record {
+  records = c.records + 1;
+  unmatched = c.unmatched + (if is_unmatched sight then 1 else 0);
+  skipped = c.skipped + (if is_skipped sight then 1 else 0);
+  matched = c.matched + length (sent_by sight 0 0);
+  unverified = c.unverified + (if is_unverified sight then 1 else 0);
+}

@@ -1,5 +1,5 @@
 ghost use Rattle.std.specs.Prelude.{◌≡◌};
-ghost use Rattle.ds_conductor.specs.Faults.{code_of};
+ghost use Rattle.ds_conductor.specs.Faults.{code_of, fault_of};
 
 use pcap_capture::PcapFault;
 use thiserror::Error;
@@ -32,6 +32,16 @@ impl MarkFault {
             MarkFault::UnknownPort => 2,
             MarkFault::JournalFull => 3,
             MarkFault::NoMemory => 4,
+        }
+    }
+
+    /// What is answered where a capture could not be read on.
+    pub(crate) fn of_reading(fault: PcapFault) -> Self
+        ensures { result ≡ fault_of fault }
+    {
+        match fault {
+            PcapFault::NoMemory => MarkFault::NoMemory,
+            fault => MarkFault::Capture(fault),
         }
     }
 }

@@ -5,9 +5,11 @@
 //! all callers.
 #![tactic(auto)]
 
+mod conditioner;
 pub mod fault;
 pub mod laws;
 pub mod marking;
+mod port;
 pub mod reading;
 pub mod report;
 pub mod rule;

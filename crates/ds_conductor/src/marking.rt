@@ -1,25 +1,29 @@
-ghost use Rattle.std.specs.Prelude.{◌≡◌, ℕ, true, false, List, Err, Some, IfErr, IfOk, if◌then◌else◌};
+ghost use Rattle.std.specs.Prelude.{◌≡◌, ◌⊎◌, ℕ, ◌+◌, ◌*◌, ◌<◌, ◌≤◌, ◌^◌, true, false, List, [], ◌++◌, Err, Some, IfErr};
+ghost use Rattle.std.specs.Prelude.{IfOk, MatchResult, Ok, if◌then◌else◌, vec_len};
 ghost use Rattle.pcap_capture.specs.Counts.{next_count};
+ghost use Rattle.pcap_capture.specs.Frames.{FrameValue};
 ghost use Rattle.ds_domain_base.specs.Domains.{is_port};
-ghost use Rattle.ds_conductor.specs.Markings.{IsMarked, IsMarkedAs, IsOfReads, IsPassed, answer_of, is_read_whole};
-ghost use Rattle.ds_conductor.specs.Markings.{is_starved, is_unread, is_unwritten, marking_in, marking_of};
-ghost use Rattle.ds_conductor.specs.Markings.{marking_told, see};
-ghost use Rattle.ds_conductor.specs.Readings.{IsReading};
+ghost use Rattle.ds_conductor.specs.Conditionings.{IsBounded, IsConditioned};
+ghost use Rattle.ds_conductor.specs.Markings.{IsMarked, IsMarkedAs, IsOfReads, answer_of, is_read_whole};
+ghost use Rattle.ds_conductor.specs.Markings.{is_unread, is_unwritten};
+ghost use Rattle.ds_conductor.specs.Passings.{IsAskedIn, IsAskedOut, IsFinished, IsOnTheWay, IsTurned, IsTurnedOut};
+ghost use Rattle.ds_conductor.specs.Passings.{is_unread_by, marking_at};
+ghost use Rattle.ds_conductor.specs.Readings.{IsAsked, IsUnderway, bytes_of};
 ghost use Rattle.ds_conductor.specs.Reports.{nothing_read};
-ghost use Rattle.ds_conductor.specs.Sendings.{IsSending};
+ghost use Rattle.ds_conductor.specs.Writings.{IsWrittenTo, is_write_fault};
 
+use crate::conditioner::Conditioner;
 use crate::fault::MarkFault;
-use crate::reading::{Reading, read_capture};
-use crate::report::{Report, marked_report};
+use crate::port::Port;
+use crate::reading::{Progress, is_starved, read_heading, read_piece};
+use crate::report::Report;
 use crate::rule::RedRule;
-use crate::sending::{Traffic, send_frames};
-use crate::writing::write_capture;
+use crate::writing::write_on;
 use ds_checker::Accepted;
 use ds_domain_base::Name;
-use ds_visits::{Gate, colours};
-use frame_marker::PortClassifier;
-use pcap_capture::{Frame, Heading, Intake, LinkType, Outlet, PcapFault};
-use std::alloc::{AllocError, Global};
+use ds_visits::Gate;
+use pcap_capture::{Heading, Intake, Outlet, PIECE, PcapFault, room};
+use std::alloc::Global;
 
 /// By how many calls of `take` a capture is read at most; the next is answered as a read fault.
 const TURNS: u64 = 1 << 32;
@@ -28,14 +32,16 @@ const TURNS: u64 = 1 << 32;
 /// leaves with the code point of its contract's class and the colour of its last meter (RFC 2597 section 6), or under
 /// `RedRule::Drop` not at all where that is red.
 ///
-/// The whole capture is read first. A frame is sent at the greatest stamp so far and comes to each hop after the floors
-/// of the links; the visits are made in the order of moment, record and hop, the gate being called round each with
-/// worker 0. Then the capture is written: its heading and each record as they came but for the marks.
+/// The capture is read in pieces of at most 65,536 bytes. A frame is sent at the greatest stamp so far and comes to each
+/// hop after the floors of the links; the visits are made in the order of moment, record and hop, the gate being called
+/// round each with worker 0, as soon as no later record can come before them. A frame is written as soon as its colour
+/// is decided, before more is read: the heading and each record stand as they came but for the marks. What is held are
+/// the frames whose last visit is still to come, and one piece.
 ///
 /// Refused, with the report of what was read: `UnknownPort` exactly where the domain has no port of that name (nothing
-/// is read); `NoMemory` (a front is written, or nothing with a report of nothing); `Capture` with the first fault that
-/// stands in the capture, or a read fault, where every record before it is written, or with a write fault, where a
-/// front is written. It never answers `JournalFull`: no journal is kept.
+/// is read); `NoMemory` (a front is written, and the report is that of the frames that memory was there for); `Capture`
+/// with the first fault that stands in the capture, or a read fault, where every record before it is written, or with a
+/// write fault, where a front is written. It never answers `JournalFull`: no journal is kept.
 pub fn mark<I: Intake, O: Outlet, G: Gate>(
     alloc: Global,
     accepted: &Accepted,
@@ -64,49 +70,102 @@ pub fn mark<I: Intake, O: Outlet, G: Gate>(
     let Some(port) = accepted.domain().port_named(port) else {
         return Err((Report::nothing(), MarkFault::UnknownPort));
     };
-    let reading = read_capture(alloc, intake, TURNS);
-    mark_reading(alloc, accepted, port, red, reading, outlet, gate)
+    let Ok(mut room) = room(alloc, PIECE) else {
+        return Err((Report::nothing(), MarkFault::NoMemory));
+    };
+    let mut progress = Progress::begin(alloc, TURNS);
+    match read_heading(alloc, intake, &mut progress, &mut room) {
+        Ok(heading) => mark_behind(
+            alloc, accepted, port, heading, red, progress, room, intake, outlet, gate,
+        ),
+        Err(fault) => Err((Report::nothing(), MarkFault::of_reading(fault))),
+    }
 }
 
-/// Marks what was read of a capture.
-fn mark_reading<O: Outlet, G: Gate>(
+/// Marks the records behind a heading.
+fn mark_behind<I: Intake, O: Outlet, G: Gate>(
     alloc: Global,
     accepted: &Accepted,
-    port: Name,
+    name: Name,
+    heading: Heading,
     red: RedRule,
-    reading: Reading,
+    mut progress: Progress,
+    mut room: Vec<u8>,
+    intake: &mut I,
     outlet: &mut O,
     gate: &G,
 ) -> Result<Report, (Report, MarkFault)>
-    requires { ¬ (reading.fault ≡ Some PcapFault.WriteFault) }
-    ensures marked { O.tells outlet.old → (bytes more : List ℕ)
-        → IsReading bytes more reading.heading reading.frames.items reading.fault →
-        IsMarkedAs (marking_in accepted.now port red) bytes more (O.held outlet.old) (O.held outlet.new) result }
+    requires room { vec_len room ≡ 65536 }
+    requires missing { progress.missing ≤ 24 }
+    requires few { bytes_of progress ≤ 2 ^ 48 }
+    ensures marked { I.tells intake.old → O.tells outlet.old → (bytes : List ℕ)
+        → IsUnderway [] bytes (I.left intake.old) progress → progress.heading ≡ Some heading
+        → IsMarkedAs accepted.now name red bytes (I.left intake.new) (O.held outlet.old) (O.held outlet.new) result }
     ensures writes { O.failed outlet.new
         ≡ (if is_unwritten result then next_count (O.failed outlet.old) else O.failed outlet.old) }
     ensures known { IfErr result (λ refused. ¬ (refused.1 ≡ MarkFault.UnknownPort)) }
-    ensures unread { is_unread result ≡ true → reading.fault ≡ Some PcapFault.ReadFault }
-    ensures read { is_read_whole result ≡ true → ¬ (reading.fault ≡ Some PcapFault.ReadFault) }
+    ensures few { IfOk result (λ report. report.records ≤ 2 ^ 44) }
+    ensures reads { (failed asked : ℕ) → IsAsked progress.turns failed (I.failed intake.old) asked (I.turns intake.old)
+        → IsOfReads result failed (I.failed intake.new) asked (I.turns intake.new) }
 {
-    let Reading {
-        heading,
-        frames,
-        fault,
-    } = reading;
-    if is_starved(fault) {
+    let Ok(port) = Port::new(alloc, accepted, name, heading, red) else {
         return Err((Report::nothing(), MarkFault::NoMemory));
-    }
-    match mark_behind(alloc, accepted, port, red, heading, frames, outlet, gate) {
-        Ok(report) => answer(report, fault),
-        Err(refusal) => Err(refusal),
+    };
+    let Ok(mut conditioner) = Conditioner::new(alloc, accepted) else {
+        return Err((Report::nothing(), MarkFault::NoMemory));
+    };
+    let mut out = Vec::new(alloc);
+    let Ok(()) = out.extend_from_slice(&heading.bytes) else {
+        return Err((Report::nothing(), MarkFault::NoMemory));
+    };
+    let turned = turn_all(
+        alloc,
+        &port,
+        &mut conditioner,
+        &mut out,
+        &mut progress,
+        &mut room,
+        intake,
+        outlet,
+        gate,
+    );
+    conditioner.make_all(gate);
+    match turned {
+        Ok(fault) => finish(&port, &mut conditioner, &mut out, fault, outlet),
+        Err(fault) => Err((conditioner.report(&port), fault)),
     }
 }
 
-/// Whether memory ran out.
-fn is_starved(fault: Option<PcapFault>) -> bool
-    ensures { result ≡ is_starved fault }
+/// Writes what is left of a capture whose frames are all seen, and tells its report, and behind it the fault that ended
+/// its reading, if any.
+fn finish<O: Outlet>(
+    port: &Port<'_>,
+    conditioner: &mut Conditioner<'_>,
+    out: &mut Vec<u8>,
+    fault: Option<PcapFault>,
+    outlet: &mut O,
+) -> Result<Report, (Report, MarkFault)>
+    requires bounded { IsBounded conditioner.old }
+    requires none_left { conditioner.old.under_way.waiting ≡ [] }
+    requires writable { ¬ (fault ≡ Some PcapFault.WriteFault) }
+    requires well { ¬ (fault ≡ Some PcapFault.NoMemory) }
+    ensures marked { O.tells outlet.old → (frames : List FrameValue) (text before : List ℕ)
+        → IsConditioned port.now false frames text conditioner.old
+        → IsWrittenTo out.old.items before (port.now.heading.bytes ++ text) (O.held outlet.old)
+        → IsFinished (marking_at port.now frames) fault before (O.held outlet.new) result }
+    ensures writes { O.failed outlet.new
+        ≡ (if is_unwritten result then next_count (O.failed outlet.old) else O.failed outlet.old) }
+    ensures known { IfErr result (λ refused. ¬ (refused.1 ≡ MarkFault.UnknownPort)) }
+    ensures unread { is_unread result ≡ true → is_unread_by fault ≡ true }
+    ensures read { is_read_whole result ≡ true → is_unread_by fault ≡ false }
+    ensures few { IfOk result (λ report. report.records ≤ 2 ^ 44) }
 {
-    matches!(fault, Some(PcapFault::NoMemory))
+    let written = write_on(port, conditioner, out, outlet);
+    let report = conditioner.report(port);
+    match written {
+        Ok(()) => answer(report, fault),
+        Err(unwritten) => Err((report, unwritten)),
+    }
 }
 
 /// The answer to a capture that was marked, by what ended its reading.
@@ -119,77 +178,121 @@ fn answer(report: Report, fault: Option<PcapFault>) -> Result<Report, (Report, M
     }
 }
 
-/// Marks frames behind their heading, if that is there; without one there is nothing to mark.
-fn mark_behind<O: Outlet, G: Gate>(
+/// What a turn comes to.
+#[derive(Clone, Copy, Debug)]
+enum Turn {
+    /// More may come.
+    More,
+    /// The capture ended, or its reading did by this fault.
+    Ended(Option<PcapFault>),
+}
+
+/// Takes turns until the capture ends, or its reading does by a fault, which is answered; a fault of the other device,
+/// and want of memory, break it off.
+fn turn_all<I: Intake, O: Outlet, G: Gate>(
     alloc: Global,
-    accepted: &Accepted,
-    port: Name,
-    red: RedRule,
-    heading: Option<Heading>,
-    frames: Vec<Frame>,
+    port: &Port<'_>,
+    conditioner: &mut Conditioner<'_>,
+    out: &mut Vec<u8>,
+    progress: &mut Progress,
+    room: &mut Vec<u8>,
+    intake: &mut I,
     outlet: &mut O,
     gate: &G,
-) -> Result<Report, (Report, MarkFault)>
-    ensures passed { O.tells outlet.old →
-        IsPassed (marking_told accepted.now port red heading frames.items) (O.held outlet.old) (O.held outlet.new)
-        result }
-    ensures writes { O.failed outlet.new
-        ≡ (if is_unwritten result then next_count (O.failed outlet.old) else O.failed outlet.old) }
-    ensures known { IfErr result (λ refused. ¬ (refused.1 ≡ MarkFault.UnknownPort)) }
-    ensures read { is_unread result ≡ false }
-    ensures stopped { IfErr result (λ refusal. is_read_whole (Err refusal) ≡ false) }
+) -> Result<Option<PcapFault>, MarkFault>
+    requires room { vec_len room.old ≡ 65536 }
+    requires missing { progress.old.missing ≤ 24 }
+    requires bounded { IsBounded conditioner.old }
+    requires few { 16 * conditioner.old.counts.records + bytes_of progress.old ≤ 2 ^ 48 }
+    ensures bounded { IsBounded conditioner.new }
+    ensures turned { I.tells intake.old → O.tells outlet.old → (bytes before : List ℕ)
+        → IsOnTheWay port.now bytes (I.left intake.old) before (O.held outlet.old) progress.old conditioner.old
+        out.old.items
+        → IsTurnedOut port.now bytes (I.left intake.new) before (O.held outlet.new) conditioner.new out.new.items result }
+    ensures asked { (failed asked : ℕ) → IsAsked progress.old.turns failed (I.failed intake.old) asked
+        (I.turns intake.old)
+        → IsAskedOut result progress.new.turns failed (I.failed intake.new) asked (I.turns intake.new) }
+    ensures fault { MatchResult result
+        (λ fault. (¬ (fault ≡ Some PcapFault.WriteFault)) × (¬ (fault ≡ Some PcapFault.NoMemory)))
+        (λ fault. (fault ≡ MarkFault.Capture PcapFault.WriteFault) ⊎ (fault ≡ MarkFault.NoMemory)) }
+    ensures told { O.tells outlet.old → O.tells outlet.new }
+    ensures failures { O.failed outlet.new
+        ≡ (if is_write_fault result then next_count (O.failed outlet.old) else O.failed outlet.old) }
 {
-    match heading {
-        None => Ok(Report::nothing()),
-        Some(heading) => mark_frames(alloc, accepted, port, red, &heading, frames, outlet, gate),
+    loop {
+        let turn = take_turn(
+            alloc,
+            port,
+            conditioner,
+            out,
+            progress,
+            room,
+            intake,
+            outlet,
+            gate,
+        )?;
+        match turn {
+            Turn::More => {}
+            Turn::Ended(fault) => return Ok(fault),
+        }
     }
 }
 
-/// Marks frames behind a heading.
-fn mark_frames<O: Outlet, G: Gate>(
+/// Reads a piece, sees its frames, makes the visits that are due then, and writes the frames that are decided.
+fn take_turn<I: Intake, O: Outlet, G: Gate>(
     alloc: Global,
-    accepted: &Accepted,
-    port: Name,
-    red: RedRule,
-    heading: &Heading,
-    frames: Vec<Frame>,
+    port: &Port<'_>,
+    conditioner: &mut Conditioner<'_>,
+    out: &mut Vec<u8>,
+    progress: &mut Progress,
+    room: &mut Vec<u8>,
+    intake: &mut I,
     outlet: &mut O,
     gate: &G,
-) -> Result<Report, (Report, MarkFault)>
-    ensures passed { O.tells outlet.old →
-        IsPassed (marking_of accepted.now port red heading.now frames.items) (O.held outlet.old) (O.held outlet.new)
-        result }
-    ensures writes { O.failed outlet.new
-        ≡ (if is_unwritten result then next_count (O.failed outlet.old) else O.failed outlet.old) }
-    ensures known { IfErr result (λ refused. ¬ (refused.1 ≡ MarkFault.UnknownPort)) }
-    ensures read { is_unread result ≡ false }
-    ensures stopped { IfErr result (λ refusal. is_read_whole (Err refusal) ≡ false) }
+) -> Result<Turn, MarkFault>
+    requires room { vec_len room.old ≡ 65536 }
+    requires missing { progress.old.missing ≤ 24 }
+    requires bounded { IsBounded conditioner.old }
+    requires few { 16 * conditioner.old.counts.records + bytes_of progress.old ≤ 2 ^ 48 }
+    ensures room { vec_len room.new ≡ 65536 }
+    ensures missing { progress.new.missing ≤ progress.old.missing }
+    ensures bounded { IsBounded conditioner.new }
+    ensures few { 16 * conditioner.new.counts.records + bytes_of progress.new
+        ≤ 16 * conditioner.old.counts.records + bytes_of progress.old }
+    ensures fewer { result ≡ Ok Turn.More → progress.new.turns < progress.old.turns }
+    ensures turned { I.tells intake.old → O.tells outlet.old → (bytes before : List ℕ)
+        → IsOnTheWay port.now bytes (I.left intake.old) before (O.held outlet.old) progress.old conditioner.old
+        out.old.items
+        → IsTurned port.now bytes (I.left intake.new) before (O.held outlet.new) progress.new conditioner.new
+        out.new.items result }
+    ensures asked { (failed asked : ℕ) → IsAsked progress.old.turns failed (I.failed intake.old) asked
+        (I.turns intake.old)
+        → IsAskedIn result progress.new.turns failed (I.failed intake.new) asked (I.turns intake.new) }
+    ensures fault { MatchResult result
+        (λ turn. (¬ (turn ≡ Turn.Ended (Some PcapFault.WriteFault)))
+        × (¬ (turn ≡ Turn.Ended (Some PcapFault.NoMemory))))
+        (λ fault. (fault ≡ MarkFault.Capture PcapFault.WriteFault) ⊎ (fault ≡ MarkFault.NoMemory)) }
+    ensures taken { I.tells intake.old → I.tells intake.new }
+    ensures told { O.tells outlet.old → O.tells outlet.new }
+    ensures failures { O.failed outlet.new
+        ≡ (if is_write_fault result then next_count (O.failed outlet.old) else O.failed outlet.old) }
 {
-    let Ok(sending) = sending_at(alloc, accepted, port, heading.link, frames.as_slice()) else {
-        return Err((Report::nothing(), MarkFault::NoMemory));
+    let read = read_piece(alloc, intake, progress, room);
+    let Ok(()) = conditioner.see_all(port, progress.take_frames(alloc)) else {
+        return Err(MarkFault::NoMemory);
     };
-    let records = frames.len() as u64;
-    let Ok(colours) = colours(alloc, accepted, sending.sent.as_slice(), gate) else {
-        return Err((Report::nothing(), MarkFault::NoMemory));
-    };
-    let (sent, colours) = (sending.sent.as_slice(), colours.as_slice());
-    let report = marked_report(&sending, records, red, colours);
-    match write_capture(alloc, accepted, red, heading, frames, sent, colours, outlet) {
-        Ok(()) => Ok(report),
-        Err(fault) => Err((report, fault)),
+    match read {
+        Ok(true) => {
+            conditioner.make_due(gate);
+            write_on(port, conditioner, out, outlet)?;
+            Ok(Turn::More)
+        }
+        Ok(false) => Ok(Turn::Ended(None)),
+        Err(fault) => {
+            if is_starved(fault) {
+                return Err(MarkFault::NoMemory);
+            }
+            Ok(Turn::Ended(Some(fault)))
+        }
     }
-}
-
-/// What frames send at a port of a table; `AllocError` where memory runs out.
-fn sending_at(
-    alloc: Global,
-    accepted: &Accepted,
-    port: Name,
-    link: LinkType,
-    frames: &[Frame],
-) -> Result<Traffic, AllocError>
-    ensures { IfOk result (λ sending. IsSending (see accepted.now port link) frames.now sending) }
-{
-    let classifier = PortClassifier::new(alloc, accepted.contracts(), port)?;
-    send_frames(alloc, &classifier, link, frames)
 }

@@ -1,8 +1,11 @@
-ghost use Rattle.std.specs.Prelude.{◌≡◌, ℕ, ◌≤◌, ◌<◌, ◌⊎◌, ◌^◌, false, true, List, [], ◌++◌, length, take, vec_len};
-ghost use Rattle.std.specs.Prelude.{None, Some, Err, IfErr, IfOk, MatchResult, if◌then◌else◌};
-ghost use Rattle.pcap_capture.specs.Counts.{count_after, next_count};
-ghost use Rattle.ds_conductor.specs.Readings.{IsEnded, IsReadOn, IsReading, IsUnderway, heading_at, is_own};
-ghost use Rattle.ds_conductor.specs.Readings.{is_read_fault};
+ghost use Rattle.std.specs.Prelude.{◌≡◌, ℕ, ◌-◌, ◌≤◌, ◌<◌, List, [], ◌++◌, length, Ok, vec_len};
+ghost use Rattle.std.specs.Prelude.{None, Some, Err, IfErr, MatchResult, Option, ◌+◌, ◌*◌, OnErr, OnOk, false, true};
+ghost use Rattle.pcap_capture.specs.Frames.{FrameValue};
+ghost use Rattle.ds_conductor.specs.Readings.{IsAsked, IsAskedOn, IsEnded, IsReadOn, IsReading, IsUnderway};
+ghost use Rattle.ds_conductor.specs.Readings.{bytes_of, heading_at};
+ghost use Rattle.ds_conductor.specs.Readings.{is_own, is_read_fault, is_starved};
+ghost use Rattle.pcap_capture.specs.declared.fault.PcapFault.{PcapFault};
+ghost use Rattle.pcap_capture.specs.declared.heading.Heading.{Heading};
 
 use pcap_capture::{Capture, Frame, Heading, Intake, PIECE, PcapFault, Stage, room};
 use std::alloc::Global;
@@ -10,27 +13,18 @@ use std::alloc::Global;
 /// The size of a heading, in bytes.
 const HEADING: usize = 24;
 
-/// What was read of a capture.
-#[derive(Debug, Drop)]
-pub(crate) struct Reading {
-    /// Its heading, if it is there whole.
-    pub heading: Option<Heading>,
-    /// The frames that are there whole.
-    pub frames: Vec<Frame>,
-    /// What ended the reading before the capture's end, if anything.
-    pub fault: Option<PcapFault>,
-}
-
 /// How far a capture was read.
 #[derive(Debug, Drop)]
-struct Progress {
+pub(crate) struct Progress {
     capture: Capture,
     /// Its heading, once that is there whole.
     heading: Option<Heading>,
     /// How many bytes of the heading are still to come, 0 to 24.
     missing: usize,
-    /// The frames that are there whole.
+    /// The frames that are there whole and were not taken out.
     frames: Vec<Frame>,
+    /// How many more calls of `take` there may be.
+    turns: u64,
 }
 
 /// The heading of a capture that was read so far, once it is there.
@@ -55,12 +49,19 @@ fn wanted(missing: usize) -> usize
 /// Reads a piece, which has no byte behind the heading as long as that is to come.
 fn feed_piece(alloc: Global, progress: &mut Progress, piece: &[u8]) -> Result<(), PcapFault>
     requires { 0 < progress.old.missing → length piece.now ≤ progress.old.missing }
-    ensures missing { progress.new.missing ≤ progress.old.missing }
-    ensures read { (bytes more : List ℕ)
-        → IsUnderway bytes (piece.now ++ more) progress.old
+    ensures missing { MatchResult result
+        (λ _. progress.new.missing ≡ progress.old.missing - length piece.now)
+        (λ _. progress.new.missing ≡ progress.old.missing) }
+    ensures heading { OnErr result (progress.new.heading ≡ progress.old.heading) }
+    ensures stays { (heading : Heading) → progress.old.capture.stage ≡ Stage.Records heading
+        → progress.old.heading ≡ Some heading → progress.new.heading ≡ Some heading }
+    ensures turns { progress.new.turns ≡ progress.old.turns }
+    ensures few { bytes_of progress.new ≤ bytes_of progress.old + length piece.now }
+    ensures read { (gone : List FrameValue) (bytes more : List ℕ)
+        → IsUnderway gone bytes (piece.now ++ more) progress.old
         → MatchResult result
-        (λ _. IsUnderway bytes more progress.new)
-        (λ fault. IsEnded bytes more progress.new (Some fault)) }
+        (λ _. IsUnderway gone bytes more progress.new)
+        (λ fault. IsEnded gone bytes more progress.new (Some fault)) }
     ensures fault { IfErr result (λ fault. is_own fault ≡ true) }
 {
     match progress.capture.feed(alloc, piece, &mut progress.frames) {
@@ -75,12 +76,17 @@ fn feed_piece(alloc: Global, progress: &mut Progress, piece: &[u8]) -> Result<()
 
 /// Ends a capture of which no byte is left.
 fn finish(progress: &mut Progress) -> Result<(), PcapFault>
-    ensures read { (bytes : List ℕ)
-        → IsUnderway bytes [] progress.old
+    ensures read { (gone : List FrameValue) (bytes : List ℕ)
+        → IsUnderway gone bytes [] progress.old
         → MatchResult result
-        (λ _. IsEnded bytes [] progress.new None)
-        (λ fault. IsEnded bytes [] progress.new (Some fault)) }
+        (λ _. IsEnded gone bytes [] progress.new None)
+        (λ fault. IsEnded gone bytes [] progress.new (Some fault)) }
+    ensures whole { OnOk result ((gone : List FrameValue) (bytes more : List ℕ)
+        → IsUnderway gone bytes more progress.old → progress.old.missing ≡ 0) }
     ensures missing { progress.new.missing ≡ progress.old.missing }
+    ensures heading { progress.new.heading ≡ progress.old.heading }
+    ensures turns { progress.new.turns ≡ progress.old.turns }
+    ensures few { bytes_of progress.new ≤ bytes_of progress.old }
     ensures fault { IfErr result (λ fault. is_own fault ≡ true) }
 {
     match progress.capture.finish() {
@@ -91,24 +97,39 @@ fn finish(progress: &mut Progress) -> Result<(), PcapFault>
 
 /// Takes a piece of a device and reads it, or ends the capture where no byte is left. Answers whether there was a
 /// piece.
-fn read_piece<I: Intake>(
+pub(crate) fn read_piece<I: Intake>(
     alloc: Global,
     intake: &mut I,
     progress: &mut Progress,
-    buffer: &mut [u8],
+    room: &mut Vec<u8>,
 ) -> Result<bool, PcapFault>
-    requires room { 0 < length buffer.old }
-    requires heading { 0 < progress.old.missing → length buffer.old ≤ progress.old.missing }
+    requires room { vec_len room.old ≡ 65536 }
+    requires missing { progress.old.missing ≤ 24 }
+    ensures room { vec_len room.new ≡ 65536 }
     ensures missing { progress.new.missing ≤ progress.old.missing }
+    ensures nearer { result ≡ Ok true → 0 < progress.old.missing → progress.new.missing < progress.old.missing }
+    ensures turns { progress.new.turns ≡ progress.old.turns - 1 }
+    ensures going { result ≡ Ok true → 0 < progress.old.turns }
+    ensures heading { OnErr result (progress.new.heading ≡ progress.old.heading) }
+    ensures stays { (heading : Heading) → progress.old.capture.stage ≡ Stage.Records heading
+        → progress.old.heading ≡ Some heading → progress.new.heading ≡ Some heading }
+    ensures few { bytes_of progress.new ≤ bytes_of progress.old }
     ensures told { I.tells intake.old → I.tells intake.new }
-    ensures read { (bytes : List ℕ) → I.tells intake.old
-        → IsUnderway bytes (I.left intake.old) progress.old
-        → IsReadOn bytes (I.left intake.new) progress.new result }
-    ensures failures { I.failed intake.new
-        ≡ (if is_read_fault result then next_count (I.failed intake.old) else I.failed intake.old) }
-    ensures asked { I.turns intake.new ≡ next_count (I.turns intake.old) }
+    ensures read { (gone : List FrameValue) (bytes : List ℕ) → I.tells intake.old
+        → IsUnderway gone bytes (I.left intake.old) progress.old
+        → IsReadOn gone bytes (I.left intake.new) progress.new result }
+    ensures whole { result ≡ Ok false → (gone : List FrameValue) (bytes more : List ℕ)
+        → IsUnderway gone bytes more progress.old → progress.old.missing ≡ 0 }
+    ensures asked { (failed asked : ℕ) → IsAsked progress.old.turns failed (I.failed intake.old) asked
+        (I.turns intake.old)
+        → IsAskedOn (is_read_fault result) progress.new.turns failed (I.failed intake.new) asked (I.turns intake.new) }
     ensures no_write { ¬ (result ≡ Err PcapFault.WriteFault) }
 {
+    if progress.turns == 0 {
+        return Err(PcapFault::ReadFault);
+    }
+    progress.turns -= 1;
+    let buffer = &mut room.as_mut_slice()[..wanted(progress.missing)];
     let Ok(taken) = intake.take(buffer) else {
         return Err(PcapFault::ReadFault);
     };
@@ -120,66 +141,78 @@ fn read_piece<I: Intake>(
     Ok(true)
 }
 
-/// Reads a capture to its end, by at most `turns` calls of `take`.
-fn read_pieces<I: Intake>(
+/// Reads the heading of a capture, by calls of `take` of its own, so that it is known when a record behind it is at
+/// fault.
+pub(crate) fn read_heading<I: Intake>(
     alloc: Global,
     intake: &mut I,
     progress: &mut Progress,
-    turns: u64,
-) -> Result<(), PcapFault>
-    requires { progress.old.missing ≤ 24 }
-    ensures read { (bytes : List ℕ) → I.tells intake.old
-        → IsUnderway bytes (I.left intake.old) progress.old
+    room: &mut Vec<u8>,
+) -> Result<Heading, PcapFault>
+    requires room { vec_len room.old ≡ 65536 }
+    requires missing { progress.old.missing ≤ 24 }
+    ensures room { vec_len room.new ≡ 65536 }
+    ensures missing { progress.new.missing ≤ progress.old.missing }
+    ensures few { bytes_of progress.new ≤ bytes_of progress.old }
+    ensures told { I.tells intake.old → I.tells intake.new }
+    ensures read { (bytes : List ℕ) → I.tells intake.old → IsUnderway [] bytes (I.left intake.old) progress.old
         → MatchResult result
-        (λ _. IsEnded bytes (I.left intake.new) progress.new None)
-        (λ fault. IsEnded bytes (I.left intake.new) progress.new (Some fault)) }
-    ensures failed { is_read_fault result ≡ true → (I.failed intake.new ≡ next_count (I.failed intake.old))
-        ⊎ ((I.failed intake.new ≡ I.failed intake.old) × (I.turns intake.new ≡ count_after turns (I.turns intake.old))) }
-    ensures unfailed { is_read_fault result ≡ false → I.failed intake.new ≡ I.failed intake.old }
+        (λ heading. IsUnderway [] bytes (I.left intake.new) progress.new × (progress.new.heading ≡ Some heading))
+        (λ fault. (frames : List FrameValue) × IsReading bytes (I.left intake.new) None frames (Some fault)) }
+    ensures asked { (failed asked : ℕ) → IsAsked progress.old.turns failed (I.failed intake.old) asked
+        (I.turns intake.old)
+        → IsAskedOn (is_read_fault result) progress.new.turns failed (I.failed intake.new) asked (I.turns intake.new) }
     ensures no_write { ¬ (result ≡ Err PcapFault.WriteFault) }
 {
-    let Ok(mut room) = room(alloc, PIECE) else {
-        return Err(PcapFault::NoMemory);
-    };
-    for _turn in 0..turns {
-        let wanted = wanted(progress.missing);
-        match read_piece(alloc, intake, progress, &mut room.as_mut_slice()[..wanted]) {
+    while progress.missing > 0 {
+        match read_piece(alloc, intake, progress, room) {
             Ok(true) => {}
-            Ok(false) => return Ok(()),
+            Ok(false) => return Err(PcapFault::Truncated),
             Err(fault) => return Err(fault),
         }
     }
-    Err(PcapFault::ReadFault)
+    match progress.heading {
+        Some(heading) => Ok(heading),
+        None => Err(PcapFault::Failed),
+    }
 }
 
-/// Reads a capture to its end or its first fault, by at most `turns` calls of `take`, the next being answered as a read
-/// fault.
-///
-/// The heading is taken by calls of their own, so that it is known when a record behind it is at fault.
-pub(crate) fn read_capture<I: Intake>(alloc: Global, intake: &mut I, turns: u64) -> Reading
-    requires { turns ≤ 2 ^ 32 }
-    ensures read { I.tells intake.old → IsReading (I.left intake.old) (I.left intake.new) result.heading
-        result.frames.items result.fault }
-    // A read fault is answered only where the device failed once or was asked as often as it may be, and no other where
-    // it failed.
-    ensures failed { result.fault ≡ Some PcapFault.ReadFault → (I.failed intake.new ≡ next_count (I.failed intake.old))
-        ⊎ ((I.failed intake.new ≡ I.failed intake.old) × (I.turns intake.new ≡ count_after turns (I.turns intake.old))) }
-    ensures unfailed { ¬ (result.fault ≡ Some PcapFault.ReadFault) → I.failed intake.new ≡ I.failed intake.old }
-    ensures no_write { ¬ (result.fault ≡ Some PcapFault.WriteFault) }
+/// Whether memory ran out.
+pub(crate) fn is_starved(fault: PcapFault) -> bool
+    ensures { result ≡ is_starved fault }
 {
-    let mut progress = Progress {
-        capture: Capture::begin(alloc),
-        heading: None,
-        missing: HEADING,
-        frames: Vec::new(alloc),
-    };
-    let fault = match read_pieces(alloc, intake, &mut progress, turns) {
-        Ok(()) => None,
-        Err(fault) => Some(fault),
-    };
-    Reading {
-        heading: progress.heading,
-        frames: progress.frames,
-        fault,
+    matches!(fault, PcapFault::NoMemory)
+}
+
+impl Progress {
+    /// Before the first byte, with so many calls of `take` to come at most.
+    pub(crate) fn begin(alloc: Global, turns: u64) -> Self
+        ensures missing { result.missing ≡ 24 }
+        ensures turns { result.turns ≡ turns }
+        ensures few { bytes_of result ≡ 65536 * turns }
+        ensures begun { (bytes : List ℕ) → IsUnderway [] bytes bytes result }
+    {
+        Progress {
+            capture: Capture::begin(alloc),
+            heading: None,
+            missing: HEADING,
+            frames: Vec::new(alloc),
+            turns,
+        }
+    }
+
+    /// Takes the frames out that are there whole.
+    pub(crate) fn take_frames(&mut self, alloc: Global) -> Vec<Frame>
+        ensures taken { result.items ≡ self.old.frames.items }
+        ensures missing { self.new.missing ≡ self.old.missing }
+        ensures heading { self.new.heading ≡ self.old.heading }
+        ensures turns { self.new.turns ≡ self.old.turns }
+        ensures few { 16 * length result.items + bytes_of self.new ≡ bytes_of self.old }
+        ensures read { (gone : List FrameValue) (bytes more : List ℕ) → IsUnderway gone bytes more self.old
+            → IsUnderway (gone ++ result.items) bytes more self.new }
+        ensures ended { (gone : List FrameValue) (bytes more : List ℕ) (fault : Option PcapFault)
+            → IsEnded gone bytes more self.old fault → IsReading bytes more self.old.heading (gone ++ result.items) fault }
+    {
+        std::mem::replace(&mut self.frames, Vec::new(alloc))
     }
 }

@@ -1,13 +1,15 @@
-ghost use Rattle.std.specs.Prelude.{◌≡◌, ℕ, List, length, zip};
+ghost use Rattle.std.specs.Prelude.{◌≡◌, ℕ, List, length};
+ghost use Rattle.moment_core.specs.declared.colour.Colour.{Colour};
 ghost use Rattle.pcap_capture.specs.Frames.{FrameValue};
 ghost use Rattle.frame_marker.specs.declared.sight.Sight.{Sight};
 ghost use Rattle.ds_conductor.specs.Reports.{nothing_read, report_of};
-ghost use Rattle.ds_conductor.specs.Sendings.{IsSending};
+ghost use Rattle.ds_conductor.specs.Sendings.{AreCounted, sent_of};
+ghost use Rattle.ds_conductor.specs.Tallies.{AreTallied};
+ghost use Rattle.ds_visits_base.specs.declared.sent.Sent.{Sent};
 
 use crate::rule::RedRule;
-use crate::sending::Traffic;
-use crate::tally::tallied;
-use moment_core::Colour;
+use crate::sending::Counts;
+use crate::tally::Tallies;
 
 /// What is told of a marked capture.
 #[derive(Clone, Copy, Debug, PartialEq, Eq)]
@@ -59,27 +61,23 @@ fn dropped(rule: RedRule, red: u64) -> u64
     }
 }
 
-/// The report of so many frames, whose packets left with these colours, which stand in the order of the packets.
-pub(crate) fn marked_report(
-    sending: &Traffic,
-    records: u64,
-    rule: RedRule,
-    colours: &[Colour],
-) -> Report
-    ensures { (see : List ℕ → Sight) (frames : List FrameValue) → IsSending see frames sending.now → length frames
-        ≡ records
-        → result ≡ report_of see rule frames (zip sending.now.sent.items colours.now) }
-{
-    let sent = sending.sent.as_slice();
-    let sums = tallied(sent, colours);
-    Report {
-        records,
-        marked: sent.len().min(colours.len()) as u64,
-        unmatched: sending.unmatched,
-        skipped: sending.skipped,
-        unverified: sending.unverified,
-        dropped: dropped(rule, sums.red.packets),
-        packets: [sums.green.packets, sums.yellow.packets, sums.red.packets],
-        bytes: [sums.green.bytes, sums.yellow.bytes, sums.red.bytes],
+impl Counts {
+    /// The report of the frames that were counted, whose packets left with colours that come to these sums.
+    pub(crate) fn report(&self, rule: RedRule, sums: &Tallies) -> Report
+        ensures records { result.records ≡ self.now.records }
+        ensures told { (see : List ℕ → Sight) (frames : List FrameValue) (coloured : List (Sent × Colour))
+            → AreCounted see frames self.now → length coloured ≡ length (sent_of see frames)
+            → AreTallied coloured sums.now → result ≡ report_of see rule frames coloured }
+    {
+        Report {
+            records: self.records,
+            marked: self.matched,
+            unmatched: self.unmatched,
+            skipped: self.skipped,
+            unverified: self.unverified,
+            dropped: dropped(rule, sums.red.packets),
+            packets: [sums.green.packets, sums.yellow.packets, sums.red.packets],
+            bytes: [sums.green.bytes, sums.yellow.bytes, sums.red.bytes],
+        }
     }
 }

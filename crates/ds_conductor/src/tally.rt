@@ -1,8 +1,6 @@
-ghost use Rattle.std.specs.Prelude.{◌≡◌, ◌+◌, ◌-◌, ◌^◌, ℕ, zip};
-ghost use Rattle.moment_core.specs.Colours.{is_green, is_red, is_yellow};
-ghost use Rattle.ds_conductor.specs.Tallies.{AreWithin, IsWithin, grown, tally_of};
+ghost use Rattle.std.specs.Prelude.{◌≡◌, ◌+◌, ◌-◌, ◌^◌, ℕ};
+ghost use Rattle.ds_conductor.specs.Tallies.{AreWithin, IsWithin, grown_all, nothing_tallied};
 
-use ds_visits::Sent;
 use moment_core::{Colour, PacketSize};
 
 /// The running sums of one colour.
@@ -34,12 +32,25 @@ pub(crate) struct Tallies {
 }
 
 impl Tallies {
+    /// Before the first packet.
+    pub(crate) fn nothing() -> Self
+        ensures { result ≡ nothing_tallied }
+    {
+        let none = Tally {
+            packets: 0,
+            bytes: 0,
+        };
+        Tallies {
+            green: none,
+            yellow: none,
+            red: none,
+        }
+    }
+
     /// One packet more, by the colour that it left with.
-    fn add(&mut self, left: Colour, size: PacketSize)
+    pub(crate) fn add(&mut self, left: Colour, size: PacketSize)
         requires { AreWithin (2 ^ 64 - 2) self.old }
-        ensures green { self.new.green ≡ grown self.old.green (is_green left) size }
-        ensures yellow { self.new.yellow ≡ grown self.old.yellow (is_yellow left) size }
-        ensures red { self.new.red ≡ grown self.old.red (is_red left) size }
+        ensures grown { self.new ≡ grown_all self.old left size }
         ensures within { (most : ℕ) → AreWithin most self.old → AreWithin (most + 1) self.new }
     {
         match left {
@@ -48,25 +59,4 @@ impl Tallies {
             Colour::Red => self.red.add(size),
         }
     }
-}
-
-/// What packets come to by the colours that they left with, which stand in the order of the packets.
-pub(crate) fn tallied(sent: &[Sent], colours: &[Colour]) -> Tallies
-    ensures green { result.green ≡ tally_of is_green (zip sent.now colours.now) }
-    ensures yellow { result.yellow ≡ tally_of is_yellow (zip sent.now colours.now) }
-    ensures red { result.red ≡ tally_of is_red (zip sent.now colours.now) }
-{
-    let none = Tally {
-        packets: 0,
-        bytes: 0,
-    };
-    let mut tallies = Tallies {
-        green: none,
-        yellow: none,
-        red: none,
-    };
-    for (packet, left) in sent.iter().zip(colours) {
-        tallies.add(*left, packet.size);
-    }
-    tallies
 }

@@ -1,0 +1,25 @@
+-- How many packets are under way.
+use Rattle.std.proofs.Common.{◌≡◌, ℕ, sym, ap, subst, ◌∙◌, arith}
+use Rattle.ds_visits.proofs.ColouringLaws.{made-place}
+use Rattle.ds_visits_base.proofs.PassLaws.{passed_all-first}
+use Rattle.ds_visits_base.specs.Streams.{Stream, due, made_due}
+use Rattle.ds_conductor.specs.Conditionings.{IsBounded}
+use Rattle.ds_conductor.specs.Tallies.{AreWithin}
+use Rattle.ds_conductor.specs.declared.conditioner.Conditioner.{Conditioner}
+
+-- visits that are made change no number
+pub made_bounded : (moment : ℕ) (before after : Conditioner) → after.counts ≡ before.counts → after.tallies ≡ before.tallies
+    → after.under_way ≡ made_due moment before.under_way → IsBounded before → IsBounded after
+made_bounded moment before after counts tallies made was =
+    let place = made-place moment before.under_way after.under_way made in
+    let first : after.under_way.traffic.first ≡ before.under_way.traffic.first =
+    ap (λ (u : Stream). u.traffic.first) made ∙ passed_all-first before.under_way.traffic (due moment before.under_way.waiting) in
+    record {
+      records = omega (arith, was.records, ap (λ c. c.records) counts);
+      matched = omega (arith, was.matched, ap (λ c. c.records) counts, ap (λ c. c.matched) counts);
+      unmatched = omega (arith, was.unmatched, ap (λ c. c.records) counts, ap (λ c. c.unmatched) counts);
+      skipped = omega (arith, was.skipped, ap (λ c. c.records) counts, ap (λ c. c.skipped) counts);
+      unverified = omega (arith, was.unverified, ap (λ c. c.records) counts, ap (λ c. c.unverified) counts);
+      placed = omega (arith, was.placed, place, ap (λ c. c.records) counts);
+      within = subst (λ n. AreWithin n after.tallies) (sym first) (subst (AreWithin before.under_way.traffic.first) (sym tallies) was.within);
+    }

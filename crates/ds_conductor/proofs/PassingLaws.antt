@@ -1,0 +1,171 @@
+-- What turns come to.
+use Rattle.std.proofs.Common.{◌≡◌, ◌⊎◌, inl, inr, ℕ, ◌-◌, ◌^◌, Bool, true, false, List, [], ◌++◌, Option, None, Some, Result, Err, refl, sym, ap, subst, ◌∙◌, append_assoc, append-nil, arith}
+use Rattle.pcap_capture.specs.Counts.{count_after}
+use Rattle.pcap_capture.specs.Fronts.{IsFrontOf}
+use Rattle.pcap_capture.specs.Frames.{FrameValue}
+use Rattle.pcap_capture.proofs.CountLaws.{count_after-none}
+use Rattle.pcap_capture.specs.declared.heading.Heading.{Heading}
+use Rattle.pcap_capture.specs.declared.fault.PcapFault.{PcapFault}
+use Rattle.pcap_capture.specs.declared.fault.PcapFault.TheVariants as pcaps
+use Rattle.ds_conductor.specs.Conditionings.{IsConditioned}
+use Rattle.ds_conductor.specs.Markings.{IsOfReads, answer_of, is_read_whole, is_unread}
+use Rattle.ds_conductor.specs.Passings.{IsBrokenOff, is_unread_by}
+use Rattle.ds_conductor.specs.Faults.{fault_of}
+use Rattle.ds_conductor.specs.Readings.{IsAsked, IsAskedOn, IsUnderway, is_read_fault, is_starved}
+use Rattle.ds_conductor.specs.Writings.{IsWrittenTo}
+use Rattle.ds_conductor.specs.declared.conditioner.Conditioner.{Conditioner}
+use Rattle.ds_conductor.specs.declared.fault.MarkFault.{MarkFault}
+use Rattle.ds_conductor.specs.declared.fault.MarkFault.TheVariants as marks
+use Rattle.ds_conductor.specs.declared.port.Port.{Port}
+use Rattle.ds_conductor.specs.declared.reading.Progress.{Progress}
+use Rattle.ds_conductor.specs.declared.report.Report.{Report}
+use Rattle.ds_conductor.proofs.ReadingLaws.{IsFrontRead, whole_underway}
+
+-- a front of a text is written where the rest of it is collected
+pub front_written : (text out before now : List ℕ) → IsWrittenTo out before text now → IsFrontOf before text now
+front_written text out before now so = (so.front, out, so.whole, so.written)
+
+-- memory ran out: of what was read these frames are seen
+pub starved_off : (p : Port) (bytes more before now text : List ℕ) (frames seen others : List FrameValue) (c : Conditioner) (at : IsFrontRead bytes more p.heading frames)
+    → frames ≡ seen ++ others → IsConditioned p true seen text c → IsFrontOf before (p.heading.bytes ++ text) now → IsBrokenOff p bytes more before now c marks.NoMemory
+starved_off p bytes more before now text frames seen others c at parts conditioned written = record {
+  read = at.read;
+  frames = seen;
+  others = others ++ at.others;
+  text = text;
+  front = at.front;
+  headed = at.headed;
+  parted = at.parted ∙ ap (λ fs. fs ++ at.others) parts ∙ append_assoc seen others at.others;
+  all = λ e. cc;
+  conditioned = conditioned;
+  written = written;
+}
+
+-- the device that takes bytes failed, or memory ran out for what it was to be given
+pub unwritten_off : (p : Port) (gone : List FrameValue) (bytes more before now text : List ℕ) (progress : Progress) (frames : List FrameValue) (c : Conditioner) (fault : MarkFault)
+    → progress.heading ≡ Some p.heading → IsUnderway gone bytes more progress → frames ≡ progress.frames.items
+    → IsConditioned p true (gone ++ frames) text c → IsFrontOf before (p.heading.bytes ++ text) now → IsBrokenOff p bytes more before now c fault
+unwritten_off p gone bytes more before now text progress frames c fault headed at taken conditioned written =
+    let all = whole_underway gone bytes more progress p.heading headed at in record {
+      read = all.0;
+      frames = gone ++ frames;
+      others = [];
+      text = text;
+      front = all.1;
+      headed = all.2;
+      parted = all.3 ∙ ap (λ fs. gone ++ fs) (sym taken) ∙ sym (append-nil (gone ++ frames));
+      all = λ e. refl;
+      conditioned = conditioned;
+      written = written;
+    }
+
+-- memory was there
+pub well_by : (fault : PcapFault) → is_starved fault ≡ false → ¬ (Some fault ≡ Some pcaps.NoMemory)
+well_by fault well starved = let is : true ≡ false = sym (ap is_starved (some_is fault pcaps.NoMemory starved)) ∙ well in cc
+  where
+    some_is : (a b : PcapFault) → Some a ≡ Some b → a ≡ b
+    some_is a b e = cc
+
+abbrev told : PcapFault → Result Bool PcapFault
+told fault = Err fault
+
+pub writable_by : (fault : PcapFault) → ¬ (told fault ≡ told pcaps.WriteFault) → ¬ (Some fault ≡ Some pcaps.WriteFault)
+writable_by fault writable e = writable cc
+
+-- whether the device that gives bytes is told to have failed
+pub unread_is : (fault : PcapFault) → is_read_fault {T = Bool} (Err fault) ≡ is_unread_by (Some fault)
+unread_is pcaps.NotPcap = refl
+unread_is pcaps.IsPcapng = refl
+unread_is pcaps.BadVersion = refl
+unread_is (pcaps.LinkType number) = refl
+unread_is (pcaps.RecordTooLong count) = refl
+unread_is pcaps.Truncated = refl
+unread_is pcaps.ReadFault = refl
+unread_is pcaps.WriteFault = refl
+unread_is pcaps.NoMemory = refl
+unread_is pcaps.Failed = refl
+
+pub answer_unread : (report : Report) (fault : Option PcapFault) → is_unread (answer_of report fault) ≡ is_unread_by fault
+answer_unread report None = refl
+answer_unread report (Some fault) = refl
+
+pub answer_read : (report : Report) (fault : Option PcapFault) → is_read_whole (answer_of report fault) ≡ true → is_unread_by fault ≡ false
+answer_read report None is = refl
+answer_read report (Some pcaps.NotPcap) is = refl
+answer_read report (Some pcaps.IsPcapng) is = refl
+answer_read report (Some pcaps.BadVersion) is = refl
+answer_read report (Some (pcaps.LinkType number)) is = refl
+answer_read report (Some (pcaps.RecordTooLong count)) is = refl
+answer_read report (Some pcaps.Truncated) is = refl
+answer_read report (Some pcaps.ReadFault) is = absurd cc
+answer_read report (Some pcaps.WriteFault) is = refl
+answer_read report (Some pcaps.NoMemory) is = refl
+answer_read report (Some pcaps.Failed) is = refl
+
+-- a fault of the writing tells nothing of the reading
+pub broken_unread : (report : Report) (fault : MarkFault) → (fault ≡ marks.Capture pcaps.WriteFault) ⊎ (fault ≡ marks.NoMemory) → is_unread (Err (report, fault)) ≡ false
+broken_unread report fault (inl e) = ap (λ f. is_unread (Err (report, f))) e
+broken_unread report fault (inr e) = ap (λ f. is_unread (Err (report, f))) e
+
+pub broken_read : (report : Report) (fault : MarkFault) → (fault ≡ marks.Capture pcaps.WriteFault) ⊎ (fault ≡ marks.NoMemory) → is_read_whole (Err (report, fault)) ≡ false
+broken_read report fault (inl e) = ap (λ f. is_read_whole (Err (report, f))) e
+broken_read report fault (inr e) = ap (λ f. is_read_whole (Err (report, f))) e
+
+-- what is known of the device that gives bytes, by what is answered
+pub of_reads : (answer : Result Report (Report × MarkFault)) (unread : Bool) (left failed now asked_before asked : ℕ) → (is_unread answer ≡ true → unread ≡ true)
+    → (is_read_whole answer ≡ true → unread ≡ false) → IsAskedOn unread left failed now asked_before asked → IsOfReads answer failed now asked_before asked
+of_reads answer true left failed now asked_before asked unread whole on = record {
+  failed_or_spent = λ is. on;
+  unfailed = λ is. let no = whole is in absurd cc;
+}
+of_reads answer false left failed now asked_before asked unread whole on = record {
+  failed_or_spent = λ is. let no = unread is in absurd cc;
+  unfailed = λ is. on.unfailed;
+}
+
+pub broken_reads : (report : Report) (fault : MarkFault) (failed now asked_before asked : ℕ) → (fault ≡ marks.Capture pcaps.WriteFault) ⊎ (fault ≡ marks.NoMemory)
+    → IsOfReads (Err (report, fault)) failed now asked_before asked
+broken_reads report fault failed now asked_before asked why = record {
+  failed_or_spent = λ is. let no = sym (broken_unread report fault why) ∙ is in absurd cc;
+  unfailed = λ is. let no = sym (broken_read report fault why) ∙ is in absurd cc;
+}
+
+-- a fault of the reading that came before the heading was there
+unheaded_unread : (report : Report) (fault : PcapFault) → is_unread (Err (report, fault_of fault)) ≡ is_read_fault {T = Heading} (Err fault)
+unheaded_unread report pcaps.NotPcap = refl
+unheaded_unread report pcaps.IsPcapng = refl
+unheaded_unread report pcaps.BadVersion = refl
+unheaded_unread report (pcaps.LinkType number) = refl
+unheaded_unread report (pcaps.RecordTooLong count) = refl
+unheaded_unread report pcaps.Truncated = refl
+unheaded_unread report pcaps.ReadFault = refl
+unheaded_unread report pcaps.WriteFault = refl
+unheaded_unread report pcaps.NoMemory = refl
+unheaded_unread report pcaps.Failed = refl
+
+unheaded_read : (report : Report) (fault : PcapFault) → is_read_whole (Err (report, fault_of fault)) ≡ true → is_read_fault {T = Heading} (Err fault) ≡ false
+unheaded_read report pcaps.NotPcap is = refl
+unheaded_read report pcaps.IsPcapng is = refl
+unheaded_read report pcaps.BadVersion is = refl
+unheaded_read report (pcaps.LinkType number) is = refl
+unheaded_read report (pcaps.RecordTooLong count) is = refl
+unheaded_read report pcaps.Truncated is = refl
+unheaded_read report pcaps.ReadFault is = absurd cc
+unheaded_read report pcaps.WriteFault is = refl
+unheaded_read report pcaps.NoMemory is = refl
+unheaded_read report pcaps.Failed is = refl
+
+pub unheaded_reads : (report : Report) (fault : PcapFault) (told : MarkFault) (left failed now asked_before asked : ℕ) → told ≡ fault_of fault
+    → IsAskedOn (is_read_fault {T = Heading} (Err fault)) left failed now asked_before asked → IsOfReads (Err (report, told)) failed now asked_before asked
+unheaded_reads report fault told left failed now asked_before asked is on =
+    subst (λ f. IsOfReads (Err (report, f)) failed now asked_before asked) (sym is)
+    (of_reads (Err (report, fault_of fault)) (is_read_fault {T = Heading} (Err fault)) left failed now asked_before asked
+    (λ unread. sym (unheaded_unread report fault) ∙ unread) (unheaded_read report fault) on)
+
+-- at first no call was made
+pub asked_first : (left failed asked : ℕ) → left ≡ 2 ^ 32 → IsAsked left failed failed asked asked
+asked_first left failed asked is = record {
+  some = omega (arith, is);
+  unfailed = refl;
+  spent = sym (count_after-none asked) ∙ ap (λ n. count_after n asked) (let none : 0 ≡ 2 ^ 32 - left = omega (arith, is) in none);
+}

@@ -1,0 +1,10 @@
+use Rattle.std.proofs.Common.{ap, sym, ◌∙◌}
+use Rattle.std.proofs.lemmas.Result.{OkIff-at_ok}
+use Rattle.ds_visits_base.specs.Streams.{begun}
+use Rattle.ds_conductor.proofs.ConditionLaws.{begins}
+use Rattle.ds_conductor.proofs.conditioner.Conditioner.new.Goals as goal
+
+pub returns-clause-begun : goal.returns-clause-begun
+returns-clause-begun c p same =
+    begins p _ (c.in_ok-new.ensures.begun ∙ ap begun (sym same)) c.new-2.ensures.items (OkIff-at_ok c.new-3.result _ _ c.unwrap.result c.new-3.ensures c.unwrap.ensures).1
+    c.nothing.ensures c.nothing-2.ensures

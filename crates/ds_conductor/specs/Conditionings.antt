@@ -1,0 +1,72 @@
+-- Frames between their reading and their writing: seen, held until their colours are decided, and handed out.
+use Rattle.std.specs.Prelude.{◌≡◌, ◌⊎◌, ℕ, suc, ◌≤◌, ◌^◌, Bool, true, false, List, [], ◌∷◌, ◌++◌, length, max, zip, None}
+use Rattle.std.specs.Prelude.{IsSome}
+use Rattle.moment_core.specs.declared.colour.Colour.{Colour}
+use Rattle.pcap_capture.specs.Frames.{FrameValue}
+use Rattle.frame_marker.specs.Ports.{sight_at}
+use Rattle.frame_marker.specs.declared.sight.Sight.{Sight}
+use Rattle.ds_visits_base.specs.Passing.{colours_of}
+use Rattle.ds_visits_base.specs.Streams.{AreSentFrom, colours_left, decided, next_place}
+use Rattle.ds_visits_base.specs.declared.sent.Sent.{Sent}
+use Rattle.ds_conductor.specs.Sendings.{AreCounted, packet_of, sent_of}
+use Rattle.ds_conductor.specs.Tallies.{AreTallied, AreWithin}
+use Rattle.ds_conductor.specs.Texts.{text_from}
+use Rattle.ds_conductor.specs.declared.conditioner.Conditioner.{Conditioner}
+use Rattle.ds_conductor.specs.declared.conditioner.Held.{Held}
+use Rattle.ds_conductor.specs.declared.port.Port.{Port}
+
+-- what a frame is at a port, by its rules
+abbrev pub see_at : Port → List ℕ → Sight
+see_at p bytes = sight_at p.classifier p.heading.link bytes
+
+-- the greatest stamp of frames, or this moment, where that is later
+unfoldable pub newest_after : ℕ → List FrameValue → ℕ
+newest_after newest [] = newest
+newest_after newest (f ∷ frames) = newest_after (max newest f.moment) frames
+
+-- frames as they are held, of which the first has this number, and before which the greatest stamp is this
+unfoldable pub held_from : (List ℕ → Sight) → ℕ → ℕ → List FrameValue → List Held
+held_from see number newest [] = []
+held_from see number newest (f ∷ frames) =
+    record { frame = f; packet = packet_of (see f.bytes) number (max newest f.moment) }
+    ∷ held_from see (suc number) (max newest f.moment) frames
+
+-- the packets that may still be sent: those of later frames, or none
+abbrev pub MayCome : Bool → ℕ → List Sent → Type 0
+MayCome true newest back = AreSentFrom newest back
+MayCome false newest back = back ≡ []
+
+-- Of the frames that were seen, those at the front were handed out, with this text, and the others are held. The
+-- colours that were handed out, and those that are left, are the colours of all packets, also of those that are still
+-- to come.
+pub record IsConditioned (p : Port) (more : Bool) (frames : List FrameValue) (text : List ℕ) (c : Conditioner) : Type 0
+  where
+    pub gone : List FrameValue
+    pub waiting : List FrameValue
+    pub colours : List Colour
+    pub parted : frames ≡ gone ++ waiting
+    pub paired : length colours ≡ length (sent_of (see_at p) gone)
+    pub written : text ≡ text_from p.accepted.now p.red p.heading.link 0 gone (zip (sent_of (see_at p) gone) colours)
+    pub held : c.held.items ≡ held_from (see_at p) (length gone) (newest_after 0 gone) waiting
+    pub newest : c.newest ≡ newest_after 0 frames
+    pub comes : (back : List Sent) → MayCome more c.newest back
+        → colours_of p.accepted.now (sent_of (see_at p) frames ++ back) ≡ colours ++ colours_left c.under_way back
+    pub counted : AreCounted (see_at p) frames c.counts
+    pub tallied : AreTallied (zip (sent_of (see_at p) gone) colours) c.tallies
+
+-- No more packets are under way than frames were seen, and no more of these than 2^44.
+pub record IsBounded (c : Conditioner) : Type 0 where
+  pub records : c.counts.records ≤ 2 ^ 44
+  pub matched : c.counts.matched ≤ c.counts.records
+  pub unmatched : c.counts.unmatched ≤ c.counts.records
+  pub skipped : c.counts.skipped ≤ c.counts.records
+  pub unverified : c.counts.unverified ≤ c.counts.records
+  pub placed : next_place c.under_way ≤ c.counts.records
+  pub within : AreWithin c.under_way.traffic.first c.tallies
+
+-- no frame is held, or the colour of the first one's packet is not decided
+abbrev pub IsUndecided : Conditioner → Type 0
+IsUndecided c =
+    (c.held.items ≡ [])
+    ⊎ ((decided c.under_way ≡ None)
+    × ((first : Held) × (others : List Held) × (c.held.items ≡ first ∷ others) × IsSome first.packet))

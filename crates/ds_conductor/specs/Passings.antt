@@ -1,0 +1,111 @@
+-- What stands while a capture is marked, piece by piece.
+use Rattle.std.specs.Prelude.{◌≡◌, ◌⊎◌, ℕ, List, [], ◌++◌, zip, Bool, true, false, Option, None, Some, Result, Ok, Err}
+use Rattle.pcap_capture.specs.Fronts.{IsFrontOf}
+use Rattle.pcap_capture.specs.Frames.{FrameValue}
+use Rattle.pcap_capture.specs.Grammar.{capture, heading_of}
+use Rattle.pcap_capture.specs.declared.fault.PcapFault.{PcapFault}
+use Rattle.pcap_capture.specs.declared.fault.PcapFault.TheVariants as pcaps
+use Rattle.ds_visits_base.specs.Passing.{colours_of}
+use Rattle.ds_conductor.specs.Conditionings.{IsConditioned, see_at}
+use Rattle.ds_conductor.specs.Markings.{IsWhole, Marking, answer_of, is_read}
+use Rattle.ds_conductor.specs.Readings.{IsAskedOn, IsReading, IsUnderway}
+use Rattle.ds_conductor.specs.Reports.{report_of}
+use Rattle.ds_conductor.specs.Sendings.{sent_of}
+use Rattle.ds_conductor.specs.Texts.{text_from}
+use Rattle.ds_conductor.specs.Writings.{IsWrittenTo}
+use Rattle.ds_conductor.specs.declared.conditioner.Conditioner.{Conditioner}
+use Rattle.ds_conductor.specs.declared.fault.MarkFault.{MarkFault}
+use Rattle.ds_conductor.specs.declared.fault.MarkFault.TheVariants as marks
+use Rattle.ds_conductor.specs.declared.marking.Turn.{Turn}
+use Rattle.ds_conductor.specs.declared.marking.Turn.TheVariants.{Ended, More}
+use Rattle.ds_conductor.specs.declared.port.Port.{Port}
+use Rattle.ds_conductor.specs.declared.report.Report.{Report}
+use Rattle.ds_conductor.specs.declared.reading.Progress.{Progress}
+
+-- More may come: all frames that were read are seen, and of the text of those that were handed out a front is written
+-- and the rest is collected.
+pub record IsOnTheWay (p : Port) (bytes more before now : List ℕ) (progress : Progress) (c : Conditioner) (out : List ℕ)
+    : Type 0 where
+  pub frames : List FrameValue
+  pub text : List ℕ
+  pub underway : IsUnderway frames bytes more progress
+  pub headed : progress.heading ≡ Some p.heading
+  pub conditioned : IsConditioned p true frames text c
+  pub written : IsWrittenTo out before (p.heading.bytes ++ text) now
+
+-- The capture ended, or its reading did, by this fault: all its frames are seen.
+pub record IsThrough (p : Port) (bytes more before now : List ℕ) (c : Conditioner) (out : List ℕ)
+    (fault : Option PcapFault) : Type 0 where
+  pub frames : List FrameValue
+  pub text : List ℕ
+  pub well : ¬ (fault ≡ Some pcaps.NoMemory)
+  pub writable : ¬ (fault ≡ Some pcaps.WriteFault)
+  pub ended : IsReading bytes more (Some p.heading) frames fault
+  pub conditioned : IsConditioned p true frames text c
+  pub written : IsWrittenTo out before (p.heading.bytes ++ text) now
+
+-- The device that takes bytes failed, or memory ran out: of the frames that were read those at the front are seen, and a
+-- front of the text of those that were handed out is written.
+pub record IsBrokenOff (p : Port) (bytes more before now : List ℕ) (c : Conditioner) (fault : MarkFault) : Type 0 where
+  pub read : List ℕ
+  pub frames : List FrameValue
+  pub others : List FrameValue
+  pub text : List ℕ
+  pub front : bytes ≡ read ++ more
+  pub headed : heading_of read ≡ Some (Ok p.heading)
+  pub parted : (capture read).frames ≡ frames ++ others
+  pub all : fault ≡ marks.Capture pcaps.WriteFault → others ≡ []
+  pub conditioned : IsConditioned p true frames text c
+  pub written : IsFrontOf before (p.heading.bytes ++ text) now
+
+-- what a turn comes to
+abbrev pub IsTurned : Port → List ℕ → List ℕ → List ℕ → List ℕ → Progress → Conditioner → List ℕ → Result Turn MarkFault
+    → Type 0
+IsTurned p bytes more before now progress c out (Ok More) = IsOnTheWay p bytes more before now progress c out
+IsTurned p bytes more before now progress c out (Ok (Ended fault)) = IsThrough p bytes more before now c out fault
+IsTurned p bytes more before now progress c out (Err fault) = IsBrokenOff p bytes more before now c fault
+
+-- and all turns
+abbrev pub IsTurnedOut : Port → List ℕ → List ℕ → List ℕ → List ℕ → Conditioner → List ℕ
+    → Result (Option PcapFault) MarkFault → Type 0
+IsTurnedOut p bytes more before now c out (Ok fault) = IsThrough p bytes more before now c out fault
+IsTurnedOut p bytes more before now c out (Err fault) = IsBrokenOff p bytes more before now c fault
+
+-- whether the device that gives bytes was told to have failed
+abbrev pub is_unread_by : Option PcapFault → Bool
+is_unread_by None = false
+is_unread_by (Some fault) = is_read fault
+
+abbrev pub is_unread_turn : Result Turn MarkFault → Bool
+is_unread_turn (Ok More) = false
+is_unread_turn (Ok (Ended fault)) = is_unread_by fault
+is_unread_turn (Err fault) = false
+
+-- How a device was asked: as after a call, where the reading goes on or ended; of a marking that was broken off nothing
+-- is told.
+abbrev pub IsAskedIn : Result Turn MarkFault → ℕ → ℕ → ℕ → ℕ → ℕ → Type 0
+IsAskedIn (Ok turn) left failed now asked_before asked =
+    IsAskedOn (is_unread_turn (Ok turn)) left failed now asked_before asked
+IsAskedIn (Err fault) left failed now asked_before asked = Unit {0}
+
+abbrev pub IsAskedOut : Result (Option PcapFault) MarkFault → ℕ → ℕ → ℕ → ℕ → ℕ → Type 0
+IsAskedOut (Ok fault) left failed now asked_before asked =
+    IsAskedOn (is_unread_by fault) left failed now asked_before asked
+IsAskedOut (Err fault) left failed now asked_before asked = Unit {0}
+
+-- the marking of frames at a port
+abbrev pub marking_at : Port → List FrameValue → Marking
+marking_at p frames =
+    let coloured = zip (sent_of (see_at p) frames) (colours_of p.accepted.now (sent_of (see_at p) frames)) in
+    record {
+      text = p.heading.bytes ++ text_from p.accepted.now p.red p.heading.link 0 frames coloured;
+      report = report_of (see_at p) p.red frames coloured;
+    }
+
+-- What is answered to frames whose reading ended by a fault, or not: that with the report of their marking, which is
+-- written whole; or a fault of the writing, where a front of it is.
+abbrev pub IsFinished : Marking → Option PcapFault → List ℕ → List ℕ → Result Report (Report × MarkFault) → Type 0
+IsFinished m fault before after answer =
+    (IsWhole m m.report before after × (answer ≡ answer_of m.report fault))
+    ⊎ ((unwritten : MarkFault) × ((unwritten ≡ marks.Capture pcaps.WriteFault) ⊎ (unwritten ≡ marks.NoMemory))
+    × IsFrontOf before m.text after × (answer ≡ Err (m.report, unwritten)))
