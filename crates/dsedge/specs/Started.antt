@@ -13,8 +13,7 @@ use Rattle.dsedge_texts.specs.Readable.{texts_of}
 use Rattle.dsedge_lines.specs.FirstLine.{after_first_line, first_line_of}
 use Rattle.dsedge_serve.specs.declared.advice.Advice.{Advice}
 use Rattle.dsedge_serve.specs.declared.fault.Fault.{Fault}
-use Rattle.dsedge_serve.specs.declared.fault.Fault.TheVariants.{Usage, Line, Domain, Certificate, Capture, Port, File}
-use Rattle.dsedge_serve.specs.declared.fault.Fault.TheVariants.{Read, Write, Memory, Full}
+use Rattle.dsedge_serve.specs.declared.fault.Fault.TheVariants.{File, Memory, Read, Usage}
 use Rattle.dsedge_serve.specs.declared.outcome.Outcome.{Outcome}
 use Rattle.dsedge_serve.specs.Advised.{advice_after, advice_on}
 use Rattle.dsedge_serve.specs.Faults.{fault_text, status_of}
@@ -59,28 +58,13 @@ abbrev pub IsWordless : List (List ℕ) → List ℕ → Fault → Type 0
 IsWordless given bytes Usage = LacksWords given bytes
 IsWordless given bytes Read = given ≡ []
 IsWordless given bytes Memory = Unit {0}
-IsWordless given bytes (Line number) = ⊥
-IsWordless given bytes (Domain fault) = ⊥
-IsWordless given bytes (Certificate fault) = ⊥
-IsWordless given bytes (Capture fault) = ⊥
-IsWordless given bytes (Port name) = ⊥
-IsWordless given bytes (File name reason) = ⊥
-IsWordless given bytes Write = ⊥
-IsWordless given bytes Full = ⊥
+IsWordless given bytes _ = ⊥
 
 -- Why words have no plan: they ask for nothing that there is; memory may run out.
 abbrev pub IsRefused : List (List ℕ) → Fault → Type 0
 IsRefused words Usage = IsRefusalOf words usage_faults.Usage
 IsRefused words Memory = Unit {0}
-IsRefused words Read = ⊥
-IsRefused words (Line number) = ⊥
-IsRefused words (Domain fault) = ⊥
-IsRefused words (Certificate fault) = ⊥
-IsRefused words (Capture fault) = ⊥
-IsRefused words (Port name) = ⊥
-IsRefused words (File name reason) = ⊥
-IsRefused words Write = ⊥
-IsRefused words Full = ⊥
+IsRefused words _ = ⊥
 
 -- Why there is no plan: there are no words, or those that there are have none.
 abbrev pub IsRefusalFrom : List (List ℕ) → List ℕ → Fault → Type 0
@@ -89,17 +73,8 @@ IsRefusalFrom given bytes fault =
 
 -- whether a fault says that the input could not be read
 abbrev pub is_read : Fault → Bool
-is_read Usage = false
-is_read (Line number) = false
-is_read (Domain fault) = false
-is_read (Certificate fault) = false
-is_read (Capture fault) = false
-is_read (Port name) = false
-is_read (File name reason) = false
 is_read Read = true
-is_read Write = false
-is_read Memory = false
-is_read Full = false
+is_read _ = false
 
 -- the failures of an input behind a fault
 abbrev pub failures_with : Fault → ℕ → ℕ
@@ -110,15 +85,7 @@ failures_with fault failed = if is_read fault then next_count failed else failed
 abbrev pub IsUnreadable : Type 0 → (List ℕ → Option (List ℕ)) → List (List ℕ) → Fault → Type 0
 IsUnreadable tells holds names (File name reason) = Contains names name × (tells → texts_of holds names ≡ Err name)
 IsUnreadable tells holds names Memory = Unit {0}
-IsUnreadable tells holds names Usage = ⊥
-IsUnreadable tells holds names (Line number) = ⊥
-IsUnreadable tells holds names (Domain fault) = ⊥
-IsUnreadable tells holds names (Certificate fault) = ⊥
-IsUnreadable tells holds names (Capture fault) = ⊥
-IsUnreadable tells holds names (Port name) = ⊥
-IsUnreadable tells holds names Read = ⊥
-IsUnreadable tells holds names Write = ⊥
-IsUnreadable tells holds names Full = ⊥
+IsUnreadable tells holds names _ = ⊥
 
 -- how a start went: refused with a fault before anything was read but the words, or a plan with a fault of its files,
 -- or a plan was served with the texts of its files, with an outcome
@@ -171,9 +138,8 @@ IsWritten (Served plan texts outcome) tells input more before after =
 
 -- whether a start went so that the output could not be written
 abbrev pub is_unwritten : Course → Bool
-is_unwritten (Refused fault) = false
-is_unwritten (Unread plan fault) = false
 is_unwritten (Served plan texts outcome) = is_output_fault outcome
+is_unwritten _ = false
 
 -- A read fault comes only where the input failed once, or behind the words was asked 2^32 times.
 abbrev pub IsFromInput : Course → ℕ → ℕ → ℕ → ℕ → Type 0

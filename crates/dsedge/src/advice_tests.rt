@@ -1,10 +1,11 @@
 use crate::mark_tests::run_mark;
-use crate::tests::{Done, domain_text, run_on_domain, run_on_table};
+use crate::tests::{ALONE, Done, domain_text, run_on_domain, run_on_table};
 use ds_certificate::CertificateFault;
 use dsedge_serve::Advice;
 use dsedge_texts::{FaultyLine, Reason};
 use std::process::Abort;
 use std::test::Fail;
+use worked_texts::TWO_RATES;
 
 /// Expects what is told of a run, and what there is to say behind it.
 fn expect(rt: &impl Abort, done: &Done, told: &str, advice: Advice) {
@@ -35,20 +36,9 @@ fn a_file_that_is_none_is_one_line(rt: HostRuntime) -> Result<(), Fail> {
     Ok(())
 }
 
-/// A contract that is trusted.
-const TRUSTED: &str = r#"
-name = "a"
-kind = "trusted"
-port = "p"
-path = ["m"]
-class = 1
-cir = 8000000
-cbs = 3000
-"#;
-
 #[test]
 fn the_line_of_a_certificate_that_is_at_fault(rt: HostRuntime) -> Result<(), Fail> {
-    let domain = domain_text(rt.alloc(), (500_000, 0), 1_000_000, TRUSTED)?;
+    let domain = domain_text(rt.alloc(), (500_000, 0), 1_000_000, &ALONE)?;
     for (text, fault, line, told) in [
         (
             "dscert 4\n",
@@ -92,7 +82,7 @@ fn the_line_of_a_certificate_that_is_at_fault(rt: HostRuntime) -> Result<(), Fai
 fn a_report_is_one_write(rt: HostRuntime) -> Result<(), Fail> {
     let words = "--port p --workers 1 --red keep";
     let pcapng = [0x0a, 0x0d, 0x0d, 0x0a];
-    let done = run_mark(&rt, rt.alloc(), "cbs = 1500\npbs = 3000\n", words, &pcapng)?;
+    let done = run_mark(&rt, rt.alloc(), TWO_RATES, words, &pcapng)?;
     let told = "records 0\nmarked 0\nunmatched 0\nskipped 0\nunverified 0\ndropped 0\n\
         green 0 0\nyellow 0 0\nred 0 0\ndsedge: capture 2 IsPcapng\n";
     expect(&rt, &done, told, Advice::Pcapng);

@@ -1,26 +1,11 @@
 use crate::tests::{Done, run};
 use dsedge_texts::MemoryFolder;
 use pcap_capture::{SliceIntake, VecOutlet};
-use std::alloc::{AllocError, Global};
+use std::alloc::Global;
 use std::process::Abort;
 use std::sync::Wait;
 use std::test::Fail;
-
-/// The text of a domain of one meter of two rates, both of so many bits per second and with such a bucket, and of
-/// contracts `a` and `b` of 8 Mbit/s and 3,000 bytes.
-fn two_contracts(alloc: Global, rate: u64, burst: u64) -> Result<String, AllocError> {
-    format!(in alloc;
-        r#"
-meter = [{{ name = "m", kind = "trtcm", cir = {rate}, cbs = {burst}, pir = {rate}, pbs = {burst}, skew = 500000 }}]
-port = [{{ name = "p", skew = 0 }}]
-link = [{{ from = "p", to = "m", floor = 0, jitter = 1000000 }}]
-contract = [
-    {{ name = "a", kind = "trusted", port = "p", path = ["m"], class = 1, cir = 8000000, cbs = 3000 }},
-    {{ name = "b", kind = "trusted", port = "p", path = ["m"], class = 2, cir = 8000000, cbs = 3000 }},
-]
-"#
-    )
-}
+use worked_texts::{tight, wide};
 
 /// `drive` on lines, over a domain.
 fn run_drive(
@@ -53,7 +38,7 @@ fn expect_of_drive(
 
 #[test]
 fn a_contract_is_granted_once(rt: HostRuntime) -> Result<(), Fail> {
-    let domain = two_contracts(rt.alloc(), 24_000_000, 13_500)?;
+    let domain = wide(rt.alloc())?;
     let lines = "look\nreserve a\nlook\nreserve a\n";
     let output = "serial 0 contracts 0\ngranted 1 1 0\nserial 1 contracts 1\nrefused 1 Twice\n";
     expect_of_drive(&rt, rt.alloc(), (domain.as_str(), lines), (output, "", 0))
@@ -88,7 +73,7 @@ fn a_share_is_sold_again_once_its_hold_has_passed(rt: HostRuntime) -> Result<(),
         answers.push_str(answer)?;
         answers.push('\n')?;
     }
-    let domain = two_contracts(alloc, 16_000_000, 4_500)?;
+    let domain = tight(alloc)?;
     expect_of_drive(
         &rt,
         alloc,
@@ -104,7 +89,7 @@ const NO_REQUESTS: &str =
 
 #[test]
 fn a_line_that_asks_for_nothing(rt: HostRuntime) -> Result<(), Fail> {
-    let domain = two_contracts(rt.alloc(), 24_000_000, 13_500)?;
+    let domain = wide(rt.alloc())?;
     for line in NO_REQUESTS.split('\n') {
         let lines = format!(in rt.alloc(); "reserve a\n{line}\nlook\n")?;
         let answer = ("granted 1 1 0\n", "dsedge: line 2\n", 3);
@@ -115,7 +100,7 @@ fn a_line_that_asks_for_nothing(rt: HostRuntime) -> Result<(), Fail> {
 
 #[test]
 fn ids_and_names_that_are_not_held(rt: HostRuntime) -> Result<(), Fail> {
-    let domain = two_contracts(rt.alloc(), 24_000_000, 13_500)?;
+    let domain = wide(rt.alloc())?;
     for (line, answer) in [
         ("release 0 5", "refused 4 UnknownId\n"),
         ("release 4294967297 5", "refused 4 UnknownId\n"),
@@ -138,7 +123,7 @@ fn a_domain_with_a_fault_sells_nothing(rt: HostRuntime) -> Result<(), Fail> {
 
 #[test]
 fn answers_before_a_read_that_fails(rt: HostRuntime) -> Result<(), Fail> {
-    let domain = two_contracts(rt.alloc(), 24_000_000, 13_500)?;
+    let domain = wide(rt.alloc())?;
     let intake = SliceIntake {
         most: 10,
         fails_at: Some(3),

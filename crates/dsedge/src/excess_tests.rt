@@ -3,59 +3,19 @@ use std::alloc::{AllocError, Global};
 use std::process::Abort;
 use std::sync::Wait;
 use std::test::Fail;
+use worked_texts::{
+    A, EXCESS, ONE, PEAK, POLICED, SEPARATE_RATES, SHARE, TOO_MUCH, TRUSTED, TWO, U, over_excess,
+};
 
-/// A trusted contract whose yellow packets have an envelope of their own, but for its burst.
-const TRUSTED: &str = r#"
-name = "a"
-kind = "trusted"
-port = "p"
-path = ["m"]
-class = 1
-cir = 8000000
-cbs = 3000
-pir = 16000000
-pbs = 4000
-eir = 8000000
-"#;
-
-/// With an excess burst of 1,000 bytes, and of one more.
-const ENOUGH: &str = "ebs = 1000\n";
-
-const TOO_MUCH: &str = "ebs = 1001\n";
-
-/// A contract that is policed by a meter of a committed and an excess rate.
-const POLICED: &str = r#"
-name = "u"
-kind = "rfc4115"
-port = "p"
-path = ["m"]
-class = 1
-mode = "blind"
-cir = 8000000
-cbs = 1500
-eir = 8000000
-ebs = 500
-"#;
-
-/// The least certificates of both.
+/// The least certificates of a trusted contract whose yellow packets have an envelope of their own, and of one that is
+/// policed by a meter of a committed and an excess rate.
 const LEAST_OF_TRUSTED: &str = "dscert 2\na 0 3000 4000 1000\na 1 4000 6000 2000\n";
 
 const LEAST_OF_POLICED: &str = "dscert 2\nu 0 1501 2002 501\nu 1 2501 4002 1501\n";
 
-/// The text of a domain of a version, of one meter with a committed and an excess rate and one contract.
-fn domain_text(
-    alloc: Global,
-    version: u8,
-    (contract, burst): (&str, &str),
-) -> Result<String, AllocError> {
-    format!(in alloc;
-        r#"
-version = {version}
-meter = [{{ name = "m", kind = "rfc4115", cir = 8000000, cbs = 4000, eir = 8000000, ebs = 2000, skew = 0 }}]
-port = [{{ name = "p", skew = 0 }}]
-link = [{{ from = "p", to = "m", floor = 0, jitter = 1000000 }}]
-[[contract]]{contract}{burst}"#
-    )
+/// The text of the domain of that trusted contract.
+fn enough(alloc: Global) -> Result<String, AllocError> {
+    over_excess(alloc, TWO, &[TRUSTED, A, SHARE, PEAK, EXCESS])
 }
 
 /// Expects of `certify` on a domain a certificate, and of `check` on both an output and a status.
@@ -75,23 +35,26 @@ fn expect_least(
 
 #[test]
 fn least_certificates_with_an_excess(rt: HostRuntime) -> Result<(), Fail> {
+    let trusted: &[&str] = &[TRUSTED, A, SHARE, PEAK, EXCESS];
+    let too_much: &[&str] = &[TRUSTED, A, SHARE, PEAK, TOO_MUCH];
+    let policed: &[&str] = &[POLICED, U, SEPARATE_RATES];
     for (version, contract, certificate, answer) in [
-        (2, (TRUSTED, ENOUGH), LEAST_OF_TRUSTED, ("accepted\n", 0)),
+        (TWO, trusted, LEAST_OF_TRUSTED, ("accepted\n", 0)),
         (
-            2,
-            (TRUSTED, TOO_MUCH),
+            TWO,
+            too_much,
             "dscert 2\na 0 3000 4000 1001\na 1 4000 6000 2001\n",
             ("refused 7 AllBurst m 2001 2000\n", 1),
         ),
-        (2, (POLICED, ""), LEAST_OF_POLICED, ("accepted\n", 0)),
+        (TWO, policed, LEAST_OF_POLICED, ("accepted\n", 0)),
         (
-            1,
-            (POLICED, ""),
+            ONE,
+            policed,
             "dscert 1\nu 0 1501 2002\nu 1 2501 4002\n",
             ("refused 6 AllRate m 16000000 8000000\n", 1),
         ),
     ] {
-        let domain = domain_text(rt.alloc(), version, contract)?;
+        let domain = over_excess(rt.alloc(), version, contract)?;
         expect_least(&rt, rt.alloc(), domain.as_str(), certificate, answer)?;
     }
     Ok(())
@@ -99,7 +62,7 @@ fn least_certificates_with_an_excess(rt: HostRuntime) -> Result<(), Fail> {
 
 #[test]
 fn bounds_of_yellow_packets(rt: HostRuntime) -> Result<(), Fail> {
-    let domain = domain_text(rt.alloc(), 2, (TRUSTED, ENOUGH))?;
+    let domain = enough(rt.alloc())?;
     for (certificate, answer) in [
         (
             "dscert 2\na 0 3000 4000 999\na 1 4000 6000 2000\n",
@@ -130,7 +93,7 @@ fn bounds_of_yellow_packets(rt: HostRuntime) -> Result<(), Fail> {
 
 #[test]
 fn a_source_over_its_excess(rt: HostRuntime) -> Result<(), Fail> {
-    let domain = domain_text(rt.alloc(), 2, (TRUSTED, ENOUGH))?;
+    let domain = enough(rt.alloc())?;
     for (steps, answer) in [
         ("send a 1 1001 12 0\n", ("source-over a excess 1\n", "", 1)),
         ("send a 1 1000 12 0\n", ("kept\n", "", 0)),

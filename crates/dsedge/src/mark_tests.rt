@@ -3,25 +3,7 @@ use std::alloc::{AllocError, Global};
 use std::process::Abort;
 use std::sync::Wait;
 use std::test::Fail;
-
-/// A contract of UDP packets that is policed by a meter of two rates, but for its bursts.
-const UDP: &str = r#"
-name = "u"
-kind = "trtcm"
-port = "p"
-path = ["m"]
-class = 1
-mode = "blind"
-cir = 8000000
-pir = 16000000
-protocol = 17
-"#;
-
-/// With bursts of 1,500 and 3,000 bytes.
-const WIDE: &str = "cbs = 1500\npbs = 3000\n";
-
-/// With bursts of 150 and 300 bytes.
-const NARROW: &str = "cbs = 150\npbs = 300\n";
+use worked_texts::{NARROW, POLICED, TWO_RATES, U, UDP};
 
 /// The heading of a capture: low bytes first, microseconds, Ethernet.
 const HEADING: [u8; 24] = [
@@ -60,17 +42,17 @@ fn capture(alloc: Global, parts: &[&[u8]]) -> Result<Vec<u8>, AllocError> {
     Ok(all)
 }
 
-/// `mark` with words behind its files on a capture, over the domain of that contract with bursts and its least
-/// certificate.
+/// `mark` with words behind its files on a capture, over the domain of a contract of UDP packets that a meter
+/// polices, and its least certificate.
 pub(crate) fn run_mark(
     rt: &impl Wait,
     alloc: Global,
-    bursts: &str,
+    rates: &str,
     words: &str,
     given: &[u8],
 ) -> Result<Done, Fail> {
-    let contract = format!(in alloc; "{UDP}{bursts}")?;
-    let domain = domain_text(alloc, (500_000, 0), 1_000_000, contract.as_str())?;
+    let contract = [POLICED, U, rates, UDP];
+    let domain = domain_text(alloc, (500_000, 0), 1_000_000, &contract)?;
     let least = run_on_domain(rt, alloc, "certify domain.toml", domain.as_str())?;
     let all = format!(in alloc; "mark domain.toml domain.cert {words}")?;
     let certificate = least.output.as_slice();
@@ -81,13 +63,13 @@ pub(crate) fn run_mark(
 fn expect_of_mark(
     rt: &(impl Abort + Wait),
     alloc: Global,
-    (bursts, words): (&str, &str),
+    (rates, words): (&str, &str),
     (given, wanted): (&[&[u8]], &[&[u8]]),
     (told, status): (&str, u8),
 ) -> Result<(), Fail> {
     let given = capture(alloc, given)?;
     let wanted = capture(alloc, wanted)?;
-    let done = run_mark(rt, alloc, bursts, words, given.as_slice())?;
+    let done = run_mark(rt, alloc, rates, words, given.as_slice())?;
     assert_eq!(rt; done.output.as_slice(), wanted.as_slice());
     assert_eq!(rt; done.told.as_slice(), told.as_bytes());
     assert_eq!(rt; done.status, status);
@@ -99,7 +81,7 @@ fn a_tagged_frame_is_marked(rt: HostRuntime) -> Result<(), Fail> {
     let marked = marked(0x28, 0x39);
     let told = "records 2\nmarked 1\nunmatched 0\nskipped 1\nunverified 0\ndropped 0\n\
         green 1 115\nyellow 0 0\nred 0 0\n";
-    let words = (WIDE, "--port p --workers 1 --red keep");
+    let words = (TWO_RATES, "--port p --workers 1 --red keep");
     let captures: (&[&[u8]], &[&[u8]]) = (
         &[&HEADING, &TAGGED, &OTHER],
         &[&HEADING, &marked, &OTHER],
@@ -123,7 +105,7 @@ fn a_capture_that_is_cut(rt: HostRuntime) -> Result<(), Fail> {
     let green = marked(0x28, 0x39);
     let told = "records 2\nmarked 2\nunmatched 0\nskipped 0\nunverified 0\ndropped 0\n\
         green 2 230\nyellow 0 0\nred 0 0\ndsedge: capture 6 Truncated\n";
-    let words = (WIDE, "--port p --workers 1 --red keep");
+    let words = (TWO_RATES, "--port p --workers 1 --red keep");
     let given: &[&[u8]] = &[&HEADING, &TAGGED, &TAGGED, &TAGGED[..40]];
     let captures: (&[&[u8]], &[&[u8]]) = (given, &[&HEADING, &green, &green]);
     expect_of_mark(&rt, rt.alloc(), words, captures, (told, 3))
@@ -148,7 +130,7 @@ fn captures_that_are_not_marked(rt: HostRuntime) -> Result<(), Fail> {
         expect_of_mark(
             &rt,
             rt.alloc(),
-            (WIDE, words),
+            (TWO_RATES, words),
             captures,
             (told.as_str(), status),
         )?;
@@ -168,7 +150,7 @@ fn words_of_mark_that_are_refused(rt: HostRuntime) -> Result<(), Fail> {
         expect_of_mark(
             &rt,
             rt.alloc(),
-            (WIDE, words),
+            (TWO_RATES, words),
             captures,
             ("dsedge: usage\n", 2),
         )?;

@@ -6,6 +6,10 @@ use std::alloc::{AllocError, Global};
 use std::process::Abort;
 use std::sync::Wait;
 use std::test::Fail;
+use worked_texts::{
+    A, B, C, LEAST_OF_POLICED, LEAST_OF_TRUSTED, LINK, POLICED, PORT, SHARE, TRUSTED, TWO_RATES, U,
+    UDP, joined, push_all,
+};
 
 /// What the program left behind.
 #[derive(Drop)]
@@ -277,31 +281,10 @@ fn a_write_that_fails(rt: HostRuntime) -> Result<(), Fail> {
 }
 
 /// A contract that is trusted.
-const TRUSTED: &str = r#"
-name = "a"
-kind = "trusted"
-port = "p"
-path = ["m"]
-class = 1
-cir = 8000000
-cbs = 3000
-src = "10.0.0.0/24"
-"#;
+pub(crate) const ALONE: [&str; 3] = [TRUSTED, A, SHARE];
 
 /// A contract that is policed by a meter of two rates.
-const POLICED: &str = r#"
-name = "u"
-kind = "trtcm"
-port = "p"
-path = ["m"]
-class = 1
-mode = "blind"
-cir = 8000000
-cbs = 1500
-pir = 16000000
-pbs = 3000
-protocol = 17
-"#;
+const AT_EDGE: [&str; 4] = [POLICED, U, TWO_RATES, UDP];
 
 /// The text of a domain of one meter with a skew, behind a port with a skew and a link with a jitter, and of one
 /// contract.
@@ -309,17 +292,19 @@ pub(crate) fn domain_text(
     alloc: Global,
     (meter_skew, port_skew): (u64, u64),
     jitter: u64,
-    contract: &str,
+    contract: &[&str],
 ) -> Result<String, AllocError> {
-    format!(in alloc;
+    let mut text = format!(in alloc;
         r#"
 meter = [
     {{ name = "m", kind = "trtcm", cir = 24000000, cbs = 13500, pir = 24000000, pbs = 13500, skew = {meter_skew} }},
 ]
 port = [{{ name = "p", skew = {port_skew} }}]
 link = [{{ from = "p", to = "m", floor = 0, jitter = {jitter} }}]
-[[contract]]{contract}"#
-    )
+"#
+    )?;
+    push_all(&mut text, contract)?;
+    Ok(text)
 }
 
 /// The program on words, with one file `domain.toml`.
@@ -337,24 +322,16 @@ pub(crate) fn run_on_domain(
 
 #[test]
 fn least_certificates(rt: HostRuntime) -> Result<(), Fail> {
+    let trusted: &[&str] = &ALONE;
+    let policed: &[&str] = &AT_EDGE;
     for (skew, jitter, contract, certificate) in [
-        (
-            0,
-            1_000_000,
-            TRUSTED,
-            "dscert 1\na 0 3000 3000\na 1 4000 4000\n",
-        ),
-        (0, 1, TRUSTED, "dscert 1\na 0 3000 3000\na 1 3001 3001\n"),
-        (
-            0,
-            1_000_000,
-            POLICED,
-            "dscert 1\nu 0 1501 3001\nu 1 2501 5001\n",
-        ),
+        (0, 1_000_000, trusted, LEAST_OF_TRUSTED),
+        (0, 1, trusted, "dscert 1\na 0 3000 3000\na 1 3001 3001\n"),
+        (0, 1_000_000, policed, LEAST_OF_POLICED),
         (
             1_000,
             1_000_000,
-            POLICED,
+            policed,
             "dscert 1\nu 0 1502 3003\nu 1 2502 5003\n",
         ),
     ] {
@@ -396,32 +373,17 @@ fn faults_of_domains_and_files(rt: HostRuntime) -> Result<(), Fail> {
     Ok(())
 }
 
-/// The text of a domain of a meter `m` of two rates, both the same, and of three contracts of 8 Mbit/s and 3,000 bytes.
+/// The text of a domain of a meter `m` of two rates, and of three contracts of 8 Mbit/s and 3,000 bytes.
 fn three_contracts(alloc: Global, rate: u64, burst: u64) -> Result<String, AllocError> {
-    format!(in alloc;
+    let mut text = format!(in alloc;
         r#"
 meter = [{{ name = "m", kind = "trtcm", cir = {rate}, cbs = {burst}, pir = 24000000, pbs = 13500, skew = 500000 }}]
-port = [{{ name = "p", skew = 0 }}]
-link = [{{ from = "p", to = "m", floor = 0, jitter = 1000000 }}]
-[[contract]]{TRUSTED}
-[[contract]]
-name = "b"
-kind = "trusted"
-port = "p"
-path = ["m"]
-class = 2
-cir = 8000000
-cbs = 3000
-[[contract]]
-name = "c"
-kind = "trusted"
-port = "p"
-path = ["m"]
-class = 3
-cir = 8000000
-cbs = 3000
 "#
-    )
+    )?;
+    let contracts = [TRUSTED, A, SHARE, TRUSTED, B, SHARE, TRUSTED, C, SHARE];
+    push_all(&mut text, &[PORT, LINK])?;
+    push_all(&mut text, &contracts)?;
+    Ok(text)
 }
 
 /// The least certificate of three such contracts, but for its last line.
@@ -473,7 +435,7 @@ fn three_contracts_fill_a_meter(rt: HostRuntime) -> Result<(), Fail> {
 #[test]
 fn bounds_that_are_too_low(rt: HostRuntime) -> Result<(), Fail> {
     let alloc = rt.alloc();
-    let alone = domain_text(alloc, (500_000, 0), 1_000_000, TRUSTED)?;
+    let alone = domain_text(alloc, (500_000, 0), 1_000_000, &ALONE)?;
     for (certificate, output) in [
         (
             "dscert 1\na 0 3000 3000\na 1 3999 4000\n",
@@ -489,24 +451,17 @@ fn bounds_that_are_too_low(rt: HostRuntime) -> Result<(), Fail> {
     Ok(())
 }
 
-/// A domain of a meter of a single rate, and a contract that may have a peak.
+/// A meter of a single rate of 8,000 bit/s, with 500 bytes and 1,000 more, and a link to it without jitter.
+const SINGLE_RATE: &str = r#"
+meter = [{ name = "m", kind = "srtcm", cir = 8000, cbs = 500, ebs = 1000, skew = 0 }]
+port = [{ name = "p", skew = 0 }]
+link = [{ from = "p", to = "m", floor = 0, jitter = 0 }]
+"#;
+
+/// A domain of that meter, and a contract that may have a peak.
 fn single_rate(alloc: Global, peak: &str) -> Result<String, AllocError> {
-    format!(in alloc;
-        r#"
-meter = [{{ name = "m", kind = "srtcm", cir = 8000, cbs = 500, ebs = 1000, skew = 0 }}]
-port = [{{ name = "p", skew = 0 }}]
-link = [{{ from = "p", to = "m", floor = 0, jitter = 0 }}]
-[[contract]]
-name = "a"
-kind = "trusted"
-port = "p"
-path = ["m"]
-class = 1
-cir = 8000
-cbs = 500
-{peak}
-"#
-    )
+    let envelope = "cir = 8000\ncbs = 500\n";
+    joined(alloc, &[SINGLE_RATE, TRUSTED, A, envelope, peak])
 }
 
 #[test]
@@ -590,7 +545,7 @@ pub(crate) fn expect_of_audit(
 
 /// A domain of a trusted contract, with a meter that keeps time within 100 ns.
 fn close_clock(alloc: Global) -> Result<String, AllocError> {
-    domain_text(alloc, (100, 0), 0, TRUSTED)
+    domain_text(alloc, (100, 0), 0, &ALONE)
 }
 
 #[test]
@@ -627,8 +582,8 @@ fn a_source_over_its_contract(rt: HostRuntime) -> Result<(), Fail> {
 
 #[test]
 fn a_packet_after_the_end_of_its_contract(rt: HostRuntime) -> Result<(), Fail> {
-    let ended = format!(in rt.alloc(); "{TRUSTED}until = 5\n")?;
-    let domain = domain_text(rt.alloc(), (500_000, 0), 1_000_000, ended.as_str())?;
+    let ended = [TRUSTED, A, SHARE, "until = 5\n"];
+    let domain = domain_text(rt.alloc(), (500_000, 0), 1_000_000, &ended)?;
     let steps = "send a 1 100 10 5\n";
     let outside = ("outside 1\n", "", 1);
     expect_of_audit(&rt, rt.alloc(), (domain.as_str(), steps), outside)
@@ -636,9 +591,9 @@ fn a_packet_after_the_end_of_its_contract(rt: HostRuntime) -> Result<(), Fail> {
 
 #[test]
 fn packets_policed_at_the_edge(rt: HostRuntime) -> Result<(), Fail> {
-    let domain = domain_text(rt.alloc(), (500_000, 0), 1_000_000, POLICED)?;
-    let steps =
-        "send u 1 1500 0 0\nvisit 1 0\nvisit 1 0\nsend u 2 1500 0 0\nvisit 2 0\nvisit 2 500\nsend u 3 1 0 0\nvisit 3 0\n";
+    let domain = domain_text(rt.alloc(), (500_000, 0), 1_000_000, &AT_EDGE)?;
+    let steps = "send u 1 1500 0 0\nvisit 1 0\nvisit 1 0\n\
+        send u 2 1500 0 0\nvisit 2 0\nvisit 2 500\nsend u 3 1 0 0\nvisit 3 0\n";
     let accounts =
         "kept\nm green 1 1500 yellow 1 1500 red 0 0\nedge:u green 1 1500 yellow 1 1500 red 1 1\n";
     expect_of_audit(&rt, rt.alloc(), (domain.as_str(), steps), (accounts, "", 0))
@@ -646,12 +601,12 @@ fn packets_policed_at_the_edge(rt: HostRuntime) -> Result<(), Fail> {
 
 #[test]
 fn a_visit_of_no_packet(rt: HostRuntime) -> Result<(), Fail> {
-    let domain = domain_text(rt.alloc(), (500_000, 0), 1_000_000, TRUSTED)?;
+    let domain = domain_text(rt.alloc(), (500_000, 0), 1_000_000, &ALONE)?;
     let done = run_audit(
         &rt,
         rt.alloc(),
         domain.as_str(),
-        b"dscert 1\na 0 3000 3000\na 1 4000 4000\n",
+        LEAST_OF_TRUSTED.as_bytes(),
         "visit 7 0\n",
     )?;
     assert!(rt; done.output.is_empty());
@@ -662,7 +617,7 @@ fn a_visit_of_no_packet(rt: HostRuntime) -> Result<(), Fail> {
 
 #[test]
 fn an_audit_of_a_refused_table(rt: HostRuntime) -> Result<(), Fail> {
-    let domain = domain_text(rt.alloc(), (500_000, 0), 1_000_000, TRUSTED)?;
+    let domain = domain_text(rt.alloc(), (500_000, 0), 1_000_000, &ALONE)?;
     let low = b"dscert 1\na 0 3000 3000\na 1 3999 4000\n";
     let done = run_audit(&rt, rt.alloc(), domain.as_str(), low, "visit 7 0\n")?;
     let told = b"refused 3 HopBound a 1 green 4000 3999\n";

@@ -5,57 +5,21 @@ use ds_domain_base::{Contract, DomainFault, Field, Kind, Name, Section};
 use std::alloc::Global;
 use std::process::Abort;
 use std::test::Fail;
+use worked_texts::{A, B, TRUSTED, joined, tight, wide};
 
-/// The domain of examples/tight_burst.toml, a meter of 16 Mbit/s and 4,500 bytes, with two of its contracts.
-pub const TIGHT: &str = r#"
-meter = [{ name = "m", kind = "trtcm", cir = 16000000, cbs = 4500, pir = 24000000, pbs = 13500, skew = 500000 }]
-port = [{ name = "p", skew = 0 }]
-link = [{ from = "p", to = "m", floor = 0, jitter = 1000000 }]
-contract = [
-{ name = "a", kind = "trusted", port = "p", path = ["m"], class = 1, cir = 8000000, cbs = 3000, src = "10.0.0.0/24" },
-{ name = "b", kind = "trusted", port = "p", path = ["m"], class = 2, cir = 8000000, cbs = 3000, src = "10.0.1.0/24" },
-]
-"#;
-
-/// The same with 24 Mbit/s and 13,500 bytes, as in examples/three_trusted.toml.
-const WIDE: &str = r#"
-meter = [{ name = "m", kind = "trtcm", cir = 24000000, cbs = 13500, pir = 24000000, pbs = 13500, skew = 500000 }]
-port = [{ name = "p", skew = 0 }]
-link = [{ from = "p", to = "m", floor = 0, jitter = 1000000 }]
-contract = [
-{ name = "a", kind = "trusted", port = "p", path = ["m"], class = 1, cir = 8000000, cbs = 3000, src = "10.0.0.0/24" },
-{ name = "b", kind = "trusted", port = "p", path = ["m"], class = 2, cir = 8000000, cbs = 3000, src = "10.0.1.0/24" },
-]
-"#;
-
-/// A meter of a single rate, a contract without a peak, and one with a peak.
+/// A meter of a single rate, and a link to it without jitter.
 const SINGLE_RATE: &str = r#"
 meter = [{ name = "m", kind = "srtcm", cir = 24000, cbs = 2000, ebs = 1000, skew = 0 }]
 port = [{ name = "p", skew = 0 }]
 link = [{ from = "p", to = "m", floor = 0, jitter = 0 }]
-
-[[contract]]
-name = "a"
-kind = "trusted"
-port = "p"
-path = ["m"]
-class = 1
-cir = 8000
-cbs = 1001
-src = "10.0.0.0/24"
-
-[[contract]]
-name = "b"
-kind = "trusted"
-port = "p"
-path = ["m"]
-class = 2
-cir = 8000
-cbs = 100
-pir = 8000
-pbs = 100
-src = "10.0.1.0/24"
 "#;
+
+/// The text of a domain of that meter, a contract without a peak, and one with a peak.
+fn single_rate(alloc: Global) -> Result<String, Fail> {
+    let plain = "cir = 8000\ncbs = 1001\n";
+    let peaked = "cir = 8000\ncbs = 100\npir = 8000\npbs = 100\n";
+    Ok(joined(alloc, &[SINGLE_RATE, TRUSTED, A, plain, TRUSTED, B, peaked])?)
+}
 
 /// A released share stays held until its hold has passed, and is sold anew then.
 fn expect_a_share_is_sold_anew_when_its_hold_has_passed(
@@ -109,7 +73,7 @@ fn expect_a_share_is_sold_anew_when_its_hold_has_passed(
 #[test]
 fn a_share_is_sold_anew_when_its_hold_has_passed(rt: HostRuntime) -> Result<(), Fail> {
     let alloc = rt.alloc();
-    let (mut book, contracts) = opened(alloc, TIGHT, 4096, 65_536)?;
+    let (mut book, contracts) = opened(alloc, tight(alloc)?.as_str(), 4096, 65_536)?;
     expect_a_share_is_sold_anew_when_its_hold_has_passed(
         &rt,
         alloc,
@@ -143,7 +107,7 @@ fn expect_commands_that_name_nothing_are_refused(
 #[test]
 fn commands_that_name_nothing_are_refused(rt: HostRuntime) -> Result<(), Fail> {
     let alloc = rt.alloc();
-    let (mut book, contracts) = opened(alloc, WIDE, 4096, 65_536)?;
+    let (mut book, contracts) = opened(alloc, wide(alloc)?.as_str(), 4096, 65_536)?;
     expect_commands_that_name_nothing_are_refused(&rt, alloc, &mut book, contracts.as_slice())
 }
 
@@ -165,7 +129,7 @@ fn expect_a_full_table_takes_no_contract(
 #[test]
 fn a_full_table_takes_no_contract(rt: HostRuntime) -> Result<(), Fail> {
     let alloc = rt.alloc();
-    let (mut book, contracts) = opened(alloc, WIDE, 1, 65_536)?;
+    let (mut book, contracts) = opened(alloc, wide(alloc)?.as_str(), 1, 65_536)?;
     expect_a_full_table_takes_no_contract(&rt, alloc, &mut book, contracts.as_slice())
 }
 
@@ -192,7 +156,7 @@ fn expect_a_full_history_takes_no_command(
 #[test]
 fn a_full_history_takes_no_command(rt: HostRuntime) -> Result<(), Fail> {
     let alloc = rt.alloc();
-    let (mut book, contracts) = opened(alloc, WIDE, 4096, 1)?;
+    let (mut book, contracts) = opened(alloc, wide(alloc)?.as_str(), 4096, 1)?;
     expect_a_full_history_takes_no_command(&rt, alloc, &mut book, contracts.as_slice())
 }
 
@@ -219,7 +183,7 @@ fn expect_yellow_packets_of_one_are_counted_with_green_ones_of_all(
 #[test]
 fn yellow_packets_of_one_are_counted_with_green_ones_of_all(rt: HostRuntime) -> Result<(), Fail> {
     let alloc = rt.alloc();
-    let (mut book, contracts) = opened(alloc, SINGLE_RATE, 4096, 65_536)?;
+    let (mut book, contracts) = opened(alloc, single_rate(alloc)?.as_str(), 4096, 65_536)?;
     expect_yellow_packets_of_one_are_counted_with_green_ones_of_all(
         &rt,
         alloc,
@@ -245,7 +209,7 @@ fn expect_the_last_moment_is_kept(
 #[test]
 fn the_last_moment_is_kept(rt: HostRuntime) -> Result<(), Fail> {
     let alloc = rt.alloc();
-    let (mut book, contracts) = opened(alloc, WIDE, 4096, 65_536)?;
+    let (mut book, contracts) = opened(alloc, wide(alloc)?.as_str(), 4096, 65_536)?;
     expect_the_last_moment_is_kept(&rt, alloc, &mut book, contracts.as_slice())
 }
 

@@ -1,4 +1,3 @@
-use crate::book_rows::TIGHT;
 use crate::books::{opened, released, reserved, retired};
 use ds_broker::Book;
 use ds_domain_base::{Contract, Name};
@@ -7,6 +6,7 @@ use moment_core::Moment;
 use std::alloc::Global;
 use std::process::Abort;
 use std::test::Fail;
+use worked_texts::tight;
 
 /// A reservation in numbers: its flow, its first moment, until when its contract may send, and its retirement.
 fn told(reservation: &Reservation) -> (u32, u64, Option<u64>, Option<u64>) {
@@ -61,7 +61,7 @@ fn expect_one_behind_the_other(rt: &impl Abort, timeline: &Timeline) -> Result<(
 #[test]
 fn a_share_that_is_sold_twice_is_told_twice(rt: HostRuntime) -> Result<(), Fail> {
     let alloc = rt.alloc();
-    let (mut book, contracts) = opened(alloc, TIGHT, 4096, 65_536)?;
+    let (mut book, contracts) = opened(alloc, tight(alloc)?.as_str(), 4096, 65_536)?;
     assert_eq!(rt; book.timeline(alloc)?.reservations().len(), 0);
     sold_twice(&rt, alloc, &mut book, contracts.as_slice())?;
     let timeline = book.timeline(alloc)?;

@@ -8,18 +8,7 @@ use moment_core::Moment;
 use std::alloc::Global;
 use std::sync::Wait;
 use std::test::Fail;
-
-/// The domain of three contracts over a meter that is told in a few words. The text is examples/tight_burst.toml with
-/// `meter` in place of its own: 16 Mbit/s and 4,500 bytes there.
-const TIGHT: &str = r#"
-meter = [{ name = "m", kind = "trtcm", cir = 16000000, cbs = 4500, pir = 16000000, pbs = 4500, skew = 500000 }]
-port = [{ name = "p", skew = 0 }]
-link = [{ from = "p", to = "m", floor = 0, jitter = 1000000 }]
-contract = [
-    { name = "a", kind = "trusted", port = "p", path = ["m"], class = 1, cir = 8000000, cbs = 3000, src = "10.0.0.0/24" },
-    { name = "b", kind = "trusted", port = "p", path = ["m"], class = 2, cir = 8000000, cbs = 3000, src = "10.0.1.0/24" },
-]
-"#;
+use worked_texts::{A, B, C, D, LINK, PORT, SHARE, TRUSTED, joined, push_all};
 
 /// What a desk is opened with.
 #[derive(Drop)]
@@ -29,9 +18,9 @@ pub struct Plan {
     pub contracts: Vec<Contract>,
 }
 
-/// The tight domain, for a table of 4,096 contracts and a history of 65,536 commands.
-pub fn tight(alloc: Global) -> Result<Plan, Fail> {
-    let (domain, contracts) = parse(alloc, TIGHT.as_bytes())?;
+/// The domain of a text, for a table of 4,096 contracts and a history of 65,536 commands.
+fn plan_of(alloc: Global, text: &str) -> Result<Plan, Fail> {
+    let (domain, contracts) = parse(alloc, text.as_bytes())?;
     Ok(Plan {
         domain,
         limits: Limits::new(4096, 65_536)?,
@@ -39,27 +28,23 @@ pub fn tight(alloc: Global) -> Result<Plan, Fail> {
     })
 }
 
-/// The domain of four contracts over a meter that carries them all.
-const FOUR: &str = r#"
+/// The domain of two contracts over a meter that has room for the burst of one.
+pub fn tight(alloc: Global) -> Result<Plan, Fail> {
+    plan_of(alloc, worked_texts::tight(alloc)?.as_str())
+}
+
+/// A meter that carries four contracts.
+const METER_OF_FOUR: &str = r#"
 meter = [{ name = "m", kind = "trtcm", cir = 32000000, cbs = 18000, pir = 32000000, pbs = 18000, skew = 500000 }]
-port = [{ name = "p", skew = 0 }]
-link = [{ from = "p", to = "m", floor = 0, jitter = 1000000 }]
-contract = [
-    { name = "a", kind = "trusted", port = "p", path = ["m"], class = 1, cir = 8000000, cbs = 3000, src = "10.0.0.0/24" },
-    { name = "b", kind = "trusted", port = "p", path = ["m"], class = 2, cir = 8000000, cbs = 3000, src = "10.0.1.0/24" },
-    { name = "c", kind = "trusted", port = "p", path = ["m"], class = 3, cir = 8000000, cbs = 3000, src = "10.0.2.0/24" },
-    { name = "d", kind = "trusted", port = "p", path = ["m"], class = 4, cir = 8000000, cbs = 3000, src = "10.0.3.0/24" },
-]
 "#;
 
-/// The domain of four contracts, for a table of 4,096 contracts and a history of 65,536 commands.
+/// The domain of four contracts over that meter.
 pub fn four(alloc: Global) -> Result<Plan, Fail> {
-    let (domain, contracts) = parse(alloc, FOUR.as_bytes())?;
-    Ok(Plan {
-        domain,
-        limits: Limits::new(4096, 65_536)?,
-        contracts,
-    })
+    let mut text = joined(alloc, &[METER_OF_FOUR, PORT, LINK])?;
+    for name in [A, B, C, D] {
+        push_all(&mut text, &[TRUSTED, name, SHARE])?;
+    }
+    plan_of(alloc, text.as_str())
 }
 
 /// A copy of the contract at a place.

@@ -3,12 +3,4 @@
 #![tactic(auto)]
 
 #[cfg(test)]
-mod closing_rows;
-#[cfg(test)]
-mod memory_rows;
-#[cfg(test)]
-mod slot_rows;
-#[cfg(test)]
-mod tables;
-#[cfg(test)]
-mod thread_rows;
+mod rows;

@@ -1,5 +1,5 @@
-//! Worked rows of the libraries below: what IPv4 headers, their marks and the rules that pick flows answer in their public
-//! calls. They stand here, and not beside those calls, since a crate with tests is proved twice.
+//! Worked rows of the libraries below: what IPv4 headers, their marks and the rules that pick flows answer in their
+//! public calls. They stand here, and not beside those calls, since a crate with tests is proved twice.
 #![tactic(auto)]
 
 #[cfg(test)]

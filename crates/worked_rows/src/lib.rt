@@ -3,14 +3,4 @@
 #![tactic(auto)]
 
 #[cfg(test)]
-mod certificate_rows;
-#[cfg(test)]
-mod checker_rows;
-#[cfg(test)]
-mod domain_rows;
-#[cfg(test)]
-mod excess_rows;
-#[cfg(test)]
-mod holding_rows;
-#[cfg(test)]
-mod tables;
+mod rows;

@@ -6,53 +6,19 @@ use pcap_capture::{PcapFault, SliceIntake, VecOutlet};
 use std::alloc::Global;
 use std::process::Abort;
 use std::test::Fail;
+use worked_texts::{LEAST_OF_POLICED, NARROW, POLICED, TWO_RATES, U, UDP};
 
-/// A policed contract of UDP packets, with bursts of 1,500 and 3,000 bytes.
-const WIDE: &str = r#"
-[[contract]]
-name = "u"
-kind = "trtcm"
-port = "p"
-path = ["m"]
-class = 1
-mode = "blind"
-cir = 8000000
-cbs = 1500
-pir = 16000000
-pbs = 3000
-protocol = 17
-"#;
-
-/// Its least certificate.
-const WIDE_LEAST: &str = "dscert 1\nu 0 1501 3001\nu 1 2501 5001\n";
-
-/// The same with bursts of 150 and 300 bytes.
-const NARROW: &str = r#"
-[[contract]]
-name = "u"
-kind = "trtcm"
-port = "p"
-path = ["m"]
-class = 1
-mode = "blind"
-cir = 8000000
-cbs = 150
-pir = 16000000
-pbs = 300
-protocol = 17
-"#;
-
-/// Its least certificate.
+/// The least certificate of a policed contract of UDP packets with bursts of 150 and 300 bytes.
 const NARROW_LEAST: &str = "dscert 1\nu 0 151 301\nu 1 1151 2301\n";
 
-/// The table of the wide contract.
+/// The table of the contract with bursts of 1,500 and 3,000 bytes.
 fn wide(alloc: Global) -> Result<Accepted, Fail> {
-    accepted(alloc, WIDE, WIDE_LEAST)
+    accepted(alloc, &[POLICED, U, TWO_RATES, UDP], LEAST_OF_POLICED)
 }
 
-/// The table of the narrow contract.
+/// The table of the narrow one.
 pub fn narrow(alloc: Global) -> Result<Accepted, Fail> {
-    accepted(alloc, NARROW, NARROW_LEAST)
+    accepted(alloc, &[POLICED, U, NARROW, UDP], NARROW_LEAST)
 }
 
 /// A report of so many records, of which so many are skipped, with the packets of each colour, of 115 bytes each.

@@ -8,23 +8,12 @@ use run_audit::{AssembleFault, Ground, Run};
 use std::alloc::Global;
 use std::process::Abort;
 use std::test::Fail;
+use worked_texts::{POLICED, U};
 
-/// A contract that is policed at its edge to 24 Mbit/s and 1,500 bytes, committed and peak.
-const POLICED: &str = r#"
-[[contract]]
-name = "u"
-kind = "trtcm"
-port = "p"
-path = ["m"]
-class = 1
-mode = "blind"
-cir = 24000000
-cbs = 1500
-pir = 24000000
-pbs = 1500
-"#;
+/// A meter of 24 Mbit/s and 1,500 bytes, committed and peak, which polices a contract at its edge.
+const EDGE: &str = "kind = \"trtcm\"\ncir = 24000000\ncbs = 1500\npir = 24000000\npbs = 1500\n";
 
-/// Its least certificate.
+/// The least certificate of that contract.
 const LEAST: &str = "dscert 1\nu 0 1501 1501\nu 1 4501 4501\n";
 
 /// A book of its edge.
@@ -154,7 +143,7 @@ fn expect_parts(rt: &impl Abort, alloc: Global, accepted: &Accepted) -> Result<(
 
 #[test]
 fn what_two_packets_leave_behind_is_a_run(rt: HostRuntime) -> Result<(), Fail> {
-    let accepted = accepted(rt.alloc(), POLICED, LEAST)?;
+    let accepted = accepted(rt.alloc(), &[POLICED, U, EDGE], LEAST)?;
     expect_parts(&rt, rt.alloc(), &accepted)
 }
 
@@ -171,6 +160,6 @@ fn expect_changed(rt: &impl Abort, alloc: Global, accepted: &Accepted) -> Result
 
 #[test]
 fn other_parts_are_no_run(rt: HostRuntime) -> Result<(), Fail> {
-    let accepted = accepted(rt.alloc(), POLICED, LEAST)?;
+    let accepted = accepted(rt.alloc(), &[POLICED, U, EDGE], LEAST)?;
     expect_changed(&rt, rt.alloc(), &accepted)
 }

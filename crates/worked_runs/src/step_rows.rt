@@ -8,21 +8,12 @@ use run_audit::Run;
 use std::alloc::Global;
 use std::process::Abort;
 use std::test::Fail;
+use worked_texts::{A, LEAST_OF_TRUSTED, SHARE, TRUSTED};
 
-/// A trusted contract of 8 Mbit/s and 3,000 bytes.
-const TRUSTED: &str = r#"
-[[contract]]
-name = "t"
-kind = "trusted"
-port = "p"
-path = ["m"]
-class = 1
-cir = 8000000
-cbs = 3000
-"#;
-
-/// Its least certificate.
-const LEAST: &str = "dscert 1\nt 0 3000 3000\nt 1 4000 4000\n";
+/// The table of a trusted contract of 8 Mbit/s and 3,000 bytes.
+fn trusted(alloc: Global) -> Result<Accepted, Fail> {
+    accepted(alloc, &[TRUSTED, A, SHARE], LEAST_OF_TRUSTED)
+}
 
 /// A packet of a contract, of 1,500 bytes, which begins green at moment 10.
 fn send(flow: u32, packet: u64) -> Result<Step, Fail> {
@@ -83,7 +74,7 @@ fn expect_run(
 
 #[test]
 fn a_late_visit_is_kept_where_it_came(rt: HostRuntime) -> Result<(), Fail> {
-    let accepted = accepted(rt.alloc(), TRUSTED, LEAST)?;
+    let accepted = trusted(rt.alloc())?;
     let steps = steps(rt.alloc(), &[(0, 7), (0, 5)], &[(7, 40), (5, 30)])?;
     expect_run(&rt, rt.alloc(), &accepted, steps.as_slice())
 }
@@ -113,6 +104,6 @@ fn expect_all_bad(rt: &impl Abort, alloc: Global, accepted: &Accepted) -> Result
 
 #[test]
 fn steps_that_cannot_be_made(rt: HostRuntime) -> Result<(), Fail> {
-    let accepted = accepted(rt.alloc(), TRUSTED, LEAST)?;
+    let accepted = trusted(rt.alloc())?;
     expect_all_bad(&rt, rt.alloc(), &accepted)
 }

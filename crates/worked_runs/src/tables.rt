@@ -5,14 +5,7 @@ use moment_core::{Mode, Moment, Rate};
 use std::alloc::Global;
 use std::test::Fail;
 use trtcm_core::TrTcmParameters;
-
-/// A meter `m` of 24 Mbit/s and 13,500 bytes, committed and peak, with a skew of 500 µs; a port `p` without skew; and a
-/// link between them with a jitter of 1 ms.
-const WAY: &str = r#"
-meter = [{ name = "m", kind = "trtcm", cir = 24000000, cbs = 13500, pir = 24000000, pbs = 13500, skew = 500000 }]
-port = [{ name = "p", skew = 0 }]
-link = [{ from = "p", to = "m", floor = 0, jitter = 1000000 }]
-"#;
+use worked_texts::over_way;
 
 /// The table that a domain text says with a certificate text.
 pub fn table_of(alloc: Global, domain: &str, certificate: &str) -> Result<Accepted, Fail> {
@@ -21,10 +14,9 @@ pub fn table_of(alloc: Global, domain: &str, certificate: &str) -> Result<Accept
     ))
 }
 
-/// The table that a domain text of that way and one contract says with a certificate text.
-pub fn accepted(alloc: Global, contract: &str, certificate: &str) -> Result<Accepted, Fail> {
-    let mut domain = String::from_str(alloc, WAY)?;
-    domain.push_str(contract)?;
+/// The table that a domain text of one way and one contract says with a certificate text.
+pub fn accepted(alloc: Global, contract: &[&str], certificate: &str) -> Result<Accepted, Fail> {
+    let domain = over_way(alloc, contract)?;
     table_of(alloc, domain.as_str(), certificate)
 }
 

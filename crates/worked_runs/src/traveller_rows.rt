@@ -8,31 +8,15 @@ use moment_core::{Colour, Gap, Mode, Moment, PacketSize};
 use std::alloc::Global;
 use std::process::Abort;
 use std::test::Fail;
+use worked_texts::{LEAST_OF_POLICED, POLICED, TWO_RATES, U};
 
-/// A contract that is policed at its edge to 8 Mbit/s and 1,500 bytes, and 16 Mbit/s and 3,000 bytes.
-const POLICED: &str = r#"
-[[contract]]
-name = "u"
-kind = "trtcm"
-port = "p"
-path = ["m"]
-class = 1
-mode = "blind"
-cir = 8000000
-cbs = 1500
-pir = 16000000
-pbs = 3000
-"#;
-
-/// Its least certificate.
-const LEAST: &str = "dscert 1\nu 0 1501 3001\nu 1 2501 5001\n";
-
-/// A packet of 1,500 bytes at moment 10, sent green, of the contract of a number.
+/// A packet of 1,500 bytes at moment 10, sent green, of the contract of a number: contract 0, which is policed at its
+/// edge, is the only one.
 fn begin(alloc: Global, flow: u32, number: u64) -> Result<Result<Traveller, BeginFault>, Fail> {
     let size = PacketSize::new(1500)?;
     let dscp = Dscp::new(10)?;
     let begun = Moment::new(10)?;
-    let accepted = accepted(alloc, POLICED, LEAST)?;
+    let accepted = accepted(alloc, &[POLICED, U, TWO_RATES], LEAST_OF_POLICED)?;
     Ok(Traveller::begin(alloc, &accepted, flow, number, size, dscp, begun))
 }
 

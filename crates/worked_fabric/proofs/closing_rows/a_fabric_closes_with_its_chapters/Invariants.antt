@@ -1,8 +1,0 @@
-use Rattle.std.proofs.Common.{◌+◌, length}
-use Rattle.worked_fabric.proofs.closing_rows.a_fabric_closes_with_its_chapters.Given as goal
-
-abbrev pub ghosts-cuts-L-FabricLedger : goal.ghosts-cuts-L-FabricLedger
-ghosts-cuts-L-FabricLedger g a = record { sites = length a.accepted.now.domain.meters + 1 }
-
-abbrev pub ghosts-cuts-L-Ledger : goal.ghosts-cuts-L-Ledger
-ghosts-cuts-L-Ledger g a = record { name = a.blank.name; parts = a.blank.parts }

@@ -1,0 +1,5 @@
+mod closing_rows;
+mod memory_rows;
+mod slot_rows;
+mod tables;
+mod thread_rows;

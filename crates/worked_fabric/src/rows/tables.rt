@@ -1,0 +1,106 @@
+ghost use Rattle.std.specs.Prelude.{◌≡◌, ◌+◌, ◌≤◌, ◌^◌, IfOk, length};
+
+use af_marker::Dscp;
+use ds_checker::Accepted;
+use dsedge_texts::accept;
+use meter_book::Chapter;
+use meter_fabric::{Fabric, FabricLedger, Pass, Traveller, contract_of};
+use moment_core::{Moment, PacketSize};
+use std::alloc::{AllocError, Global};
+use std::sync::Wait;
+use std::sync::ledger::Blank;
+use std::test::Fail;
+use worked_texts::LEAST_OF_POLICED;
+
+/// The number of the meter's site, and of the edge's.
+pub const METER: u32 = 0;
+
+pub const EDGE: u32 = 1;
+
+/// The table of a contract that is policed at its edge; None where memory runs out.
+pub fn policed(alloc: Global) -> Option<Accepted> {
+    let domain = worked_texts::policed(alloc).ok()?;
+    accept(alloc, domain.as_bytes(), LEAST_OF_POLICED.as_bytes()).ok()
+}
+
+/// A fabric of a table with one slot, and its two passes.
+pub fn opened<'a, L: FabricLedger>(
+    alloc: Global,
+    accepted: &'a Accepted,
+    blank: Blank,
+    capacity: u32,
+) -> Result<(Fabric<'a, L>, Vec<Pass<L>>), AllocError>
+    requires name { blank.name ≡ L.name }
+    requires parts { blank.parts ≡ L.parts }
+    requires cut { blank.parts ≡ 1 + (length accepted.now.domain.meters + 1) + 2 }
+    requires sites { L.sites ≡ length accepted.now.domain.meters + 1 }
+    requires room { (1 ≤ capacity) × (capacity ≤ 2 ^ 20) }
+    ensures { IfOk result (λ made. (made.0.edges ≡ 1) × (made.0.domain ≡ accepted.now.domain)) }
+{
+    Fabric::new(alloc, blank, accepted.domain(), 1, capacity, 2)
+}
+
+/// Puts the edge meter of contract 0 in a slot: the number of the fault, 0 where it was put there.
+pub fn fit<L: FabricLedger, R: Wait>(
+    rt: &R,
+    alloc: Global,
+    fabric: &Fabric<'_, L>,
+    accepted: &Accepted,
+    flow: u32,
+) -> Result<u8, Fail> {
+    let Some(contract) = contract_of(accepted, 0) else {
+        return Err(Fail::from("no contract"));
+    };
+    if meter_fabric::edge_opening(accepted.domain(), contract).is_none() {
+        return Err(Fail::from("no policed contract"));
+    }
+    match fabric.fit(rt, alloc, flow, contract) {
+        Ok(()) => Ok(0),
+        Err(fault) => Ok(fault.code()),
+    }
+}
+
+/// A packet of 100 bytes of contract 0, sent green at moment 10; None where memory runs out.
+pub fn sent(alloc: Global, accepted: &Accepted, number: u64) -> Option<Traveller> {
+    let size = PacketSize::new(100).ok()?;
+    let dscp = Dscp::new(10).ok()?;
+    let moment = Moment::new(10).ok()?;
+    Traveller::begin(alloc, accepted, 0, number, size, dscp, moment).ok()
+}
+
+/// The same, or a failed row.
+pub fn packet(alloc: Global, accepted: &Accepted, number: u64) -> Result<Traveller, Fail> {
+    Ok(sent(alloc, accepted, number).ok_or("no packet")?)
+}
+
+/// A visit at a moment: the traveller behind it, and the number of the fault or 0 where there is none.
+pub fn visit<L: FabricLedger, R: Wait>(
+    rt: &R,
+    fabric: &Fabric<'_, L>,
+    pass: &mut Pass<L>,
+    traveller: Traveller,
+    moment: Moment,
+) -> (Traveller, u8) {
+    match fabric.visit(rt, pass, traveller, moment) {
+        Ok(traveller) => (traveller, 0),
+        Err((traveller, fault)) => (traveller, fault.code()),
+    }
+}
+
+/// The first visit of a packet of a number, at a moment.
+pub fn enter<L: FabricLedger, R: Wait>(
+    rt: &R,
+    alloc: Global,
+    fabric: &Fabric<'_, L>,
+    accepted: &Accepted,
+    pass: &mut Pass<L>,
+    (number, moment): (u64, u64),
+) -> Result<(Traveller, u8), Fail> {
+    let packet = packet(alloc, accepted, number)?;
+    Ok(visit(rt, fabric, pass, packet, Moment::new(moment)?))
+}
+
+/// No chapters.
+pub fn none(alloc: Global) -> Vec<Chapter> {
+    Vec::new(alloc)
+}

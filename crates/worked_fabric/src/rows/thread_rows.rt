@@ -1,0 +1,131 @@
+ghost use Rattle.std.specs.Prelude.{◌≡◌, ◌+◌, length};
+
+use crate::rows::tables::{fit, none, opened, policed, sent, visit};
+use ds_checker::Accepted;
+use meter_book::Journal;
+use meter_fabric::{Fabric, FabricLedger, Pass, Trail, ticket_parts};
+use moment_core::Moment;
+use run_audit::{Ground, Run, Verdict, audit};
+use std::alloc::Global;
+use std::marker::Brand;
+use std::process::Abort;
+use std::sync::Wait;
+use std::sync::ledger::Blank;
+use std::test::Fail;
+use std::thread::{Threads, join};
+
+/// How many packets each thread takes.
+const EACH: u64 = 1000;
+
+/// Takes packets of these numbers on through their edge and their meter, all at moment 10; None where one is refused.
+fn take_all<L: FabricLedger, R: Wait>(
+    rt: &R,
+    alloc: Global,
+    fabric: &Fabric<'_, L>,
+    accepted: &Accepted,
+    pass: &mut Pass<L>,
+    first: u32,
+) -> Option<Vec<Trail>> {
+    let moment = Moment::new(10).ok()?;
+    let mut trails = Vec::with_capacity(alloc, 1000).ok()?;
+    for number in 0..EACH {
+        let sent = sent(alloc, accepted, u64::from(first) + number)?;
+        let (within, at_edge) = visit(rt, fabric, pass, sent, moment);
+        let (ended, at_meter) = visit(rt, fabric, pass, within, moment);
+        if at_edge != 0 || at_meter != 0 {
+            return None;
+        }
+        trails.push(ended.into_trail()).ok()?;
+    }
+    Some(trails)
+}
+
+/// What a thread hands back: its pass, and the trails of its packets.
+type Taken<L> = (Pass<L>, Option<Vec<Trail>>);
+
+/// What a thread does.
+fn work<L: FabricLedger, R: Wait>(
+    rt: &R,
+    alloc: Global,
+    fabric: &Fabric<'_, L>,
+    accepted: &Accepted,
+    pass: Pass<L>,
+    first: u32,
+) -> Taken<L> {
+    let mut pass = pass;
+    let trails = take_all(rt, alloc, fabric, accepted, &mut pass, first);
+    (pass, trails)
+}
+
+/// Journals and trails of what two threads did.
+type Parts = (Vec<Journal>, Vec<Trail>);
+
+/// Two threads take packets through one fabric. Without one of the passes it does not close, and then it does.
+fn taken<L: FabricLedger + Send + Sync, R: Threads + Wait + Abort + Sync>(
+    rt: &R,
+    alloc: Global,
+    accepted: &Accepted,
+    blank: Blank,
+) -> Result<Parts, Fail>
+    requires name { blank.name ≡ L.name }
+    requires parts { blank.parts ≡ L.parts }
+    requires cut { blank.parts ≡ 1 + (length accepted.now.domain.meters + 1) + 2 }
+    requires sites { L.sites ≡ length accepted.now.domain.meters + 1 }
+{
+    let (fabric, mut passes) = opened::<L>(alloc, accepted, blank, 1 << 12)?;
+    assert_eq!(rt; fit(rt, alloc, &fabric, accepted, 0)?, 0);
+    let one = passes.pop().expect(rt, "two passes");
+    let other = passes.pop().expect(rt, "two passes");
+    let shared = &fabric;
+    let ((one, first), (other, second)) = join(
+        rt,
+        move || work(rt, alloc, shared, accepted, one, 0),
+        move || work(rt, alloc, shared, accepted, other, 5000),
+    );
+    let mut trails = first.ok_or("a visit was refused")?;
+    for trail in second.ok_or("a visit was refused")? {
+        trails.push(trail)?;
+    }
+    let mut passes = Vec::with_capacity(alloc, 2)?;
+    passes.push(one)?;
+    match fabric.close(alloc, passes, none(alloc)) {
+        Ok(_) => Err(Fail::from("a pass was missing")),
+        Err((fabric, mut passes, chapters, fault)) => {
+            assert_eq!(rt; (fault.code(), passes.len()), (1, 1));
+            passes.push(other)?;
+            match fabric.close(alloc, passes, chapters) {
+                Ok(journals) => Ok((journals, trails)),
+                Err((_, _, _, fault)) => Err(fault.into()),
+            }
+        }
+    }
+}
+
+/// The verdict on what two threads did.
+fn judged(
+    rt: &impl Abort,
+    alloc: Global,
+    accepted: &Accepted,
+    parts: Parts,
+) -> Result<Verdict, Fail> {
+    let (journals, trails) = parts;
+    assert_eq!(rt; (journals.len(), trails.len()), (2, 2000));
+    for journal in &journals {
+        assert_eq!(rt; journal.len(), 2000);
+    }
+    match Run::assemble(alloc, Ground::Table(accepted), journals, trails) {
+        Ok(run) => Ok(audit(alloc, &run)?),
+        Err((_, _, fault)) => Err(fault.into()),
+    }
+}
+
+#[test]
+fn what_two_threads_leave_behind_is_a_run(rt: HostRuntime) -> Result<(), Fail> {
+    let accepted = policed(rt.alloc()).ok_or("no table")?;
+    for _ in 0..20 {
+        let blank = Blank::new(ticket_parts(accepted.domain(), 1, 2));
+        let parts = taken::<Brand, _>(&rt, rt.alloc(), &accepted, blank)?;
+        assert_eq!(rt; judged(&rt, rt.alloc(), &accepted, parts)?, Verdict::Kept);
+    }
+    Ok(())
+}

@@ -1,0 +1,6 @@
+mod certificate_rows;
+mod checker_rows;
+mod domain_rows;
+mod excess_rows;
+mod holding_rows;
+mod tables;

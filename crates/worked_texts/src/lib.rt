@@ -1,0 +1,18 @@
+//! Texts of example domains, in parts that tests join. Each part stands here once, and whole domains that several tests
+//! read. No library of the field stands on these.
+#![tactic(auto)]
+
+mod contracts;
+mod domains;
+mod joining;
+mod sites;
+
+pub use contracts::{
+    A, ANYWHERE, B, C, D, EXCESS, NARROW, PEAK, POLICED, SEPARATE_RATES, SHARE, TOO_MUCH, TRUSTED,
+    TWO_RATES, U, UDP, V,
+};
+pub use domains::{
+    LEAST_OF_POLICED, LEAST_OF_TRUSTED, over_excess, over_way, policed, tight, wide,
+};
+pub use joining::{joined, push_all};
+pub use sites::{LINK, METER, ONE, PORT, TWO};
