@@ -1,4 +1,6 @@
-use crate::captures::{CUT, EARLIER, EARLIER_YELLOW, GREEN, HEADING, OTHER, OTHER_LINK, RED, TAGGED, YELLOW, capture};
+use crate::captures::{
+    CUT, EARLIER, EARLIER_YELLOW, GREEN, HEADING, OTHER, OTHER_LINK, RED, TAGGED, YELLOW, capture,
+};
 use crate::tables::accepted;
 use ds_checker::Accepted;
 use ds_conductor::{MarkFault, OpenGate, RedRule, Report, mark};

@@ -7,7 +7,7 @@ use std::sync::atomic::{AtomicU64, Ordering};
 use std::test::Fail;
 
 /// An intake that notes, at each call, how many bytes were written so far.
-#[derive(Debug)]
+#[derive(Debug, Drop)]
 struct Watching<'a> {
     intake: SliceIntake<'a>,
     written: &'a AtomicU64,
@@ -36,7 +36,7 @@ impl Intake for Watching<'_> {
 }
 
 /// An outlet that tells how many bytes were written so far.
-#[derive(Debug)]
+#[derive(Debug, Drop)]
 struct Counting<'a> {
     failures: u64,
     written: &'a AtomicU64,
@@ -130,7 +130,8 @@ const TWO_LEAST: &str = "dscert 1\na 0 3000 3000\na 1 4000 4000\nb 0 3000 3000\n
 const RAW: &str = "d4c3b2a1 0200 0400 00000000 00000000 ffff0000 65000000";
 
 /// Two records of moment 0, of 20 bytes each.
-const TWO: &str = "00000000 00000000 14000000 14000000 4528 0014 0000 0000 4011 0000 0a00 0001 0a00 0101
+const TWO: &str =
+    "00000000 00000000 14000000 14000000 4528 0014 0000 0000 4011 0000 0a00 0001 0a00 0101
     00000000 00000000 14000000 14000000 4548 0014 0000 0000 4011 0000 0a00 0101 0a00 0001";
 
 #[test]
