@@ -15,6 +15,8 @@ mod run_rows;
 #[cfg(test)]
 mod step_rows;
 #[cfg(test)]
+mod stream_rows;
+#[cfg(test)]
 mod tables;
 #[cfg(test)]
 mod traveller_rows;

@@ -1,4 +1,6 @@
-use crate::captures::{CUT, GREEN, HEADING, OTHER, OTHER_LINK, RED, TAGGED, YELLOW, capture};
+use crate::captures::{
+    CUT, EARLIER, EARLIER_YELLOW, GREEN, HEADING, OTHER, OTHER_LINK, RED, TAGGED, YELLOW, capture,
+};
 use crate::tables::accepted;
 use ds_checker::Accepted;
 use ds_conductor::{MarkFault, OpenGate, RedRule, Report, mark};
@@ -100,7 +102,7 @@ struct Row<'a> {
     fault: Option<MarkFault>,
 }
 
-/// Expects what a row says of a capture at port `p`.
+/// Expects what a row says of a capture at port `p`, by one byte a call, by seven, and by all that there is room for.
 fn expect_row(
     rt: &impl Abort,
     alloc: Global,
@@ -110,9 +112,14 @@ fn expect_row(
 ) -> Result<(), Fail> {
     let given = capture(alloc, row.given)?;
     let written = capture(alloc, row.written)?;
-    let mut intake = SliceIntake::new(given.as_slice());
-    let marked = leavings(alloc, accepted, "p", red, &mut intake);
-    expect(rt, &marked, written.as_slice(), row.report, row.fault);
+    for most in [1, 7, usize::MAX] {
+        let mut intake = SliceIntake {
+            most,
+            ..SliceIntake::new(given.as_slice())
+        };
+        let marked = leavings(alloc, accepted, "p", red, &mut intake);
+        expect(rt, &marked, written.as_slice(), row.report, row.fault);
+    }
     Ok(())
 }
 
@@ -139,6 +146,20 @@ fn three_frames_of_three_colours(rt: HostRuntime) -> Result<(), Fail> {
     let row = Row {
         given: &[HEADING, TAGGED, TAGGED, TAGGED],
         written: &[HEADING, GREEN, YELLOW, RED],
+        report: report(3, 0, 0, [1, 1, 1]),
+        fault: None,
+    };
+    expect_row(&rt, rt.alloc(), &accepted, RedRule::Keep, &row)
+}
+
+#[test]
+fn a_record_that_is_stamped_earlier_is_sent_at_the_greatest_stamp(
+    rt: HostRuntime,
+) -> Result<(), Fail> {
+    let accepted = narrow(rt.alloc())?;
+    let row = Row {
+        given: &[HEADING, TAGGED, EARLIER, TAGGED],
+        written: &[HEADING, GREEN, EARLIER_YELLOW, RED],
         report: report(3, 0, 0, [1, 1, 1]),
         fault: None,
     };
