@@ -7,6 +7,8 @@ mod closing_rows;
 #[cfg(test)]
 mod memory_rows;
 #[cfg(test)]
+mod round_rows;
+#[cfg(test)]
 mod slot_rows;
 #[cfg(test)]
 mod tables;

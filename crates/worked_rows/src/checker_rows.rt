@@ -1,4 +1,4 @@
-use crate::tables::joined;
+use crate::tables::{METER, PORT, joined};
 use ds_certificate::{Bound, Bounds, Certificate};
 use ds_checker::{Accepted, Candidate, Refusal, check};
 use ds_domain::parse;
@@ -208,4 +208,55 @@ fn lists_that_are_not_those_of_the_contracts(rt: HostRuntime) -> Result<(), Fail
     assert_eq!(rt; refused(alloc, &[&[(500, 500)]])?, Some((1, 0)));
     assert_eq!(rt; refused(alloc, &[whole, &[]])?, Some((1, 1)));
     Ok(())
+}
+
+/// A link from `p` to `m` without jitter.
+const STEADY: &str = r#"
+[[link]]
+from = "p"
+to = "m"
+floor = 0
+jitter = 0
+"#;
+
+/// The meter, and so many contracts of 1 bit/s and 1 byte over it, told apart by their numbers.
+fn small_contracts(alloc: Global, count: u32) -> Result<String, Fail> {
+    let mut text = joined(alloc, &[METER, PORT, STEADY])?;
+    for number in 0..count {
+        let name = format!(in alloc; "[[contract]]\nname = \"c{number}\"\n")?;
+        text.push_str(name.as_str())?;
+        text.push_str(
+            "kind = \"trusted\"\nport = \"p\"\npath = [\"m\"]\nclass = 1\ncir = 1\ncbs = 1\n",
+        )?;
+    }
+    Ok(text)
+}
+
+/// A certificate of these contracts in which each bound is 10^15 bytes, the most that there is.
+fn greatest_bounds(alloc: Global, count: u32) -> Result<String, Fail> {
+    let mut text = joined(alloc, &["dscert 1\n"])?;
+    for number in 0..count {
+        for hop in 0..2u32 {
+            let bound = 1_000_000_000_000_000u64;
+            let line = format!(in alloc; "c{number} {hop} {bound} {bound}\n")?;
+            text.push_str(line.as_str())?;
+        }
+    }
+    Ok(text)
+}
+
+/// As many contracts as a domain takes, each with the greatest bounds. With its skew of 500 µs the meter widens each
+/// bound by a byte.
+#[test]
+fn the_greatest_sums_are_told(rt: HostRuntime) -> Result<(), Fail> {
+    let alloc = rt.alloc();
+    let domain = small_contracts(alloc, 4_096)?;
+    let certificate = greatest_bounds(alloc, 4_096)?;
+    let texts = (domain.as_str(), certificate.as_str());
+    expect(
+        &rt,
+        alloc,
+        texts,
+        "refused 5 GreenBurst m 4096000000000004096 13500\n",
+    )
 }
