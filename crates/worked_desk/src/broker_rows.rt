@@ -107,6 +107,26 @@ fn sold_again<J: Naming, R: Wait + Drop, W: Wait + Abort>(
     Ok(())
 }
 
+/// The timeline behind all four commands has both contracts, the one before the other.
+fn told_of_both<J: Naming, R: Wait + Drop, W: Wait + Abort>(
+    rt: &W,
+    alloc: Global,
+    broker: &Broker<J, R>,
+) -> Result<(), Fail> {
+    let told = broker.timeline(rt, alloc)?;
+    assert_eq!(rt; told.front.serial().get(), 4);
+    assert_eq!(rt; told.timeline.reservations().len(), 2);
+    let a = told.timeline.reservation(0).ok_or("no first contract")?;
+    let b = told.timeline.reservation(1).ok_or("no second contract")?;
+    let gone = a.retirement.map(|retirement| retirement.get());
+    assert_eq!(rt; (a.from.get(), gone), (0, Some(1_006_000_000)));
+    assert_eq!(rt;
+        (b.from.get(), b.retirement.is_none()),
+        (1_006_000_000, true)
+    );
+    Ok(())
+}
+
 /// Each refusal stands beside the newest front, and a feed sees each table once it is there.
 fn sold_anew<J: Naming, R: Wait + Abort + Copy + Drop>(
     rt: R,
@@ -126,6 +146,7 @@ fn sold_anew<J: Naming, R: Wait + Abort + Copy + Drop>(
     assert_eq!(rt; released(rt, &broker, 1, 1_000_000_000)?, Ok((2, 2)));
     refused_meanwhile(rt, &broker, contract(alloc, contracts, 1)?)?;
     sold_again(rt, &broker, contract(alloc, contracts, 1)?)?;
+    told_of_both(rt, alloc, &broker)?;
     let (seen, feed) = looked(feed)?;
     assert_eq!(rt; seen, (4, 1, 1));
     assert_eq!(rt; begun(alloc, feed)?, (false, true));

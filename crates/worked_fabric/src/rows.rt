@@ -1,5 +1,6 @@
 mod closing_rows;
 mod memory_rows;
+mod round_rows;
 mod slot_rows;
 mod tables;
 mod thread_rows;
