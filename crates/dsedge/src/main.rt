@@ -27,6 +27,7 @@ use dsedge_lines::Words;
 use dsedge_serve::{Advice, Ended, Fault};
 use dsedge_texts::SystemFolder;
 use pcap_capture::{ReadIntake, WriteOutlet, give_all};
+use std::alloc::Global;
 use std::env;
 use std::io::{Error, ErrorKind, IsTerminal};
 use std::process::ExitCode;
@@ -50,6 +51,14 @@ fn given_words<R: Env + AllocGlobal>(rt: &R) -> Result<Words, Fault<'static>> {
     Ok(words)
 }
 
+/// What there is to say of words whose form is right where what one of them says is not.
+fn value_text(alloc: Global, words: &[String]) -> Option<String> {
+    let command = words.first()?;
+    let fault =
+        "error: a value is none that its option takes, or an option goes with another kind of meter";
+    format!(in alloc; "{fault}\n\nFor more information, try 'dsedge {command} --help'.\n").ok()
+}
+
 /// What an advice says on the words of the command line, or on what else it is.
 fn said(rt: &HostRuntime, advice: Advice) -> Option<String> {
     match advice {
@@ -58,7 +67,10 @@ fn said(rt: &HostRuntime, advice: Advice) -> Option<String> {
             if words.is_empty() {
                 return None;
             }
-            explanation(rt.alloc(), words.as_slice())
+            match explanation(rt.alloc(), words.as_slice()) {
+                Some(text) => Some(text),
+                None => value_text(rt.alloc(), words.as_slice()),
+            }
         }
         advice => advice_text(rt.alloc(), advice).ok()?,
     }
