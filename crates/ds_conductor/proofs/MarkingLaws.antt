@@ -253,7 +253,7 @@ unheaded_by : (t : Table) (port : List ℕ) (red : RedRule) (bytes more before a
 unheaded_by t port red bytes more before after frames fault well writable reading same =
     let memory : ¬ (Some fault ≡ Some pcaps.NoMemory) = λ e. well cc in
     let unwritten : ¬ (Some fault ≡ Some pcaps.WriteFault) = λ e. writable cc in
-    all_marked t port red bytes more before after None frames nothing_read (Some fault) memory unwritten (seen bytes more None frames (Some fault) memory reading)
+    all_marked t port red bytes more before after None frames nothing_read nothing_marked.verdict (Some fault) memory unwritten (seen bytes more None frames (Some fault) memory reading) refl
     (record { written = same ∙ sym (append-nil before); told = refl })
 
 abbrev told_of : PcapFault → Result Heading PcapFault
