@@ -1,8 +1,9 @@
 -- Frames that are seen, held and handed out.
-use Rattle.std.proofs.Common.{◌≡◌, inl, inr, ℕ, suc, ◌+◌, ◌≤◌, Bool, true, false, cond, List, [], ◌∷◌, ◌++◌, length, get_or, zip, Option, None, Some, refl, sym, ap, ap₂, subst, ◌∙◌, append_assoc, append-nil, length-append, arith}
+use Rattle.std.proofs.Common.{◌≡◌, inl, inr, ℕ, suc, ◌+◌, ◌-◌, ◌<◌, ◌≤◌, ◌^◌, Bool, true, false, cond, List, [], ◌∷◌, ◌++◌, length, get_or, zip, Option, None, Some, refl, sym, ap, ap₂, subst, ◌∙◌, append_assoc, append-nil, length-append, arith}
+use mathlib.Core.Path.{fun_ext}
 use Rattle.std.specs.Prelude.{max, option_to_list, is_some, IfNone, IsSome, MatchOption}
 use Rattle.std.proofs.lemmas.List.{nil_from_length}
-use Rattle.std.proofs.lemmas.List.Elements.{All-append, All-nil, All-weaker}
+use Rattle.std.proofs.lemmas.List.Elements.{All-append, All-nil, All-push, All-weaker}
 use Rattle.std.proofs.lemmas.List.Sums.{sum_by-append}
 use Rattle.moment_core.specs.Colours.{is_green, is_red, is_yellow}
 use Rattle.moment_core.specs.declared.colour.Colour.{Colour}
@@ -16,7 +17,18 @@ use Rattle.ds_visits_base.proofs.StreamLaws.{one_colour_each}
 use Rattle.ds_visits_base.specs.Passing.{colours_of}
 use Rattle.ds_visits_base.specs.Streams.{AreSentFrom, begun, colours_left}
 use Rattle.ds_visits_base.specs.declared.sent.Sent.{Sent}
-use Rattle.ds_conductor.specs.Conditionings.{IsConditioned, IsUndecided, MayCome, held_from, newest_after, see_at}
+use Rattle.ds_checker.specs.Acceptance.{IsAcceptable, Table}
+use Rattle.meter_fabric_base.specs.Grounds.{ground_of}
+use Rattle.run_audit.specs.Verdicts.{verdict_of}
+use Rattle.ds_visits_base.specs.Ways.{AreInReach}
+use Rattle.ds_visits_run.specs.Behind.{AreSendable}
+use Rattle.ds_visits_run.specs.Making.{run_behind}
+use Rattle.ds_visits_verdict.proofs.JudgingLaws.{made_run_judged}
+use Rattle.ds_visits_verdict.specs.Judging.{Judging, unjudged, verdict_with}
+use Rattle.pcap_capture.specs.declared.heading.Heading.{Heading}
+use Rattle.ds_conductor.proofs.SendableLaws.{frames_can_be_sent}
+use Rattle.ds_conductor.specs.Markings.{see}
+use Rattle.ds_conductor.specs.Conditionings.{IsConditioned, IsJudging, IsSeeing, IsUndecided, MayCome, held_from, newest_after, see_at}
 use Rattle.ds_conductor.specs.Passings.{marking_at}
 use Rattle.ds_conductor.specs.Reports.{bytes_as, is_skipped, is_unmatched, is_unverified, packets_as, seen_as}
 use Rattle.ds_conductor.specs.Sendings.{AreCounted, counted_on, nothing_counted, packet_of, sent_by, sent_from, sent_of}
@@ -71,8 +83,9 @@ pub seen : (p : Port) (frames : List FrameValue) (text : List ℕ) (f : FrameVal
     → after.newest ≡ moment → after.counts ≡ counted_on before.counts sight → after.tallies ≡ before.tallies
     → after.held.items ≡ before.held.items ++ record { frame = f; packet = packet } ∷ []
     → ((back : List Sent) → colours_left after.under_way back ≡ colours_left before.under_way (option_to_list packet ++ back))
+    → f.moment < 2 ^ 63 - 2 ^ 40 → ((back : List Sent) → verdict_with after.judge back ≡ verdict_with before.judge (option_to_list packet ++ back))
     → IsConditioned p true (frames ++ f ∷ []) text after
-seen p frames text f sight moment packet before after was sighted late sent newest counts tallies held under =
+seen p frames text f sight moment packet before after was sighted late sent newest counts tallies held under early tells =
     let see = see_at p in
     let now : moment ≡ max (newest_after 0 frames) f.moment = late ∙ ap (λ n. max n f.moment) was.newest in
     let number : before.counts.records ≡ length frames = was.counted.records in
@@ -108,16 +121,27 @@ seen p frames text f sight moment packet before after was sighted late sent newe
           ∙ ap (λ cs. was.colours ++ cs) (sym (under back));
       counted = subst (AreCounted see (frames ++ f ∷ [])) (sym counts) (counted_one see frames f sight moment before.counts sighted now was.counted);
       tallied = subst (AreTallied (zip (sent_of see was.gone) was.colours)) (sym tallies) was.tallied;
+      judging = record {
+        acceptable = was.judging.acceptable;
+        reach = was.judging.reach;
+        seeing = was.judging.seeing;
+        early = All-push (λ (g : FrameValue). g.moment < 2 ^ 63 - 2 ^ 40) frames f was.judging.early early;
+        tells = λ back.
+            ap (λ s. verdict_with (unjudged p.accepted.now) (s ++ back)) (all ∙ ap (λ q. sent_of see frames ++ option_to_list q) (sym own))
+            ∙ ap (verdict_with (unjudged p.accepted.now)) (append_assoc (sent_of see frames) (option_to_list packet) back)
+            ∙ was.judging.tells (option_to_list packet ++ back)
+            ∙ sym (tells back);
+      };
     }
 
 -- ---- visits are made
 
 -- Nothing but the packets under way changed.
 pub made : (p : Port) (more still : Bool) (frames : List FrameValue) (text : List ℕ) (before after : Conditioner) → IsConditioned p more frames text before
-    → after.newest ≡ before.newest → after.counts ≡ before.counts → after.tallies ≡ before.tallies → after.held.items ≡ before.held.items
+    → after.newest ≡ before.newest → after.counts ≡ before.counts → after.tallies ≡ before.tallies → after.held.items ≡ before.held.items → after.judge ≡ before.judge
     → ((back : List Sent) → MayCome still before.newest back → MayCome more before.newest back × (colours_left after.under_way back ≡ colours_left before.under_way back))
     → IsConditioned p still frames text after
-made p more still frames text before after was newest counts tallies held under = record {
+made p more still frames text before after was newest counts tallies held judge under = record {
   gone = was.gone;
   waiting = was.waiting;
   colours = was.colours;
@@ -131,14 +155,15 @@ made p more still frames text before after was newest counts tallies held under 
       was.comes back same.0 ∙ ap (λ cs. was.colours ++ cs) (sym same.1);
   counted = subst (AreCounted (see_at p) frames) (sym counts) was.counted;
   tallied = subst (AreTallied (zip (sent_of (see_at p) was.gone) was.colours)) (sym tallies) was.tallied;
+  judging = subst (IsJudging p frames) (sym judge) was.judging;
 }
 
 -- ---- at first
 
 -- Before the first frame nothing is handed out, and all colours come.
 pub begins : (p : Port) (c : Conditioner) → c.under_way ≡ begun p.accepted.now → c.held.items ≡ [] → c.newest ≡ 0 → c.counts ≡ nothing_counted → c.tallies ≡ nothing_tallied
-    → IsConditioned p true [] [] c
-begins p c first none zero_ counts tallies =
+    → c.judge ≡ unjudged p.accepted.now → IsAcceptable p.accepted.now → AreInReach p.accepted.now → IsSeeing p → IsConditioned p true [] [] c
+begins p c first none zero_ counts tallies judge acceptable reach seeing =
     let see = see_at p in
     let nobody : sent_of see [] ≡ [] = sent_from-none see 0 0 in
     let pairs : List (Sent × Colour) = [] in
@@ -156,6 +181,13 @@ begins p c first none zero_ counts tallies =
       counted = subst (AreCounted see []) (sym counts) (record { records = refl; matched = sym (ap length nobody); unmatched = refl; skipped = refl; unverified = refl });
       tallied = subst (AreTallied (zip (sent_of see []) [])) (sym tallies)
           (subst (λ (s : List Sent). AreTallied (zip s []) nothing_tallied) (sym nobody) (record { green = refl; yellow = refl; red = refl }));
+      judging = record {
+        acceptable = acceptable;
+        reach = reach;
+        seeing = seeing;
+        early = All-nil (λ (f : FrameValue). f.moment < 2 ^ 63 - 2 ^ 40);
+        tells = λ back. ap (λ s. verdict_with (unjudged p.accepted.now) (s ++ back)) nobody ∙ sym (ap (λ j. verdict_with j back) judge);
+      };
     }
 
 -- ---- a frame is handed out
@@ -194,15 +226,15 @@ HandsOut p more frames text first others own before after gone waiting colours =
     → IsConditioned p more frames (text ++ record_text p.accepted.now p.red p.heading.link first.frame (coloured_by first.packet own)) after
 
 hands_out : (p : Port) (more : Bool) (frames : List FrameValue) (text : List ℕ) (first : Held) (others : List Held) (own : List Colour) (before after : Conditioner)
-    → after.held.items ≡ others → after.newest ≡ before.newest → after.counts ≡ before.counts
+    → after.held.items ≡ others → after.newest ≡ before.newest → after.counts ≡ before.counts → after.judge ≡ before.judge
     → length own ≡ length (option_to_list first.packet)
     → ((all : List (Sent × Colour)) → AreTallied all before.tallies → AreTallied (all ++ zip (option_to_list first.packet) own) after.tallies)
     → (gone waiting : List FrameValue) (colours : List Colour)
     → ((back : List Sent) → MayCome more before.newest back → colours_of p.accepted.now (sent_of (see_at p) frames ++ back) ≡ colours ++ (own ++ colours_left after.under_way back))
     → HandsOut p more frames text first others own before after gone waiting colours
-hands_out p more frames text first others own before after held newest counts even tallies gone [] colours under parted paired written is tallied was =
+hands_out p more frames text first others own before after held newest counts judge even tallies gone [] colours under parted paired written is tallied was =
     absurd (no_held first others (is ∙ held_from-none (see_at p) (length gone) (newest_after 0 gone)))
-hands_out p more frames text first others own before after held newest counts even tallies gone (f ∷ waiting) colours under parted paired written is tallied was =
+hands_out p more frames text first others own before after held newest counts judge even tallies gone (f ∷ waiting) colours under parted paired written is tallied was =
     let see = see_at p in
     let stamp = newest_after 0 gone in
     let moment = max stamp f.moment in
@@ -237,18 +269,19 @@ hands_out p more frames text first others own before after held newest counts ev
           ∙ sym (zip_both (sent_of see gone) (sent_by sight (length gone) moment) colours own paired)
           ∙ ap (λ s. zip s (colours ++ own)) (sym one))
           (tallies (zip (sent_of see gone) colours) tallied);
+      judging = subst (IsJudging p frames) (sym judge) was.judging;
     }
 
 -- The first frame that is held is handed out with what its packet left with.
 pub popped : (p : Port) (more : Bool) (frames : List FrameValue) (text : List ℕ) (first : Held) (others : List Held) (own : List Colour) (before after : Conditioner)
-    → before.held.items ≡ first ∷ others → after.held.items ≡ others → after.newest ≡ before.newest → after.counts ≡ before.counts
+    → before.held.items ≡ first ∷ others → after.held.items ≡ others → after.newest ≡ before.newest → after.counts ≡ before.counts → after.judge ≡ before.judge
     → length own ≡ length (option_to_list first.packet)
     → ((all : List (Sent × Colour)) → AreTallied all before.tallies → AreTallied (all ++ zip (option_to_list first.packet) own) after.tallies)
     → ((back : List Sent) → colours_left before.under_way back ≡ own ++ colours_left after.under_way back)
     → IsConditioned p more frames text before
     → IsConditioned p more frames (text ++ record_text p.accepted.now p.red p.heading.link first.frame (coloured_by first.packet own)) after
-popped p more frames text first others own before after items held newest counts even tallies under was =
-    hands_out p more frames text first others own before after held newest counts even tallies was.gone was.waiting was.colours
+popped p more frames text first others own before after items held newest counts judge even tallies under was =
+    hands_out p more frames text first others own before after held newest counts judge even tallies was.gone was.waiting was.colours
     (λ back from. was.comes back from ∙ ap (λ cs. was.colours ++ cs) (under back))
     was.parted was.paired was.written (sym items ∙ was.held) was.tallied was
 
@@ -258,36 +291,36 @@ first_same items rest front first is at = at ∙ ap (λ xs. get_or xs 0 front) i
 
 -- a frame that sent no packet
 pub popped_none : (p : Port) (more : Bool) (frames : List FrameValue) (text : List ℕ) (first : Held) (others : List Held) (before after : Conditioner)
-    → before.held.items ≡ first ∷ others → after.held.items ≡ others → after.newest ≡ before.newest → after.counts ≡ before.counts → after.tallies ≡ before.tallies
+    → before.held.items ≡ first ∷ others → after.held.items ≡ others → after.newest ≡ before.newest → after.counts ≡ before.counts → after.judge ≡ before.judge → after.tallies ≡ before.tallies
     → first.packet ≡ None → ((back : List Sent) → colours_left after.under_way back ≡ colours_left before.under_way back)
     → IsConditioned p more frames text before
     → IsConditioned p more frames (text ++ record_text p.accepted.now p.red p.heading.link first.frame None) after
-popped_none p more frames text first others before after items held newest counts tallies none under was =
+popped_none p more frames text first others before after items held newest counts judge tallies none under was =
     subst (λ (q : Option Sent). IsConditioned p more frames (text ++ record_text p.accepted.now p.red p.heading.link first.frame (coloured_by q [])) after) none
-    (popped p more frames text first others [] before after items held newest counts (sym (ap (λ (q : Option Sent). length (option_to_list q)) none))
+    (popped p more frames text first others [] before after items held newest counts judge (sym (ap (λ (q : Option Sent). length (option_to_list q)) none))
     (λ all so_far. subst (λ (q : Option Sent). AreTallied (all ++ zip (option_to_list q) []) after.tallies) (sym none)
     (subst (λ (xs : List (Sent × Colour)). AreTallied xs after.tallies) (sym (append-nil all)) (subst (AreTallied all) (sym tallies) so_far)))
     (λ back. sym (under back)) was)
 
 -- and one whose packet left with a colour
 pub popped_some : (p : Port) (more : Bool) (frames : List FrameValue) (text : List ℕ) (first : Held) (others : List Held) (s : Sent) (colour : Colour) (before after : Conditioner)
-    → before.held.items ≡ first ∷ others → after.held.items ≡ others → after.newest ≡ before.newest → after.counts ≡ before.counts
+    → before.held.items ≡ first ∷ others → after.held.items ≡ others → after.newest ≡ before.newest → after.counts ≡ before.counts → after.judge ≡ before.judge
     → first.packet ≡ Some s → after.tallies ≡ grown_all before.tallies colour s.size
     → ((back : List Sent) → colours_left before.under_way back ≡ colour ∷ colours_left after.under_way back)
     → IsConditioned p more frames text before
     → IsConditioned p more frames (text ++ record_text p.accepted.now p.red p.heading.link first.frame (Some (s, colour))) after
-popped_some p more frames text first others s colour before after items held newest counts some tallies under was =
+popped_some p more frames text first others s colour before after items held newest counts judge some tallies under was =
     subst (λ (q : Option Sent). IsConditioned p more frames (text ++ record_text p.accepted.now p.red p.heading.link first.frame (coloured_by q (colour ∷ []))) after) some
-    (popped p more frames text first others (colour ∷ []) before after items held newest counts (sym (ap (λ (q : Option Sent). length (option_to_list q)) some))
+    (popped p more frames text first others (colour ∷ []) before after items held newest counts judge (sym (ap (λ (q : Option Sent). length (option_to_list q)) some))
     (λ all so_far. subst (λ (q : Option Sent). AreTallied (all ++ zip (option_to_list q) (colour ∷ [])) after.tallies) (sym some) (tallied_one all s colour before.tallies after.tallies so_far tallies))
     under was)
 
 -- where memory runs out nothing is seen
 pub unseen : (p : Port) (frames : List FrameValue) (text : List ℕ) (before after : Conditioner) → IsConditioned p true frames text before
-    → after.newest ≡ before.newest → after.counts ≡ before.counts → after.tallies ≡ before.tallies → after.held.items ≡ before.held.items → after.under_way ≡ before.under_way
+    → after.newest ≡ before.newest → after.counts ≡ before.counts → after.tallies ≡ before.tallies → after.held.items ≡ before.held.items → after.judge ≡ before.judge → after.under_way ≡ before.under_way
     → IsConditioned p true frames text after
-unseen p frames text before after was newest counts tallies held same =
-    made p true true frames text before after was newest counts tallies held (λ back from. (from, ap (λ u. colours_left u back) same))
+unseen p frames text before after was newest counts tallies held judge same =
+    made p true true frames text before after was newest counts tallies held judge (λ back from. (from, ap (λ u. colours_left u back) same))
 
 -- ---- at the end
 
@@ -423,3 +456,24 @@ passed_on p more frames text c (Some it) is = (text ++ record_text p.accepted.no
 pub undecided_by : (result : Option (FrameValue × Option (Sent × Colour))) (c : Conditioner) → is_some result ≡ false → IfNone result (IsUndecided c) → IsUndecided c
 undecided_by None c none is = is
 undecided_by (Some it) c none is = absurd cc
+
+-- ---- the verdict
+
+-- the rules of a port that was made of a table's contracts at the port of a name
+pub seeing_by : (p : Port) (t : Table) (name : List ℕ) (heading : Heading) → p.accepted.now ≡ t → p.heading ≡ heading
+    → ((bytes : List ℕ) → see_at p bytes ≡ see t name heading.link bytes) → IsSeeing p
+seeing_by p t name heading table head sees = (
+  name,
+  λ bytes. sees bytes ∙ ap (λ u. see u name heading.link bytes) (sym table) ∙ ap (λ (h : Heading). see p.accepted.now name h.link bytes) (sym head),
+)
+
+-- What a judge keeps tells the verdict on the run behind what frames send.
+pub judged_by : (p : Port) (frames : List FrameValue) (judge : Judging) → IsJudging p frames judge → length frames ≤ 2 ^ 44
+    → verdict_with judge [] ≡ verdict_of (ground_of p.accepted.now) (run_behind p.accepted.now (sent_of (see_at p) frames))
+judged_by p frames judge is few =
+    let t = p.accepted.now in
+    let sent = sent_of (see_at p) frames in
+    let look : see_at p ≡ see t is.seeing.0 p.heading.link = fun_ext is.seeing.1 in
+    let sendable : AreSendable t sent =
+    subst (λ (view : List ℕ → Sight). AreSendable t (sent_of view frames)) (sym look) (frames_can_be_sent t is.seeing.0 p.heading.link frames is.early few) in
+    sym (is.tells []) ∙ ap (verdict_with (unjudged t)) (append-nil sent) ∙ made_run_judged t sent is.acceptable is.reach sendable

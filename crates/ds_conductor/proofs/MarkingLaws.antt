@@ -7,6 +7,10 @@ use Rattle.pcap_capture.specs.declared.fault.PcapFault.TheVariants as pcaps
 use Rattle.pcap_capture.specs.declared.heading.Heading.{Heading}
 use Rattle.pcap_capture.proofs.HeadingLaws.{heading-append}
 use Rattle.ds_domain_base.specs.Domains.{Domain, is_port}
+use Rattle.meter_fabric_base.specs.Grounds.{ground_of}
+use Rattle.run_audit.specs.Verdicts.{verdict_of}
+use Rattle.run_audit.specs.declared.verdict.Verdict.{Verdict}
+use Rattle.ds_visits_run.specs.Making.{run_behind}
 use Rattle.ds_checker.specs.Acceptance.{Table}
 use Rattle.ds_visits_base.specs.Passing.{colours_of}
 use Rattle.ds_conductor.specs.Markings.{IsMarked, IsMarkedAs, IsMarkedBut, IsWhole, IsWholeSoFar, IsWholeWith, Marking, answer_of, is_read_whole, marking_behind, marking_in, marking_of, nothing_marked, see}
@@ -14,7 +18,7 @@ use Rattle.ds_conductor.specs.Readings.{IsHeadingTold, IsReading, IsReadTo, head
 use Rattle.ds_conductor.specs.Conditionings.{see_at}
 use Rattle.ds_conductor.specs.Faults.{fault_of}
 use Rattle.ds_conductor.specs.Passings.{IsBrokenOff, IsFinished, marking_at}
-use Rattle.ds_conductor.specs.Reports.{nothing_read, report_of}
+use Rattle.ds_conductor.specs.Reports.{nothing_read, report_of, with_verdict}
 use Rattle.ds_conductor.specs.Texts.{text_from}
 use Rattle.ds_conductor.specs.declared.conditioner.Conditioner.{Conditioner}
 use Rattle.ds_conductor.specs.declared.port.Port.{Port}
@@ -188,17 +192,34 @@ answered marked bytes read more before after report None well unwritten front st
 answered marked bytes read more before after report (Some fault) well unwritten front stays ended whole =
     marked_but marked bytes read more before after report fault well unwritten front stays ended whole
 
-as_answered : (t : Table) (port : List ℕ) (red : RedRule) (bytes more before after : List ℕ) (report : Report) (fault : Option PcapFault)
-    → IsAnswered (marking_in t port red) bytes more before after report fault → IsMarkedAs t port red bytes more before after (answer_of report fault)
-as_answered t port red bytes more before after report None is = is
-as_answered t port red bytes more before after report (Some fault) is = is
+as_answered : (t : Table) (port : List ℕ) (red : RedRule) (bytes more before after : List ℕ) (report : Report) (verdict : Verdict) (fault : Option PcapFault)
+    → (fault ≡ None → verdict ≡ (marking_in t port red bytes).verdict)
+    → IsAnswered (marking_in t port red) bytes more before after report fault → IsMarkedAs t port red bytes more before after (answer_of verdict report fault)
+as_answered t port red bytes more before after report verdict None judges is =
+    let m = marking_in t port red bytes in
+    record {
+      whole = record {
+        written = is.whole.written;
+        told = ap (with_verdict verdict) is.whole.told ∙ ap (λ (v : Verdict). with_verdict v m.report) (judges refl);
+      };
+      stands = is.stands;
+    }
+as_answered t port red bytes more before after report verdict (Some fault) judges is = is
+
+-- where a capture has no fault, all of it was read
+read_all : (t : Table) (port : List ℕ) (red : RedRule) (bytes read more : List ℕ) (fault : Option PcapFault) → bytes ≡ read ++ more → EndsAs fault read more → fault ≡ None
+    → marking_in t port red read ≡ marking_in t port red bytes
+read_all t port red bytes read more None front ended none = ap (marking_in t port red) (sym (front ∙ ap (λ m. read ++ m) ended.0 ∙ append-nil read))
+read_all t port red bytes read more (Some fault) front ended none = absurd cc
 
 -- frames that were marked are the marked capture, by what was read of it
 pub all_marked : (t : Table) (port : List ℕ) (red : RedRule) (bytes more before after : List ℕ) (heading : Option Heading) (frames : List FrameValue) (report : Report)
-    (fault : Option PcapFault) → ¬ (fault ≡ Some pcaps.NoMemory) → ¬ (fault ≡ Some pcaps.WriteFault) → IsSeen bytes more heading frames fault
-    → IsWhole (marking_told t port red heading frames) report before after → IsMarkedAs t port red bytes more before after (answer_of report fault)
-all_marked t port red bytes more before after heading frames report fault well unwritten at whole =
-    as_answered t port red bytes more before after report fault
+    (verdict : Verdict) (fault : Option PcapFault) → ¬ (fault ≡ Some pcaps.NoMemory) → ¬ (fault ≡ Some pcaps.WriteFault) → IsSeen bytes more heading frames fault
+    → verdict ≡ (marking_told t port red heading frames).verdict
+    → IsWhole (marking_told t port red heading frames) report before after → IsMarkedAs t port red bytes more before after (answer_of verdict report fault)
+all_marked t port red bytes more before after heading frames report verdict fault well unwritten at judges whole =
+    as_answered t port red bytes more before after report verdict fault
+    (λ none. judges ∙ ap (λ (m : Marking). m.verdict) (marked_is t port red at.read heading frames at.told at.shown ∙ read_all t port red bytes at.read more fault at.front at.ended none))
     (answered (marking_in t port red) bytes at.read more before after report fault well unwritten at.front
     (λ stands why. marking_on t port red at.read more heading stands at.told why) at.ended
     (subst (λ m. IsWhole m report before after) (marked_is t port red at.read heading frames at.told at.shown) whole))
@@ -232,7 +253,7 @@ unheaded_by : (t : Table) (port : List ℕ) (red : RedRule) (bytes more before a
 unheaded_by t port red bytes more before after frames fault well writable reading same =
     let memory : ¬ (Some fault ≡ Some pcaps.NoMemory) = λ e. well cc in
     let unwritten : ¬ (Some fault ≡ Some pcaps.WriteFault) = λ e. writable cc in
-    all_marked t port red bytes more before after None frames nothing_read (Some fault) memory unwritten (seen bytes more None frames (Some fault) memory reading)
+    all_marked t port red bytes more before after None frames nothing_read nothing_marked.verdict (Some fault) memory unwritten (seen bytes more None frames (Some fault) memory reading) refl
     (record { written = same ∙ sym (append-nil before); told = refl })
 
 abbrev told_of : PcapFault → Result Heading PcapFault
@@ -267,6 +288,7 @@ at_port p t port red heading frames table rule head sees =
     let by : (List ℕ → Sight) → Table → RedRule → Heading → Marking = λ look u r h. record {
       text = h.bytes ++ text_from u r h.link 0 frames (zip (sent_of look frames) (colours_of u (sent_of look frames)));
       report = report_of look r frames (zip (sent_of look frames) (colours_of u (sent_of look frames)));
+      verdict = verdict_of (ground_of u) (run_behind u (sent_of look frames));
     } in
     let look : see_at p ≡ see t port heading.link = fun_ext sees in
     ap (λ f. by f p.accepted.now p.red p.heading) look ∙ ap (λ u. by (see t port heading.link) u p.red p.heading) table
@@ -320,7 +342,7 @@ finished_by : (p : Port) (t : Table) (port : List ℕ) (red : RedRule) (heading 
     → IsFinished m fault before after answer → IsMarkedAs t port red bytes more before after answer
 finished_by p t port red heading bytes more before after frames fault m answer is well writable at (inl (whole, told)) =
     subst (IsMarkedAs t port red bytes more before after) (sym told)
-    (all_marked t port red bytes more before after (Some heading) frames m.report fault well writable at
+    (all_marked t port red bytes more before after (Some heading) frames m.report m.verdict fault well writable at (ap (λ (n : Marking). n.verdict) is)
     (subst (λ (n : Marking). IsWhole n m.report before after) is whole))
 finished_by p t port red heading bytes more before after frames fault m answer is well writable at (inr (unwritten, why, written, told)) =
     subst (IsMarkedAs t port red bytes more before after) (sym told)
@@ -337,10 +359,10 @@ finished_marked p t port red heading bytes more before after frames fault answer
     finished_by p t port red heading bytes more before after frames fault (marking_at p frames) answer (at_port p t port red heading frames table rule head sees) well writable at done
 
 -- the answer to a capture that was marked whole comes of no read fault
-pub read_whole_by : (report : Report) (fault : Option PcapFault) → is_read_whole (answer_of report fault) ≡ true → ¬ (fault ≡ Some pcaps.ReadFault)
-read_whole_by report None whole is = cc
-read_whole_by report (Some fault) whole is =
-    let P : Option PcapFault → Type 0 = λ f. is_read_whole (answer_of report f) ≡ true in
+pub read_whole_by : (verdict : Verdict) (report : Report) (fault : Option PcapFault) → is_read_whole (answer_of verdict report fault) ≡ true → ¬ (fault ≡ Some pcaps.ReadFault)
+read_whole_by verdict report None whole is = cc
+read_whole_by verdict report (Some fault) whole is =
+    let P : Option PcapFault → Type 0 = λ f. is_read_whole (answer_of verdict report f) ≡ true in
     let no : false ≡ true = subst P is whole in cc
 
 -- a name that is found is the name of a port, and one that is not found is not

@@ -8,6 +8,7 @@ use Rattle.pcap_capture.specs.declared.heading.Heading.{Heading}
 use Rattle.pcap_capture.specs.declared.fault.PcapFault.{PcapFault}
 use Rattle.pcap_capture.specs.declared.fault.PcapFault.TheVariants as pcaps
 use Rattle.ds_conductor.specs.Conditionings.{IsConditioned}
+use Rattle.run_audit.specs.declared.verdict.Verdict.{Verdict}
 use Rattle.ds_conductor.specs.Markings.{IsOfReads, answer_of, is_read_whole, is_unread}
 use Rattle.ds_conductor.specs.Passings.{IsBrokenOff, is_unread_by}
 use Rattle.ds_conductor.specs.Faults.{fault_of}
@@ -85,22 +86,22 @@ unread_is pcaps.WriteFault = refl
 unread_is pcaps.NoMemory = refl
 unread_is pcaps.Failed = refl
 
-pub answer_unread : (report : Report) (fault : Option PcapFault) → is_unread (answer_of report fault) ≡ is_unread_by fault
-answer_unread report None = refl
-answer_unread report (Some fault) = refl
+pub answer_unread : (verdict : Verdict) (report : Report) (fault : Option PcapFault) → is_unread (answer_of verdict report fault) ≡ is_unread_by fault
+answer_unread verdict report None = refl
+answer_unread verdict report (Some fault) = refl
 
-pub answer_read : (report : Report) (fault : Option PcapFault) → is_read_whole (answer_of report fault) ≡ true → is_unread_by fault ≡ false
-answer_read report None is = refl
-answer_read report (Some pcaps.NotPcap) is = refl
-answer_read report (Some pcaps.IsPcapng) is = refl
-answer_read report (Some pcaps.BadVersion) is = refl
-answer_read report (Some (pcaps.LinkType number)) is = refl
-answer_read report (Some (pcaps.RecordTooLong count)) is = refl
-answer_read report (Some pcaps.Truncated) is = refl
-answer_read report (Some pcaps.ReadFault) is = absurd cc
-answer_read report (Some pcaps.WriteFault) is = refl
-answer_read report (Some pcaps.NoMemory) is = refl
-answer_read report (Some pcaps.Failed) is = refl
+pub answer_read : (verdict : Verdict) (report : Report) (fault : Option PcapFault) → is_read_whole (answer_of verdict report fault) ≡ true → is_unread_by fault ≡ false
+answer_read verdict report None is = refl
+answer_read verdict report (Some pcaps.NotPcap) is = refl
+answer_read verdict report (Some pcaps.IsPcapng) is = refl
+answer_read verdict report (Some pcaps.BadVersion) is = refl
+answer_read verdict report (Some (pcaps.LinkType number)) is = refl
+answer_read verdict report (Some (pcaps.RecordTooLong count)) is = refl
+answer_read verdict report (Some pcaps.Truncated) is = refl
+answer_read verdict report (Some pcaps.ReadFault) is = absurd cc
+answer_read verdict report (Some pcaps.WriteFault) is = refl
+answer_read verdict report (Some pcaps.NoMemory) is = refl
+answer_read verdict report (Some pcaps.Failed) is = refl
 
 -- a fault of the writing tells nothing of the reading
 pub broken_unread : (report : Report) (fault : MarkFault) → (fault ≡ marks.Capture pcaps.WriteFault) ⊎ (fault ≡ marks.NoMemory) → is_unread (Err (report, fault)) ≡ false

@@ -1,5 +1,5 @@
 -- A report, from the sums by colour.
-use Rattle.std.proofs.Common.{◌≡◌, ℕ, cond, false, List, [], ◌∷◌, length, refl, sym, ap, ◌∙◌, arith}
+use Rattle.std.proofs.Common.{◌≡◌, ℕ, cond, false, List, [], ◌∷◌, length, refl, sym, ap, ◌∙◌, arith, None}
 use Rattle.std.proofs.lemmas.List.Sums.{sum_by-cons}
 use Rattle.moment_core.specs.Colours.{is_red}
 use Rattle.moment_core.specs.declared.colour.Colour.{Colour}
@@ -39,6 +39,7 @@ pub told : (see : List ℕ → Sight) (rule : RedRule) (frames : List FrameValue
       dropped = dropped;
       packets = sums.green.packets ∷ sums.yellow.packets ∷ sums.red.packets ∷ [];
       bytes = sums.green.bytes ∷ sums.yellow.bytes ∷ sums.red.bytes ∷ [];
+      verdict = None;
     } in made ≡ report_of see rule frames coloured)
 told see rule frames c coloured dropped sums counted long tallied kept left_out =
     let reds = dropped_by rule coloured sums.red.packets dropped (ap (λ t. t.packets) tallied.red) kept left_out in

@@ -1,13 +1,17 @@
 -- Frames between their reading and their writing: seen, held until their colours are decided, and handed out.
 use Rattle.std.specs.Prelude.{◌≡◌, ◌⊎◌, ℕ, suc, ◌≤◌, ◌^◌, Bool, true, false, List, [], ◌∷◌, ◌++◌, length, max, zip, None}
-use Rattle.std.specs.Prelude.{IsSome}
+use Rattle.std.specs.Prelude.{◌-◌, ◌<◌, All, IsSome}
 use Rattle.moment_core.specs.declared.colour.Colour.{Colour}
 use Rattle.pcap_capture.specs.Frames.{FrameValue}
 use Rattle.frame_marker.specs.Ports.{sight_at}
 use Rattle.frame_marker.specs.declared.sight.Sight.{Sight}
 use Rattle.ds_visits_base.specs.Passing.{colours_of}
 use Rattle.ds_visits_base.specs.Streams.{AreSentFrom, colours_left, decided, next_place}
+use Rattle.ds_checker.specs.Acceptance.{IsAcceptable}
+use Rattle.ds_visits_base.specs.Ways.{AreInReach}
+use Rattle.ds_visits_verdict.specs.Judging.{Judging, unjudged, verdict_with}
 use Rattle.ds_visits_base.specs.declared.sent.Sent.{Sent}
+use Rattle.ds_conductor.specs.Markings.{see}
 use Rattle.ds_conductor.specs.Sendings.{AreCounted, packet_of, sent_of}
 use Rattle.ds_conductor.specs.Tallies.{AreTallied, AreWithin}
 use Rattle.ds_conductor.specs.Texts.{text_from}
@@ -36,6 +40,23 @@ abbrev pub MayCome : Bool → ℕ → List Sent → Type 0
 MayCome true newest back = AreSentFrom newest back
 MayCome false newest back = back ≡ []
 
+-- frames are stamped before the last moments
+abbrev pub AreEarly : List FrameValue → Type 0
+AreEarly frames = All (λ f. f.moment < 2 ^ 63 - 2 ^ 40) frames
+
+-- the rules of a port are those of its table's contracts at the port of a name
+abbrev pub IsSeeing : Port → Type 0
+IsSeeing p = (name : List ℕ) × ((bytes : List ℕ) → see_at p bytes ≡ see p.accepted.now name p.heading.link bytes)
+
+-- What a judge keeps tells the verdict on what the frames that were seen send, and also on packets behind them.
+pub record IsJudging (p : Port) (frames : List FrameValue) (judge : Judging) : Type 0 where
+  pub acceptable : IsAcceptable p.accepted.now
+  pub reach : AreInReach p.accepted.now
+  pub seeing : IsSeeing p
+  pub early : AreEarly frames
+  pub tells : (back : List Sent) → verdict_with (unjudged p.accepted.now) (sent_of (see_at p) frames ++ back)
+      ≡ verdict_with judge back
+
 -- Of the frames that were seen, those at the front were handed out, with this text, and the others are held. The
 -- colours that were handed out, and those that are left, are the colours of all packets, also of those that are still
 -- to come.
@@ -53,6 +74,7 @@ pub record IsConditioned (p : Port) (more : Bool) (frames : List FrameValue) (te
         → colours_of p.accepted.now (sent_of (see_at p) frames ++ back) ≡ colours ++ colours_left c.under_way back
     pub counted : AreCounted (see_at p) frames c.counts
     pub tallied : AreTallied (zip (sent_of (see_at p) gone) colours) c.tallies
+    pub judging : IsJudging p frames c.judge
 
 -- No more packets are under way than frames were seen, and no more of these than 2^44.
 pub record IsBounded (c : Conditioner) : Type 0 where

@@ -11,11 +11,16 @@ use Rattle.pcap_capture.specs.declared.heading.Heading.{Heading}
 use Rattle.pcap_capture.specs.declared.heading.LinkType.{LinkType}
 use Rattle.ds_domain_base.specs.Domains.{is_port}
 use Rattle.ds_checker.specs.Acceptance.{Table}
+use Rattle.meter_fabric_base.specs.Grounds.{ground_of}
+use Rattle.run_audit.specs.Verdicts.{verdict_of}
+use Rattle.run_audit.specs.declared.verdict.Verdict.{Verdict}
+use Rattle.run_audit.specs.declared.verdict.Verdict.TheVariants.{Kept}
 use Rattle.frame_marker.specs.Sights.{sight_of}
 use Rattle.frame_marker.specs.declared.sight.Sight.{Sight}
 use Rattle.ds_visits_base.specs.Passing.{colours_of}
+use Rattle.ds_visits_run.specs.Making.{run_behind}
 use Rattle.ds_visits_base.specs.declared.sent.Sent.{Sent}
-use Rattle.ds_conductor.specs.Reports.{nothing_read, report_of}
+use Rattle.ds_conductor.specs.Reports.{nothing_read, report_of, with_verdict}
 use Rattle.ds_conductor.specs.Sendings.{sent_of}
 use Rattle.ds_conductor.specs.Texts.{text_from}
 use Rattle.pcap_capture.specs.Fronts.{IsFrontOf}
@@ -25,10 +30,11 @@ use Rattle.ds_conductor.specs.declared.fault.MarkFault.TheVariants as marks
 use Rattle.ds_conductor.specs.declared.report.Report.{Report}
 use Rattle.ds_conductor.specs.declared.rule.RedRule.{RedRule}
 
--- what is written, and what is told
+-- what is written, what is told, and the verdict on the run behind what was sent
 pub record Marking : Type 0 where
   pub text : List ℕ
   pub report : Report
+  pub verdict : Verdict
 
 -- what a frame is at a port of a table
 abbrev pub see : Table → List ℕ → LinkType → List ℕ → Sight
@@ -39,6 +45,7 @@ abbrev pub marking_with : Table → List ℕ → RedRule → Heading → List Fr
 marking_with t port red heading frames sent colours = record {
   text = heading.bytes ++ text_from t red heading.link 0 frames (zip sent colours);
   report = report_of (see t port heading.link) red frames (zip sent colours);
+  verdict = verdict_of (ground_of t) (run_behind t sent);
 }
 
 -- the marking of frames that stand behind a heading
@@ -49,7 +56,7 @@ marking_of t port red heading frames =
 
 -- without a heading there is nothing to mark
 abbrev pub nothing_marked : Marking
-nothing_marked = record { text = []; report = nothing_read }
+nothing_marked = record { text = []; report = nothing_read; verdict = Kept }
 
 abbrev pub marking_behind : Table → List ℕ → RedRule → Option (Result Heading PcapFault) → List FrameValue → Marking
 marking_behind t port red (Some (Ok heading)) frames = marking_of t port red heading frames
@@ -59,6 +66,10 @@ marking_behind t port red None frames = nothing_marked
 -- The marking of the bytes of a capture: of all records that stand in it whole, before the first fault.
 abbrev pub marking_in : Table → List ℕ → RedRule → List ℕ → Marking
 marking_in t port red bytes = marking_behind t port red (heading_of bytes) (capture bytes).frames
+
+-- a marking whose report tells the verdict, as where a capture was marked to its end
+abbrev pub judged : Marking → Marking
+judged m = record m { report = with_verdict m.verdict m.report }
 
 -- a marking was written whole behind what stood, and this is its report
 pub record IsWhole (m : Marking) (report : Report) (before after : List ℕ) : Type 0 where
@@ -118,12 +129,13 @@ IsMarkedBut marked bytes more before after report pcaps.Failed =
     IsWholeWith marked bytes before after report (Some pcaps.Failed)
 
 -- What was written behind what stood, and what is answered, for the bytes that a device had and those that it still
--- has: all of the marked capture, up to its end or to the first fault that stands in it; or all of what the device gave
+-- has: all of the marked capture, up to its end, with the verdict on the run behind it, or to the first fault that
+-- stands in it; or all of what the device gave
 -- before it failed; or a front, where the other device failed or memory ran out.
 abbrev pub IsMarkedAs : Table → List ℕ → RedRule → List ℕ → List ℕ → List ℕ → List ℕ
     → Result Report (Report × MarkFault) → Type 0
 IsMarkedAs t port red bytes more before after (Ok report) =
-    IsWholeWith (marking_in t port red) bytes before after report None
+    IsWholeWith (λ read. judged (marking_in t port red read)) bytes before after report None
 IsMarkedAs t port red bytes more before after (Err (report, marks.Capture fault)) =
     IsMarkedBut (marking_in t port red) bytes more before after report fault
 IsMarkedAs t port red bytes more before after (Err (report, marks.UnknownPort)) = ⊥
@@ -196,6 +208,6 @@ pub record IsOfReads (answer : Result Report (Report × MarkFault)) (failed now 
   pub unfailed : is_read_whole answer ≡ true → now ≡ failed
 
 -- the answer to frames that were marked, by what ended the reading of their capture
-abbrev pub answer_of : Report → Option PcapFault → Result Report (Report × MarkFault)
-answer_of report None = Ok report
-answer_of report (Some fault) = Err (report, marks.Capture fault)
+abbrev pub answer_of : Verdict → Report → Option PcapFault → Result Report (Report × MarkFault)
+answer_of verdict report None = Ok (with_verdict verdict report)
+answer_of verdict report (Some fault) = Err (report, marks.Capture fault)

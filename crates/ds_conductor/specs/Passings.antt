@@ -5,7 +5,10 @@ use Rattle.pcap_capture.specs.Frames.{FrameValue}
 use Rattle.pcap_capture.specs.Grammar.{capture, heading_of}
 use Rattle.pcap_capture.specs.declared.fault.PcapFault.{PcapFault}
 use Rattle.pcap_capture.specs.declared.fault.PcapFault.TheVariants as pcaps
+use Rattle.meter_fabric_base.specs.Grounds.{ground_of}
+use Rattle.run_audit.specs.Verdicts.{verdict_of}
 use Rattle.ds_visits_base.specs.Passing.{colours_of}
+use Rattle.ds_visits_run.specs.Making.{run_behind}
 use Rattle.ds_conductor.specs.Conditionings.{IsConditioned, see_at}
 use Rattle.ds_conductor.specs.Markings.{IsWhole, Marking, answer_of, is_read}
 use Rattle.ds_conductor.specs.Readings.{IsAskedOn, IsReading, IsUnderway}
@@ -100,12 +103,13 @@ marking_at p frames =
     record {
       text = p.heading.bytes ++ text_from p.accepted.now p.red p.heading.link 0 frames coloured;
       report = report_of (see_at p) p.red frames coloured;
+      verdict = verdict_of (ground_of p.accepted.now) (run_behind p.accepted.now (sent_of (see_at p) frames));
     }
 
 -- What is answered to frames whose reading ended by a fault, or not: that with the report of their marking, which is
 -- written whole; or a fault of the writing, where a front of it is.
 abbrev pub IsFinished : Marking → Option PcapFault → List ℕ → List ℕ → Result Report (Report × MarkFault) → Type 0
 IsFinished m fault before after answer =
-    (IsWhole m m.report before after × (answer ≡ answer_of m.report fault))
+    (IsWhole m m.report before after × (answer ≡ answer_of m.verdict m.report fault))
     ⊎ ((unwritten : MarkFault) × ((unwritten ≡ marks.Capture pcaps.WriteFault) ⊎ (unwritten ≡ marks.NoMemory))
     × IsFrontOf before m.text after × (answer ≡ Err (m.report, unwritten)))

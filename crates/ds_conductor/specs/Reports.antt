@@ -1,10 +1,12 @@
 -- What is told of a marked capture.
 use Rattle.std.specs.Prelude.{ℕ, Bool, true, false, not, List, [], ◌∷◌, length, count_by, sum_by, if◌then◌else◌}
+use Rattle.std.specs.Prelude.{None, Some}
 use Rattle.moment_core.specs.declared.colour.Colour.{Colour}
 use Rattle.moment_core.specs.Colours.{is_green, is_red, is_yellow}
 use Rattle.pcap_capture.specs.Frames.{FrameValue}
 use Rattle.frame_marker.specs.declared.sight.Sight.{Sight}
 use Rattle.frame_marker.specs.declared.sight.Sight.TheVariants.{Matched, Skipped, Unmatched}
+use Rattle.run_audit.specs.declared.verdict.Verdict.{Verdict}
 use Rattle.ds_visits_base.specs.declared.sent.Sent.{Sent}
 use Rattle.ds_conductor.specs.Texts.{is_dropped}
 use Rattle.ds_conductor.specs.declared.report.Report.{Report}
@@ -48,6 +50,7 @@ nothing_read = record {
   dropped = 0;
   packets = 0 ∷ 0 ∷ 0 ∷ [];
   bytes = 0 ∷ 0 ∷ 0 ∷ [];
+  verdict = None;
 }
 
 -- the report of frames, and of the packets that they sent, with the colours that these left with
@@ -61,4 +64,9 @@ report_of see red frames coloured = record {
   dropped = packets_as (is_dropped red) coloured;
   packets = packets_as is_green coloured ∷ packets_as is_yellow coloured ∷ packets_as is_red coloured ∷ [];
   bytes = bytes_as is_green coloured ∷ bytes_as is_yellow coloured ∷ bytes_as is_red coloured ∷ [];
+  verdict = None;
 }
+
+-- a report with the verdict on what was sent
+abbrev pub with_verdict : Verdict → Report → Report
+with_verdict verdict report = record report { verdict = Some verdict }

@@ -3,7 +3,8 @@ ghost use Rattle.std.specs.Prelude.{zip, option_to_list, IfNone, IfOk, IfSome, M
 ghost use Rattle.pcap_capture.specs.Frames.{FrameValue};
 ghost use Rattle.ds_visits_base.specs.Passing.{colours_of};
 ghost use Rattle.ds_visits_base.specs.Streams.{colours_left, decided, next_place};
-ghost use Rattle.ds_conductor.specs.Conditionings.{IsBounded, IsConditioned, IsUndecided, see_at};
+ghost use Rattle.ds_conductor.specs.Conditionings.{IsBounded, IsConditioned, IsSeeing, IsUndecided, see_at};
+ghost use Rattle.ds_visits_verdict.specs.Judging.{verdict_with};
 ghost use Rattle.ds_conductor.specs.Reports.{report_of};
 ghost use Rattle.ds_conductor.specs.Sendings.{counted_on, packet_of, sent_of};
 ghost use Rattle.std.specs.VecDeque.{deque_capacity, deque_len};
@@ -18,8 +19,10 @@ use crate::sending::{Counts, later, packet_of};
 use crate::tally::Tallies;
 use ds_checker::Accepted;
 use ds_visits::{Gate, Sent, UnderWay};
+use ds_visits_verdict::Judge;
 use moment_core::{Colour, Moment};
 use pcap_capture::Frame;
+use run_audit::Verdict;
 use std::alloc::{AllocError, Global};
 use std::collections::VecDeque;
 
@@ -39,6 +42,7 @@ pub(crate) struct Conditioner<'a> {
     newest: Moment,
     counts: Counts,
     tallies: Tallies,
+    judge: Judge<'a>,
 }
 
 impl<'a> Conditioner<'a> {
@@ -46,14 +50,18 @@ impl<'a> Conditioner<'a> {
     pub(crate) fn new(alloc: Global, accepted: &'a Accepted) -> Result<Self, AllocError>
         ensures bounded { IfOk result (λ c. IsBounded c) }
         ensures records { IfOk result (λ c. c.counts.records ≡ 0) }
-        ensures begun { IfOk result (λ c. (p : Port) → p.accepted.now ≡ accepted.now → IsConditioned p true [] [] c) }
+        ensures begun { IfOk result (λ c. (p : Port) → p.accepted.now ≡ accepted.now → IsSeeing p
+            → IsConditioned p true [] [] c) }
     {
+        // what is accepted is acceptable
+        let _domain = accepted.domain();
         Ok(Conditioner {
             under_way: UnderWay::new(alloc, accepted)?,
             held: VecDeque::new(alloc),
             newest: Moment::new(0).unwrap(),
             counts: Counts::nothing(),
             tallies: Tallies::nothing(),
+            judge: Judge::new(alloc, accepted)?,
         })
     }
 
@@ -81,6 +89,7 @@ impl<'a> Conditioner<'a> {
         self.held.push_back(Held { frame, packet }).unwrap();
         self.counts.add(sight);
         self.newest = moment;
+        note(&mut self.judge, &packet);
         Ok(())
     }
 
@@ -189,6 +198,13 @@ impl<'a> Conditioner<'a> {
         Some(colour)
     }
 
+    /// The verdict on what the frames that were seen send.
+    pub(crate) fn verdict(&self) -> Verdict
+        ensures { result ≡ verdict_with self.now.judge [] }
+    {
+        self.judge.verdict()
+    }
+
     /// The report of all frames that were seen, once all visits are made. The frames that are held are let go.
     pub(crate) fn report(&mut self, port: &Port<'_>) -> Report
         requires bounded { IsBounded self.old }
@@ -200,5 +216,15 @@ impl<'a> Conditioner<'a> {
     {
         while self.pop().is_some() {}
         self.counts.report(port.red, &self.tallies)
+    }
+}
+
+/// Notes the packet of a frame, if there is one.
+fn note(judge: &mut Judge<'_>, packet: &Option<Sent>)
+    ensures { (back : List Sent)
+        → verdict_with judge.new back ≡ verdict_with judge.old (option_to_list packet.now ++ back) }
+{
+    if let Some(packet) = packet {
+        judge.note(packet);
     }
 }

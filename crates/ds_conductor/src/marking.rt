@@ -23,6 +23,7 @@ use ds_checker::Accepted;
 use ds_domain_base::Name;
 use ds_visits::Gate;
 use pcap_capture::{Heading, Intake, Outlet, PIECE, PcapFault, room};
+use run_audit::Verdict;
 use std::alloc::Global;
 
 /// By how many calls of `take` a capture is read at most; the next is answered as a read fault.
@@ -37,6 +38,8 @@ const TURNS: u64 = 1 << 32;
 /// round each with worker 0, as soon as no later record can come before them. A frame is written as soon as its colour
 /// is decided, before more is read: the heading and each record stand as they came but for the marks. What is held are
 /// the frames whose last visit is still to come, and one piece.
+///
+/// At its end the report has the verdict on the run behind the capture: that of its audit.
 ///
 /// Refused, with the report of what was read: `UnknownPort` exactly where the domain has no port of that name (nothing
 /// is read); `NoMemory` (a front is written, and the report is that of the frames that memory was there for); `Capture`
@@ -161,19 +164,27 @@ fn finish<O: Outlet>(
     ensures few { IfOk result (λ report. report.records ≤ 2 ^ 44) }
 {
     let written = write_on(port, conditioner, out, outlet);
+    let verdict = conditioner.verdict();
     let report = conditioner.report(port);
     match written {
-        Ok(()) => answer(report, fault),
+        Ok(()) => answer(report, verdict, fault),
         Err(unwritten) => Err((report, unwritten)),
     }
 }
 
-/// The answer to a capture that was marked, by what ended its reading.
-fn answer(report: Report, fault: Option<PcapFault>) -> Result<Report, (Report, MarkFault)>
-    ensures { result ≡ answer_of report fault }
+/// The answer to a capture that was marked, by what ended its reading: with the verdict, where that was its end.
+fn answer(
+    report: Report,
+    verdict: Verdict,
+    fault: Option<PcapFault>,
+) -> Result<Report, (Report, MarkFault)>
+    ensures { result ≡ answer_of verdict report fault }
 {
     match fault {
-        None => Ok(report),
+        None => Ok(Report {
+            verdict: Some(verdict),
+            ..report
+        }),
         Some(fault) => Err((report, MarkFault::Capture(fault))),
     }
 }

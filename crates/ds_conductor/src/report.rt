@@ -10,6 +10,7 @@ ghost use Rattle.ds_visits_base.specs.declared.sent.Sent.{Sent};
 use crate::rule::RedRule;
 use crate::sending::Counts;
 use crate::tally::Tallies;
+use run_audit::Verdict;
 
 /// What is told of a marked capture.
 #[derive(Clone, Copy, Debug, PartialEq, Eq)]
@@ -30,6 +31,8 @@ pub struct Report {
     pub packets: [u64; 3],
     /// Their bytes, by their headers' total lengths.
     pub bytes: [u128; 3],
+    /// The verdict on the run behind them, where the capture was marked to its end without a fault; else None.
+    pub verdict: Option<Verdict>,
 }
 
 impl Report {
@@ -46,6 +49,7 @@ impl Report {
             dropped: 0,
             packets: [0; 3],
             bytes: [0; 3],
+            verdict: None,
         }
     }
 }
@@ -78,6 +82,7 @@ impl Counts {
             dropped: dropped(rule, sums.red.packets),
             packets: [sums.green.packets, sums.yellow.packets, sums.red.packets],
             bytes: [sums.green.bytes, sums.yellow.bytes, sums.red.bytes],
+            verdict: None,
         }
     }
 }

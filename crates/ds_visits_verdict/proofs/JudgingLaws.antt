@@ -13,12 +13,15 @@ use Rattle.run_audit.specs.declared.verdict.Verdict.TheVariants.{Kept, OutsideCo
 use Rattle.ds_visits_base.specs.Streams.{rise_from}
 use Rattle.ds_visits_base.specs.Visits.{visits_from}
 use Rattle.ds_visits_base.specs.declared.sent.Sent.{Sent}
+use Rattle.ds_visits_run.proofs.RunLaws.{the_run_is_behind}
+use Rattle.ds_visits_run.specs.Making.{run_behind}
 use Rattle.ds_visits_verdict.specs.Judged.{first_moment, judged, late_at, late_by, over_at, skew_in, source_in, time_in}
 use Rattle.ds_visits_verdict.specs.Judging.{Judging, late_told, silent, told_at, unjudged, verdict_now, verdict_with}
-use Rattle.ds_visits_verdict.specs.Laws.{TheJudgeTells}
+use Rattle.ds_visits_verdict.specs.Laws.{TheJudgeTells, TheMadeRunIsJudged}
 use Rattle.ds_visits_verdict.specs.declared.sender.Sender.{Sender}
 use Rattle.ds_visits_verdict.proofs.FirstLaws.{firsts_noted, first_told, least_at}
 use Rattle.ds_visits_verdict.proofs.ListLaws.{found_each, found_range}
+use Rattle.ds_visits_verdict.proofs.RunLaws.{run_is_judged}
 use Rattle.ds_visits_verdict.proofs.NotedLaws.{noted_all, outside_noted, same_table, sender_tells, silent_at, told_now}
 
 not_sent : (t : Table) (flow : ℕ) (sender : Sender) → slice_get (unjudged t).senders flow ≡ Some sender → sender.sent ≡ false
@@ -57,3 +60,7 @@ judge_tells t sent sendable =
     (found_each (told_at j.senders) (over_at t sent) (range_with_len 0 (flow_count t)) (sender_tells t sent rises))
     ∙ ap (λ (found : Option Verdict). unwrap_or (first_of (time_in t sent) (first_of (source_in t sent) found)) Kept)
     (found_range (late_told t j.firsts) (late_at t sent) (site_count t) (site_tells t sent rises))
+
+pub made_run_judged : TheMadeRunIsJudged
+made_run_judged t sent good reach sendable =
+    judge_tells t sent sendable ∙ sym (run_is_judged t sent (run_behind t sent) reach sendable (the_run_is_behind t sent good sendable))

@@ -1,6 +1,6 @@
--- Lemmas for the proofs of this crate.
+-- Lemmas for the proofs of this crate and of those above it.
 mod FirstLaws
-mod JudgingLaws
+pub mod JudgingLaws
 mod ListLaws
 mod MadeLaws
 mod NotedLaws

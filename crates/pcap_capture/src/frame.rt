@@ -1,4 +1,4 @@
-ghost use Rattle.std.specs.Prelude.{◌≡◌, ◌+◌, IfOk, length};
+ghost use Rattle.std.specs.Prelude.{◌≡◌, ◌+◌, ◌-◌, ◌<◌, ◌^◌, IfOk, length};
 ghost use Rattle.pcap_capture.specs.Frames.{FrameValue};
 ghost use Rattle.pcap_capture.specs.Grammar.{captured, frame_of};
 
@@ -16,9 +16,15 @@ pub struct Frame {
 }
 
 impl Model for Frame {
+    ghost use Rattle.std.specs.Prelude.{◌-◌, ◌<◌, ◌^◌};
+    ghost use Rattle.pcap_capture.specs.Frames.{FrameValue};
+
     ghost Value = { FrameValue };
 
     ghost view = { λ f. record { head = f.head; moment = f.moment; bytes = f.bytes.items } };
+
+    // seconds and a fraction of 32 bits each
+    ghost invariant = { λ f. f.moment < 2 ^ 63 - 2 ^ 40 };
 }
 
 impl Frame {
@@ -50,9 +56,11 @@ impl Frame {
         &self.head
     }
 
-    /// When it was captured, by the record's seconds and its fraction of a second, whatever that is.
+    /// When it was captured, by the record's seconds and its fraction of a second, whatever that is: before 4.3 * 10^18
+    /// ns, as both have 32 bits.
     pub fn moment(&self) -> Moment
-        ensures { result ≡ self.now.moment }
+        ensures value { result ≡ self.now.moment }
+        ensures early { result < 2 ^ 63 - 2 ^ 40 }
     {
         self.moment
     }

@@ -5,6 +5,7 @@ use crate::tables::accepted;
 use ds_checker::Accepted;
 use ds_conductor::{MarkFault, OpenGate, RedRule, Report, mark};
 use pcap_capture::{PcapFault, SliceIntake, VecOutlet};
+use run_audit::Verdict;
 use std::alloc::Global;
 use std::process::Abort;
 use std::test::Fail;
@@ -23,7 +24,8 @@ pub fn narrow(alloc: Global) -> Result<Accepted, Fail> {
     accepted(alloc, &[POLICED, U, NARROW, UDP], NARROW_LEAST)
 }
 
-/// A report of so many records, of which so many are skipped, with the packets of each colour, of 115 bytes each.
+/// A report of a capture with a fault, of so many records, of which so many are skipped, with the packets of each
+/// colour, of 115 bytes each.
 fn report(records: u64, skipped: u64, dropped: u64, packets: [u64; 3]) -> Report {
     let [green, yellow, red] = packets;
     Report {
@@ -39,6 +41,15 @@ fn report(records: u64, skipped: u64, dropped: u64, packets: [u64; 3]) -> Report
             115 * u128::from(yellow),
             115 * u128::from(red),
         ],
+        verdict: None,
+    }
+}
+
+/// The report of a capture that was marked to its end, and whose packets kept what its table rests on.
+fn kept(report: Report) -> Report {
+    Report {
+        verdict: Some(Verdict::Kept),
+        ..report
     }
 }
 
@@ -134,7 +145,7 @@ fn a_tagged_frame_leaves_green(rt: HostRuntime) -> Result<(), Fail> {
     let row = Row {
         given: &[HEADING, TAGGED, OTHER],
         written: &[HEADING, GREEN, OTHER],
-        report: report(2, 1, 0, [1, 0, 0]),
+        report: kept(report(2, 1, 0, [1, 0, 0])),
         fault: None,
     };
     expect_wide(&rt, rt.alloc(), &row)
@@ -146,7 +157,7 @@ fn three_frames_of_three_colours(rt: HostRuntime) -> Result<(), Fail> {
     let row = Row {
         given: &[HEADING, TAGGED, TAGGED, TAGGED],
         written: &[HEADING, GREEN, YELLOW, RED],
-        report: report(3, 0, 0, [1, 1, 1]),
+        report: kept(report(3, 0, 0, [1, 1, 1])),
         fault: None,
     };
     expect_row(&rt, rt.alloc(), &accepted, RedRule::Keep, &row)
@@ -160,7 +171,7 @@ fn a_record_that_is_stamped_earlier_is_sent_at_the_greatest_stamp(
     let row = Row {
         given: &[HEADING, TAGGED, EARLIER, TAGGED],
         written: &[HEADING, GREEN, EARLIER_YELLOW, RED],
-        report: report(3, 0, 0, [1, 1, 1]),
+        report: kept(report(3, 0, 0, [1, 1, 1])),
         fault: None,
     };
     expect_row(&rt, rt.alloc(), &accepted, RedRule::Keep, &row)
@@ -172,7 +183,7 @@ fn a_red_frame_is_dropped(rt: HostRuntime) -> Result<(), Fail> {
     let row = Row {
         given: &[HEADING, TAGGED, TAGGED, TAGGED],
         written: &[HEADING, GREEN, YELLOW],
-        report: report(3, 0, 1, [1, 1, 1]),
+        report: kept(report(3, 0, 1, [1, 1, 1])),
         fault: None,
     };
     expect_row(&rt, rt.alloc(), &accepted, RedRule::Drop, &row)
@@ -194,7 +205,7 @@ fn a_capture_without_records(rt: HostRuntime) -> Result<(), Fail> {
     let row = Row {
         given: &[HEADING],
         written: &[HEADING],
-        report: Report::nothing(),
+        report: kept(Report::nothing()),
         fault: None,
     };
     expect_wide(&rt, rt.alloc(), &row)

@@ -1,8 +1,7 @@
 use crate::captures::{HEADING, TAGGED, capture};
 use crate::mark_rows::narrow;
-use crate::tables::table_of;
-use ds_conductor::{OpenGate, RedRule, Report, mark};
-use pcap_capture::{DeviceFault, Intake, Outlet, SliceIntake, VecOutlet};
+use ds_conductor::{OpenGate, RedRule, mark};
+use pcap_capture::{DeviceFault, Intake, Outlet, SliceIntake};
 use std::sync::atomic::{AtomicU64, Ordering};
 use std::test::Fail;
 
@@ -90,81 +89,5 @@ fn the_head_of_a_capture_is_written_before_the_rest_is_taken(rt: HostRuntime) ->
     assert!(rt; marked.is_ok());
     assert_eq!(rt; intake.noted, 24 + 108);
     assert_eq!(rt; written.load(Ordering::SeqCst), 24 + 162);
-    Ok(())
-}
-
-/// Two meters behind one port, and a contract through each.
-const TWO_METERS: &str = r#"
-meter = [
-    { name = "m", kind = "trtcm", cir = 24000000, cbs = 13500, pir = 24000000, pbs = 13500, skew = 500000 },
-    { name = "n", kind = "trtcm", cir = 24000000, cbs = 13500, pir = 24000000, pbs = 13500, skew = 500000 },
-]
-port = [{ name = "p", skew = 0 }]
-link = [{ from = "p", to = "m", floor = 0, jitter = 1000000 }, { from = "p", to = "n", floor = 0, jitter = 1000000 }]
-
-[[contract]]
-name = "a"
-kind = "trusted"
-port = "p"
-path = ["m"]
-class = 1
-cir = 8000000
-cbs = 3000
-src = "10.0.0.0/24"
-
-[[contract]]
-name = "b"
-kind = "trusted"
-port = "p"
-path = ["n"]
-class = 2
-cir = 8000000
-cbs = 3000
-src = "10.0.1.0/24"
-"#;
-
-/// Its least certificate.
-const TWO_LEAST: &str = "dscert 1\na 0 3000 3000\na 1 4000 4000\nb 0 3000 3000\nb 1 4000 4000\n";
-
-/// The heading of a capture whose records begin with the packet.
-const RAW: &str = "d4c3b2a1 0200 0400 00000000 00000000 ffff0000 65000000";
-
-/// Two records of moment 0, of 20 bytes each.
-const TWO: &str =
-    "00000000 00000000 14000000 14000000 4528 0014 0000 0000 4011 0000 0a00 0001 0a00 0101
-    00000000 00000000 14000000 14000000 4548 0014 0000 0000 4011 0000 0a00 0101 0a00 0001";
-
-#[test]
-fn two_packets_through_two_meters(rt: HostRuntime) -> Result<(), Fail> {
-    let alloc = rt.alloc();
-    let accepted = table_of(alloc, TWO_METERS, TWO_LEAST)?;
-    let given = capture(alloc, &[RAW, TWO])?;
-    for most in [1, 7, usize::MAX] {
-        let mut intake = SliceIntake {
-            most,
-            ..SliceIntake::new(given.as_slice())
-        };
-        let mut outlet = VecOutlet::new(Vec::new(alloc));
-        let marked = mark(
-            alloc,
-            &accepted,
-            "p",
-            1,
-            RedRule::Keep,
-            &mut intake,
-            &mut outlet,
-            &OpenGate,
-        );
-        let report = Report {
-            records: 2,
-            marked: 2,
-            unverified: 2,
-            packets: [2, 0, 0],
-            bytes: [40, 0, 0],
-            ..Report::nothing()
-        };
-        assert!(rt; marked == Ok(report));
-        assert_eq!(rt; outlet.bytes.as_slice(), given.as_slice());
-    }
     Ok(())
 }

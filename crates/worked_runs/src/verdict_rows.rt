@@ -1,9 +1,12 @@
-use crate::tables::table_of;
+use crate::captures::{GREEN, HEADING, capture};
+use crate::tables::{accepted, table_of};
 use af_marker::Dscp;
 use ds_checker::Accepted;
+use ds_conductor::{OpenGate, RedRule, Report, mark};
 use ds_visits::Sent;
 use ds_visits_verdict::Judge;
 use moment_core::{Column, Gap, Moment, PacketSize};
+use pcap_capture::{SliceIntake, VecOutlet};
 use run_audit::Verdict;
 use std::alloc::Global;
 use std::process::Abort;
@@ -161,4 +164,178 @@ fn a_packet_that_comes_before_its_meter(rt: HostRuntime) -> Result<(), Fail> {
         &[(4, 100, AF11, 998_500_000)],
         Verdict::Kept,
     )
+}
+
+/// Two meters, and two contracts that are trusted, one at each.
+const TWO_METERS: &str = r#"
+meter = [
+    { name = "m", kind = "trtcm", cir = 24000000, cbs = 13500, pir = 24000000, pbs = 13500, skew = 500000 },
+    { name = "n", kind = "trtcm", cir = 24000000, cbs = 13500, pir = 24000000, pbs = 13500, skew = 500000 },
+]
+port = [{ name = "p", skew = 0 }]
+link = [
+    { from = "p", to = "m", floor = 0, jitter = 1000000 },
+    { from = "p", to = "n", floor = 0, jitter = 1000000 },
+]
+
+[[contract]]
+name = "a"
+kind = "trusted"
+port = "p"
+path = ["m"]
+class = 1
+cir = 8000000
+cbs = 3000
+src = "10.0.0.0/24"
+
+[[contract]]
+name = "b"
+kind = "trusted"
+port = "p"
+path = ["n"]
+class = 2
+cir = 8000000
+cbs = 3000
+src = "10.0.1.0/24"
+"#;
+
+/// Their least certificate.
+const TWO_METERS_LEAST: &str =
+    "dscert 1\na 0 3000 3000\na 1 4000 4000\nb 0 3000 3000\nb 1 4000 4000\n";
+
+/// The heading of a capture of IPv4 packets without a link's header.
+const RAW: &str = "d4c3b2a1 0200 0400 00000000 00000000 ffff0000 65000000";
+
+/// A record at 0 s of 20 bytes: a packet of contract `a` with code point AF11, and one of `b` with AF21.
+const OF_A: &str =
+    "00000000 00000000 14000000 14000000 4528 0014 0000 0000 4011 0000 0a00 0001 0a00 0101";
+
+const OF_B: &str =
+    "00000000 00000000 14000000 14000000 4548 0014 0000 0000 4011 0000 0a00 0101 0a00 0001";
+
+#[test]
+fn two_meters_pass_two_packets(rt: HostRuntime) -> Result<(), Fail> {
+    let accepted = table_of(rt.alloc(), TWO_METERS, TWO_METERS_LEAST)?;
+    let given = capture(rt.alloc(), &[RAW, OF_A, OF_B])?;
+    let mut outlet = VecOutlet::new(Vec::new(rt.alloc()));
+    let mut intake = SliceIntake::new(given.as_slice());
+    let answer = mark(
+        rt.alloc(),
+        &accepted,
+        "p",
+        1,
+        RedRule::Keep,
+        &mut intake,
+        &mut outlet,
+        &OpenGate,
+    );
+    assert_eq!(rt; outlet.bytes.as_slice(), given.as_slice());
+    let expected = Report {
+        records: 2,
+        marked: 2,
+        unverified: 2,
+        packets: [2, 0, 0],
+        bytes: [40, 0, 0],
+        verdict: Some(Verdict::Kept),
+        ..Report::nothing()
+    };
+    assert_eq!(rt; answer.ok(), Some(expected));
+    Ok(())
+}
+
+/// A contract that is trusted with 200 bytes, until 2 s.
+const SMALL: &str = r#"
+[[contract]]
+name = "t"
+kind = "trusted"
+port = "p"
+path = ["m"]
+class = 1
+until = 2000000000
+cir = 8000000
+cbs = 200
+"#;
+
+/// Its least certificate.
+const SMALL_LEAST: &str = "dscert 1\nt 0 200 200\nt 1 1200 1200\n";
+
+/// The same until 1 s.
+const SHORT: &str = r#"
+[[contract]]
+name = "t"
+kind = "trusted"
+port = "p"
+path = ["m"]
+class = 1
+until = 1000000000
+cir = 8000000
+cbs = 200
+"#;
+
+/// Expects the verdict that `mark` tells of so many packets of 115 bytes, all green and at 1.5 s.
+fn expect_told(
+    rt: &impl Abort,
+    alloc: Global,
+    accepted: &Accepted,
+    records: &[&str],
+    verdict: Verdict,
+) -> Result<(), Fail> {
+    let given = capture(alloc, records)?;
+    let mut outlet = VecOutlet::new(Vec::new(alloc));
+    let mut intake = SliceIntake::new(given.as_slice());
+    let answer = mark(
+        alloc,
+        accepted,
+        "p",
+        1,
+        RedRule::Keep,
+        &mut intake,
+        &mut outlet,
+        &OpenGate,
+    );
+    let told = answer.map_or(None, |report| report.verdict);
+    assert_eq!(rt; told, Some(verdict));
+    Ok(())
+}
+
+#[test]
+fn a_capture_over_its_envelope(rt: HostRuntime) -> Result<(), Fail> {
+    let small = accepted(rt.alloc(), SMALL, SMALL_LEAST)?;
+    expect_told(&rt, rt.alloc(), &small, &[HEADING, GREEN], Verdict::Kept)?;
+    let over = over(Column::Green, 1);
+    expect_told(&rt, rt.alloc(), &small, &[HEADING, GREEN, GREEN], over)
+}
+
+#[test]
+fn a_capture_outside_its_contract(rt: HostRuntime) -> Result<(), Fail> {
+    let short = accepted(rt.alloc(), SHORT, SMALL_LEAST)?;
+    let outside = Verdict::OutsideContract { packet: 0 };
+    expect_told(&rt, rt.alloc(), &short, &[HEADING, GREEN, GREEN], outside)
+}
+
+#[test]
+fn a_capture_before_its_meter(rt: HostRuntime) -> Result<(), Fail> {
+    let domain = r#"
+meter = [{ name = "m", kind = "trtcm", cir = 24000000, cbs = 13500, pir = 24000000, pbs = 13500, skew = 500000,
+    origin = 2000000000 }]
+port = [{ name = "p", skew = 0 }]
+link = [{ from = "p", to = "m", floor = 1000000, jitter = 0 }]
+
+[[contract]]
+name = "t"
+kind = "trusted"
+port = "p"
+path = ["m"]
+class = 1
+cir = 8000000
+cbs = 3000
+"#;
+    let least = "dscert 1\nt 0 3000 3000\nt 1 3000 3000\n";
+    let early = table_of(rt.alloc(), domain, least)?;
+    let late = Verdict::Late {
+        site: 0,
+        place: 0,
+        late: Gap::new(499_000_000)?,
+    };
+    expect_told(&rt, rt.alloc(), &early, &[HEADING, GREEN], late)
 }

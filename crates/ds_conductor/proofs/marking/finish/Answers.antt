@@ -1,7 +1,8 @@
-use Rattle.std.proofs.Common.{◌++◌, ap, sym, inl, inr, refl, Err, ◌∙◌}
+use Rattle.std.proofs.Common.{◌≤◌, ◌^◌, length, arith, ◌++◌, ap, sym, inl, inr, refl, Err, ◌∙◌}
 use Rattle.ds_conductor.specs.Markings.{answer_of, is_read_whole, is_unread}
 use Rattle.ds_conductor.specs.Texts.{text_from}
-use Rattle.ds_conductor.proofs.ConditionLaws.{ended, front_last}
+use Rattle.ds_conductor.proofs.ConditionLaws.{ended, front_last, judged_by}
+use Rattle.ds_conductor.specs.Passings.{marking_at}
 use Rattle.ds_conductor.proofs.PassingLaws.{answer_read, answer_unread, broken_read, broken_unread}
 use Rattle.ds_conductor.proofs.WritingLaws.{written_whole}
 use Rattle.ds_conductor.proofs.marking.finish.Goals as goal
@@ -12,13 +13,16 @@ returns-in-Ok-clause-marked g c = λ tells frames text before at written.
     let last = c.in-Ok.ensures.bytes tells _ frames text before at written in
     let all = ended p frames last.0 c.write_on-written.new.conditioner last.1 (c.in-Ok.ensures.waiting ∙ c.requires.none_left) c.in-Ok.ensures.undecided in
     let told = c.report-report.ensures.told frames last.0 last.1 in
+    let few : length frames ≤ 2 ^ 44 = omega (arith, last.1.counted.records, c.write_on-written.ensures.bounded.records) in
     let whole = written_whole (p.heading.bytes ++ last.0) _ before _ last.2 c.in-Ok.ensures.emptied in
     inl (
       record {
         written = whole ∙ ap (λ it. before ++ (p.heading.bytes ++ it)) (all.written ∙ ap (text_from p.accepted.now p.red p.heading.link 0 frames) all.whole);
         told = refl;
       },
-      c.answer.ensures ∙ ap (λ r. answer_of r c.args.fault) told,
+      c.answer.ensures ∙ ap (λ r. answer_of c.verdict-verdict.result r c.args.fault) told
+          ∙ ap (λ v. answer_of v (marking_at p frames).report c.args.fault)
+          (c.verdict-verdict.ensures ∙ judged_by p frames c.write_on-written.new.conditioner.judge last.1.judging few),
     )
 
 pub returns-in-Err-clause-marked : goal.returns-in-Err-clause-marked
@@ -29,10 +33,10 @@ returns-in-Err-clause-marked g c = λ tells frames text before at written.
     inr (c.in-Err.unwritten, c.in-Err.ensures.fault, front_last p frames last.0 before _ c.write_on-written.new.conditioner last.1 last.2, ap (λ r. Err (r, c.in-Err.unwritten)) told)
 
 pub returns-in-Ok-clause-unread : goal.returns-in-Ok-clause-unread
-returns-in-Ok-clause-unread g c = λ is. sym (ap is_unread c.answer.ensures ∙ answer_unread c.report-report.result c.args.fault) ∙ is
+returns-in-Ok-clause-unread g c = λ is. sym (ap is_unread c.answer.ensures ∙ answer_unread c.verdict-verdict.result c.report-report.result c.args.fault) ∙ is
 
 pub returns-in-Ok-clause-read : goal.returns-in-Ok-clause-read
-returns-in-Ok-clause-read g c = λ is. answer_read c.report-report.result c.args.fault (sym (ap is_read_whole c.answer.ensures) ∙ is)
+returns-in-Ok-clause-read g c = λ is. answer_read c.verdict-verdict.result c.report-report.result c.args.fault (sym (ap is_read_whole c.answer.ensures) ∙ is)
 
 pub returns-in-Err-clause-unread : goal.returns-in-Err-clause-unread
 returns-in-Err-clause-unread g c = λ is. let no = sym (broken_unread c.report-report.result c.in-Err.unwritten c.in-Err.ensures.fault) ∙ is in absurd cc

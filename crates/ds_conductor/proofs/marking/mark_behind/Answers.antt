@@ -1,4 +1,5 @@
 use Rattle.std.proofs.Common.{[], Some, refl, sym, ap, ◌∙◌}
+use Rattle.ds_conductor.proofs.ConditionLaws.{seeing_by}
 use Rattle.ds_conductor.proofs.MarkingLaws.{broken_marked, finished_marked, starved_marked}
 use Rattle.ds_conductor.proofs.PassingLaws.{of_reads}
 use Rattle.ds_conductor.proofs.WritingLaws.{headed_out}
@@ -25,7 +26,7 @@ returns-in-Ok-turned-clause-marked g c = λ given tells bytes at headed.
       text = [];
       underway = at;
       headed = headed ∙ ap Some (sym c.in-Ok.ensures.heading);
-      conditioned = c.in-Ok-new.ensures.begun p c.in-Ok.ensures.accepted;
+      conditioned = c.in-Ok-new.ensures.begun p c.in-Ok.ensures.accepted (seeing_by p c.args.accepted.now c.args.name c.args.heading c.in-Ok.ensures.accepted c.in-Ok.ensures.heading c.in-Ok.ensures.sees);
       written = headed_out p.heading.bytes c.args.heading.bytes _ _ held (ap (λ h. h.bytes) c.in-Ok.ensures.heading) c.new-out.ensures.items c.in-Ok-extend_from_slice.ensures.items;
     }) in
     let done = c.finish.ensures.marked (c.turn_all-turned.ensures.told tells) turned.frames turned.text held (c.make_all.ensures.made p turned.frames turned.text turned.conditioned) turned.written in
@@ -45,7 +46,7 @@ returns-clause-marked g c = λ given tells bytes at headed.
       text = [];
       underway = at;
       headed = headed ∙ ap Some (sym c.in-Ok.ensures.heading);
-      conditioned = c.in-Ok-new.ensures.begun p c.in-Ok.ensures.accepted;
+      conditioned = c.in-Ok-new.ensures.begun p c.in-Ok.ensures.accepted (seeing_by p c.args.accepted.now c.args.name c.args.heading c.in-Ok.ensures.accepted c.in-Ok.ensures.heading c.in-Ok.ensures.sees);
       written = headed_out p.heading.bytes c.args.heading.bytes _ _ held (ap (λ h. h.bytes) c.in-Ok.ensures.heading) c.new-out.ensures.items c.in-Ok-extend_from_slice.ensures.items;
     }) in
     broken_marked p c.args.accepted.now c.args.name c.args.red c.args.heading bytes _ held _ c.turn_all-turned.new.conditioner c.in-Err.fault c.report.result c.in-Ok.ensures.accepted c.in-Ok.ensures.red c.in-Ok.ensures.heading

@@ -1,10 +1,14 @@
-use Rattle.std.proofs.Common.{◌≡◌, [], ◌∷◌, ◌++◌, if◌then◌else◌, is_ok, ap, refl, ◌∙◌}
-use Rattle.std.specs.Prelude.{max}
+use Rattle.std.proofs.Common.{◌<◌, ◌-◌, ◌^◌, ℕ, arith, ◌≡◌, [], ◌∷◌, ◌++◌, if◌then◌else◌, is_ok, ap, refl, ◌∙◌}
+use Rattle.std.specs.Prelude.{max, option_to_list}
+use Rattle.ds_visits_verdict.specs.Judging.{verdict_with}
 use Rattle.ds_conductor.specs.Conditionings.{see_at}
 use Rattle.ds_conductor.specs.Sendings.{counted_on}
 use Rattle.ds_conductor.specs.declared.conditioner.Held.{Held}
 use Rattle.ds_conductor.proofs.ConditionLaws.{seen}
 use Rattle.ds_conductor.proofs.conditioner.Conditioner.see.Goals as goal
+
+early_by : (told moment : ℕ) → told ≡ moment → told < 2 ^ 63 - 2 ^ 40 → moment < 2 ^ 63 - 2 ^ 40
+early_by told moment same early = omega (arith, same, early)
 
 pub returns-clause-seen : goal.returns-clause-seen
 returns-clause-seen c frames text was =
@@ -16,6 +20,8 @@ returns-clause-seen c frames text was =
     let pushed : c.push_back.new.self.items ≡ before ++ put ∷ [] =
     there ∙ ap (λ ok. if ok then before ++ put ∷ [] else before) (ap is_ok c.unwrap.ensures) in
     seen p frames text c.args.frame c.sight-sight.result c.later-moment.result c.packet_of-packet.result c.args.self.now _ was
-    (c.sight-sight.ensures ∙ ap (see_at p) c.bytes.ensures) (c.later-moment.ensures ∙ ap (max c.args.self.now.newest) c.moment.ensures) c.packet_of-packet.ensures
+    (c.sight-sight.ensures ∙ ap (see_at p) c.bytes.ensures) (c.later-moment.ensures ∙ ap (max c.args.self.now.newest) c.moment.ensures.value) c.packet_of-packet.ensures
     refl (c.add.ensures ∙ ap (λ d. counted_on d.counts c.sight-sight.result) rest) (ap (λ d. d.tallies) rest)
     (pushed ∙ ap (λ hs. hs ++ put ∷ []) (ap (λ d. d.held.items) rest ∙ c.in_ok-reserve.ensures.items)) c.in_ok-send.ensures.comes
+    (early_by c.moment.result c.args.frame.moment c.moment.ensures.value c.moment.ensures.early)
+    (λ back. c.note.ensures back ∙ ap (λ d. verdict_with d.judge (option_to_list c.packet_of-packet.result ++ back)) rest)
