@@ -300,7 +300,7 @@ fn expect_told(
 
 #[test]
 fn a_capture_over_its_envelope(rt: HostRuntime) -> Result<(), Fail> {
-    let small = accepted(rt.alloc(), SMALL, SMALL_LEAST)?;
+    let small = accepted(rt.alloc(), &[SMALL], SMALL_LEAST)?;
     expect_told(&rt, rt.alloc(), &small, &[HEADING, GREEN], Verdict::Kept)?;
     let over = over(Column::Green, 1);
     expect_told(&rt, rt.alloc(), &small, &[HEADING, GREEN, GREEN], over)
@@ -308,7 +308,7 @@ fn a_capture_over_its_envelope(rt: HostRuntime) -> Result<(), Fail> {
 
 #[test]
 fn a_capture_outside_its_contract(rt: HostRuntime) -> Result<(), Fail> {
-    let short = accepted(rt.alloc(), SHORT, SMALL_LEAST)?;
+    let short = accepted(rt.alloc(), &[SHORT], SMALL_LEAST)?;
     let outside = Verdict::OutsideContract { packet: 0 };
     expect_told(&rt, rt.alloc(), &short, &[HEADING, GREEN, GREEN], outside)
 }
