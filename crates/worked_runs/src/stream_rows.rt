@@ -1,3 +1,5 @@
+ghost use Rattle.std.specs.Prelude.{[]};
+
 use crate::captures::{HEADING, TAGGED, capture};
 use crate::mark_rows::narrow;
 use ds_conductor::{OpenGate, RedRule, mark};
