@@ -2,5 +2,6 @@ mod certificate_rows;
 mod checker_rows;
 mod domain_rows;
 mod excess_rows;
+mod greatest_rows;
 mod holding_rows;
 mod tables;

@@ -1,5 +1,5 @@
 use crate::rows::tables::contracts;
-use ds_certificate::{Bound, Bounds, Certificate, CertificateFault, make, read, write};
+use ds_certificate::{Bound, Bounds, Certificate, CertificateFault, fault_line, make, read, write};
 use ds_domain::{Contract, parse};
 use std::alloc::Global;
 use std::process::Abort;
@@ -91,6 +91,57 @@ fn bounds_above_their_range(rt: HostRuntime) -> Result<(), Fail> {
         "dscert 2\na 0 1 1 1000000000000001\n",
     ] {
         expect(&rt, rt.alloc(), text, CertificateFault::Range)?;
+    }
+    Ok(())
+}
+
+/// Two contracts, `a` over two meters and `b` over one.
+const TWO_CONTRACTS: &str = r#"
+meter = [
+    { name = "m", kind = "trtcm", cir = 24000000, cbs = 13500, pir = 24000000, pbs = 13500, skew = 0 },
+    { name = "n", kind = "trtcm", cir = 24000000, cbs = 13500, pir = 24000000, pbs = 13500, skew = 0 },
+]
+port = [{ name = "p", skew = 0 }]
+link = [{ from = "p", to = "m", floor = 0, jitter = 0 }, { from = "m", to = "n", floor = 0, jitter = 0 }]
+[[contract]]
+name = "a"
+kind = "trusted"
+port = "p"
+path = ["m", "n"]
+class = 1
+cir = 8000000
+cbs = 3000
+[[contract]]
+name = "b"
+kind = "trusted"
+port = "p"
+path = ["m"]
+class = 2
+cir = 8000000
+cbs = 3000
+"#;
+
+#[test]
+fn the_first_line_that_is_at_fault(rt: HostRuntime) -> Result<(), Fail> {
+    let contracts = contracts(rt.alloc(), TWO_CONTRACTS)?;
+    for (text, line) in [
+        ("", 1),
+        ("dscert 3\n", 1),
+        ("dscert 1\n", 2),
+        ("dscert 1\na 0 1 1\na 1 1 1", 4),
+        ("dscert 1\na 0 1 1\na 2 1 1\na 2 1 1\n", 3),
+        (
+            "dscert 1\na 0 1 1\na 1 1 1\na 2 1 1\nb 0 1 1000000000000001\n",
+            5,
+        ),
+        ("dscert 1\na 0 1 1\na 1 1 1\na 2 1 1\nb 0 1 1\nc 1 1 1\n", 6),
+        (
+            "dscert 1\na 0 1 1\na 1 1 1\na 2 1 1\nb 0 1 1\nb 1 1 1\n\n",
+            7,
+        ),
+    ] {
+        let found = fault_line(text.as_bytes(), contracts.as_slice());
+        assert_eq!(rt; found, line, "{text}");
     }
     Ok(())
 }
