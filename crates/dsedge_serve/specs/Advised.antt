@@ -10,8 +10,7 @@ use Rattle.dsedge_serve.specs.declared.advice.Advice.{Advice}
 use Rattle.dsedge_serve.specs.declared.advice.Advice.TheVariants as advices
 use Rattle.dsedge_serve.specs.declared.conclusion.Conclusion.{Conclusion}
 use Rattle.dsedge_serve.specs.declared.fault.Fault.{Fault}
-use Rattle.dsedge_serve.specs.declared.fault.Fault.TheVariants.{Usage, Line, Domain, Certificate, Capture, Port, File}
-use Rattle.dsedge_serve.specs.declared.fault.Fault.TheVariants.{Read, Write, Memory, Full}
+use Rattle.dsedge_serve.specs.declared.fault.Fault.TheVariants.{Usage, Certificate, Capture, File}
 use Rattle.dsedge_serve.specs.declared.notice.Notice.{Notice}
 use Rattle.dsedge_serve.specs.declared.notice.Notice.TheVariants as notices
 use Rattle.dsedge_serve.specs.declared.outcome.Outcome.{Outcome}
