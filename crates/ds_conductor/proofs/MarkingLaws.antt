@@ -12,7 +12,7 @@ use Rattle.run_audit.specs.Verdicts.{verdict_of}
 use Rattle.run_audit.specs.declared.verdict.Verdict.{Verdict}
 use Rattle.ds_visits_run.specs.Making.{run_behind}
 use Rattle.ds_checker.specs.Acceptance.{Table}
-use Rattle.ds_visits_base.specs.Passing.{colours_of}
+use Rattle.ds_visits.specs.Passing.{colours_of}
 use Rattle.ds_conductor.specs.Markings.{IsMarked, IsMarkedAs, IsMarkedBut, IsWhole, IsWholeSoFar, IsWholeWith, Marking, answer_of, is_read_whole, marking_behind, marking_in, marking_of, nothing_marked, see}
 use Rattle.ds_conductor.specs.Readings.{IsHeadingTold, IsReading, IsReadTo, heading_in, is_own}
 use Rattle.ds_conductor.specs.Conditionings.{see_at}

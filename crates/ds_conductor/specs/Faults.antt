@@ -13,13 +13,5 @@ code_of NoMemory = 4
 
 -- what is answered where a capture could not be read on
 abbrev pub fault_of : PcapFault → MarkFault
-fault_of pcaps.NotPcap = Capture pcaps.NotPcap
-fault_of pcaps.IsPcapng = Capture pcaps.IsPcapng
-fault_of pcaps.BadVersion = Capture pcaps.BadVersion
-fault_of (pcaps.LinkType number) = Capture (pcaps.LinkType number)
-fault_of (pcaps.RecordTooLong count) = Capture (pcaps.RecordTooLong count)
-fault_of pcaps.Truncated = Capture pcaps.Truncated
-fault_of pcaps.ReadFault = Capture pcaps.ReadFault
-fault_of pcaps.WriteFault = Capture pcaps.WriteFault
 fault_of pcaps.NoMemory = NoMemory
-fault_of pcaps.Failed = Capture pcaps.Failed
+fault_of fault = Capture fault

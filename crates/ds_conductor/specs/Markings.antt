@@ -17,9 +17,9 @@ use Rattle.run_audit.specs.declared.verdict.Verdict.{Verdict}
 use Rattle.run_audit.specs.declared.verdict.Verdict.TheVariants.{Kept}
 use Rattle.frame_marker.specs.Sights.{sight_of}
 use Rattle.frame_marker.specs.declared.sight.Sight.{Sight}
-use Rattle.ds_visits_base.specs.Passing.{colours_of}
+use Rattle.ds_visits.specs.Passing.{colours_of}
 use Rattle.ds_visits_run.specs.Making.{run_behind}
-use Rattle.ds_visits_base.specs.declared.sent.Sent.{Sent}
+use Rattle.ds_visits.specs.declared.sent.Sent.{Sent}
 use Rattle.ds_conductor.specs.Reports.{nothing_read, report_of, with_verdict}
 use Rattle.ds_conductor.specs.Sendings.{sent_of}
 use Rattle.ds_conductor.specs.Texts.{text_from}
@@ -110,23 +110,11 @@ pub record IsWholeWith (marked : List ℕ → Marking) (bytes before after : Lis
 
 -- what was written, by the fault of the capture that came
 abbrev pub IsMarkedBut : (List ℕ → Marking) → List ℕ → List ℕ → List ℕ → List ℕ → Report → PcapFault → Type 0
-IsMarkedBut marked bytes more before after report pcaps.NotPcap =
-    IsWholeWith marked bytes before after report (Some pcaps.NotPcap)
-IsMarkedBut marked bytes more before after report pcaps.IsPcapng =
-    IsWholeWith marked bytes before after report (Some pcaps.IsPcapng)
-IsMarkedBut marked bytes more before after report pcaps.BadVersion =
-    IsWholeWith marked bytes before after report (Some pcaps.BadVersion)
-IsMarkedBut marked bytes more before after report (pcaps.LinkType number) =
-    IsWholeWith marked bytes before after report (Some (pcaps.LinkType number))
-IsMarkedBut marked bytes more before after report (pcaps.RecordTooLong count) =
-    IsWholeWith marked bytes before after report (Some (pcaps.RecordTooLong count))
-IsMarkedBut marked bytes more before after report pcaps.Truncated =
-    IsWholeWith marked bytes before after report (Some pcaps.Truncated)
 IsMarkedBut marked bytes more before after report pcaps.ReadFault = IsWholeSoFar marked bytes more before after report
 IsMarkedBut marked bytes more before after report pcaps.WriteFault = IsCutOff marked bytes more before after report
 IsMarkedBut marked bytes more before after report pcaps.NoMemory = ⊥
-IsMarkedBut marked bytes more before after report pcaps.Failed =
-    IsWholeWith marked bytes before after report (Some pcaps.Failed)
+IsMarkedBut marked bytes more before after report fault =
+    IsWholeWith marked bytes before after report (Some fault)
 
 -- What was written behind what stood, and what is answered, for the bytes that a device had and those that it still
 -- has: all of the marked capture, up to its end, with the verdict on the run behind it, or to the first fault that
@@ -157,48 +145,26 @@ IsMarked t port red bytes more before after answer =
 
 -- whether the marked capture could not be written
 abbrev pub is_unwritten : Result Report (Report × MarkFault) → Bool
-is_unwritten (Ok report) = false
 is_unwritten (Err (report, marks.Capture fault)) = is_write fault
-is_unwritten (Err (report, marks.UnknownPort)) = false
-is_unwritten (Err (report, marks.JournalFull)) = false
-is_unwritten (Err (report, marks.NoMemory)) = false
+is_unwritten _ = false
 
 abbrev pub is_read : PcapFault → Bool
-is_read pcaps.NotPcap = false
-is_read pcaps.IsPcapng = false
-is_read pcaps.BadVersion = false
-is_read (pcaps.LinkType number) = false
-is_read (pcaps.RecordTooLong count) = false
-is_read pcaps.Truncated = false
 is_read pcaps.ReadFault = true
-is_read pcaps.WriteFault = false
-is_read pcaps.NoMemory = false
-is_read pcaps.Failed = false
+is_read _ = false
 
 -- whether the capture could not be read
 abbrev pub is_unread : Result Report (Report × MarkFault) → Bool
-is_unread (Ok report) = false
 is_unread (Err (report, marks.Capture fault)) = is_read fault
-is_unread (Err (report, marks.UnknownPort)) = false
-is_unread (Err (report, marks.JournalFull)) = false
-is_unread (Err (report, marks.NoMemory)) = false
+is_unread _ = false
 
 -- whether the capture was read to its end, or to a fault that stands in it, and then marked whole
 abbrev pub is_read_whole : Result Report (Report × MarkFault) → Bool
-is_read_whole (Ok report) = true
-is_read_whole (Err (report, marks.Capture pcaps.NotPcap)) = true
-is_read_whole (Err (report, marks.Capture pcaps.IsPcapng)) = true
-is_read_whole (Err (report, marks.Capture pcaps.BadVersion)) = true
-is_read_whole (Err (report, marks.Capture (pcaps.LinkType number))) = true
-is_read_whole (Err (report, marks.Capture (pcaps.RecordTooLong count))) = true
-is_read_whole (Err (report, marks.Capture pcaps.Truncated)) = true
 is_read_whole (Err (report, marks.Capture pcaps.ReadFault)) = false
 is_read_whole (Err (report, marks.Capture pcaps.WriteFault)) = false
 is_read_whole (Err (report, marks.Capture pcaps.NoMemory)) = false
-is_read_whole (Err (report, marks.Capture pcaps.Failed)) = true
-is_read_whole (Err (report, marks.UnknownPort)) = true
 is_read_whole (Err (report, marks.JournalFull)) = false
 is_read_whole (Err (report, marks.NoMemory)) = false
+is_read_whole _ = true
 
 -- A read fault is answered only where the device failed once, or was asked 2^32 times; a capture that was read whole
 -- comes from a device that did not fail.

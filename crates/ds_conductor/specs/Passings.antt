@@ -7,7 +7,7 @@ use Rattle.pcap_capture.specs.declared.fault.PcapFault.{PcapFault}
 use Rattle.pcap_capture.specs.declared.fault.PcapFault.TheVariants as pcaps
 use Rattle.meter_fabric_base.specs.Grounds.{ground_of}
 use Rattle.run_audit.specs.Verdicts.{verdict_of}
-use Rattle.ds_visits_base.specs.Passing.{colours_of}
+use Rattle.ds_visits.specs.Passing.{colours_of}
 use Rattle.ds_visits_run.specs.Making.{run_behind}
 use Rattle.ds_conductor.specs.Conditionings.{IsConditioned, see_at}
 use Rattle.ds_conductor.specs.Markings.{IsWhole, Marking, answer_of, is_read}

@@ -1,8 +1,8 @@
 ghost use Rattle.std.specs.Prelude.{◌≡◌, ℕ, ◌+◌, ◌-◌, ◌<◌, ◌≤◌, ◌^◌, Bool, true, false, List, [], ◌∷◌, ◌++◌, length};
 ghost use Rattle.std.specs.Prelude.{zip, option_to_list, IfNone, IfOk, IfSome, MatchOption, MatchResult, max, OnErr, OnOk, OnSome};
 ghost use Rattle.pcap_capture.specs.Frames.{FrameValue};
-ghost use Rattle.ds_visits_base.specs.Passing.{colours_of};
-ghost use Rattle.ds_visits_base.specs.Streams.{colours_left, decided, next_place};
+ghost use Rattle.ds_visits.specs.Passing.{colours_of};
+ghost use Rattle.ds_visits.specs.Streams.{colours_left, decided, next_place};
 ghost use Rattle.ds_conductor.specs.Conditionings.{IsBounded, IsConditioned, IsSeeing, IsUndecided, see_at};
 ghost use Rattle.ds_visits_verdict.specs.Judging.{verdict_with};
 ghost use Rattle.ds_conductor.specs.Reports.{report_of};
@@ -11,7 +11,7 @@ ghost use Rattle.std.specs.VecDeque.{deque_capacity, deque_len};
 ghost use Rattle.ds_conductor.specs.Texts.{record_text};
 ghost use Rattle.ds_conductor.specs.declared.port.Port.{Port};
 ghost use Rattle.ds_conductor.specs.Tallies.{grown_all};
-ghost use Rattle.ds_visits_base.specs.declared.sent.Sent.{Sent};
+ghost use Rattle.ds_visits.specs.declared.sent.Sent.{Sent};
 
 use crate::port::Port;
 use crate::report::Report;

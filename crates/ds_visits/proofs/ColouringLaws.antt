@@ -8,13 +8,13 @@ use Rattle.std.proofs.lemmas.Option.{none-some}
 use Rattle.moment_core.specs.declared.colour.Colour.{Colour}
 use Rattle.run_audit.specs.Orders.{in_order}
 use Rattle.ds_checker.specs.Acceptance.{Table}
-use Rattle.ds_visits_base.proofs.PassLaws.{passed_all-count, passed_all-first}
-use Rattle.ds_visits_base.proofs.StreamLaws.{all_come}
-use Rattle.ds_visits_base.specs.Passing.{Carried, came_in, colours_of, passed_all}
-use Rattle.ds_visits_base.specs.Streams.{AreSentFrom, Stream, begun, colours_left, decided, decided_by, due, made_due, next_place, rise_from, with_sent}
-use Rattle.ds_visits_base.specs.Visits.{visits_from}
-use Rattle.ds_visits_base.specs.declared.sent.Sent.{Sent}
-use Rattle.ds_visits_base.specs.declared.visit.Visit.{Visit}
+use Rattle.ds_visits.proofs.PassLaws.{passed_all-count, passed_all-first}
+use Rattle.ds_visits.proofs.StreamLaws.{all_come}
+use Rattle.ds_visits.specs.Passing.{Carried, came_in, colours_of, passed_all}
+use Rattle.ds_visits.specs.Streams.{AreSentFrom, Stream, begun, colours_left, decided, decided_by, due, made_due, next_place, rise_from, with_sent}
+use Rattle.ds_visits.specs.Visits.{visits_from}
+use Rattle.ds_visits.specs.declared.sent.Sent.{Sent}
+use Rattle.ds_visits.specs.declared.visit.Visit.{Visit}
 
 -- before the first packet
 pub sent_first : (t : Table) (sent : List Sent) (u : Stream) → u ≡ begun t → colours_left u sent ≡ colours_of t sent

@@ -9,10 +9,10 @@ use Rattle.std.proofs.lemmas.List.Elements.{All-head, All-tail}
 use Rattle.std.proofs.lemmas.List.Sorted.{sum_by-IsPermutation}
 use Rattle.std.proofs.lemmas.List.Sums.{sum_by-append}
 use Rattle.ds_visits.specs.Kept.{AreCounted}
-use Rattle.ds_visits_base.specs.Visits.{visit_to}
-use Rattle.ds_visits_base.specs.declared.sent.Sent.{Sent}
-use Rattle.ds_visits_base.specs.declared.visit.Visit.{Visit}
-use Rattle.ds_visits_base.specs.declared.way.Stop.{Stop}
+use Rattle.ds_visits.specs.Visits.{visit_to}
+use Rattle.ds_visits.specs.declared.sent.Sent.{Sent}
+use Rattle.ds_visits.specs.declared.visit.Visit.{Visit}
+use Rattle.ds_visits.specs.declared.way.Stop.{Stop}
 
 -- ---- counts
 

@@ -1,5 +1,14 @@
--- Lemmas for the proofs of this crate.
+-- Lemmas for the proofs of this crate and of those above it.
+pub mod ApartLaws
 pub mod ColouringLaws
 pub mod CountLaws
+pub mod InOrderLaws
+pub mod JoinLaws
 pub mod PacketLaws
+pub mod PassLaws
+pub mod QueueLaws
+pub mod StopLaws
+pub mod StreamLaws
 pub mod UnderWayLaws
+pub mod VisitLaws
+pub mod WayLaws

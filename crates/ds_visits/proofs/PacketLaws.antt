@@ -4,11 +4,11 @@ use Rattle.std.specs.Prelude.{option_map, slice_get, slice_index, slice_set}
 use Rattle.std.proofs.lemmas.Option.{slice_get-map, slice_get_read}
 use Rattle.moment_core.specs.declared.colour.Colour.{Colour}
 use Rattle.meter_book_base.specs.declared.any_meter.AnyMeter.{AnyMeter}
-use Rattle.ds_visits_base.proofs.PassLaws.{map_set, passed_found}
+use Rattle.ds_visits.proofs.PassLaws.{map_set, passed_found}
 use Rattle.ds_visits.specs.Packets.{carried_in, carried_of, lefts_of}
-use Rattle.ds_visits_base.specs.Passing.{Carried, Traffic, met, meter_in, passed}
+use Rattle.ds_visits.specs.Passing.{Carried, Traffic, met, meter_in, passed}
 use Rattle.ds_visits.specs.declared.passing.OnTheWay.{OnTheWay}
-use Rattle.ds_visits_base.specs.declared.visit.Visit.{Visit}
+use Rattle.ds_visits.specs.declared.visit.Visit.{Visit}
 
 module _ (meters : List (Option AnyMeter)) (first : ℕ) (packets : List OnTheWay) (v : Visit) (q : OnTheWay) (short : v.place - first < length packets)
     (is : q ≡ get_or packets (v.place - first) q) where

@@ -11,17 +11,17 @@ use Rattle.run_audit.specs.Orders.{in_order}
 use Rattle.run_audit.proofs.OrderLaws.{in_order-permutes}
 use Rattle.ds_checker.specs.Acceptance.{Table}
 use Rattle.ds_visits.proofs.CountLaws.{counted_behind, counted_first, counted_left, counted_made, counted_sent}
-use Rattle.ds_visits_base.proofs.StreamLaws.{handed_comes, handed_stream, made_more, made_stream, own_apart, sent_comes, sent_stream}
+use Rattle.ds_visits.proofs.StreamLaws.{handed_comes, handed_stream, made_more, made_stream, own_apart, sent_comes, sent_stream}
 use Rattle.ds_visits.specs.Kept.{AreCounted}
-use Rattle.ds_visits_base.specs.Streams.{IsAmong, IsStream, Stream, colours_left, decided, decided_by, handed, handed_by, made_due, with_sent}
+use Rattle.ds_visits.specs.Streams.{IsAmong, IsStream, Stream, colours_left, decided, decided_by, handed, handed_by, made_due, with_sent}
 use Rattle.ds_visits.specs.Packets.{carried_in, carried_of, lefts_of}
-use Rattle.ds_visits_base.specs.Passing.{Carried, Traffic, came_in, came_of, passed}
-use Rattle.ds_visits_base.specs.Visits.{is_before, is_same, visit_to}
-use Rattle.ds_visits_base.specs.Ways.{stops_at}
+use Rattle.ds_visits.specs.Passing.{Carried, Traffic, came_in, came_of, passed}
+use Rattle.ds_visits.specs.Visits.{is_before, is_same, visit_to}
+use Rattle.ds_visits.specs.Ways.{stops_at}
 use Rattle.ds_visits.specs.declared.passing.OnTheWay.{OnTheWay}
-use Rattle.ds_visits_base.specs.declared.sent.Sent.{Sent}
-use Rattle.ds_visits_base.specs.declared.visit.Visit.{Visit}
-use Rattle.ds_visits_base.specs.declared.way.Stop.{Stop}
+use Rattle.ds_visits.specs.declared.sent.Sent.{Sent}
+use Rattle.ds_visits.specs.declared.visit.Visit.{Visit}
+use Rattle.ds_visits.specs.declared.way.Stop.{Stop}
 
 abbrev pub stream : Table → List (Option AnyMeter) → ℕ → List OnTheWay → List Visit → Stream
 stream t meters first packets waiting = record { table = t; traffic = record { meters = meters; first = first; packets = carried_in packets }; waiting = waiting }

@@ -1,10 +1,10 @@
 -- What the fields of packets under way stand for, and what they keep.
 use Rattle.std.specs.Prelude.{◌≡◌, ℕ, ◌+◌, ◌<◌, ◌^◌, nat_eq, List, length, count_by, slice_index}
 use Rattle.ds_visits.specs.Packets.{carried_in, lefts_of}
-use Rattle.ds_visits_base.specs.Streams.{IsStream, Stream}
-use Rattle.ds_visits_base.specs.Ways.{AreWays}
+use Rattle.ds_visits.specs.Streams.{IsStream, Stream}
+use Rattle.ds_visits.specs.Ways.{AreWays}
 use Rattle.ds_visits.specs.declared.under_way.UnderWay.TheInside as streams
-use Rattle.ds_visits_base.specs.declared.visit.Visit.{Visit}
+use Rattle.ds_visits.specs.declared.visit.Visit.{Visit}
 
 abbrev pub stream_of : streams.Inside → Stream
 stream_of u = record {

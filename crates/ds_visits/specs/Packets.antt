@@ -1,6 +1,6 @@
 -- Packets as they are kept on their way.
 use Rattle.std.specs.Prelude.{ℕ, List, map}
-use Rattle.ds_visits_base.specs.Passing.{Carried}
+use Rattle.ds_visits.specs.Passing.{Carried}
 use Rattle.ds_visits.specs.declared.passing.OnTheWay.{OnTheWay}
 
 abbrev pub carried_of : OnTheWay → Carried

@@ -1,12 +1,12 @@
 ghost use Rattle.std.specs.Prelude.{◌≡◌, ◌++◌, true, List, None, IfOk, OnOk};
-ghost use Rattle.ds_visits_base.specs.Passing.{came_of, colours_of};
-ghost use Rattle.ds_visits_base.specs.Streams.{AreSentFrom, colours_left, decided, next_place, rise_from};
-ghost use Rattle.ds_visits_base.specs.declared.sent.Sent.{Sent};
+ghost use Rattle.ds_visits.specs.Passing.{came_of, colours_of};
+ghost use Rattle.ds_visits.specs.Streams.{AreSentFrom, colours_left, decided, next_place, rise_from};
+ghost use Rattle.ds_visits.specs.declared.sent.Sent.{Sent};
 
 use crate::gate::Gate;
+use crate::sent::Sent;
 use crate::under_way::UnderWay;
 use ds_checker::Accepted;
-use ds_visits_base::Sent;
 use meter_fabric_base::contract_of;
 use moment_core::{Colour, Moment};
 use std::alloc::{AllocError, Global};

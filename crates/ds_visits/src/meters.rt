@@ -1,7 +1,7 @@
 ghost use Rattle.std.specs.Prelude.{◌≡◌, IfOk, map};
 ghost use Rattle.std.specs.List.{range_with_len};
 ghost use Rattle.meter_fabric_base.specs.Openings.{site_count};
-ghost use Rattle.ds_visits_base.specs.Passing.{meter_at};
+ghost use Rattle.ds_visits.specs.Passing.{meter_at};
 
 use ds_checker::Accepted;
 use meter_book_base::AnyMeter;

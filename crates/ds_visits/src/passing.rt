@@ -1,8 +1,8 @@
 ghost use Rattle.std.specs.Prelude.{◌≡◌, ◌-◌, ◌<◌, ◌≤◌, length, slice_index, slice_set};
 ghost use Rattle.ds_visits.specs.Packets.{carried_in, carried_of, lefts_of};
-ghost use Rattle.ds_visits_base.specs.Passing.{met, meter_in, passed};
+ghost use Rattle.ds_visits.specs.Passing.{met, meter_in, passed};
 
-use ds_visits_base::Visit;
+use crate::visit::Visit;
 use meter_book_base::AnyMeter;
 use moment_core::{Colour, PacketSize};
 use std::collections::VecDeque;

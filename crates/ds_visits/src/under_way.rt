@@ -1,20 +1,21 @@
 ghost use Rattle.std.specs.Prelude.{◌≡◌, ◌+◌, ◌-◌, ◌<◌, ◌^◌, ◌++◌, [], ◌∷◌, List, IfOk, OnErr, OnOk, option_to_list};
-ghost use Rattle.ds_visits_base.specs.Streams.{AreSentFrom, begun, colours_left, decided, handed, made_due, next_place};
-ghost use Rattle.ds_visits_base.specs.Streams.{with_sent};
-ghost use Rattle.ds_visits_base.specs.declared.sent.Sent.{Sent};
+ghost use Rattle.ds_visits.specs.Streams.{AreSentFrom, begun, colours_left, decided, handed, made_due, next_place};
+ghost use Rattle.ds_visits.specs.Streams.{with_sent};
+ghost use Rattle.ds_visits.specs.declared.sent.Sent.{Sent};
 
 use crate::colouring::came;
 use crate::gate::Gate;
 use crate::meters::opened_meters;
 use crate::passing::{OnTheWay, pass};
+use crate::queue::VisitQueue;
+use crate::sent::Sent;
+use crate::way::{Way, all_ways, stops_at};
 use ds_checker::Accepted;
-use ds_visits_base::{Sent, Way, all_ways, stops_at};
 use meter_book_base::AnyMeter;
 use moment_core::{Colour, Moment};
 use std::alloc::{AllocError, Global};
 use std::collections::VecDeque;
 use std::marker::Model;
-use visit_queue::VisitQueue;
 
 /// Packets under way through a domain, where each link takes its floor: those that were sent and whose colours were not
 /// handed out, and the visits that they still make. It holds one meter a site, and nothing of what was handed out.
@@ -30,7 +31,7 @@ pub struct UnderWay<'a> {
 }
 
 impl<'a> Model for UnderWay<'a> {
-    ghost use Rattle.ds_visits_base.specs.Streams.{Stream};
+    ghost use Rattle.ds_visits.specs.Streams.{Stream};
 
     ghost Value = { Stream };
 

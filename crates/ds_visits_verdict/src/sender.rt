@@ -9,7 +9,7 @@ use crate::watch::Watch;
 use ds_certificate::Source;
 use ds_checker::Accepted;
 use ds_domain_base::{Contract, Terms};
-use ds_visits_base::Sent;
+use ds_visits::Sent;
 use meter_fabric_base::flows_of;
 use moment_core::{Colour, Column};
 use run_audit::Verdict;

@@ -10,8 +10,7 @@ use Rattle.dsedge_serve.specs.declared.advice.Advice.{Advice}
 use Rattle.dsedge_serve.specs.declared.advice.Advice.TheVariants as advices
 use Rattle.dsedge_serve.specs.declared.conclusion.Conclusion.{Conclusion}
 use Rattle.dsedge_serve.specs.declared.fault.Fault.{Fault}
-use Rattle.dsedge_serve.specs.declared.fault.Fault.TheVariants.{Usage, Line, Domain, Certificate, Capture, Port, File}
-use Rattle.dsedge_serve.specs.declared.fault.Fault.TheVariants.{Read, Write, Memory, Full}
+use Rattle.dsedge_serve.specs.declared.fault.Fault.TheVariants.{Usage, Certificate, Capture, File}
 use Rattle.dsedge_serve.specs.declared.notice.Notice.{Notice}
 use Rattle.dsedge_serve.specs.declared.notice.Notice.TheVariants as notices
 use Rattle.dsedge_serve.specs.declared.outcome.Outcome.{Outcome}
@@ -20,15 +19,7 @@ use Rattle.dsedge_serve.specs.declared.outcome.Outcome.TheVariants.{Answered, Ma
 -- a pcapng capture can be converted
 abbrev pub advice_of_capture : PcapFault → Option Advice
 advice_of_capture pcaps.IsPcapng = Some advices.Pcapng
-advice_of_capture pcaps.NotPcap = None
-advice_of_capture pcaps.BadVersion = None
-advice_of_capture (pcaps.LinkType number) = None
-advice_of_capture (pcaps.RecordTooLong count) = None
-advice_of_capture pcaps.Truncated = None
-advice_of_capture pcaps.ReadFault = None
-advice_of_capture pcaps.WriteFault = None
-advice_of_capture pcaps.NoMemory = None
-advice_of_capture pcaps.Failed = None
+advice_of_capture _ = None
 
 -- which word is wrong, why a file cannot be read, which line of a certificate is at fault, how a capture is converted
 abbrev pub advice_on : Fault → Option Advice
@@ -36,13 +27,7 @@ advice_on Usage = Some advices.Words
 advice_on (File name reason) = Some (advices.File reason)
 advice_on (Certificate place) = Some (advices.Certificate place)
 advice_on (Capture fault) = advice_of_capture fault
-advice_on (Line number) = None
-advice_on (Domain fault) = None
-advice_on (Port name) = None
-advice_on Read = None
-advice_on Write = None
-advice_on Memory = None
-advice_on Full = None
+advice_on _ = None
 
 abbrev pub advice_behind : Notice → Option Advice
 advice_behind (notices.Fault fault) = advice_on fault

@@ -58,16 +58,10 @@ report_text r = counts_text r ++ colours_text r
 
 -- what is told of a fault of a capture: a device's by its own line, the others by their number and kind
 abbrev pub capture_fault : PcapFault → Fault
-capture_fault pcaps.NotPcap = faults.Capture pcaps.NotPcap
-capture_fault pcaps.IsPcapng = faults.Capture pcaps.IsPcapng
-capture_fault pcaps.BadVersion = faults.Capture pcaps.BadVersion
-capture_fault (pcaps.LinkType number) = faults.Capture (pcaps.LinkType number)
-capture_fault (pcaps.RecordTooLong count) = faults.Capture (pcaps.RecordTooLong count)
-capture_fault pcaps.Truncated = faults.Capture pcaps.Truncated
 capture_fault pcaps.ReadFault = faults.Read
 capture_fault pcaps.WriteFault = faults.Write
 capture_fault pcaps.NoMemory = faults.Memory
-capture_fault pcaps.Failed = faults.Capture pcaps.Failed
+capture_fault fault = faults.Capture fault
 
 -- what is told where a capture was not marked to its end at the port of a name
 abbrev pub marking_fault : List ℕ → MarkFault → Fault

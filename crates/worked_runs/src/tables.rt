@@ -7,17 +7,11 @@ use std::test::Fail;
 use trtcm_core::TrTcmParameters;
 use worked_texts::over_way;
 
-/// The table that a domain text says with a certificate text.
-pub fn table_of(alloc: Global, domain: &str, certificate: &str) -> Result<Accepted, Fail> {
-    accept(alloc, domain.as_bytes(), certificate.as_bytes()).map_err(|_| Fail::from(
-        "no acceptable table",
-    ))
-}
-
 /// The table that a domain text of one way and one contract says with a certificate text.
 pub fn accepted(alloc: Global, contract: &[&str], certificate: &str) -> Result<Accepted, Fail> {
     let domain = over_way(alloc, contract)?;
-    table_of(alloc, domain.as_str(), certificate)
+    let accepted = accept(alloc, domain.as_bytes(), certificate.as_bytes());
+    accepted.map_err(|_| Fail::from("no acceptable table"))
 }
 
 /// A meter of a committed and a peak rate with their bursts, opened at moment 0.

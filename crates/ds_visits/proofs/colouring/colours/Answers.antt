@@ -1,6 +1,6 @@
 use Rattle.std.proofs.Common.{◌+◌, ◌++◌, [], ap, drop, sym, ◌∙◌}
-use Rattle.ds_visits_base.specs.Passing.{colours_of}
-use Rattle.ds_visits_base.specs.Streams.{colours_left, next_place}
+use Rattle.ds_visits.specs.Passing.{colours_of}
+use Rattle.ds_visits.specs.Streams.{colours_left, next_place}
 use Rattle.ds_visits.proofs.ColouringLaws.{handed_out, rises_from, sent_ended, sent_first, sent_here, sent_place}
 use Rattle.ds_visits.proofs.colouring.colours.Goals as goal
 

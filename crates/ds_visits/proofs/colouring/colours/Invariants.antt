@@ -1,6 +1,6 @@
 use Rattle.std.proofs.Common.{◌≡◌, ◌++◌, drop}
-use Rattle.ds_visits_base.specs.Passing.{colours_of}
-use Rattle.ds_visits_base.specs.Streams.{colours_left, next_place}
+use Rattle.ds_visits.specs.Passing.{colours_of}
+use Rattle.ds_visits.specs.Streams.{colours_left, next_place}
 use Rattle.ds_visits.proofs.colouring.colours.Given as goal
 
 -- the colours that were handed out, and those that come of the packets that are left, are all

@@ -1,6 +1,6 @@
 use Rattle.std.proofs.Common.{◌≡◌, ◌++◌, List, length}
-use Rattle.ds_visits_base.specs.Streams.{colours_left, next_place}
-use Rattle.ds_visits_base.specs.declared.sent.Sent.{Sent}
+use Rattle.ds_visits.specs.Streams.{colours_left, next_place}
+use Rattle.ds_visits.specs.declared.sent.Sent.{Sent}
 use Rattle.ds_visits.proofs.colouring.hand_out.Given as goal
 
 -- the colours that were handed out, and those that are left, are what they were

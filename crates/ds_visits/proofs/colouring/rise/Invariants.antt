@@ -1,5 +1,5 @@
 use Rattle.std.proofs.Common.{◌≡◌, drop}
-use Rattle.ds_visits_base.specs.Streams.{rise_from}
+use Rattle.ds_visits.specs.Streams.{rise_from}
 use Rattle.ds_visits.proofs.colouring.rise.Given as goal
 
 -- the packets that are left rise from the newest where all do

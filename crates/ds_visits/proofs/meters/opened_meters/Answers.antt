@@ -1,7 +1,7 @@
 use Rattle.std.proofs.Common.{◌≡◌, ◌+◌, ◌++◌, ◌∷◌, [], ap, map, sym, ◌∙◌, arith}
 use Rattle.std.specs.List.{range_with_len}
 use Rattle.std.proofs.lemmas.List.FromFn.{map-range_with_len_more}
-use Rattle.ds_visits_base.specs.Passing.{meter_at}
+use Rattle.ds_visits.specs.Passing.{meter_at}
 use Rattle.ds_visits.proofs.meters.opened_meters.Goals as goal
 
 pub loop-site-preserved : goal.loop-site-preserved

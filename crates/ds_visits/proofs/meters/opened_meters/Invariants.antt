@@ -1,6 +1,6 @@
 use Rattle.std.proofs.Common.{◌≡◌, map}
 use Rattle.std.specs.List.{range_with_len}
-use Rattle.ds_visits_base.specs.Passing.{meter_at}
+use Rattle.ds_visits.specs.Passing.{meter_at}
 use Rattle.ds_visits.proofs.meters.opened_meters.Given as goal
 
 -- the meters of the sites up to here

@@ -1,5 +1,5 @@
 use Rattle.std.proofs.Common.{◌≡◌, ap, length, sym, ◌∙◌, arith}
-use Rattle.ds_visits_base.specs.Streams.{colours_left, decided, handed, handed_by}
+use Rattle.ds_visits.specs.Streams.{colours_left, decided, handed, handed_by}
 use Rattle.ds_visits.proofs.UnderWayLaws.{first_is, handed_all, handed_colour, handed_counted, handed_is, handed_told, not_yet}
 use Rattle.ds_visits.proofs.under_way.UnderWay.decided.Goals as goal
 

@@ -1,7 +1,7 @@
 use Rattle.std.proofs.Common.{◌≡◌, ◌-◌, ◌^◌, ap, sym, ◌∙◌}
 use Rattle.std.proofs.lemmas.Result.{OkIff-at_ok}
-use Rattle.ds_visits_base.specs.Streams.{late}
-use Rattle.ds_visits_base.proofs.StreamLaws.{late_none}
+use Rattle.ds_visits.specs.Streams.{late}
+use Rattle.ds_visits.proofs.StreamLaws.{late_none}
 use Rattle.ds_visits.proofs.under_way.UnderWay.make_all.Goals as goal
 
 pub returns-clause-none_left : goal.returns-clause-none_left

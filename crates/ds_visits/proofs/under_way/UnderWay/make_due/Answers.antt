@@ -1,8 +1,8 @@
 use Rattle.std.proofs.Common.{◌≡◌, ◌<◌, ◌^◌, ap, length, subst, ◌∙◌, sym, arith}
 use Rattle.std.specs.List.{All}
 use Rattle.ds_visits.specs.Kept.{stream_of}
-use Rattle.ds_visits_base.specs.Streams.{IsStream, colours_left, made_due}
-use Rattle.ds_visits_base.proofs.StreamLaws.{made_comes, made_none}
+use Rattle.ds_visits.specs.Streams.{IsStream, colours_left, made_due}
+use Rattle.ds_visits.proofs.StreamLaws.{made_comes, made_none}
 use Rattle.ds_visits.proofs.UnderWayLaws.{made_count, made_counted, made_from, made_is, made_left, made_same, made_within, stream}
 use Rattle.ds_visits.proofs.under_way.UnderWay.make_due.Goals as goal
 

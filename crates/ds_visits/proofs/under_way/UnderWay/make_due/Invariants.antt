@@ -1,6 +1,6 @@
 use Rattle.std.proofs.Common.{◌≡◌, length}
 use Rattle.ds_visits.specs.Kept.{IsUnderWay, stream_of}
-use Rattle.ds_visits_base.specs.Streams.{made_due}
+use Rattle.ds_visits.specs.Streams.{made_due}
 use Rattle.ds_visits.proofs.under_way.UnderWay.make_due.Given as goal
 
 -- what comes of making what is left is what comes of making all

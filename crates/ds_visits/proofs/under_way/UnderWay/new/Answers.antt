@@ -1,7 +1,7 @@
 use Rattle.std.proofs.Common.{ap, arith, length}
 use Rattle.ds_visits.specs.Packets.{carried_in, lefts_of}
 use Rattle.ds_visits.proofs.CountLaws.{counted_none}
-use Rattle.ds_visits_base.proofs.StreamLaws.{begun_stream}
+use Rattle.ds_visits.proofs.StreamLaws.{begun_stream}
 use Rattle.ds_visits.proofs.under_way.UnderWay.new.Goals as goal
 
 pub invariant_of-result : goal.invariant_of-result

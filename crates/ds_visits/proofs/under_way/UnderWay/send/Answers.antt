@@ -1,6 +1,6 @@
 use Rattle.std.proofs.Common.{◌≡◌, ◌+◌, ◌++◌, ◌∷◌, [], ap, length, refl, ◌∙◌, arith}
 use Rattle.std.specs.Prelude.{is_ok, if◌then◌else◌}
-use Rattle.ds_visits_base.specs.Streams.{colours_left, next_place}
+use Rattle.ds_visits.specs.Streams.{colours_left, next_place}
 use Rattle.ds_visits.proofs.UnderWayLaws.{length-carried, own_stops, sent_all, sent_apart, sent_count, sent_counted, sent_is}
 use Rattle.ds_visits.specs.declared.passing.OnTheWay.{OnTheWay}
 use Rattle.ds_visits.proofs.under_way.UnderWay.send.Goals as goal

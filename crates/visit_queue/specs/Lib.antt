@@ -1,3 +1,0 @@
--- A queue of visits.
-pub mod Kept
-pub mod Waits
