@@ -8,11 +8,11 @@ use std::alloc::{AllocError, Global};
 /// A step of a packet's way through a domain.
 #[derive(Clone, Copy, Debug, PartialEq, Eq, Hash)]
 pub struct Hop {
-    /// How many meters of its path the packet has passed: 0 at the edge, from 1 on inside the domain.
-    pub number: u8,
     /// The number of the site: a meter's place among the domain's meters, or behind them all the number of the contract
     /// whose edge it is.
     pub site: u32,
+    /// How many meters of its path the packet has passed: 0 at the edge, from 1 on inside the domain.
+    pub number: u8,
 }
 
 /// The hops of the packets of a contract: its edge where it is policed, then the meters of its path; `AllocError` where

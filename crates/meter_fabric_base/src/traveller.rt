@@ -28,8 +28,8 @@ use std::marker::Model;
 #[derive(Debug, Drop)]
 pub struct Traveller {
     trail: Trail,
-    came: Colour,
     hops: Vec<Hop>,
+    came: Colour,
 }
 
 impl Model for Traveller {
