@@ -1,0 +1,2 @@
+-- Lemmas on masks.
+pub mod MaskLaws

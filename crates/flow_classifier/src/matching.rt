@@ -1,19 +1,9 @@
 ghost use Rattle.std.specs.Prelude.{◌≡◌, nat_le, ◌&&◌};
-ghost use Rattle.flow_classifier.specs.Matching.{addresses_hold, first_match_of, holds, is_in_prefix, numbers_hold};
-ghost use Rattle.flow_classifier.specs.Matching.{ports_hold};
+ghost use Rattle.flow_classifier.specs.Matching.{addresses_hold, first_match_of, holds, holds_where_given};
+ghost use Rattle.flow_classifier.specs.Matching.{is_in_prefix, numbers_hold, ports_hold};
 
 use crate::key::Key;
 use crate::rule::{PortRange, Prefix, Rule};
-
-impl Prefix {
-    /// Whether an address agrees with this one in the bits that count.
-    pub fn contains(self, address: u32) -> bool
-        ensures { result ≡ is_in_prefix self address }
-    {
-        let shift = 32 - u64::from(self.length());
-        u64::from(address) >> shift == u64::from(self.address()) >> shift
-    }
-}
 
 impl PortRange {
     /// Whether a port is among these.
@@ -35,8 +25,7 @@ impl Rule {
     fn addresses_hold(&self, key: &Key) -> bool
         ensures { result ≡ addresses_hold self.now key.now }
     {
-        self.source.is_none_or(|prefix| prefix.contains(key.source))
-            && self.target.is_none_or(|prefix| prefix.contains(key.target))
+        prefix_holds(&self.source, key.source) && prefix_holds(&self.target, key.target)
     }
 
     fn ports_hold(&self, key: &Key) -> bool
@@ -54,6 +43,16 @@ impl Rule {
         self.protocol
             .is_none_or(|protocol| protocol == key.protocol)
             && self.dscp.is_none_or(|dscp| dscp == key.dscp)
+    }
+}
+
+/// Whether an address is in a prefix, where one is given.
+fn prefix_holds(prefix: &Option<Prefix>, address: u32) -> bool
+    ensures { result ≡ holds_where_given is_in_prefix prefix.now address }
+{
+    match prefix {
+        None => true,
+        Some(prefix) => prefix.contains(address),
     }
 }
 

@@ -1,6 +1,7 @@
 ghost use Rattle.std.specs.Prelude.{◌≡◌, ◌≤◌};
 ghost use Rattle.std.specs.Result.{OkIff};
-ghost use Rattle.flow_classifier.specs.Parts.{PrefixValue, PortRangeValue};
+ghost use Rattle.flow_classifier.specs.Matching.{is_in_prefix};
+ghost use Rattle.flow_classifier.specs.Parts.{mask_of};
 
 use af_marker::{Dscp, OutOfRange};
 use std::marker::Model;
@@ -10,37 +11,79 @@ use std::marker::Model;
 pub struct Prefix {
     address: u32,
     length: u8,
+    /// The bits that count.
+    mask: u32,
+    /// The address in the bits that count, and 0 in the others.
+    network: u32,
 }
 
 impl Model for Prefix {
+    ghost use Rattle.std.specs.Prelude.{◌≡◌, ◌≤◌};
+    ghost use Rattle.std.proofs.Common.{sym};
+    ghost use Rattle.flow_classifier.specs.Parts.{PrefixValue, mask_of, network_of};
+
     ghost Value = { PrefixValue };
 
     ghost view = { λ p. record { address = p.address; length = p.length } };
 
-    ghost invariant = { λ p. p.length ≤ 32 };
+    ghost invariant = { λ p. (p.length ≤ 32) × (p.mask ≡ mask_of p.length)
+        × (p.network ≡ network_of p.address p.length) };
 
-    ghost inverse = { λ v. record { address = v.address; length = v.length } };
+    ghost inverse = { λ v. record {
+      address = v.address;
+      length = v.length;
+      mask = mask_of v.length;
+      network = network_of v.address v.length;
+    } };
+
+    ghost inverse_ok = { λ p h i. record {
+      address = p.address;
+      length = p.length;
+      mask = sym h.1 i;
+      network = sym h.2 i;
+    } };
+}
+
+/// The first bits of 32, so many of them.
+fn mask_of(length: u8) -> u32
+    requires { length ≤ 32 }
+    ensures { result ≡ mask_of length }
+{
+    u32::MAX.checked_shl(32 - u32::from(length)).unwrap_or(0)
 }
 
 impl Prefix {
     /// The addresses that agree with this one, the first byte in its highest bits, in so many bits; `OutOfRange` above
     /// 32. The address's bits past the length say nothing.
+    #[tactic(auto, using(crate::proofs::MaskLaws::masked))]
     pub fn new(address: u32, length: u8) -> Result<Self, OutOfRange>
         ensures { OkIff result (length ≤ 32) (record { address = address; length = length }) }
     {
-        if length <= 32 {
-            Ok(Prefix { address, length })
-        } else {
-            Err(OutOfRange)
+        if length > 32 {
+            return Err(OutOfRange);
         }
+        let mask = mask_of(length);
+        let network = address & mask;
+        Ok(Prefix {
+            address,
+            length,
+            mask,
+            network,
+        })
+    }
+
+    /// Whether an address agrees with this one in the bits that count.
+    pub fn contains(self, address: u32) -> bool
+        ensures { result ≡ is_in_prefix self address }
+    {
+        address & self.mask == self.network
     }
 
     /// Its address, with the bits past the length as they were given.
     pub fn address(self) -> u32
         ensures { result ≡ self.address }
     {
-        let Prefix { address, length: _ } = self;
-        address
+        self.address
     }
 
     /// How many bits count: 0 to 32.
@@ -48,8 +91,7 @@ impl Prefix {
         ensures value { result ≡ self.length }
         ensures range { result ≤ 32 }
     {
-        let Prefix { address: _, length } = self;
-        length
+        self.length
     }
 }
 
@@ -61,6 +103,9 @@ pub struct PortRange {
 }
 
 impl Model for PortRange {
+    ghost use Rattle.std.specs.Prelude.{◌≤◌};
+    ghost use Rattle.flow_classifier.specs.Parts.{PortRangeValue};
+
     ghost Value = { PortRangeValue };
 
     ghost view = { λ r. record { low = r.low; high = r.high } };
