@@ -66,35 +66,28 @@ fn is_dropped(red: RedRule, colour: Colour) -> bool
     }
 }
 
-/// Adds a record to a text: its own bytes, and the frame.
-fn add_bytes(out: &mut Vec<u8>, head: &[u8], bytes: &[u8]) -> Result<(), AllocError>
-    ensures { OnOk result (out.new.items ≡ out.old.items ++ (head.now ++ bytes.now)) }
-{
-    out.extend_from_slice(head)?;
-    out.extend_from_slice(bytes)
-}
-
-/// Adds the record of a frame to a text, marked with the code point of a colour in the class of a contract.
+/// Adds the record of a frame to a text, marked there with the code point of a colour in the class of a contract.
 fn add_marked(
     out: &mut Vec<u8>,
     port: &Port<'_>,
-    frame: Frame,
+    frame: &Frame,
     flow: u32,
     colour: Colour,
 ) -> Result<(), AllocError>
     ensures { OnOk result
-        (out.new.items ≡ out.old.items ++ text_in_class port.now.heading.link frame colour
+        (out.new.items ≡ out.old.items ++ text_in_class port.now.heading.link frame.now colour
         (contract_of (ground_of port.now.accepted.now) flow)) }
 {
-    let (head, _moment, mut bytes) = frame.into_parts();
+    out.extend_from_slice(frame.record())?;
     if let Some(contract) = contract_of(port.accepted, flow) {
+        let start = out.len() - frame.bytes().len();
         mark_frame(
             port.heading.link,
-            bytes.as_mut_slice(),
+            &mut out.as_mut_slice()[start..],
             dscp(contract.class, colour),
         );
     }
-    add_bytes(out, &head, bytes.as_slice())
+    Ok(())
 }
 
 /// Adds the record of a frame to a text: marked with the colour of the packet that was sent from it, unless it is left
@@ -102,13 +95,14 @@ fn add_marked(
 fn add_record(
     out: &mut Vec<u8>,
     port: &Port<'_>,
-    frame: Frame,
+    frame: &Frame,
     packet: Option<(Sent, Colour)>,
 ) -> Result<(), AllocError>
-    ensures { OnOk result (out.new.items ≡ out.old.items ++ record_text port.now.accepted.now port.now.red port.now.heading.link frame packet) }
+    ensures { OnOk result (out.new.items
+        ≡ out.old.items ++ record_text port.now.accepted.now port.now.red port.now.heading.link frame.now packet) }
 {
     match packet {
-        None => add_bytes(out, frame.head(), frame.bytes()),
+        None => out.extend_from_slice(frame.record()),
         Some((_, colour)) if is_dropped(port.red, colour) => Ok(()),
         Some((packet, colour)) => add_marked(out, port, frame, packet.flow, colour),
     }
@@ -134,7 +128,7 @@ fn write_frame<O: Outlet>(
     ensures failures { O.failed outlet.new
         ≡ (if is_write_fault result then next_count (O.failed outlet.old) else O.failed outlet.old) }
 {
-    let Ok(()) = add_record(out, port, frame, packet) else {
+    let Ok(()) = add_record(out, port, &frame, packet) else {
         return Err(MarkFault::NoMemory);
     };
     write_out_full(outlet, out)

@@ -1,6 +1,5 @@
 -- The grammar of captures, step by step and cut by cut.
 use Rattle.std.proofs.Common.{◌≡◌, ◌⊎◌, ℕ, ◌+◌, ◌<◌, ◌≤◌, zero, suc, Bool, true, false, cond, nat_lt, List, [], ◌∷◌, ◌++◌, length, take, drop, Result, Ok, Err, length-append, length-drop, refl, sym, ◌∙◌, ap, inl, inr, arith}
-use Rattle.std.proofs.lemmas.Bool.{cases_lt}
 use Rattle.std.proofs.lemmas.Bool.Decides.{nat_tests}
 use Rattle.std.proofs.lemmas.List.{drop-append-le, take-append-le}
 use Rattle.std.proofs.Math.Seq.{drop-length}
@@ -225,17 +224,6 @@ size_take heading xs ys h = elim (size_cases heading (xs ++ ys) (length xs) h) [
       rw (is_not_less (length xs) 16 (omega (arith, known.2)), is_not_less 262144 (captured heading xs) (omega (arith, same, room))) (ap size_ok (ap (λ n. 16 + n) (sym same) ∙ sym known.2))
 ]
 
--- a size stays when bytes come behind
-pub size-append : (heading : Heading) (xs ys : List ℕ) (size : ℕ) → 16 ≤ length xs → record_size heading xs ≡ Ok size → record_size heading (xs ++ ys) ≡ Ok size
-unfolding record_size
-size-append heading xs ys size least h = elim (size_cases heading xs size h) [
-  | inl short ↦ absurd (omega (arith, below (length xs) 16 short.0))
-  | inr known ↦
-      let same = captured-append heading xs ys least in
-      let room = not_more (captured heading xs) known.1 in
-      rw (is_not_less (length (xs ++ ys)) 16 (omega (arith, length-append xs ys)), is_not_less 262144 (captured heading (xs ++ ys)) (omega (arith, same, room))) (ap size_ok (ap (λ n. 16 + n) same ∙ sym known.2))
-]
-
 fault_tests : (short long : Bool) (count : ℕ) (fault : PcapFault) → cond short (size_ok 16) (cond long (size_err (RecordTooLong count)) (size_ok (16 + count))) ≡ Err fault
     → (short ≡ false) × (long ≡ true) × (fault ≡ RecordTooLong count)
 fault_tests true long count fault h = cc
@@ -243,13 +231,12 @@ fault_tests false true count fault h = (refl, refl, cc)
 fault_tests false false count fault h = cc
 
 -- a record that is too long stops the reading
-pub size_stops : (heading : Heading) (xs ys : List ℕ) (fault : PcapFault) → record_size heading xs ≡ Err fault → records heading (xs ++ ys) ≡ stopped fault
+pub size_stops : (heading : Heading) (bytes : List ℕ) (fault : PcapFault) → record_size heading bytes ≡ Err fault → records heading bytes ≡ stopped fault
 unfolding record_size
-size_stops heading xs ys fault h =
-    let tests = fault_tests (nat_lt (length xs) 16) (nat_lt 262144 (captured heading xs)) (captured heading xs) fault h in
-    let long = next-too_long heading xs (not_less (length xs) 16 tests.0) (more (captured heading xs) tests.1) in
-    records-next heading (xs ++ ys)
-    ∙ ap (from_next heading (xs ++ ys) (records heading)) (too_long-append heading xs ys (captured heading xs) long) ∙ ap stopped (sym tests.2)
+size_stops heading bytes fault h =
+    let tests = fault_tests (nat_lt (length bytes) 16) (nat_lt 262144 (captured heading bytes)) (captured heading bytes) fault h in
+    let long = next-too_long heading bytes (not_less (length bytes) 16 tests.0) (more (captured heading bytes) tests.1) in
+    records-next heading bytes ∙ ap (from_next heading bytes (records heading)) long ∙ ap stopped (sym tests.2)
 
 -- a whole record in front is a frame in front
 pub records_whole : (heading : Heading) (xs ys : List ℕ) → record_size heading xs ≡ Ok (length xs) → records heading (xs ++ ys) ≡ prepend (frame_of heading xs ∷ []) (records heading ys)
@@ -265,16 +252,4 @@ pub size_least : (heading : Heading) (bytes : List ℕ) (size : ℕ) → record_
 size_least heading bytes size h = elim (size_cases heading bytes size h) [
   | inl short ↦ omega (arith, short.1)
   | inr known ↦ omega (arith, known.2)
-]
-
--- where no more is there than less than a record, the size is not there
-pub partial_below : (heading : Heading) (bytes : List ℕ) (size : ℕ) → next_of heading bytes ≡ Partial → record_size heading bytes ≡ Ok size → length bytes < size
-partial_below heading bytes size h k = elim (cases_lt (length bytes) size) [
-  | inl below ↦ below
-  | inr above ↦ elim (size_cases heading bytes size k) [
-    | inl short ↦ absurd (omega (arith, below (length bytes) 16 short.0, short.1))
-    | inr known ↦
-        let whole = next-whole heading bytes (not_more (captured heading bytes) known.1) (omega (arith, known.2)) in
-        cc
-  ]
 ]

@@ -1,11 +1,10 @@
 -- The heading of a capture, and what comes behind it.
-use Rattle.std.proofs.Common.{◌≡◌, ℕ, ◌%◌, ◌<◌, ◌≤◌, cond, List, ◌++◌, length, take, drop, Option, None, Some, Result, Ok, Err, append_assoc, append-nil, length-append, refl, sym, ◌∙◌, ap, inl, inr, arith}
+use Rattle.std.proofs.Common.{◌≡◌, ℕ, ◌%◌, ◌<◌, ◌≤◌, cond, List, ◌++◌, length, Option, None, Some, Result, Ok, Err, append-nil, length-append, refl, sym, ◌∙◌, ap, inl, inr, arith}
 use Rattle.std.proofs.lemmas.Bool.{cases_lt}
-use Rattle.std.proofs.lemmas.List.{take-append-drop, take-append-le}
-use Rattle.std.proofs.Math.Seq.{drop-append_seam}
+use Rattle.std.proofs.lemmas.List.{take-append-le}
 use Rattle.byteorder.specs.Numbers.{big_from-append, little_from-append}
 use Rattle.pcap_capture.specs.Frames.{FrameValue}
-use Rattle.pcap_capture.specs.Grammar.{Reading, Stops, after_heading, after_magic, capture, drawn, has_version, heading_of, link_number, link_of, linked, magic_of, prepend, records, stopped, versioned, waiting}
+use Rattle.pcap_capture.specs.Grammar.{Reading, Stops, after_heading, after_magic, capture, has_version, heading_of, link_number, link_of, linked, magic_of, prepend, stopped, versioned, waiting}
 use Rattle.pcap_capture.specs.declared.fault.PcapFault.{PcapFault}
 use Rattle.pcap_capture.specs.declared.fault.PcapFault.TheVariants as pcaps
 use Rattle.pcap_capture.specs.declared.fault.PcapFault.TheVariants.{BadVersion}
@@ -14,9 +13,7 @@ use Rattle.pcap_capture.specs.declared.heading.Heading.{Heading}
 use Rattle.pcap_capture.specs.declared.heading.LinkType.{LinkType}
 use Rattle.pcap_capture.specs.declared.heading.TimeUnit.{TimeUnit}
 use Rattle.pcap_capture.specs.declared.stage.Stage.{Stage}
-use Rattle.pcap_capture.specs.declared.stage.Stage.TheVariants.{Opening}
 use Rattle.pcap_capture.proofs.GrammarLaws.{is_less, is_not_less, number-append_at}
-use Rattle.pcap_capture.proofs.RecordLaws.{drawn_full, drawn_short}
 
 -- a reading that waits for more, with all its frames
 pub kept_waiting : (stage : Stage) (bytes : List ℕ) (frames : List FrameValue) (read wanted : Reading)
@@ -119,34 +116,7 @@ heading_read bytes heading h = elim (cases_lt (length bytes) 4) [
   | inr long ↦ magic_read (magic_of bytes) bytes heading (sym (heading_long bytes long) ∙ h)
 ]
 
-joined : (n : ℕ) (rest piece : List ℕ) → (rest ++ take n piece) ++ drop n piece ≡ rest ++ piece
-joined n rest piece = append_assoc rest (take n piece) (drop n piece) ∙ ap (λ l. rest ++ l) (take-append-drop n piece)
-
--- a capture whose heading is to come
-pub capture_waits : (rest piece rest2 : List ℕ) → rest2 ≡ rest ++ take (drawn 24 rest piece) piece → None ≡ heading_of rest2 → capture (rest ++ piece) ≡ waiting Opening rest2
+-- a capture, by what stands at its front
+pub capture_by : (bytes : List ℕ) (read : Option (Result Heading PcapFault)) → read ≡ heading_of bytes → capture bytes ≡ after_heading bytes read
 unfolding capture
-capture_waits rest piece rest2 r h =
-    let none = drawn_short 24 rest piece (omega (arith, ap length r, heading_waits rest2 (sym h))) in
-    let all : rest ++ piece ≡ rest2 = sym (joined (drawn 24 rest piece) rest piece) ∙ ap (λ l. (rest ++ take (drawn 24 rest piece) piece) ++ l) none ∙ append-nil (rest ++ take (drawn 24 rest piece) piece) ∙ sym r in
-    ap (λ b. after_heading b (heading_of b)) all ∙ ap (after_heading rest2) (sym h)
-
--- a capture whose heading is refused
-pub capture_stops : (rest piece rest2 : List ℕ) (fault : PcapFault) → rest2 ≡ rest ++ take (drawn 24 rest piece) piece → Some (Err fault) ≡ heading_of rest2 → capture (rest ++ piece) ≡ stopped fault
-unfolding capture
-capture_stops rest piece rest2 fault r h =
-    let known = heading-append (rest ++ take (drawn 24 rest piece) piece) (drop (drawn 24 rest piece) piece) (Err fault) (ap heading_of (sym r) ∙ sym h) in
-    ap (after_heading (rest ++ piece)) (ap heading_of (sym (joined (drawn 24 rest piece) rest piece)) ∙ known)
-
--- a capture whose heading is there
-pub capture_read : (rest piece rest2 left : List ℕ) (heading : Heading) → heading_of rest ≡ None → rest2 ≡ rest ++ take (drawn 24 rest piece) piece → left ≡ drop (drawn 24 rest piece) piece
-    → Some (Ok heading) ≡ heading_of rest2 → capture (rest ++ piece) ≡ records heading left
-unfolding capture
-capture_read rest piece rest2 left heading before r l h =
-    let n = drawn 24 rest piece in
-    let known = heading-append (rest ++ take n piece) (drop n piece) (Ok heading) (ap heading_of (sym r) ∙ sym h) in
-    let least = heading_read rest2 heading (sym h) in
-    let short = heading_waits rest before in
-    let full = drawn_full 24 rest piece (omega arith) (omega (arith, ap length r)) in
-    let behind : drop 24 (rest ++ piece) ≡ left =
-    ap (drop 24) (sym (joined n rest piece)) ∙ ap (λ k. drop k ((rest ++ take n piece) ++ drop n piece)) (sym full) ∙ drop-append_seam (rest ++ take n piece) (drop n piece) ∙ sym l in
-    ap (after_heading (rest ++ piece)) (ap heading_of (sym (joined n rest piece)) ∙ known) ∙ ap (records heading) behind
+capture_by bytes read h = ap (after_heading bytes) (sym h)

@@ -1,5 +1,5 @@
 -- The classic capture format: which frames stand in a list of bytes, and the first fault, if any.
-use Rattle.std.specs.Prelude.{◌≡◌, ◌⊎◌, ℕ, zero, suc, ◌+◌, ◌-◌, ◌*◌, ◌%◌, min, Bool, nat_eq, nat_lt, ◌&&◌}
+use Rattle.std.specs.Prelude.{◌≡◌, ◌⊎◌, ℕ, zero, suc, ◌+◌, ◌*◌, ◌%◌, Bool, nat_eq, nat_lt, ◌&&◌}
 use Rattle.std.specs.Prelude.{if◌then◌else◌, List, [], ◌∷◌, ◌++◌, length, take, drop, Option, None, Some, Result, Ok}
 use Rattle.std.specs.Prelude.{Err}
 use Rattle.byteorder.specs.Endian.{big_number, little_number}
@@ -206,10 +206,6 @@ abbrev pub Stops : Reading → List FrameValue → PcapFault → Type 0
 Stops wanted frames fault =
     (record { frames = frames; fault = Some fault; state = broken } ≡ wanted)
     ⊎ ((fault ≡ NoMemory) × ((others : List FrameValue) × (frames ++ others ≡ wanted.frames)))
-
--- how many bytes of a piece bring what is left over to a size, as far as the piece goes
-abbrev pub drawn : ℕ → List ℕ → List ℕ → ℕ
-drawn size rest piece = min (size - length rest) (length piece)
 
 -- what is left over is less than what would come next
 abbrev pub IsSettled : Stage → List ℕ → Type 0

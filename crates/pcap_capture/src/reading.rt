@@ -1,12 +1,12 @@
 ghost use Rattle.std.specs.Prelude.{◌≡◌, ℕ, List, ◌++◌, [], None, Some, IfErr, IfOk, OnOk, MatchResult};
 ghost use Rattle.pcap_capture.specs.Frames.{FrameValue};
 ghost use Rattle.pcap_capture.specs.Grammar.{CaptureState, IsSettled, IsSoFar, Reading, continued, Stops, broken};
-ghost use Rattle.pcap_capture.specs.Grammar.{capture, ending, fault_in, heading_of, prepend, reading};
+ghost use Rattle.pcap_capture.specs.Grammar.{capture, ending, fault_in, prepend, read_on, reading};
 
 use crate::fault::PcapFault;
 use crate::frame::Frame;
 use crate::heading::{Heading, heading_at_front};
-use crate::record::{draw, read_records, read_whole};
+use crate::record::read_records;
 use crate::stage::Stage;
 use std::alloc::Global;
 use std::marker::Model;
@@ -76,14 +76,12 @@ impl Capture {
             (λ fault. (self.new ≡ broken) × Stops (prepend out.old.items (reading self.old piece.now)) out.new.items
             fault) }
     {
-        let read = match self.stage {
-            Stage::Opening => read_heading(alloc, &mut self.rest, piece, out),
-            Stage::Records(heading) => {
-                read_records(alloc, &heading, &mut self.rest, piece, out).map(|()| Stage::Records(
-                    heading,
-                ))
-            }
-            Stage::Broken => Err(PcapFault::Failed),
+        if let Stage::Broken = self.stage {
+            return Err(PcapFault::Failed);
+        }
+        let read = match self.rest.extend_from_slice(piece) {
+            Ok(()) => read_stage(alloc, self.stage, &mut self.rest, out),
+            Err(_) => Err(PcapFault::NoMemory),
         };
         match read {
             Ok(stage) => {
@@ -136,34 +134,56 @@ impl Capture {
     }
 }
 
-/// Reads a piece of a capture whose heading is not yet there whole, and answers how far it came.
-fn read_heading(
+/// Reads on in the bytes of a capture of which no frame was made, and answers how far it came.
+fn read_stage(
     alloc: Global,
+    stage: Stage,
     rest: &mut Vec<u8>,
-    piece: &[u8],
     out: &mut Vec<Frame>,
 ) -> Result<Stage, PcapFault>
-    requires { heading_of rest.old.items ≡ None }
+    ensures ok { IfOk result
+        (λ now. record {
+          frames = out.new.items;
+          fault = None;
+          state = record { stage = now; rest = rest.new.items };
+        }
+        ≡ prepend out.old.items (read_on stage rest.old.items)) }
+    ensures settled { IfOk result (λ now. IsSettled now rest.new.items) }
+    ensures err { IfErr result
+        (λ fault. Stops (prepend out.old.items (read_on stage rest.old.items)) out.new.items fault) }
+{
+    match stage {
+        Stage::Opening => read_heading(alloc, rest, out),
+        Stage::Records(heading) => {
+            read_records(alloc, &heading, rest, out)?;
+            Ok(stage)
+        }
+        Stage::Broken => Err(PcapFault::Failed),
+    }
+}
+
+/// Reads on in the bytes of a capture whose heading was not there whole so far, and answers how far it came.
+fn read_heading(alloc: Global, rest: &mut Vec<u8>, out: &mut Vec<Frame>) -> Result<Stage, PcapFault>
     ensures ok { IfOk result
         (λ stage. record {
           frames = out.new.items;
           fault = None;
           state = record { stage = stage; rest = rest.new.items };
         }
-        ≡ prepend out.old.items (capture (rest.old.items ++ piece.now))) }
+        ≡ prepend out.old.items (capture rest.old.items)) }
     ensures settled { IfOk result (λ stage. IsSettled stage rest.new.items) }
     ensures err { IfErr result
-        (λ fault. Stops (prepend out.old.items (capture (rest.old.items ++ piece.now))) out.new.items fault) }
+        (λ fault. Stops (prepend out.old.items (capture rest.old.items)) out.new.items fault) }
 {
-    let Ok(left) = draw(rest, piece, 24) else {
-        return Err(PcapFault::NoMemory);
-    };
     match heading_at_front(rest) {
         None => Ok(Stage::Opening),
         Some(Err(fault)) => Err(fault),
         Some(Ok(heading)) => {
-            rest.clear();
-            read_whole(alloc, &heading, rest, left, out)?;
+            let Ok(records) = rest.split_off(heading.bytes.len()) else {
+                return Err(PcapFault::NoMemory);
+            };
+            *rest = records;
+            read_records(alloc, &heading, rest, out)?;
             Ok(Stage::Records(heading))
         }
     }
