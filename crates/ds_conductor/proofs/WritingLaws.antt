@@ -1,5 +1,6 @@
 -- What is written of a text that grows.
-use Rattle.std.proofs.Common.{◌≡◌, ℕ, List, [], ◌++◌, Result, Ok, Err, MatchResult, sym, ap, ◌∙◌, append_assoc, append-nil}
+use Rattle.std.proofs.Common.{◌≡◌, ℕ, List, [], ◌++◌, Result, Ok, Err, MatchResult, sym, ap, ◌∙◌, append_assoc, append-nil, arith, drop, length, length-append, take, ◌+◌}
+use Rattle.std.proofs.lemmas.List.{drop_at, take_at}
 use Rattle.std.specs.Prelude.{OnOk}
 use Rattle.pcap_capture.specs.Fronts.{IsFrontOf}
 use Rattle.ds_conductor.specs.Writings.{IsWrittenTo}
@@ -60,3 +61,13 @@ headed_out head bytes none out held same empty collected = record {
   whole = append-nil head ∙ same ∙ sym (collected ∙ ap (λ it. it ++ bytes) empty);
   written = sym (append-nil held);
 }
+
+-- behind what stood there and a record's own bytes stand the captured ones
+pub behind_own : (out own bytes text : List ℕ) (start : ℕ) → text ≡ out ++ (own ++ bytes) → start + length bytes ≡ length text
+    → (take start text ≡ out ++ own) × (drop start text ≡ bytes)
+behind_own out own bytes text start same count =
+    let whole : text ≡ (out ++ own) ++ bytes = same ∙ sym (append_assoc out own bytes) in
+    let front : length (out ++ own) ≡ start = omega (arith, ap length whole, length-append (out ++ own) bytes, count) in (
+      ap (take start) whole ∙ take_at (out ++ own) bytes start front,
+      ap (drop start) whole ∙ drop_at (out ++ own) bytes start front,
+    )

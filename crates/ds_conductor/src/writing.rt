@@ -1,5 +1,6 @@
 ghost use Rattle.std.specs.Prelude.{◌≡◌, ◌⊎◌, ℕ, Bool, List, [], ◌++◌, is_ok, if◌then◌else◌, IfOk, IfErr, MatchResult};
-ghost use Rattle.std.specs.Prelude.{OnOk};
+ghost use Rattle.std.specs.Prelude.{OnOk, ◌≤◌, drop, length, take};
+ghost use Rattle.frame_marker.specs.Frames.{marked_frame};
 ghost use Rattle.meter_fabric_base.specs.Grounds.{contract_of, ground_of};
 ghost use Rattle.pcap_capture.specs.Counts.{next_count};
 ghost use Rattle.pcap_capture.specs.Frames.{FrameValue};
@@ -12,12 +13,12 @@ use crate::conditioner::Conditioner;
 use crate::fault::MarkFault;
 use crate::port::Port;
 use crate::rule::RedRule;
-use af_marker::dscp;
+use af_marker::{Dscp, dscp};
 use ds_visits::Sent;
 use frame_marker::mark_frame;
 use meter_fabric_base::contract_of;
 use moment_core::Colour;
-use pcap_capture::{Frame, Outlet, PcapFault, hand_over};
+use pcap_capture::{Frame, LinkType, Outlet, PcapFault, hand_over};
 use std::alloc::AllocError;
 
 /// From so many bytes on, what is collected is handed over.
@@ -66,6 +67,14 @@ fn is_dropped(red: RedRule, colour: Colour) -> bool
     }
 }
 
+/// Marks the frame whose bytes stand in a text from a place on.
+fn mark_from(text: &mut Vec<u8>, start: usize, link: LinkType, dscp: Dscp)
+    requires { start ≤ length text.old.items }
+    ensures { text.new.items ≡ take start text.old.items ++ marked_frame link dscp (drop start text.old.items) }
+{
+    mark_frame(link, &mut text.as_mut_slice()[start..], dscp);
+}
+
 /// Adds the record of a frame to a text, marked there with the code point of a colour in the class of a contract.
 fn add_marked(
     out: &mut Vec<u8>,
@@ -81,11 +90,7 @@ fn add_marked(
     out.extend_from_slice(frame.record())?;
     if let Some(contract) = contract_of(port.accepted, flow) {
         let start = out.len() - frame.bytes().len();
-        mark_frame(
-            port.heading.link,
-            &mut out.as_mut_slice()[start..],
-            dscp(contract.class, colour),
-        );
+        mark_from(out, start, port.heading.link, dscp(contract.class, colour));
     }
     Ok(())
 }
