@@ -1,5 +1,5 @@
 -- Lists of bytes, and the plain sum of their words.
-use Rattle.std.proofs.Common.{◌≡◌, ℕ, ◌+◌, ◌%◌, ◌<◌, zero, suc, List, [], ◌∷◌, ◌++◌, length, take, drop, arith}
+use Rattle.std.proofs.Common.{◌≡◌, ℕ, ◌+◌, ◌%◌, ◌<◌, zero, suc, List, [], ◌∷◌, ◌++◌, length, take, drop, slice_set, arith}
 use Rattle.byteorder.specs.Endian.{big_bytes}
 use Rattle.af_marker.specs.Checksums.{folded, ones_sum, words}
 use Rattle.af_marker.proofs.ChecksumLaws.{AreBytes, AreBytes-rest, AreWords, ones_sum_folded, total}
@@ -26,6 +26,11 @@ pub Bytes-drop : (n : ℕ) (xs : List ℕ) → Bytes xs → Bytes (drop n xs)
 Bytes-drop zero xs h = h
 Bytes-drop (suc n) [] h = tt
 Bytes-drop (suc n) (x ∷ xs) h = Bytes-drop n xs h.1
+
+pub Bytes-set : (xs : List ℕ) (i v : ℕ) → Bytes xs → v < 256 → Bytes (slice_set xs i v)
+Bytes-set [] i v h k = tt
+Bytes-set (x ∷ xs) zero v h k = (k, h.1)
+Bytes-set (x ∷ xs) (suc i) v h k = (h.0, Bytes-set xs i v h.1 k)
 
 -- the sum of words is the folded plain sum
 words_fit : (xs : List ℕ) → Bytes xs → AreWords (words xs)

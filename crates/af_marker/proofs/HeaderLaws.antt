@@ -1,6 +1,6 @@
 -- What is known of bytes that begin with a header.
 use Rattle.std.proofs.Common.{◌≡◌, ℕ, List, Option, None, Some, Ok, refl, ap}
-use Rattle.af_marker.specs.Headers.{fault_of, fields_of, header_length, header_of, is_verified, unless}
+use Rattle.af_marker.specs.Headers.{fault_of, fields_of, header_of, is_verified, unless}
 use Rattle.af_marker.specs.declared.ipv4.Header.{Header}
 use Rattle.af_marker.specs.declared.ipv4.HeaderFault.{HeaderFault}
 
@@ -21,10 +21,6 @@ passed bytes h e = passed_from (fault_of bytes) (fields_of bytes) h e
 pub is_fields : (bytes : List ℕ) (h : Header) → Ok h ≡ header_of bytes → h ≡ fields_of bytes
 unfolding header_of
 is_fields bytes h e = read_from (fault_of bytes) (fields_of bytes) h e
-
-pub length_of : (bytes : List ℕ) (h : Header) → Ok h ≡ header_of bytes → h.length ≡ header_length bytes
-unfolding fields_of
-length_of bytes h e = ap (λ (x : Header). x.length) (is_fields bytes h e)
 
 pub verified_of : (bytes : List ℕ) (h : Header) → Ok h ≡ header_of bytes → h.verified ≡ is_verified bytes
 unfolding fields_of

@@ -3,3 +3,4 @@ pub mod ChecksumLaws
 pub mod CodePointLaws
 pub mod HeaderLaws
 pub mod MarkLaws
+pub mod UpdateLaws

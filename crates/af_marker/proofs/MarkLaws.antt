@@ -49,7 +49,7 @@ back_kept x k bytes h le =
     ∙ ap (λ (l : List ℕ). slice_index l (k - 12)) (back x 12 bytes h (omega arith)) ∙ get_or-drop 12 bytes (k - 12) 0 ∙ ap (slice_index bytes) place
 
 -- the sum of a header's words, its checksum apart
-rest_of : ℕ → List ℕ → ℕ
+unfoldable pub rest_of : ℕ → List ℕ → ℕ
 rest_of size bytes = total (words (take 10 bytes)) + total (words (take (size - 12) (drop 12 bytes)))
 
 total_with : (x size : ℕ) (bytes : List ℕ) → x < 65536 → 12 ≤ size → size ≤ length bytes → total (words (take size (with_checksum x bytes))) ≡ x + rest_of size bytes
@@ -63,16 +63,23 @@ total_with x size bytes fits least most =
     ∙ ap (λ t. take 10 bytes ++ t) (take_past 2 (size - 12) (big_bytes 2 x) (drop 12 bytes) refl) in
     rw (cut, total-append (take 10 bytes) (big_bytes 2 x ++ take (size - 12) (drop 12 bytes)) (omega arith), total-word x (take (size - 12) (drop 12 bytes)) fits) (omega arith)
 
-Bytes-with_checksum : (x : ℕ) (bytes : List ℕ) → Bytes bytes → Bytes (with_checksum x bytes)
+pub Bytes-with_checksum : (x : ℕ) (bytes : List ℕ) → Bytes bytes → Bytes (with_checksum x bytes)
 Bytes-with_checksum x bytes h =
     Bytes-append (take 10 bytes) (big_bytes 2 x ++ drop 12 bytes) (Bytes-take 10 bytes h)
     (omega arith, (omega arith, Bytes-drop 12 bytes h))
 
-sum_with : (x size : ℕ) (bytes : List ℕ) → Bytes (with_checksum x bytes) → x < 65536 → 12 ≤ size → size ≤ length bytes
+pub sum_with : (x size : ℕ) (bytes : List ℕ) → Bytes (with_checksum x bytes) → x < 65536 → 12 ≤ size → size ≤ length bytes
     → ones_sum (words (take size (with_checksum x bytes))) ≡ folded (x + rest_of size bytes)
 sum_with x size bytes all fits least most =
     sum_folded (take size (with_checksum x bytes)) (Bytes-take size (with_checksum x bytes) all)
     ∙ ap folded (total_with x size bytes fits least most)
+
+-- the checksum that a header should have, by the plain sum of its other words
+pub checksum_value : (bytes : List ℕ) → Bytes (with_checksum 0 bytes) → 12 ≤ header_length bytes → header_length bytes ≤ length bytes
+    → checksum_of bytes ≡ 65535 - folded (rest_of (header_length bytes) bytes)
+checksum_value bytes all least most =
+    let others = rest_of (header_length bytes) bytes in
+    ap (λ n. 65535 - n) (sum_with 0 (header_length bytes) bytes all (omega arith) least most ∙ ap folded (zero-add others))
 
 -- the complement of a sum makes it all ones
 all_ones : (n : ℕ) → folded (65535 - folded n + n) ≡ 65535
@@ -93,15 +100,14 @@ checksum_verifies bytes all least most =
     let others = rest_of size bytes in
     let bare : Bytes (with_checksum 0 bytes) =
     subst Bytes (with_checksum_twice 0 (checksum_of bytes) bytes (omega arith)) (Bytes-with_checksum 0 (with_checksum (checksum_of bytes) bytes) all) in
-    let value : checksum_of bytes ≡ 65535 - folded others =
-    ap (λ n. 65535 - n) (sum_with 0 size bytes bare (omega arith) (omega arith) most ∙ ap folded (zero-add others)) in
+    let value = checksum_value bytes bare (omega arith) most in
     let sum : ones_sum (words (take (header_length (with_checksum (checksum_of bytes) bytes)) (with_checksum (checksum_of bytes) bytes))) ≡ 65535 =
     ap (λ n. ones_sum (words (take n (with_checksum (checksum_of bytes) bytes)))) (length_kept (checksum_of bytes) bytes (omega arith))
     ∙ sum_with (checksum_of bytes) size bytes all (omega arith) (omega arith) most ∙ ap (λ n. folded (n + others)) value ∙ all_ones others in
     ap (λ n. nat_eq n 65535) sum
 
 -- a mark stays within the front
-with_dscp_front : (x d : ℕ) (bytes : List ℕ) → 12 ≤ length bytes → with_dscp d (with_checksum x bytes) ≡ with_checksum x (with_dscp d bytes)
+pub with_dscp_front : (x d : ℕ) (bytes : List ℕ) → 12 ≤ length bytes → with_dscp d (with_checksum x bytes) ≡ with_checksum x (with_dscp d bytes)
 with_dscp_front x d bytes h =
     let v = 4 * d + slice_index bytes 1 % 4 in
     let ten = front_is bytes h in
@@ -130,21 +136,21 @@ pub whole : (bytes : List ℕ) → fault_of bytes ≡ None → IsWhole bytes
 unfolding fault_of
 whole bytes h = record { least = grind (arith, nat_tests); most = grind (arith, nat_tests); within = grind (arith, nat_tests) }
 
-marked_right : (d : ℕ) (bytes : List ℕ) → is_verified bytes ≡ true → marked d bytes ≡ with_checksum (checksum_of (with_dscp d bytes)) (with_dscp d bytes)
+pub marked_right : (d : ℕ) (bytes : List ℕ) → is_verified bytes ≡ true → marked d bytes ≡ with_checksum (checksum_of (with_dscp d bytes)) (with_dscp d bytes)
 unfolding marked
 marked_right d bytes v = ap (λ b. cond b (with_checksum (checksum_of (with_dscp d bytes)) (with_dscp d bytes)) (with_dscp d bytes)) v
 
-marked_wrong : (d : ℕ) (bytes : List ℕ) → is_verified bytes ≡ false → marked d bytes ≡ with_dscp d bytes
+pub marked_wrong : (d : ℕ) (bytes : List ℕ) → is_verified bytes ≡ false → marked d bytes ≡ with_dscp d bytes
 unfolding marked
 marked_wrong d bytes v = ap (λ b. cond b (with_checksum (checksum_of (with_dscp d bytes)) (with_dscp d bytes)) (with_dscp d bytes)) v
 
 apart : (i j : ℕ) → i < j → i ≢ j
 apart i j h e = omega arith
 
-length_of_mark : (d : ℕ) (bytes : List ℕ) → header_length (with_dscp d bytes) ≡ header_length bytes
+pub length_of_mark : (d : ℕ) (bytes : List ℕ) → header_length (with_dscp d bytes) ≡ header_length bytes
 length_of_mark d bytes = ap (λ n. 4 * (n % 16)) (get_or-set_other bytes 1 0 (4 * d + slice_index bytes 1 % 4) 0 (apart 0 1 (omega arith)))
 
-size_of_mark : (d : ℕ) (bytes : List ℕ) → length (with_dscp d bytes) ≡ length bytes
+pub size_of_mark : (d : ℕ) (bytes : List ℕ) → length (with_dscp d bytes) ≡ length bytes
 size_of_mark d bytes = length-set bytes 1 (4 * d + slice_index bytes 1 % 4)
 
 -- a right checksum is right after a mark

@@ -20,3 +20,7 @@ ones_sum (word ∷ rest) = ones_add word (ones_sum rest)
 abbrev pub folded : ℕ → ℕ
 folded zero = 0
 folded (suc n) = 1 + n % 65535
+
+-- a checksum once a word that it covers is another: HC' = ~(~HC + ~m + m') (RFC 1624 section 3, equation 3)
+abbrev pub updated : ℕ → ℕ → ℕ → ℕ
+updated checksum before after = 65535 - folded (65535 - checksum + (65535 - before) + after)

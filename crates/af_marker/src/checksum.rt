@@ -1,5 +1,5 @@
 ghost use Rattle.std.specs.Prelude.{◌≡◌, ℕ, ◌≤◌, ◌<◌, ◌^◌, ◌*◌, ◌%◌, length};
-ghost use Rattle.af_marker.specs.Checksums.{folded, ones_sum, words};
+ghost use Rattle.af_marker.specs.Checksums.{folded, ones_sum, updated, words};
 
 use byteorder::{BigEndian, ByteOrder};
 
@@ -12,6 +12,13 @@ fn fold_carries(sum: u32) -> u16
     } else {
         (1 + (sum - 1) % 65_535) as u16
     }
+}
+
+/// A checksum that was right, once a word that it covers is another (RFC 1624 section 3, equation 3).
+pub fn updated_checksum(checksum: u16, before: u16, after: u16) -> u16
+    ensures { result ≡ updated checksum before after }
+{
+    !fold_carries(u32::from(!checksum) + u32::from(!before) + u32::from(after))
 }
 
 /// The ones' complement sum of the 16-bit words of a header of at most 60 bytes, an even number of them

@@ -12,6 +12,6 @@ pub mod reading;
 pub use code_point::{Class, Dscp};
 pub use drop_precedence::{colour_of, dscp};
 pub use ipv4::{Header, HeaderFault};
-pub use marking::remark;
+pub use marking::{remark, set_dscp};
 pub use moment_core::{Colour, OutOfRange};
 pub use reading::header;

@@ -1,2 +1,3 @@
--- Lemmas on classifiers.
+-- Lemmas on classifiers, and on frames that were seen.
 pub mod ClassifierLaws
+pub mod SeenLaws

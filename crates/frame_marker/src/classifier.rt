@@ -2,10 +2,12 @@ ghost use Rattle.std.specs.Prelude.{◌≡◌, ℕ, List, IfOk};
 ghost use Rattle.flow_classifier.specs.declared.key.Key.{Key};
 ghost use Rattle.pcap_capture.specs.declared.heading.LinkType.{LinkType};
 ghost use Rattle.frame_marker.specs.Ports.{found, sight_at};
-ghost use Rattle.frame_marker.specs.Sights.{sight_of};
+ghost use Rattle.frame_marker.specs.Marks.{mark_in};
+ghost use Rattle.frame_marker.specs.Sights.{key_of, sight_for, sight_of};
 
-use crate::frame::header_in;
-use crate::sight::Sight;
+use crate::mark::Mark;
+use crate::sight::{Seen, Sight};
+use af_marker::{Header, header};
 use ds_domain_base::{Contract, Name};
 use flow_classifier::{Key, Rule, first_match};
 use pcap_capture::LinkType;
@@ -52,16 +54,38 @@ impl PortClassifier {
     }
 
     /// What a frame is at the port.
-    #[tactic(auto, unfolding(crate::specs::Ports::sight_at))]
     pub fn sight(&self, link: LinkType, bytes: &[u8]) -> Sight
         ensures { result ≡ sight_at self.now link bytes.now }
     {
-        match header_in(link, bytes) {
-            None => Sight::Skipped,
-            Some(header) => match self.flow(&Key::of(&header)) {
-                None => Sight::Unmatched,
-                Some(flow) => Sight::Matched { flow, header },
-            },
+        self.see(link, bytes).sight
+    }
+
+    /// What a frame is at the port, and what marking it later needs: so its header is read once.
+    #[tactic(auto, unfolding(crate::specs::Ports::sight_at, crate::specs::Frames::header_in, crate::specs::Marks::mark_in))]
+    pub fn see(&self, link: LinkType, bytes: &[u8]) -> Seen
+        ensures sight { result.sight ≡ sight_at self.now link bytes.now }
+        ensures mark { result.mark ≡ mark_in link bytes.now }
+    {
+        let Some(start) = link.packet_start(bytes) else {
+            return Seen::without_header();
+        };
+        let Ok(header) = header(&bytes[start..]) else {
+            return Seen::without_header();
+        };
+        let verified = header.verified;
+        Seen {
+            sight: self.sight_for(header),
+            mark: Some(Mark { start, verified }),
+        }
+    }
+
+    /// What a frame with this header is at the port.
+    fn sight_for(&self, header: Header) -> Sight
+        ensures { result ≡ sight_for header (found self.now (key_of header)) }
+    {
+        match self.flow(&Key::of(&header)) {
+            None => Sight::Unmatched,
+            Some(flow) => Sight::Matched { flow, header },
         }
     }
 

@@ -3,8 +3,10 @@
 
 pub mod classifier;
 pub mod frame;
+pub mod mark;
 pub mod sight;
 
 pub use classifier::PortClassifier;
 pub use frame::{header_in, mark_frame};
-pub use sight::Sight;
+pub use mark::{Mark, mark_seen};
+pub use sight::{Seen, Sight};
