@@ -61,14 +61,15 @@ impl From<AllocError> for NoteFault {
 /// Its open rows are those that were not cut off yet. At all times they are the replay of what arrived since, from
 /// where the book stood before them; its meter is where the replay left it, and its accounts are the sums of all rows
 /// that it ever gave.
+// What each arrival needs stands together, ahead of the rest.
 #[derive(Debug, Drop)]
 pub struct MeterBook {
-    opening: Standing,
     meter: AnyMeter,
-    capacity: u32,
     rows: Vec<StoredRow>,
     tallies: Tallies,
     shut: Option<Moment>,
+    capacity: u32,
+    opening: Standing,
 }
 
 impl Model for MeterBook {

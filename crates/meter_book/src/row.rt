@@ -20,10 +20,9 @@ pub struct Arrival {
     pub came: Colour,
 }
 
-// The fields of `Arrival` and of `Row` stand by their size, the largest first, so that no gap lies between them: what a
-// gap parts is copied in more and smaller pieces.
-
 /// What a meter did with an arrival.
+// Its fields stand so that no gap between them has seven bytes, nor one behind them: such a gap is copied in two parts
+// that overlap, and a copy of the copy waits until all stores are done.
 #[derive(Clone, Copy, Debug, PartialEq, Eq, Hash)]
 pub struct Row {
     /// The number of the packet.
@@ -36,16 +35,16 @@ pub struct Row {
     pub late: Gap,
     /// Its place among the rows of its meter, from 0.
     pub place: u64,
-    /// The number of the packet's contract.
-    pub flow: u32,
-    /// Its size.
-    pub size: PacketSize,
     /// How many meters of its path it has passed.
     pub hop: u8,
     /// The colour that it came in with.
     pub came: Colour,
     /// The colour that it left with.
     pub left: Colour,
+    /// The number of the packet's contract.
+    pub flow: u32,
+    /// Its size.
+    pub size: PacketSize,
 }
 
 impl Arrival {

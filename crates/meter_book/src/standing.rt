@@ -5,14 +5,14 @@ use moment_core::{Gap, Moment};
 /// Where a book stands, before its first open row or behind its last one.
 #[derive(Clone, Copy, Debug, PartialEq, Eq)]
 pub struct Standing {
+    /// The place of the next row.
+    pub place: u64,
     /// The meter.
     pub meter: AnyMeter,
     /// The skew of its site.
     pub skew: Gap,
     /// How many packets and bytes left with each colour so far.
     pub accounts: Accounts,
-    /// The place of the next row.
-    pub place: u64,
     /// The moment from which on it refuses what arrives, if it is shut.
     pub shut: Option<Moment>,
 }

@@ -10,11 +10,11 @@ pub struct StoredRow {
     pub packet: u64,
     pub arrival: Moment,
     pub used: Moment,
-    pub flow: u32,
-    pub size: PacketSize,
     pub hop: u8,
     pub came: Colour,
     pub left: Colour,
+    pub flow: u32,
+    pub size: PacketSize,
 }
 
 impl StoredRow {

@@ -3,3 +3,4 @@ pub mod NumberedLaws
 pub mod PathLaws
 pub mod RangeLaws
 pub mod TrailLaws
+pub mod WayLaws

@@ -1,8 +1,7 @@
 -- What is known of a contract that is accepted, and the hops of its path one by one.
-use Rattle.std.proofs.Common.{◌≡◌, ◌≤◌, ◌<◌, ◌+◌, ℕ, zero, suc, Bool, true, false, List, [], ◌∷◌, ◌++◌, length, drop, get_or, Option, None, Some, refl, sym, ap, subst, ◌∙◌, arith, append_assoc, add-one, rules}
+use Rattle.std.proofs.Common.{◌≡◌, ◌≤◌, ◌<◌, ℕ, zero, suc, Bool, true, false, List, [], ◌∷◌, length, Option, Some, refl, subst, arith}
 use Rattle.std.specs.Prelude.{◌||◌, is_none, nat_eq, nat_lt, slice_get, if◌then◌else◌}
 use Rattle.std.proofs.lemmas.Bool.Decides.{nat_tests}
-use Rattle.std.proofs.lemmas.List.{drop_more}
 use Rattle.ds_domain_base.specs.Domains.{Domain}
 use Rattle.ds_domain_base.specs.declared.contract.Contract.{Contract}
 use Rattle.ds_domain_base.specs.declared.fault.DomainFault.{DomainFault}
@@ -10,8 +9,6 @@ use Rattle.ds_certificate.specs.Bounds.{IsCertificate, fits}
 use Rattle.ds_certificate.specs.Columns.{Bound}
 use Rattle.ds_checker.specs.Acceptance.{IsAcceptable, Table}
 use Rattle.meter_fabric_base.specs.Grounds.{contract_of, ground_of, most_flows}
-use Rattle.meter_fabric_base.specs.Sites.{hops_along, site_of}
-use Rattle.meter_fabric_base.specs.declared.hop.Hop.{Hop}
 use Rattle.meter_fabric_base.proofs.GroundLaws.{place_of}
 
 -- of two tests in turn the second fails where no fault is found
@@ -43,23 +40,3 @@ pub known_contract : (t : Table) (flow : ℕ) (c : Contract) → IsAcceptable t 
 known_contract t flow c good is =
     let both = place_of t flow c is in
     (low_test flow both.0, certified_short t.domain t.contracts t.certificate flow c good.0 both.1)
-
--- one hop more
-hops_along-cons : (done : List Hop) (d : Domain) (number : ℕ) (name : List ℕ) (path : List (List ℕ))
-    → done ++ hops_along d number (name ∷ path) ≡ (done ++ record { number = number; site = site_of d name } ∷ []) ++ hops_along d (number + 1) path
-unfolding hops_along
-hops_along-cons done d number name path = simp (add-one, append_assoc)
-
-pub hops_along-none : (done : List Hop) (d : Domain) (number : ℕ) → done ++ hops_along d number [] ≡ done
-unfolding hops_along
-hops_along-none done d number = search rules
-
-pub hop_more : (done items all : List Hop) (d : Domain) (number i site : ℕ) (name : List ℕ) (path : List (List ℕ))
-    → i < length path → name ≡ get_or path i name → site ≡ site_of d name → items ≡ done ++ record { number = number; site = site } ∷ []
-    → done ++ hops_along d number (drop i path) ≡ all → items ++ hops_along d (number + 1) (drop (i + 1) path) ≡ all
-hop_more done items all d number i site name path inside is_name is_site pushed kept =
-    let here : drop i path ≡ name ∷ drop (i + 1) path = drop_more path i name inside ∙ ap (λ (n : List ℕ). n ∷ drop (i + 1) path) (sym is_name) in
-    let before = ap (λ (left : List (List ℕ)). done ++ hops_along d number left) here in
-    let step = hops_along-cons done d number name (drop (i + 1) path) in
-    let placed = ap (λ (s : ℕ). (done ++ record { number = number; site = s } ∷ []) ++ hops_along d (number + 1) (drop (i + 1) path)) is_site in
-    ap (λ (hops : List Hop). hops ++ hops_along d (number + 1) (drop (i + 1) path)) pushed ∙ placed ∙ sym step ∙ sym before ∙ kept

@@ -6,3 +6,4 @@ pub mod Openings
 pub mod Sites
 pub mod Trails
 pub mod Travels
+pub mod Ways

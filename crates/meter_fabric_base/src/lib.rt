@@ -7,6 +7,7 @@ pub mod numbered;
 pub mod site;
 pub mod trail;
 pub mod traveller;
+pub mod way;
 
 pub use fault::{BeginFault, VisitFault};
 pub use hop::{Hop, edge_hop};
@@ -17,3 +18,4 @@ pub use site::{
 };
 pub use trail::{Receipt, Trail};
 pub use traveller::Traveller;
+pub use way::Ways;

@@ -1,24 +1,22 @@
 ghost use Rattle.std.specs.Prelude.{◌≡◌, ◌<◌, ◌≤◌, ◌↔◌, [], None, Some, Ok, IfOk, IfErr, OnOk, OnErr, IsErrOf};
-ghost use Rattle.std.specs.Prelude.{length};
-ghost use Rattle.ds_domain_base.specs.Sent.{came};
+ghost use Rattle.std.specs.Prelude.{length, vec_capacity};
 ghost use Rattle.meter_fabric_base.specs.Grounds.{contract_of, ground_of};
 ghost use Rattle.meter_fabric_base.specs.Numbered.{numbered_ground};
-ghost use Rattle.meter_fabric_base.specs.Sites.{hops_of};
 ghost use Rattle.meter_fabric_base.specs.Trails.{IsReceipt, IsTrail, arrival_at, packet_of};
 ghost use Rattle.meter_fabric_base.specs.Travels.{begun_of, comes_as, last_moment, next_hop, next_site, received};
 ghost use Rattle.meter_fabric_base.specs.Travels.{refusal_of, visit};
 
 use crate::fault::{BeginFault, VisitFault};
-use crate::hop::{Hop, hops_of};
+use crate::hop::Hop;
 use crate::numbered::Numbered;
 use crate::site::contract_of;
 use crate::trail::{Receipt, Trail};
+use crate::way::{Way, Ways};
 use af_marker::Dscp;
 use ds_checker::Accepted;
-use ds_domain_base::{Contract, Domain};
 use meter_book::{Arrival, MeterBook, Row};
 use moment_core::{Colour, Moment, PacketSize};
-use std::alloc::{AllocError, Global};
+use std::alloc::Global;
 use std::marker::Model;
 
 /// A packet on its way, with the hops of its way and a receipt of each that it has visited.
@@ -28,8 +26,8 @@ use std::marker::Model;
 #[derive(Debug, Drop)]
 pub struct Traveller {
     trail: Trail,
-    hops: Vec<Hop>,
     came: Colour,
+    way: Way,
 }
 
 impl Model for Traveller {
@@ -65,15 +63,47 @@ impl Traveller {
         let Some(contract) = contract_of(accepted, flow) else {
             return Err(BeginFault::UnknownFlow);
         };
+        let way = Way::of(accepted.domain(), flow, contract);
         let trail = Trail {
-            flow,
+            receipts: Vec::with_capacity(alloc, way.len())?,
             packet,
+            begun: moment,
+            flow,
             size,
             dscp,
-            begun: moment,
-            receipts: Vec::new(alloc),
         };
-        Ok(Traveller::on_way(alloc, accepted.domain(), contract, trail)?)
+        Ok(Traveller::on_way(way, contract.came(dscp), trail))
+    }
+
+    /// The same, of a contract whose way was made before: no name is looked up.
+    ///
+    /// Refused as `begin` is.
+    pub fn begin_on(
+        alloc: Global,
+        ways: &Ways<'_>,
+        flow: u32,
+        packet: u64,
+        size: PacketSize,
+        dscp: Dscp,
+        moment: Moment,
+    ) -> Result<Traveller, BeginFault>
+        ensures begun { IfOk result (λ traveller. begun_of (ground_of ways.now)
+            (record { flow = flow; number = packet; size = size; dscp = dscp; begun = moment }) ≡ Some traveller) }
+        ensures unknown { IsErrOf result BeginFault.UnknownFlow ↔ (contract_of (ground_of ways.now) flow ≡ None) }
+    {
+        let Some(contract) = contract_of(ways.accepted(), flow) else {
+            return Err(BeginFault::UnknownFlow);
+        };
+        let way = ways.way(flow);
+        let trail = Trail {
+            receipts: Vec::with_capacity(alloc, way.len())?,
+            packet,
+            begun: moment,
+            flow,
+            size,
+            dscp,
+        };
+        Ok(Traveller::on_way(way, contract.came(dscp), trail))
     }
 
     /// The same, of a contract by its own flow, in a table in which its place may be another.
@@ -97,38 +127,25 @@ impl Traveller {
         let Some(contract) = numbered.contract_of(flow) else {
             return Err(BeginFault::UnknownFlow);
         };
+        let way = Way::of(numbered.accepted.domain(), flow, contract);
         let trail = Trail {
-            flow,
+            receipts: Vec::with_capacity(alloc, way.len())?,
             packet,
+            begun: moment,
+            flow,
             size,
             dscp,
-            begun: moment,
-            receipts: Vec::new(alloc),
         };
-        Ok(Traveller::on_way(alloc, numbered.accepted.domain(), contract, trail)?)
+        Ok(Traveller::on_way(way, contract.came(dscp), trail))
     }
 
-    /// A packet at the beginning of a contract's way, with room for a receipt of each hop.
-    fn on_way(
-        alloc: Global,
-        domain: &Domain,
-        contract: &Contract,
-        mut trail: Trail,
-    ) -> Result<Traveller, AllocError>
-        requires numbered { trail.flow < 4294966272 }
-        requires short { length contract.now.path ≤ 16 }
+    /// A packet at the beginning of a way, to which it comes in with a colour, with room for a receipt of each hop.
+    fn on_way(way: Way, came: Colour, trail: Trail) -> Self
         requires fresh { trail.receipts.items ≡ [] }
-        ensures { IfOk result (λ traveller. traveller ≡ record {
-          packet = packet_of trail;
-          came = came contract.now trail.dscp;
-          hops = hops_of domain.now trail.flow contract.now;
-          receipts = [];
-        }) }
+        requires room { length way ≤ vec_capacity trail.receipts }
+        ensures { result ≡ record { packet = packet_of trail; came = came; hops = way; receipts = [] } }
     {
-        let hops = hops_of(alloc, domain, trail.flow, contract)?;
-        trail.receipts.reserve(hops.len())?;
-        let came = contract.came(trail.dscp);
-        Ok(Traveller { trail, came, hops })
+        Traveller { trail, came, way }
     }
 
     /// The number of its contract.
@@ -149,7 +166,7 @@ impl Traveller {
     pub fn next_hop(&self) -> Option<Hop>
         ensures { result ≡ next_hop self.now }
     {
-        self.hops.get(self.trail.receipts.len()).copied()
+        self.way.get(self.trail.receipts.len())
     }
 
     /// The number of the site that it comes to next; None at the end of its way.
@@ -262,7 +279,7 @@ impl Traveller {
         let Traveller {
             trail,
             came: _,
-            hops: _,
+            way: _,
         } = self;
         trail
     }

@@ -1,0 +1,177 @@
+ghost use Rattle.std.specs.Prelude.{◌≡◌, ◌+◌, ◌<◌, ◌≤◌, ℕ, List, [], ◌++◌, IfOk, length, map, slice_get, take};
+ghost use Rattle.meter_fabric_base.specs.Grounds.{ground_of};
+ghost use Rattle.meter_fabric_base.specs.Sites.{hops_of, site_of};
+ghost use Rattle.meter_fabric_base.specs.Ways.{way_at};
+
+use crate::hop::{Hop, edge_hop};
+use crate::site::{contract_of, flow_count, site_of};
+use ds_checker::Accepted;
+use ds_domain_base::{Contract, Domain, Name};
+use std::alloc::{AllocError, Global};
+use std::marker::Model;
+
+/// The hops of a packet's way, in order: an edge where its contract is policed, and up to 16 meters. It lies in the packet
+/// itself and takes no memory of its own.
+#[derive(Debug, Drop)]
+pub struct Way {
+    sites: [u32; 17],
+    count: u8,
+    // the number of the first hop; those behind it count on
+    first: u8,
+}
+
+impl Model for Way {
+    ghost use Rattle.std.specs.Prelude.{◌≡◌, ◌≤◌, List, length, take};
+    ghost use Rattle.meter_fabric_base.specs.Ways.{hops_from};
+    ghost use Rattle.meter_fabric_base.specs.declared.hop.Hop.{Hop};
+
+    ghost Value = { List Hop };
+
+    ghost view = { λ w. hops_from w.first (take w.count w.sites) };
+
+    ghost invariant = { λ w. (w.first ≤ 1) × (w.count ≤ 17) × (length w.sites ≡ 17) };
+}
+
+impl Way {
+    /// A way without hops.
+    fn none() -> Self
+        ensures { result ≡ [] }
+    {
+        Way {
+            sites: [0; 17],
+            count: 0,
+            first: 1,
+        }
+    }
+
+    /// The way of the packets of a contract: its edge where it is policed, then the meters of its path.
+    pub(crate) fn of(domain: &Domain, flow: u32, contract: &Contract) -> Self
+        requires numbered { flow < 4294966272 }
+        requires short { length contract.now.path ≤ 16 }
+        ensures { result ≡ hops_of domain.now flow contract.now }
+    {
+        let path = contract.path.meters();
+        let mut sites = [0; 17];
+        match edge_hop(domain, flow, &contract.terms) {
+            None => Way {
+                sites: with_path(domain, path, sites, 0),
+                count: path.len() as u8,
+                first: 1,
+            },
+            Some(edge) => {
+                sites[0] = edge.site;
+                Way {
+                    sites: with_path(domain, path, sites, 1),
+                    count: path.len() as u8 + 1,
+                    first: 0,
+                }
+            }
+        }
+    }
+
+    /// The same way again.
+    fn copy(&self) -> Self
+        ensures { result ≡ self.now }
+    {
+        Way {
+            sites: self.sites,
+            count: self.count,
+            first: self.first,
+        }
+    }
+
+    /// How many hops it has.
+    pub(crate) fn len(&self) -> usize
+        ensures { result ≡ length self.now }
+    {
+        usize::from(self.count)
+    }
+
+    /// The hop at a place, from 0; None behind its end.
+    pub(crate) fn get(&self, place: usize) -> Option<Hop>
+        ensures { result ≡ slice_get self.now place }
+    {
+        if place >= usize::from(self.count) {
+            return None;
+        }
+        Some(Hop {
+            site: self.sites[place],
+            number: self.first + place as u8,
+        })
+    }
+}
+
+/// Sites, and from a place on those of the meters of a path.
+fn with_path(domain: &Domain, path: &[Name], sites: [u32; 17], from: usize) -> [u32; 17]
+    requires { from + length path.now ≤ 17 }
+    ensures { take (from + length path.now) result ≡ take from sites ++ map (site_of domain.now) path.now }
+{
+    let mut all = sites;
+    let mut place = from;
+    for name in path {
+        all[place] = site_of(domain, *name);
+        place += 1;
+    }
+    all
+}
+
+/// An accepted table and the ways of the packets of its contracts, made once: so the packets begin without a look at names.
+/// Its value is the table.
+#[derive(Debug, Drop)]
+pub struct Ways<'a> {
+    accepted: &'a Accepted,
+    ways: Vec<Way>,
+}
+
+impl<'a> Model for Ways<'a> {
+    ghost use Rattle.std.specs.Prelude.{◌≡◌};
+    ghost use Rattle.ds_checker.specs.Acceptance.{Table};
+    ghost use Rattle.meter_fabric_base.specs.Ways.{ways_of};
+
+    ghost Value = { Table };
+
+    ghost view = { λ w. w.accepted.now };
+
+    ghost invariant = { λ w. w.ways.items ≡ ways_of w.accepted.now };
+}
+
+impl<'a> Ways<'a> {
+    /// The ways of the packets of a table's contracts; `AllocError` where memory runs out.
+    pub fn of(alloc: Global, accepted: &'a Accepted) -> Result<Ways<'a>, AllocError>
+        ensures { IfOk result (λ ways. ways ≡ accepted.now) }
+    {
+        let count = flow_count(accepted);
+        let mut ways = Vec::with_capacity(alloc, count as usize)?;
+        for flow in 0..count {
+            ways.push(way_at(accepted, flow))?;
+        }
+        Ok(Ways { accepted, ways })
+    }
+
+    /// The table.
+    pub fn accepted(&self) -> &'a Accepted
+        ensures { result.now ≡ self.now }
+    {
+        self.accepted
+    }
+
+    /// The way of the packets of a flow; it has no hops where there is no such contract.
+    pub(crate) fn way(&self, flow: u32) -> Way
+        ensures { result ≡ way_at (ground_of self.now) flow }
+    {
+        match self.ways.get(flow as usize) {
+            Some(way) => way.copy(),
+            None => Way::none(),
+        }
+    }
+}
+
+/// The way of the packets of a flow; it has no hops where there is no such contract.
+fn way_at(accepted: &Accepted, flow: u32) -> Way
+    ensures { result ≡ way_at (ground_of accepted.now) flow }
+{
+    match contract_of(accepted, flow) {
+        Some(contract) => Way::of(accepted.domain(), flow, contract),
+        None => Way::none(),
+    }
+}
