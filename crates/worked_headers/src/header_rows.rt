@@ -144,3 +144,16 @@ fn a_checksum_that_is_not_right_stays(rt: HostRuntime) -> Result<(), Fail> {
     let wanted = changed(&[(1, 0x28), (10, 0), (11, 0)]);
     expect_marked(&rt, wrong, Colour::Green, (wanted, false))
 }
+
+#[test]
+fn a_checksum_is_0_and_never_all_ones_after_a_mark(rt: HostRuntime) -> Result<(), Fail> {
+    let whole = [(4, 0xb8), (5, 0x39)];
+    let before = changed(&[whole[0], whole[1], (10, 0x00), (11, 0x28)]);
+    let nothing = changed(&[whole[0], whole[1], (1, 0x28), (10, 0x00), (11, 0x00)]);
+    expect_marked(&rt, before, Colour::Green, (nothing, true))?;
+    let all = changed(&[whole[0], whole[1], (1, 0x28), (10, 0xff), (11, 0xff)]);
+    expect_marked(&rt, all, Colour::Green, (nothing, true))?;
+    let after = changed(&[whole[0], whole[1], (1, 0x30), (10, 0xff), (11, 0xf7)]);
+    expect_marked(&rt, nothing, Colour::Yellow, (after, true))?;
+    expect_marked(&rt, all, Colour::Yellow, (after, true))
+}

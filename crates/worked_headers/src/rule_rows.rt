@@ -117,6 +117,10 @@ fn each_part_that_is_given_has_to_hold(rt: HostRuntime) -> Result<(), Fail> {
     expect(&rt, ANY, true)?;
     expect_source(&rt, 0xc0a8_00ff, 24, true)?;
     expect_source(&rt, 0xc0a8_00ff, 32, false)?;
+    expect_source(&rt, 0xc0a8_0000, 31, true)?;
+    expect_source(&rt, 0xc0a8_0001, 32, true)?;
+    expect_source(&rt, 0x8000_0000, 1, true)?;
+    expect_source(&rt, 0x4000_0000, 1, false)?;
     expect_target(&rt, 0x0102_0304, 0, true)?;
     expect_target(&rt, 0xc0a9_0000, 16, false)?;
     expect_protocol(&rt, 6, false)?;

@@ -1,7 +1,7 @@
 use crate::captures::capture;
 use af_marker::Dscp;
 use ds_domain_base::Name;
-use frame_marker::{PortClassifier, Sight, mark_frame};
+use frame_marker::{PortClassifier, Sight, mark_frame, mark_seen};
 use pcap_capture::LinkType;
 use std::alloc::Global;
 use std::process::Abort;
@@ -52,6 +52,30 @@ fn a_packet_is_marked_behind_the_tag(rt: HostRuntime) -> Result<(), Fail> {
     expect_marked(&rt, rt.alloc(), TAGGED, 12, YELLOW)?;
     expect_marked(&rt, rt.alloc(), TAGGED, 14, RED)?;
     expect_marked(&rt, rt.alloc(), OF_IPV6, 10, OF_IPV6)
+}
+
+/// Expects of a frame that was seen that a code point is put into its bytes.
+fn expect_marked_later(
+    rt: &impl Abort,
+    alloc: Global,
+    frame: &str,
+    code_point: u8,
+    wanted: &str,
+) -> Result<(), Fail> {
+    let classifier = PortClassifier::new(alloc, &[], Name::new("west")?)?;
+    let mut frame = capture(alloc, &[frame])?;
+    let seen = classifier.see(LinkType::Ethernet, frame.as_slice());
+    mark_seen(frame.as_mut_slice(), seen.mark, Dscp::new(code_point)?);
+    let wanted = capture(alloc, &[wanted])?;
+    assert_eq!(rt; frame.as_slice(), wanted.as_slice());
+    Ok(())
+}
+
+#[test]
+fn a_packet_that_was_seen_is_marked_behind_the_tag(rt: HostRuntime) -> Result<(), Fail> {
+    expect_marked_later(&rt, rt.alloc(), TAGGED, 10, GREEN)?;
+    expect_marked_later(&rt, rt.alloc(), GREEN, 12, YELLOW)?;
+    expect_marked_later(&rt, rt.alloc(), OF_IPV6, 10, OF_IPV6)
 }
 
 /// Expects what a frame is at a port without contracts.
