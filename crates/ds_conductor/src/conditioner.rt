@@ -15,6 +15,7 @@ ghost use Rattle.ds_visits.specs.declared.sent.Sent.{Sent};
 
 use crate::port::Port;
 use crate::report::Report;
+use crate::seen::SeenFrame;
 use crate::sending::{Counts, later, packet_of};
 use crate::tally::Tallies;
 use ds_checker::Accepted;
@@ -29,7 +30,7 @@ use std::collections::VecDeque;
 /// A frame that is held until its colour is decided, with the packet that it sent, if a contract took it.
 #[derive(Debug, Drop)]
 pub(crate) struct Held {
-    pub frame: Frame,
+    pub frame: SeenFrame,
     pub packet: Option<Sent>,
 }
 
@@ -82,12 +83,13 @@ impl<'a> Conditioner<'a> {
             → IsConditioned port.now true frames text self.new) }
     {
         let moment = later(self.newest, frame.moment());
-        let sight = port.classifier.sight(port.heading.link, frame.bytes());
-        let packet = packet_of(&sight, self.counts.records, moment);
+        let seen = port.classifier.see(port.heading.link, frame.bytes());
+        let packet = packet_of(&seen.sight, self.counts.records, moment);
+        let frame = SeenFrame::new(frame, port.heading.link, seen.mark);
         self.held.reserve(1)?;
         self.send(&packet)?;
         self.held.push_back(Held { frame, packet }).unwrap();
-        self.counts.add(sight);
+        self.counts.add(seen.sight);
         self.newest = moment;
         note(&mut self.judge, &packet);
         Ok(())
@@ -154,7 +156,7 @@ impl<'a> Conditioner<'a> {
 
     /// Takes out the first frame that is held, with its packet and the colour that this left with, if it sent one. None
     /// where that is not decided, or where no frame is held.
-    pub(crate) fn pop(&mut self) -> Option<(Frame, Option<(Sent, Colour)>)>
+    pub(crate) fn pop(&mut self) -> Option<(SeenFrame, Option<(Sent, Colour)>)>
         requires { IsBounded self.old }
         ensures bounded { IsBounded self.new }
         ensures records { self.new.counts.records ≡ self.old.counts.records }

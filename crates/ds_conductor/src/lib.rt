@@ -13,6 +13,7 @@ mod port;
 pub mod reading;
 pub mod report;
 pub mod rule;
+mod seen;
 pub mod sending;
 mod tally;
 pub mod writing;

@@ -201,7 +201,7 @@ impl Progress {
         }
     }
 
-    /// Takes the frames out that are there whole.
+    /// Takes the frames out that are there whole. There is room for as many at once, as far as memory goes.
     pub(crate) fn take_frames(&mut self, alloc: Global) -> Vec<Frame>
         ensures taken { result.items ≡ self.old.frames.items }
         ensures missing { self.new.missing ≡ self.old.missing }
@@ -213,6 +213,7 @@ impl Progress {
         ensures ended { (gone : List FrameValue) (bytes more : List ℕ) (fault : Option PcapFault)
             → IsEnded gone bytes more self.old fault → IsReading bytes more self.old.heading (gone ++ result.items) fault }
     {
-        std::mem::replace(&mut self.frames, Vec::new(alloc))
+        let next = Vec::with_capacity(alloc, self.frames.len()).unwrap_or(Vec::new(alloc));
+        std::mem::replace(&mut self.frames, next)
     }
 }

@@ -13,12 +13,12 @@ use crate::conditioner::Conditioner;
 use crate::fault::MarkFault;
 use crate::port::Port;
 use crate::rule::RedRule;
+use crate::seen::SeenFrame;
 use af_marker::{Dscp, dscp};
 use ds_visits::Sent;
-use frame_marker::mark_frame;
 use meter_fabric_base::contract_of;
 use moment_core::Colour;
-use pcap_capture::{Frame, LinkType, Outlet, PcapFault, hand_over};
+use pcap_capture::{LinkType, Outlet, PcapFault, hand_over};
 use std::alloc::AllocError;
 
 /// From so many bytes on, what is collected is handed over.
@@ -67,19 +67,20 @@ fn is_dropped(red: RedRule, colour: Colour) -> bool
     }
 }
 
-/// Marks the frame whose bytes stand in a text from a place on.
-fn mark_from(text: &mut Vec<u8>, start: usize, link: LinkType, dscp: Dscp)
-    requires { start ≤ length text.old.items }
+/// Marks a frame in a text, where its bytes stand from a place on.
+fn mark_from(text: &mut Vec<u8>, start: usize, frame: &SeenFrame, link: LinkType, dscp: Dscp)
+    requires within { start ≤ length text.old.items }
+    requires bytes { drop start text.old.items ≡ frame.now.bytes }
     ensures { text.new.items ≡ take start text.old.items ++ marked_frame link dscp (drop start text.old.items) }
 {
-    mark_frame(link, &mut text.as_mut_slice()[start..], dscp);
+    frame.mark(&mut text.as_mut_slice()[start..], link, dscp);
 }
 
 /// Adds the record of a frame to a text, marked there with the code point of a colour in the class of a contract.
 fn add_marked(
     out: &mut Vec<u8>,
     port: &Port<'_>,
-    frame: &Frame,
+    frame: &SeenFrame,
     flow: u32,
     colour: Colour,
 ) -> Result<(), AllocError>
@@ -90,7 +91,13 @@ fn add_marked(
     out.extend_from_slice(frame.record())?;
     if let Some(contract) = contract_of(port.accepted, flow) {
         let start = out.len() - frame.bytes().len();
-        mark_from(out, start, port.heading.link, dscp(contract.class, colour));
+        mark_from(
+            out,
+            start,
+            frame,
+            port.heading.link,
+            dscp(contract.class, colour),
+        );
     }
     Ok(())
 }
@@ -100,7 +107,7 @@ fn add_marked(
 fn add_record(
     out: &mut Vec<u8>,
     port: &Port<'_>,
-    frame: &Frame,
+    frame: &SeenFrame,
     packet: Option<(Sent, Colour)>,
 ) -> Result<(), AllocError>
     ensures { OnOk result (out.new.items
@@ -119,7 +126,7 @@ fn write_frame<O: Outlet>(
     outlet: &mut O,
     out: &mut Vec<u8>,
     port: &Port<'_>,
-    frame: Frame,
+    frame: SeenFrame,
     packet: Option<(Sent, Colour)>,
 ) -> Result<(), MarkFault>
     ensures told { O.tells outlet.old → O.tells outlet.new }

@@ -1,6 +1,7 @@
 use Rattle.std.proofs.Common.{◌<◌, ◌-◌, ◌^◌, ℕ, arith, ◌≡◌, [], ◌∷◌, ◌++◌, if◌then◌else◌, is_ok, ap, refl, ◌∙◌}
 use Rattle.std.specs.Prelude.{max, option_to_list}
 use Rattle.ds_visits_verdict.specs.Judging.{verdict_with}
+use Rattle.pcap_capture.specs.Frames.{FrameValue}
 use Rattle.ds_conductor.specs.Conditionings.{see_at}
 use Rattle.ds_conductor.specs.Sendings.{counted_on}
 use Rattle.ds_conductor.specs.declared.conditioner.Held.{Held}
@@ -14,14 +15,15 @@ pub returns-clause-seen : goal.returns-clause-seen
 returns-clause-seen c frames text was =
     let p = c.args.port.now in
     let rest = c.send.ensures.rest in
-    let put : Held = record { frame = c.args.frame; packet = c.packet_of-packet.result } in
+    let put : Held = record { frame = c.new-frame.result; packet = c.packet_of-packet.result } in
     let before = c.send.new.self.held.items in
     let there : c.push_back.new.self.items ≡ (if is_ok c.push_back.result then before ++ put ∷ [] else before) = c.push_back.ensures.items in
     let pushed : c.push_back.new.self.items ≡ before ++ put ∷ [] =
     there ∙ ap (λ ok. if ok then before ++ put ∷ [] else before) (ap is_ok c.unwrap.ensures) in
-    seen p frames text c.args.frame c.sight-sight.result c.later-moment.result c.packet_of-packet.result c.args.self.now _ was
-    (c.sight-sight.ensures ∙ ap (see_at p) c.bytes.ensures) (c.later-moment.ensures ∙ ap (max c.args.self.now.newest) c.moment.ensures.value) c.packet_of-packet.ensures
-    refl (c.add.ensures ∙ ap (λ d. counted_on d.counts c.sight-sight.result) rest) (ap (λ d. d.tallies) rest)
-    (pushed ∙ ap (λ hs. hs ++ put ∷ []) (ap (λ d. d.held.items) rest ∙ c.in_ok-reserve.ensures.items)) c.in_ok-send.ensures.comes
+    seen p frames text c.args.frame c.see-seen.result.sight c.later-moment.result c.packet_of-packet.result c.args.self.now _ was
+    (c.see-seen.ensures.sight ∙ ap (see_at p) c.bytes.ensures) (c.later-moment.ensures ∙ ap (max c.args.self.now.newest) c.moment.ensures.value) c.packet_of-packet.ensures
+    refl (c.add.ensures ∙ ap (λ d. counted_on d.counts c.see-seen.result.sight) rest) (ap (λ d. d.tallies) rest)
+    (pushed ∙ ap (λ hs. hs ++ put ∷ []) (ap (λ d. d.held.items) rest ∙ c.in_ok-reserve.ensures.items)
+    ∙ ap (λ (f : FrameValue). c.args.self.now.held.items ++ record { frame = f; packet = c.packet_of-packet.result } ∷ []) c.new-frame.ensures) c.in_ok-send.ensures.comes
     (early_by c.moment.result c.args.frame.moment c.moment.ensures.value c.moment.ensures.early)
     (λ back. c.note.ensures back ∙ ap (λ d. verdict_with d.judge (option_to_list c.packet_of-packet.result ++ back)) rest)
