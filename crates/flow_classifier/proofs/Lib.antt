@@ -1,2 +1,3 @@
--- Lemmas on masks.
+-- Lemmas on masks, and on tables of rules.
 pub mod MaskLaws
+pub mod TableLaws

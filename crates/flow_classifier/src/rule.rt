@@ -1,7 +1,7 @@
 ghost use Rattle.std.specs.Prelude.{◌≡◌, ◌≤◌};
 ghost use Rattle.std.specs.Result.{OkIff};
 ghost use Rattle.flow_classifier.specs.Matching.{is_in_prefix};
-ghost use Rattle.flow_classifier.specs.Parts.{mask_of};
+ghost use Rattle.flow_classifier.specs.Parts.{mask_of, network_of};
 
 use af_marker::{Dscp, OutOfRange};
 use std::marker::Model;
@@ -77,6 +77,20 @@ impl Prefix {
         ensures { result ≡ is_in_prefix self address }
     {
         address & self.mask == self.network
+    }
+
+    /// The bits that count.
+    pub(crate) fn mask(self) -> u32
+        ensures { result ≡ mask_of self.length }
+    {
+        self.mask
+    }
+
+    /// Its address in the bits that count, and 0 in the others.
+    pub(crate) fn network(self) -> u32
+        ensures { result ≡ network_of self.address self.length }
+    {
+        self.network
     }
 
     /// Its address, with the bits past the length as they were given.

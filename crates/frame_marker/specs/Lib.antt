@@ -1,6 +1,5 @@
 -- What a frame is at a port, and how it is marked.
 pub mod Frames
-pub mod Kept
 pub mod Marks
 pub mod Ports
 pub mod Sights

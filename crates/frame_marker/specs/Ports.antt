@@ -1,29 +1,18 @@
 -- What the rules of a port's contracts say of a frame.
-use Rattle.std.specs.Prelude.{ℕ, List, slice_get, Option, None, Some}
-use Rattle.std.specs.Option.{option_and_then}
+use Rattle.std.specs.Prelude.{ℕ, List, Option, None, Some}
 use Rattle.af_marker.specs.declared.ipv4.Header.{Header}
-use Rattle.flow_classifier.specs.Matching.{first_match_of}
-use Rattle.flow_classifier.specs.declared.key.Key.{Key}
-use Rattle.flow_classifier.specs.declared.rule.Rule.{Rule}
+use Rattle.flow_classifier.specs.Tables.{first_flow_of}
+use Rattle.flow_classifier.specs.declared.table.FlowRule.{FlowRule}
 use Rattle.pcap_capture.specs.declared.heading.LinkType.{LinkType}
 use Rattle.frame_marker.specs.Frames.{header_in}
 use Rattle.frame_marker.specs.Sights.{key_of, sight_for}
 use Rattle.frame_marker.specs.declared.sight.Sight.{Sight}
 use Rattle.frame_marker.specs.declared.sight.Sight.TheVariants.{Skipped}
 
--- rules in the order in which they are asked, and the numbers of their contracts
-pub record Classifier : Type 0 where
-  pub flows : List ℕ
-  pub rules : List Rule
+abbrev pub sight_through : List FlowRule → Option Header → Sight
+sight_through rules None = Skipped
+sight_through rules (Some header) = sight_for header (first_flow_of rules (key_of header))
 
--- the number that goes with the first rule that holds
-abbrev pub found : Classifier → Key → Option ℕ
-found c key = option_and_then (slice_get c.flows) (first_match_of c.rules key)
-
-abbrev pub sight_through : Classifier → Option Header → Sight
-sight_through c None = Skipped
-sight_through c (Some header) = sight_for header (found c (key_of header))
-
--- what a frame is by these rules
-unfoldable pub sight_at : Classifier → LinkType → List ℕ → Sight
-sight_at c link bytes = sight_through c (header_in link bytes)
+-- what a frame is by these rules, each with the number of its contract
+unfoldable pub sight_at : List FlowRule → LinkType → List ℕ → Sight
+sight_at rules link bytes = sight_through rules (header_in link bytes)

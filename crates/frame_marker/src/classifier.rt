@@ -1,7 +1,7 @@
 ghost use Rattle.std.specs.Prelude.{◌≡◌, ℕ, List, IfOk};
-ghost use Rattle.flow_classifier.specs.declared.key.Key.{Key};
 ghost use Rattle.pcap_capture.specs.declared.heading.LinkType.{LinkType};
-ghost use Rattle.frame_marker.specs.Ports.{found, sight_at};
+ghost use Rattle.flow_classifier.specs.Tables.{first_flow_of};
+ghost use Rattle.frame_marker.specs.Ports.{sight_at};
 ghost use Rattle.frame_marker.specs.Marks.{mark_in};
 ghost use Rattle.frame_marker.specs.Sights.{key_of, sight_for, sight_of};
 
@@ -9,7 +9,7 @@ use crate::mark::Mark;
 use crate::sight::{Seen, Sight};
 use af_marker::{Header, header};
 use ds_domain_base::{Contract, Name};
-use flow_classifier::{Key, Rule, first_match};
+use flow_classifier::{FlowRule, Key, RuleTable};
 use pcap_capture::LinkType;
 use std::alloc::{AllocError, Global};
 use std::marker::Model;
@@ -18,21 +18,18 @@ use std::marker::Model;
 const MOST_CONTRACTS: usize = 4_294_966_272;
 
 /// The rules of the contracts of a port, in the order of the contracts, each with the number of its contract.
-#[derive(Debug, Drop)]
+#[derive(Drop)]
 pub struct PortClassifier {
-    flows: Vec<u32>,
-    rules: Vec<Rule>,
+    rules: RuleTable,
 }
 
 impl Model for PortClassifier {
-    ghost use Rattle.frame_marker.specs.Kept.{IsClassifier};
-    ghost use Rattle.frame_marker.specs.Ports.{Classifier};
+    ghost use Rattle.std.specs.Prelude.{List};
+    ghost use Rattle.flow_classifier.specs.declared.table.FlowRule.{FlowRule};
 
-    ghost Value = { Classifier };
+    ghost Value = { List FlowRule };
 
-    ghost view = { λ c. record { flows = c.flows.items; rules = c.rules.items } };
-
-    ghost invariant = { λ c. IsClassifier (record { flows = c.flows.items; rules = c.rules.items }) };
+    ghost view = { λ c. c.rules };
 }
 
 impl PortClassifier {
@@ -42,15 +39,17 @@ impl PortClassifier {
             ≡ sight_of contracts.now port link bytes) }
     {
         let heeded = &contracts[..MOST_CONTRACTS.min(contracts.len())];
-        let mut flows = Vec::new(alloc);
-        let mut rules = Vec::new(alloc);
-        for (flow, contract) in heeded.iter().enumerate() {
+        let mut rules = RuleTable::new(alloc);
+        for (place, contract) in heeded.iter().enumerate() {
             if port == contract.port {
-                flows.push(flow as u32)?;
-                rules.push(contract.rule)?;
+                let flow = place as u32;
+                rules.push(FlowRule {
+                    flow,
+                    rule: contract.rule,
+                })?;
             }
         }
-        Ok(PortClassifier { flows, rules })
+        Ok(PortClassifier { rules })
     }
 
     /// What a frame is at the port.
@@ -81,19 +80,11 @@ impl PortClassifier {
 
     /// What a frame with this header is at the port.
     fn sight_for(&self, header: Header) -> Sight
-        ensures { result ≡ sight_for header (found self.now (key_of header)) }
+        ensures { result ≡ sight_for header (first_flow_of self.now (key_of header)) }
     {
-        match self.flow(&Key::of(&header)) {
+        match self.rules.first_flow(&Key::of(&header)) {
             None => Sight::Unmatched,
             Some(flow) => Sight::Matched { flow, header },
         }
-    }
-
-    /// The number that goes with the first rule that holds.
-    fn flow(&self, key: &Key) -> Option<u32>
-        ensures { result ≡ found self.now key.now }
-    {
-        let place = first_match(&self.rules, key)?;
-        self.flows.get(place).copied()
     }
 }

@@ -1,6 +1,6 @@
 use crate::header_rows::changed;
 use af_marker::{Dscp, OutOfRange, header};
-use flow_classifier::{Key, PortRange, Prefix, Rule, first_match};
+use flow_classifier::{FlowRule, Key, PortRange, Prefix, Rule, RuleTable, first_match};
 use std::process::Abort;
 use std::test::Fail;
 
@@ -130,5 +130,39 @@ fn each_part_that_is_given_has_to_hold(rt: HostRuntime) -> Result<(), Fail> {
     expect_dscp(&rt, 0, true)?;
     expect_dscp(&rt, 10, false)?;
     assert!(rt; first_match(&[], &key_of_fragment(0)?).is_none());
+    Ok(())
+}
+
+/// A table of rules for packets from these hosts, and behind them one for packets from anywhere: the flow of each is ten
+/// times its place.
+fn table_of(rt: &HostRuntime, hosts: &[u32; 40]) -> Result<RuleTable, Fail> {
+    let mut rules = RuleTable::new(rt.alloc());
+    for place in 0..40 {
+        let source = Some(Prefix::new(hosts[place], 32)?);
+        let rule = Rule { source, ..ANY };
+        let flow = 10 * place as u32;
+        rules.push(FlowRule { flow, rule })?;
+    }
+    let flow = 400;
+    rules.push(FlowRule { flow, rule: ANY })?;
+    Ok(rules)
+}
+
+#[test]
+fn a_table_finds_the_first_rule_among_groups_of_sixteen(rt: HostRuntime) -> Result<(), Fail> {
+    let source = 0xc0a8_0001;
+    let other = 0x0a00_0001;
+    let key = key_of_fragment(0)?;
+    assert!(rt; RuleTable::new(rt.alloc()).first_flow(&key).is_none());
+    let none = table_of(&rt, &[other; 40])?;
+    assert_eq!(rt; none.first_flow(&key), Some(400));
+    let mut hosts = [other; 40];
+    hosts[16] = source;
+    hosts[33] = source;
+    let second = table_of(&rt, &hosts)?;
+    assert_eq!(rt; second.first_flow(&key), Some(160));
+    hosts[15] = source;
+    let first = table_of(&rt, &hosts)?;
+    assert_eq!(rt; first.first_flow(&key), Some(150));
     Ok(())
 }

@@ -3,5 +3,5 @@ use Rattle.frame_marker.proofs.ClassifierLaws.{AreTaken}
 use Rattle.frame_marker.proofs.classifier.PortClassifier.new.Given as goal
 
 -- the contracts so far are taken
-abbrev pub invariant-loop-flow : goal.invariant-loop-flow
-invariant-loop-flow l = AreTaken l.port l.flows.items l.rules.items (take l.flow l.heeded)
+abbrev pub invariant-loop-place : goal.invariant-loop-place
+invariant-loop-place l = AreTaken l.port l.rules (take l.place l.heeded)

@@ -1,0 +1,218 @@
+ghost use Rattle.std.specs.Prelude.{◌≡◌, ℕ, ◌<◌, false, [], ◌∷◌, ◌++◌, length, replicate, slice_set, Option};
+ghost use Rattle.std.specs.Prelude.{IfOk, OnErr, OnOk};
+ghost use Rattle.flow_classifier.specs.Kept.{IsAskedAt};
+ghost use Rattle.flow_classifier.specs.Matching.{holds_where_given, is_in_prefix};
+ghost use Rattle.flow_classifier.specs.Parts.{PrefixValue};
+ghost use Rattle.flow_classifier.specs.Tables.{first_flow_of, mask_asked, network_asked};
+
+use crate::key::Key;
+use crate::rule::{Prefix, Rule};
+use std::alloc::{AllocError, Global};
+use std::marker::Model;
+use std::simd::prelude::*;
+
+/// How many rules stand together.
+const TOGETHER: usize = 16;
+
+/// A rule, and the number of the flow whose packets it picks.
+#[derive(Clone, Copy, Debug, PartialEq, Eq, Hash)]
+pub struct FlowRule {
+    /// The flow's number.
+    pub flow: u32,
+    /// The rule.
+    pub rule: Rule,
+}
+
+/// What sixteen rules ask of a source, side by side, so that all are tested at once.
+#[derive(Clone, Copy)]
+struct Sources {
+    /// The bits of a source that count for each rule.
+    masks: [u32; TOGETHER],
+    /// What a source that is asked for has in these bits.
+    networks: [u32; TOGETHER],
+}
+
+/// The bits of a source that count for a rule: none where it asks for no source.
+fn mask_asked(source: &Option<Prefix>) -> u32
+    ensures { result ≡ mask_asked source.now }
+{
+    match source {
+        None => 0,
+        Some(prefix) => prefix.mask(),
+    }
+}
+
+/// What a source that is asked for has in the bits that count.
+fn network_asked(source: &Option<Prefix>) -> u32
+    ensures { result ≡ network_asked source.now }
+{
+    match source {
+        None => 0,
+        Some(prefix) => prefix.network(),
+    }
+}
+
+impl Sources {
+    /// Those of no rules: they are asked for by no source.
+    fn none() -> Self
+        ensures { result ≡ record { masks = replicate 16 0; networks = replicate 16 1 } }
+    {
+        Sources {
+            masks: [0; TOGETHER],
+            networks: [1; TOGETHER],
+        }
+    }
+
+    /// Puts what the rule of a place asks of a source there.
+    fn set(&mut self, place: usize, source: &Option<Prefix>)
+        requires place { place < 16 }
+        requires masks { length self.old.masks ≡ 16 }
+        requires networks { length self.old.networks ≡ 16 }
+        ensures { self.new ≡ record {
+          masks = slice_set self.old.masks place (mask_asked source.now);
+          networks = slice_set self.old.networks place (network_asked source.now);
+        } }
+    {
+        self.masks[place] = mask_asked(source);
+        self.networks[place] = network_asked(source);
+    }
+
+    /// The place of the first that an address has, 16 where it has none: no rule before it asks for that address.
+    fn first(&self, address: u32) -> usize
+        requires masks { length self.now.masks ≡ 16 }
+        requires networks { length self.now.networks ≡ 16 }
+        ensures { (k : ℕ) (source : Option PrefixValue) → k < 16 → k < result → IsAskedAt self.now k source
+            → holds_where_given is_in_prefix source address ≡ false }
+    {
+        let under = u32x16::splat(address) & u32x16::from_array(self.masks);
+        let same = under.simd_eq(u32x16::from_array(self.networks));
+        let places = same.to_bitmask();
+        if places == 0 {
+            TOGETHER
+        } else {
+            places.trailing_zeros() as usize
+        }
+    }
+}
+
+/// Neighbouring rules, sixteen at most.
+#[derive(Drop)]
+struct Group {
+    sources: Sources,
+    rules: Vec<FlowRule>,
+}
+
+impl Model for Group {
+    ghost use Rattle.std.specs.Prelude.{List};
+    ghost use Rattle.flow_classifier.specs.declared.table.FlowRule.{FlowRule};
+    ghost use Rattle.flow_classifier.specs.Kept.{AreBeside};
+
+    ghost Value = { List FlowRule };
+
+    ghost view = { λ g. g.rules.items };
+
+    ghost invariant = { λ g. AreBeside g.sources g.rules.items };
+}
+
+impl Group {
+    /// No rules; `AllocError` where memory runs out.
+    fn new(alloc: Global) -> Result<Self, AllocError>
+        ensures { IfOk result (λ group. group ≡ []) }
+    {
+        let rules = Vec::with_capacity(alloc, TOGETHER)?;
+        let sources = Sources::none();
+        Ok(Group { sources, rules })
+    }
+
+    /// How many rules there are.
+    fn len(&self) -> usize
+        ensures { result ≡ length self.now }
+    {
+        self.rules.len()
+    }
+
+    /// Adds a rule behind the others; `AllocError` where memory runs out, and all is then as it was.
+    fn push(&mut self, row: FlowRule) -> Result<(), AllocError>
+        requires { length self.old < 16 }
+        ensures pushed { OnOk result (self.new ≡ self.old ++ row ∷ []) }
+        ensures unchanged { OnErr result (self.new ≡ self.old) }
+    {
+        self.rules.reserve(1)?;
+        let place = self.rules.len();
+        self.sources.set(place, &row.rule.source);
+        self.rules.push(row).unwrap();
+        Ok(())
+    }
+
+    /// The flow of the first rule that holds of a packet.
+    fn first_flow(&self, key: &Key) -> Option<u32>
+        ensures { result ≡ first_flow_of self.now key.now }
+    {
+        let first = self.sources.first(key.source).min(self.rules.len());
+        for row in &self.rules[first..] {
+            if row.rule.holds(key) {
+                return Some(row.flow);
+            }
+        }
+        None
+    }
+}
+
+/// Rules in the order in which they are asked, each with the number of the flow whose packets it picks. The sources of
+/// sixteen rules are tested at once.
+#[derive(Drop)]
+pub struct RuleTable {
+    alloc: Global,
+    groups: Vec<Group>,
+}
+
+impl Model for RuleTable {
+    ghost use Rattle.std.specs.Prelude.{List};
+    ghost use Rattle.flow_classifier.specs.declared.table.FlowRule.{FlowRule};
+    ghost use Rattle.flow_classifier.specs.Kept.{rules_in};
+
+    ghost Value = { List FlowRule };
+
+    ghost view = { λ t. rules_in t.groups.items };
+}
+
+impl RuleTable {
+    /// No rules.
+    pub fn new(alloc: Global) -> Self
+        ensures { result ≡ [] }
+    {
+        RuleTable {
+            alloc,
+            groups: Vec::new(alloc),
+        }
+    }
+
+    /// Adds the rule of a flow behind the others; `AllocError` where memory runs out, and all is then as it was.
+    pub fn push(&mut self, row: FlowRule) -> Result<(), AllocError>
+        ensures pushed { OnOk result (self.new ≡ self.old ++ row ∷ []) }
+        ensures unchanged { OnErr result (self.new ≡ self.old) }
+    {
+        match self.groups.last_mut() {
+            Some(group) if group.len() < TOGETHER => group.push(row),
+            _ => {
+                let mut group = Group::new(self.alloc)?;
+                group.push(row)?;
+                self.groups.push(group)?;
+                Ok(())
+            }
+        }
+    }
+
+    /// The flow of the first rule that holds of a packet.
+    pub fn first_flow(&self, key: &Key) -> Option<u32>
+        ensures { result ≡ first_flow_of self.now key.now }
+    {
+        for group in &self.groups {
+            let found = group.first_flow(key);
+            if found.is_some() {
+                return found;
+            }
+        }
+        None
+    }
+}
