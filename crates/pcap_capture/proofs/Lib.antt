@@ -3,4 +3,7 @@ pub mod CutLaws
 pub mod FrontLaws
 pub mod GrammarLaws
 pub mod HeadingLaws
+pub mod OwnLaws
+pub mod PieceLaws
 pub mod RecordLaws
+pub mod TakingLaws

@@ -5,3 +5,4 @@ pub mod Frames
 pub mod Fronts
 pub mod Grammar
 pub mod Packets
+pub mod Takings

@@ -1,11 +1,16 @@
-ghost use Rattle.std.specs.Prelude.{◌≡◌, ℕ, List, ◌++◌, [], None, Some, IfErr, IfOk, OnOk, MatchResult};
+ghost use Rattle.std.specs.Prelude.{◌≡◌, ◌⊎◌, ◌<◌, ℕ, List, ◌++◌, [], length, None, Some, Ok, Err, IfErr, IfOk, OnOk};
+ghost use Rattle.std.specs.Prelude.{MatchResult, if◌then◌else◌};
+ghost use Rattle.pcap_capture.specs.Counts.{next_count};
 ghost use Rattle.pcap_capture.specs.Frames.{FrameValue};
 ghost use Rattle.pcap_capture.specs.Grammar.{CaptureState, IsSettled, IsSoFar, Reading, continued, Stops, broken};
 ghost use Rattle.pcap_capture.specs.Grammar.{capture, ending, fault_in, prepend, read_on, reading};
+ghost use Rattle.pcap_capture.specs.Takings.{IsTaken, is_read_fault};
 
+use crate::device::Intake;
 use crate::fault::PcapFault;
 use crate::frame::Frame;
 use crate::heading::{Heading, heading_at_front};
+use crate::pieces::take_behind;
 use crate::record::read_records;
 use crate::stage::Stage;
 use std::alloc::Global;
@@ -79,20 +84,83 @@ impl Capture {
         if let Stage::Broken = self.stage {
             return Err(PcapFault::Failed);
         }
-        let read = match self.rest.extend_from_slice(piece) {
-            Ok(()) => read_stage(alloc, self.stage, &mut self.rest, out),
-            Err(_) => Err(PcapFault::NoMemory),
+        let Capture { stage, mut rest } = std::mem::replace(self, Capture::broken(alloc));
+        let Ok(()) = rest.extend_from_slice(piece) else {
+            return Err(PcapFault::NoMemory);
         };
-        match read {
-            Ok(stage) => {
-                self.stage = stage;
-                Ok(())
-            }
-            Err(fault) => {
-                self.stage = Stage::Broken;
-                self.rest.clear();
-                Err(fault)
-            }
+        self.go_on(alloc, stage, rest, out)
+    }
+
+    /// Takes the next piece of a capture, of at most so many bytes, from a device, straight behind what is left over of
+    /// the last one, and adds the frames that are whole now. Answers how many bytes were taken: none only at the
+    /// device's end, or where none were asked for.
+    ///
+    /// Faults: those of `feed`, where `NoMemory` may come before the device is asked; `ReadFault` where the device
+    /// fails, and then nothing changes. After any other fault each later call answers `Failed`, without asking.
+    pub fn take_from<I: Intake>(
+        &mut self,
+        alloc: Global,
+        intake: &mut I,
+        most: usize,
+        out: &mut Vec<Frame>,
+    ) -> Result<usize, PcapFault>
+        ensures told { I.tells intake.old → I.tells intake.new }
+        ensures ok { IfOk result (λ taken.
+            (it : IsTaken (I.tells intake.old) most (I.left intake.old) (I.left intake.new) self.old self.new
+            out.old.items out.new.items None) × (length it.piece ≡ taken)) }
+        ensures err { IfErr result (λ fault.
+            ((fault ≡ PcapFault.ReadFault) × (self.new ≡ self.old) × (out.new.items ≡ out.old.items)
+            × (I.tells intake.old → I.left intake.new ≡ I.left intake.old))
+            ⊎ IsTaken (I.tells intake.old) most (I.left intake.old) (I.left intake.new) self.old self.new
+            out.old.items out.new.items (Some fault)) }
+        ensures end { I.tells intake.old → result ≡ Ok 0 → 0 < most → I.left intake.new ≡ [] }
+        ensures failures { I.failed intake.new
+            ≡ (if is_read_fault result then next_count (I.failed intake.old) else I.failed intake.old) }
+        ensures asked { (I.turns intake.new ≡ next_count (I.turns intake.old))
+            ⊎ ((intake.new ≡ intake.old) × ((result ≡ Err PcapFault.NoMemory) ⊎ (result ≡ Err PcapFault.Failed))) }
+        ensures broken { self.old.stage ≡ Stage.Broken
+            → (result ≡ Err PcapFault.Failed) × (intake.new ≡ intake.old) }
+    {
+        if let Stage::Broken = self.stage {
+            return Err(PcapFault::Failed);
+        }
+        let Capture { stage, mut rest } = std::mem::replace(self, Capture::broken(alloc));
+        let Ok(answer) = take_behind(intake, &mut rest, most) else {
+            return Err(PcapFault::NoMemory);
+        };
+        let Ok(taken) = answer else {
+            *self = Capture { stage, rest };
+            return Err(PcapFault::ReadFault);
+        };
+        self.go_on(alloc, stage, rest, out)?;
+        Ok(taken)
+    }
+
+    /// Goes on from a stage with the bytes of which no frame was made, unless a fault is found there.
+    fn go_on(
+        &mut self,
+        alloc: Global,
+        stage: Stage,
+        mut rest: Vec<u8>,
+        out: &mut Vec<Frame>,
+    ) -> Result<(), PcapFault>
+        ensures ok { OnOk result (record { frames = out.new.items; fault = None; state = self.new }
+            ≡ prepend out.old.items (read_on stage rest.items)) }
+        ensures err { IfErr result (λ fault. (self.new ≡ self.old)
+            × Stops (prepend out.old.items (read_on stage rest.items)) out.new.items fault) }
+    {
+        let stage = read_stage(alloc, stage, &mut rest, out)?;
+        *self = Capture { stage, rest };
+        Ok(())
+    }
+
+    /// A capture in which a fault was found.
+    fn broken(alloc: Global) -> Self
+        ensures { result ≡ broken }
+    {
+        Capture {
+            stage: Stage::Broken,
+            rest: Vec::new(alloc),
         }
     }
 

@@ -106,6 +106,8 @@ pub(crate) fn read_records(
     if rest.len() < size_of_record(heading, rest)? {
         return Ok(());
     }
+    // frames may be held long: a short piece leaves them no more room than its bytes
+    rest.shrink_to_fit();
     let Ok(text) = Rc::new(alloc, std::mem::replace(rest, Vec::new(alloc))) else {
         return Err(PcapFault::NoMemory);
     };

@@ -1,4 +1,4 @@
-use pcap_capture::{Capture, Frame, LinkType, PcapFault, Stage};
+use pcap_capture::{Capture, Frame, LinkType, PcapFault, SliceIntake, Stage};
 use std::alloc::Global;
 use std::process::Abort;
 use std::test::Fail;
@@ -43,14 +43,13 @@ fn expect_frame(
     assert_eq!(rt; found, wanted);
 }
 
-/// Expects both frames of that capture of a reading in pieces of so many bytes.
-fn expect_both(rt: &impl Abort, alloc: Global, piece: usize) -> Result<(), Fail> {
+/// Expects both frames of that capture, and no fault.
+fn expect_both(rt: &impl Abort, frames: &[Frame], fault: Option<PcapFault>) {
     let bytes = TAGGED_AND_IPV6.as_slice();
     let (tagged, other) = (
         (&bytes[24..40], &bytes[40..78]),
         (&bytes[78..94], &bytes[94..]),
     );
-    let (frames, fault) = read(alloc, bytes, piece)?;
     assert_eq!(rt; (frames.len(), fault), (2, None));
     expect_frame(
         rt,
@@ -66,14 +65,53 @@ fn expect_both(rt: &impl Abort, alloc: Global, piece: usize) -> Result<(), Fail>
         other,
         (2_000_000_000, None),
     );
-    Ok(())
 }
 
 #[test]
 fn pieces_of_any_size_give_the_same_frames(rt: HostRuntime) -> Result<(), Fail> {
-    expect_both(&rt, rt.alloc(), 1)?;
-    expect_both(&rt, rt.alloc(), 7)?;
-    expect_both(&rt, rt.alloc(), 109)
+    for piece in [1, 7, 109] {
+        let (frames, fault) = read(rt.alloc(), &TAGGED_AND_IPV6, piece)?;
+        expect_both(&rt, frames.as_slice(), fault);
+    }
+    Ok(())
+}
+
+/// Takes a capture of at most 109 bytes from a device, in pieces of at most so many, to its end or its first fault.
+fn take(alloc: Global, bytes: &[u8], most: usize) -> (Vec<Frame>, Option<PcapFault>) {
+    let mut intake = SliceIntake::new(bytes);
+    let mut capture = Capture::begin(alloc);
+    let mut frames = Vec::new(alloc);
+    for _turn in 0..110 {
+        match capture.take_from(alloc, &mut intake, most, &mut frames) {
+            Ok(0) => return (frames, capture.finish().err()),
+            Ok(_) => {}
+            Err(fault) => return (frames, Some(fault)),
+        }
+    }
+    (frames, Some(PcapFault::ReadFault))
+}
+
+#[test]
+fn pieces_that_a_device_gives_make_the_same_frames(rt: HostRuntime) {
+    for most in [1, 7, 109] {
+        let (frames, fault) = take(rt.alloc(), &TAGGED_AND_IPV6, most);
+        expect_both(&rt, frames.as_slice(), fault);
+    }
+    let (frames, fault) = take(rt.alloc(), &TAGGED_AND_IPV6[..77], 50);
+    assert_eq!(rt; (frames.len(), fault), (0, Some(PcapFault::Truncated)));
+}
+
+#[test]
+fn a_capture_goes_on_behind_a_device_that_failed(rt: HostRuntime) {
+    let (alloc, mut frames) = (rt.alloc(), Vec::new(rt.alloc()));
+    let mut capture = Capture::begin(alloc);
+    let mut intake = SliceIntake::new(&TAGGED_AND_IPV6);
+    intake.fails_at = Some(2);
+    for wanted in [Ok(50), Err(PcapFault::ReadFault), Ok(50), Ok(9), Ok(0)] {
+        let taken = capture.take_from(alloc, &mut intake, 50, &mut frames);
+        assert_eq!(rt; taken, wanted);
+    }
+    expect_both(&rt, frames.as_slice(), capture.finish().err());
 }
 
 /// Expects of a reading in pieces of so many bytes how many frames come, and which fault.
@@ -190,6 +228,9 @@ fn after_a_fault_each_call_fails(rt: HostRuntime) {
     assert_eq!(rt; capture.finish(), Err(PcapFault::Failed));
     let fed = capture.feed(rt.alloc(), &TAGGED_AND_IPV6, &mut frames);
     assert_eq!(rt; fed, Err(PcapFault::Failed));
+    let mut intake = SliceIntake::new(&TAGGED_AND_IPV6);
+    let taken = capture.take_from(rt.alloc(), &mut intake, 109, &mut frames);
+    assert_eq!(rt; (taken, intake.turns), (Err(PcapFault::Failed), 0));
     assert_eq!(rt; (capture.stage(), frames.len()), (Stage::Broken, 0));
 }
 
