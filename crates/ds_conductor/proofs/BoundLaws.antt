@@ -1,8 +1,8 @@
 -- How many packets are under way.
 use Rattle.std.proofs.Common.{◌≡◌, ℕ, sym, ap, subst, ◌∙◌, arith}
-use Rattle.ds_visits.proofs.ColouringLaws.{made-place}
-use Rattle.ds_visits.proofs.PassLaws.{passed_all-first}
-use Rattle.ds_visits.specs.Streams.{Stream, due, made_due}
+use Rattle.ds_conductor_base.proofs.ColouringLaws.{made-place}
+use Rattle.ds_conductor_base.proofs.PassLaws.{passed_all-first}
+use Rattle.ds_conductor_base.specs.Streams.{Stream, due, made_due}
 use Rattle.ds_conductor.specs.Conditionings.{IsBounded}
 use Rattle.ds_conductor.specs.Tallies.{AreWithin}
 use Rattle.ds_conductor.specs.declared.conditioner.Conditioner.{Conditioner}

@@ -12,15 +12,15 @@ use Rattle.pcap_capture.specs.Frames.{FrameValue}
 use Rattle.pcap_capture.specs.Fronts.{IsFrontOf}
 use Rattle.frame_marker.specs.declared.sight.Sight.{Sight}
 use Rattle.frame_marker.specs.declared.sight.Sight.TheVariants.{Matched, Skipped, Unmatched}
-use Rattle.ds_visits.proofs.ColouringLaws.{handed_out, sent_first}
-use Rattle.ds_visits.proofs.StreamLaws.{one_colour_each}
-use Rattle.ds_visits.specs.Passing.{colours_of}
-use Rattle.ds_visits.specs.Streams.{AreSentFrom, begun, colours_left}
-use Rattle.ds_visits.specs.declared.sent.Sent.{Sent}
+use Rattle.ds_conductor_base.proofs.ColouringLaws.{handed_out, sent_first}
+use Rattle.ds_conductor_base.proofs.StreamLaws.{one_colour_each}
+use Rattle.ds_conductor_base.specs.Passing.{colours_of}
+use Rattle.ds_conductor_base.specs.Streams.{AreSentFrom, begun, colours_left}
+use Rattle.ds_conductor_base.specs.declared.sent.Sent.{Sent}
 use Rattle.ds_checker.specs.Acceptance.{IsAcceptable, Table}
 use Rattle.meter_fabric_base.specs.Grounds.{ground_of}
 use Rattle.run_audit.specs.Verdicts.{verdict_of}
-use Rattle.ds_visits.specs.Ways.{AreInReach}
+use Rattle.ds_conductor_base.specs.Ways.{AreInReach}
 use Rattle.ds_visits_run.specs.Behind.{AreSendable}
 use Rattle.ds_visits_run.specs.Making.{run_behind}
 use Rattle.ds_visits_verdict.proofs.JudgingLaws.{made_run_judged}

@@ -10,8 +10,8 @@ use Rattle.pcap_capture.specs.declared.heading.LinkType.{LinkType}
 use Rattle.ds_checker.specs.Acceptance.{Table}
 use Rattle.frame_marker.specs.declared.sight.Sight.{Sight}
 use Rattle.frame_marker.specs.declared.sight.Sight.TheVariants.{Matched, Skipped, Unmatched}
-use Rattle.ds_visits.specs.Streams.{AreSentFrom}
-use Rattle.ds_visits.specs.declared.sent.Sent.{Sent}
+use Rattle.ds_conductor_base.specs.Streams.{AreSentFrom}
+use Rattle.ds_conductor_base.specs.declared.sent.Sent.{Sent}
 use Rattle.ds_conductor.specs.Conditionings.{held_from, newest_after}
 use Rattle.ds_conductor.specs.Sendings.{packet_of, sent_by, sent_from}
 use Rattle.ds_conductor.specs.Texts.{marked_text, plain_text, record_text, text_from}

@@ -12,9 +12,11 @@ use Rattle.run_audit.specs.Verdicts.{verdict_of}
 use Rattle.run_audit.specs.declared.verdict.Verdict.{Verdict}
 use Rattle.ds_visits_run.specs.Making.{run_behind}
 use Rattle.ds_checker.specs.Acceptance.{Table}
-use Rattle.ds_visits.specs.Passing.{colours_of}
+use Rattle.ds_conductor_base.specs.Passing.{colours_of}
 use Rattle.ds_conductor.specs.Markings.{IsMarked, IsMarkedAs, IsMarkedBut, IsWhole, IsWholeSoFar, IsWholeWith, Marking, answer_of, is_read_whole, marking_behind, marking_in, marking_of, nothing_marked, see}
-use Rattle.ds_conductor.specs.Readings.{IsHeadingTold, IsReading, IsReadTo, heading_in, is_own}
+use Rattle.pcap_capture.specs.Takings.{is_own}
+use Rattle.pcap_capture.proofs.OwnLaws.{fault_in_own}
+use Rattle.ds_conductor.specs.Readings.{IsHeadingTold, IsReading, IsReadTo, heading_in}
 use Rattle.ds_conductor.specs.Conditionings.{see_at}
 use Rattle.ds_conductor.specs.Faults.{fault_of}
 use Rattle.ds_conductor.specs.Passings.{IsBrokenOff, IsFinished, marking_at}
@@ -32,7 +34,7 @@ use Rattle.ds_conductor.specs.declared.fault.MarkFault.{MarkFault}
 use Rattle.ds_conductor.specs.declared.fault.MarkFault.TheVariants as marks
 use Rattle.ds_conductor.specs.declared.report.Report.{Report}
 use Rattle.ds_conductor.specs.declared.rule.RedRule.{RedRule}
-use Rattle.ds_conductor.proofs.ReadingLaws.{fault_in_own, fault_stands}
+use Rattle.ds_conductor.proofs.ReadingLaws.{fault_stands}
 
 -- the marking of frames whose heading is there, or not
 abbrev pub marking_told : Table → List ℕ → RedRule → Option Heading → List FrameValue → Marking

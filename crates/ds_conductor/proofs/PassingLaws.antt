@@ -4,15 +4,14 @@ use Rattle.pcap_capture.specs.Counts.{count_after}
 use Rattle.pcap_capture.specs.Fronts.{IsFrontOf}
 use Rattle.pcap_capture.specs.Frames.{FrameValue}
 use Rattle.pcap_capture.proofs.CountLaws.{count_after-none}
-use Rattle.pcap_capture.specs.declared.heading.Heading.{Heading}
 use Rattle.pcap_capture.specs.declared.fault.PcapFault.{PcapFault}
 use Rattle.pcap_capture.specs.declared.fault.PcapFault.TheVariants as pcaps
 use Rattle.ds_conductor.specs.Conditionings.{IsConditioned}
 use Rattle.run_audit.specs.declared.verdict.Verdict.{Verdict}
-use Rattle.ds_conductor.specs.Markings.{IsOfReads, answer_of, is_read_whole, is_unread}
+use Rattle.ds_conductor.specs.Markings.{IsOfReads, answer_of, is_read, is_read_whole, is_unread}
 use Rattle.ds_conductor.specs.Passings.{IsBrokenOff, is_unread_by}
 use Rattle.ds_conductor.specs.Faults.{fault_of}
-use Rattle.ds_conductor.specs.Readings.{IsAsked, IsAskedOn, IsUnderway, is_read_fault, is_starved}
+use Rattle.ds_conductor.specs.Readings.{IsAsked, IsAskedTo, IsUnderway, is_starved}
 use Rattle.ds_conductor.specs.Writings.{IsWrittenTo}
 use Rattle.ds_conductor.specs.declared.conditioner.Conditioner.{Conditioner}
 use Rattle.ds_conductor.specs.declared.fault.MarkFault.{MarkFault}
@@ -73,19 +72,6 @@ told fault = Err fault
 pub writable_by : (fault : PcapFault) → ¬ (told fault ≡ told pcaps.WriteFault) → ¬ (Some fault ≡ Some pcaps.WriteFault)
 writable_by fault writable e = writable cc
 
--- whether the device that gives bytes is told to have failed
-pub unread_is : (fault : PcapFault) → is_read_fault {T = Bool} (Err fault) ≡ is_unread_by (Some fault)
-unread_is pcaps.NotPcap = refl
-unread_is pcaps.IsPcapng = refl
-unread_is pcaps.BadVersion = refl
-unread_is (pcaps.LinkType number) = refl
-unread_is (pcaps.RecordTooLong count) = refl
-unread_is pcaps.Truncated = refl
-unread_is pcaps.ReadFault = refl
-unread_is pcaps.WriteFault = refl
-unread_is pcaps.NoMemory = refl
-unread_is pcaps.Failed = refl
-
 pub answer_unread : (verdict : Verdict) (report : Report) (fault : Option PcapFault) → is_unread (answer_of verdict report fault) ≡ is_unread_by fault
 answer_unread verdict report None = refl
 answer_unread verdict report (Some fault) = refl
@@ -113,15 +99,15 @@ broken_read report fault (inl e) = ap (λ f. is_read_whole (Err (report, f))) e
 broken_read report fault (inr e) = ap (λ f. is_read_whole (Err (report, f))) e
 
 -- what is known of the device that gives bytes, by what is answered
-pub of_reads : (answer : Result Report (Report × MarkFault)) (unread : Bool) (left failed now asked_before asked : ℕ) → (is_unread answer ≡ true → unread ≡ true)
-    → (is_read_whole answer ≡ true → unread ≡ false) → IsAskedOn unread left failed now asked_before asked → IsOfReads answer failed now asked_before asked
-of_reads answer true left failed now asked_before asked unread whole on = record {
+pub of_reads : (answer : Result Report (Report × MarkFault)) (unread : Bool) (failed now asked_before asked : ℕ) → (is_unread answer ≡ true → unread ≡ true)
+    → (is_read_whole answer ≡ true → unread ≡ false) → IsAskedTo unread failed now asked_before asked → IsOfReads answer failed now asked_before asked
+of_reads answer true failed now asked_before asked unread whole on = record {
   failed_or_spent = λ is. on;
   unfailed = λ is. let no = whole is in absurd cc;
 }
-of_reads answer false left failed now asked_before asked unread whole on = record {
+of_reads answer false failed now asked_before asked unread whole on = record {
   failed_or_spent = λ is. let no = unread is in absurd cc;
-  unfailed = λ is. on.unfailed;
+  unfailed = λ is. on;
 }
 
 pub broken_reads : (report : Report) (fault : MarkFault) (failed now asked_before asked : ℕ) → (fault ≡ marks.Capture pcaps.WriteFault) ⊎ (fault ≡ marks.NoMemory)
@@ -132,7 +118,7 @@ broken_reads report fault failed now asked_before asked why = record {
 }
 
 -- a fault of the reading that came before the heading was there
-unheaded_unread : (report : Report) (fault : PcapFault) → is_unread (Err (report, fault_of fault)) ≡ is_read_fault {T = Heading} (Err fault)
+unheaded_unread : (report : Report) (fault : PcapFault) → is_unread (Err (report, fault_of fault)) ≡ is_read fault
 unheaded_unread report pcaps.NotPcap = refl
 unheaded_unread report pcaps.IsPcapng = refl
 unheaded_unread report pcaps.BadVersion = refl
@@ -144,7 +130,7 @@ unheaded_unread report pcaps.WriteFault = refl
 unheaded_unread report pcaps.NoMemory = refl
 unheaded_unread report pcaps.Failed = refl
 
-unheaded_read : (report : Report) (fault : PcapFault) → is_read_whole (Err (report, fault_of fault)) ≡ true → is_read_fault {T = Heading} (Err fault) ≡ false
+unheaded_read : (report : Report) (fault : PcapFault) → is_read_whole (Err (report, fault_of fault)) ≡ true → is_read fault ≡ false
 unheaded_read report pcaps.NotPcap is = refl
 unheaded_read report pcaps.IsPcapng is = refl
 unheaded_read report pcaps.BadVersion is = refl
@@ -156,11 +142,11 @@ unheaded_read report pcaps.WriteFault is = refl
 unheaded_read report pcaps.NoMemory is = refl
 unheaded_read report pcaps.Failed is = refl
 
-pub unheaded_reads : (report : Report) (fault : PcapFault) (told : MarkFault) (left failed now asked_before asked : ℕ) → told ≡ fault_of fault
-    → IsAskedOn (is_read_fault {T = Heading} (Err fault)) left failed now asked_before asked → IsOfReads (Err (report, told)) failed now asked_before asked
-unheaded_reads report fault told left failed now asked_before asked is on =
+pub unheaded_reads : (report : Report) (fault : PcapFault) (told : MarkFault) (failed now asked_before asked : ℕ) → told ≡ fault_of fault
+    → IsAskedTo (is_read fault) failed now asked_before asked → IsOfReads (Err (report, told)) failed now asked_before asked
+unheaded_reads report fault told failed now asked_before asked is on =
     subst (λ f. IsOfReads (Err (report, f)) failed now asked_before asked) (sym is)
-    (of_reads (Err (report, fault_of fault)) (is_read_fault {T = Heading} (Err fault)) left failed now asked_before asked
+    (of_reads (Err (report, fault_of fault)) (is_read fault) failed now asked_before asked
     (λ unread. sym (unheaded_unread report fault) ∙ unread) (unheaded_read report fault) on)
 
 -- at first no call was made

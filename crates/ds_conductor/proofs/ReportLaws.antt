@@ -5,7 +5,7 @@ use Rattle.moment_core.specs.Colours.{is_red}
 use Rattle.moment_core.specs.declared.colour.Colour.{Colour}
 use Rattle.pcap_capture.specs.Frames.{FrameValue}
 use Rattle.frame_marker.specs.declared.sight.Sight.{Sight}
-use Rattle.ds_visits.specs.declared.sent.Sent.{Sent}
+use Rattle.ds_conductor_base.specs.declared.sent.Sent.{Sent}
 use Rattle.ds_conductor.specs.Reports.{packets_as, report_of}
 use Rattle.ds_conductor.specs.Sendings.{AreCounted, sent_of}
 use Rattle.ds_conductor.specs.Tallies.{AreTallied}

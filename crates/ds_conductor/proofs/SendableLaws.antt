@@ -18,8 +18,8 @@ use Rattle.frame_marker.specs.Frames.{header_in}
 use Rattle.frame_marker.specs.Sights.{flow_of, key_of, sight_by, sight_for, sight_of, takes}
 use Rattle.frame_marker.specs.declared.sight.Sight.{Sight}
 use Rattle.frame_marker.specs.declared.sight.Sight.TheVariants.{Matched, Skipped, Unmatched}
-use Rattle.ds_visits.specs.Streams.{rise_from}
-use Rattle.ds_visits.specs.declared.sent.Sent.{Sent}
+use Rattle.ds_conductor_base.specs.Streams.{rise_from}
+use Rattle.ds_conductor_base.specs.declared.sent.Sent.{Sent}
 use Rattle.ds_conductor.specs.Laws.{FramesCanBeSent}
 use Rattle.ds_conductor.specs.Markings.{see}
 use Rattle.ds_conductor.specs.Sendings.{sent_by, sent_from}

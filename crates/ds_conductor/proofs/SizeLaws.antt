@@ -2,6 +2,7 @@
 use Rattle.std.proofs.Common.{◌≡◌, ℕ, zero, suc, ◌+◌, ◌*◌, ◌≤◌, List, [], ◌++◌, length, drop, Option, None, Some, Result, Ok, Err, refl, ap, length-append, length-drop, inl, inr, arith}
 use Rattle.pcap_capture.specs.Frames.{FrameValue}
 use Rattle.pcap_capture.specs.Grammar.{CaptureState, Next, Partial, TooLong, Whole, Reading, Stops, after_heading, broken, capture, from_next, heading_of, next_of, prepend, read_on, reading, records, records_within}
+use Rattle.pcap_capture.specs.Takings.{IsTaken}
 use Rattle.pcap_capture.specs.declared.fault.PcapFault.{PcapFault}
 use Rattle.pcap_capture.specs.declared.heading.Heading.{Heading}
 use Rattle.pcap_capture.specs.declared.stage.Stage.{Stage}
@@ -49,7 +50,7 @@ reading_size : (state : CaptureState) (piece : List ℕ) → size_of (reading st
 reading_size state piece = let all = on_size state.stage (state.rest ++ piece) in omega (arith, all, length-append state.rest piece)
 
 -- a piece brings no more frames than its bytes have room for
-pub fed_size : (state after : CaptureState) (piece : List ℕ) (old new : List FrameValue) → record { frames = new; fault = None; state = after } ≡ prepend old (reading state piece)
+fed_size : (state after : CaptureState) (piece : List ℕ) (old new : List FrameValue) → record { frames = new; fault = None; state = after } ≡ prepend old (reading state piece)
     → 16 * length new + length after.rest ≤ 16 * length old + length state.rest + length piece
 fed_size state after piece old new is =
     let all = reading_size state piece in
@@ -58,7 +59,7 @@ fed_size state after piece old new is =
     omega (arith, all, ap length frames, ap length rest, length-append old (reading state piece).frames)
 
 -- nor does one that stops the reading
-pub stopped_size : (state after : CaptureState) (piece : List ℕ) (old new : List FrameValue) (fault : PcapFault) → after ≡ broken → Stops (prepend old (reading state piece)) new fault
+stopped_size : (state after : CaptureState) (piece : List ℕ) (old new : List FrameValue) (fault : PcapFault) → after ≡ broken → Stops (prepend old (reading state piece)) new fault
     → 16 * length new + length after.rest ≤ 16 * length old + length state.rest + length piece
 stopped_size state after piece old new fault over (inl is) =
     let all = reading_size state piece in
@@ -70,3 +71,10 @@ stopped_size state after piece old new fault over (inr memory) =
     let frames : new ++ memory.1.0 ≡ old ++ (reading state piece).frames = memory.1.1 in
     let rest : after.rest ≡ [] = ap (λ (s : CaptureState). s.rest) over in
     omega (arith, all, ap length frames, ap length rest, length-append old (reading state piece).frames, length-append new memory.1.0)
+
+-- a piece of at most so many bytes that was taken, whatever came of it
+pub taken_size : (tells : Type 0) (most : ℕ) (left more : List ℕ) (old new : CaptureState) (there frames : List FrameValue) (fault : Option PcapFault) → IsTaken tells most left more old new there frames fault
+    → 16 * length frames + length new.rest ≤ 16 * length there + length old.rest + most
+taken_size tells most left more old new there frames None it = let all = fed_size old new it.piece there frames it.read in omega (arith, all, it.few)
+taken_size tells most left more old new there frames (Some fault) it =
+    let all = stopped_size old new it.piece there frames fault it.read.0 it.read.1 in omega (arith, all, it.few)

@@ -5,12 +5,12 @@ use Rattle.moment_core.specs.declared.colour.Colour.{Colour}
 use Rattle.pcap_capture.specs.Frames.{FrameValue}
 use Rattle.frame_marker.specs.Ports.{sight_at}
 use Rattle.frame_marker.specs.declared.sight.Sight.{Sight}
-use Rattle.ds_visits.specs.Passing.{colours_of}
-use Rattle.ds_visits.specs.Streams.{AreSentFrom, colours_left, decided, next_place}
+use Rattle.ds_conductor_base.specs.Passing.{colours_of}
+use Rattle.ds_conductor_base.specs.Streams.{AreSentFrom, colours_left, decided, next_place}
 use Rattle.ds_checker.specs.Acceptance.{IsAcceptable}
-use Rattle.ds_visits.specs.Ways.{AreInReach}
+use Rattle.ds_conductor_base.specs.Ways.{AreInReach}
 use Rattle.ds_visits_verdict.specs.Judging.{Judging, unjudged, verdict_with}
-use Rattle.ds_visits.specs.declared.sent.Sent.{Sent}
+use Rattle.ds_conductor_base.specs.declared.sent.Sent.{Sent}
 use Rattle.ds_conductor.specs.Markings.{see}
 use Rattle.ds_conductor.specs.Sendings.{AreCounted, packet_of, sent_of}
 use Rattle.ds_conductor.specs.Tallies.{AreTallied, AreWithin}

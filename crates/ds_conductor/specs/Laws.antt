@@ -4,7 +4,7 @@ use Rattle.pcap_capture.specs.Frames.{FrameValue}
 use Rattle.pcap_capture.specs.Grammar.{capture}
 use Rattle.pcap_capture.specs.declared.heading.LinkType.{LinkType}
 use Rattle.ds_checker.specs.Acceptance.{IsAcceptable, Table}
-use Rattle.ds_visits.specs.declared.sent.Sent.{Sent}
+use Rattle.ds_conductor_base.specs.declared.sent.Sent.{Sent}
 use Rattle.ds_visits_run.specs.Behind.{AreSendable, IsBehind}
 use Rattle.ds_visits_run.specs.Making.{run_behind}
 use Rattle.ds_conductor.specs.Markings.{see}

@@ -7,11 +7,11 @@ use Rattle.pcap_capture.specs.declared.fault.PcapFault.{PcapFault}
 use Rattle.pcap_capture.specs.declared.fault.PcapFault.TheVariants as pcaps
 use Rattle.meter_fabric_base.specs.Grounds.{ground_of}
 use Rattle.run_audit.specs.Verdicts.{verdict_of}
-use Rattle.ds_visits.specs.Passing.{colours_of}
+use Rattle.ds_conductor_base.specs.Passing.{colours_of}
 use Rattle.ds_visits_run.specs.Making.{run_behind}
 use Rattle.ds_conductor.specs.Conditionings.{IsConditioned, see_at}
 use Rattle.ds_conductor.specs.Markings.{IsWhole, Marking, answer_of, is_read}
-use Rattle.ds_conductor.specs.Readings.{IsAskedOn, IsReading, IsUnderway}
+use Rattle.ds_conductor.specs.Readings.{IsAsked, IsAskedTo, IsReading, IsUnderway}
 use Rattle.ds_conductor.specs.Reports.{report_of}
 use Rattle.ds_conductor.specs.Sendings.{sent_of}
 use Rattle.ds_conductor.specs.Texts.{text_from}
@@ -79,22 +79,17 @@ abbrev pub is_unread_by : Option PcapFault → Bool
 is_unread_by None = false
 is_unread_by (Some fault) = is_read fault
 
-abbrev pub is_unread_turn : Result Turn MarkFault → Bool
-is_unread_turn (Ok More) = false
-is_unread_turn (Ok (Ended fault)) = is_unread_by fault
-is_unread_turn (Err fault) = false
-
--- How a device was asked: as after a call, where the reading goes on or ended; of a marking that was broken off nothing
--- is told.
+-- How a device was asked: as after a call, where the reading goes on, or until it ended; of a marking that was broken off
+-- nothing is told.
 abbrev pub IsAskedIn : Result Turn MarkFault → ℕ → ℕ → ℕ → ℕ → ℕ → Type 0
-IsAskedIn (Ok turn) left failed now asked_before asked =
-    IsAskedOn (is_unread_turn (Ok turn)) left failed now asked_before asked
+IsAskedIn (Ok More) left failed now asked_before asked = IsAsked left failed now asked_before asked
+IsAskedIn (Ok (Ended fault)) left failed now asked_before asked =
+    IsAskedTo (is_unread_by fault) failed now asked_before asked
 IsAskedIn (Err fault) left failed now asked_before asked = Unit {0}
 
-abbrev pub IsAskedOut : Result (Option PcapFault) MarkFault → ℕ → ℕ → ℕ → ℕ → ℕ → Type 0
-IsAskedOut (Ok fault) left failed now asked_before asked =
-    IsAskedOn (is_unread_by fault) left failed now asked_before asked
-IsAskedOut (Err fault) left failed now asked_before asked = Unit {0}
+abbrev pub IsAskedOut : Result (Option PcapFault) MarkFault → ℕ → ℕ → ℕ → ℕ → Type 0
+IsAskedOut (Ok fault) failed now asked_before asked = IsAskedTo (is_unread_by fault) failed now asked_before asked
+IsAskedOut (Err fault) failed now asked_before asked = Unit {0}
 
 -- the marking of frames at a port
 abbrev pub marking_at : Port → List FrameValue → Marking

@@ -11,6 +11,7 @@ use Rattle.pcap_capture.specs.declared.fault.PcapFault.TheVariants.{NoMemory, Fa
 use Rattle.pcap_capture.specs.declared.heading.Heading.{Heading}
 use Rattle.pcap_capture.specs.declared.stage.Stage.{Stage}
 use Rattle.pcap_capture.specs.declared.stage.Stage.TheVariants.{Opening, Records, Broken}
+use Rattle.ds_conductor.specs.Markings.{is_read}
 use Rattle.ds_conductor.specs.declared.reading.Progress.{Progress}
 
 -- the heading at the front of the bytes of a capture, if it is there whole and one that is read
@@ -75,38 +76,16 @@ pub record IsAsked (left failed now asked_before asked : ℕ) : Type 0 where
   pub unfailed : now ≡ failed
   pub spent : asked ≡ count_after (2 ^ 32 - left) asked_before
 
--- what is known of it behind a call: where it is told to have failed, it did, or all calls were spent
-abbrev pub IsAskedOn : Bool → ℕ → ℕ → ℕ → ℕ → ℕ → Type 0
-IsAskedOn false left failed now asked_before asked = IsAsked left failed now asked_before asked
-IsAskedOn true left failed now asked_before asked =
+-- Where it is told to have failed, it did, or all calls were spent; and else it did not.
+abbrev pub IsAskedTo : Bool → ℕ → ℕ → ℕ → ℕ → Type 0
+IsAskedTo false failed now asked_before asked = now ≡ failed
+IsAskedTo true failed now asked_before asked =
     (now ≡ next_count failed) ⊎ ((now ≡ failed) × (asked ≡ count_after (2 ^ 32) asked_before))
 
--- whether a device failed that gives bytes
-abbrev pub is_read_fault : {T : Type 0} → Result T PcapFault → Bool
-is_read_fault (Ok value) = false
-is_read_fault (Err NotPcap) = false
-is_read_fault (Err IsPcapng) = false
-is_read_fault (Err BadVersion) = false
-is_read_fault (Err (LinkType number)) = false
-is_read_fault (Err (RecordTooLong count)) = false
-is_read_fault (Err Truncated) = false
-is_read_fault (Err ReadFault) = true
-is_read_fault (Err WriteFault) = false
-is_read_fault (Err NoMemory) = false
-is_read_fault (Err Failed) = false
-
--- whether a fault is of a capture itself, or want of memory, and none of a device
-abbrev pub is_own : PcapFault → Bool
-is_own NotPcap = true
-is_own IsPcapng = true
-is_own BadVersion = true
-is_own (LinkType number) = true
-is_own (RecordTooLong count) = true
-is_own Truncated = true
-is_own ReadFault = false
-is_own WriteFault = false
-is_own NoMemory = true
-is_own Failed = true
+-- what is known of it behind a call
+abbrev pub IsAskedOn : {T : Type 0} → Result T PcapFault → ℕ → ℕ → ℕ → ℕ → ℕ → Type 0
+IsAskedOn (Ok value) left failed now asked_before asked = IsAsked left failed now asked_before asked
+IsAskedOn (Err fault) left failed now asked_before asked = IsAskedTo (is_read fault) failed now asked_before asked
 
 -- whether memory ran out
 abbrev pub is_starved : PcapFault → Bool

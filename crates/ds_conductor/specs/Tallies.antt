@@ -2,7 +2,7 @@
 use Rattle.std.specs.Prelude.{◌≡◌, ℕ, ◌+◌, ◌*◌, ◌≤◌, Bool, List, if◌then◌else◌}
 use Rattle.moment_core.specs.Colours.{is_green, is_red, is_yellow}
 use Rattle.moment_core.specs.declared.colour.Colour.{Colour}
-use Rattle.ds_visits.specs.declared.sent.Sent.{Sent}
+use Rattle.ds_conductor_base.specs.declared.sent.Sent.{Sent}
 use Rattle.ds_conductor.specs.Reports.{bytes_as, packets_as}
 use Rattle.ds_conductor.specs.declared.tally.Tallies.{Tallies}
 use Rattle.ds_conductor.specs.declared.tally.Tally.{Tally}

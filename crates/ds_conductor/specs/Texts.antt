@@ -9,7 +9,7 @@ use Rattle.ds_domain_base.specs.declared.contract.Contract.{Contract}
 use Rattle.ds_checker.specs.Acceptance.{Table}
 use Rattle.meter_fabric_base.specs.Grounds.{contract_of, ground_of}
 use Rattle.frame_marker.specs.Frames.{marked_frame}
-use Rattle.ds_visits.specs.declared.sent.Sent.{Sent}
+use Rattle.ds_conductor_base.specs.declared.sent.Sent.{Sent}
 use Rattle.ds_conductor.specs.declared.rule.RedRule.{RedRule}
 use Rattle.ds_conductor.specs.declared.rule.RedRule.TheVariants.{Drop, Keep}
 

@@ -1,8 +1,8 @@
 ghost use Rattle.std.specs.Prelude.{◌≡◌, ℕ, ◌+◌, ◌-◌, ◌<◌, ◌≤◌, ◌^◌, Bool, true, false, List, [], ◌∷◌, ◌++◌, length};
 ghost use Rattle.std.specs.Prelude.{zip, option_to_list, IfNone, IfOk, IfSome, MatchOption, MatchResult, max, OnErr, OnOk, OnSome};
 ghost use Rattle.pcap_capture.specs.Frames.{FrameValue};
-ghost use Rattle.ds_visits.specs.Passing.{colours_of};
-ghost use Rattle.ds_visits.specs.Streams.{colours_left, decided, next_place};
+ghost use Rattle.ds_conductor_base.specs.Passing.{colours_of};
+ghost use Rattle.ds_conductor_base.specs.Streams.{colours_left, decided, next_place};
 ghost use Rattle.ds_conductor.specs.Conditionings.{IsBounded, IsConditioned, IsSeeing, IsUndecided, see_at};
 ghost use Rattle.ds_visits_verdict.specs.Judging.{verdict_with};
 ghost use Rattle.ds_conductor.specs.Reports.{report_of};
@@ -11,7 +11,7 @@ ghost use Rattle.std.specs.VecDeque.{deque_capacity, deque_len};
 ghost use Rattle.ds_conductor.specs.Texts.{record_text};
 ghost use Rattle.ds_conductor.specs.declared.port.Port.{Port};
 ghost use Rattle.ds_conductor.specs.Tallies.{grown_all};
-ghost use Rattle.ds_visits.specs.declared.sent.Sent.{Sent};
+ghost use Rattle.ds_conductor_base.specs.declared.sent.Sent.{Sent};
 
 use crate::port::Port;
 use crate::report::Report;
@@ -19,7 +19,7 @@ use crate::seen::SeenFrame;
 use crate::sending::{Counts, later, packet_of};
 use crate::tally::Tallies;
 use ds_checker::Accepted;
-use ds_visits::{Gate, Sent, UnderWay};
+use ds_conductor_base::{Gate, Sent, UnderWay};
 use ds_visits_verdict::Judge;
 use moment_core::{Colour, Moment};
 use pcap_capture::Frame;
@@ -156,6 +156,7 @@ impl<'a> Conditioner<'a> {
 
     /// Takes out the first frame that is held, with its packet and the colour that this left with, if it sent one. None
     /// where that is not decided, or where no frame is held.
+    #[inline(always)]
     pub(crate) fn pop(&mut self) -> Option<(SeenFrame, Option<(Sent, Colour)>)>
         requires { IsBounded self.old }
         ensures bounded { IsBounded self.new }

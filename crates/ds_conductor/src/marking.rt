@@ -1,5 +1,5 @@
 ghost use Rattle.std.specs.Prelude.{◌≡◌, ◌⊎◌, ℕ, ◌+◌, ◌*◌, ◌<◌, ◌≤◌, ◌^◌, true, false, List, [], ◌++◌, Err, Some, IfErr};
-ghost use Rattle.std.specs.Prelude.{IfOk, MatchResult, Ok, if◌then◌else◌, vec_len};
+ghost use Rattle.std.specs.Prelude.{IfOk, MatchResult, Ok, if◌then◌else◌};
 ghost use Rattle.pcap_capture.specs.Counts.{next_count};
 ghost use Rattle.pcap_capture.specs.Frames.{FrameValue};
 ghost use Rattle.ds_domain_base.specs.Domains.{is_port};
@@ -20,9 +20,9 @@ use crate::report::Report;
 use crate::rule::RedRule;
 use crate::writing::write_on;
 use ds_checker::Accepted;
+use ds_conductor_base::Gate;
 use ds_domain_base::Name;
-use ds_visits::Gate;
-use pcap_capture::{Heading, Intake, Outlet, PIECE, PcapFault, room};
+use pcap_capture::{Heading, Intake, Outlet, PcapFault};
 use run_audit::Verdict;
 use std::alloc::Global;
 
@@ -73,13 +73,10 @@ pub fn mark<I: Intake, O: Outlet, G: Gate>(
     let Some(port) = accepted.domain().port_named(port) else {
         return Err((Report::nothing(), MarkFault::UnknownPort));
     };
-    let Ok(mut room) = room(alloc, PIECE) else {
-        return Err((Report::nothing(), MarkFault::NoMemory));
-    };
     let mut progress = Progress::begin(alloc, TURNS);
-    match read_heading(alloc, intake, &mut progress, &mut room) {
+    match read_heading(alloc, intake, &mut progress) {
         Ok(heading) => mark_behind(
-            alloc, accepted, port, heading, red, progress, room, intake, outlet, gate,
+            alloc, accepted, port, heading, red, progress, intake, outlet, gate,
         ),
         Err(fault) => Err((Report::nothing(), MarkFault::of_reading(fault))),
     }
@@ -93,12 +90,10 @@ fn mark_behind<I: Intake, O: Outlet, G: Gate>(
     heading: Heading,
     red: RedRule,
     mut progress: Progress,
-    mut room: Vec<u8>,
     intake: &mut I,
     outlet: &mut O,
     gate: &G,
 ) -> Result<Report, (Report, MarkFault)>
-    requires room { vec_len room ≡ 65536 }
     requires missing { progress.missing ≤ 24 }
     requires few { bytes_of progress ≤ 2 ^ 48 }
     ensures marked { I.tells intake.old → O.tells outlet.old → (bytes : List ℕ)
@@ -127,7 +122,6 @@ fn mark_behind<I: Intake, O: Outlet, G: Gate>(
         &mut conditioner,
         &mut out,
         &mut progress,
-        &mut room,
         intake,
         outlet,
         gate,
@@ -206,12 +200,10 @@ fn turn_all<I: Intake, O: Outlet, G: Gate>(
     conditioner: &mut Conditioner<'_>,
     out: &mut Vec<u8>,
     progress: &mut Progress,
-    room: &mut Vec<u8>,
     intake: &mut I,
     outlet: &mut O,
     gate: &G,
 ) -> Result<Option<PcapFault>, MarkFault>
-    requires room { vec_len room.old ≡ 65536 }
     requires missing { progress.old.missing ≤ 24 }
     requires bounded { IsBounded conditioner.old }
     requires few { 16 * conditioner.old.counts.records + bytes_of progress.old ≤ 2 ^ 48 }
@@ -222,7 +214,7 @@ fn turn_all<I: Intake, O: Outlet, G: Gate>(
         → IsTurnedOut port.now bytes (I.left intake.new) before (O.held outlet.new) conditioner.new out.new.items result }
     ensures asked { (failed asked : ℕ) → IsAsked progress.old.turns failed (I.failed intake.old) asked
         (I.turns intake.old)
-        → IsAskedOut result progress.new.turns failed (I.failed intake.new) asked (I.turns intake.new) }
+        → IsAskedOut result failed (I.failed intake.new) asked (I.turns intake.new) }
     ensures fault { MatchResult result
         (λ fault. (¬ (fault ≡ Some PcapFault.WriteFault)) × (¬ (fault ≡ Some PcapFault.NoMemory)))
         (λ fault. (fault ≡ MarkFault.Capture PcapFault.WriteFault) ⊎ (fault ≡ MarkFault.NoMemory)) }
@@ -237,7 +229,6 @@ fn turn_all<I: Intake, O: Outlet, G: Gate>(
             conditioner,
             out,
             progress,
-            room,
             intake,
             outlet,
             gate,
@@ -256,16 +247,13 @@ fn take_turn<I: Intake, O: Outlet, G: Gate>(
     conditioner: &mut Conditioner<'_>,
     out: &mut Vec<u8>,
     progress: &mut Progress,
-    room: &mut Vec<u8>,
     intake: &mut I,
     outlet: &mut O,
     gate: &G,
 ) -> Result<Turn, MarkFault>
-    requires room { vec_len room.old ≡ 65536 }
     requires missing { progress.old.missing ≤ 24 }
     requires bounded { IsBounded conditioner.old }
     requires few { 16 * conditioner.old.counts.records + bytes_of progress.old ≤ 2 ^ 48 }
-    ensures room { vec_len room.new ≡ 65536 }
     ensures missing { progress.new.missing ≤ progress.old.missing }
     ensures bounded { IsBounded conditioner.new }
     ensures few { 16 * conditioner.new.counts.records + bytes_of progress.new
@@ -288,7 +276,7 @@ fn take_turn<I: Intake, O: Outlet, G: Gate>(
     ensures failures { O.failed outlet.new
         ≡ (if is_write_fault result then next_count (O.failed outlet.old) else O.failed outlet.old) }
 {
-    let read = read_piece(alloc, intake, progress, room);
+    let read = read_piece(alloc, intake, progress);
     let Ok(()) = conditioner.see_all(port, progress.take_frames(alloc)) else {
         return Err(MarkFault::NoMemory);
     };

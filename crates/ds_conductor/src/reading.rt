@@ -1,13 +1,14 @@
-ghost use Rattle.std.specs.Prelude.{◌≡◌, ℕ, ◌-◌, ◌≤◌, ◌<◌, List, [], ◌++◌, length, Ok, vec_len};
+ghost use Rattle.std.specs.Prelude.{◌≡◌, ℕ, ◌-◌, ◌≤◌, ◌<◌, List, [], ◌++◌, length, Ok};
 ghost use Rattle.std.specs.Prelude.{None, Some, Err, IfErr, MatchResult, Option, ◌+◌, ◌*◌, OnErr, OnOk, false, true};
 ghost use Rattle.pcap_capture.specs.Frames.{FrameValue};
 ghost use Rattle.ds_conductor.specs.Readings.{IsAsked, IsAskedOn, IsEnded, IsReadOn, IsReading, IsUnderway};
 ghost use Rattle.ds_conductor.specs.Readings.{bytes_of, heading_at};
-ghost use Rattle.ds_conductor.specs.Readings.{is_own, is_read_fault, is_starved};
+ghost use Rattle.ds_conductor.specs.Readings.{is_starved};
+ghost use Rattle.pcap_capture.specs.Takings.{is_own};
 ghost use Rattle.pcap_capture.specs.declared.fault.PcapFault.{PcapFault};
 ghost use Rattle.pcap_capture.specs.declared.heading.Heading.{Heading};
 
-use pcap_capture::{Capture, Frame, Heading, Intake, PIECE, PcapFault, Stage, room};
+use pcap_capture::{Capture, Frame, Heading, Intake, PIECE, PcapFault, Stage};
 use std::alloc::Global;
 
 /// The size of a heading, in bytes.
@@ -46,34 +47,6 @@ fn wanted(missing: usize) -> usize
     if missing > 0 { missing } else { PIECE }
 }
 
-/// Reads a piece, which has no byte behind the heading as long as that is to come.
-fn feed_piece(alloc: Global, progress: &mut Progress, piece: &[u8]) -> Result<(), PcapFault>
-    requires { 0 < progress.old.missing → length piece.now ≤ progress.old.missing }
-    ensures missing { MatchResult result
-        (λ _. progress.new.missing ≡ progress.old.missing - length piece.now)
-        (λ _. progress.new.missing ≡ progress.old.missing) }
-    ensures heading { OnErr result (progress.new.heading ≡ progress.old.heading) }
-    ensures stays { (heading : Heading) → progress.old.capture.stage ≡ Stage.Records heading
-        → progress.old.heading ≡ Some heading → progress.new.heading ≡ Some heading }
-    ensures turns { progress.new.turns ≡ progress.old.turns }
-    ensures few { bytes_of progress.new ≤ bytes_of progress.old + length piece.now }
-    ensures read { (gone : List FrameValue) (bytes more : List ℕ)
-        → IsUnderway gone bytes (piece.now ++ more) progress.old
-        → MatchResult result
-        (λ _. IsUnderway gone bytes more progress.new)
-        (λ fault. IsEnded gone bytes more progress.new (Some fault)) }
-    ensures fault { IfErr result (λ fault. is_own fault ≡ true) }
-{
-    match progress.capture.feed(alloc, piece, &mut progress.frames) {
-        Ok(()) => {
-            progress.heading = heading_by(progress.capture.stage());
-            progress.missing = progress.missing.saturating_sub(piece.len());
-            Ok(())
-        }
-        Err(fault) => Err(fault),
-    }
-}
-
 /// Ends a capture of which no byte is left.
 fn finish(progress: &mut Progress) -> Result<(), PcapFault>
     ensures read { (gone : List FrameValue) (bytes : List ℕ)
@@ -95,17 +68,14 @@ fn finish(progress: &mut Progress) -> Result<(), PcapFault>
     }
 }
 
-/// Takes a piece of a device and reads it, or ends the capture where no byte is left. Answers whether there was a
-/// piece.
+/// Takes a piece of a device, which has no byte behind the heading as long as that is to come, and reads it, or ends the
+/// capture where no byte is left. Answers whether there was a piece.
 pub(crate) fn read_piece<I: Intake>(
     alloc: Global,
     intake: &mut I,
     progress: &mut Progress,
-    room: &mut Vec<u8>,
 ) -> Result<bool, PcapFault>
-    requires room { vec_len room.old ≡ 65536 }
     requires missing { progress.old.missing ≤ 24 }
-    ensures room { vec_len room.new ≡ 65536 }
     ensures missing { progress.new.missing ≤ progress.old.missing }
     ensures nearer { result ≡ Ok true → 0 < progress.old.missing → progress.new.missing < progress.old.missing }
     ensures turns { progress.new.turns ≡ progress.old.turns - 1 }
@@ -122,22 +92,27 @@ pub(crate) fn read_piece<I: Intake>(
         → IsUnderway gone bytes more progress.old → progress.old.missing ≡ 0 }
     ensures asked { (failed asked : ℕ) → IsAsked progress.old.turns failed (I.failed intake.old) asked
         (I.turns intake.old)
-        → IsAskedOn (is_read_fault result) progress.new.turns failed (I.failed intake.new) asked (I.turns intake.new) }
+        → IsAskedOn result progress.new.turns failed (I.failed intake.new) asked (I.turns intake.new) }
     ensures no_write { ¬ (result ≡ Err PcapFault.WriteFault) }
 {
     if progress.turns == 0 {
         return Err(PcapFault::ReadFault);
     }
     progress.turns -= 1;
-    let buffer = &mut room.as_mut_slice()[..wanted(progress.missing)];
-    let Ok(taken) = intake.take(buffer) else {
-        return Err(PcapFault::ReadFault);
+    let most = wanted(progress.missing);
+    let taken = match progress
+        .capture
+        .take_from(alloc, intake, most, &mut progress.frames)
+    {
+        Ok(taken) => taken,
+        Err(fault) => return Err(fault),
     };
     if taken == 0 {
         finish(progress)?;
         return Ok(false);
     }
-    feed_piece(alloc, progress, &buffer[..taken])?;
+    progress.heading = heading_by(progress.capture.stage());
+    progress.missing = progress.missing.saturating_sub(taken);
     Ok(true)
 }
 
@@ -147,11 +122,8 @@ pub(crate) fn read_heading<I: Intake>(
     alloc: Global,
     intake: &mut I,
     progress: &mut Progress,
-    room: &mut Vec<u8>,
 ) -> Result<Heading, PcapFault>
-    requires room { vec_len room.old ≡ 65536 }
     requires missing { progress.old.missing ≤ 24 }
-    ensures room { vec_len room.new ≡ 65536 }
     ensures missing { progress.new.missing ≤ progress.old.missing }
     ensures few { bytes_of progress.new ≤ bytes_of progress.old }
     ensures told { I.tells intake.old → I.tells intake.new }
@@ -161,11 +133,11 @@ pub(crate) fn read_heading<I: Intake>(
         (λ fault. (frames : List FrameValue) × IsReading bytes (I.left intake.new) None frames (Some fault)) }
     ensures asked { (failed asked : ℕ) → IsAsked progress.old.turns failed (I.failed intake.old) asked
         (I.turns intake.old)
-        → IsAskedOn (is_read_fault result) progress.new.turns failed (I.failed intake.new) asked (I.turns intake.new) }
+        → IsAskedOn result progress.new.turns failed (I.failed intake.new) asked (I.turns intake.new) }
     ensures no_write { ¬ (result ≡ Err PcapFault.WriteFault) }
 {
     while progress.missing > 0 {
-        match read_piece(alloc, intake, progress, room) {
+        match read_piece(alloc, intake, progress) {
             Ok(true) => {}
             Ok(false) => return Err(PcapFault::Truncated),
             Err(fault) => return Err(fault),

@@ -5,7 +5,7 @@ ghost use Rattle.frame_marker.specs.declared.sight.Sight.{Sight};
 ghost use Rattle.ds_conductor.specs.Reports.{nothing_read, report_of};
 ghost use Rattle.ds_conductor.specs.Sendings.{AreCounted, sent_of};
 ghost use Rattle.ds_conductor.specs.Tallies.{AreTallied};
-ghost use Rattle.ds_visits.specs.declared.sent.Sent.{Sent};
+ghost use Rattle.ds_conductor_base.specs.declared.sent.Sent.{Sent};
 
 use crate::rule::RedRule;
 use crate::sending::Counts;

@@ -1,7 +1,7 @@
 ghost use Rattle.std.specs.Prelude.{◌≡◌, ◌-◌, ◌<◌, ◌^◌, max};
 ghost use Rattle.ds_conductor.specs.Sendings.{counted_on, nothing_counted, packet_of};
 
-use ds_visits::Sent;
+use ds_conductor_base::Sent;
 use frame_marker::Sight;
 use moment_core::Moment;
 

@@ -15,7 +15,7 @@ use crate::port::Port;
 use crate::rule::RedRule;
 use crate::seen::SeenFrame;
 use af_marker::{Dscp, dscp};
-use ds_visits::Sent;
+use ds_conductor_base::Sent;
 use meter_fabric_base::contract_of;
 use moment_core::Colour;
 use pcap_capture::{LinkType, Outlet, PcapFault, hand_over};

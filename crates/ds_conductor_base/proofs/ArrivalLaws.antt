@@ -22,7 +22,7 @@ use Rattle.ds_conductor_base.specs.declared.step.Step.TheVariants.{Send, Visit}
 use Rattle.ds_conductor_base.proofs.JournalLaws.{All-journals_from}
 use Rattle.ds_conductor_base.proofs.ListLaws.{same_Ok}
 use Rattle.ds_conductor_base.proofs.OpenedLaws.{no_arrivals, opened_book}
-use Rattle.ds_conductor_base.proofs.VisitLaws.{Visits, book_elsewhere, book_here, coming, is_visited, same_site, stage_behind}
+use Rattle.ds_conductor_base.proofs.VisitingLaws.{Visits, book_elsewhere, book_here, coming, is_visited, same_site, stage_behind}
 
 -- the book of a site, where there is one, was there, and has these arrivals more
 abbrev Grows : ℕ → Stage → Stage → List Arrival → Type 0

@@ -14,7 +14,7 @@ use Rattle.run_audit_base.specs.Runs.{IsRun, Passage, Run}
 use Rattle.ds_conductor_base.specs.Conducting.{as_run, conducted_from, conducted_with, going_on, passage_of, run_so_far}
 use Rattle.ds_conductor_base.specs.Steps.{Stage, numbers_of, opened_with, sent, stepped, visited_from}
 use Rattle.ds_conductor_base.specs.Laws.{sent_by}
-use Rattle.ds_conductor_base.specs.UnderWay.{IsUnderWay}
+use Rattle.ds_conductor_base.specs.OnTheWay.{IsUnderWay}
 use Rattle.ds_conductor_base.specs.declared.fault.ConductFault.{ConductFault}
 use Rattle.ds_conductor_base.specs.declared.fault.StepFault.{StepFault}
 use Rattle.ds_conductor_base.specs.declared.fault.StepFault.TheVariants.{BadStep}
@@ -22,8 +22,8 @@ use Rattle.ds_conductor_base.specs.declared.step.Step.{Step}
 use Rattle.ds_conductor_base.specs.declared.step.Step.TheVariants.{Send, Visit}
 use Rattle.ds_conductor_base.proofs.SendLaws.{beginning}
 use Rattle.ds_conductor_base.proofs.ListLaws.{same_Ok}
-use Rattle.ds_conductor_base.proofs.UnderWayLaws.{opened_under_way, run_under_way, stepped_under_way}
-use Rattle.ds_conductor_base.proofs.VisitLaws.{packets_in, packets_visited}
+use Rattle.ds_conductor_base.proofs.OnTheWayLaws.{opened_under_way, run_under_way, stepped_under_way}
+use Rattle.ds_conductor_base.proofs.VisitingLaws.{packets_in, packets_visited}
 
 -- what a step has made, if those behind it keep it under way
 step_by_step : (t : Table) (g h : Stage) (s : Step) (index : ℕ) (rest : Stage → Result Stage ConductFault) (made : Result Stage StepFault) → IsUnderWay t g

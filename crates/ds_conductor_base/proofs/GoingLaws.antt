@@ -13,7 +13,7 @@ use Rattle.meter_fabric_base.specs.declared.fault.VisitFault.TheVariants.{Before
 use Rattle.meter_fabric_base.specs.declared.hop.Hop.{Hop}
 use Rattle.ds_conductor_base.specs.Steps.{Stage, as_step, numbers_of, put_back, stepped, visit_there, visited_at, visited_by, visited_from, with_books}
 use Rattle.ds_conductor_base.specs.declared.step.Step.TheVariants.{Visit}
-use Rattle.ds_conductor_base.proofs.VisitLaws.{Visits, coming, stage_behind}
+use Rattle.ds_conductor_base.proofs.VisitingLaws.{Visits, coming, stage_behind}
 
 -- ---- the place of a number
 

@@ -1,12 +1,27 @@
+-- Lemmas for the proofs of this crate and of those above it.
+pub mod ApartLaws
 pub mod ArrivalLaws
 pub mod ClosingLaws
+pub mod ColouringLaws
 pub mod ConductLaws
 pub mod ConductedLaws
+pub mod CountLaws
 pub mod GoingLaws
+pub mod InOrderLaws
+pub mod JoinLaws
 pub mod JournalLaws
 pub mod ListLaws
+pub mod OnTheWayLaws
 pub mod OpenedLaws
+pub mod PacketLaws
+pub mod PassLaws
+pub mod QueueLaws
+pub mod RunLaws
 pub mod SendLaws
 pub mod StepLaws
+pub mod StopLaws
+pub mod StreamLaws
 pub mod UnderWayLaws
 pub mod VisitLaws
+pub mod VisitingLaws
+pub mod WayLaws

@@ -11,7 +11,7 @@ use Rattle.ds_checker.specs.Acceptance.{Table}
 use Rattle.meter_fabric_base.specs.Openings.{book_with, opening_at, site_count}
 use Rattle.meter_fabric_base.specs.declared.site.Opening.{Opening}
 use Rattle.ds_conductor_base.specs.Steps.{book_at, opened_at, opened_with, some_of}
-use Rattle.ds_conductor_base.specs.UnderWay.{opened_by}
+use Rattle.ds_conductor_base.specs.OnTheWay.{opened_by}
 
 -- nothing stands at a site beyond the last
 opening_past : (t : Table) (site : ℕ) → site_count t ≤ site → opening_at (ground_of t) site ≡ None

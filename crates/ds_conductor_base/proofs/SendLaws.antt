@@ -20,7 +20,7 @@ use Rattle.meter_fabric_base.proofs.TrailLaws.{IsTrail-none}
 use Rattle.run_audit_base.specs.Runs.{told, told_by}
 use Rattle.ds_conductor_base.specs.Conducting.{passage_of}
 use Rattle.ds_conductor_base.specs.Steps.{Stage, numbers_of, sent}
-use Rattle.ds_conductor_base.specs.UnderWay.{IsOnItsWay, IsUnderWay}
+use Rattle.ds_conductor_base.specs.OnTheWay.{IsOnItsWay, IsUnderWay}
 use Rattle.ds_conductor_base.specs.declared.fault.StepFault.{StepFault}
 use Rattle.ds_conductor_base.specs.declared.fault.StepFault.TheVariants.{BadStep}
 use Rattle.ds_conductor_base.proofs.ListLaws.{flat_map-push_none, same_Ok}

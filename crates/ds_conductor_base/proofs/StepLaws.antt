@@ -20,13 +20,13 @@ use Rattle.ds_conductor_base.specs.Faults.{begin_fault_of}
 use Rattle.ds_conductor_base.specs.Kept.{Conduct}
 use Rattle.ds_conductor_base.specs.Steps.{Stage, numbers_of, put_back, sent, stepped, visited_by, visited_from, visited_next}
 use Rattle.ds_conductor_base.proofs.ListLaws.{set_same}
-use Rattle.ds_conductor_base.specs.UnderWay.{IsUnderWay}
+use Rattle.ds_conductor_base.specs.OnTheWay.{IsUnderWay}
 use Rattle.ds_conductor_base.specs.declared.fault.StepFault.{StepFault}
 use Rattle.ds_conductor_base.specs.declared.fault.StepFault.TheVariants.{BadStep, NoMemory}
 use Rattle.ds_conductor_base.specs.declared.step.Step.TheVariants.{Send, Visit}
 use Rattle.ds_conductor_base.proofs.SendLaws.{beginning}
-use Rattle.ds_conductor_base.proofs.UnderWayLaws.{stepped_under_way}
-use Rattle.ds_conductor_base.proofs.VisitLaws.{numbers_visited}
+use Rattle.ds_conductor_base.proofs.OnTheWayLaws.{stepped_under_way}
+use Rattle.ds_conductor_base.proofs.VisitingLaws.{numbers_visited}
 
 unfound : {A : Type 0} (found : Option A) → is_some found ≡ false → found ≡ None
 unfound None absent = refl

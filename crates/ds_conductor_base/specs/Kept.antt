@@ -4,7 +4,7 @@ use Rattle.indexmap.specs.IndexMap.{keys, values}
 use Rattle.ds_checker.specs.Acceptance.{Table}
 use Rattle.meter_fabric_base.specs.Openings.{site_count}
 use Rattle.ds_conductor_base.specs.Steps.{Stage, numbers_of}
-use Rattle.ds_conductor_base.specs.UnderWay.{IsUnderWay}
+use Rattle.ds_conductor_base.specs.OnTheWay.{IsUnderWay}
 use Rattle.ds_conductor_base.specs.declared.conductor.Conductor.TheInside as conductors
 
 -- what the steps have made so far, and the table that it is of

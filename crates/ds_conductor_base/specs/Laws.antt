@@ -1,7 +1,6 @@
--- What steps keep, and what they make.
-use Rattle.std.specs.Prelude.{◌≡◌, ℕ, nat_eq, List, [], ◌∷◌, ◌++◌, All, flat_map, map, position, slice_get, Option}
-use Rattle.std.specs.Prelude.{None}
-use Rattle.std.specs.Prelude.{Some, Result, Ok, Err, if◌then◌else◌}
+-- What steps keep, and what they make; and what visits keep.
+use Rattle.std.specs.Prelude.{◌≡◌, ℕ, ◌<◌, ◌^◌, nat_eq, List, [], ◌∷◌, ◌++◌, All, flat_map, length, map, position, slice_get}
+use Rattle.std.specs.Prelude.{Option, None, Some, Result, Ok, Err, if◌then◌else◌}
 use Rattle.meter_book.specs.declared.row.Arrival.{Arrival}
 use Rattle.ds_checker.specs.Acceptance.{Table}
 use Rattle.meter_fabric_base.specs.Grounds.{ground_of}
@@ -11,10 +10,15 @@ use Rattle.meter_fabric_base.specs.declared.hop.Hop.{Hop}
 use Rattle.run_audit_base.specs.Runs.{IsRun, Run}
 use Rattle.ds_conductor_base.specs.Conducting.{conducted_with, run_so_far}
 use Rattle.ds_conductor_base.specs.Steps.{Stage, numbers_of, opened_with, stepped}
-use Rattle.ds_conductor_base.specs.UnderWay.{IsUnderWay}
+use Rattle.ds_conductor_base.specs.OnTheWay.{IsUnderWay}
 use Rattle.ds_conductor_base.specs.declared.fault.StepFault.{StepFault}
 use Rattle.ds_conductor_base.specs.declared.step.Step.{Step}
 use Rattle.ds_conductor_base.specs.declared.step.Step.TheVariants.{Send, Visit}
+use Rattle.run_audit.specs.Orders.{in_order}
+use Rattle.ds_conductor_base.specs.Passing.{colours_of}
+use Rattle.ds_conductor_base.specs.Streams.{AreSentFrom, begun, colours_left, due, late}
+use Rattle.ds_conductor_base.specs.Visits.{is_before, visits_from, visits_of}
+use Rattle.ds_conductor_base.specs.declared.sent.Sent.{Sent}
 
 -- What opens is under way, however many rows books take, each step that is made keeps it so, and what is under way is a
 -- run.
@@ -77,3 +81,19 @@ abbrev pub JournalsAreTheVisits : Type 0
 JournalsAreTheVisits =
     (capacity : ℕ) (t : Table) (all : List Step) (run : Run) → conducted_with capacity t all ≡ Ok run
     → All (λ j. j.arrivals ≡ brought t j.site (opened_with capacity t) all) run.journals
+
+-- Each packet leaves with one colour.
+abbrev pub OneColourEach : Type 0
+OneColourEach = (t : Table) (sent : List Sent) → length (colours_of t sent) ≡ length sent
+
+-- What is sent at a moment or later changes none of the visits at or before it, and comes behind them.
+abbrev pub VisitsUpToAMomentAreFinal : Type 0
+VisitsUpToAMomentAreFinal =
+    (t : Table) (front back : List Sent) (moment : ℕ) → moment < 2 ^ 63 → AreSentFrom moment back
+    → visits_of t (front ++ back)
+    ≡ due moment (visits_of t front)
+    ++ in_order is_before (late moment (visits_of t front) ++ visits_from t (length front) back)
+
+-- Before the first packet is sent, the colours of all are still to come.
+abbrev pub AllColoursCome : Type 0
+AllColoursCome = (t : Table) (sent : List Sent) → colours_left (begun t) sent ≡ colours_of t sent

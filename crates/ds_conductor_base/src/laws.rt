@@ -1,6 +1,7 @@
-//! What steps make, proved as the contracts of functions that do nothing.
-ghost use Rattle.ds_conductor_base.specs.Laws.{JournalsAreTheVisits, PacketsAreThoseSent, StepsKeepOnTheWay};
-ghost use Rattle.ds_conductor_base.specs.Laws.{StepsMakeRuns};
+//! What steps and visits make, proved as the contracts of functions that do nothing.
+ghost use Rattle.ds_conductor_base.specs.Laws.{AllColoursCome, JournalsAreTheVisits, OneColourEach};
+ghost use Rattle.ds_conductor_base.specs.Laws.{PacketsAreThoseSent, StepsKeepOnTheWay, StepsMakeRuns};
+ghost use Rattle.ds_conductor_base.specs.Laws.{VisitsUpToAMomentAreFinal};
 
 /// Before the first step, packets are on the ways of their contracts and the books of the sites have the rows that they
 /// carry; each step that is made keeps it so; and what has been made so far is then a run.
@@ -24,4 +25,19 @@ pub fn packets_are_those_sent()
 /// colour that the packet left its last hop with.
 pub fn journals_are_the_visits()
     ensures { JournalsAreTheVisits }
+{}
+
+/// As many packets leave as were sent: each with one colour, at the place that it was sent at.
+pub fn each_packet_leaves_with_one_colour()
+    ensures { OneColourEach }
+{}
+
+/// Where packets are sent at a moment or later, the visits at or before it are those of the packets before them.
+pub fn visits_up_to_a_moment_are_final()
+    ensures { VisitsUpToAMomentAreFinal }
+{}
+
+/// Before the first packet is sent, the colours of all packets are still to come.
+pub fn all_colours_come()
+    ensures { AllColoursCome }
 {}

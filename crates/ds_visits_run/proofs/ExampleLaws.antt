@@ -16,11 +16,11 @@ use Rattle.run_audit.specs.declared.verdict.Verdict.TheVariants.{Kept}
 use Rattle.run_audit.proofs.PremiseLaws.{kept_is_premises}
 use Rattle.ds_conductor_base.specs.Conducting.{conducted_from, journals_from}
 use Rattle.ds_conductor_base.specs.Steps.{stepped}
-use Rattle.ds_visits.specs.Passing.{colours_of}
-use Rattle.ds_visits.specs.Streams.{rise_from}
-use Rattle.ds_visits.specs.Visits.{visits_from, visits_of}
-use Rattle.ds_visits.specs.Ways.{stops_along}
-use Rattle.ds_visits.proofs.StreamLaws.{one_colour_each}
+use Rattle.ds_conductor_base.specs.Passing.{colours_of}
+use Rattle.ds_conductor_base.specs.Streams.{rise_from}
+use Rattle.ds_conductor_base.specs.Visits.{visits_from, visits_of}
+use Rattle.ds_conductor_base.specs.Ways.{stops_along}
+use Rattle.ds_conductor_base.proofs.StreamLaws.{one_colour_each}
 use Rattle.ds_visits_run.specs.Behind.{AreSendable}
 use Rattle.ds_visits_run.specs.Example.{SmallPacketIsMarked, small_packet, small_sent}
 use Rattle.ds_visits_run.specs.Making.{run_behind}

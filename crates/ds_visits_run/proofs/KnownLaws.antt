@@ -14,9 +14,9 @@ use Rattle.meter_fabric_base.specs.Grounds.{contract_of, ground_of}
 use Rattle.meter_fabric_base.specs.Openings.{opening_at}
 use Rattle.meter_fabric_base.proofs.GroundLaws.{place_of}
 use Rattle.run_audit_base.proofs.Places.{fits_names, meters_known}
-use Rattle.ds_visits.specs.Ways.{delay_over, edge_stops, stops_along, stops_at, stops_by, stops_of}
-use Rattle.ds_visits.specs.declared.sent.Sent.{Sent}
-use Rattle.ds_visits.specs.declared.way.Stop.{Stop}
+use Rattle.ds_conductor_base.specs.Ways.{delay_over, edge_stops, stops_along, stops_at, stops_by, stops_of}
+use Rattle.ds_conductor_base.specs.declared.sent.Sent.{Sent}
+use Rattle.ds_conductor_base.specs.declared.way.Stop.{Stop}
 use Rattle.ds_visits_run.specs.Behind.{AreSendable}
 use Rattle.ds_visits_run.proofs.MadeLaws.{AreKnown}
 use Rattle.ds_visits_run.proofs.StopLaws.{at_site, stops-once, stops-there}

@@ -19,16 +19,16 @@ use Rattle.meter_fabric_base.specs.declared.trail.Receipt.{Receipt}
 use Rattle.run_audit.proofs.OrderLaws.{Ascends}
 use Rattle.ds_conductor_base.specs.Conducting.{IsWhole, conducted_from, going_on}
 use Rattle.ds_conductor_base.specs.Steps.{Stage, book_at, numbers_of, stepped}
-use Rattle.ds_conductor_base.specs.UnderWay.{IsOnItsWay, IsUnderWay}
+use Rattle.ds_conductor_base.specs.OnTheWay.{IsOnItsWay, IsUnderWay}
 use Rattle.ds_conductor_base.proofs.ListLaws.{map-set_same, set_elsewhere, set_here, some_of-some}
-use Rattle.ds_conductor_base.proofs.UnderWayLaws.{book_there, stepped_under_way, whole_under_way}
-use Rattle.ds_conductor_base.proofs.VisitLaws.{Visits, at_place, behind, book_elsewhere, book_here, coming, same_site, stage_behind}
-use Rattle.ds_visits.specs.Passing.{passed_all}
-use Rattle.ds_visits.specs.Visits.{is_before, later, visit_to}
-use Rattle.ds_visits.specs.Ways.{stops_at, stops_by}
-use Rattle.ds_visits.specs.declared.sent.Sent.{Sent}
-use Rattle.ds_visits.specs.declared.visit.Visit.{Visit}
-use Rattle.ds_visits.specs.declared.way.Stop.{Stop}
+use Rattle.ds_conductor_base.proofs.OnTheWayLaws.{book_there, stepped_under_way, whole_under_way}
+use Rattle.ds_conductor_base.proofs.VisitingLaws.{Visits, at_place, behind, book_elsewhere, book_here, coming, same_site, stage_behind}
+use Rattle.ds_conductor_base.specs.Passing.{passed_all}
+use Rattle.ds_conductor_base.specs.Visits.{is_before, later, visit_to}
+use Rattle.ds_conductor_base.specs.Ways.{stops_at, stops_by}
+use Rattle.ds_conductor_base.specs.declared.sent.Sent.{Sent}
+use Rattle.ds_conductor_base.specs.declared.visit.Visit.{Visit}
+use Rattle.ds_conductor_base.specs.declared.way.Stop.{Stop}
 use Rattle.ds_visits_run.specs.Behind.{AreSendable, arrival_told, number_at, packet_sent, visit_noted, visit_told, visits_at}
 use Rattle.ds_visits_run.specs.Making.{visit_step}
 use Rattle.ds_conductor_base.proofs.GoingLaws.{no_fault, place_of, visit_goes}

@@ -21,9 +21,9 @@ use Rattle.run_audit_base.specs.Runs.{Passage, Run}
 use Rattle.run_audit_base.specs.Sendings.{Sending, sending_by, sending_of}
 use Rattle.run_audit_base.proofs.ColourLaws.{colours_kept, stands_in_own}
 use Rattle.run_audit.proofs.PremiseLaws.{kept_is_premises}
-use Rattle.ds_conductor_base.proofs.VisitLaws.{at_place}
-use Rattle.ds_visits.specs.Passing.{colours_of}
-use Rattle.ds_visits.specs.declared.sent.Sent.{Sent}
+use Rattle.ds_conductor_base.proofs.VisitingLaws.{at_place}
+use Rattle.ds_conductor_base.specs.Passing.{colours_of}
+use Rattle.ds_conductor_base.specs.declared.sent.Sent.{Sent}
 use Rattle.ds_visits_run.specs.Behind.{IsBehind, left_last, packet_sent}
 use Rattle.ds_visits_run.specs.Laws.{KeptMarksAreSentColours}
 use Rattle.ds_visits_run.proofs.ListLaws.{there_too, told_same}

@@ -12,10 +12,10 @@ use Rattle.meter_fabric_base.specs.Travels.{Traveller, comes_as}
 use Rattle.meter_fabric_base.specs.declared.trail.Receipt.{Receipt}
 use Rattle.ds_conductor_base.specs.Steps.{Stage}
 use Rattle.ds_conductor_base.proofs.ListLaws.{some_of-some}
-use Rattle.ds_conductor_base.proofs.VisitLaws.{Visits, behind, coming, stage_behind}
-use Rattle.ds_visits.specs.Passing.{Carried, Traffic, met, meter_in, offer_of, passed}
-use Rattle.ds_visits.specs.declared.visit.Visit.{Visit}
-use Rattle.ds_visits.proofs.PassLaws.{map_set, passed_found}
+use Rattle.ds_conductor_base.proofs.VisitingLaws.{Visits, behind, coming, stage_behind}
+use Rattle.ds_conductor_base.specs.Passing.{Carried, Traffic, met, meter_in, offer_of, passed}
+use Rattle.ds_conductor_base.specs.declared.visit.Visit.{Visit}
+use Rattle.ds_conductor_base.proofs.PassLaws.{map_set, passed_found}
 use Rattle.ds_visits_run.proofs.ListLaws.{last_pushed}
 
 -- the meter of a book as it stands behind its arrivals

@@ -19,17 +19,17 @@ use Rattle.meter_fabric_base.specs.declared.trail.Receipt.{Receipt}
 use Rattle.run_audit_base.specs.Runs.{Passage}
 use Rattle.ds_conductor_base.specs.Conducting.{as_run, journals_from, passage_of, run_so_far}
 use Rattle.ds_conductor_base.specs.Steps.{Stage, book_at, opened_at, opened_with, some_of}
-use Rattle.ds_conductor_base.specs.UnderWay.{opened_by}
+use Rattle.ds_conductor_base.specs.OnTheWay.{opened_by}
 use Rattle.ds_conductor_base.specs.declared.step.Step.{Step}
 use Rattle.ds_conductor_base.proofs.JournalLaws.{All-journals_from}
 use Rattle.ds_conductor_base.proofs.OpenedLaws.{no_arrivals, opened_book}
-use Rattle.ds_conductor_base.proofs.UnderWayLaws.{opened_under_way, run_under_way}
-use Rattle.ds_conductor_base.proofs.VisitLaws.{at_place}
-use Rattle.ds_visits.specs.Passing.{Carried, Traffic, colours_in, colours_of, entered, meter_at, passed_all}
-use Rattle.ds_visits.specs.Visits.{visit_to, visits_of}
-use Rattle.ds_visits.specs.Ways.{stops_at}
-use Rattle.ds_visits.specs.declared.sent.Sent.{Sent}
-use Rattle.ds_visits.specs.declared.visit.Visit.{Visit}
+use Rattle.ds_conductor_base.proofs.OnTheWayLaws.{opened_under_way, run_under_way}
+use Rattle.ds_conductor_base.proofs.VisitingLaws.{at_place}
+use Rattle.ds_conductor_base.specs.Passing.{Carried, Traffic, colours_in, colours_of, entered, meter_at, passed_all}
+use Rattle.ds_conductor_base.specs.Visits.{visit_to, visits_of}
+use Rattle.ds_conductor_base.specs.Ways.{stops_at}
+use Rattle.ds_conductor_base.specs.declared.sent.Sent.{Sent}
+use Rattle.ds_conductor_base.specs.declared.visit.Visit.{Visit}
 use Rattle.ds_visits_run.specs.Behind.{AreSendable, IsBehind, MadeItsVisits, arrival_told, left_last, packet_sent, visit_noted, visit_told, visits_at}
 use Rattle.ds_visits_run.specs.Laws.{TheRunIsBehind}
 use Rattle.ds_visits_run.specs.Making.{run_behind, run_or_none, visit_step}

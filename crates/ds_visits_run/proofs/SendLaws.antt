@@ -12,14 +12,14 @@ use Rattle.meter_fabric_base.specs.Trails.{Packet}
 use Rattle.meter_fabric_base.specs.Travels.{Traveller}
 use Rattle.ds_conductor_base.specs.Conducting.{conducted_from, going_on}
 use Rattle.ds_conductor_base.specs.Steps.{Stage, numbers_of, stepped}
-use Rattle.ds_conductor_base.specs.UnderWay.{IsUnderWay}
+use Rattle.ds_conductor_base.specs.OnTheWay.{IsUnderWay}
 use Rattle.ds_conductor_base.specs.declared.fault.ConductFault.{ConductFault}
 use Rattle.ds_conductor_base.specs.declared.step.Step.{Step}
 use Rattle.ds_conductor_base.proofs.SendLaws.{beginning}
 use Rattle.ds_conductor_base.proofs.StepLaws.{send_begun}
-use Rattle.ds_conductor_base.proofs.UnderWayLaws.{stepped_under_way}
-use Rattle.ds_visits.specs.Passing.{Carried, came_by, came_in}
-use Rattle.ds_visits.specs.declared.sent.Sent.{Sent}
+use Rattle.ds_conductor_base.proofs.OnTheWayLaws.{stepped_under_way}
+use Rattle.ds_conductor_base.specs.Passing.{Carried, came_by, came_in}
+use Rattle.ds_conductor_base.specs.declared.sent.Sent.{Sent}
 use Rattle.ds_visits_run.specs.Behind.{packet_sent}
 use Rattle.ds_visits_run.specs.Making.{send_step}
 use Rattle.ds_visits_run.proofs.MeetLaws.{carried_by}

@@ -23,10 +23,10 @@ use Rattle.meter_fabric_base.proofs.GroundLaws.{opening_behind}
 use Rattle.run_audit_base.proofs.Places.{IsMeter, found_at}
 use Rattle.run_audit_base.proofs.Ways.{neither}
 use Rattle.run_audit.proofs.OrderLaws.{Ascends}
-use Rattle.ds_visits.specs.Visits.{is_before, later, visit_to}
-use Rattle.ds_visits.specs.Ways.{delay_over, edge_stops, stops_along, stops_by, stops_of}
-use Rattle.ds_visits.specs.declared.sent.Sent.{Sent}
-use Rattle.ds_visits.specs.declared.way.Stop.{Stop}
+use Rattle.ds_conductor_base.specs.Visits.{is_before, later, visit_to}
+use Rattle.ds_conductor_base.specs.Ways.{delay_over, edge_stops, stops_along, stops_by, stops_of}
+use Rattle.ds_conductor_base.specs.declared.sent.Sent.{Sent}
+use Rattle.ds_conductor_base.specs.declared.way.Stop.{Stop}
 use Rattle.ds_visits_run.proofs.ListLaws.{keep_no, keep_none, keep_yes}
 
 -- ---- their hops

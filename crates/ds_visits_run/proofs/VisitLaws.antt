@@ -12,14 +12,14 @@ use Rattle.run_audit.proofs.MemberLaws.{in_filter, of_filter}
 use Rattle.run_audit.proofs.OrderLaws.{ascends-once, in_order-permutes}
 use Rattle.ds_checker.specs.Acceptance.{Table}
 use Rattle.meter_fabric_base.specs.Grounds.{contract_of, ground_of}
-use Rattle.ds_visits.proofs.ApartLaws.{visits_differ}
-use Rattle.ds_visits.proofs.InOrderLaws.{visit_order}
-use Rattle.ds_visits.proofs.JoinLaws.{ascends-filter, in_order-rises}
-use Rattle.ds_visits.proofs.VisitLaws.{visits_from-before, visits_from-behind, visits_to-all}
-use Rattle.ds_visits.specs.Visits.{is_before, is_same, visit_to, visits_from, visits_of}
-use Rattle.ds_visits.specs.Ways.{stops_at}
-use Rattle.ds_visits.specs.declared.sent.Sent.{Sent}
-use Rattle.ds_visits.specs.declared.visit.Visit.{Visit}
+use Rattle.ds_conductor_base.proofs.ApartLaws.{visits_differ}
+use Rattle.ds_conductor_base.proofs.InOrderLaws.{visit_order}
+use Rattle.ds_conductor_base.proofs.JoinLaws.{ascends-filter, in_order-rises}
+use Rattle.ds_conductor_base.proofs.VisitLaws.{visits_from-before, visits_from-behind, visits_to-all}
+use Rattle.ds_conductor_base.specs.Visits.{is_before, is_same, visit_to, visits_from, visits_of}
+use Rattle.ds_conductor_base.specs.Ways.{stops_at}
+use Rattle.ds_conductor_base.specs.declared.sent.Sent.{Sent}
+use Rattle.ds_conductor_base.specs.declared.visit.Visit.{Visit}
 use Rattle.ds_visits_run.specs.Behind.{visits_at}
 use Rattle.ds_visits_run.proofs.ListLaws.{keep_all, keep_map, keep_moved, keep_none}
 use Rattle.ds_visits_run.proofs.StopLaws.{at_site, stops-ascend}

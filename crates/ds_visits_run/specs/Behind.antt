@@ -11,12 +11,12 @@ use Rattle.meter_fabric_base.specs.Trails.{Packet}
 use Rattle.meter_fabric_base.specs.Travels.{last_receipt}
 use Rattle.meter_fabric_base.specs.declared.trail.Receipt.{Receipt}
 use Rattle.run_audit_base.specs.Runs.{IsRun, Passage, Run}
-use Rattle.ds_visits.specs.Passing.{colours_of}
-use Rattle.ds_visits.specs.Streams.{rise_from}
-use Rattle.ds_visits.specs.Visits.{visit_to, visits_of}
-use Rattle.ds_visits.specs.Ways.{stops_at}
-use Rattle.ds_visits.specs.declared.sent.Sent.{Sent}
-use Rattle.ds_visits.specs.declared.visit.Visit.{Visit}
+use Rattle.ds_conductor_base.specs.Passing.{colours_of}
+use Rattle.ds_conductor_base.specs.Streams.{rise_from}
+use Rattle.ds_conductor_base.specs.Visits.{visit_to, visits_of}
+use Rattle.ds_conductor_base.specs.Ways.{stops_at}
+use Rattle.ds_conductor_base.specs.declared.sent.Sent.{Sent}
+use Rattle.ds_conductor_base.specs.declared.visit.Visit.{Visit}
 
 -- What can be sent, and judged: moments do not fall, packet numbers rise, each contract is there, no visit is later
 -- than the last moment that there is, and no meter is visited more often than a book gives places.

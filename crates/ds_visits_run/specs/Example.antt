@@ -6,8 +6,8 @@ use Rattle.meter_fabric_base.specs.Grounds.{ground_of}
 use Rattle.run_audit_base.specs.Examples.{small_run, small_table}
 use Rattle.run_audit.specs.Verdicts.{verdict_of}
 use Rattle.run_audit.specs.declared.verdict.Verdict.TheVariants.{Kept}
-use Rattle.ds_visits.specs.Passing.{colours_of}
-use Rattle.ds_visits.specs.declared.sent.Sent.{Sent}
+use Rattle.ds_conductor_base.specs.Passing.{colours_of}
+use Rattle.ds_conductor_base.specs.declared.sent.Sent.{Sent}
 use Rattle.ds_visits_run.specs.Behind.{AreSendable}
 use Rattle.ds_visits_run.specs.Making.{run_behind}
 

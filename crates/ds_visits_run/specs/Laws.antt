@@ -9,8 +9,8 @@ use Rattle.run_audit_base.specs.Runs.{Passage, Run}
 use Rattle.run_audit_base.specs.Sendings.{sending_of}
 use Rattle.run_audit.specs.Verdicts.{verdict_of}
 use Rattle.run_audit.specs.declared.verdict.Verdict.TheVariants.{Kept}
-use Rattle.ds_visits.specs.Passing.{colours_of}
-use Rattle.ds_visits.specs.declared.sent.Sent.{Sent}
+use Rattle.ds_conductor_base.specs.Passing.{colours_of}
+use Rattle.ds_conductor_base.specs.declared.sent.Sent.{Sent}
 use Rattle.ds_visits_run.specs.Behind.{AreSendable, IsBehind}
 use Rattle.ds_visits_run.specs.Making.{run_behind}
 

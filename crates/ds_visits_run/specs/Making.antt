@@ -7,9 +7,9 @@ use Rattle.ds_conductor_base.specs.Conducting.{conducted_with}
 use Rattle.ds_conductor_base.specs.declared.fault.ConductFault.{ConductFault}
 use Rattle.ds_conductor_base.specs.declared.step.Step.{Step}
 use Rattle.ds_conductor_base.specs.declared.step.Step.TheVariants as steps
-use Rattle.ds_visits.specs.Visits.{visits_of}
-use Rattle.ds_visits.specs.declared.sent.Sent.{Sent}
-use Rattle.ds_visits.specs.declared.visit.Visit.{Visit}
+use Rattle.ds_conductor_base.specs.Visits.{visits_of}
+use Rattle.ds_conductor_base.specs.declared.sent.Sent.{Sent}
+use Rattle.ds_conductor_base.specs.declared.visit.Visit.{Visit}
 use Rattle.ds_visits_run.specs.Behind.{number_at}
 
 -- a packet is sent

@@ -10,12 +10,12 @@ use Rattle.ds_checker.specs.Acceptance.{Table}
 use Rattle.meter_fabric_base.specs.Grounds.{contract_of, ground_of}
 use Rattle.run_audit.proofs.MemberLaws.{front_or_rest, in_filter, in_front, in_map, in_none, in_rest, of_filter, of_map}
 use Rattle.run_audit.proofs.OrderLaws.{HasAllOf, in_order-permutes}
-use Rattle.ds_visits.specs.Streams.{rise_from}
-use Rattle.ds_visits.specs.Visits.{is_before, later, visit_to, visits_from, visits_of}
-use Rattle.ds_visits.specs.Ways.{stops_at}
-use Rattle.ds_visits.specs.declared.sent.Sent.{Sent}
-use Rattle.ds_visits.specs.declared.visit.Visit.{Visit}
-use Rattle.ds_visits.specs.declared.way.Stop.{Stop}
+use Rattle.ds_conductor_base.specs.Streams.{rise_from}
+use Rattle.ds_conductor_base.specs.Visits.{is_before, later, visit_to, visits_from, visits_of}
+use Rattle.ds_conductor_base.specs.Ways.{stops_at}
+use Rattle.ds_conductor_base.specs.declared.sent.Sent.{Sent}
+use Rattle.ds_conductor_base.specs.declared.visit.Visit.{Visit}
+use Rattle.ds_conductor_base.specs.declared.way.Stop.{Stop}
 use Rattle.ds_visits_run.specs.Behind.{visits_at}
 use Rattle.ds_visits_verdict.specs.Judged.{first_moment}
 use Rattle.ds_visits_verdict.specs.Judging.{Judging, earliest, is_first, noted, reached, reached_along, reached_at, reached_by, spoken_at, spoken_by}

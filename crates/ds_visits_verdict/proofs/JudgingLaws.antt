@@ -10,9 +10,9 @@ use Rattle.meter_fabric_base.specs.Openings.{site_count}
 use Rattle.run_audit.specs.Verdicts.{first_found, first_of}
 use Rattle.run_audit.specs.declared.verdict.Verdict.{Verdict}
 use Rattle.run_audit.specs.declared.verdict.Verdict.TheVariants.{Kept, OutsideContract}
-use Rattle.ds_visits.specs.Streams.{rise_from}
-use Rattle.ds_visits.specs.Visits.{visits_from}
-use Rattle.ds_visits.specs.declared.sent.Sent.{Sent}
+use Rattle.ds_conductor_base.specs.Streams.{rise_from}
+use Rattle.ds_conductor_base.specs.Visits.{visits_from}
+use Rattle.ds_conductor_base.specs.declared.sent.Sent.{Sent}
 use Rattle.ds_visits_run.proofs.RunLaws.{the_run_is_behind}
 use Rattle.ds_visits_run.specs.Making.{run_behind}
 use Rattle.ds_visits_verdict.specs.Judged.{first_moment, judged, late_at, late_by, over_at, skew_in, source_in, time_in}

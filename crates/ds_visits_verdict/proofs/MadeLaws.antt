@@ -16,11 +16,11 @@ use Rattle.meter_fabric_base.specs.declared.trail.Receipt.{Receipt}
 use Rattle.run_audit_base.specs.Runs.{Passage}
 use Rattle.run_audit_base.specs.Sendings.{Sending, sending_by, sending_of}
 use Rattle.run_audit.specs.Verdicts.{first_found, first_of}
-use Rattle.ds_visits.specs.Visits.{later, visit_to}
-use Rattle.ds_visits.specs.Ways.{AreNear, edge_stops, stops_along, stops_by}
-use Rattle.ds_visits.specs.declared.sent.Sent.{Sent}
-use Rattle.ds_visits.specs.declared.visit.Visit.{Visit}
-use Rattle.ds_visits.specs.declared.way.Stop.{Stop}
+use Rattle.ds_conductor_base.specs.Visits.{later, visit_to}
+use Rattle.ds_conductor_base.specs.Ways.{AreNear, edge_stops, stops_along, stops_by}
+use Rattle.ds_conductor_base.specs.declared.sent.Sent.{Sent}
+use Rattle.ds_conductor_base.specs.declared.visit.Visit.{Visit}
+use Rattle.ds_conductor_base.specs.declared.way.Stop.{Stop}
 use Rattle.ds_visits_run.specs.Behind.{MadeItsVisits, packet_sent, visit_told}
 
 -- no visit of a packet is later than the last moment that there is

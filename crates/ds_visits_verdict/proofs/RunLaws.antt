@@ -43,15 +43,15 @@ use Rattle.run_audit.specs.Verdicts as audits
 use Rattle.run_audit.specs.Verdicts.{against_sent, by_number, by_site, first_found, first_of, is_begun_before, is_over, may_send, outside, delayed, time_of, source_of_run, link_of_run, skew_of_run, late_row, untimely, verdict_of, was_sent_as}
 use Rattle.run_audit.specs.declared.verdict.Verdict.{Verdict}
 use Rattle.run_audit.specs.declared.verdict.Verdict.TheVariants.{Kept, OutsideContract, SourceOver, DelayOver, Late}
-use Rattle.ds_visits.proofs.ApartLaws.{visits_differ}
-use Rattle.ds_visits.proofs.InOrderLaws.{visit_order}
-use Rattle.ds_visits.proofs.JoinLaws.{ascends-filter, in_order-rises}
-use Rattle.ds_visits.specs.Streams.{rise_from}
-use Rattle.ds_visits.specs.Visits.{is_before, is_same, later, visit_to, visits_from, visits_of}
-use Rattle.ds_visits.specs.Ways.{AreInReach, AreNear, delay_over, stops_along}
-use Rattle.ds_visits.specs.declared.sent.Sent.{Sent}
-use Rattle.ds_visits.specs.declared.visit.Visit.{Visit}
-use Rattle.ds_visits.specs.declared.way.Stop.{Stop}
+use Rattle.ds_conductor_base.proofs.ApartLaws.{visits_differ}
+use Rattle.ds_conductor_base.proofs.InOrderLaws.{visit_order}
+use Rattle.ds_conductor_base.proofs.JoinLaws.{ascends-filter, in_order-rises}
+use Rattle.ds_conductor_base.specs.Streams.{rise_from}
+use Rattle.ds_conductor_base.specs.Visits.{is_before, is_same, later, visit_to, visits_from, visits_of}
+use Rattle.ds_conductor_base.specs.Ways.{AreInReach, AreNear, delay_over, stops_along}
+use Rattle.ds_conductor_base.specs.declared.sent.Sent.{Sent}
+use Rattle.ds_conductor_base.specs.declared.visit.Visit.{Visit}
+use Rattle.ds_conductor_base.specs.declared.way.Stop.{Stop}
 use Rattle.ds_visits_run.specs.Behind.{AreSendable, IsBehind, MadeItsVisits, packet_sent, visit_told, visits_at}
 use Rattle.ds_visits_verdict.specs.Judged.{first_moment, is_counted, judged, late_at, late_by, late_with, outside_by, outside_in, over_at, over_by, over_in, overflowing, sent_in, skew_in, source_in, time_in}
 use Rattle.ds_visits_verdict.specs.Judged as judgings

@@ -10,10 +10,10 @@ use Rattle.meter_fabric_base.specs.Openings.{site_count}
 use Rattle.run_audit.specs.Verdicts.{first_found, first_of}
 use Rattle.run_audit.specs.declared.verdict.Verdict.{Verdict}
 use Rattle.run_audit.specs.declared.verdict.Verdict.TheVariants.{Kept, OutsideContract}
-use Rattle.ds_visits.specs.Visits.{later}
-use Rattle.ds_visits.specs.Ways.{AreWays, stops_at, stops_by}
-use Rattle.ds_visits.specs.declared.sent.Sent.{Sent}
-use Rattle.ds_visits.specs.declared.way.Stop.{Stop}
+use Rattle.ds_conductor_base.specs.Visits.{later}
+use Rattle.ds_conductor_base.specs.Ways.{AreWays, stops_at, stops_by}
+use Rattle.ds_conductor_base.specs.declared.sent.Sent.{Sent}
+use Rattle.ds_conductor_base.specs.declared.way.Stop.{Stop}
 use Rattle.ds_visits_verdict.specs.Judged.{outside_by, outside_in}
 use Rattle.ds_visits_verdict.specs.Judging.{Judging, is_first, late_told, noted, reached, reached_along, reached_by, spoken_by, told_at, verdict_now, verdict_with}
 use Rattle.ds_visits_verdict.specs.declared.sender.Sender.{Sender}

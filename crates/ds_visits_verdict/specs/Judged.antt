@@ -21,7 +21,7 @@ use Rattle.meter_fabric_base.specs.declared.site.Opening.{Opening}
 use Rattle.run_audit.specs.Verdicts.{first_found, first_of, may_send}
 use Rattle.run_audit.specs.declared.verdict.Verdict.{Verdict}
 use Rattle.run_audit.specs.declared.verdict.Verdict.TheVariants.{Kept, OutsideContract, SourceOver, Late}
-use Rattle.ds_visits.specs.declared.sent.Sent.{Sent}
+use Rattle.ds_conductor_base.specs.declared.sent.Sent.{Sent}
 use Rattle.ds_visits_run.specs.Behind.{visits_at}
 
 -- TIME: a packet is sent when its contract may not send; none where there is no such contract

@@ -24,10 +24,10 @@ use Rattle.meter_fabric_base.specs.Openings.{site_count}
 use Rattle.run_audit.specs.Verdicts.{first_found, first_of}
 use Rattle.run_audit.specs.declared.verdict.Verdict.{Verdict}
 use Rattle.run_audit.specs.declared.verdict.Verdict.TheVariants.{Kept, OutsideContract, SourceOver}
-use Rattle.ds_visits.specs.Visits.{later}
-use Rattle.ds_visits.specs.Ways.{stops_at}
-use Rattle.ds_visits.specs.declared.sent.Sent.{Sent}
-use Rattle.ds_visits.specs.declared.way.Stop.{Stop}
+use Rattle.ds_conductor_base.specs.Visits.{later}
+use Rattle.ds_conductor_base.specs.Ways.{stops_at}
+use Rattle.ds_conductor_base.specs.declared.sent.Sent.{Sent}
+use Rattle.ds_conductor_base.specs.declared.way.Stop.{Stop}
 use Rattle.ds_visits_verdict.specs.Judged.{late_by, outside_in}
 use Rattle.ds_visits_verdict.specs.declared.sender.Buckets.{Buckets}
 use Rattle.ds_visits_verdict.specs.declared.sender.Sender.{Sender}

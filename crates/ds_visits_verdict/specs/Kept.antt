@@ -1,5 +1,5 @@
 -- What the fields of a judge stand for, and what they keep.
-use Rattle.ds_visits.specs.Ways.{AreWays}
+use Rattle.ds_conductor_base.specs.Ways.{AreWays}
 use Rattle.ds_visits_verdict.specs.Judging.{Judging}
 use Rattle.ds_visits_verdict.specs.declared.judge.Judge.TheInside as judges
 

@@ -4,8 +4,8 @@ use Rattle.ds_checker.specs.Acceptance.{IsAcceptable, Table}
 use Rattle.meter_fabric_base.specs.Grounds.{ground_of}
 use Rattle.run_audit_base.specs.Runs.{Run}
 use Rattle.run_audit.specs.Verdicts.{verdict_of}
-use Rattle.ds_visits.specs.Ways.{AreInReach}
-use Rattle.ds_visits.specs.declared.sent.Sent.{Sent}
+use Rattle.ds_conductor_base.specs.Ways.{AreInReach}
+use Rattle.ds_conductor_base.specs.declared.sent.Sent.{Sent}
 use Rattle.ds_visits_run.specs.Behind.{AreSendable, IsBehind}
 use Rattle.ds_visits_run.specs.Making.{run_behind}
 use Rattle.ds_visits_verdict.specs.Judged.{judged}

@@ -1,7 +1,7 @@
 ghost use Rattle.std.specs.Prelude.{◌≡◌};
 ghost use Rattle.ds_visits_verdict.specs.Judging.{empty, watched};
 
-use ds_visits::Sent;
+use ds_conductor_base::Sent;
 use envelope_core::{Envelope, LeakyBucket};
 
 /// A leaky bucket into which packets are poured, up to the one with which it overflows for the first time.

@@ -3,7 +3,7 @@ use crate::tables::{accepted, table_of};
 use af_marker::Dscp;
 use ds_checker::Accepted;
 use ds_conductor::{OpenGate, RedRule, Report, mark};
-use ds_visits::Sent;
+use ds_conductor_base::Sent;
 use ds_visits_verdict::Judge;
 use moment_core::{Column, Gap, Moment, PacketSize};
 use pcap_capture::{SliceIntake, VecOutlet};

@@ -2,7 +2,7 @@ use crate::mark_rows::narrow;
 use crate::tables::table_of;
 use af_marker::Dscp;
 use ds_checker::Accepted;
-use ds_visits::{OpenGate, Sent, UnderWay, colours};
+use ds_conductor_base::{OpenGate, Sent, UnderWay, colours};
 use moment_core::{Colour, Moment, PacketSize};
 use std::alloc::Global;
 use std::process::Abort;

@@ -1,25 +1,20 @@
-use Rattle.std.proofs.Common.{[], refl}
-use Rattle.ds_conductor.proofs.MarkingLaws.{marked_at, starved_marked, unheaded}
+use Rattle.std.proofs.Common.{refl}
+use Rattle.ds_conductor.proofs.MarkingLaws.{marked_at, unheaded}
 use Rattle.ds_conductor.proofs.PassingLaws.{asked_first, unheaded_reads}
 use Rattle.ds_conductor.proofs.marking.mark.Goals as goal
 
-pub returns-in_default-room-clause-marked : goal.returns-in_default-room-clause-marked
-returns-in_default-room-clause-marked g c = λ given tells.
-    marked_at c.args.accepted.now c.domain.result.now c.args.port.now c.in-Some.port c.args.red _ _ _ _ _ c.domain.ensures.value c.in-Some.ensures
-    (starved_marked c.args.accepted.now c.in-Some.port c.args.red _ [] _ _ _ _ refl refl c.nothing-in_default-room.ensures)
-
-pub returns-in-Ok-read_heading-clause-marked : goal.returns-in-Ok-read_heading-clause-marked
-returns-in-Ok-read_heading-clause-marked g c = λ given tells.
+pub returns-in-Ok-clause-marked : goal.returns-in-Ok-clause-marked
+returns-in-Ok-clause-marked g c = λ given tells.
     let bytes = g.I.Intake.left c.args.intake.now in
-    let read = c.in-Ok-read_heading.ensures.read bytes given (c.begin-progress.ensures.begun bytes) in
+    let read = c.in-Ok.ensures.read bytes given (c.begin-progress.ensures.begun bytes) in
     marked_at c.args.accepted.now c.domain.result.now c.args.port.now c.in-Some.port c.args.red bytes _ _ _ _ c.domain.ensures.value c.in-Some.ensures
-    (c.mark_behind.ensures.marked (c.in-Ok-read_heading.ensures.told given) tells bytes read.0 read.1)
+    (c.mark_behind.ensures.marked (c.in-Ok.ensures.told given) tells bytes read.0 read.1)
 
-pub returns-in-Ok-read_heading-clause-reads : goal.returns-in-Ok-read_heading-clause-reads
-returns-in-Ok-read_heading-clause-reads g c =
+pub returns-in-Ok-clause-reads : goal.returns-in-Ok-clause-reads
+returns-in-Ok-clause-reads g c =
     let first = asked_first c.begin-progress.result.turns (g.I.Intake.failed c.args.intake.now) (g.I.Intake.turns c.args.intake.now) c.begin-progress.ensures.turns in
     c.mark_behind.ensures.reads (g.I.Intake.failed c.args.intake.now) (g.I.Intake.turns c.args.intake.now)
-    (c.in-Ok-read_heading.ensures.asked (g.I.Intake.failed c.args.intake.now) (g.I.Intake.turns c.args.intake.now) first)
+    (c.in-Ok.ensures.asked (g.I.Intake.failed c.args.intake.now) (g.I.Intake.turns c.args.intake.now) first)
 
 pub returns-in-Err-clause-marked : goal.returns-in-Err-clause-marked
 returns-in-Err-clause-marked g c = λ given tells.
@@ -33,5 +28,5 @@ pub returns-in-Err-clause-reads : goal.returns-in-Err-clause-reads
 returns-in-Err-clause-reads g c =
     let failed = g.I.Intake.failed c.args.intake.now in
     let asked = g.I.Intake.turns c.args.intake.now in
-    unheaded_reads c.nothing-in-Err.result c.in-Err.fault c.of_reading.result _ failed _ asked _ c.of_reading.ensures
+    unheaded_reads c.nothing-in-Err.result c.in-Err.fault c.of_reading.result failed _ asked _ c.of_reading.ensures
     (c.in-Err.ensures.asked failed asked (asked_first c.begin-progress.result.turns failed asked c.begin-progress.ensures.turns))

@@ -35,7 +35,7 @@ returns-in-Ok-turned-clause-marked g c = λ given tells bytes at headed.
 
 pub returns-in-Ok-turned-clause-reads : goal.returns-in-Ok-turned-clause-reads
 returns-in-Ok-turned-clause-reads g c = λ failed asked at.
-    of_reads c.finish.result _ _ failed _ asked _ c.finish.ensures.unread c.finish.ensures.read (c.in-Ok-turned.ensures.asked failed asked at)
+    of_reads c.finish.result _ failed _ asked _ c.finish.ensures.unread c.finish.ensures.read (c.in-Ok-turned.ensures.asked failed asked at)
 
 pub returns-clause-marked : goal.returns-clause-marked
 returns-clause-marked g c = λ given tells bytes at headed.

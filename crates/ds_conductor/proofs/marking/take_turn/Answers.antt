@@ -61,8 +61,7 @@ returns-in-Ok-false-clause-turned g c = λ given tells bytes before at.
     }
 
 pub returns-in-Ok-false-clause-asked : goal.returns-in-Ok-false-clause-asked
-returns-in-Ok-false-clause-asked g c = λ failed asked at.
-    rw c.take_frames.ensures.turns (c.in-Ok-false.ensures.asked failed asked at)
+returns-in-Ok-false-clause-asked g c = λ failed asked at. (c.in-Ok-false.ensures.asked failed asked at).unfailed
 
 pub returns-then-is_starved-clause-turned : goal.returns-then-is_starved-clause-turned
 returns-then-is_starved-clause-turned g c = λ given tells bytes before at.

@@ -6,7 +6,6 @@ loop-turn-preserved g c =
     let was = c.loop-turn.invariant in
     let next = c.in_ok-turn.ensures in
     record {
-      room = next.room;
       missing = omega (arith, next.missing, was.missing);
       bounded = next.bounded;
       few = omega (arith, next.few, was.few);

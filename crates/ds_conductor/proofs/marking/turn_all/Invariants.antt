@@ -1,4 +1,4 @@
-use Rattle.std.proofs.Common.{◌≡◌, ◌+◌, ◌*◌, ◌≤◌, ◌^◌, List, ℕ, vec_len}
+use Rattle.std.proofs.Common.{◌≡◌, ◌+◌, ◌*◌, ◌≤◌, ◌^◌, List, ℕ}
 use Rattle.ds_conductor.specs.Conditionings.{IsBounded}
 use Rattle.ds_conductor.specs.Passings.{IsOnTheWay}
 use Rattle.ds_conductor.specs.Readings.{IsAsked, bytes_of}
@@ -7,7 +7,6 @@ use Rattle.ds_conductor.proofs.marking.turn_all.Given as goal
 -- more may come
 abbrev pub invariant-loop-turn : goal.invariant-loop-turn
 invariant-loop-turn g l = record {
-  room : vec_len l.room ≡ 65536;
   missing : l.progress.missing ≤ 24;
   bounded : IsBounded l.conditioner;
   few : 16 * l.conditioner.counts.records + bytes_of l.progress ≤ 2 ^ 48;

@@ -7,7 +7,6 @@ loop-progress-preserved g c =
     let was = c.loop-progress.invariant in
     let next = c.in-Ok-true.ensures in
     record {
-      room = next.room;
       missing = omega (arith, next.missing, was.missing);
       few = omega (arith, next.few, was.few);
       told = λ tells. next.told (was.told tells);
@@ -23,7 +22,7 @@ returns-in-Ok-false-clause-read g c = λ bytes tells at.
 
 pub returns-in-Ok-false-clause-asked : goal.returns-in-Ok-false-clause-asked
 returns-in-Ok-false-clause-asked g c = λ failed asked so_far.
-    c.in-Ok-false.ensures.asked failed asked (c.loop-progress.invariant.asked failed asked so_far)
+    (c.in-Ok-false.ensures.asked failed asked (c.loop-progress.invariant.asked failed asked so_far)).unfailed
 
 pub returns-in-Err-clause-read : goal.returns-in-Err-clause-read
 returns-in-Err-clause-read g c = λ bytes tells at.

@@ -1,11 +1,10 @@
-use Rattle.std.proofs.Common.{◌≡◌, ◌≤◌, [], List, ℕ, vec_len}
+use Rattle.std.proofs.Common.{◌≤◌, [], List, ℕ}
 use Rattle.ds_conductor.specs.Readings.{IsAsked, IsUnderway, bytes_of}
 use Rattle.ds_conductor.proofs.reading.read_heading.Given as goal
 
 -- what was read is underway, and no call failed
 abbrev pub invariant-loop-progress : goal.invariant-loop-progress
 invariant-loop-progress g l = record {
-  room : vec_len l.room ≡ 65536;
   missing : l.progress.missing ≤ l.initial.progress.missing;
   few : bytes_of l.progress ≤ bytes_of l.initial.progress;
   told : g.I.Intake.tells l.initial.intake → g.I.Intake.tells l.intake;

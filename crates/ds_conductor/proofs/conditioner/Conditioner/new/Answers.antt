@@ -1,9 +1,9 @@
 use Rattle.std.proofs.Common.{ap, sym, subst, ◌∙◌}
 use Rattle.std.proofs.lemmas.Result.{OkIff-at_ok}
 use Rattle.ds_checker.specs.Acceptance.{IsAcceptable}
-use Rattle.ds_visits.specs.Ways.{AreInReach}
+use Rattle.ds_conductor_base.specs.Ways.{AreInReach}
 use Rattle.ds_visits_verdict.specs.Judging.{unjudged}
-use Rattle.ds_visits.specs.Streams.{begun}
+use Rattle.ds_conductor_base.specs.Streams.{begun}
 use Rattle.ds_conductor.proofs.ConditionLaws.{begins}
 use Rattle.ds_conductor.proofs.conditioner.Conditioner.new.Goals as goal
 

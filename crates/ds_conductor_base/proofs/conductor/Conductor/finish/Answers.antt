@@ -1,6 +1,6 @@
 use Rattle.std.proofs.Common.{arith}
 use Rattle.ds_conductor_base.specs.Kept.{stage_of}
-use Rattle.ds_conductor_base.proofs.UnderWayLaws.{run_under_way, whole_under_way}
+use Rattle.ds_conductor_base.proofs.OnTheWayLaws.{run_under_way, whole_under_way}
 use Rattle.ds_conductor_base.proofs.conductor.Conductor.finish.Goals as goal
 
 pub journals_of-requires : goal.journals_of-requires

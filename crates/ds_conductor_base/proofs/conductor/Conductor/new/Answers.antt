@@ -1,7 +1,7 @@
 use Rattle.std.proofs.Common.{◌^◌, ap, sym, ◌∙◌}
 use Rattle.std.specs.Map.{keys_of, values_of}
 use Rattle.ds_conductor_base.specs.Steps.{numbers_of}
-use Rattle.ds_conductor_base.proofs.UnderWayLaws.{opened_under_way}
+use Rattle.ds_conductor_base.proofs.OnTheWayLaws.{opened_under_way}
 use Rattle.ds_conductor_base.proofs.conductor.Conductor.new.Goals as goal
 
 pub invariant_of-result : goal.invariant_of-result

@@ -3,7 +3,7 @@ use Rattle.indexmap.specs.IndexMap.{values}
 use Rattle.ds_conductor_base.specs.Kept.{stage_of}
 use Rattle.ds_conductor_base.specs.declared.step.Step.TheVariants.{Send}
 use Rattle.ds_conductor_base.proofs.StepLaws.{begun_number, keys_sent, send_begun, send_known, send_refused, sent_before, values_sent}
-use Rattle.ds_conductor_base.proofs.UnderWayLaws.{stepped_under_way}
+use Rattle.ds_conductor_base.proofs.OnTheWayLaws.{stepped_under_way}
 use Rattle.ds_conductor_base.proofs.conductor.Conductor.send.Goals as goal
 
 pub returns-then-contains_key-clause-refused : goal.returns-then-contains_key-clause-refused

@@ -1,5 +1,0 @@
-use Rattle.ds_visits.proofs.StreamLaws.{visits_final}
-use Rattle.ds_visits.proofs.laws.visits_up_to_a_moment_are_final.Goals as goal
-
-pub returns : goal.returns
-returns c = visits_final
