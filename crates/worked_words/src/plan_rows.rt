@@ -388,7 +388,7 @@ fn the_version_and_the_kit_that_proved_it(rt: HostRuntime) -> Result<(), Fail> {
         let text = text_for(rt.alloc(), line)?;
         assert_eq!(rt;
             text.as_str(),
-            "dsedge 0.1.0\nrattle-kit-13b logic dac8208d650f15bf\n"
+            "dsedge 0.1.0\nrattle-kit-13f logic dac8208d650f15bf\n"
         );
     }
     Ok(())
