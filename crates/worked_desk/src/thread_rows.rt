@@ -16,6 +16,10 @@ use std::thread::{Threads, join, map_vec};
 /// How often each caller sells, and each feed looks.
 const EACH: u32 = 1000;
 
+/// More seconds than four callers can take the moments of their broker on by: each of 4,000 retirements takes them on by
+/// at most a second and a hold, which is 6 ms. So a contract ends by then, however long its caller waits for its turn.
+const SECONDS: u64 = 5000;
+
 /// What a caller is told of a reserve: its front, or why it is refused.
 type Told<J> = Result<Front<J>, BrokerRefusal>;
 
@@ -140,7 +144,7 @@ fn give_back<J: Naming, R: Wait + Drop, W: Wait>(
     id: u32,
     since: u64,
 ) -> Option<Front<J>> {
-    for seconds in 1..1000u64 {
+    for seconds in 1..SECONDS {
         let moment = since.checked_add(seconds * 1_000_000_000)?;
         let front = given_back(rt, broker, id, Moment::new(moment).ok()?);
         if front.is_some() {
