@@ -6,6 +6,7 @@ use ds_broker::{BrokerRefusal, Limits};
 use ds_checker::Refusal;
 use ds_desk::{Broker, Feed, Naming, Opened};
 use ds_domain_base::{Contract, Domain, Name};
+use ds_timeline::Timeline;
 use meter_fabric_base::{Numbered, Traveller};
 use moment_core::{Moment, PacketSize};
 use std::alloc::Global;
@@ -107,7 +108,21 @@ fn sold_again<J: Naming, R: Wait + Drop, W: Wait + Abort>(
     Ok(())
 }
 
-/// The timeline behind all four commands has both contracts, the one before the other.
+/// A timeline has both contracts, the one before the other.
+fn expect_both(rt: &impl Abort, timeline: &Timeline) -> Result<(), Fail> {
+    assert_eq!(rt; timeline.reservations().len(), 2);
+    let a = timeline.reservation(0).ok_or("no first contract")?;
+    let b = timeline.reservation(1).ok_or("no second contract")?;
+    let gone = a.retirement.map(|retirement| retirement.get());
+    assert_eq!(rt; (a.from.get(), gone), (0, Some(1_006_000_000)));
+    assert_eq!(rt;
+        (b.from.get(), b.retirement.is_none()),
+        (1_006_000_000, true)
+    );
+    Ok(())
+}
+
+/// What a broker tells of behind all four commands.
 fn told_of_both<J: Naming, R: Wait + Drop, W: Wait + Abort>(
     rt: &W,
     alloc: Global,
@@ -115,15 +130,25 @@ fn told_of_both<J: Naming, R: Wait + Drop, W: Wait + Abort>(
 ) -> Result<(), Fail> {
     let told = broker.timeline(rt, alloc)?;
     assert_eq!(rt; told.front.serial().get(), 4);
-    assert_eq!(rt; told.timeline.reservations().len(), 2);
-    let a = told.timeline.reservation(0).ok_or("no first contract")?;
-    let b = told.timeline.reservation(1).ok_or("no second contract")?;
-    let gone = a.retirement.map(|retirement| retirement.get());
-    assert_eq!(rt; (a.from.get(), gone), (0, Some(1_006_000_000)));
-    assert_eq!(rt;
-        (b.from.get(), b.retirement.is_none()),
-        (1_006_000_000, true)
-    );
+    expect_both(rt, &told.timeline)
+}
+
+/// The two contracts of a broker are sold one after the other, as a feed of it sees.
+fn expect_sales<J: Naming, R: Wait + Drop, W: Wait + Abort>(
+    rt: &W,
+    alloc: Global,
+    broker: &Broker<J, R>,
+    feed: Feed<J>,
+    contracts: &[Contract],
+) -> Result<(), Fail> {
+    let feed = first_sold(rt, broker, feed, contract(alloc, contracts, 0)?)?;
+    assert_eq!(rt; released(rt, broker, 1, 1_000_000_000)?, Ok((2, 2)));
+    refused_meanwhile(rt, broker, contract(alloc, contracts, 1)?)?;
+    sold_again(rt, broker, contract(alloc, contracts, 1)?)?;
+    told_of_both(rt, alloc, broker)?;
+    let (seen, feed) = looked(feed)?;
+    assert_eq!(rt; seen, (4, 1, 1));
+    assert_eq!(rt; begun(alloc, feed)?, (false, true));
     Ok(())
 }
 
@@ -141,16 +166,7 @@ fn sold_anew<J: Naming, R: Wait + Abort + Copy + Drop>(
 {
     let (broker, mut feeds) = opened::<J, R>(rt, alloc, log, domain, limits, 1)?;
     let feed = feeds.pop().ok_or("one feed")?;
-    let rt = &rt;
-    let feed = first_sold(rt, &broker, feed, contract(alloc, contracts, 0)?)?;
-    assert_eq!(rt; released(rt, &broker, 1, 1_000_000_000)?, Ok((2, 2)));
-    refused_meanwhile(rt, &broker, contract(alloc, contracts, 1)?)?;
-    sold_again(rt, &broker, contract(alloc, contracts, 1)?)?;
-    told_of_both(rt, alloc, &broker)?;
-    let (seen, feed) = looked(feed)?;
-    assert_eq!(rt; seen, (4, 1, 1));
-    assert_eq!(rt; begun(alloc, feed)?, (false, true));
-    Ok(())
+    expect_sales(&rt, alloc, &broker, feed, contracts)
 }
 
 #[test]

@@ -36,26 +36,22 @@ fn sell<J: Naming, R: Wait + Drop, W: Wait>(
 }
 
 /// Two callers reserve at once what the domain can carry one of: one is granted, and a feed that learns it sees it.
-fn one_of_two<J: Naming + Send + Sync, R: Threads + Wait + Abort + Copy + Drop + Send + Sync>(
-    rt: R,
+fn expect_one_grant<J: Naming + Send + Sync, R: Wait + Drop + Send + Sync, W>(
+    rt: &W,
     alloc: Global,
-    log: Opened,
-    domain: Domain,
-    limits: Limits,
+    broker: &Broker<J, R>,
+    feed: Feed<J>,
     contracts: &[Contract],
 ) -> Result<(), Fail>
-    requires log { log ≡ J.log }
-    requires opening { J.opening ≡ record { domain = domain; limits = limits; history = [] } }
+where
+    W: Threads + Wait + Abort + Sync,
 {
-    let (broker, mut feeds) = opened::<J, R>(rt, alloc, log, domain, limits, 1)?;
-    let feed = feeds.pop().ok_or("one feed")?;
     let first = contract(alloc, contracts, 0)?;
     let second = contract(alloc, contracts, 1)?;
-    let (rt, shared) = (&rt, &broker);
     let (a, b) = join(
         rt,
-        move || sell(rt, shared, first),
-        move || sell(rt, shared, second),
+        move || sell(rt, broker, first),
+        move || sell(rt, broker, second),
     );
     let (front, refusal) = match (a, b) {
         (Ok(front), Err(refusal)) => (front, refusal),
@@ -75,6 +71,23 @@ fn one_of_two<J: Naming + Send + Sync, R: Threads + Wait + Abort + Copy + Drop +
     seen.end();
     assert_eq!(rt; told, (1, 1));
     Ok(())
+}
+
+/// The same at a broker of the domain.
+fn one_of_two<J: Naming + Send + Sync, R: Threads + Wait + Abort + Copy + Drop + Send + Sync>(
+    rt: R,
+    alloc: Global,
+    log: Opened,
+    domain: Domain,
+    limits: Limits,
+    contracts: &[Contract],
+) -> Result<(), Fail>
+    requires log { log ≡ J.log }
+    requires opening { J.opening ≡ record { domain = domain; limits = limits; history = [] } }
+{
+    let (broker, mut feeds) = opened::<J, R>(rt, alloc, log, domain, limits, 1)?;
+    let feed = feeds.pop().ok_or("one feed")?;
+    expect_one_grant(&rt, alloc, &broker, feed, contracts)
 }
 
 #[test]

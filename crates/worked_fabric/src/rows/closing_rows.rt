@@ -2,7 +2,8 @@ ghost use Rattle.std.specs.Prelude.{◌≡◌, ◌+◌, length};
 
 use crate::rows::tables::{EDGE, enter, fit, none, opened, policed, visit};
 use ds_checker::Accepted;
-use meter_fabric::{FabricLedger, ticket_parts};
+use meter_book::{Chapter, Journal};
+use meter_fabric::{Fabric, FabricLedger, Pass, ticket_parts};
 use moment_core::Moment;
 use std::alloc::Global;
 use std::marker::Brand;
@@ -11,8 +12,72 @@ use std::sync::Wait;
 use std::sync::ledger::Blank;
 use std::test::Fail;
 
-/// Expects that an edge of capacity 2 takes a third packet once it is cut, at place 2, and that the fabric closes with
-/// the chapter and not without it.
+/// Expects that an edge of capacity 2 takes a third packet once it is cut, at place 2: the chapter.
+fn expect_cut<L: FabricLedger, R: Wait + Abort>(
+    rt: &R,
+    alloc: Global,
+    fabric: &Fabric<'_, L>,
+    accepted: &Accepted,
+    pass: &mut Pass<L>,
+) -> Result<Chapter, Fail> {
+    assert_eq!(rt; fit(rt, alloc, fabric, accepted, 0)?, 0);
+    for number in 1..3 {
+        let (_, code) = enter(rt, alloc, fabric, accepted, pass, (number, 10))?;
+        assert_eq!(rt; code, 0);
+    }
+    let (third, code) = enter(rt, alloc, fabric, accepted, pass, (3, 10))?;
+    assert_eq!(rt; code, 2);
+    let moment = Moment::new(10)?;
+    let chapter = fabric.cut(rt, EDGE)?;
+    assert_eq!(rt; (chapter.site(), chapter.len()), (EDGE, 2));
+    let (third, code) = visit(rt, fabric, pass, third, moment);
+    assert_eq!(rt; code, 0);
+    let place = third
+        .into_trail()
+        .receipts
+        .first()
+        .map(|receipt| receipt.row.place);
+    assert_eq!(rt; place, Some(2));
+    Ok(chapter)
+}
+
+/// Expects the journals of a meter that no packet came to, and of an edge of three rows.
+fn expect_journals(rt: &impl Abort, journals: &[Journal]) {
+    assert_eq!(rt; journals.len(), 2);
+    assert_eq!(rt; journals.first().map(|journal| journal.len()), Some(0));
+    assert_eq!(rt;
+        journals
+            .last()
+            .map(|journal| (journal.site(), journal.len())),
+        Some((EDGE, 3))
+    );
+}
+
+/// Expects that a fabric closes with a chapter of its edge and not without it.
+fn expect_closing<L: FabricLedger>(
+    rt: &impl Abort,
+    alloc: Global,
+    fabric: Fabric<'_, L>,
+    passes: Vec<Pass<L>>,
+    chapter: Chapter,
+) -> Result<(), Fail> {
+    match fabric.close(alloc, passes, none(alloc)) {
+        Ok(_) => Err(Fail::from("a chapter was missing")),
+        Err((fabric, passes, mut chapters, fault)) => {
+            assert_eq!(rt; (fault.code(), passes.len()), (3, 2));
+            chapters.push(chapter)?;
+            match fabric.close(alloc, passes, chapters) {
+                Ok(journals) => {
+                    expect_journals(rt, journals.as_slice());
+                    Ok(())
+                }
+                Err((_, _, _, fault)) => Err(fault.into()),
+            }
+        }
+    }
+}
+
+/// A fabric whose edge is cut closes with the chapter.
 fn cuts<L: FabricLedger, R: Wait + Abort>(
     rt: &R,
     alloc: Global,
@@ -25,46 +90,10 @@ fn cuts<L: FabricLedger, R: Wait + Abort>(
     requires sites { L.sites ≡ length accepted.now.domain.meters + 1 }
 {
     let (fabric, mut passes) = opened::<L>(alloc, accepted, blank, 2)?;
-    assert_eq!(rt; fit(rt, alloc, &fabric, accepted, 0)?, 0);
     let mut pass = passes.pop().expect(rt, "two passes");
-    for number in 1..3 {
-        let (_, code) = enter(rt, alloc, &fabric, accepted, &mut pass, (number, 10))?;
-        assert_eq!(rt; code, 0);
-    }
-    let (third, code) = enter(rt, alloc, &fabric, accepted, &mut pass, (3, 10))?;
-    assert_eq!(rt; code, 2);
-    let chapter = fabric.cut(rt, EDGE)?;
-    assert_eq!(rt; (chapter.site(), chapter.len()), (EDGE, 2));
-    let (third, code) = visit(rt, &fabric, &mut pass, third, Moment::new(10)?);
-    assert_eq!(rt; code, 0);
-    let place = third
-        .into_trail()
-        .receipts
-        .first()
-        .map(|receipt| receipt.row.place);
-    assert_eq!(rt; place, Some(2));
+    let chapter = expect_cut(rt, alloc, &fabric, accepted, &mut pass)?;
     passes.push(pass)?;
-    match fabric.close(alloc, passes, none(alloc)) {
-        Ok(_) => Err(Fail::from("a chapter was missing")),
-        Err((fabric, passes, mut chapters, fault)) => {
-            assert_eq!(rt; (fault.code(), passes.len()), (3, 2));
-            chapters.push(chapter)?;
-            match fabric.close(alloc, passes, chapters) {
-                Ok(journals) => {
-                    assert_eq!(rt; journals.len(), 2);
-                    assert_eq!(rt;
-                        journals
-                            .last()
-                            .map(|journal| (journal.site(), journal.len())),
-                        Some((EDGE, 3))
-                    );
-                    assert_eq!(rt; journals.first().map(|journal| journal.len()), Some(0));
-                    Ok(())
-                }
-                Err((_, _, _, fault)) => Err(fault.into()),
-            }
-        }
-    }
+    expect_closing(rt, alloc, fabric, passes, chapter)
 }
 
 #[test]
