@@ -47,12 +47,18 @@ pub struct Left {
     pub trails: Vec<Trail>,
 }
 
-/// A domain's text with two contracts as a plan, for a table of 16 contracts and a history of 256 commands.
-fn plan_of(alloc: Global, text: &str) -> Result<Plan, Fail> {
-    let (domain, mut contracts) = parse(alloc, text.as_bytes())?;
+/// The last two of some contracts.
+fn last_two(mut contracts: Vec<Contract>) -> Result<(Contract, Contract), Fail> {
     let second = contracts.pop().ok_or("no second contract")?;
     let first = contracts.pop().ok_or("no first contract")?;
+    Ok((first, second))
+}
+
+/// A domain's text with two contracts as a plan, for a table of 16 contracts and a history of 256 commands.
+fn plan_of(alloc: Global, text: &str) -> Result<Plan, Fail> {
     let limits = Limits::new(16, 256)?;
+    let (domain, contracts) = parse(alloc, text.as_bytes())?;
+    let (first, second) = last_two(contracts)?;
     Ok(Plan {
         domain,
         limits,
@@ -206,7 +212,17 @@ pub fn judged(alloc: Global, left: Left) -> Result<Verdict, Fail> {
         journals,
         trails,
     } = left;
-    match Run::assemble(alloc, Ground::Line(&timeline), journals, trails) {
+    judged_over(alloc, &timeline, journals, trails)
+}
+
+/// The verdict on journals and trails over a timeline.
+fn judged_over(
+    alloc: Global,
+    timeline: &Timeline,
+    journals: Vec<Journal>,
+    trails: Vec<Trail>,
+) -> Result<Verdict, Fail> {
+    match Run::assemble(alloc, Ground::Line(timeline), journals, trails) {
         Ok(run) => Ok(audit(alloc, &run)?),
         Err((_, _, fault)) => Err(fault.into()),
     }

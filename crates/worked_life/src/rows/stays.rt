@@ -128,6 +128,14 @@ fn taken<L: FabricLedger + Send + Sync, W: Threads + Wait + Sync>(
     )
 }
 
+/// Puts what the packets of a thread carried away behind `trails`.
+fn put_behind(trails: &mut Vec<Trail>, left: Option<Vec<Trail>>) -> Result<(), Fail> {
+    for trail in left.ok_or("a visit was refused")? {
+        trails.push(trail)?;
+    }
+    Ok(())
+}
+
 /// The packets of a flow pass the meters. What they carried away goes behind `trails`.
 pub fn packets_pass<J: Naming, L: FabricLedger + Send + Sync, W: Threads + Wait + Sync>(
     rt: &W,
@@ -141,12 +149,8 @@ pub fn packets_pass<J: Naming, L: FabricLedger + Send + Sync, W: Threads + Wait 
 ) -> Result<(Feed<J>, Passes<L>), Fail> {
     let (ways, feed) = begun_as_seen(alloc, feed, flow, shares)?;
     let ((one, first), (other, second)) = taken(rt, alloc, fabric, passes, ways);
-    for trail in first.ok_or("a visit was refused")? {
-        trails.push(trail)?;
-    }
-    for trail in second.ok_or("a visit was refused")? {
-        trails.push(trail)?;
-    }
+    put_behind(trails, first)?;
+    put_behind(trails, second)?;
     Ok((feed, Passes { one, other }))
 }
 
