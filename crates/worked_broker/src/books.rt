@@ -13,8 +13,9 @@ pub fn opened(
     table: u32,
     history: u32,
 ) -> Result<(Book, Vec<Contract>), Fail> {
+    let limits = Limits::new(table, history)?;
     let (domain, contracts) = parse(alloc, text.as_bytes())?;
-    match Book::new(alloc, domain, Limits::new(table, history)?) {
+    match Book::new(alloc, domain, limits) {
         Ok(book) => Ok((book, contracts)),
         Err(_refused) => Err(Fail::from("no book")),
     }

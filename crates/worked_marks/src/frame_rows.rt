@@ -62,11 +62,12 @@ fn expect_marked_later(
     code_point: u8,
     wanted: &str,
 ) -> Result<(), Fail> {
-    let classifier = PortClassifier::new(alloc, &[], Name::new("west")?)?;
-    let mut frame = capture(alloc, &[frame])?;
-    let seen = classifier.see(LinkType::Ethernet, frame.as_slice());
-    mark_seen(frame.as_mut_slice(), seen.mark, Dscp::new(code_point)?);
+    let (port, code_point) = (Name::new("west")?, Dscp::new(code_point)?);
     let wanted = capture(alloc, &[wanted])?;
+    let mut frame = capture(alloc, &[frame])?;
+    let classifier = PortClassifier::new(alloc, &[], port)?;
+    let seen = classifier.see(LinkType::Ethernet, frame.as_slice());
+    mark_seen(frame.as_mut_slice(), seen.mark, code_point);
     assert_eq!(rt; frame.as_slice(), wanted.as_slice());
     Ok(())
 }

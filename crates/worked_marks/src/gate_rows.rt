@@ -1,7 +1,10 @@
 use crate::captures::{HEADING, OTHER, TAGGED, capture};
 use crate::mark_rows::narrow;
+use ds_checker::Accepted;
 use ds_conductor::{Gate, RedRule, mark};
 use pcap_capture::{SliceIntake, VecOutlet};
+use std::alloc::Global;
+use std::process::Abort;
 use std::sync::atomic::{AtomicU64, Ordering};
 use std::test::Fail;
 
@@ -36,11 +39,8 @@ impl Gate for Counter {
     }
 }
 
-#[test]
-fn the_gate_is_called_round_each_visit(rt: HostRuntime) -> Result<(), Fail> {
-    let alloc = rt.alloc();
-    let accepted = narrow(alloc)?;
-    let given = capture(alloc, &[HEADING, TAGGED, OTHER, TAGGED])?;
+/// Expects that a gate is called before and after each of the four visits of a capture.
+fn expect_calls(rt: &impl Abort, alloc: Global, accepted: &Accepted, given: &[u8]) {
     let gate = Counter {
         before: AtomicU64::new(0),
         after: AtomicU64::new(0),
@@ -48,11 +48,11 @@ fn the_gate_is_called_round_each_visit(rt: HostRuntime) -> Result<(), Fail> {
     };
     let marked = mark(
         alloc,
-        &accepted,
+        accepted,
         "p",
         1,
         RedRule::Keep,
-        &mut SliceIntake::new(given.as_slice()),
+        &mut SliceIntake::new(given),
         &mut VecOutlet::new(Vec::new(alloc)),
         &gate,
     );
@@ -60,5 +60,12 @@ fn the_gate_is_called_round_each_visit(rt: HostRuntime) -> Result<(), Fail> {
     assert_eq!(rt; gate.before.load(Ordering::SeqCst), 4);
     assert_eq!(rt; gate.after.load(Ordering::SeqCst), 4);
     assert_eq!(rt; gate.wrong.load(Ordering::SeqCst), 0);
+}
+
+#[test]
+fn the_gate_is_called_round_each_visit(rt: HostRuntime) -> Result<(), Fail> {
+    let accepted = narrow(rt.alloc())?;
+    let given = capture(rt.alloc(), &[HEADING, TAGGED, OTHER, TAGGED])?;
+    expect_calls(&rt, rt.alloc(), &accepted, given.as_slice());
     Ok(())
 }

@@ -139,31 +139,30 @@ fn shut(book: &mut MeterBook, moment: u64) -> Result<Option<u64>, Fail> {
     Ok(book.shut(Moment::new(moment)?).map(|end| end.get()))
 }
 
+/// Expects that a book of two rows is shut behind its first one, and what it refuses from then on.
+fn expect_shut(rt: &impl Abort, book: &mut MeterBook) -> Result<(), Fail> {
+    noted(book, 0, 1_000, 115)??;
+    assert_eq!(rt; shut(book, 500)?, Some(1_001));
+    let refused = noted(book, 1, 1_001, 115)?.err();
+    assert_eq!(rt; refused.map(|fault| fault.code()), Some(3));
+    assert_eq!(rt; noted(book, 1, 1_000, 115)??.place, 1);
+    let refused = noted(book, 2, 1_001, 115)?.err();
+    assert_eq!(rt; refused, Some(NoteFault::Shut));
+    let refused = noted(book, 2, 1_000, 115)?.err();
+    assert_eq!(rt; refused, Some(NoteFault::JournalFull));
+    assert_eq!(rt; shut(book, 5_000)?, Some(1_001));
+    Ok(())
+}
+
 #[test]
 fn a_book_that_is_shut_refuses_from_then_on(rt: HostRuntime) -> Result<(), Fail> {
+    let end = Moment::new(1_001)?;
     let mut book = book(rt.alloc(), EDGE, 2)?;
-    noted(&mut book, 0, 1_000, 115)??;
-    assert_eq!(rt; shut(&mut book, 500)?, Some(1_001));
-    assert_eq!(rt;
-        noted(&mut book, 1, 1_001, 115)?
-            .err()
-            .map(|fault| fault.code()),
-        Some(3)
-    );
-    assert_eq!(rt; noted(&mut book, 1, 1_000, 115)??.place, 1);
-    assert_eq!(rt;
-        noted(&mut book, 2, 1_001, 115)?.err(),
-        Some(NoteFault::Shut)
-    );
-    assert_eq!(rt;
-        noted(&mut book, 2, 1_000, 115)?.err(),
-        Some(NoteFault::JournalFull)
-    );
-    assert_eq!(rt; shut(&mut book, 5_000)?, Some(1_001));
+    expect_shut(&rt, &mut book)?;
     let chapter = book.cut();
     assert_eq!(rt;
         (chapter.opening().shut, chapter.closing().shut),
-        (None, Some(Moment::new(1_001)?))
+        (None, Some(end))
     );
     assert_eq!(rt;
         noted(&mut book, 2, 1_001, 115)?.err(),

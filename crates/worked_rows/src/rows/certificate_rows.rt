@@ -1,6 +1,6 @@
 use crate::rows::tables::contracts;
 use ds_certificate::{Bound, Bounds, Certificate, CertificateFault, fault_line, make, read, write};
-use ds_domain::{Contract, parse};
+use ds_domain::{Contract, Domain, parse};
 use std::alloc::Global;
 use std::process::Abort;
 use std::test::Fail;
@@ -181,11 +181,16 @@ fn the_long_form_is_written_where_an_excess_differs(rt: HostRuntime) -> Result<(
     Ok(())
 }
 
+/// The text of the least certificate of no contracts over a domain.
+fn least_over(alloc: Global, domain: &Domain) -> Result<Vec<u8>, Fail> {
+    let least = make(alloc, domain, &[])?;
+    Ok(write(alloc, &least, &[])?)
+}
+
 /// The text of the least certificate of no contracts.
 fn least_of_none(alloc: Global) -> Result<Vec<u8>, Fail> {
     let (domain, _) = parse(alloc, alone(alloc)?.as_bytes())?;
-    let least = make(alloc, &domain, &[])?;
-    Ok(write(alloc, &least, &[])?)
+    least_over(alloc, &domain)
 }
 
 #[test]
