@@ -3,9 +3,7 @@ ghost use Rattle.meter_fabric_base.specs.Travels.{next_site};
 
 use crate::rows::tables::{EDGE, METER, enter, fit, opened, packet, policed, visit};
 use ds_checker::Accepted;
-use meter_fabric::{
-    CutFault, Fabric, FabricLedger, Pass, ShutFault, Traveller, Visit, ticket_parts,
-};
+use meter_fabric::{Fabric, FabricLedger, Pass, Traveller, Visit, ticket_parts};
 use moment_core::Moment;
 use std::alloc::Global;
 use std::marker::Brand;
@@ -25,7 +23,7 @@ fn expect_unfitted<L: FabricLedger, R: Wait + Abort>(
     let (early, code) = enter(rt, alloc, fabric, accepted, pass, (1, 10))?;
     assert_eq!(rt; (code, pass.visits(EDGE)), (5, 0));
     let early_cut = fabric.cut(rt, EDGE);
-    assert_eq!(rt; early_cut.err(), Some(CutFault::NoSite));
+    assert_eq!(rt; early_cut.err().map(|fault| fault.code()), Some(1));
     Ok(early)
 }
 
@@ -101,7 +99,8 @@ fn expect_shut<L: FabricLedger, R: Wait + Abort>(
     pass: &mut Pass<L>,
 ) -> Result<(), Fail> {
     let (early, behind, late) = (Moment::new(5)?, Moment::new(11)?, Moment::new(99)?);
-    assert_eq!(rt; fabric.shut(rt, 0, early), Err(ShutFault::NoEdge));
+    let unfitted = fabric.shut(rt, 0, early).err();
+    assert_eq!(rt; unfitted.map(|fault| fault.code()), Some(1));
     assert_eq!(rt; fit(rt, alloc, fabric, accepted, 0)?, 0);
     let (_, code) = enter(rt, alloc, fabric, accepted, pass, (1, 10))?;
     assert_eq!(rt; code, 0);
