@@ -1,6 +1,6 @@
 #!/bin/sh
 # Checks the man page and the completion for bash against the program: man has no warning of the page, and each command and each
-# option that `--help` tells stands in both.
+# option that `--help` tells stands in both. Checks too that `--version` names the logic of the kit that is installed.
 #
 #     docs/check.sh
 set -eu
@@ -45,5 +45,8 @@ for command in $(commands); do
         esac
     done
 done
-[ "$missing" -eq 0 ] && echo "the man page and the completion name all commands and options"
+logic=$(rt version | sed -n 's/.* logic //p')
+[ "$("$program" --version | sed -n 's/^logic //p')" = "$logic" ] || lacks "--version" "the logic of rt version: $logic"
+
+[ "$missing" -eq 0 ] && echo "the man page and the completion name all commands and options, and --version the logic"
 exit "$missing"

@@ -5,7 +5,7 @@ use moment_core::OutOfRange;
 use std::marker::Model;
 
 /// An assured forwarding class: 1 to 4 (RFC 2597 section 6).
-#[derive(Clone, Copy, Debug, PartialEq, Eq, PartialOrd, Ord, Hash)]
+#[derive(Clone, Copy, Debug, PartialEq, Eq, PartialOrd, Ord)]
 pub struct Class {
     number: u8,
 }
@@ -43,7 +43,7 @@ impl Class {
 }
 
 /// A code point of the differentiated services field: 0 to 63 (RFC 2474 section 3).
-#[derive(Clone, Copy, Debug, PartialEq, Eq, PartialOrd, Ord, Hash)]
+#[derive(Clone, Copy, Debug, PartialEq, Eq, PartialOrd, Ord)]
 pub struct Dscp {
     value: u8,
 }

@@ -5,7 +5,7 @@ use moment_core::PacketSize;
 use thiserror::Error;
 
 /// What the header of an IPv4 packet says (RFC 791 section 3.1).
-#[derive(Clone, Copy, Debug, PartialEq, Eq, Hash)]
+#[derive(Clone, Copy, Debug, PartialEq, Eq)]
 pub struct Header {
     /// The bytes of the header itself, with its options: 20 to 60.
     pub length: usize,
@@ -29,7 +29,7 @@ pub struct Header {
 }
 
 /// Why bytes do not begin with the header of an IPv4 packet (RFC 791 section 3.1).
-#[derive(Clone, Copy, Debug, PartialEq, Eq, Hash, Drop, Error)]
+#[derive(Clone, Copy, Debug, PartialEq, Eq, Drop, Error)]
 pub enum HeaderFault {
     /// The version is not 4.
     #[error("not IPv4")]

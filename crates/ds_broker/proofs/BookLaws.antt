@@ -1,6 +1,6 @@
 -- What the fields of a book keep, and what a command makes of them.
 use Rattle.std.proofs.Common.{◌≡◌, ◌≤◌, ◌<◌, ◌+◌, ◌-◌, ℕ, Bool, List, [], ◌∷◌, ◌++◌, Option, None, Some, Result, Ok, Err, refl, sym, ap, subst, ◌∙◌, arith, inl, inr}
-use Rattle.std.specs.Prelude.{length, map, nat_lt, slice_get, slice_index_or, MatchResult}
+use Rattle.std.specs.Prelude.{length, map, max, nat_lt, slice_get, slice_index_or, MatchResult}
 use Rattle.std.proofs.Common.{get_or}
 use Rattle.std.specs.List.{list_any}
 use Rattle.std.specs.List.Sorted.{IsBinarySearchResult}
@@ -15,7 +15,7 @@ use Rattle.std.proofs.lemmas.Option.{slice_get-map}
 use Rattle.ds_domain_base.specs.Domains.{Domain}
 use Rattle.ds_certificate.specs.Bounds.{least_of}
 use Rattle.ds_checker.specs.Holds.{hold_at, hold_of}
-use Rattle.ds_broker.specs.Books.{Book, contracts_in, held_of, holding_of, is_held, table_in, with_command}
+use Rattle.ds_broker.specs.Books.{Book, contracts_in, held_of, holding_of, is_held, moment_in, newest_of, table_in, with_command}
 use Rattle.ds_broker.specs.Entries.{entries_of, told_of}
 use Rattle.ds_broker.specs.Found.{IsFound}
 use Rattle.ds_broker.specs.Histories.{Holding}
@@ -111,6 +111,16 @@ told-listed i b view kept contracts is =
 pub contracts-length : (i : book.Inside) (b : Book) → book_of i ≡ b → IsBook i → length i.table.contracts ≡ length (held_of b)
 contracts-length i b view kept =
     ap (λ t. length t.contracts) kept.table ∙ length-map (held_in i) (λ h. h.contract) ∙ ap (λ x. length (held_of x)) view
+
+pub ids-length : (i : book.Inside) (b : Book) → book_of i ≡ b → IsBook i → length i.ids.items ≡ length (held_of b)
+ids-length i b view kept = ap length kept.ids ∙ length-map (held_in i) (λ h. h.id) ∙ ap (λ x. length (held_of x)) view
+
+pub released-length : (i : book.Inside) (b : Book) → book_of i ≡ b → IsBook i → length i.released.items ≡ length (held_of b)
+released-length i b view kept = ap length kept.released ∙ length-map (held_in i) (λ h. h.released) ∙ ap (λ x. length (held_of x)) view
+
+-- a moment of a command, by the newest that is kept
+pub newest-moment : (i : book.Inside) (b : Book) (at moment : ℕ) → book_of i ≡ b → IsBook i → moment ≡ moment_in b at → moment ≡ max i.newest at
+newest-moment i b at moment view kept is = is ∙ ap (λ newest. max newest at) (sym (kept.newest ∙ ap newest_of view))
 
 pub one-at : (o : Option Holding) (g h : Holding) → o ≡ Some g → o ≡ Some h → g ≡ h
 one-at None g h is also = cc

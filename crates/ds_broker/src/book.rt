@@ -1,4 +1,4 @@
-ghost use Rattle.std.specs.Prelude.{◌≡◌, ◌⊎◌, ◌≤◌, ◌+◌, ◌-◌, [], ℕ, List, None, Some, IfErr, IfOk, IfSome};
+ghost use Rattle.std.specs.Prelude.{◌≡◌, ◌⊎◌, ◌≤◌, ◌+◌, ◌-◌, [], false, true, ℕ, List, None, Some, IfErr, IfOk, IfSome};
 ghost use Rattle.std.specs.Prelude.{OnErr, OnOk, length};
 ghost use Rattle.std.specs.Prelude.{◌<◌, IfNone, IsTrue, option_map, slice_get, unwrap_or, vec_capacity, vec_len};
 ghost use Rattle.std.specs.Bool.{OnFalse};
@@ -125,17 +125,15 @@ impl Book {
             return Err((contract, refusal));
         }
         let serial = self.next_serial();
-        let since = self.newest.max(contract.lifetime.since());
-        if make_room(
+        let since = self.moment_of(contract.lifetime.since());
+        let Ok(()) = make_room(
             &mut self.ids,
             &mut self.released,
             &mut self.names,
             &mut self.history,
-        )
-        .is_err()
-        {
+        ) else {
             return Err((contract, BrokerRefusal::NoMemory));
-        }
+        };
         let alloc = *self.ids.allocator();
         if let Err(refusal) = admit(alloc, &mut self.table, &contract, since) {
             return Err((contract, refusal));
@@ -163,20 +161,12 @@ impl Book {
             (λ refusal. (refusal ≡ NoMemory) ⊎ (release_refusal self.old id ≡ Some refusal)) }
         ensures unchanged { OnErr result (self.new ≡ self.old) }
     {
-        let Some((place, released)) = self.find(id) else {
-            return Err(BrokerRefusal::UnknownId);
-        };
-        if released {
-            return Err(BrokerRefusal::AlreadyReleased);
-        }
-        if self.is_history_full() {
-            return Err(BrokerRefusal::HistoryFull);
-        }
-        let moment = self.newest.max(at);
+        let place = self.releasable(id)?;
+        let moment = self.moment_of(at);
         let lifetime = self.ended(place, moment);
-        if self.history.reserve(1).is_err() {
+        let Ok(()) = self.history.reserve(1) else {
             return Err(BrokerRefusal::NoMemory);
-        }
+        };
         let serial = self.next_serial();
         self.table.set_lifetime(place, lifetime);
         self.released[place] = true;
@@ -198,23 +188,11 @@ impl Book {
             (λ refusal. (refusal ≡ NoMemory) ⊎ (retire_refusal self.old id moment ≡ Some refusal)) }
         ensures unchanged { OnErr result (self.new ≡ self.old) }
     {
-        let Some((place, released)) = self.find(id) else {
-            return Err(BrokerRefusal::UnknownId);
-        };
-        if !released {
-            return Err(BrokerRefusal::NotReleased);
-        }
-        if self.is_history_full() {
-            return Err(BrokerRefusal::HistoryFull);
-        }
-        let newest = self.newest.max(moment);
-        let left = self.hold_left(place, newest);
-        if left > 0 {
-            return Err(BrokerRefusal::HoldLeft(left));
-        }
-        if self.history.reserve(1).is_err() {
+        let place = self.retirable(id, moment)?;
+        let newest = self.moment_of(moment);
+        let Ok(()) = self.history.reserve(1) else {
             return Err(BrokerRefusal::NoMemory);
-        }
+        };
         let serial = self.next_serial();
         let (contract, _) = self.table.withdraw(place);
         let _id = self.ids.remove(place);
@@ -302,6 +280,13 @@ impl Book {
         self.history.len() >= self.limits.history() as usize
     }
 
+    /// The moment of a command that is given at one: the greatest moment of all accepted commands where that is later.
+    fn moment_of(&self, at: Moment) -> Moment
+        ensures { result ≡ moment_in self.now at }
+    {
+        self.newest.max(at)
+    }
+
     /// What stands against a contract before the checker is asked.
     fn room_refusal(&self, contract: &Contract) -> Option<BrokerRefusal>
         ensures value { result ≡ room_refusal self.now contract.now }
@@ -335,7 +320,7 @@ impl Book {
     fn ends_early(&self, lifetime: Lifetime) -> bool
         ensures { result ≡ ends_early (moment_in self.now lifetime.since) lifetime.until }
     {
-        let since = self.newest.max(lifetime.since());
+        let since = self.moment_of(lifetime.since());
         lifetime.until().is_some_and(|until| until < since)
     }
 
@@ -346,6 +331,55 @@ impl Book {
     {
         let place = self.ids.as_slice().binary_search(&id).ok()?;
         Some((place, self.released[place]))
+    }
+
+    /// The place of the contract of an id that may be released.
+    ///
+    /// Refused for the first of these: `UnknownId`, `AlreadyReleased`, `HistoryFull`.
+    fn releasable(&self, id: u32) -> Result<usize, BrokerRefusal>
+        ensures found { IfOk result (λ place. IsFound id (held_of self.now) place false) }
+        ensures room { OnOk result (length self.now.history < 65536) }
+        ensures history { OnOk result (is_history_full self.now ≡ false) }
+        ensures unrefused { OnOk result (release_refusal self.now id ≡ None) }
+        ensures refused { IfErr result (λ refusal. release_refusal self.now id ≡ Some refusal) }
+    {
+        let Some((place, released)) = self.find(id) else {
+            return Err(BrokerRefusal::UnknownId);
+        };
+        if released {
+            return Err(BrokerRefusal::AlreadyReleased);
+        }
+        if self.is_history_full() {
+            return Err(BrokerRefusal::HistoryFull);
+        }
+        Ok(place)
+    }
+
+    /// The place of the contract of an id that may be retired at a moment, or at the greatest moment of all accepted
+    /// commands where that is later.
+    ///
+    /// Refused for the first of these: `UnknownId`, `NotReleased`, `HistoryFull`, `HoldLeft`.
+    fn retirable(&self, id: u32, moment: Moment) -> Result<usize, BrokerRefusal>
+        ensures found { IfOk result (λ place. IsFound id (held_of self.now) place true) }
+        ensures room { OnOk result (length self.now.history < 65536) }
+        ensures history { OnOk result (is_history_full self.now ≡ false) }
+        ensures unrefused { OnOk result (retire_refusal self.now id moment ≡ None) }
+        ensures refused { IfErr result (λ refusal. retire_refusal self.now id moment ≡ Some refusal) }
+    {
+        let Some((place, released)) = self.find(id) else {
+            return Err(BrokerRefusal::UnknownId);
+        };
+        if !released {
+            return Err(BrokerRefusal::NotReleased);
+        }
+        if self.is_history_full() {
+            return Err(BrokerRefusal::HistoryFull);
+        }
+        let left = self.hold_left(place, self.moment_of(moment));
+        if left > 0 {
+            return Err(BrokerRefusal::HoldLeft(left));
+        }
+        Ok(place)
     }
 
     /// The lifetime of the contract at a place once it is released at a moment.

@@ -5,7 +5,7 @@ use moment_core::Moment;
 use std::marker::Model;
 
 /// The number of an accepted command among those that its book accepted, from 1.
-#[derive(Clone, Copy, Debug, PartialEq, Eq, PartialOrd, Ord, Hash)]
+#[derive(Clone, Copy, Debug, PartialEq, Eq, PartialOrd, Ord)]
 pub struct Serial {
     number: u32,
 }
@@ -37,7 +37,7 @@ impl Serial {
 }
 
 /// What a contract was granted as.
-#[derive(Clone, Copy, Debug, PartialEq, Eq, Hash)]
+#[derive(Clone, Copy, Debug, PartialEq, Eq)]
 pub struct Grant {
     /// Its id: grants are counted from 1.
     pub id: u32,
@@ -48,7 +48,7 @@ pub struct Grant {
 }
 
 /// What a book tells of a contract that it holds.
-#[derive(Clone, Copy, Debug, PartialEq, Eq, Hash)]
+#[derive(Clone, Copy, Debug, PartialEq, Eq)]
 pub struct Entry {
     /// Its id.
     pub id: u32,
@@ -61,7 +61,7 @@ pub struct Entry {
 }
 
 /// How much a book still takes.
-#[derive(Clone, Copy, Debug, PartialEq, Eq, Hash)]
+#[derive(Clone, Copy, Debug)]
 pub struct Room {
     /// How many contracts.
     pub table: u32,

@@ -5,7 +5,7 @@ use moment_core::OutOfRange;
 use std::marker::Model;
 
 /// How many contracts a book holds at most, 1 to 4,096, and how many commands it accepts, 1 to 65,536.
-#[derive(Clone, Copy, Debug, PartialEq, Eq, Hash)]
+#[derive(Clone, Copy, Debug, PartialEq, Eq)]
 pub struct Limits {
     table: u32,
     history: u32,

@@ -3,7 +3,7 @@ use Rattle.std.specs.Prelude.{ℕ, List, [], ◌∷◌, None, Some, unwrap_or}
 use Rattle.envelope_core.specs.Curve.{Curve, widened}
 use Rattle.moment_core.specs.declared.column.Column.{Column}
 use Rattle.moment_core.specs.declared.column.Column.TheVariants.{Green, All, Excess}
-use Rattle.meter_book_base.specs.Envelopes.{output_in}
+use Rattle.ds_domain_base.specs.Envelopes.{output_in}
 use Rattle.ds_domain_base.specs.Domains.{Domain, jitter_of, link_of, port_of, skew_of}
 use Rattle.ds_domain_base.specs.declared.contract.Contract.{Contract}
 use Rattle.ds_domain_base.specs.declared.parts.Version.{Version}

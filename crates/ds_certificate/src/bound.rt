@@ -6,7 +6,7 @@ use std::marker::Model;
 
 /// A bound on the burst of a contract's green packets, on that of its green and yellow ones, and on that of its yellow
 /// ones, in bytes: each 0 to 10^15.
-#[derive(Clone, Copy, Debug, PartialEq, Eq, Hash)]
+#[derive(Clone, Copy, Debug, PartialEq, Eq)]
 pub struct Bound {
     green: u64,
     all: u64,

@@ -6,7 +6,7 @@ use crate::bound::Bound;
 use crate::certificate::{Bounds, Certificate};
 
 /// The two forms of a certificate's text.
-#[derive(Clone, Copy, Debug, PartialEq, Eq)]
+#[derive(Clone, Copy)]
 pub(crate) enum Form {
     /// `dscert 1`: a line says green and all of a bound, and its excess is its all.
     Short,

@@ -1,18 +1,17 @@
 ghost use Rattle.std.specs.Prelude.{◌≡◌, ◌*◌, ◌≤◌, ◌^◌};
 ghost use Rattle.envelope_core.specs.Curve.{widened};
-ghost use Rattle.meter_book_base.specs.Envelopes.{all_output, green_output, output_in};
+ghost use Rattle.ds_domain_base.specs.Envelopes.{all_output, green_output, output_in};
 ghost use Rattle.ds_domain_base.specs.Domains.{port_of, skew_of};
 ghost use Rattle.ds_certificate.specs.Columns.{InEach, envelope_in};
 ghost use Rattle.ds_certificate.specs.Ranges.{IsModerate, IsModest};
 ghost use Rattle.ds_certificate.specs.Sources.{curve_of, edge_column, source_by, source_of};
 
-use ds_domain_base::{Contract, Domain, Profile, Terms, Version};
+use ds_domain_base::{Contract, Domain, Parameters, Profile, Terms, Version};
 use envelope_core::{Envelope, widen};
-use meter_book_base::Parameters;
 use moment_core::{Column, Gap};
 
 /// What a contract's traffic keeps where it enters a domain.
-#[derive(Clone, Copy, Debug, PartialEq, Eq, Hash)]
+#[derive(Clone, Copy, Debug)]
 pub struct Source {
     /// What its green packets keep.
     pub green: Envelope,

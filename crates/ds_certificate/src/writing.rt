@@ -1,5 +1,5 @@
 ghost use Rattle.std.specs.Prelude.{◌≡◌, ℕ, ◌++◌, ◌∷◌, [], ◌⊎◌, ◌<◌, ◌^◌, suc, false, IsTrue, List, length, nat_eq, Ok};
-ghost use Rattle.std.specs.Prelude.{IfOk, IfErr, OnOk};
+ghost use Rattle.std.specs.Prelude.{IfOk, IfErr, OnOk, decimal};
 ghost use Rattle.std.specs.List.{AllByRecursion};
 ghost use Rattle.line_text.specs.Lines.{has_byte, lines_of};
 ghost use Rattle.ds_certificate.specs.Readings.{bound_in, bounds_in, certificate_in};
@@ -97,12 +97,9 @@ fn push_bound(
     ensures reads { OnOk result (Says form bound → bound_in form name hop (line_of form name hop bound) ≡ Ok bound) }
 {
     text.extend_from_slice(name.bytes())?;
-    text.push(b' ')?;
-    push_number(text, hop)?;
-    text.push(b' ')?;
-    push_number(text, bound.green())?;
-    text.push(b' ')?;
-    push_number(text, bound.all())?;
+    push_field(text, hop)?;
+    push_field(text, bound.green())?;
+    push_field(text, bound.all())?;
     push_excess(text, form, bound)?;
     text.push(b'\n')?;
     Ok(())
@@ -114,9 +111,14 @@ fn push_excess(text: &mut Vec<u8>, form: Form, bound: Bound) -> Result<(), Alloc
 {
     match form {
         Form::Short => Ok(()),
-        Form::Long => {
-            text.push(b' ')?;
-            push_number(text, bound.excess())
-        }
+        Form::Long => push_field(text, bound.excess()),
     }
+}
+
+/// Appends a space and a number.
+fn push_field(text: &mut Vec<u8>, number: u64) -> Result<(), AllocError>
+    ensures { OnOk result (text.new.items ≡ text.old.items ++ 32 ∷ decimal number) }
+{
+    text.push(b' ')?;
+    push_number(text, number)
 }

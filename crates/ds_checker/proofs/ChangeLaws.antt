@@ -10,9 +10,9 @@ use Rattle.std.proofs.lemmas.List.Elements.{All-nil, All-cons, All-head, All-tai
 use Rattle.std.proofs.lemmas.List.{length-map}
 use Rattle.std.proofs.lemmas.List.Sums.{fold-append}
 use Rattle.envelope_core.specs.Curve.{Curve, widened}
-use Rattle.meter_book_base.specs.Limits.{all_limit, green_limit}
-use Rattle.meter_book_base.specs.declared.any_meter.Parameters.{Parameters}
-use Rattle.meter_book_base.specs.declared.any_meter.Parameters.TheVariants.{SrTcm, TrTcm, Rfc4115}
+use Rattle.ds_domain_base.specs.Limits.{all_limit, green_limit}
+use Rattle.ds_domain_base.specs.Parameters.{Parameters}
+use Rattle.ds_domain_base.specs.Parameters.TheVariants.{SrTcm, TrTcm, Rfc4115}
 use Rattle.moment_core.specs.declared.column.Column.TheVariants.{Green, Excess}
 use Rattle.moment_core.specs.declared.column.Column.TheVariants as columns
 use Rattle.ds_domain_base.specs.Domains.{Domain}

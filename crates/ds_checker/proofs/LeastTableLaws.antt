@@ -8,9 +8,9 @@ use Rattle.std.proofs.lemmas.List.Elements.{All-weaker}
 use Rattle.std.proofs.lemmas.List.Sums.{sum_by-cons}
 use Rattle.moment_core.specs.Volume.{bytes_over}
 use Rattle.envelope_core.specs.Curve.{Curve, widened}
-use Rattle.meter_book_base.specs.Limits.{held_column}
-use Rattle.meter_book_base.specs.declared.any_meter.Parameters.{Parameters}
-use Rattle.meter_book_base.specs.declared.any_meter.Parameters.TheVariants.{SrTcm, TrTcm, Rfc4115}
+use Rattle.ds_domain_base.specs.Limits.{held_column}
+use Rattle.ds_domain_base.specs.Parameters.{Parameters}
+use Rattle.ds_domain_base.specs.Parameters.TheVariants.{SrTcm, TrTcm, Rfc4115}
 use Rattle.ds_domain_base.specs.Domains.{Domain}
 use Rattle.ds_domain_base.specs.Sent.{has_peak}
 use Rattle.ds_domain_base.specs.declared.contract.Contract.{Contract}

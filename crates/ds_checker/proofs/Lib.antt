@@ -1,6 +1,7 @@
 pub mod AcceptanceLaws
 pub mod BoundLaws
 pub mod ChangeLaws
+pub mod CopyLaws
 pub mod CheckLaws
 pub mod HoldLaws
 pub mod LeastTableLaws

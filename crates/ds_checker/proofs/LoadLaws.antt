@@ -19,9 +19,9 @@ use Rattle.ds_domain_base.specs.declared.parts.Meter.{Meter}
 use Rattle.ds_certificate.specs.Bounds.{HasShape, fits}
 use Rattle.ds_checker.specs.BoundTests.{misfit}
 use Rattle.envelope_core.specs.Curve.{Curve, total, widened}
-use Rattle.meter_book_base.specs.Limits.{held_column}
-use Rattle.meter_book_base.specs.declared.any_meter.Parameters.{Parameters}
-use Rattle.meter_book_base.specs.declared.any_meter.Parameters.TheVariants.{SrTcm, TrTcm, Rfc4115}
+use Rattle.ds_domain_base.specs.Limits.{held_column}
+use Rattle.ds_domain_base.specs.Parameters.{Parameters}
+use Rattle.ds_domain_base.specs.Parameters.TheVariants.{SrTcm, TrTcm, Rfc4115}
 use Rattle.moment_core.specs.declared.column.Column.{Column}
 use Rattle.moment_core.specs.declared.column.Column.TheVariants.{Green, All, Excess}
 use Rattle.ds_certificate.specs.Columns.{Bound, IsInRange}

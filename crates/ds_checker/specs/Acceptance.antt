@@ -7,7 +7,7 @@ use Rattle.ds_domain_base.specs.declared.parts.Meter.{Meter}
 use Rattle.ds_certificate.specs.Bounds.{IsCertificate}
 use Rattle.ds_certificate.specs.Columns.{Bound}
 use Rattle.ds_checker.specs.BoundTests.{bound_tests, misfit}
-use Rattle.meter_book_base.specs.Limits.{all_limit, green_limit}
+use Rattle.ds_domain_base.specs.Limits.{all_limit, green_limit}
 use Rattle.ds_checker.specs.Loads.{Share, shares_at}
 use Rattle.ds_checker.specs.TableTests.{all_load, green_load, table_tests}
 use Rattle.ds_checker.specs.Tests.{first_failed}

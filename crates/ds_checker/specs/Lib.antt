@@ -8,3 +8,6 @@ pub mod Refusals
 pub mod Sums
 pub mod TableTests
 pub mod Tests
+-- what the clauses here cite of the crates below
+pub use Rattle.ds_certificate.specs.Bounds
+pub use Rattle.ds_certificate.specs.Columns

@@ -5,8 +5,8 @@ use Rattle.std.specs.List.{list_any}
 use Rattle.std.specs.Str.{bytes_eq}
 use Rattle.moment_core.specs.declared.column.Column.{Column}
 use Rattle.envelope_core.specs.Curve.{Curve, total, widened}
-use Rattle.meter_book_base.specs.declared.any_meter.Parameters.{Parameters}
-use Rattle.meter_book_base.specs.declared.any_meter.Parameters.TheVariants.{SrTcm, TrTcm, Rfc4115}
+use Rattle.ds_domain_base.specs.Parameters.{Parameters}
+use Rattle.ds_domain_base.specs.Parameters.TheVariants.{SrTcm, TrTcm, Rfc4115}
 use Rattle.ds_domain_base.specs.Domains.{Domain}
 use Rattle.ds_domain_base.specs.Sent.{has_peak}
 use Rattle.ds_domain_base.specs.declared.contract.Contract.{Contract}

@@ -4,8 +4,8 @@ use Rattle.std.specs.Prelude.{length, option_map, option_to_list, Option, if◌t
 use Rattle.std.specs.List.{AllByRecursion}
 use Rattle.moment_core.specs.declared.column.Column.TheVariants.{Green, All, Excess}
 use Rattle.envelope_core.specs.Curve.{Curve, widened}
-use Rattle.meter_book_base.specs.declared.any_meter.Parameters.{Parameters}
-use Rattle.meter_book_base.specs.declared.any_meter.Parameters.TheVariants.{SrTcm, TrTcm, Rfc4115}
+use Rattle.ds_domain_base.specs.Parameters.{Parameters}
+use Rattle.ds_domain_base.specs.Parameters.TheVariants.{SrTcm, TrTcm, Rfc4115}
 use Rattle.ds_domain_base.specs.declared.parts.Meter.{Meter}
 use Rattle.ds_certificate.specs.Columns.{Bound, IsInRange}
 use Rattle.ds_certificate.specs.Ranges.{IsModerate}

@@ -6,7 +6,7 @@ use Rattle.ds_domain_base.specs.Domains.{Domain}
 use Rattle.ds_domain_base.specs.declared.contract.Contract.{Contract}
 use Rattle.ds_domain_base.specs.declared.parts.Meter.{Meter}
 use Rattle.ds_certificate.specs.Columns.{Bound}
-use Rattle.meter_book_base.specs.Limits.{all_limit, green_limit, held_column}
+use Rattle.ds_domain_base.specs.Limits.{all_limit, green_limit, held_column}
 use Rattle.ds_checker.specs.Loads.{Share, counted, load, shares_at}
 use Rattle.ds_checker.specs.Tests.{Test}
 use Rattle.ds_checker.specs.declared.refusal.Refusal.TheVariants.{GreenRate, GreenBurst, AllRate, AllBurst}

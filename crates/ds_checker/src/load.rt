@@ -6,8 +6,8 @@ ghost use Rattle.ds_checker.specs.Sums.{AreBelow, IsBelow, IsCounted, IsPart, co
 ghost use Rattle.ds_checker.specs.Sums.{with_share, without_share};
 
 use ds_certificate::{Bound, Source};
+use ds_domain_base::Parameters;
 use envelope_core::Envelope;
-use meter_book_base::Parameters;
 use moment_core::{Gap, bytes_over_ceil};
 use std::marker::Model;
 
@@ -87,7 +87,7 @@ impl Load {
 }
 
 /// What a contract brings to a meter.
-#[derive(Clone, Copy, Debug)]
+#[derive(Clone, Copy)]
 pub(crate) struct Share {
     /// What its traffic keeps where it enters.
     pub(crate) source: Source,

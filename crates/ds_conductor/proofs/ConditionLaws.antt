@@ -21,10 +21,10 @@ use Rattle.ds_checker.specs.Acceptance.{IsAcceptable, Table}
 use Rattle.meter_fabric_base.specs.Grounds.{ground_of}
 use Rattle.run_audit.specs.Verdicts.{verdict_of}
 use Rattle.ds_conductor_base.specs.Ways.{AreInReach}
-use Rattle.ds_visits_run.specs.Behind.{AreSendable}
-use Rattle.ds_visits_run.specs.Making.{run_behind}
-use Rattle.ds_visits_verdict.proofs.JudgingLaws.{made_run_judged}
-use Rattle.ds_visits_verdict.specs.Judging.{Judging, unjudged, verdict_with}
+use Rattle.ds_visits.specs.Behind.{AreSendable}
+use Rattle.ds_visits.specs.Making.{run_behind}
+use Rattle.ds_visits.proofs.JudgingLaws.{made_run_judged}
+use Rattle.ds_visits.specs.Judging.{Judging, unjudged, verdict_with}
 use Rattle.pcap_capture.specs.declared.heading.Heading.{Heading}
 use Rattle.ds_conductor.proofs.SendableLaws.{frames_can_be_sent}
 use Rattle.ds_conductor.specs.Markings.{see}

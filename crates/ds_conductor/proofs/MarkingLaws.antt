@@ -10,16 +10,16 @@ use Rattle.ds_domain_base.specs.Domains.{Domain, is_port}
 use Rattle.meter_fabric_base.specs.Grounds.{ground_of}
 use Rattle.run_audit.specs.Verdicts.{verdict_of}
 use Rattle.run_audit.specs.declared.verdict.Verdict.{Verdict}
-use Rattle.ds_visits_run.specs.Making.{run_behind}
+use Rattle.ds_visits.specs.Making.{run_behind}
 use Rattle.ds_checker.specs.Acceptance.{Table}
 use Rattle.ds_conductor_base.specs.Passing.{colours_of}
 use Rattle.ds_conductor.specs.Markings.{IsMarked, IsMarkedAs, IsMarkedBut, IsWhole, IsWholeSoFar, IsWholeWith, Marking, answer_of, is_read_whole, marking_behind, marking_in, marking_of, nothing_marked, see}
 use Rattle.pcap_capture.specs.Takings.{is_own}
 use Rattle.pcap_capture.proofs.OwnLaws.{fault_in_own}
 use Rattle.ds_conductor.specs.Readings.{IsHeadingTold, IsReading, IsReadTo, heading_in}
-use Rattle.ds_conductor.specs.Conditionings.{see_at}
+use Rattle.ds_conductor.specs.Conditionings.{IsPortOf, see_at}
 use Rattle.ds_conductor.specs.Faults.{fault_of}
-use Rattle.ds_conductor.specs.Passings.{IsBrokenOff, IsFinished, marking_at}
+use Rattle.ds_conductor.specs.Passings.{IsBrokenOff, IsFinished, IsMarkedAt, marking_at}
 use Rattle.ds_conductor.specs.Reports.{nothing_read, report_of, with_verdict}
 use Rattle.ds_conductor.specs.Texts.{text_from}
 use Rattle.ds_conductor.specs.declared.conditioner.Conditioner.{Conditioner}
@@ -359,6 +359,15 @@ pub finished_marked : (p : Port) (t : Table) (port : List ℕ) (red : RedRule) (
 finished_marked p t port red heading bytes more before after frames fault answer table rule head sees well writable reading done =
     let at = seen bytes more (Some heading) frames fault well (subst (λ (h : Heading). IsReading bytes more (Some h) frames fault) head reading) in
     finished_by p t port red heading bytes more before after frames fault (marking_at p frames) answer (at_port p t port red heading frames table rule head sees) well writable at done
+
+-- what is marked at a port is marked by its table, its name and its rule for red frames
+pub marked_by : (p : Port) (t : Table) (name : List ℕ) (red : RedRule) (heading : Heading) (bytes more before after : List ℕ) (answer : Result Report (Report × MarkFault))
+    → p.accepted.now ≡ t → p.red ≡ red → p.heading ≡ heading → ((look : List ℕ) → see_at p look ≡ see t name heading.link look)
+    → (IsPortOf p name → IsMarkedAt p name bytes more before after answer) → IsMarkedAs t name red bytes more before after answer
+marked_by p t name red heading bytes more before after answer table rule head sees marked =
+    let is : IsPortOf p name = λ look. sees look ∙ ap (λ u. see u name heading.link look) (sym table) ∙ ap (λ (h : Heading). see p.accepted.now name h.link look) (sym head) in
+    subst (λ u. IsMarkedAs u name red bytes more before after answer) table
+    (subst (λ r. IsMarkedAs p.accepted.now name r bytes more before after answer) rule (marked is))
 
 -- the answer to a capture that was marked whole comes of no read fault
 pub read_whole_by : (verdict : Verdict) (report : Report) (fault : Option PcapFault) → is_read_whole (answer_of verdict report fault) ≡ true → ¬ (fault ≡ Some pcaps.ReadFault)

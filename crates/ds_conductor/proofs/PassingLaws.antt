@@ -1,5 +1,5 @@
 -- What turns come to.
-use Rattle.std.proofs.Common.{◌≡◌, ◌⊎◌, inl, inr, ℕ, ◌-◌, ◌^◌, Bool, true, false, List, [], ◌++◌, Option, None, Some, Result, Err, refl, sym, ap, subst, ◌∙◌, append_assoc, append-nil, arith}
+use Rattle.std.proofs.Common.{◌≡◌, ◌⊎◌, inl, inr, ℕ, ◌-◌, ◌^◌, Bool, true, false, List, [], ◌++◌, Option, None, Some, Result, Ok, Err, MatchResult, if◌then◌else◌, refl, sym, ap, subst, ◌∙◌, append_assoc, append-nil, arith}
 use Rattle.pcap_capture.specs.Counts.{count_after}
 use Rattle.pcap_capture.specs.Fronts.{IsFrontOf}
 use Rattle.pcap_capture.specs.Frames.{FrameValue}
@@ -9,13 +9,14 @@ use Rattle.pcap_capture.specs.declared.fault.PcapFault.TheVariants as pcaps
 use Rattle.ds_conductor.specs.Conditionings.{IsConditioned}
 use Rattle.run_audit.specs.declared.verdict.Verdict.{Verdict}
 use Rattle.ds_conductor.specs.Markings.{IsOfReads, answer_of, is_read, is_read_whole, is_unread}
-use Rattle.ds_conductor.specs.Passings.{IsBrokenOff, is_unread_by}
+use Rattle.ds_conductor.specs.Passings.{IsAskedIn, IsBrokenOff, IsTurned, is_unread_by, turned_by}
 use Rattle.ds_conductor.specs.Faults.{fault_of}
-use Rattle.ds_conductor.specs.Readings.{IsAsked, IsAskedTo, IsUnderway, is_starved}
-use Rattle.ds_conductor.specs.Writings.{IsWrittenTo}
+use Rattle.ds_conductor.specs.Readings.{IsAsked, IsAskedTo, IsReading, IsUnderway, is_starved}
+use Rattle.ds_conductor.specs.Writings.{IsWrittenTo, is_write_fault}
 use Rattle.ds_conductor.specs.declared.conditioner.Conditioner.{Conditioner}
 use Rattle.ds_conductor.specs.declared.fault.MarkFault.{MarkFault}
 use Rattle.ds_conductor.specs.declared.fault.MarkFault.TheVariants as marks
+use Rattle.ds_conductor.specs.declared.marking.Turn.TheVariants.{Ended, More}
 use Rattle.ds_conductor.specs.declared.port.Port.{Port}
 use Rattle.ds_conductor.specs.declared.reading.Progress.{Progress}
 use Rattle.ds_conductor.specs.declared.report.Report.{Report}
@@ -71,6 +72,60 @@ told fault = Err fault
 
 pub writable_by : (fault : PcapFault) → ¬ (told fault ≡ told pcaps.WriteFault) → ¬ (Some fault ≡ Some pcaps.WriteFault)
 writable_by fault writable e = writable cc
+
+-- the reading ended by a fault: want of memory breaks the marking off, and any other ends it
+pub ended_turned : (p : Port) (bytes more before now text : List ℕ) (frames : List FrameValue) (fault : PcapFault) (progress : Progress) (c : Conditioner) (out : List ℕ)
+    → IsFrontRead bytes more p.heading frames → ¬ (told fault ≡ told pcaps.WriteFault) → IsReading bytes more (Some p.heading) frames (Some fault)
+    → IsConditioned p true frames text c → IsWrittenTo out before (p.heading.bytes ++ text) now → IsTurned p bytes more before now progress c out (turned_by fault)
+ended_turned p bytes more before now text frames fault progress c out at writable ended conditioned written = by (is_starved fault) refl
+  where
+    by : (starved : Bool) → is_starved fault ≡ starved → IsTurned p bytes more before now progress c out (if starved then Err marks.NoMemory else Ok (Ended (Some fault)))
+    by true is =
+        starved_off p bytes more before now text frames frames [] c at (sym (append-nil frames)) conditioned (front_written (p.heading.bytes ++ text) out before now written)
+    by false is = record {
+      frames = frames;
+      text = text;
+      well = well_by fault is;
+      writable = writable_by fault writable;
+      ended = ended;
+      conditioned = conditioned;
+      written = written;
+    }
+
+pub ended_asked : (fault : PcapFault) (left failed now asked_before asked : ℕ) → IsAskedTo (is_read fault) failed now asked_before asked
+    → IsAskedIn (turned_by fault) left failed now asked_before asked
+ended_asked fault left failed now asked_before asked on = by (is_starved fault)
+  where
+    by : (starved : Bool) → IsAskedIn (if starved then Err marks.NoMemory else Ok (Ended (Some fault))) left failed now asked_before asked
+    by true = tt
+    by false = on
+
+-- it is no fault of the other device
+pub ended_well : (fault : PcapFault) → ¬ (told fault ≡ told pcaps.WriteFault) → MatchResult (turned_by fault)
+    (λ turn. (¬ (turn ≡ Ended (Some pcaps.WriteFault))) × (¬ (turn ≡ Ended (Some pcaps.NoMemory))))
+    (λ f. (f ≡ marks.Capture pcaps.WriteFault) ⊎ (f ≡ marks.NoMemory))
+ended_well fault writable = by (is_starved fault) refl
+  where
+    by : (starved : Bool) → is_starved fault ≡ starved → MatchResult (if starved then Err marks.NoMemory else Ok (Ended (Some fault)))
+        (λ turn. (¬ (turn ≡ Ended (Some pcaps.WriteFault))) × (¬ (turn ≡ Ended (Some pcaps.NoMemory))))
+        (λ f. (f ≡ marks.Capture pcaps.WriteFault) ⊎ (f ≡ marks.NoMemory))
+    by true is = inr refl
+    by false is = (λ e. writable_by fault writable cc, λ e. well_by fault is cc)
+
+pub ended_unwritten : (fault : PcapFault) → is_write_fault (turned_by fault) ≡ false
+ended_unwritten fault = by (is_starved fault)
+  where
+    by : (starved : Bool) → is_write_fault (if starved then Err marks.NoMemory else Ok (Ended (Some fault))) ≡ false
+    by true = refl
+    by false = refl
+
+-- and no more comes
+pub ended_last : (fault : PcapFault) → ¬ (turned_by fault ≡ Ok More)
+ended_last fault = by (is_starved fault)
+  where
+    by : (starved : Bool) → ¬ ((if starved then Err marks.NoMemory else Ok (Ended (Some fault))) ≡ Ok More)
+    by true e = cc
+    by false e = cc
 
 pub answer_unread : (verdict : Verdict) (report : Report) (fault : Option PcapFault) → is_unread (answer_of verdict report fault) ≡ is_unread_by fault
 answer_unread verdict report None = refl

@@ -55,10 +55,10 @@ handed P (Ok value) head text out left before middle after is so now none = (tex
 handed P (Err fault) head text out left before middle after is so now none = (text, is, broken_out (head ++ text) out before middle after so now)
 
 -- at first the heading is collected
-pub headed_out : (head bytes none out held : List ℕ) → head ≡ bytes → none ≡ [] → out ≡ none ++ bytes → IsWrittenTo out held (head ++ []) held
-headed_out head bytes none out held same empty collected = record {
+pub headed_out : (head out held : List ℕ) → out ≡ head → IsWrittenTo out held (head ++ []) held
+headed_out head out held collected = record {
   front = [];
-  whole = append-nil head ∙ same ∙ sym (collected ∙ ap (λ it. it ++ bytes) empty);
+  whole = append-nil head ∙ sym collected;
   written = sym (append-nil held);
 }
 

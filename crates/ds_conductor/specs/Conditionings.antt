@@ -9,7 +9,7 @@ use Rattle.ds_conductor_base.specs.Passing.{colours_of}
 use Rattle.ds_conductor_base.specs.Streams.{AreSentFrom, colours_left, decided, next_place}
 use Rattle.ds_checker.specs.Acceptance.{IsAcceptable}
 use Rattle.ds_conductor_base.specs.Ways.{AreInReach}
-use Rattle.ds_visits_verdict.specs.Judging.{Judging, unjudged, verdict_with}
+use Rattle.ds_visits.specs.Judging.{Judging, unjudged, verdict_with}
 use Rattle.ds_conductor_base.specs.declared.sent.Sent.{Sent}
 use Rattle.ds_conductor.specs.Markings.{see}
 use Rattle.ds_conductor.specs.Sendings.{AreCounted, packet_of, sent_of}
@@ -44,9 +44,13 @@ MayCome false newest back = back ≡ []
 abbrev pub AreEarly : List FrameValue → Type 0
 AreEarly frames = All (λ f. f.moment < 2 ^ 63 - 2 ^ 40) frames
 
--- the rules of a port are those of its table's contracts at the port of a name
+-- the rules of a port are those of its table's contracts at the port of this name
+abbrev pub IsPortOf : Port → List ℕ → Type 0
+IsPortOf p name = (bytes : List ℕ) → see_at p bytes ≡ see p.accepted.now name p.heading.link bytes
+
+-- and of some name
 abbrev pub IsSeeing : Port → Type 0
-IsSeeing p = (name : List ℕ) × ((bytes : List ℕ) → see_at p bytes ≡ see p.accepted.now name p.heading.link bytes)
+IsSeeing p = (name : List ℕ) × IsPortOf p name
 
 -- What a judge keeps tells the verdict on what the frames that were seen send, and also on packets behind them.
 pub record IsJudging (p : Port) (frames : List FrameValue) (judge : Judging) : Type 0 where

@@ -10,3 +10,5 @@ pub mod Sendings
 pub mod Tallies
 pub mod Texts
 pub mod Writings
+-- what the clauses here cite of the crates below
+pub use Rattle.ds_conductor_base.specs.Steps

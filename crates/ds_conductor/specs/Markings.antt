@@ -18,7 +18,7 @@ use Rattle.run_audit.specs.declared.verdict.Verdict.TheVariants.{Kept}
 use Rattle.frame_marker.specs.Sights.{sight_of}
 use Rattle.frame_marker.specs.declared.sight.Sight.{Sight}
 use Rattle.ds_conductor_base.specs.Passing.{colours_of}
-use Rattle.ds_visits_run.specs.Making.{run_behind}
+use Rattle.ds_visits.specs.Making.{run_behind}
 use Rattle.ds_conductor_base.specs.declared.sent.Sent.{Sent}
 use Rattle.ds_conductor.specs.Reports.{nothing_read, report_of, with_verdict}
 use Rattle.ds_conductor.specs.Sendings.{sent_of}

@@ -1,5 +1,6 @@
 -- What stands while a capture is marked, piece by piece.
 use Rattle.std.specs.Prelude.{◌≡◌, ◌⊎◌, ℕ, List, [], ◌++◌, zip, Bool, true, false, Option, None, Some, Result, Ok, Err}
+use Rattle.std.specs.Prelude.{if◌then◌else◌}
 use Rattle.pcap_capture.specs.Fronts.{IsFrontOf}
 use Rattle.pcap_capture.specs.Frames.{FrameValue}
 use Rattle.pcap_capture.specs.Grammar.{capture, heading_of}
@@ -8,10 +9,10 @@ use Rattle.pcap_capture.specs.declared.fault.PcapFault.TheVariants as pcaps
 use Rattle.meter_fabric_base.specs.Grounds.{ground_of}
 use Rattle.run_audit.specs.Verdicts.{verdict_of}
 use Rattle.ds_conductor_base.specs.Passing.{colours_of}
-use Rattle.ds_visits_run.specs.Making.{run_behind}
+use Rattle.ds_visits.specs.Making.{run_behind}
 use Rattle.ds_conductor.specs.Conditionings.{IsConditioned, see_at}
-use Rattle.ds_conductor.specs.Markings.{IsWhole, Marking, answer_of, is_read}
-use Rattle.ds_conductor.specs.Readings.{IsAsked, IsAskedTo, IsReading, IsUnderway}
+use Rattle.ds_conductor.specs.Markings.{IsMarkedAs, IsWhole, Marking, answer_of, is_read}
+use Rattle.ds_conductor.specs.Readings.{IsAsked, IsAskedTo, IsReading, IsUnderway, is_starved}
 use Rattle.ds_conductor.specs.Reports.{report_of}
 use Rattle.ds_conductor.specs.Sendings.{sent_of}
 use Rattle.ds_conductor.specs.Texts.{text_from}
@@ -108,3 +109,12 @@ IsFinished m fault before after answer =
     (IsWhole m m.report before after × (answer ≡ answer_of m.verdict m.report fault))
     ⊎ ((unwritten : MarkFault) × ((unwritten ≡ marks.Capture pcaps.WriteFault) ⊎ (unwritten ≡ marks.NoMemory))
     × IsFrontOf before m.text after × (answer ≡ Err (m.report, unwritten)))
+
+-- what a capture becomes at a port of this name
+abbrev pub IsMarkedAt : Port → List ℕ → List ℕ → List ℕ → List ℕ → List ℕ → Result Report (Report × MarkFault) → Type 0
+IsMarkedAt p name bytes more before after answer =
+    IsMarkedAs p.accepted.now name p.red bytes more before after answer
+
+-- What a turn comes to whose reading ended by this fault: want of memory breaks the marking off.
+abbrev pub turned_by : PcapFault → Result Turn MarkFault
+turned_by fault = if is_starved fault then Err marks.NoMemory else Ok (Ended (Some fault))

@@ -4,7 +4,7 @@ ghost use Rattle.pcap_capture.specs.Frames.{FrameValue};
 ghost use Rattle.ds_conductor_base.specs.Passing.{colours_of};
 ghost use Rattle.ds_conductor_base.specs.Streams.{colours_left, decided, next_place};
 ghost use Rattle.ds_conductor.specs.Conditionings.{IsBounded, IsConditioned, IsSeeing, IsUndecided, see_at};
-ghost use Rattle.ds_visits_verdict.specs.Judging.{verdict_with};
+ghost use Rattle.ds_visits.specs.Judging.{verdict_with};
 ghost use Rattle.ds_conductor.specs.Reports.{report_of};
 ghost use Rattle.ds_conductor.specs.Sendings.{counted_on, packet_of, sent_of};
 ghost use Rattle.std.specs.VecDeque.{deque_capacity, deque_len};
@@ -20,7 +20,7 @@ use crate::sending::{Counts, later, packet_of};
 use crate::tally::Tallies;
 use ds_checker::Accepted;
 use ds_conductor_base::{Gate, Sent, UnderWay};
-use ds_visits_verdict::Judge;
+use ds_visits::Judge;
 use moment_core::{Colour, Moment};
 use pcap_capture::Frame;
 use run_audit::Verdict;
@@ -28,7 +28,7 @@ use std::alloc::{AllocError, Global};
 use std::collections::VecDeque;
 
 /// A frame that is held until its colour is decided, with the packet that it sent, if a contract took it.
-#[derive(Debug, Drop)]
+#[derive(Drop)]
 pub(crate) struct Held {
     pub frame: SeenFrame,
     pub packet: Option<Sent>,
@@ -56,13 +56,15 @@ impl<'a> Conditioner<'a> {
     {
         // what is accepted is acceptable
         let _domain = accepted.domain();
+        let under_way = UnderWay::new(alloc, accepted)?;
+        let judge = Judge::new(alloc, accepted)?;
         Ok(Conditioner {
-            under_way: UnderWay::new(alloc, accepted)?,
+            under_way,
             held: VecDeque::new(alloc),
             newest: Moment::new(0).unwrap(),
             counts: Counts::nothing(),
             tallies: Tallies::nothing(),
-            judge: Judge::new(alloc, accepted)?,
+            judge,
         })
     }
 

@@ -5,7 +5,7 @@ use pcap_capture::PcapFault;
 use thiserror::Error;
 
 /// Why a capture was not marked to its end.
-#[derive(Clone, Copy, Debug, PartialEq, Eq, Hash, Error)]
+#[derive(Clone, Copy, Debug, PartialEq, Eq, Error)]
 pub enum MarkFault {
     /// The capture cannot be read on, or the marked one cannot be written.
     #[error("{0}")]

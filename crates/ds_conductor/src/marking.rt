@@ -1,13 +1,14 @@
 ghost use Rattle.std.specs.Prelude.{◌≡◌, ◌⊎◌, ℕ, ◌+◌, ◌*◌, ◌<◌, ◌≤◌, ◌^◌, true, false, List, [], ◌++◌, Err, Some, IfErr};
-ghost use Rattle.std.specs.Prelude.{IfOk, MatchResult, Ok, if◌then◌else◌};
+ghost use Rattle.std.specs.Prelude.{IfOk, MatchResult, Ok, OnErr, OnOk, if◌then◌else◌};
 ghost use Rattle.pcap_capture.specs.Counts.{next_count};
 ghost use Rattle.pcap_capture.specs.Frames.{FrameValue};
 ghost use Rattle.ds_domain_base.specs.Domains.{is_port};
-ghost use Rattle.ds_conductor.specs.Conditionings.{IsBounded, IsConditioned};
+ghost use Rattle.pcap_capture.specs.Fronts.{IsFrontOf};
+ghost use Rattle.ds_conductor.specs.Conditionings.{IsBounded, IsConditioned, IsPortOf};
 ghost use Rattle.ds_conductor.specs.Markings.{IsMarked, IsMarkedAs, IsOfReads, answer_of, is_read_whole};
 ghost use Rattle.ds_conductor.specs.Markings.{is_unread, is_unwritten};
 ghost use Rattle.ds_conductor.specs.Passings.{IsAskedIn, IsAskedOut, IsFinished, IsOnTheWay, IsTurned, IsTurnedOut};
-ghost use Rattle.ds_conductor.specs.Passings.{is_unread_by, marking_at};
+ghost use Rattle.ds_conductor.specs.Passings.{IsMarkedAt, is_unread_by, marking_at, turned_by};
 ghost use Rattle.ds_conductor.specs.Readings.{IsAsked, IsUnderway, bytes_of};
 ghost use Rattle.ds_conductor.specs.Reports.{nothing_read};
 ghost use Rattle.ds_conductor.specs.Writings.{IsWrittenTo, is_write_fault};
@@ -24,7 +25,7 @@ use ds_conductor_base::Gate;
 use ds_domain_base::Name;
 use pcap_capture::{Heading, Intake, Outlet, PcapFault};
 use run_audit::Verdict;
-use std::alloc::Global;
+use std::alloc::{AllocError, Global};
 
 /// By how many calls of `take` a capture is read at most; the next is answered as a read fault.
 const TURNS: u64 = 1 << 32;
@@ -76,7 +77,15 @@ pub fn mark<I: Intake, O: Outlet, G: Gate>(
     let mut progress = Progress::begin(alloc, TURNS);
     match read_heading(alloc, intake, &mut progress) {
         Ok(heading) => mark_behind(
-            alloc, accepted, port, heading, red, progress, intake, outlet, gate,
+            alloc,
+            accepted,
+            port,
+            heading,
+            red,
+            &mut progress,
+            intake,
+            outlet,
+            gate,
         ),
         Err(fault) => Err((Report::nothing(), MarkFault::of_reading(fault))),
     }
@@ -89,47 +98,110 @@ fn mark_behind<I: Intake, O: Outlet, G: Gate>(
     name: Name,
     heading: Heading,
     red: RedRule,
-    mut progress: Progress,
+    progress: &mut Progress,
     intake: &mut I,
     outlet: &mut O,
     gate: &G,
 ) -> Result<Report, (Report, MarkFault)>
-    requires missing { progress.missing ≤ 24 }
-    requires few { bytes_of progress ≤ 2 ^ 48 }
+    requires missing { progress.old.missing ≤ 24 }
+    requires few { bytes_of progress.old ≤ 2 ^ 48 }
     ensures marked { I.tells intake.old → O.tells outlet.old → (bytes : List ℕ)
-        → IsUnderway [] bytes (I.left intake.old) progress → progress.heading ≡ Some heading
+        → IsUnderway [] bytes (I.left intake.old) progress.old → progress.old.heading ≡ Some heading
         → IsMarkedAs accepted.now name red bytes (I.left intake.new) (O.held outlet.old) (O.held outlet.new) result }
     ensures writes { O.failed outlet.new
         ≡ (if is_unwritten result then next_count (O.failed outlet.old) else O.failed outlet.old) }
     ensures known { IfErr result (λ refused. ¬ (refused.1 ≡ MarkFault.UnknownPort)) }
     ensures few { IfOk result (λ report. report.records ≤ 2 ^ 44) }
-    ensures reads { (failed asked : ℕ) → IsAsked progress.turns failed (I.failed intake.old) asked (I.turns intake.old)
+    ensures reads { (failed asked : ℕ) → IsAsked progress.old.turns failed (I.failed intake.old) asked
+        (I.turns intake.old)
         → IsOfReads result failed (I.failed intake.new) asked (I.turns intake.new) }
 {
     let Ok(port) = Port::new(alloc, accepted, name, heading, red) else {
         return Err((Report::nothing(), MarkFault::NoMemory));
     };
-    let Ok(mut conditioner) = Conditioner::new(alloc, accepted) else {
+    mark_at(alloc, &port, progress, intake, outlet, gate)
+}
+
+/// Marks the records behind the heading of a port.
+fn mark_at<I: Intake, O: Outlet, G: Gate>(
+    alloc: Global,
+    port: &Port<'_>,
+    progress: &mut Progress,
+    intake: &mut I,
+    outlet: &mut O,
+    gate: &G,
+) -> Result<Report, (Report, MarkFault)>
+    requires missing { progress.old.missing ≤ 24 }
+    requires few { bytes_of progress.old ≤ 2 ^ 48 }
+    ensures marked { I.tells intake.old → O.tells outlet.old → (name bytes : List ℕ) → IsPortOf port.now name
+        → IsUnderway [] bytes (I.left intake.old) progress.old → progress.old.heading ≡ Some port.now.heading
+        → IsMarkedAt port.now name bytes (I.left intake.new) (O.held outlet.old) (O.held outlet.new) result }
+    ensures writes { O.failed outlet.new
+        ≡ (if is_unwritten result then next_count (O.failed outlet.old) else O.failed outlet.old) }
+    ensures known { IfErr result (λ refused. ¬ (refused.1 ≡ MarkFault.UnknownPort)) }
+    ensures few { IfOk result (λ report. report.records ≤ 2 ^ 44) }
+    ensures reads { (failed asked : ℕ) → IsAsked progress.old.turns failed (I.failed intake.old) asked
+        (I.turns intake.old)
+        → IsOfReads result failed (I.failed intake.new) asked (I.turns intake.new) }
+{
+    let Ok(mut out) = Vec::from_array(alloc, port.heading.bytes) else {
         return Err((Report::nothing(), MarkFault::NoMemory));
     };
-    let mut out = Vec::new(alloc);
-    let Ok(()) = out.extend_from_slice(&heading.bytes) else {
+    let Ok(mut conditioner) = Conditioner::new(alloc, port.accepted) else {
         return Err((Report::nothing(), MarkFault::NoMemory));
     };
-    let turned = turn_all(
+    mark_through(
         alloc,
-        &port,
+        port,
         &mut conditioner,
         &mut out,
-        &mut progress,
+        progress,
+        intake,
+        outlet,
+        gate,
+    )
+}
+
+/// Marks the records that are still to come, and tells the report of all.
+fn mark_through<I: Intake, O: Outlet, G: Gate>(
+    alloc: Global,
+    port: &Port<'_>,
+    conditioner: &mut Conditioner<'_>,
+    out: &mut Vec<u8>,
+    progress: &mut Progress,
+    intake: &mut I,
+    outlet: &mut O,
+    gate: &G,
+) -> Result<Report, (Report, MarkFault)>
+    requires missing { progress.old.missing ≤ 24 }
+    requires bounded { IsBounded conditioner.old }
+    requires few { 16 * conditioner.old.counts.records + bytes_of progress.old ≤ 2 ^ 48 }
+    ensures marked { I.tells intake.old → O.tells outlet.old → (name bytes before : List ℕ) → IsPortOf port.now name
+        → IsOnTheWay port.now bytes (I.left intake.old) before (O.held outlet.old) progress.old conditioner.old
+        out.old.items
+        → IsMarkedAt port.now name bytes (I.left intake.new) before (O.held outlet.new) result }
+    ensures writes { O.failed outlet.new
+        ≡ (if is_unwritten result then next_count (O.failed outlet.old) else O.failed outlet.old) }
+    ensures known { IfErr result (λ refused. ¬ (refused.1 ≡ MarkFault.UnknownPort)) }
+    ensures few { IfOk result (λ report. report.records ≤ 2 ^ 44) }
+    ensures reads { (failed asked : ℕ) → IsAsked progress.old.turns failed (I.failed intake.old) asked
+        (I.turns intake.old)
+        → IsOfReads result failed (I.failed intake.new) asked (I.turns intake.new) }
+{
+    let turned = turn_all(
+        alloc,
+        port,
+        conditioner,
+        out,
+        progress,
         intake,
         outlet,
         gate,
     );
     conditioner.make_all(gate);
     match turned {
-        Ok(fault) => finish(&port, &mut conditioner, &mut out, fault, outlet),
-        Err(fault) => Err((conditioner.report(&port), fault)),
+        Ok(fault) => finish(port, conditioner, out, fault, outlet),
+        Err(fault) => Err((conditioner.report(port), fault)),
     }
 }
 
@@ -184,7 +256,7 @@ fn answer(
 }
 
 /// What a turn comes to.
-#[derive(Clone, Copy, Debug)]
+#[derive(Clone, Copy)]
 enum Turn {
     /// More may come.
     More,
@@ -277,21 +349,82 @@ fn take_turn<I: Intake, O: Outlet, G: Gate>(
         ≡ (if is_write_fault result then next_count (O.failed outlet.old) else O.failed outlet.old) }
 {
     let read = read_piece(alloc, intake, progress);
-    let Ok(()) = conditioner.see_all(port, progress.take_frames(alloc)) else {
+    let Ok(()) = see_read(alloc, port, conditioner, progress) else {
         return Err(MarkFault::NoMemory);
     };
     match read {
         Ok(true) => {
-            conditioner.make_due(gate);
-            write_on(port, conditioner, out, outlet)?;
+            write_due(port, conditioner, out, outlet, gate)?;
             Ok(Turn::More)
         }
         Ok(false) => Ok(Turn::Ended(None)),
-        Err(fault) => {
-            if is_starved(fault) {
-                return Err(MarkFault::NoMemory);
-            }
-            Ok(Turn::Ended(Some(fault)))
-        }
+        Err(fault) => ended_by(fault),
     }
+}
+
+/// Sees the frames that are read whole and takes them out, also where memory runs out and only a front of them is seen.
+fn see_read(
+    alloc: Global,
+    port: &Port<'_>,
+    conditioner: &mut Conditioner<'_>,
+    progress: &mut Progress,
+) -> Result<(), AllocError>
+    requires bounded { IsBounded conditioner.old }
+    requires few { 16 * conditioner.old.counts.records + bytes_of progress.old ≤ 2 ^ 48 }
+    ensures bounded { IsBounded conditioner.new }
+    ensures few { 16 * conditioner.new.counts.records + bytes_of progress.new
+        ≤ 16 * conditioner.old.counts.records + bytes_of progress.old }
+    ensures missing { progress.new.missing ≡ progress.old.missing }
+    ensures heading { progress.new.heading ≡ progress.old.heading }
+    ensures turns { progress.new.turns ≡ progress.old.turns }
+    ensures read { (gone : List FrameValue) (bytes more : List ℕ) → IsUnderway gone bytes more progress.old
+        → IsUnderway (gone ++ progress.old.frames.items) bytes more progress.new }
+    ensures seen { OnOk result ((gone : List FrameValue) (text : List ℕ)
+        → IsConditioned port.now true gone text conditioner.old
+        → IsConditioned port.now true (gone ++ progress.old.frames.items) text conditioner.new) }
+    ensures unseen { OnErr result ((gone : List FrameValue) (text : List ℕ)
+        → IsConditioned port.now true gone text conditioner.old
+        → (front : List FrameValue) × (others : List FrameValue) × (progress.old.frames.items ≡ front ++ others)
+        × IsConditioned port.now true (gone ++ front) text conditioner.new) }
+{
+    conditioner.see_all(port, progress.take_frames(alloc))
+}
+
+/// Makes the visits that are due, and writes the frames that are decided then.
+fn write_due<O: Outlet, G: Gate>(
+    port: &Port<'_>,
+    conditioner: &mut Conditioner<'_>,
+    out: &mut Vec<u8>,
+    outlet: &mut O,
+    gate: &G,
+) -> Result<(), MarkFault>
+    requires { IsBounded conditioner.old }
+    ensures bounded { IsBounded conditioner.new }
+    ensures records { conditioner.new.counts.records ≡ conditioner.old.counts.records }
+    ensures told { O.tells outlet.old → O.tells outlet.new }
+    ensures bytes { O.tells outlet.old → (frames : List FrameValue) (text before : List ℕ)
+        → IsConditioned port.now true frames text conditioner.old
+        → IsWrittenTo out.old.items before (port.now.heading.bytes ++ text) (O.held outlet.old)
+        → MatchResult result
+        (λ _. (after : List ℕ) × IsConditioned port.now true frames after conditioner.new
+        × IsWrittenTo out.new.items before (port.now.heading.bytes ++ after) (O.held outlet.new))
+        (λ _. (after : List ℕ) × IsConditioned port.now true frames after conditioner.new
+        × IsFrontOf before (port.now.heading.bytes ++ after) (O.held outlet.new)) }
+    ensures fault { IfErr result (λ fault. (fault ≡ MarkFault.Capture PcapFault.WriteFault)
+        ⊎ (fault ≡ MarkFault.NoMemory)) }
+    ensures failures { O.failed outlet.new
+        ≡ (if is_write_fault result then next_count (O.failed outlet.old) else O.failed outlet.old) }
+{
+    conditioner.make_due(gate);
+    write_on(port, conditioner, out, outlet)
+}
+
+/// What a turn comes to whose reading ended by this fault.
+fn ended_by(fault: PcapFault) -> Result<Turn, MarkFault>
+    ensures { result ≡ turned_by fault }
+{
+    if is_starved(fault) {
+        return Err(MarkFault::NoMemory);
+    }
+    Ok(Turn::Ended(Some(fault)))
 }

@@ -15,7 +15,7 @@ use std::alloc::Global;
 const HEADING: usize = 24;
 
 /// How far a capture was read.
-#[derive(Debug, Drop)]
+#[derive(Drop)]
 pub(crate) struct Progress {
     capture: Capture,
     /// Its heading, once that is there whole.

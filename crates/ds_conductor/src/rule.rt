@@ -1,5 +1,5 @@
 /// What is done with frames whose packets leave their last meter red.
-#[derive(Clone, Copy, Debug, PartialEq, Eq, Hash)]
+#[derive(Clone, Copy, Debug, PartialEq, Eq)]
 pub enum RedRule {
     /// They stay in the capture, marked red.
     Keep,

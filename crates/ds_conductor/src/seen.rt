@@ -9,7 +9,7 @@ use pcap_capture::{Frame, LinkType};
 use std::marker::Model;
 
 /// A frame that was seen at a link, with what marking it there needs, so that its header is not read again.
-#[derive(Debug, Drop)]
+#[derive(Drop)]
 pub(crate) struct SeenFrame {
     frame: Frame,
     link: LinkType,

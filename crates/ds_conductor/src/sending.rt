@@ -6,7 +6,7 @@ use frame_marker::Sight;
 use moment_core::Moment;
 
 /// How many frames were seen, and what they are.
-#[derive(Clone, Copy, Debug)]
+#[derive(Clone, Copy)]
 pub(crate) struct Counts {
     /// All of them.
     pub records: u64,

@@ -4,7 +4,7 @@ ghost use Rattle.ds_conductor.specs.Tallies.{AreWithin, IsWithin, grown_all, not
 use moment_core::{Colour, PacketSize};
 
 /// The running sums of one colour.
-#[derive(Clone, Copy, Debug)]
+#[derive(Clone, Copy)]
 pub(crate) struct Tally {
     /// Packets that left with it.
     pub packets: u64,
@@ -24,7 +24,7 @@ impl Tally {
 }
 
 /// The running sums of the three colours.
-#[derive(Clone, Copy, Debug)]
+#[derive(Clone, Copy)]
 pub(crate) struct Tallies {
     pub green: Tally,
     pub yellow: Tally,

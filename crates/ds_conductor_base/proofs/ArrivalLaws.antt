@@ -10,7 +10,7 @@ use Rattle.meter_fabric_base.specs.Grounds.{ground_of}
 use Rattle.meter_fabric_base.specs.Openings.{opening_at}
 use Rattle.meter_fabric_base.specs.Travels.{Traveller, begun_of}
 use Rattle.meter_fabric_base.specs.declared.hop.Hop.{Hop}
-use Rattle.run_audit_base.specs.Runs.{Run}
+use Rattle.run_audit.specs.Runs.{Run}
 use Rattle.ds_conductor_base.specs.Conducting.{as_run, conducted_from, conducted_with, going_on, run_so_far}
 use Rattle.ds_conductor_base.specs.Laws.{arrival_by, arrival_from, arrival_there, behind_step, brought, brought_by}
 use Rattle.ds_conductor_base.specs.Steps.{Stage, book_at, numbers_of, opened_with, sent, some_of, stepped, visited_from}

@@ -1,6 +1,6 @@
 -- The colours of packets that are all sent, and then handed out one by one.
-use Rattle.std.proofs.Common.{◌≡◌, ◌<◌, ◌≤◌, ◌+◌, ℕ, zero, suc, Bool, true, false, List, [], ◌∷◌, ◌++◌, length, length-append, drop, get_or, append-nil, None, refl, sym, ap, ◌∙◌, subst, arith}
-use Rattle.std.specs.Prelude.{◌&&◌, nat_le}
+use Rattle.std.proofs.Common.{◌≡◌, ◌<◌, ◌≤◌, ◌+◌, ℕ, zero, suc, Bool, true, false, List, [], ◌∷◌, ◌++◌, length, length-append, drop, get_or, append-nil, None, Result, Ok, Err, refl, sym, ap, ◌∙◌, subst, arith}
+use Rattle.std.specs.Prelude.{◌&&◌, nat_le, OnOk}
 use Rattle.std.proofs.lemmas.Bool.Decides.{nat_tests}
 use Rattle.std.proofs.lemmas.List.{drop_all, drop_more}
 use Rattle.std.proofs.lemmas.List.Elements.{All-cons, All-nil, All-weaker}
@@ -35,6 +35,13 @@ handed_out u colours all none undecided kept =
     sym (append-nil colours)
     ∙ ap (λ rest. colours ++ rest) (sym (left_none u none (no_packets u.traffic.first u.waiting u.traffic.packets none (sym undecided))))
     ∙ kept
+
+-- once all visits are made, all colours are handed out, where memory is there
+pub all_handed : {T E : Type 0} (result : Result T E) (u after : Stream) (before colours all : List Colour) → u.waiting ≡ [] → OnOk result (after.waiting ≡ u.waiting)
+    → OnOk result (decided after ≡ None) → OnOk result ((back : List Sent) → colours ++ colours_left after back ≡ before ++ colours_left u back)
+    → before ++ colours_left u [] ≡ all → OnOk result (colours ≡ all)
+all_handed (Ok value) u after before colours all none same over comes kept = handed_out after colours all (same ∙ none) (sym over) (comes [] ∙ kept)
+all_handed (Err fault) u after before colours all none same over comes kept = tt
 
 -- ---- packets that are sent at moments that do not fall
 

@@ -10,7 +10,7 @@ use Rattle.meter_fabric_base.specs.Trails.{Packet}
 use Rattle.meter_fabric_base.specs.Travels.{Traveller, begun_of}
 use Rattle.ds_checker.specs.Acceptance.{Table}
 use Rattle.meter_fabric_base.specs.Grounds.{contract_of, ground_of}
-use Rattle.run_audit_base.specs.Runs.{IsRun, Passage, Run}
+use Rattle.run_audit.specs.Runs.{IsRun, Passage, Run}
 use Rattle.ds_conductor_base.specs.Conducting.{as_run, conducted_from, conducted_with, going_on, passage_of, run_so_far}
 use Rattle.ds_conductor_base.specs.Steps.{Stage, numbers_of, opened_with, sent, stepped, visited_from}
 use Rattle.ds_conductor_base.specs.Laws.{sent_by}

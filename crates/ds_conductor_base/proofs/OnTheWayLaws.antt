@@ -14,7 +14,7 @@ use Rattle.ds_checker.specs.Acceptance.{Table}
 use Rattle.meter_fabric_base.specs.Grounds.{ground_of}
 use Rattle.meter_fabric_base.specs.Trails.{IsTrail}
 use Rattle.meter_fabric_base.specs.Travels.{Traveller}
-use Rattle.run_audit_base.specs.Runs.{AreJournals, IsPassage, IsRun, told}
+use Rattle.run_audit.specs.Runs.{AreJournals, IsPassage, IsRun, told}
 use Rattle.meter_fabric_base.specs.Openings.{opening_at, site_count}
 use Rattle.ds_conductor_base.specs.Conducting.{AreWhole, passage_of, run_so_far}
 use Rattle.ds_conductor_base.specs.Steps.{Stage, book_at, numbers_of, opened_at, opened_with, some_of, stepped}

@@ -17,7 +17,7 @@ use Rattle.meter_fabric_base.specs.Sites.{hops_of}
 use Rattle.meter_fabric_base.specs.Trails.{Packet}
 use Rattle.meter_fabric_base.specs.Travels.{Traveller}
 use Rattle.meter_fabric_base.proofs.TrailLaws.{IsTrail-none}
-use Rattle.run_audit_base.specs.Runs.{told, told_by}
+use Rattle.run_audit.specs.Runs.{told, told_by}
 use Rattle.ds_conductor_base.specs.Conducting.{passage_of}
 use Rattle.ds_conductor_base.specs.Steps.{Stage, numbers_of, sent}
 use Rattle.ds_conductor_base.specs.OnTheWay.{IsOnItsWay, IsUnderWay}

@@ -22,7 +22,7 @@ use Rattle.meter_fabric_base.specs.declared.fault.VisitFault.TheVariants.{Before
 use Rattle.meter_fabric_base.specs.declared.hop.Hop.{Hop}
 use Rattle.meter_fabric_base.specs.declared.trail.Receipt.{Receipt}
 use Rattle.meter_fabric_base.proofs.TrailLaws.{trail_of-received}
-use Rattle.run_audit_base.specs.Runs.{told, told_by}
+use Rattle.run_audit.specs.Runs.{told, told_by}
 use Rattle.meter_fabric_base.specs.Openings.{opening_at}
 use Rattle.ds_conductor_base.specs.Conducting.{passage_of}
 use Rattle.ds_conductor_base.specs.Steps.{Stage, as_step, book_at, numbers_of, put_back, some_of, visit_there, visited_at, visited_by, visited_from, with_books}

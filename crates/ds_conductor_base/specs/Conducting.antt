@@ -3,7 +3,7 @@ use Rattle.std.specs.Prelude.{◌≡◌, ℕ, ◌^◌, suc, List, [], ◌∷◌,
 use Rattle.meter_book.specs.Replay.{Book, Journal}
 use Rattle.ds_checker.specs.Acceptance.{Table}
 use Rattle.meter_fabric_base.specs.Travels.{Traveller}
-use Rattle.run_audit_base.specs.Runs.{Passage, Run}
+use Rattle.run_audit.specs.Runs.{Passage, Run}
 use Rattle.ds_conductor_base.specs.Steps.{Stage, opened_with, stepped}
 use Rattle.ds_conductor_base.specs.declared.fault.ConductFault.{ConductFault}
 use Rattle.ds_conductor_base.specs.declared.fault.ConductFault.TheVariants as conducts

@@ -7,7 +7,7 @@ use Rattle.meter_fabric_base.specs.Grounds.{ground_of}
 use Rattle.meter_fabric_base.specs.Trails.{Packet, arrival_at}
 use Rattle.meter_fabric_base.specs.Travels.{Traveller, comes_as, next_hop}
 use Rattle.meter_fabric_base.specs.declared.hop.Hop.{Hop}
-use Rattle.run_audit_base.specs.Runs.{IsRun, Run}
+use Rattle.run_audit.specs.Runs.{IsRun, Run}
 use Rattle.ds_conductor_base.specs.Conducting.{conducted_with, run_so_far}
 use Rattle.ds_conductor_base.specs.Steps.{Stage, numbers_of, opened_with, stepped}
 use Rattle.ds_conductor_base.specs.OnTheWay.{IsUnderWay}

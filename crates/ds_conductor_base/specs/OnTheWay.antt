@@ -9,7 +9,7 @@ use Rattle.meter_fabric_base.specs.Grounds.{contract_of, ground_of}
 use Rattle.meter_fabric_base.specs.Sites.{hops_of}
 use Rattle.meter_fabric_base.specs.Trails.{IsTrail}
 use Rattle.meter_fabric_base.specs.Travels.{Traveller}
-use Rattle.run_audit_base.specs.Runs.{told}
+use Rattle.run_audit.specs.Runs.{told}
 use Rattle.meter_fabric_base.specs.Openings.{opening_at, site_count}
 use Rattle.meter_fabric_base.specs.declared.site.Opening.{Opening}
 use Rattle.ds_conductor_base.specs.Conducting.{passage_of}

@@ -1,4 +1,4 @@
-ghost use Rattle.std.specs.Prelude.{◌≡◌, ◌++◌, true, List, None, IfOk, OnOk};
+ghost use Rattle.std.specs.Prelude.{◌≡◌, ◌++◌, true, List, [], None, IfOk, OnOk};
 ghost use Rattle.ds_conductor_base.specs.Passing.{came_of, colours_of};
 ghost use Rattle.ds_conductor_base.specs.Streams.{AreSentFrom, colours_left, decided, next_place, rise_from};
 ghost use Rattle.ds_conductor_base.specs.declared.sent.Sent.{Sent};
@@ -22,16 +22,46 @@ pub fn colours<G: Gate>(
 ) -> Result<Vec<Colour>, AllocError>
     ensures { IfOk result (λ colours. colours.items ≡ colours_of accepted.now sent.now) }
 {
-    let rise = rise(sent);
-    let mut under_way = UnderWay::new(alloc, accepted)?;
     let mut colours = Vec::with_capacity(alloc, sent.len())?;
+    let mut under_way = UnderWay::new(alloc, accepted)?;
+    pass_all(sent, &mut under_way, &mut colours, gate)?;
+    Ok(colours)
+}
+
+/// Sends packets before which none was sent, makes all their visits, and hands out their colours; `AllocError` where
+/// memory runs out.
+fn pass_all<G: Gate>(
+    sent: &[Sent],
+    under_way: &mut UnderWay<'_>,
+    colours: &mut Vec<Colour>,
+    gate: &G,
+) -> Result<(), AllocError>
+    requires begun { next_place under_way.old ≡ 0 }
+    ensures { OnOk result (colours.new.items ≡ colours.old.items ++ colours_left under_way.old sent.now) }
+{
+    send_all(sent, under_way, colours, gate)?;
+    under_way.make_all(gate);
+    hand_out(under_way, colours)
+}
+
+/// Sends packets before which none was sent, and hands out the colours that are decided meanwhile; `AllocError` where
+/// memory runs out.
+fn send_all<G: Gate>(
+    sent: &[Sent],
+    under_way: &mut UnderWay<'_>,
+    colours: &mut Vec<Colour>,
+    gate: &G,
+) -> Result<(), AllocError>
+    requires begun { next_place under_way.old ≡ 0 }
+    ensures { OnOk result (colours.new.items ++ colours_left under_way.new []
+        ≡ colours.old.items ++ colours_left under_way.old sent.now) }
+{
+    let rise = rise(sent);
     for packet in sent {
-        hand_out_due(rise, packet.moment, &mut under_way, &mut colours, gate)?;
+        hand_out_due(rise, packet.moment, under_way, colours, gate)?;
         under_way.send(*packet)?;
     }
-    under_way.make_all(gate);
-    hand_out(&mut under_way, &mut colours)?;
-    Ok(colours)
+    Ok(())
 }
 
 /// Whether packets are sent at moments that do not fall.

@@ -7,7 +7,7 @@ use std::alloc::{AllocError, AllocFailed};
 use thiserror::Error;
 
 /// Why a step was not made.
-#[derive(Clone, Copy, Debug, PartialEq, Eq, Hash, Drop, Error)]
+#[derive(Clone, Copy, Debug, PartialEq, Eq, Drop, Error)]
 pub enum StepFault {
     /// There is no contract of that number, the packet was sent before or never, its path has ended, or the moment is
     /// before its last one.
@@ -46,7 +46,7 @@ impl StepFault {
 }
 
 /// Why a list of steps makes no run: the first step that could not be made, by its index from 0.
-#[derive(Clone, Copy, Debug, PartialEq, Eq, Hash, Drop, Error)]
+#[derive(Clone, Copy, Debug, PartialEq, Eq, Drop, Error)]
 pub enum ConductFault {
     /// There is no contract of that number, the packet was sent before or never, its path has ended, or the moment is
     /// before its last one.

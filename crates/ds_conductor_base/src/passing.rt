@@ -8,7 +8,7 @@ use moment_core::{Colour, PacketSize};
 use std::collections::VecDeque;
 
 /// A packet on its way.
-#[derive(Clone, Copy, Debug, PartialEq, Eq)]
+#[derive(Clone, Copy)]
 pub(crate) struct OnTheWay {
     /// Its size.
     pub(crate) size: PacketSize,

@@ -82,25 +82,37 @@ impl<J: Naming, R: Wait + Drop> Desk<J, R> {
         ensures back { IfErr result (λ refused. refused.0 ≡ domain) }
         ensures memory { IfErr result (λ refused. refused.1 ≡ NoMemory) }
     {
-        let Ok(own) = domain.copy(alloc) else {
-            return Err((domain, BrokerRefusal::NoMemory));
-        };
-        let Ok(book) = Book::new(alloc, own, limits) else {
-            return Err((domain, BrokerRefusal::NoMemory));
-        };
-        let Ok(press) = Press::new(alloc, opened, &book, feeds) else {
-            return Err((domain, BrokerRefusal::NoMemory));
-        };
+        match Desk::opened(alloc, rt, opened, &domain, limits, feeds) {
+            Ok(made) => Ok(made),
+            Err(_) => Err((domain, BrokerRefusal::NoMemory)),
+        }
+    }
+
+    /// The same for a copy of the domain; `AllocError` where memory runs out.
+    fn opened(
+        alloc: Global,
+        rt: R,
+        opened: Opened,
+        domain: &Domain,
+        limits: Limits,
+        feeds: usize,
+    ) -> Result<(Self, Vec<Feed<J>>), AllocError>
+        requires log { opened ≡ J.log }
+        requires opening { J.opening ≡ record { domain = domain.now; limits = limits; history = [] } }
+        requires feeds { (0 < feeds) × (feeds ≤ 64) }
+        ensures opened { IfOk result (λ made. made.0 ≡ J.opening) }
+        ensures feeds { IfOk result (λ made. vec_len made.1 ≡ feeds) }
+    {
+        let book = empty_book(alloc, domain, limits)?;
+        let press = Press::new(alloc, opened, &book, feeds)?;
         let desk = Desk {
             book,
             press,
             alloc,
             rt,
         };
-        match desk.feeds(feeds) {
-            Ok(feeds) => Ok((desk, feeds)),
-            Err(_) => Err((domain, BrokerRefusal::NoMemory)),
-        }
+        let feeds = desk.feeds(feeds)?;
+        Ok((desk, feeds))
     }
 
     /// Grants a contract, as its book does, and shows the table with it to the feeds.
@@ -264,5 +276,18 @@ impl<J: Naming, R: Wait + Drop> Desk<J, R> {
             feeds.push(Feed::new(reader, self.front()))?;
         }
         Ok(feeds)
+    }
+}
+
+/// The book of a copy of a domain, with no contract in it; `AllocError` where memory runs out.
+fn empty_book(alloc: Global, domain: &Domain, limits: Limits) -> Result<Book, AllocError>
+    ensures { IfOk result (λ book. book ≡ record { domain = domain.now; limits = limits; history = [] }) }
+{
+    let Ok(own) = domain.copy(alloc) else {
+        return Err(AllocError);
+    };
+    match Book::new(alloc, own, limits) {
+        Ok(book) => Ok(book),
+        Err(_) => Err(AllocError),
     }
 }

@@ -11,7 +11,7 @@ use Rattle.ds_domain_base.specs.declared.fault.DomainFault.{DomainFault}
 use Rattle.ds_domain_base.specs.declared.fault.Field.TheVariants as fields
 use Rattle.ds_domain_base.specs.declared.parts.Version.{Version}
 use Rattle.ds_domain.specs.ContractEntries.{with_contract_of}
-use Rattle.ds_domain.specs.DomainTexts.{SectionTables, document_of, domain_of, no_text, parse_of, sections_of, top_of}
+use Rattle.ds_domain.specs.DomainTexts.{SectionTables, document_of, domain_of, no_text, parse_of, parts_of}
 use Rattle.ds_domain.specs.Sections.{section_in}
 
 -- bytes that are not UTF-8
@@ -40,11 +40,11 @@ with_text bytes (Ok value) text told = tt
 with_text bytes (Err fault) text (inl none) = inl (none, text)
 with_text bytes (Err fault) text (inr said) = inr said
 
--- a document of a good domain whose contracts are refused
-pub document_of-refused : (members : Members) (version : Version) (tables : SectionTables) (d : Domain) (contracts : List Members) (fault : DomainFault)
-    → top_of members ≡ Ok version → sections_of members ≡ Ok tables → domain_of version tables ≡ Ok d → contracts ≡ tables.contracts
+-- a good domain whose contracts are refused
+pub parts_of-refused : (version : Version) (tables : SectionTables) (d : Domain) (contracts : List Members) (fault : DomainFault)
+    → domain_of version tables ≡ Ok d → contracts ≡ tables.contracts
     → (fault ≡ no_memory) ⊎ (section_in fields.Contract 4096 (with_contract_of d) [] contracts ≡ Err fault)
-    → (fault ≡ no_memory) ⊎ (document_of members ≡ Err fault)
-unfolding document_of
-document_of-refused members version tables d contracts fault told parts whole same (inl memory) = inl memory
-document_of-refused members version tables d contracts fault told parts whole same (inr refused) = inr (rw (told, parts, whole, ← same, refused) refl)
+    → (fault ≡ no_memory) ⊎ (parts_of version tables ≡ Err fault)
+unfolding parts_of
+parts_of-refused version tables d contracts fault whole same (inl memory) = inl memory
+parts_of-refused version tables d contracts fault whole same (inr refused) = inr (rw (whole, ← same, refused) refl)

@@ -52,21 +52,30 @@ sections_of members = do
   contracts ← section_of fields.Contract members
   Ok (record { meters = meters; ports = ports; links = links; contracts = contracts })
 
+-- a domain with more meters, then ports, then links
+unfoldable pub with_parts_of : Domain → List Members → List Members → List Members → Result Domain DomainFault
+with_parts_of d meters ports links = do
+  with_meters ← section_in fields.Meter 1024 with_meter_of d meters
+  with_ports ← section_in fields.Port 1024 with_port_of with_meters ports
+  section_in fields.Link 65536 with_link_of with_ports links
+
 -- the domain of a version: its meters, then its ports, then its links
 unfoldable pub domain_of : Version → SectionTables → Result Domain DomainFault
-domain_of version tables = do
-  with_meters ← section_in fields.Meter 1024 with_meter_of (bare version) tables.meters
-  with_ports ← section_in fields.Port 1024 with_port_of with_meters tables.ports
-  section_in fields.Link 65536 with_link_of with_ports tables.links
+domain_of version tables = with_parts_of (bare version) tables.meters tables.ports tables.links
 
--- the domain, and then its contracts
+-- the domain of a version, and then its contracts
+unfoldable pub parts_of : Version → SectionTables → Result (Domain × List Contract) DomainFault
+parts_of version tables = do
+  d ← domain_of version tables
+  contracts ← section_in fields.Contract 4096 (with_contract_of d) [] tables.contracts
+  Ok (d, contracts)
+
+-- the version first, then the sections
 unfoldable pub document_of : Members → Result (Domain × List Contract) DomainFault
 document_of members = do
   version ← top_of members
   tables ← sections_of members
-  d ← domain_of version tables
-  contracts ← section_in fields.Contract 4096 (with_contract_of d) [] tables.contracts
-  Ok (d, contracts)
+  parts_of version tables
 
 -- a text that is not UTF-8, or not TOML
 abbrev pub no_text : DomainFault

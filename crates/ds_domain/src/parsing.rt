@@ -1,8 +1,8 @@
-ghost use Rattle.std.specs.Prelude.{◌≡◌, ◌⊎◌, map, Err, IfErr, IfOk, Ok};
+ghost use Rattle.std.specs.Prelude.{◌≡◌, ◌⊎◌, map, Err, IfErr, IfOk, Ok, OnOk};
 ghost use Rattle.std.specs.Str.{IsUtf8};
 ghost use Rattle.toml.specs.View.{table_view};
 ghost use Rattle.ds_domain_base.specs.Faults.{no_memory};
-ghost use Rattle.ds_domain.specs.DomainTexts.{document_of, domain_of, no_text, parse_of};
+ghost use Rattle.ds_domain.specs.DomainTexts.{document_of, domain_of, no_text, parse_of, parts_of, with_parts_of};
 ghost use Rattle.ds_domain.specs.DomainTexts.{section_of, sections_of, top_of};
 ghost use Rattle.ds_domain.specs.SectionViews.{tables_of};
 
@@ -75,7 +75,21 @@ fn document_of(alloc: Global, table: &Table) -> Result<(Domain, Vec<Contract>), 
 {
     let version = top_of(table)?;
     let sections = sections_of(alloc, table)?;
-    let domain = domain_of(alloc, version, &sections)?;
+    parts_of(alloc, version, &sections)
+}
+
+/// The domain and the contracts of a version and of sections.
+#[tactic(auto, unfolding(crate::specs::DomainTexts::parts_of))]
+fn parts_of(
+    alloc: Global,
+    version: Version,
+    sections: &Sections<'_>,
+) -> Result<(Domain, Vec<Contract>), DomainFault>
+    ensures ok { IfOk result (λ parsed. parts_of version (tables_of sections.now) ≡ Ok (parsed.0, parsed.1.items)) }
+    ensures refused { IfErr result (λ fault. (fault ≡ no_memory)
+        ⊎ (parts_of version (tables_of sections.now) ≡ Err fault)) }
+{
+    let domain = domain_of(alloc, version, sections)?;
     let contracts = contracts_of(alloc, &domain, sections.contracts.as_slice())?;
     Ok((domain, contracts))
 }
@@ -138,11 +152,32 @@ fn domain_of(
         ⊎ (domain_of version (tables_of sections.now) ≡ Err fault)) }
 {
     let mut domain = Domain::new(alloc, version);
-    let meters = sections.meters.as_slice();
-    Meters.add_section(Field::Meter, Domain::MOST_METERS, &mut domain, meters)?;
-    let ports = sections.ports.as_slice();
-    Ports.add_section(Field::Port, Domain::MOST_PORTS, &mut domain, ports)?;
-    let links = sections.links.as_slice();
-    Links.add_section(Field::Link, Domain::MOST_LINKS, &mut domain, links)?;
+    add_parts(
+        &mut domain,
+        sections.meters.as_slice(),
+        sections.ports.as_slice(),
+        sections.links.as_slice(),
+    )?;
     Ok(domain)
+}
+
+/// Adds meters, then ports, then links to a domain.
+#[tactic(auto, unfolding(crate::specs::DomainTexts::with_parts_of))]
+fn add_parts(
+    domain: &mut Domain,
+    meters: &[&Table],
+    ports: &[&Table],
+    links: &[&Table],
+) -> Result<(), DomainFault>
+    ensures added { OnOk result (with_parts_of domain.old (map (λ table. table_view table.now) meters.now)
+        (map (λ table. table_view table.now) ports.now) (map (λ table. table_view table.now) links.now)
+        ≡ Ok domain.new) }
+    ensures refused { IfErr result (λ fault. (fault ≡ no_memory)
+        ⊎ (with_parts_of domain.old (map (λ table. table_view table.now) meters.now)
+        (map (λ table. table_view table.now) ports.now) (map (λ table. table_view table.now) links.now)
+        ≡ Err fault)) }
+{
+    Meters.add_section(Field::Meter, Domain::MOST_METERS, domain, meters)?;
+    Ports.add_section(Field::Port, Domain::MOST_PORTS, domain, ports)?;
+    Links.add_section(Field::Link, Domain::MOST_LINKS, domain, links)
 }

@@ -5,7 +5,7 @@ use std::alloc::{AllocError, AllocFailed};
 use thiserror::Error;
 
 /// What is wrong with a domain or a contract.
-#[derive(Clone, Copy, Debug, PartialEq, Eq, Hash, Drop, Error)]
+#[derive(Clone, Copy, Debug, PartialEq, Eq, Drop, Error)]
 pub enum Kind {
     /// The text is not TOML, or not UTF-8.
     #[error("the text is not TOML")]
@@ -60,7 +60,7 @@ impl Kind {
 }
 
 /// Where in a domain a fault lies.
-#[derive(Clone, Copy, Debug, PartialEq, Eq, Hash)]
+#[derive(Clone, Copy, Debug, PartialEq, Eq)]
 pub enum Section {
     /// The text as a whole.
     Text,
@@ -93,7 +93,7 @@ impl Section {
 }
 
 /// A key of the domain text.
-#[derive(Clone, Copy, Debug, PartialEq, Eq, Hash)]
+#[derive(Clone, Copy, Debug, PartialEq, Eq)]
 pub enum Field {
     /// No key of the format.
     Empty,
@@ -201,7 +201,7 @@ impl Field {
 }
 
 /// The first fault of a domain or a contract.
-#[derive(Clone, Copy, Debug, PartialEq, Eq, Hash, Drop, Error)]
+#[derive(Clone, Copy, Debug, PartialEq, Eq, Drop, Error)]
 #[error("{kind}")]
 pub struct DomainFault {
     /// What is wrong.

@@ -16,6 +16,7 @@ pub use contract::Contract;
 pub use domain::Domain;
 pub use fault::{DomainFault, Field, Kind, Section};
 pub use fit::{MOST_HOPS, fits};
+pub use meter_book_base::Parameters;
 pub use name::{Name, is_name};
 pub use parts::{Link, Meter, Port, Version};
 pub use path::Path;

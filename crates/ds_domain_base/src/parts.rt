@@ -8,7 +8,7 @@ use meter_book_base::AnyMeter;
 use moment_core::{Mode, Moment};
 
 /// The version of a domain's text.
-#[derive(Clone, Copy, Debug, PartialEq, Eq, Hash)]
+#[derive(Clone, Copy, Debug, PartialEq, Eq)]
 pub enum Version {
     /// The first.
     One,
@@ -18,7 +18,7 @@ pub enum Version {
 }
 
 /// A meter inside the domain. It heeds the colours that packets come in with.
-#[derive(Clone, Copy, Debug, PartialEq, Eq, Hash)]
+#[derive(Clone, Copy, Debug, PartialEq, Eq)]
 pub struct Meter {
     /// Its parameters.
     pub parameters: SoundParameters,
@@ -38,14 +38,14 @@ impl Meter {
 }
 
 /// A port, at which packets enter the domain.
-#[derive(Clone, Copy, Debug, PartialEq, Eq, Hash)]
+#[derive(Clone, Copy, Debug, PartialEq, Eq)]
 pub struct Port {
     /// By how much packets may arrive there out of order.
     pub skew: Delay,
 }
 
 /// A link to a meter. A packet is on it for the floor at least, and for the floor and the jitter at most.
-#[derive(Clone, Copy, Debug, PartialEq, Eq, Hash)]
+#[derive(Clone, Copy, Debug, PartialEq, Eq)]
 pub struct Link {
     /// The least delay.
     pub floor: Delay,

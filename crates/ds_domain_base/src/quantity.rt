@@ -6,7 +6,7 @@ use moment_core::{Gap, Moment, OutOfRange};
 use std::marker::Model;
 
 /// The floor or the jitter of a link, or the skew of a port or a meter, in nanoseconds: 0 to 10^10.
-#[derive(Clone, Copy, Debug, PartialEq, Eq, PartialOrd, Ord, Hash)]
+#[derive(Clone, Copy, Debug, PartialEq, Eq, PartialOrd, Ord)]
 pub struct Delay {
     nanoseconds: u64,
 }
@@ -54,7 +54,7 @@ impl Delay {
 }
 
 /// When a contract may send: from a moment on, until another that is not included, if there is one.
-#[derive(Clone, Copy, Debug, PartialEq, Eq, Hash)]
+#[derive(Clone, Copy, Debug, PartialEq, Eq)]
 pub struct Lifetime {
     since: Moment,
     until: Option<Moment>,

@@ -7,7 +7,7 @@ use moment_core::{Mode, Moment, Rate};
 use std::marker::Model;
 
 /// The parameters of a meter of any kind, with nothing wrong with them.
-#[derive(Clone, Copy, Debug, PartialEq, Eq, Hash)]
+#[derive(Clone, Copy, Debug, PartialEq, Eq)]
 pub struct SoundParameters {
     parameters: Parameters,
 }
@@ -57,7 +57,7 @@ impl SoundParameters {
 
 /// A rate and a burst that a contract's traffic keeps: any window of time has at most the burst and what the rate gives
 /// over the window (Cruz 1991, section II).
-#[derive(Clone, Copy, Debug, PartialEq, Eq, Hash)]
+#[derive(Clone, Copy, Debug, PartialEq, Eq)]
 pub struct Profile {
     /// The rate.
     pub rate: Rate,
@@ -67,7 +67,7 @@ pub struct Profile {
 
 /// What a trusted contract's green and yellow packets keep, and what its yellow packets keep on their own, if that is
 /// said.
-#[derive(Clone, Copy, Debug, PartialEq, Eq, Hash)]
+#[derive(Clone, Copy, Debug, PartialEq, Eq)]
 pub struct Peak {
     /// What its green and yellow packets keep.
     pub profile: Profile,
@@ -76,7 +76,7 @@ pub struct Peak {
 }
 
 /// What a contract is trusted with, or held to.
-#[derive(Clone, Copy, Debug, PartialEq, Eq, Hash)]
+#[derive(Clone, Copy, Debug, PartialEq, Eq)]
 pub enum Terms {
     /// Its traffic is coloured and shaped before it comes in.
     Trusted {

@@ -1,30 +1,18 @@
 //! `dsedge`: a traffic conditioner for the edge of a DiffServ domain (RFC 2475).
 #![tactic(auto)]
 
-#[cfg(test)]
-mod advice_tests;
 mod advising;
-#[cfg(test)]
-mod drive_tests;
-#[cfg(test)]
-mod excess_tests;
-#[cfg(test)]
-mod mark_tests;
 mod screen;
-mod start;
-#[cfg(test)]
-mod tests;
 mod watch;
 mod watched;
 
 use crate::advising::advice_text;
 use crate::screen::Screen;
-use crate::start::{refuse, start};
 use crate::watch::Watch;
 use crate::watched::{WatchedIntake, WatchedOutlet};
 use dsedge_base::explanation;
 use dsedge_lines::Words;
-use dsedge_serve::{Advice, Ended, Fault};
+use dsedge_serve::{Advice, Ended, Fault, refuse, start};
 use dsedge_texts::SystemFolder;
 use pcap_capture::{ReadIntake, WriteOutlet, give_all};
 use std::alloc::Global;

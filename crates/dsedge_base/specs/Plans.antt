@@ -1,5 +1,5 @@
 -- What words ask for.
-use Rattle.std.specs.Prelude.{◌≡◌, ◌≢◌, ◌⊎◌, List, [], codes, Option, None, Some, option_and_then, if◌then◌else◌}
+use Rattle.std.specs.Prelude.{◌≡◌, ◌⊎◌, List, [], codes, Option, None, Some, option_and_then, if◌then◌else◌}
 use Rattle.std.specs.Str.{bytes_eq}
 use Rattle.clap.specs.Words.{IsAmong, Row, Text, fault_of, first_of, subcommand_of}
 use Rattle.clap.specs.declared.error.kind.ErrorKind.{ErrorKind}
@@ -15,6 +15,13 @@ use Rattle.dsedge_base.specs.declared.work.Plan.TheVariants.{Audit, Certify, Che
 abbrev pub given_by : List Row → Given
 given_by rows name = first_of name rows
 
+-- what `check` and `audit` ask for with their words
+abbrev pub check_given : Given → Option Plan
+check_given given = table_given given >>= (λ files. Some (Check files.0 files.1))
+
+abbrev pub audit_given : Given → Option Plan
+audit_given given = table_given given >>= (λ files. Some (Audit files.0 files.1))
+
 -- what `mark` asks for with its options
 unfoldable pub mark_given : Given → Option Plan
 mark_given given = do
@@ -29,8 +36,8 @@ plan_of c =
     else if bytes_eq c.0 (codes "envelope") then envelope_given (given_by c.1) >>= (λ e. Some (Envelope e.0 e.1))
     else if bytes_eq c.0 (codes "certify") then given_by c.1 (codes "domain") >>= (λ domain. Some (Certify domain))
     else if bytes_eq c.0 (codes "drive") then given_by c.1 (codes "domain") >>= (λ domain. Some (Drive domain))
-    else if bytes_eq c.0 (codes "check") then table_given (given_by c.1) >>= (λ files. Some (Check files.0 files.1))
-    else if bytes_eq c.0 (codes "audit") then table_given (given_by c.1) >>= (λ files. Some (Audit files.0 files.1))
+    else if bytes_eq c.0 (codes "check") then check_given (given_by c.1)
+    else if bytes_eq c.0 (codes "audit") then audit_given (given_by c.1)
     else if bytes_eq c.0 (codes "mark") then mark_given (given_by c.1)
     else None
 

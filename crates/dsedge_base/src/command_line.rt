@@ -1,27 +1,48 @@
-ghost use Rattle.std.specs.Prelude.{◌≡◌, IfOk, true, false};
-ghost use Rattle.clap.specs.Words.{app_of, rule_of};
+ghost use Rattle.std.specs.Prelude.{◌≡◌, IfOk, false};
+ghost use Rattle.clap.specs.Words.{app_of, rule_of, with_subcommand};
 ghost use Rattle.clap.specs.declared.builder.command.Command.TheViews.{out-Command as fields_of};
-ghost use Rattle.dsedge_base.specs.CommandLine.{audit, certify, check, drive, dsedge, envelope, mark, meter, on_table};
-ghost use Rattle.dsedge_base.specs.CommandLine.{optional, positional, program, required};
+ghost use Rattle.dsedge_base.specs.CommandLine.{dsedge, program};
+ghost use Rattle.dsedge_base.specs.CommandTable.{app_in, rule_in, with_commands};
 
+use crate::command_table::{ArgumentEntry, CommandEntry, Form, commands};
 use clap::{Arg, Command};
 use std::alloc::{AllocError, Global};
 
-/// The version of `dsedge`, and the kit that proved it.
-const VERSION: &str = "0.1.0\nrattle-kit-13f logic dac8208d650f15bf";
+/// The version of `dsedge`, and the logic that it is proved with, as `rt version` names it whatever the kit's letter.
+const VERSION: &str = "0.1.0\nlogic dac8208d650f15bf";
 
 /// The command line of `dsedge`.
 pub(crate) fn command_line<'a>(alloc: Global) -> Result<Command<'a>, AllocError>
     ensures { IfOk result (λ command. app_of command ≡ dsedge) }
 {
-    program(alloc)?
-        .subcommand(meter_command(alloc)?)?
-        .subcommand(envelope_command(alloc)?)?
-        .subcommand(certify_command(alloc)?)?
-        .subcommand(check_command(alloc)?)?
-        .subcommand(audit_command(alloc)?)?
-        .subcommand(drive_command(alloc)?)?
-        .subcommand(mark_command(alloc)?)
+    with_each(alloc, program(alloc)?, commands())
+}
+
+/// A command, with these commands below it.
+fn with_each<'a>(
+    alloc: Global,
+    program: Command<'a>,
+    entries: &[CommandEntry],
+) -> Result<Command<'a>, AllocError>
+    ensures { IfOk result (λ command. app_of command ≡ with_commands (app_of program.entry) entries.now) }
+{
+    let mut command = program;
+    for entry in entries {
+        command = with_one(alloc, command, entry)?;
+    }
+    Ok(command)
+}
+
+/// A command, with this command below it.
+fn with_one<'a>(
+    alloc: Global,
+    program: Command<'a>,
+    entry: &CommandEntry,
+) -> Result<Command<'a>, AllocError>
+    ensures { IfOk result (λ command. app_of command ≡ with_subcommand (app_of program.entry) (app_in entry.now).top) }
+{
+    let command = command_of(alloc, entry)?;
+    program.subcommand(command)
 }
 
 /// `dsedge`, without its commands.
@@ -36,157 +57,29 @@ fn program<'a>(alloc: Global) -> Result<Command<'a>, AllocError>
         .bin_name("dsedge")
 }
 
-/// `dsedge meter`.
-fn meter_command<'a>(alloc: Global) -> Result<Command<'a>, AllocError>
-    ensures shape { IfOk result (λ command. app_of command ≡ meter) }
+/// A command with its words and options.
+fn command_of<'a>(alloc: Global, entry: &CommandEntry) -> Result<Command<'a>, AllocError>
+    ensures shape { IfOk result (λ command. app_of command ≡ app_in entry.now) }
     ensures local { IfOk result (λ command. (fields_of command).has_globals ≡ false) }
 {
-    let kind = "the meter: srtcm (RFC 2697), trtcm (RFC 2698) or rfc4115 (RFC 4115)";
-    let mode = "whether it heeds the colour that a packet comes in with: blind or aware";
-    let origin = "when the meter begins with full buckets, in nanoseconds [default: 0]";
-    Command::new(alloc, "meter")
-        .about("Meters the arrivals on standard input: lines MOMENT SIZE COLOUR, colour g, y or r.")
-        .arg(needed(alloc, "kind", "KIND", kind))?
-        .arg(needed(alloc, "mode", "MODE", mode))?
-        .arg(needed(
-            alloc,
-            "cir",
-            "RATE",
-            "committed information rate, in bits per second",
-        ))?
-        .arg(needed(alloc, "cbs", "BYTES", "committed burst size"))?
-        .arg(choice(
-            alloc,
-            "pir",
-            "RATE",
-            "peak information rate, in bits per second (trtcm)",
-        ))?
-        .arg(choice(alloc, "pbs", "BYTES", "peak burst size (trtcm)"))?
-        .arg(choice(
-            alloc,
-            "eir",
-            "RATE",
-            "excess information rate, in bits per second (rfc4115)",
-        ))?
-        .arg(choice(alloc, "ebs", "BYTES", "excess burst size (srtcm, rfc4115)"))?
-        .arg(choice(alloc, "origin", "MOMENT", origin))
+    let mut command = Command::new(alloc, entry.name).about(entry.about);
+    for argument in entry.arguments {
+        command = command.arg(argument_of(alloc, argument))?;
+    }
+    Ok(command)
 }
 
-/// `dsedge envelope`.
-fn envelope_command<'a>(alloc: Global) -> Result<Command<'a>, AllocError>
-    ensures shape { IfOk result (λ command. app_of command ≡ envelope) }
-    ensures local { IfOk result (λ command. (fields_of command).has_globals ≡ false) }
-{
-    let rate = "the rate that the packets may keep up, in bits per second";
-    let burst = "the bytes that they may send beyond it, at any time";
-    Command::new(alloc, "envelope")
-        .about("Tests whether the packets on standard input, lines MOMENT SIZE, keep an envelope.")
-        .arg(needed(alloc, "rate", "RATE", rate))?
-        .arg(needed(alloc, "burst", "BYTES", burst))
-}
-
-/// `dsedge certify`.
-fn certify_command<'a>(alloc: Global) -> Result<Command<'a>, AllocError>
-    ensures shape { IfOk result (λ command. app_of command ≡ certify) }
-    ensures local { IfOk result (λ command. (fields_of command).has_globals ≡ false) }
-{
-    let domain = "the domain: a TOML text of meters, ports, links and contracts";
-    Command::new(alloc, "certify")
-        .about("Prints the least certificate of the contracts of a domain.")
-        .arg(word(alloc, "domain", "DOMAIN", domain))
-}
-
-/// `dsedge check`.
-fn check_command<'a>(alloc: Global) -> Result<Command<'a>, AllocError>
-    ensures shape { IfOk result (λ command. app_of command ≡ check) }
-    ensures local { IfOk result (λ command. (fields_of command).has_globals ≡ false) }
-{
-    let about = "Checks a certificate: accepted, or the first test that fails.";
-    table_command(alloc, "check", about)
-}
-
-/// `dsedge audit`.
-fn audit_command<'a>(alloc: Global) -> Result<Command<'a>, AllocError>
-    ensures shape { IfOk result (λ command. app_of command ≡ audit) }
-    ensures local { IfOk result (λ command. (fields_of command).has_globals ≡ false) }
-{
-    let about =
-        "Judges the run on standard input: lines send CONTRACT PACKET SIZE DSCP MOMENT and visit PACKET MOMENT.";
-    table_command(alloc, "audit", about)
-}
-
-/// `dsedge drive`.
-fn drive_command<'a>(alloc: Global) -> Result<Command<'a>, AllocError>
-    ensures shape { IfOk result (λ command. app_of command ≡ drive) }
-    ensures local { IfOk result (λ command. (fields_of command).has_globals ≡ false) }
-{
-    let about =
-        "Sells a domain's contracts: lines reserve NAME, release ID MOMENT, retire ID MOMENT, list and look.";
-    let domain = "the domain: a TOML text of meters, ports, links and contracts";
-    Command::new(alloc, "drive")
-        .about(about)
-        .arg(word(alloc, "domain", "DOMAIN", domain))
-}
-
-/// `dsedge mark`.
-fn mark_command<'a>(alloc: Global) -> Result<Command<'a>, AllocError>
-    ensures shape { IfOk result (λ command. app_of command ≡ mark) }
-    ensures local { IfOk result (λ command. (fields_of command).has_globals ≡ false) }
-{
-    let about =
-        "Marks the capture on standard input by the meters that its packets pass, and reports on standard error.";
-    let port = "the port that the frames come in at";
-    let workers = "how many workers mark: 1";
-    let red = "what is done with red frames: keep or drop";
-    table_command(alloc, "mark", about)?
-        .arg(needed(alloc, "port", "PORT", port))?
-        .arg(needed(alloc, "workers", "WORKERS", workers))?
-        .arg(needed(alloc, "red", "RULE", red))
-}
-
-/// A command on a domain and a certificate.
-fn table_command<'a>(
-    alloc: Global,
-    name: &'a str,
-    about: &'a str,
-) -> Result<Command<'a>, AllocError>
-    ensures shape { IfOk result (λ command. app_of command ≡ on_table name.entry.now) }
-    ensures local { IfOk result (λ command. (fields_of command).has_globals ≡ false) }
-{
-    let domain = "the domain: a TOML text of meters, ports, links and contracts";
-    let certificate = "the certificate of its contracts, as certify prints one";
-    Command::new(alloc, name)
-        .about(about)
-        .arg(word(alloc, "domain", "DOMAIN", domain))?
-        .arg(word(alloc, "certificate", "CERTIFICATE", certificate))
-}
-
-/// A word that has to be given.
-fn word<'a>(alloc: Global, name: &'a str, value: &'a str, help: &'a str) -> Arg<'a>
-    ensures rule { rule_of result ≡ positional name.entry.now }
+/// A word or an option of a command.
+fn argument_of<'a>(alloc: Global, entry: &ArgumentEntry) -> Arg<'a>
+    ensures rule { rule_of result ≡ rule_in entry.now }
     ensures local { result.global ≡ false }
 {
-    Arg::new(alloc, name)
-        .value_name(value)
-        .help(help)
-        .required(true)
-}
-
-/// An option that may be left out.
-fn choice<'a>(alloc: Global, name: &'a str, value: &'a str, help: &'a str) -> Arg<'a>
-    ensures rule { rule_of result ≡ optional name.entry.now }
-    ensures local { result.global ≡ false }
-{
-    Arg::new(alloc, name)
-        .long(name)
-        .value_name(value)
-        .help(help)
-}
-
-/// An option that has to be given.
-fn needed<'a>(alloc: Global, name: &'a str, value: &'a str, help: &'a str) -> Arg<'a>
-    ensures rule { rule_of result ≡ required name.entry.now }
-    ensures local { result.global ≡ false }
-{
-    choice(alloc, name, value, help).required(true)
+    let argument = Arg::new(alloc, entry.name)
+        .value_name(entry.value)
+        .help(entry.help);
+    match entry.form {
+        Form::Word => argument.required(true),
+        Form::Needed => argument.long(entry.name).required(true),
+        Form::Choice => argument.long(entry.name),
+    }
 }

@@ -2,6 +2,7 @@
 #![tactic(auto)]
 
 mod command_line;
+mod command_table;
 mod fault;
 mod options;
 mod words;

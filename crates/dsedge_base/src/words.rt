@@ -1,6 +1,7 @@
 ghost use Rattle.std.specs.Prelude.{◌≡◌, ◌≢◌, IfErr, IfOk, IsSome, map, option_and_then};
 ghost use Rattle.clap.specs.Words.{found_of, kind_of, rows_of, subcommand_rows_of};
-ghost use Rattle.dsedge_base.specs.Plans.{IsMalformed, IsPlanOf, IsRefusalOf, IsShown, IsWish, given_by, mark_given, plan_of};
+ghost use Rattle.dsedge_base.specs.Plans.{IsMalformed, IsPlanOf, IsRefusalOf, IsShown, IsWish, audit_given};
+ghost use Rattle.dsedge_base.specs.Plans.{check_given, given_by, mark_given, plan_of};
 
 use crate::command_line::command_line;
 use crate::fault::UsageFault;
@@ -76,23 +77,33 @@ fn asked_of<'a>(name: &str, options: &ArgMatches<'a>) -> Option<Plan<'a>>
             let domain = name_in(options, "domain")?;
             Some(Plan::Drive { domain })
         }
-        "check" => {
-            let (domain, certificate) = table_in(options)?;
-            Some(Plan::Check {
-                domain,
-                certificate,
-            })
-        }
-        "audit" => {
-            let (domain, certificate) = table_in(options)?;
-            Some(Plan::Audit {
-                domain,
-                certificate,
-            })
-        }
+        "check" => check_asked(options),
+        "audit" => audit_asked(options),
         "mark" => mark_asked(options),
         _ => None,
     }
+}
+
+/// What `check` asks for with its words.
+fn check_asked<'a>(options: &ArgMatches<'a>) -> Option<Plan<'a>>
+    ensures { result ≡ check_given (given_by (rows_of (found_of options.now))) }
+{
+    let (domain, certificate) = table_in(options)?;
+    Some(Plan::Check {
+        domain,
+        certificate,
+    })
+}
+
+/// What `audit` asks for with its words.
+fn audit_asked<'a>(options: &ArgMatches<'a>) -> Option<Plan<'a>>
+    ensures { result ≡ audit_given (given_by (rows_of (found_of options.now))) }
+{
+    let (domain, certificate) = table_in(options)?;
+    Some(Plan::Audit {
+        domain,
+        certificate,
+    })
 }
 
 /// What `mark` asks for with its options.

@@ -57,8 +57,8 @@ impl<'a, J: Naming, R: Wait + Drop> DriveCommand<'a, J, R> {
         ensures { IfOk result (λ command.
             command ≡ record { offered = contracts.entry.now; book = opening_book domain }) }
     {
-        let offers = Offers::new(alloc, contracts)?;
         let shop = Shop::open(alloc, rt, opened, domain, limits())?;
+        let offers = Offers::new(alloc, contracts)?;
         Ok(DriveCommand {
             alloc,
             offers,

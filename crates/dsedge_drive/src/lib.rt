@@ -9,3 +9,4 @@ mod shop;
 mod sight;
 
 pub use command::DriveCommand;
+pub use ds_desk::{Naming, Opened};

@@ -1,9 +1,11 @@
 -- An answer that is written a part at a time.
-use Rattle.std.proofs.Common.{◌≡◌, ℕ, ◌+◌, List, [], ◌++◌, take, drop, Bool, true, false, cond, ◌<◌, ◌≤◌, arith, Result, Ok, Err, MatchResult, OnErr, sym, ap, ◌∙◌, append_assoc, append-nil, take-append-drop}
+use Rattle.std.proofs.Common.{◌≡◌, ℕ, ◌+◌, List, [], ◌++◌, take, drop, Bool, true, false, cond, ◌<◌, ◌≤◌, arith, Result, Ok, Err, MatchResult, OnErr, IfOk, ◌⊎◌, inl, inr, refl, subst, sym, ap, ◌∙◌, append_assoc, append-nil, take-append-drop}
 use Rattle.pcap_capture.specs.Counts.{next_count}
 use Rattle.dsedge_lines.specs.declared.command.Ending.{Ending}
 use Rattle.dsedge_lines.specs.declared.fault.PumpFault.{PumpFault}
+use Rattle.dsedge_lines.specs.declared.fault.PumpFault.TheVariants.{Read, Write, NoMemory}
 use Rattle.dsedge_lines.specs.Answers.{Answer, behind, BeginsWith}
+use Rattle.dsedge_lines.specs.Faults.{is_read_fault, is_write_fault}
 
 -- behind two texts, one after the other
 pub behind-append : (front back : List ℕ) (answer : Answer) → behind (front ++ back) answer ≡ behind front (behind back answer)
@@ -41,6 +43,36 @@ pub front-settled : (result : Result Ending PumpFault) (first held last written 
 front-settled (Ok ending) first held last written out whole all m h begins e = tt
 front-settled (Err fault) first held last written out whole all m h begins e =
     (written ++ take m.0 out, BeginsWith-given written out whole all m.0 begins e, held-append first held last written (take m.0 out) h m.1)
+
+-- where it does not, and the answer ends behind what is left, the whole answer is written
+pub whole-settled : (result : Result Ending PumpFault) (ending : Ending) (first held last written out : List ℕ) (whole all : Answer) → (is_write_fault result ≡ true) ⊎ (result ≡ Ok ending)
+    → MatchResult result (λ _. last ≡ held ++ out) (λ _. (given : ℕ) × (last ≡ held ++ take given out)) → held ≡ first ++ written → record { text = out; ending = ending } ≡ whole
+    → behind written whole ≡ all → IfOk result (λ told. (last ≡ first ++ all.text) × (told ≡ all.ending))
+whole-settled (Ok told) ending first held last written out whole all (inl write) m h is e = absurd cc
+whole-settled (Ok told) ending first held last written out whole all (inr same) m h is e =
+    let own : told ≡ ending = cc in (
+      held-append first held last written out h m ∙ ap (λ text. first ++ text) (ap (λ (a : Answer). written ++ a.text) is ∙ ap (λ (a : Answer). a.text) e),
+      own ∙ ap (λ (a : Answer). a.ending) is ∙ ap (λ (a : Answer). a.ending) e,
+    )
+whole-settled (Err fault) ending first held last written out whole all why m h is e = tt
+
+-- a fault is not answered as an ending
+pub none-settled : (P : Ending → Type 0) (result : Result Ending PumpFault) (fault : PumpFault) → (is_write_fault result ≡ true) ⊎ (result ≡ Err fault) → IfOk result P
+none-settled P (Ok told) fault (inl write) = absurd cc
+none-settled P (Ok told) fault (inr same) = absurd cc
+none-settled P (Err other) fault why = tt
+
+-- nor is a read fault, where none was found
+pub settled-unread : (result found : Result Ending PumpFault) → (is_write_fault result ≡ true) ⊎ (result ≡ found) → is_read_fault found ≡ false → is_read_fault result ≡ false
+settled-unread (Ok told) found why unread = refl
+settled-unread (Err Read) found (inl write) unread = absurd cc
+settled-unread (Err Read) found (inr same) unread = ap (λ (r : Result Ending PumpFault). is_read_fault r) same ∙ unread
+settled-unread (Err Write) found why unread = refl
+settled-unread (Err NoMemory) found why unread = refl
+
+-- a count that a test may have moved, from what it was before
+pub settled-failures : (test : Bool) (new middle old : ℕ) → middle ≡ old → new ≡ cond test (next_count middle) middle → new ≡ cond test (next_count old) old
+settled-failures test new middle old same e = subst (λ n. new ≡ cond test (next_count n) n) same e
 
 -- a turn before the last
 pub turn-le : (turn turns : ℕ) → turn < turns → turn + 1 ≤ turns

@@ -109,11 +109,43 @@ pub fn pump<C: Command, I: Intake, O: Outlet>(
         number: 1,
         out: Vec::new(alloc),
     };
+    pump_through(command, &mut progress, intake, outlet, &mut piece, turns)
+}
+
+/// The same, where nothing was answered so far, by way of a piece.
+fn pump_through<C: Command, I: Intake, O: Outlet>(
+    command: &mut C,
+    progress: &mut Progress,
+    intake: &mut I,
+    outlet: &mut O,
+    piece: &mut Vec<u8>,
+    turns: u64,
+) -> Result<Ending, PumpFault>
+    requires turns { turns ≤ 2 ^ 32 }
+    requires room { vec_len piece.old ≡ 65536 }
+    requires number { progress.old.number ≡ 1 }
+    requires carry { progress.old.carry.items ≡ [] }
+    requires out { progress.old.out.items ≡ [] }
+    ensures whole { I.tells intake.old → O.tells outlet.old → IfOk result (λ ending.
+        let whole = C.answer command.old 1 (lines_of (I.left intake.old)) in
+        (O.held outlet.new ≡ O.held outlet.old ++ whole.text) × (ending ≡ whole.ending)) }
+    ensures front { I.tells intake.old → O.tells outlet.old → OnErr result (
+        let whole = C.answer command.old 1 (lines_of (I.left intake.old)) in
+        (front : List ℕ) × BeginsWith whole front × (O.held outlet.new ≡ O.held outlet.old ++ front)) }
+    ensures write { O.failed outlet.new
+        ≡ (if is_write_fault result then next_count (O.failed outlet.old) else O.failed outlet.old) }
+    ensures read { is_read_fault result ≡ true → (I.failed intake.new ≡ next_count (I.failed intake.old))
+        ⊎ ((I.failed intake.new ≡ I.failed intake.old)
+        × (I.turns intake.new ≡ count_after turns (I.turns intake.old))) }
+    ensures no_read { is_read_fault result ≡ false → I.failed intake.new ≡ I.failed intake.old }
+    ensures asked { (asked : ℕ) × (asked ≤ turns)
+        × (I.turns intake.new ≡ count_after asked (I.turns intake.old)) }
+{
     for _turn in 0..turns {
         let Ok(()) = hand_over(outlet, &mut progress.out) else {
             return Err(PumpFault::Write);
         };
-        match answer_next(command, &mut progress, intake, &mut piece) {
+        match answer_next(command, progress, intake, piece) {
             Ok(None) => {}
             Ok(Some(ending)) => return settle(outlet, &mut progress.out, Ok(ending)),
             Err(PumpFault::NoMemory) => return settle(

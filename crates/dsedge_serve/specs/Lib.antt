@@ -3,3 +3,4 @@ pub mod Advised
 pub mod Faults
 pub mod Marked
 pub mod Served
+pub mod Started

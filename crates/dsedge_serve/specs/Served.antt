@@ -22,7 +22,7 @@ use Rattle.dsedge_lines.specs.Faults.{is_read_fault, is_write_fault}
 use Rattle.dsedge_meter.specs.Metered.{answer_of, fresh_meter}
 use Rattle.dsedge_meter.specs.Verdicts.{envelope_for, verdict_on}
 use Rattle.ds_checker.specs.Acceptance.{Table}
-use Rattle.ds_conductor_base.specs.Steps.{opened}
+use Rattle.ds_conductor.specs.Steps.{opened}
 use Rattle.dsedge_audit.specs.Audited.{audit_from}
 use Rattle.dsedge_drive.specs.Driven.{driven}
 use Rattle.dsedge_texts.specs.Accepted.{accepted_in}

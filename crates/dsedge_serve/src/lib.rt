@@ -1,4 +1,4 @@
-//! What the program does for a plan: what it answers, what it tells and how it ends.
+//! What the program does for its words, and for the plan that they are: what it answers, what it tells and how it ends.
 #![tactic(auto)]
 
 mod advice;
@@ -11,9 +11,11 @@ mod parts;
 mod report;
 mod selling;
 mod serving;
+mod starting;
 
 pub use advice::{Advice, Ended};
 pub use conclusion::Conclusion;
 pub use fault::Fault;
 pub use outcome::Outcome;
 pub use serving::serve;
+pub use starting::{refuse, start};

@@ -8,9 +8,8 @@ ghost use Rattle.dsedge_serve.specs.declared.outcome.Outcome.{Outcome};
 
 use crate::conclusion::Conclusion;
 use crate::serving::answer_lines;
-use ds_desk::{Naming, Opened};
 use ds_domain::{Contract, Domain, DomainFault, Kind, parse};
-use dsedge_drive::DriveCommand;
+use dsedge_drive::{DriveCommand, Naming, Opened};
 use dsedge_lines::PumpFault;
 use pcap_capture::{Intake, Outlet};
 use std::alloc::Global;

@@ -8,7 +8,7 @@ ghost use Rattle.dsedge_serve.specs.Served.{status_after, status_for, told_after
 ghost use Rattle.dsedge_serve.specs.Advised.{advice_after, advice_for};
 ghost use Rattle.dsedge_serve.specs.Marked.{rule_said};
 ghost use Rattle.dsedge_serve.specs.declared.outcome.Outcome.{Outcome};
-ghost use Rattle.ds_conductor_base.specs.Steps.{opened};
+ghost use Rattle.ds_conductor.specs.Steps.{opened};
 ghost use Rattle.dsedge_audit.specs.Audited.{audit_from};
 ghost use Rattle.dsedge_texts.specs.Accepted.{accepted_in};
 ghost use Rattle.dsedge_texts.specs.Certified.{certified};

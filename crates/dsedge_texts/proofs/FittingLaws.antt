@@ -12,7 +12,7 @@ use Rattle.ds_domain_base.specs.declared.fault.DomainFault.{DomainFault}
 use Rattle.ds_domain_base.specs.declared.fault.Field.TheVariants as fields
 use Rattle.ds_domain_text.specs.Steps.{◌>>=◌, or_fail}
 use Rattle.ds_domain.specs.ContractEntries.{ContractText, contract_of, contract_terms, contract_text, next_contract, with_contract_of}
-use Rattle.ds_domain.specs.DomainTexts.{document_of, domain_of, no_text, parse_of, sections_of, top_of}
+use Rattle.ds_domain.specs.DomainTexts.{document_of, domain_of, no_text, parse_of, parts_of, sections_of, top_of}
 use Rattle.ds_domain.specs.Parts.{refused_by}
 use Rattle.ds_domain.specs.Sections.{few, in_turn, section_in}
 use Rattle.ds_domain.proofs.WayLemmas.{moved, way_fault-moved}
@@ -63,7 +63,7 @@ in_turn-fits d done (members ∷ entries) last good is =
     in_turn-fits d next.0 entries last (with_contract_of-fits d done members next.0 good next.1) next.2
 
 document_of-fits : (members : Members) (parsed : Domain × List Contract) → document_of members ≡ Ok parsed → list_all (fits parsed.0) parsed.1 ≡ true
-unfolding document_of section_in
+unfolding document_of parts_of section_in
 document_of-fits members parsed is =
     let top = step (top_of members) _ parsed is in
     let tables = step (sections_of members) _ parsed top.2 in

@@ -1,10 +1,12 @@
 ghost use Rattle.std.specs.Prelude.{◌≡◌, ◌⊎◌, Err, IfErr, IfOk, Ok};
 ghost use Rattle.ds_certificate.specs.Readings.{certificate_in};
 ghost use Rattle.ds_checker.specs.Acceptance.{refusal_of, table_of};
+ghost use Rattle.ds_domain_base.specs.Domains.{Domain};
 ghost use Rattle.dsedge_texts.specs.Accepted.{accepted_in, judged, tabled};
+ghost use Rattle.dsedge_texts.specs.Refused.{refusal_line};
 
 use crate::refusing::RefusalLine;
-use ds_certificate::{CertificateFault, fault_line, read};
+use ds_certificate::{Certificate, CertificateFault, fault_line, read};
 use ds_checker::{Accepted, Candidate, Refusal, check};
 use ds_domain::{Contract, Domain, DomainFault, Kind, parse};
 use std::alloc::Global;
@@ -60,7 +62,7 @@ fn accept_parsed(
     ensures refused { IfErr result (λ fault. (fault ≡ TableFault.NoMemory)
         ⊎ (tabled (domain, contracts.items) certificate.now ≡ Err fault)) }
 {
-    match read(alloc, certificate, contracts.as_slice()) {
+    match certificate_said(alloc, certificate, contracts.as_slice()) {
         Ok(certificate) => judge(
             alloc,
             Candidate {
@@ -69,9 +71,25 @@ fn accept_parsed(
                 certificate,
             },
         ),
+        Err(fault) => Err(fault),
+    }
+}
+
+/// The certificate that a text says of some contracts.
+fn certificate_said(
+    alloc: Global,
+    text: &[u8],
+    contracts: &[Contract],
+) -> Result<Certificate, TableFault>
+    ensures ok { IfOk result (λ certificate. certificate_in contracts.now text.now ≡ Ok certificate) }
+    ensures refused { IfErr result (λ fault. (fault ≡ TableFault.NoMemory)
+        ⊎ ((domain : Domain) → tabled (domain, contracts.now) text.now ≡ Err fault)) }
+{
+    match read(alloc, text, contracts) {
+        Ok(certificate) => Ok(certificate),
         Err(CertificateFault::NoMemory) => Err(TableFault::NoMemory),
         Err(fault) => {
-            let line = fault_line(certificate, contracts.as_slice());
+            let line = fault_line(text, contracts);
             Err(TableFault::Certificate(FaultyLine { fault, line }))
         }
     }
@@ -85,12 +103,20 @@ fn judge(alloc: Global, candidate: Candidate) -> Result<Accepted, TableFault>
 {
     match check(alloc, candidate) {
         Ok(accepted) => Ok(accepted),
-        Err((_, Refusal::NoMemory)) => Err(TableFault::NoMemory),
-        Err((candidate, refusal)) => {
-            match RefusalLine::new(alloc, candidate.contracts.as_slice(), &refusal) {
-                Ok(line) => Err(TableFault::Refused(line)),
-                Err(_) => Err(TableFault::NoMemory),
-            }
-        }
+        Err((candidate, refusal)) => Err(told(alloc, candidate.contracts.as_slice(), refusal)),
+    }
+}
+
+/// The fault of a table that is refused, by the refusal of its contracts' certificate.
+fn told(alloc: Global, contracts: &[Contract], refusal: Refusal) -> TableFault
+    ensures memory { refusal ≡ Refusal.NoMemory → result ≡ TableFault.NoMemory }
+    ensures line { (result ≡ TableFault.NoMemory) ⊎ (result ≡ TableFault.Refused (refusal_line contracts.now refusal)) }
+{
+    if refusal == Refusal::NoMemory {
+        return TableFault::NoMemory;
+    }
+    match RefusalLine::new(alloc, contracts, &refusal) {
+        Ok(line) => TableFault::Refused(line),
+        Err(_) => TableFault::NoMemory,
     }
 }

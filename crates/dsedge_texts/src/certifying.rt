@@ -16,23 +16,24 @@ pub fn certify(alloc: Global, text: &[u8]) -> Result<Vec<u8>, DomainFault>
     ensures ok { IfOk result (λ certificate. certified text.now ≡ Ok certificate.items) }
     ensures refused { IfErr result (λ fault. (fault ≡ no_memory) ⊎ (certified text.now ≡ Err fault)) }
 {
-    let (domain, contracts) = match parse(alloc, text) {
-        Ok(parsed) => parsed,
-        Err(fault) => return Err(fault),
-    };
-    match least_text(alloc, &domain, contracts.as_slice()) {
-        Ok(certificate) => Ok(certificate),
-        Err(_) => Err(DomainFault::no_memory()),
+    match parse(alloc, text) {
+        Ok((domain, contracts)) => least_text(alloc, &domain, contracts.as_slice()),
+        Err(fault) => Err(fault),
     }
 }
 
 /// The text of the least certificate of contracts that fit a domain.
-fn least_text(alloc: Global, domain: &Domain, contracts: &[Contract]) -> Result<Vec<u8>, AllocError>
+fn least_text(
+    alloc: Global,
+    domain: &Domain,
+    contracts: &[Contract],
+) -> Result<Vec<u8>, DomainFault>
     requires { list_all (fits domain.now) contracts.now ≡ true }
-    ensures { IfOk result (λ text. text.items ≡ text_of contracts.now (least domain.now contracts.now)) }
+    ensures text { IfOk result (λ text. text.items ≡ text_of contracts.now (least domain.now contracts.now)) }
+    ensures memory { IfErr result (λ fault. fault ≡ no_memory) }
 {
     let certificate = least_certificate(alloc, domain, contracts)?;
-    text_of(alloc, &certificate, contracts)
+    Ok(text_of(alloc, &certificate, contracts)?)
 }
 
 /// The least certificate of contracts that fit a domain.

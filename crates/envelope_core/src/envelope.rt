@@ -8,7 +8,7 @@ use std::marker::Model;
 
 /// A rate in bits per second, 0 to 10^17, and a burst in bytes, 0 to 10^19. Traffic keeps it when in no window of time
 /// there are more bytes than the burst and what the rate gives over the window (Cruz 1991, section II).
-#[derive(Clone, Copy, Debug, PartialEq, Eq, Hash)]
+#[derive(Clone, Copy, Debug, PartialEq, Eq)]
 pub struct Envelope {
     rate: u64,
     burst: u64,

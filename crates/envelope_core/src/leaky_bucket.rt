@@ -13,7 +13,7 @@ const BYTE: u128 = TOKEN as u128;
 /// and a packet that would bring it above the envelope's burst overflows and stays out.
 ///
 /// Its level is in bit-nanoseconds: 8 000 000 000 of them are a byte, so nothing is divided and nothing rounded.
-#[derive(Clone, Copy, Debug, PartialEq, Eq, Hash)]
+#[derive(Clone, Copy, Debug)]
 pub struct LeakyBucket {
     envelope: Envelope,
     level: u128,

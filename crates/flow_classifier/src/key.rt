@@ -3,7 +3,7 @@ ghost use Rattle.std.specs.Prelude.{◌≡◌};
 use af_marker::{Dscp, Header};
 
 /// What rules ask of a packet.
-#[derive(Clone, Copy, Debug, PartialEq, Eq, Hash)]
+#[derive(Clone, Copy, Debug)]
 pub struct Key {
     /// The address that it comes from, the first byte in the highest bits.
     pub source: u32,

@@ -7,7 +7,7 @@ use af_marker::{Dscp, OutOfRange};
 use std::marker::Model;
 
 /// The IPv4 addresses that agree in their first bits (RFC 791 section 3.2; written `a.b.c.d/n`).
-#[derive(Clone, Copy, Debug, PartialEq, Eq, Hash)]
+#[derive(Clone, Copy, Debug, PartialEq, Eq)]
 pub struct Prefix {
     address: u32,
     length: u8,
@@ -110,7 +110,7 @@ impl Prefix {
 }
 
 /// The ports from a low to a high one, both included: 0 to 65,535 (RFC 768; RFC 9293 section 3.1).
-#[derive(Clone, Copy, Debug, PartialEq, Eq, Hash)]
+#[derive(Clone, Copy, Debug, PartialEq, Eq)]
 pub struct PortRange {
     low: u16,
     high: u16,
@@ -161,7 +161,7 @@ impl PortRange {
 }
 
 /// What a packet's header must show for a rule to hold; a part that is not given holds of every packet.
-#[derive(Clone, Copy, Debug, PartialEq, Eq, Hash)]
+#[derive(Clone, Copy, Debug, PartialEq, Eq)]
 pub struct Rule {
     /// Where the packet comes from.
     pub source: Option<Prefix>,

@@ -15,7 +15,7 @@ use std::simd::prelude::*;
 const TOGETHER: usize = 16;
 
 /// A rule, and the number of the flow whose packets it picks.
-#[derive(Clone, Copy, Debug, PartialEq, Eq, Hash)]
+#[derive(Clone, Copy, Debug, PartialEq, Eq)]
 pub struct FlowRule {
     /// The flow's number.
     pub flow: u32,

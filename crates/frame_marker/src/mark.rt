@@ -7,7 +7,7 @@ ghost use Rattle.frame_marker.specs.Marks.{IsMarkOf, mark_in};
 use af_marker::{Dscp, set_dscp};
 
 /// What marking needs of a frame whose header was read.
-#[derive(Clone, Copy, Debug, PartialEq, Eq, Hash)]
+#[derive(Clone, Copy, Debug)]
 pub struct Mark {
     /// Where the IPv4 packet starts, in bytes from the frame's front.
     pub start: usize,

@@ -5,7 +5,7 @@ use crate::mark::Mark;
 use af_marker::Header;
 
 /// What a frame is at a port.
-#[derive(Clone, Copy, Debug, PartialEq, Eq, Hash)]
+#[derive(Clone, Copy, Debug, PartialEq, Eq)]
 pub enum Sight {
     /// It has no IPv4 header that can be read.
     Skipped,
@@ -21,7 +21,7 @@ pub enum Sight {
 }
 
 /// A frame that was seen at a port.
-#[derive(Clone, Copy, Debug, PartialEq, Eq, Hash)]
+#[derive(Clone, Copy, Debug)]
 pub struct Seen {
     /// What it is.
     pub sight: Sight,

@@ -18,7 +18,7 @@ use std::mem;
 use thiserror::Error;
 
 /// Why a book did not note an arrival.
-#[derive(Clone, Copy, Debug, PartialEq, Eq, Hash, Drop, Error)]
+#[derive(Clone, Copy, Debug, PartialEq, Eq, Drop, Error)]
 pub enum NoteFault {
     /// It has as many open rows as it can take, or has given 2^44 places.
     #[error("the journal is full")]

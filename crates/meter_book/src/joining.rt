@@ -11,7 +11,7 @@ use std::alloc::{AllocError, Global};
 use thiserror::Error;
 
 /// Why chapters did not join.
-#[derive(Clone, Copy, Debug, PartialEq, Eq, Hash, Drop, Error)]
+#[derive(Clone, Copy, Debug, PartialEq, Eq, Drop, Error)]
 pub enum JoinFault {
     /// The chapter of this index does not stand where it belongs: it is the first and does not begin with the first row
     /// of a book, or it has another site than the one before, or does not open as that one closed. Of an empty list, 0.

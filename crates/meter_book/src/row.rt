@@ -4,7 +4,7 @@ use meter_book_base::AnyMeter;
 use moment_core::{Colour, Gap, Moment, PacketSize};
 
 /// A packet as it arrives at a meter.
-#[derive(Clone, Copy, Debug, PartialEq, Eq, Hash)]
+#[derive(Clone, Copy, Debug, PartialEq, Eq)]
 pub struct Arrival {
     /// The number of the packet.
     pub packet: u64,
@@ -23,7 +23,7 @@ pub struct Arrival {
 /// What a meter did with an arrival.
 // Its fields stand so that no gap between them has seven bytes, nor one behind them: such a gap is copied in two parts
 // that overlap, and a copy of the copy waits until all stores are done.
-#[derive(Clone, Copy, Debug, PartialEq, Eq, Hash)]
+#[derive(Clone, Copy, Debug, PartialEq, Eq)]
 pub struct Row {
     /// The number of the packet.
     pub packet: u64,

@@ -8,7 +8,7 @@ use thiserror::Error;
 use trtcm_core::{TrTcm, TrTcmFault, TrTcmParameters};
 
 /// The parameters of a meter of any kind.
-#[derive(Clone, Copy, Debug, PartialEq, Eq, Hash)]
+#[derive(Clone, Copy, Debug, PartialEq, Eq)]
 pub enum Parameters {
     /// Those of a single-rate three-colour meter (RFC 2697).
     SrTcm(SrTcmParameters),
@@ -19,7 +19,7 @@ pub enum Parameters {
 }
 
 /// Why parameters are not those of a meter.
-#[derive(Clone, Copy, Debug, PartialEq, Eq, Hash, Drop, Error)]
+#[derive(Clone, Copy, Debug, PartialEq, Eq, Drop, Error)]
 pub enum MeterFault {
     /// A burst size is 0 that must not be.
     #[error("a burst size is 0")]
@@ -43,7 +43,7 @@ impl MeterFault {
 }
 
 /// A meter of any kind, at work.
-#[derive(Clone, Copy, Debug, PartialEq, Eq, Hash)]
+#[derive(Clone, Copy, Debug, PartialEq, Eq)]
 pub enum AnyMeter {
     /// A single-rate three-colour meter (RFC 2697).
     SrTcm(SrTcm),

@@ -4,7 +4,7 @@ ghost use Rattle.meter_fabric.specs.Faults.{close_code, fit_code, shut_code};
 use thiserror::Error;
 
 /// Why a contract's meter was not put in a slot.
-#[derive(Clone, Copy, Debug, PartialEq, Eq, Hash, Drop, Error)]
+#[derive(Clone, Copy, Debug, PartialEq, Eq, Drop, Error)]
 pub enum FitFault {
     /// There is no slot of that number.
     #[error("there is no slot of that number")]
@@ -31,7 +31,7 @@ impl FitFault {
 }
 
 /// Why no chapter was cut.
-#[derive(Clone, Copy, Debug, PartialEq, Eq, Hash, Drop, Error)]
+#[derive(Clone, Copy, Debug, PartialEq, Eq, Drop, Error)]
 pub enum CutFault {
     /// Nothing stands at a site of that number.
     #[error("there is no site of that number")]
@@ -50,7 +50,7 @@ impl CutFault {
 }
 
 /// Why an edge was not shut.
-#[derive(Clone, Copy, Debug, PartialEq, Eq, Hash, Drop, Error)]
+#[derive(Clone, Copy, Debug, PartialEq, Eq, Drop, Error)]
 pub enum ShutFault {
     /// No meter was put in a slot of that number.
     #[error("there is no edge of that number")]
@@ -73,7 +73,7 @@ impl ShutFault {
 }
 
 /// Why a fabric gave no journals.
-#[derive(Clone, Copy, Debug, PartialEq, Eq, Hash, Drop, Error)]
+#[derive(Clone, Copy, Debug, PartialEq, Eq, Drop, Error)]
 pub enum CloseFault {
     /// A pass is missing.
     #[error("a pass is missing")]

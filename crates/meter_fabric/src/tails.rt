@@ -5,7 +5,7 @@ ghost use Rattle.meter_fabric.specs.Closing.{AreThere, IsFirstMissing};
 use meter_book::{Chapter, MeterBook};
 
 /// How far the chapters of a site join.
-#[derive(Clone, Copy, Debug)]
+#[derive(Clone, Copy)]
 pub(crate) enum Tail {
     /// There is none.
     Fresh,

@@ -5,8 +5,8 @@ use Rattle.std.proofs.lemmas.Bool.Decides.{nat_tests}
 use Rattle.ds_domain_base.specs.Domains.{Domain}
 use Rattle.ds_domain_base.specs.declared.contract.Contract.{Contract}
 use Rattle.ds_domain_base.specs.declared.fault.DomainFault.{DomainFault}
-use Rattle.ds_certificate.specs.Bounds.{IsCertificate, fits}
-use Rattle.ds_certificate.specs.Columns.{Bound}
+use Rattle.ds_checker.specs.Bounds.{IsCertificate, fits}
+use Rattle.ds_checker.specs.Columns.{Bound}
 use Rattle.ds_checker.specs.Acceptance.{IsAcceptable, Table}
 use Rattle.meter_fabric_base.specs.Grounds.{contract_of, ground_of, most_flows}
 use Rattle.meter_fabric_base.proofs.GroundLaws.{place_of}

@@ -2,7 +2,7 @@
 use Rattle.std.specs.Prelude.{◌^◌, ℕ, ◌+◌, ◌-◌, nat_lt, [], length, slice_get, option_and_then, option_map, Option, None}
 use Rattle.std.specs.Prelude.{if◌then◌else◌}
 use Rattle.moment_core.specs.declared.colour.Mode.TheVariants.{Aware}
-use Rattle.meter_book_base.specs.AnyMeter.{opening_of}
+use Rattle.meter_book.specs.AnyMeter.{opening_of}
 use Rattle.meter_book.specs.Replay.{Book, fresh}
 use Rattle.ds_domain_base.specs.Domains.{Domain, port_of, skew_of}
 use Rattle.ds_domain_base.specs.Sent.{edge_of}

@@ -6,7 +6,7 @@ use std::alloc::AllocError;
 use thiserror::Error;
 
 /// Why a packet did not begin its way.
-#[derive(Clone, Copy, Debug, PartialEq, Eq, Hash, Drop, Error)]
+#[derive(Clone, Copy, Debug, PartialEq, Eq, Drop, Error)]
 pub enum BeginFault {
     /// There is no contract of that number.
     #[error("there is no contract of that number")]
@@ -39,7 +39,7 @@ impl From<AllocError> for BeginFault {
 }
 
 /// Why a packet did not visit a site.
-#[derive(Clone, Copy, Debug, PartialEq, Eq, Hash, Drop, Error)]
+#[derive(Clone, Copy, Debug, PartialEq, Eq, Drop, Error)]
 pub enum VisitFault {
     /// It is at the end of its path.
     #[error("the path has ended")]

@@ -4,7 +4,7 @@ ghost use Rattle.meter_fabric_base.specs.Sites.{edge_hops};
 use ds_domain_base::{Domain, Terms};
 
 /// A step of a packet's way through a domain.
-#[derive(Clone, Copy, Debug, PartialEq, Eq, Hash)]
+#[derive(Clone, Copy, Debug, PartialEq, Eq)]
 pub struct Hop {
     /// The number of the site: a meter's place among the domain's meters, or behind them all the number of the contract
     /// whose edge it is.

@@ -3,7 +3,7 @@ use meter_book::Row;
 use moment_core::{Moment, PacketSize};
 
 /// What a packet carries away from a visit: the site, and its row there.
-#[derive(Clone, Copy, Debug, PartialEq, Eq, Hash)]
+#[derive(Clone, Copy, Debug, PartialEq, Eq)]
 pub struct Receipt {
     /// The packet's row in the book of the site.
     pub row: Row,

@@ -7,7 +7,7 @@ use crate::quantity::PacketSize;
 use std::marker::Model;
 
 /// A token bucket: its level and its size, in bytes (RFC 2697 section 3, RFC 2698 section 3).
-#[derive(Clone, Copy, Debug, PartialEq, Eq, Hash)]
+#[derive(Clone, Copy, Debug, PartialEq, Eq)]
 pub struct Bucket {
     /// Tc, Te or Tp: the tokens that it holds, in bytes, never above its size.
     pub level: u32,

@@ -1,7 +1,7 @@
 ghost use Rattle.std.specs.Prelude.{◌≡◌};
 
 /// The colour of a packet (RFC 2697 section 1, RFC 2698 section 1), from the best to the worst.
-#[derive(Clone, Copy, Debug, PartialEq, Eq, Hash)]
+#[derive(Clone, Copy, Debug, PartialEq, Eq)]
 pub enum Colour {
     /// Within the committed rate.
     Green,
@@ -12,7 +12,7 @@ pub enum Colour {
 }
 
 /// Whether a meter heeds the colour that a packet comes in with (RFC 2697 section 3).
-#[derive(Clone, Copy, Debug, PartialEq, Eq, Hash)]
+#[derive(Clone, Copy, Debug, PartialEq, Eq)]
 pub enum Mode {
     /// Every packet is metered as if it came in uncoloured.
     Blind,

@@ -1,7 +1,7 @@
 use crate::colour::Colour;
 
 /// The packets that an envelope or a bound speaks of.
-#[derive(Clone, Copy, Debug, PartialEq, Eq, Hash)]
+#[derive(Clone, Copy, Debug, PartialEq, Eq)]
 pub enum Column {
     /// Green packets.
     Green,

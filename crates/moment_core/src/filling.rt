@@ -5,7 +5,7 @@ use crate::quantity::{Gap, Moment, Rate};
 use crate::tokens::tokens_over;
 
 /// A bucket and what fills it: a rate, and the part of its next token that the rate has given.
-#[derive(Clone, Copy, Debug, PartialEq, Eq, Hash)]
+#[derive(Clone, Copy, Debug, PartialEq, Eq)]
 pub struct Filling {
     /// The bucket that is filled.
     pub bucket: Bucket,
@@ -42,7 +42,7 @@ impl Filling {
 }
 
 /// A meter's clock: the moment that its tokens are counted from, and the newest one that it metered at.
-#[derive(Clone, Copy, Debug, PartialEq, Eq, Hash)]
+#[derive(Clone, Copy, Debug, PartialEq, Eq)]
 pub struct Clock {
     /// The moment at which its buckets were full.
     pub origin: Moment,

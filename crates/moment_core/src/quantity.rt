@@ -6,7 +6,7 @@ use std::marker::Model;
 use thiserror::Error;
 
 /// A number is outside the range of what it counts.
-#[derive(Clone, Copy, Debug, PartialEq, Eq, Hash, Drop, Error)]
+#[derive(Clone, Copy, Debug, PartialEq, Eq, Drop, Error)]
 #[error("out of range")]
 pub struct OutOfRange;
 
@@ -20,7 +20,7 @@ impl OutOfRange {
 }
 
 /// A moment, in nanoseconds: 0 to 2^63 - 1.
-#[derive(Clone, Copy, Debug, PartialEq, Eq, PartialOrd, Ord, Hash)]
+#[derive(Clone, Copy, Debug, PartialEq, Eq, PartialOrd, Ord)]
 pub struct Moment {
     nanoseconds: u64,
 }
@@ -80,7 +80,7 @@ impl Moment {
 }
 
 /// A span of time, in nanoseconds: 0 to 2^63 - 1.
-#[derive(Clone, Copy, Debug, PartialEq, Eq, PartialOrd, Ord, Hash)]
+#[derive(Clone, Copy, Debug, PartialEq, Eq, PartialOrd, Ord)]
 pub struct Gap {
     nanoseconds: u64,
 }
@@ -121,7 +121,7 @@ impl Gap {
 }
 
 /// A rate, in whole bits per second: 1 to 10^13.
-#[derive(Clone, Copy, Debug, PartialEq, Eq, PartialOrd, Ord, Hash)]
+#[derive(Clone, Copy, Debug, PartialEq, Eq, PartialOrd, Ord)]
 pub struct Rate {
     bits_per_second: u64,
 }
@@ -162,7 +162,7 @@ impl Rate {
 }
 
 /// The size of a packet, in bytes: 1 to 65,535 (RFC 791 section 3.1, total length).
-#[derive(Clone, Copy, Debug, PartialEq, Eq, PartialOrd, Ord, Hash)]
+#[derive(Clone, Copy, Debug, PartialEq, Eq, PartialOrd, Ord)]
 pub struct PacketSize {
     bytes: u16,
 }

@@ -1,5 +1,5 @@
 -- What a piece that was taken from a device makes of a capture.
-use Rattle.std.proofs.Common.{◌≡◌, ℕ, ◌≤◌, List, [], ◌++◌, length, true, Option, Some, refl, subst, sym, ap, arith}
+use Rattle.std.proofs.Common.{◌≡◌, ℕ, ◌≤◌, List, [], ◌++◌, length, true, Option, Some, refl, subst, sym, ap, ◌∙◌, arith}
 use Rattle.pcap_capture.specs.Frames.{FrameValue}
 use Rattle.pcap_capture.specs.Grammar.{CaptureState, IsSettled, Reading, broken, prepend, read_on, reading}
 use Rattle.pcap_capture.specs.Takings.{IsRead, IsTaken, is_own}
@@ -33,6 +33,14 @@ gone_on tells most left more piece rest text stage old new there frames fault wa
       (subst (λ (t : List ℕ). IsRead (prepend there (read_on stage t)) new frames fault) behind read)),
   refl,
 )
+
+-- and of how many bytes the piece is
+pub gone_on_by : (tells : Type 0) (most taken : ℕ) (left more piece rest text : List ℕ) (stage : Stage) (old new : CaptureState) (there frames : List FrameValue) (fault : Option PcapFault)
+    → record { stage = stage; rest = rest } ≡ old → text ≡ rest ++ piece → length piece ≡ taken → taken ≤ most → (tells → left ≡ piece ++ more)
+    → IsRead (prepend there (read_on stage text)) new frames fault → (it : IsTaken tells most left more old new there frames fault) × (length it.piece ≡ taken)
+gone_on_by tells most taken left more piece rest text stage old new there frames fault was behind count few given read =
+    let it = gone_on tells most left more piece rest text stage old new there frames fault was behind (omega (arith, count, few)) given read in
+    (it.0, ap length it.1 ∙ count)
 
 -- no device is told to have failed by a fault that stands in a piece
 pub taken_unread : (tells : Type 0) (most : ℕ) (left more : List ℕ) (old new : CaptureState) (there frames : List FrameValue) (fault : PcapFault)

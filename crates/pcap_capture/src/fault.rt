@@ -3,7 +3,7 @@ ghost use Rattle.std.specs.Prelude.{◌≡◌, ℕ};
 use thiserror::Error;
 
 /// Why a capture is not read on, or not written.
-#[derive(Clone, Copy, Debug, PartialEq, Eq, Hash, Drop, Error)]
+#[derive(Clone, Copy, Debug, PartialEq, Eq, Drop, Error)]
 pub enum PcapFault {
     /// The first four bytes are no magic number of a capture.
     #[error("not a capture")]

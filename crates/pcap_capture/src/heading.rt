@@ -5,7 +5,7 @@ use crate::fault::PcapFault;
 use byteorder::{BigEndian, ByteOrder, LittleEndian};
 
 /// The order in which the bytes of a file's numbers stand.
-#[derive(Clone, Copy, Debug, PartialEq, Eq, Hash)]
+#[derive(Clone, Copy, Debug, PartialEq, Eq)]
 pub enum Endianness {
     /// The highest byte first.
     Big,
@@ -14,7 +14,7 @@ pub enum Endianness {
 }
 
 /// What the fraction of a second counts.
-#[derive(Clone, Copy, Debug, PartialEq, Eq, Hash)]
+#[derive(Clone, Copy, Debug, PartialEq, Eq)]
 pub enum TimeUnit {
     /// Millionths of a second.
     Microseconds,
@@ -23,7 +23,7 @@ pub enum TimeUnit {
 }
 
 /// What the captured bytes of a packet begin with.
-#[derive(Clone, Copy, Debug, PartialEq, Eq, Hash)]
+#[derive(Clone, Copy, Debug, PartialEq, Eq)]
 pub enum LinkType {
     /// An Ethernet header: link type 1.
     Ethernet,
@@ -34,7 +34,7 @@ pub enum LinkType {
 }
 
 /// The heading of a capture.
-#[derive(Clone, Copy, Debug, PartialEq, Eq, Hash)]
+#[derive(Clone, Copy, Debug, PartialEq, Eq)]
 pub struct Heading {
     /// Its 24 bytes.
     pub bytes: [u8; 24],

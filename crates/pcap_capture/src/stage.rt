@@ -1,7 +1,7 @@
 use crate::heading::Heading;
 
 /// How far a capture has been read.
-#[derive(Clone, Copy, Debug, PartialEq, Eq, Hash)]
+#[derive(Clone, Copy, Debug, PartialEq, Eq)]
 pub enum Stage {
     /// Its heading is not yet there whole.
     Opening,

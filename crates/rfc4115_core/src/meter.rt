@@ -8,7 +8,7 @@ use std::marker::Model;
 
 /// A three-colour meter at work (RFC 4115): a committed and an excess bucket, full at the meter's origin, each filled
 /// at its own rate.
-#[derive(Clone, Copy, Debug, PartialEq, Eq, Hash)]
+#[derive(Clone, Copy, Debug, PartialEq, Eq)]
 pub struct Rfc4115 {
     mode: Mode,
     clock: Clock,

@@ -4,7 +4,7 @@ use moment_core::Rate;
 use thiserror::Error;
 
 /// The parameters of a two-rate three-colour meter (RFC 4115).
-#[derive(Clone, Copy, Debug, PartialEq, Eq, Hash)]
+#[derive(Clone, Copy, Debug, PartialEq, Eq)]
 pub struct Rfc4115Parameters {
     /// CIR, the committed information rate, in bits per second (RFC 4115).
     pub committed_rate: Rate,
@@ -17,7 +17,7 @@ pub struct Rfc4115Parameters {
 }
 
 /// Why parameters are not those of a meter: with bursts of 0 alone it would admit nothing.
-#[derive(Clone, Copy, Debug, PartialEq, Eq, Hash, Drop, Error)]
+#[derive(Clone, Copy, Debug, PartialEq, Eq, Drop, Error)]
 pub enum Rfc4115Fault {
     /// Both burst sizes are 0.
     #[error("both burst sizes are 0")]

@@ -27,7 +27,7 @@ use Rattle.meter_fabric_base.specs.declared.hop.Hop.{Hop}
 use Rattle.meter_fabric_base.specs.declared.trail.Receipt.{Receipt}
 use Rattle.meter_fabric_base.specs.declared.trail.Trail.{Trail}
 use Rattle.envelope_core.proofs.Windows.{sum_by-map}
-use Rattle.run_audit_base.specs.Runs.{AreJournals, IsRun, Passage, Run, told}
+use Rattle.run_audit.specs.Runs.{AreJournals, IsRun, Passage, Run, told}
 use Rattle.run_audit.specs.Assembled.{passage_of, run_of}
 use Rattle.run_audit.specs.Assembling.{AreSound, AreTold, IsNoted, IsSound}
 use Rattle.run_audit.proofs.JournalLaws.{same_journal}

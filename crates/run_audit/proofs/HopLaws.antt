@@ -11,9 +11,9 @@ use Rattle.meter_fabric_base.specs.Grounds.{Ground}
 use Rattle.meter_fabric_base.specs.Sites.{hops_along}
 use Rattle.meter_fabric_base.specs.Trails.{IsTrail, Packet}
 use Rattle.meter_fabric_base.specs.declared.trail.Receipt.{Receipt}
-use Rattle.run_audit_base.specs.Runs.{IsPassage, IsRun, Passage, Run}
-use Rattle.run_audit_base.specs.Sendings.{Sending, sending_of}
-use Rattle.run_audit_base.proofs.Passages.{trail_sent}
+use Rattle.run_audit.specs.Runs.{IsPassage, IsRun, Passage, Run}
+use Rattle.run_audit.specs.Sendings.{Sending, sending_of}
+use Rattle.run_audit.proofs.Passages.{trail_sent}
 use Rattle.run_audit.specs.Hops.{delayed_hop, untimely_hop}
 use Rattle.run_audit.specs.Verdicts.{against_sent, by_number, delayed, first_found, first_of, is_numbered_before, is_over, link_of_run, untimely}
 use Rattle.run_audit.specs.declared.verdict.Verdict.{Verdict}

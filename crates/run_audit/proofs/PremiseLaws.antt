@@ -15,9 +15,9 @@ use Rattle.ds_domain_base.specs.declared.contract.Contract.{Contract}
 use Rattle.ds_domain_base.specs.declared.parts.Link.{Link}
 use Rattle.meter_fabric_base.specs.Grounds.{Ground, contract_of}
 use Rattle.meter_fabric_base.specs.declared.trail.Receipt.{Receipt}
-use Rattle.run_audit_base.specs.Premises.{IsInTime, IsOver, IsTimely, KeepsLinks, KeepsSkews, KeepsTime, Premises}
-use Rattle.run_audit_base.specs.Runs.{IsRun, Passage, Run}
-use Rattle.run_audit_base.specs.Sendings.{ForSent, Sending, sending_of}
+use Rattle.run_audit.specs.Premises.{IsInTime, IsOver, IsTimely, KeepsLinks, KeepsSkews, KeepsTime, Premises}
+use Rattle.run_audit.specs.Runs.{IsRun, Passage, Run}
+use Rattle.run_audit.specs.Sendings.{ForSent, Sending, sending_of}
 use Rattle.run_audit.specs.Laws.{IsLeastWithout, IsSentSo}
 use Rattle.run_audit.specs.Orders.{in_order}
 use Rattle.run_audit.specs.Verdicts.{against_sent, delayed, first_found, first_of, is_numbered_before, is_over, late_row, link_of_run, may_send, outside, skew_of_run, source_of_run, time_of, untimely, verdict_of}

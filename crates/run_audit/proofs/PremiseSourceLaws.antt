@@ -27,9 +27,9 @@ use Rattle.ds_certificate.specs.Columns.{envelope_in}
 use Rattle.ds_certificate.specs.Sources.{source_of}
 use Rattle.meter_fabric_base.specs.Grounds.{Ground, contract_of}
 use Rattle.meter_fabric_base.specs.declared.trail.Receipt.{Receipt}
-use Rattle.run_audit_base.specs.Premises.{IsTrusted, KeepsIn, KeepsSource, KeepsSources}
-use Rattle.run_audit_base.specs.Runs.{Passage, Run}
-use Rattle.run_audit_base.specs.Sendings.{Sending, passages_of, sending_by, sending_of, sent_item, sent_items}
+use Rattle.run_audit.specs.Premises.{IsTrusted, KeepsIn, KeepsSource, KeepsSources}
+use Rattle.run_audit.specs.Runs.{Passage, Run}
+use Rattle.run_audit.specs.Sendings.{Sending, passages_of, sending_by, sending_of, sent_item, sent_items}
 use Rattle.run_audit.specs.Orders.{in_order, placed}
 use Rattle.run_audit.specs.Verdicts.{first_found, is_begun_before, over_by, over_in, overflowing, sent_in, source_of_run, over_at, was_sent_as}
 use Rattle.run_audit.specs.declared.verdict.Verdict.TheVariants.{SourceOver}

@@ -10,7 +10,7 @@ use Rattle.std.proofs.lemmas.List.Elements.{All-cons, All-weaker}
 use Rattle.std.proofs.lemmas.List.Kept.{AllPairs-from_increasing}
 use Rattle.std.proofs.lemmas.List.Sorted.{Contains-permutation, IsPermutation-map, IsPermutation-sym}
 use Rattle.std.proofs.lemmas.Map.Keys.{IsDistinct-IsPermutation, IsStrictlyIncreasing-from_distinct}
-use Rattle.run_audit_base.specs.Runs.{Passage}
+use Rattle.run_audit.specs.Runs.{Passage}
 use Rattle.run_audit.specs.Orders.{in_order}
 use Rattle.run_audit.specs.Standings.{by_contract, stands_before}
 use Rattle.run_audit.proofs.OrderLaws.{AreApart, Ascends, IsOrder, ascends-from_pairs, in_order-is}

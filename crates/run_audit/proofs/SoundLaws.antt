@@ -11,7 +11,7 @@ use Rattle.std.proofs.lemmas.List.Quantifiers.{all_pairs_push}
 use Rattle.meter_fabric_base.specs.Grounds.{Ground}
 use Rattle.meter_book.specs.Replay.{Journal}
 use Rattle.meter_fabric_base.specs.declared.trail.Trail.{Trail}
-use Rattle.run_audit_base.specs.Runs.{Passage}
+use Rattle.run_audit.specs.Runs.{Passage}
 use Rattle.run_audit.specs.Assembled.{passage_of, run_of}
 use Rattle.run_audit.specs.Assembling.{AreSound, IsFirstWrong, IsNew, IsSound}
 

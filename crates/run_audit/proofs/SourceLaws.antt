@@ -21,9 +21,9 @@ use Rattle.ds_certificate.specs.Columns.{envelope_in}
 use Rattle.ds_certificate.specs.Sources.{source_of}
 use Rattle.meter_fabric_base.specs.Grounds.{Ground, contract_of}
 use Rattle.meter_fabric_base.specs.declared.trail.Receipt.{Receipt}
-use Rattle.run_audit_base.specs.Premises.{IsTrusted}
-use Rattle.run_audit_base.specs.Runs.{IsRun, Passage, Run}
-use Rattle.run_audit_base.specs.Sendings.{passages_of, sending_by, sending_of, sent_items}
+use Rattle.run_audit.specs.Premises.{IsTrusted}
+use Rattle.run_audit.specs.Runs.{IsRun, Passage, Run}
+use Rattle.run_audit.specs.Sendings.{passages_of, sending_by, sending_of, sent_items}
 use Rattle.run_audit.specs.Bases.{IsCounted}
 use Rattle.run_audit.specs.Spills.{own_length, poured, spilled, spilled_by, spilled_from, spilled_in}
 use Rattle.run_audit.specs.Standings.{by_contract, stands_before}

@@ -15,9 +15,9 @@ use Rattle.ds_domain_base.specs.declared.terms.Terms.TheVariants.{Trusted, Polic
 use Rattle.ds_certificate.specs.Columns.{envelope_in}
 use Rattle.ds_certificate.specs.Sources.{source_of}
 use Rattle.meter_fabric_base.specs.Grounds.{Ground, contract_of}
-use Rattle.run_audit_base.specs.Premises.{IsTrusted, KeepsIn}
-use Rattle.run_audit_base.specs.Runs.{IsRun, Passage, Run}
-use Rattle.run_audit_base.specs.Sendings.{passages_of, sending_of, sent_items}
+use Rattle.run_audit.specs.Premises.{IsTrusted, KeepsIn}
+use Rattle.run_audit.specs.Runs.{IsRun, Passage, Run}
+use Rattle.run_audit.specs.Sendings.{passages_of, sending_of, sent_items}
 use Rattle.run_audit.specs.Laws.{IsFirstOver, StandsBehind}
 use Rattle.run_audit.specs.Verdicts.{first_found, first_of, over_at, over_by, over_in, overflowing, sent_in, verdict_of, was_sent_as}
 use Rattle.run_audit.specs.declared.verdict.Verdict.{Verdict}

@@ -11,7 +11,7 @@ use Rattle.envelope_core.specs.Curve.{Curve}
 use Rattle.ds_domain_base.specs.Domains.{Domain}
 use Rattle.ds_domain_base.specs.Sent.{came}
 use Rattle.ds_domain_base.specs.declared.contract.Contract.{Contract}
-use Rattle.run_audit_base.specs.Runs.{Passage}
+use Rattle.run_audit.specs.Runs.{Passage}
 use Rattle.run_audit.specs.Spills.{own_length, poured, spilled, spilled_by, spilled_from}
 use Rattle.run_audit.specs.Verdicts.{first_of}
 use Rattle.run_audit.specs.declared.verdict.Verdict.{Verdict}

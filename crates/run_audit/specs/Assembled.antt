@@ -4,7 +4,7 @@ use Rattle.meter_book.specs.Replay.{Journal}
 use Rattle.meter_fabric_base.specs.Grounds.{Ground}
 use Rattle.meter_fabric_base.specs.Trails.{packet_of}
 use Rattle.meter_fabric_base.specs.declared.trail.Trail.{Trail}
-use Rattle.run_audit_base.specs.Runs.{Passage, Run}
+use Rattle.run_audit.specs.Runs.{Passage, Run}
 
 -- the packet of a trail, with its receipts
 abbrev pub passage_of : Trail → Passage

@@ -4,7 +4,7 @@ use Rattle.std.specs.Prelude.{◌≡◌, ◌⊎◌, List, ◌∷◌, ◌++◌, A
 use Rattle.meter_book.specs.Replay.{Journal, journal_rows}
 use Rattle.meter_fabric_base.specs.Grounds.{Ground}
 use Rattle.meter_fabric_base.specs.declared.trail.Receipt.{Receipt}
-use Rattle.run_audit_base.specs.Runs.{AreJournals, IsPassage, Passage, Run, told}
+use Rattle.run_audit.specs.Runs.{AreJournals, IsPassage, Passage, Run, told}
 use Rattle.run_audit.specs.declared.fault.AssembleFault.{AssembleFault}
 use Rattle.run_audit.specs.declared.fault.AssembleFault.TheVariants.{Mismatch, Untold, Doubled, NoMemory}
 

@@ -4,7 +4,7 @@ use Rattle.std.specs.List.{enumerate_from}
 use Rattle.std.specs.Map.{values_of}
 use Rattle.ds_timeline.specs.Timelines.{AreRated, IsCovered, Timeline}
 use Rattle.meter_fabric_base.specs.Grounds.{Ground, ground_of}
-use Rattle.run_audit_base.specs.KeptColours.{WasGranted}
+use Rattle.run_audit.specs.KeptColours.{WasGranted}
 use Rattle.run_audit.specs.declared.basis.Ground as bases
 use Rattle.run_audit.specs.declared.basis.Ground.TheVariants.{Table, Line}
 

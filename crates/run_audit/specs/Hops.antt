@@ -3,7 +3,7 @@ use Rattle.std.specs.Prelude.{ℕ, List, [], ◌∷◌, option_map, Option, None
 use Rattle.ds_domain_base.specs.Domains.{Domain, link_of}
 use Rattle.ds_domain_base.specs.declared.contract.Contract.{Contract}
 use Rattle.meter_fabric_base.specs.declared.trail.Receipt.{Receipt}
-use Rattle.run_audit_base.specs.Sendings.{Sending}
+use Rattle.run_audit.specs.Sendings.{Sending}
 use Rattle.run_audit.specs.Verdicts.{is_over}
 use Rattle.run_audit.specs.declared.verdict.Verdict.{Verdict}
 use Rattle.run_audit.specs.declared.verdict.Verdict.TheVariants.{DelayOver}

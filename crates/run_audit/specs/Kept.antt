@@ -1,5 +1,5 @@
 -- What the fields of a run stand for, and what they keep.
-use Rattle.run_audit_base.specs.Runs.{IsRun}
+use Rattle.run_audit.specs.Runs.{IsRun}
 use Rattle.run_audit.specs.Assembled.{GroundRun, run_of}
 use Rattle.run_audit.specs.Bases.{basis_of}
 use Rattle.run_audit.specs.declared.run.Run.TheInside as runs

@@ -6,9 +6,9 @@ use Rattle.moment_core.specs.Columns.{each_column}
 use Rattle.moment_core.specs.declared.column.Column.{Column}
 use Rattle.ds_domain_base.specs.declared.contract.Contract.{Contract}
 use Rattle.meter_fabric_base.specs.Grounds.{Ground, contract_of}
-use Rattle.run_audit_base.specs.Premises.{IsInTime, IsTimely, IsTrusted, KeepsIn, KeepsSource, Premises}
-use Rattle.run_audit_base.specs.Runs.{IsRun, Passage, Run}
-use Rattle.run_audit_base.specs.Sendings.{Sending, passages_of, sending_of}
+use Rattle.run_audit.specs.Premises.{IsInTime, IsTimely, IsTrusted, KeepsIn, KeepsSource, Premises}
+use Rattle.run_audit.specs.Runs.{IsRun, Passage, Run}
+use Rattle.run_audit.specs.Sendings.{Sending, passages_of, sending_of}
 use Rattle.run_audit.specs.Verdicts.{sent_in, verdict_of}
 use Rattle.run_audit.specs.declared.verdict.Verdict.TheVariants.{DelayOver, Kept, OutsideContract, SourceOver}
 

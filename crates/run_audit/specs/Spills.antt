@@ -13,7 +13,7 @@ use Rattle.ds_domain_base.specs.declared.terms.Terms.{Terms}
 use Rattle.ds_domain_base.specs.declared.terms.Terms.TheVariants.{Trusted, Policed}
 use Rattle.ds_certificate.specs.Columns.{envelope_in}
 use Rattle.ds_certificate.specs.Sources.{source_of}
-use Rattle.run_audit_base.specs.Runs.{Passage}
+use Rattle.run_audit.specs.Runs.{Passage}
 use Rattle.run_audit.specs.Verdicts.{first_found, first_of}
 use Rattle.run_audit.specs.declared.verdict.Verdict.{Verdict}
 use Rattle.run_audit.specs.declared.verdict.Verdict.TheVariants.{SourceOver}

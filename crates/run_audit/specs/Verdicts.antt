@@ -20,8 +20,8 @@ use Rattle.ds_certificate.specs.Columns.{envelope_in}
 use Rattle.ds_certificate.specs.Sources.{source_of}
 use Rattle.meter_fabric_base.specs.Grounds.{Ground, contract_of}
 use Rattle.meter_fabric_base.specs.declared.trail.Receipt.{Receipt}
-use Rattle.run_audit_base.specs.Runs.{Passage, Run}
-use Rattle.run_audit_base.specs.Sendings.{Sending, passages_of, sending_of, sent_items}
+use Rattle.run_audit.specs.Runs.{Passage, Run}
+use Rattle.run_audit.specs.Sendings.{Sending, passages_of, sending_of, sent_items}
 use Rattle.run_audit.specs.Orders.{in_order}
 use Rattle.run_audit.specs.declared.verdict.Verdict.{Verdict}
 use Rattle.run_audit.specs.declared.verdict.Verdict.TheVariants.{Kept, OutsideContract, SourceOver, DelayOver, Late}

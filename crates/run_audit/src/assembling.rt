@@ -1,5 +1,5 @@
-ghost use Rattle.std.specs.Prelude.{◌≡◌, ◌⊎◌, map, sum_by, length, AllPairs, IfErr, IfOk, OnOk};
-ghost use Rattle.run_audit_base.specs.Runs.{AreJournals, IsRun};
+ghost use Rattle.std.specs.Prelude.{◌≡◌, ◌⊎◌, [], map, sum_by, length, AllPairs, IfErr, IfOk, OnOk};
+ghost use Rattle.run_audit.specs.Runs.{AreJournals, IsRun};
 ghost use Rattle.run_audit.specs.Assembled.{passage_of, run_of};
 ghost use Rattle.run_audit.specs.Assembling.{AreSound, IsFirstWrong, IsNew, IsRefusal, IsSound};
 ghost use Rattle.run_audit.specs.Bases.{basis_of};
@@ -74,6 +74,23 @@ fn judge_trails(
     ensures refused { IfErr result (λ fault. IsRefusal (basis_of basis.now) (run_of journals.now trails.now) fault) }
 {
     let mut numbers = IndexSet::new(alloc);
+    judge_each(basis, journals, sites, trails, &mut numbers)
+}
+
+/// The same, with a set of no numbers, into which those of the trails are put.
+fn judge_each(
+    basis: &Ground<'_>,
+    journals: &[Journal],
+    sites: &IndexSet<u32>,
+    trails: &[Trail],
+    numbers: &mut IndexSet<u64>,
+) -> Result<(), AssembleFault>
+    requires none { numbers.old.keys ≡ [] }
+    requires places { sites.now.keys ≡ map (λ j. j.site) journals.now }
+    requires journals { AreJournals (basis_of basis.now) journals.now }
+    ensures sound { OnOk result (AreSound (basis_of basis.now) journals.now (map passage_of trails.now)) }
+    ensures refused { IfErr result (λ fault. IsRefusal (basis_of basis.now) (run_of journals.now trails.now) fault) }
+{
     for trail in trails {
         if !numbers.insert(trail.packet)? {
             return Err(AssembleFault::Doubled);

@@ -1,6 +1,6 @@
 ghost use Rattle.std.specs.Prelude.{◌≡◌, ◌↔◌, IfOk, map};
-ghost use Rattle.run_audit_base.specs.KeptColours.{ColoursKept};
-ghost use Rattle.run_audit_base.specs.Premises.{Premises};
+ghost use Rattle.run_audit.specs.KeptColours.{ColoursKept};
+ghost use Rattle.run_audit.specs.Premises.{Premises};
 ghost use Rattle.run_audit.specs.Assembled.{passage_of};
 ghost use Rattle.run_audit.specs.Verdicts.{by_number, first_of, link_of_run, skew_of_run, source_of_run, time_of};
 ghost use Rattle.run_audit.specs.Verdicts.{verdict_of};

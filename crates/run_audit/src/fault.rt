@@ -5,7 +5,7 @@ use std::alloc::{AllocError, AllocFailed};
 use thiserror::Error;
 
 /// Why journals and trails are not those of a run.
-#[derive(Clone, Copy, Debug, PartialEq, Eq, Hash, Drop, Error)]
+#[derive(Clone, Copy, Debug, PartialEq, Eq, Drop, Error)]
 pub enum AssembleFault {
     /// The journals are not one for each site, each opened with what stands there; or a trail is of no contract, or
     /// holds what its packet did not carry away.

@@ -1,4 +1,5 @@
-//! Runs of the meters of a domain, over a table or a timeline, assembled from journals and trails, and the audit that judges them.
+//! Runs of the meters of a domain, over a table or a timeline: the premises that they are judged by, what follows of the
+//! colours, how they are assembled from journals and trails, and the audit that judges them.
 #![tactic(auto)]
 
 pub mod assembling;

@@ -1,5 +1,5 @@
 ghost use Rattle.std.specs.Prelude.{◌≡◌, map};
-ghost use Rattle.run_audit_base.specs.Runs.{IsRun};
+ghost use Rattle.run_audit.specs.Runs.{IsRun};
 ghost use Rattle.run_audit.specs.Assembled.{passage_of, run_of};
 ghost use Rattle.run_audit.specs.Bases.{basis_of};
 

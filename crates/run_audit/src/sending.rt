@@ -1,6 +1,6 @@
 //! Packets as they are sent into a domain.
 ghost use Rattle.std.specs.Prelude.{◌≡◌};
-ghost use Rattle.run_audit_base.specs.Sendings.{sending_of};
+ghost use Rattle.run_audit.specs.Sendings.{sending_of};
 ghost use Rattle.run_audit.specs.Edges.{edge_sending};
 ghost use Rattle.run_audit.specs.Assembled.{passage_of};
 
@@ -10,7 +10,7 @@ use moment_core::{Colour, Moment};
 use std::marker::Model;
 
 /// A packet as it is sent: when, with what colour, and its receipts of the meters that it has visited since.
-#[derive(Debug, Drop)]
+#[derive(Drop)]
 pub(crate) struct Sending<'a> {
     /// When it is sent.
     pub(crate) moment: Moment,
@@ -21,7 +21,7 @@ pub(crate) struct Sending<'a> {
 }
 
 impl<'a> Model for Sending<'a> {
-    ghost use Rattle.run_audit_base.specs.Sendings.{Sending};
+    ghost use Rattle.run_audit.specs.Sendings.{Sending};
 
     ghost Value = { Sending };
 

@@ -1,6 +1,7 @@
-ghost use Rattle.std.specs.Prelude.{◌≡◌, ◌⊎◌, ◌↔◌, ℕ, map, Contains, Some, IsSome, IsTrue, IfOk, IfErr};
+ghost use Rattle.std.specs.Prelude.{◌≡◌, ◌⊎◌, ◌↔◌, ℕ, [], map, All, AllPairs, Contains, Some, IsSome, IsTrue};
+ghost use Rattle.std.specs.Prelude.{IfOk, IfErr, OnOk};
 ghost use Rattle.meter_fabric_base.specs.Openings.{opening_at};
-ghost use Rattle.run_audit_base.specs.Runs.{AreJournals};
+ghost use Rattle.run_audit.specs.Runs.{AreJournals};
 ghost use Rattle.run_audit.specs.Bases.{basis_of};
 
 use crate::basis::Ground;
@@ -23,6 +24,29 @@ pub(crate) fn sites_of(
         ⊎ ((fault ≡ AssembleFault.Mismatch) × ¬ AreJournals (basis_of basis.now) journals.now)) }
 {
     let mut sites = IndexSet::new(alloc);
+    add_sites(basis, journals, &mut sites)?;
+    if has_each(basis, &sites) {
+        Ok(sites)
+    } else {
+        Err(AssembleFault::Mismatch)
+    }
+}
+
+/// Puts the sites of journals into a set of none, where each journal opens with what stands at its site, and no two
+/// stand at one site; else `Mismatch`. `NoMemory` where memory runs out.
+fn add_sites(
+    basis: &Ground<'_>,
+    journals: &[Journal],
+    sites: &mut IndexSet<u32>,
+) -> Result<(), AssembleFault>
+    requires { sites.old.keys ≡ [] }
+    ensures places { OnOk result (sites.new.keys ≡ map (λ j. j.site) journals.now) }
+    ensures own { OnOk result (All (λ j. opening_at (basis_of basis.now) j.site
+        ≡ Some (record { meter = j.opening; skew = j.skew })) journals.now) }
+    ensures once { OnOk result (AllPairs (λ j k. ¬ (j.site ≡ k.site)) journals.now) }
+    ensures refused { IfErr result (λ fault. (fault ≡ AssembleFault.NoMemory)
+        ⊎ ((fault ≡ AssembleFault.Mismatch) × ¬ AreJournals (basis_of basis.now) journals.now)) }
+{
     for journal in journals {
         if !is_own(basis, journal) {
             return Err(AssembleFault::Mismatch);
@@ -31,11 +55,7 @@ pub(crate) fn sites_of(
             return Err(AssembleFault::Mismatch);
         }
     }
-    if has_each(basis, &sites) {
-        Ok(sites)
-    } else {
-        Err(AssembleFault::Mismatch)
-    }
+    Ok(())
 }
 
 /// Whether a journal opens with what stands at its site.

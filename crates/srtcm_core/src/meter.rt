@@ -10,7 +10,7 @@ use std::marker::Model;
 
 /// A single-rate three-colour meter at work (RFC 2697): a committed and an excess bucket, full at the meter's origin,
 /// and one stream of tokens for both.
-#[derive(Clone, Copy, Debug, PartialEq, Eq, Hash)]
+#[derive(Clone, Copy, Debug, PartialEq, Eq)]
 pub struct SrTcm {
     mode: Mode,
     clock: Clock,

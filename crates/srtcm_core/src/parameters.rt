@@ -4,7 +4,7 @@ use moment_core::Rate;
 use thiserror::Error;
 
 /// The parameters of a single-rate three-colour meter (RFC 2697 section 2).
-#[derive(Clone, Copy, Debug, PartialEq, Eq, Hash)]
+#[derive(Clone, Copy, Debug, PartialEq, Eq)]
 pub struct SrTcmParameters {
     /// CIR, the committed information rate, in bits per second (RFC 2697 section 2).
     pub committed_rate: Rate,
@@ -15,7 +15,7 @@ pub struct SrTcmParameters {
 }
 
 /// Why parameters are not those of a single-rate meter (RFC 2697 section 2).
-#[derive(Clone, Copy, Debug, PartialEq, Eq, Hash, Drop, Error)]
+#[derive(Clone, Copy, Debug, PartialEq, Eq, Drop, Error)]
 pub enum SrTcmFault {
     /// Both burst sizes are 0.
     #[error("both burst sizes are 0")]

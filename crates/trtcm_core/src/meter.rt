@@ -7,7 +7,7 @@ use moment_core::{Bucket, Clock, Colour, Filling, Mode, Moment, PacketSize};
 use std::marker::Model;
 
 /// A two-rate three-colour meter at work (RFC 2698): a committed and a peak bucket, full at the meter's origin.
-#[derive(Clone, Copy, Debug, PartialEq, Eq, Hash)]
+#[derive(Clone, Copy, Debug, PartialEq, Eq)]
 pub struct TrTcm {
     mode: Mode,
     clock: Clock,

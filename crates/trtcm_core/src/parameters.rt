@@ -4,7 +4,7 @@ use moment_core::Rate;
 use thiserror::Error;
 
 /// The parameters of a two-rate three-colour meter (RFC 2698 section 2).
-#[derive(Clone, Copy, Debug, PartialEq, Eq, Hash)]
+#[derive(Clone, Copy, Debug, PartialEq, Eq)]
 pub struct TrTcmParameters {
     /// CIR, the committed information rate, in bits per second (RFC 2698 section 2).
     pub committed_rate: Rate,
@@ -17,7 +17,7 @@ pub struct TrTcmParameters {
 }
 
 /// Why parameters are not those of a two-rate meter (RFC 2698 section 2).
-#[derive(Clone, Copy, Debug, PartialEq, Eq, Hash, Drop, Error)]
+#[derive(Clone, Copy, Debug, PartialEq, Eq, Drop, Error)]
 pub enum TrTcmFault {
     /// A burst size is 0.
     #[error("a burst size is 0")]

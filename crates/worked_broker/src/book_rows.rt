@@ -1,11 +1,25 @@
-use crate::books::{opened, released, reserved, retired};
-use ds_broker::{Book, BrokerRefusal, Limits};
-use ds_checker::Refusal;
-use ds_domain_base::{Contract, DomainFault, Field, Kind, Name, Section};
+use crate::books::{Opened, Step, Why, book_over, expect_steps, limits};
+use ds_broker::{Book, BrokerRefusal, Entry, Limits};
+use ds_domain_base::Name;
 use std::alloc::Global;
 use std::process::Abort;
-use std::test::Fail;
-use worked_texts::{A, B, TRUSTED, joined, tight, wide};
+use worked_texts::{A, B, LINK, METER, PORT, SHARE, TIGHT_METER, TRUSTED};
+
+/// Two contracts over a meter that has room for the burst of one.
+const TIGHT: &[&str] = &[
+    TIGHT_METER,
+    PORT,
+    LINK,
+    TRUSTED,
+    A,
+    SHARE,
+    TRUSTED,
+    B,
+    SHARE,
+];
+
+/// The same over a meter that has room for both.
+const WIDE: &[&str] = &[METER, PORT, LINK, TRUSTED, A, SHARE, TRUSTED, B, SHARE];
 
 /// A meter of a single rate, and a link to it without jitter.
 const SINGLE_RATE: &str = r#"
@@ -14,213 +28,159 @@ port = [{ name = "p", skew = 0 }]
 link = [{ from = "p", to = "m", floor = 0, jitter = 0 }]
 "#;
 
-/// The text of a domain of that meter, a contract without a peak, and one with a peak.
-fn single_rate(alloc: Global) -> Result<String, Fail> {
-    let plain = "cir = 8000\ncbs = 1001\n";
-    let peaked = "cir = 8000\ncbs = 100\npir = 8000\npbs = 100\n";
-    Ok(joined(alloc, &[SINGLE_RATE, TRUSTED, A, plain, TRUSTED, B, peaked])?)
+/// The envelope of a contract without a peak, and of one with a peak.
+const PLAIN: &str = "cir = 8000\ncbs = 1001\n";
+
+const PEAKED: &str = "cir = 8000\ncbs = 100\npir = 8000\npbs = 100\n";
+
+/// That meter, a contract without a peak, and one with a peak.
+const EXCESS: &[&str] = &[SINGLE_RATE, TRUSTED, A, PLAIN, TRUSTED, B, PEAKED];
+
+/// What a row is about, the parts of a domain, how many contracts and commands its book takes, and what it is asked.
+type Asked = (
+    &'static str,
+    &'static [&'static str],
+    (u32, u32),
+    &'static [Step],
+);
+
+static BOOKS: [Asked; 5] = [
+    (
+        "commands_that_name_nothing_are_refused",
+        WIDE,
+        (4096, 65_536),
+        &[
+            Step::Reserve(0, Ok((1, 1, 0))),
+            Step::Release(1, 5, Ok(2)),
+            Step::Release(1, 7, Err(Why::AlreadyReleased)),
+            Step::Release(9, 7, Err(Why::UnknownId)),
+            Step::Reserve(0, Err(Why::Twice)),
+        ],
+    ),
+    (
+        "a_full_table_takes_no_contract",
+        WIDE,
+        (1, 65_536),
+        &[
+            Step::Reserve(0, Ok((1, 1, 0))),
+            Step::Reserve(1, Err(Why::TableFull)),
+        ],
+    ),
+    // Unknown ids are told first.
+    (
+        "a_full_history_takes_no_command",
+        WIDE,
+        (4096, 1),
+        &[
+            Step::Reserve(0, Ok((1, 1, 0))),
+            Step::Release(1, 5, Err(Why::HistoryFull)),
+            Step::Release(9, 5, Err(Why::UnknownId)),
+            Step::Reserve(1, Err(Why::HistoryFull)),
+        ],
+    ),
+    // With one contract that may send yellow packets, all are held against the excess bucket.
+    (
+        "yellow_packets_of_one_are_counted_with_green_ones_of_all",
+        EXCESS,
+        (4096, 65_536),
+        &[
+            Step::Reserve(0, Ok((1, 1, 0))),
+            Step::Reserve(1, Err(Why::NoRoom(1101, 1000))),
+        ],
+    ),
+    // What is granted behind a release at the last moment begins then.
+    (
+        "the_last_moment_is_kept",
+        WIDE,
+        (4096, 65_536),
+        &[
+            Step::Reserve(0, Ok((1, 1, 0))),
+            Step::Release(1, 9_223_372_036_854_775_807, Ok(2)),
+            Step::Reserve(1, Ok((2, 3, 9_223_372_036_854_775_807))),
+        ],
+    ),
+];
+
+/// Expects of a row what its book answers to each step.
+fn expect_asked(rt: &impl Abort, alloc: Global, (name, parts, most, steps): &Asked) {
+    let mut opened = book_over(rt, alloc, parts, limits(rt, most.0, most.1));
+    expect_steps(rt, alloc, name, &mut opened, steps);
+    drop(opened);
+}
+
+#[test]
+fn what_books_answer_to_commands(rt: HostRuntime) {
+    for row in &BOOKS {
+        expect_asked(&rt, rt.alloc(), row);
+    }
+}
+
+/// The book of the domain that has room for the burst of one contract.
+pub fn tight(rt: &impl Abort, alloc: Global) -> Opened {
+    book_over(rt, alloc, TIGHT, limits(rt, 4096, 65_536))
 }
 
 /// A released share stays held until its hold has passed, and is sold anew then.
-fn expect_a_share_is_sold_anew_when_its_hold_has_passed(
-    rt: &impl Abort,
-    alloc: Global,
-    book: &mut Book,
-    contracts: &[Contract],
-) -> Result<(), Fail> {
-    assert_eq!(rt; reserved(alloc, book, contracts, 0)?.ok(), Some((1, 1, 0)));
-    assert_eq!(rt; released(book, 1, 1_000_000_000)?.ok(), Some(2));
-    let full = Refusal::GreenBurst {
-        meter: Name::new("m")?,
-        needed: 9000,
-        available: 4500,
-    };
-    assert_eq!(rt;
-        reserved(alloc, book, contracts, 1)?.err(),
-        Some(BrokerRefusal::Checker(full))
-    );
-    assert_eq!(rt;
-        retired(book, 1, 1_005_999_999)?.err(),
-        Some(BrokerRefusal::HoldLeft(1))
-    );
-    assert_eq!(rt; retired(book, 1, 1_006_000_000)?.ok(), Some(3));
-    assert_eq!(rt;
-        reserved(alloc, book, contracts, 1)?.ok(),
-        Some((2, 4, 1_006_000_000))
-    );
-    let list = book.list(alloc)?;
-    assert_eq!(rt; list.len(), 1);
-    let entry = *list.as_slice().first().ok_or("nothing is listed")?;
-    assert_eq!(rt; entry.id, 2);
-    assert_eq!(rt; entry.name, Name::new("b")?);
-    assert_eq!(rt; entry.since.get(), 1_006_000_000);
-    assert_eq!(rt; entry.until, None);
-    assert_eq!(rt; book.entry(2), Some(entry));
-    assert_eq!(rt; book.entry(1), None);
-    assert_eq!(rt; retired(book, 1, 0)?.err(), Some(BrokerRefusal::UnknownId));
-    assert_eq!(rt;
-        retired(book, 2, 0)?.err(),
-        Some(BrokerRefusal::NotReleased)
-    );
-    assert_eq!(rt; book.serial().get(), 4);
-    assert_eq!(rt; book.history().len(), 4);
-    assert_eq!(rt; book.table().contracts().len(), 1);
-    assert_eq!(rt; book.room().table, 4095);
-    assert_eq!(rt; book.room().history, 65_532);
-    Ok(())
+static SOLD_ANEW: [Step; 8] = [
+    Step::Reserve(0, Ok((1, 1, 0))),
+    Step::Release(1, 1_000_000_000, Ok(2)),
+    Step::Reserve(1, Err(Why::NoGreenRoom(9000, 4500))),
+    Step::Retire(1, 1_005_999_999, Err(Why::HoldLeft(1))),
+    Step::Retire(1, 1_006_000_000, Ok(3)),
+    Step::Reserve(1, Ok((2, 4, 1_006_000_000))),
+    Step::Retire(1, 0, Err(Why::UnknownId)),
+    Step::Retire(2, 0, Err(Why::NotReleased)),
+];
+
+/// Expects the entry of the second contract.
+fn expect_entry(rt: &impl Abort, entry: &Entry) {
+    assert!(rt; entry.id == 2);
+    assert!(rt; entry.name == Name::new("b").expect(rt, "a name"));
+    assert!(rt; entry.since.get() == 1_006_000_000);
+    assert!(rt; entry.until.is_none());
+}
+
+/// Expects that a book lists the second contract alone.
+fn expect_listed(rt: &impl Abort, alloc: Global, book: &Book) {
+    let list = book.list(alloc).expect(rt, "memory");
+    assert!(rt; list.len() == 1);
+    expect_entry(rt, &list[0]);
+    assert!(rt; book.entry(2) == Some(list[0]));
+    drop(list);
+    assert!(rt; book.entry(1).is_none());
+}
+
+/// Expects that a book has accepted four commands, and holds one contract.
+fn expect_sums(rt: &impl Abort, book: &Book) {
+    assert!(rt; book.serial().get() == 4);
+    assert!(rt; book.history().len() == 4);
+    assert!(rt; book.table().contracts().len() == 1);
+    assert!(rt; book.room().table == 4095);
+    assert!(rt; book.room().history == 65_532);
+}
+
+/// Expects of that book what comes of a share that is sold anew.
+fn expect_sold_anew(rt: &impl Abort, alloc: Global) {
+    let mut opened = tight(rt, alloc);
+    expect_steps(rt, alloc, "sold anew", &mut opened, &SOLD_ANEW);
+    expect_listed(rt, alloc, &opened.book);
+    expect_sums(rt, &opened.book);
+    drop(opened);
 }
 
 #[test]
-fn a_share_is_sold_anew_when_its_hold_has_passed(rt: HostRuntime) -> Result<(), Fail> {
-    let alloc = rt.alloc();
-    let (mut book, contracts) = opened(alloc, tight(alloc)?.as_str(), 4096, 65_536)?;
-    expect_a_share_is_sold_anew_when_its_hold_has_passed(
-        &rt,
-        alloc,
-        &mut book,
-        contracts.as_slice(),
-    )
-}
-
-/// A second release, an unknown id and a name in the book are refused.
-fn expect_commands_that_name_nothing_are_refused(
-    rt: &impl Abort,
-    alloc: Global,
-    book: &mut Book,
-    contracts: &[Contract],
-) -> Result<(), Fail> {
-    assert_eq!(rt; reserved(alloc, book, contracts, 0)?.ok(), Some((1, 1, 0)));
-    assert_eq!(rt; released(book, 1, 5)?.ok(), Some(2));
-    assert_eq!(rt;
-        released(book, 1, 7)?.err(),
-        Some(BrokerRefusal::AlreadyReleased)
-    );
-    assert_eq!(rt; released(book, 9, 7)?.err(), Some(BrokerRefusal::UnknownId));
-    let twice = DomainFault::new(Kind::Twice, Section::Contract, 0, Field::Name);
-    assert_eq!(rt;
-        reserved(alloc, book, contracts, 0)?.err(),
-        Some(BrokerRefusal::Contract(twice))
-    );
-    Ok(())
+fn a_share_is_sold_anew_when_its_hold_has_passed(rt: HostRuntime) {
+    expect_sold_anew(&rt, rt.alloc());
 }
 
 #[test]
-fn commands_that_name_nothing_are_refused(rt: HostRuntime) -> Result<(), Fail> {
-    let alloc = rt.alloc();
-    let (mut book, contracts) = opened(alloc, wide(alloc)?.as_str(), 4096, 65_536)?;
-    expect_commands_that_name_nothing_are_refused(&rt, alloc, &mut book, contracts.as_slice())
-}
-
-/// A table of one contract takes no second one.
-fn expect_a_full_table_takes_no_contract(
-    rt: &impl Abort,
-    alloc: Global,
-    book: &mut Book,
-    contracts: &[Contract],
-) -> Result<(), Fail> {
-    assert_eq!(rt; reserved(alloc, book, contracts, 0)?.ok(), Some((1, 1, 0)));
-    assert_eq!(rt;
-        reserved(alloc, book, contracts, 1)?.err(),
-        Some(BrokerRefusal::TableFull)
-    );
-    Ok(())
-}
-
-#[test]
-fn a_full_table_takes_no_contract(rt: HostRuntime) -> Result<(), Fail> {
-    let alloc = rt.alloc();
-    let (mut book, contracts) = opened(alloc, wide(alloc)?.as_str(), 1, 65_536)?;
-    expect_a_full_table_takes_no_contract(&rt, alloc, &mut book, contracts.as_slice())
-}
-
-/// A history of one command takes no second one, and unknown ids are told first.
-fn expect_a_full_history_takes_no_command(
-    rt: &impl Abort,
-    alloc: Global,
-    book: &mut Book,
-    contracts: &[Contract],
-) -> Result<(), Fail> {
-    assert_eq!(rt; reserved(alloc, book, contracts, 0)?.ok(), Some((1, 1, 0)));
-    assert_eq!(rt;
-        released(book, 1, 5)?.err(),
-        Some(BrokerRefusal::HistoryFull)
-    );
-    assert_eq!(rt; released(book, 9, 5)?.err(), Some(BrokerRefusal::UnknownId));
-    assert_eq!(rt;
-        reserved(alloc, book, contracts, 1)?.err(),
-        Some(BrokerRefusal::HistoryFull)
-    );
-    Ok(())
-}
-
-#[test]
-fn a_full_history_takes_no_command(rt: HostRuntime) -> Result<(), Fail> {
-    let alloc = rt.alloc();
-    let (mut book, contracts) = opened(alloc, wide(alloc)?.as_str(), 4096, 1)?;
-    expect_a_full_history_takes_no_command(&rt, alloc, &mut book, contracts.as_slice())
-}
-
-/// With one contract that may send yellow packets, all are held against the excess bucket.
-fn expect_yellow_packets_of_one_are_counted_with_green_ones_of_all(
-    rt: &impl Abort,
-    alloc: Global,
-    book: &mut Book,
-    contracts: &[Contract],
-) -> Result<(), Fail> {
-    assert_eq!(rt; reserved(alloc, book, contracts, 0)?.ok(), Some((1, 1, 0)));
-    let full = Refusal::AllBurst {
-        meter: Name::new("m")?,
-        needed: 1101,
-        available: 1000,
-    };
-    assert_eq!(rt;
-        reserved(alloc, book, contracts, 1)?.err(),
-        Some(BrokerRefusal::Checker(full))
-    );
-    Ok(())
-}
-
-#[test]
-fn yellow_packets_of_one_are_counted_with_green_ones_of_all(rt: HostRuntime) -> Result<(), Fail> {
-    let alloc = rt.alloc();
-    let (mut book, contracts) = opened(alloc, single_rate(alloc)?.as_str(), 4096, 65_536)?;
-    expect_yellow_packets_of_one_are_counted_with_green_ones_of_all(
-        &rt,
-        alloc,
-        &mut book,
-        contracts.as_slice(),
-    )
-}
-
-/// What is granted behind a release at the last moment begins then.
-fn expect_the_last_moment_is_kept(
-    rt: &impl Abort,
-    alloc: Global,
-    book: &mut Book,
-    contracts: &[Contract],
-) -> Result<(), Fail> {
-    assert_eq!(rt; reserved(alloc, book, contracts, 0)?.ok(), Some((1, 1, 0)));
-    assert_eq!(rt; released(book, 1, 9_223_372_036_854_775_807)?.ok(), Some(2));
-    let granted = reserved(alloc, book, contracts, 1)?.ok();
-    assert_eq!(rt; granted, Some((2, 3, 9_223_372_036_854_775_807)));
-    Ok(())
-}
-
-#[test]
-fn the_last_moment_is_kept(rt: HostRuntime) -> Result<(), Fail> {
-    let alloc = rt.alloc();
-    let (mut book, contracts) = opened(alloc, wide(alloc)?.as_str(), 4096, 65_536)?;
-    expect_the_last_moment_is_kept(&rt, alloc, &mut book, contracts.as_slice())
-}
-
-#[test]
-fn limits_stay_within_a_book(rt: HostRuntime) -> Result<(), Fail> {
+fn limits_stay_within_a_book(rt: HostRuntime) {
     assert!(rt; Limits::new(0, 1).is_err());
     assert!(rt; Limits::new(1, 0).is_err());
     assert!(rt; Limits::new(4097, 1).is_err());
     assert!(rt; Limits::new(1, 65_537).is_err());
-    assert_eq!(rt; Limits::new(4096, 65_536)?.table(), 4096);
-    assert_eq!(rt; Limits::new(4096, 65_536)?.history(), 65_536);
-    assert_eq!(rt; BrokerRefusal::HoldLeft(1).code(), 9);
-    Ok(())
+    let limits = limits(&rt, 4096, 65_536);
+    assert!(rt; limits.table() == 4096);
+    assert!(rt; limits.history() == 65_536);
+    assert!(rt; BrokerRefusal::HoldLeft(1).code() == 9);
 }

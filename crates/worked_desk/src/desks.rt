@@ -1,13 +1,14 @@
 ghost use Rattle.std.specs.Prelude.{◌≡◌, ◌<◌, ◌≤◌, []};
 
 use ds_broker::{BrokerRefusal, Limits};
-use ds_desk::{Broker, Desk, Feed, Naming, Opened};
+use ds_checker::Refusal;
+use ds_desk::{Broker, Desk, Done, Feed, Granted, Naming, Opened, Refused};
 use ds_domain::parse;
-use ds_domain_base::{Contract, Domain};
+use ds_domain_base::{Contract, Domain, Name};
 use moment_core::Moment;
 use std::alloc::Global;
+use std::process::Abort;
 use std::sync::Wait;
-use std::test::Fail;
 use worked_texts::{A, B, C, D, LINK, PORT, SHARE, TRUSTED, joined, push_all};
 
 /// What a desk is opened with.
@@ -19,18 +20,22 @@ pub struct Plan {
 }
 
 /// The domain of a text, for a table of 4,096 contracts and a history of 65,536 commands.
-fn plan_of(alloc: Global, text: &str) -> Result<Plan, Fail> {
-    let (domain, contracts) = parse(alloc, text.as_bytes())?;
-    Ok(Plan {
+fn plan_of(rt: &impl Abort, alloc: Global, text: &str) -> Plan {
+    let limits = Limits::new(4096, 65_536).expect(rt, "limits of a book");
+    let (domain, contracts) = parse(alloc, text.as_bytes()).expect(rt, text);
+    Plan {
         domain,
-        limits: Limits::new(4096, 65_536)?,
+        limits,
         contracts,
-    })
+    }
 }
 
 /// The domain of two contracts over a meter that has room for the burst of one.
-pub fn tight(alloc: Global) -> Result<Plan, Fail> {
-    plan_of(alloc, worked_texts::tight(alloc)?.as_str())
+pub fn tight(rt: &impl Abort, alloc: Global) -> Plan {
+    let text = worked_texts::tight(alloc).expect(rt, "memory");
+    let plan = plan_of(rt, alloc, text.as_str());
+    drop(text);
+    plan
 }
 
 /// A meter that carries four contracts.
@@ -39,42 +44,74 @@ meter = [{ name = "m", kind = "trtcm", cir = 32000000, cbs = 18000, pir = 320000
 "#;
 
 /// The domain of four contracts over that meter.
-pub fn four(alloc: Global) -> Result<Plan, Fail> {
-    let mut text = joined(alloc, &[METER_OF_FOUR, PORT, LINK])?;
+pub fn four(rt: &impl Abort, alloc: Global) -> Plan {
+    let mut text = joined(alloc, &[METER_OF_FOUR, PORT, LINK]).expect(rt, "memory");
     for name in [A, B, C, D] {
-        push_all(&mut text, &[TRUSTED, name, SHARE])?;
+        push_all(&mut text, &[TRUSTED, name, SHARE]).expect(rt, "memory");
     }
-    plan_of(alloc, text.as_str())
+    let plan = plan_of(rt, alloc, text.as_str());
+    drop(text);
+    plan
+}
+
+/// The refusal of a contract whose burst is no longer free at the meter of `tight`.
+pub fn full(rt: &impl Abort) -> BrokerRefusal {
+    BrokerRefusal::Checker(Refusal::GreenBurst {
+        meter: Name::new("m").expect(rt, "a name"),
+        needed: 9000,
+        available: 4500,
+    })
 }
 
 /// A copy of the contract at a place.
-pub fn contract(alloc: Global, contracts: &[Contract], place: usize) -> Result<Contract, Fail> {
-    let contract = contracts.get(place).ok_or("no such contract")?;
-    Ok(contract.copy(alloc)?)
+pub fn contract(rt: &impl Abort, alloc: Global, contracts: &[Contract], place: usize) -> Contract {
+    let contract = contracts.get(place).expect(rt, "a contract at that place");
+    contract.copy(alloc).expect(rt, "memory")
 }
 
 /// A broker of the domain, and its feeds.
-pub fn opened<J: Naming, R: Wait + Drop>(
+pub fn opened<J: Naming, R: Wait + Abort + Copy + Drop>(
     rt: R,
     alloc: Global,
     opened: Opened,
     domain: Domain,
     limits: Limits,
     feeds: usize,
-) -> Result<(Broker<J, R>, Vec<Feed<J>>), Fail>
+) -> (Broker<J, R>, Vec<Feed<J>>)
     requires log { opened ≡ J.log }
     requires opening { J.opening ≡ record { domain = domain; limits = limits; history = [] } }
     requires feeds { (0 < feeds) × (feeds ≤ 64) }
 {
-    match Desk::new(alloc, rt, opened, domain, limits, feeds) {
-        Ok((desk, feeds)) => Ok((Broker::new(desk), feeds)),
-        Err(_) => Err(Fail::from("no desk")),
-    }
+    let made = Desk::new(alloc, rt, opened, domain, limits, feeds);
+    let (desk, feeds) = made.ok().expect(&rt, "a desk");
+    (Broker::new(desk), feeds)
 }
 
 /// What a grant is, in numbers: its id, its serial, its beginning, and how many commands its front has; or a refusal,
 /// and how many commands its front has.
 pub type Sold = Result<(u32, u32, u64, u32), (BrokerRefusal, u32)>;
+
+/// What a grant is, in numbers.
+fn told_of_grant<J: Naming>(sold: Granted<J>) -> (u32, u32, u64, u32) {
+    let grant = sold.grant;
+    let length = sold.front.serial().get();
+    drop(sold);
+    (grant.id, grant.serial.get(), grant.since.get(), length)
+}
+
+/// The serial of what was done, and how many commands its front has.
+fn told_of_done<J: Naming>(done: Done<J>) -> (u32, u32) {
+    let told = (done.serial.get(), done.front.serial().get());
+    drop(done);
+    told
+}
+
+/// A refusal, and how many commands its front has.
+fn told_of_refusal<J: Naming>(refused: Refused<J>) -> (BrokerRefusal, u32) {
+    let told = (refused.refusal, refused.front.serial().get());
+    drop(refused);
+    told
+}
 
 /// Reserves a contract.
 pub fn reserved<J: Naming, R: Wait + Drop, W: Wait>(
@@ -83,38 +120,38 @@ pub fn reserved<J: Naming, R: Wait + Drop, W: Wait>(
     contract: Contract,
 ) -> Sold {
     match broker.reserve(rt, contract) {
-        Ok(sold) => Ok((
-            sold.grant.id,
-            sold.grant.serial.get(),
-            sold.grant.since.get(),
-            sold.front.serial().get(),
-        )),
-        Err((_, refused)) => Err((refused.refusal, refused.front.serial().get())),
+        Ok(sold) => Ok(told_of_grant(sold)),
+        Err((contract, refused)) => {
+            drop(contract);
+            Err(told_of_refusal(refused))
+        }
     }
 }
 
 /// Releases the contract of an id at a moment: the serial, and the length of the front.
-pub fn released<J: Naming, R: Wait + Drop, W: Wait>(
+pub fn released<J: Naming, R: Wait + Drop, W: Wait + Abort>(
     rt: &W,
     broker: &Broker<J, R>,
     id: u32,
     at: u64,
-) -> Result<Result<(u32, u32), (BrokerRefusal, u32)>, Fail> {
-    Ok(match broker.release(rt, id, Moment::new(at)?) {
-        Ok(done) => Ok((done.serial.get(), done.front.serial().get())),
-        Err(refused) => Err((refused.refusal, refused.front.serial().get())),
-    })
+) -> Result<(u32, u32), (BrokerRefusal, u32)> {
+    let moment = Moment::new(at).expect(rt, "a moment");
+    match broker.release(rt, id, moment) {
+        Ok(done) => Ok(told_of_done(done)),
+        Err(refused) => Err(told_of_refusal(refused)),
+    }
 }
 
 /// Retires the contract of an id at a moment: the serial, and the length of the front.
-pub fn retired<J: Naming, R: Wait + Drop, W: Wait>(
+pub fn retired<J: Naming, R: Wait + Drop, W: Wait + Abort>(
     rt: &W,
     broker: &Broker<J, R>,
     id: u32,
     moment: u64,
-) -> Result<Result<(u32, u32), (BrokerRefusal, u32)>, Fail> {
-    Ok(match broker.retire(rt, id, Moment::new(moment)?) {
-        Ok(done) => Ok((done.serial.get(), done.front.serial().get())),
-        Err(refused) => Err((refused.refusal, refused.front.serial().get())),
-    })
+) -> Result<(u32, u32), (BrokerRefusal, u32)> {
+    let moment = Moment::new(moment).expect(rt, "a moment");
+    match broker.retire(rt, id, moment) {
+        Ok(done) => Ok(told_of_done(done)),
+        Err(refused) => Err(told_of_refusal(refused)),
+    }
 }

@@ -1,16 +1,14 @@
 ghost use Rattle.std.specs.Prelude.{◌≡◌, []};
 
-use crate::desks::{Plan, contract, four, opened, tight};
+use crate::desks::{Plan, contract, four, full, opened, tight};
 use ds_broker::{BrokerRefusal, Grant, Limits};
-use ds_checker::Refusal;
 use ds_desk::{Broker, Feed, Front, Naming, Opened};
-use ds_domain_base::{Contract, Domain, Name};
+use ds_domain_base::{Contract, Domain};
 use moment_core::Moment;
 use std::alloc::Global;
 use std::marker::Brand;
 use std::process::Abort;
 use std::sync::Wait;
-use std::test::Fail;
 use std::thread::{Threads, join, map_vec};
 
 /// How often each caller sells, and each feed looks.
@@ -31,8 +29,49 @@ fn sell<J: Naming, R: Wait + Drop, W: Wait>(
 ) -> Told<J> {
     match broker.reserve(rt, contract) {
         Ok(granted) => Ok(granted.front),
-        Err((_, refused)) => Err(refused.refusal),
+        Err((contract, refused)) => {
+            drop(contract);
+            let refusal = refused.refusal;
+            drop(refused);
+            Err(refusal)
+        }
     }
+}
+
+/// The front and the refusal of two reserves, of which one is granted.
+fn one_granted<J: Naming>(rt: &impl Abort, a: Told<J>, b: Told<J>) -> (Front<J>, BrokerRefusal) {
+    match (a, b) {
+        (Ok(front), Err(refusal)) | (Err(refusal), Ok(front)) => (front, refusal),
+        _ => panic!(rt; "not one grant"),
+    }
+}
+
+/// Two callers reserve at once what the domain can carry one of: what the one is granted, and the other refused.
+fn sell_both<J: Naming + Send + Sync, R: Wait + Drop + Send + Sync, W>(
+    rt: &W,
+    alloc: Global,
+    broker: &Broker<J, R>,
+    contracts: &[Contract],
+) -> (Front<J>, BrokerRefusal)
+where
+    W: Threads + Wait + Abort + Sync,
+{
+    let first = contract(rt, alloc, contracts, 0);
+    let second = contract(rt, alloc, contracts, 1);
+    let (a, b) = join(
+        rt,
+        move || sell(rt, broker, first),
+        move || sell(rt, broker, second),
+    );
+    one_granted(rt, a, b)
+}
+
+/// A feed sees one command and one contract.
+fn expect_one_seen<J: Naming>(rt: &impl Abort, feed: Feed<J>) {
+    let seen = feed.look().ok().expect(rt, "a table is seen");
+    let told = (seen.serial().get(), seen.table().contracts().len());
+    drop(seen.end());
+    assert_eq!(rt; told, (1, 1));
 }
 
 /// Two callers reserve at once what the domain can carry one of: one is granted, and a feed that learns it sees it.
@@ -42,35 +81,14 @@ fn expect_one_grant<J: Naming + Send + Sync, R: Wait + Drop + Send + Sync, W>(
     broker: &Broker<J, R>,
     feed: Feed<J>,
     contracts: &[Contract],
-) -> Result<(), Fail>
+)
 where
     W: Threads + Wait + Abort + Sync,
 {
-    let first = contract(alloc, contracts, 0)?;
-    let second = contract(alloc, contracts, 1)?;
-    let (a, b) = join(
-        rt,
-        move || sell(rt, broker, first),
-        move || sell(rt, broker, second),
-    );
-    let (front, refusal) = match (a, b) {
-        (Ok(front), Err(refusal)) => (front, refusal),
-        (Err(refusal), Ok(front)) => (front, refusal),
-        _ => return Err(Fail::from("not one grant")),
-    };
-    let full = Refusal::GreenBurst {
-        meter: Name::new("m")?,
-        needed: 9000,
-        available: 4500,
-    };
-    assert_eq!(rt; refusal, BrokerRefusal::Checker(full));
-    let Ok(seen) = feed.learn(&front).look() else {
-        return Err(Fail::from("nothing is seen"));
-    };
-    let told = (seen.serial().get(), seen.table().contracts().len());
-    seen.end();
-    assert_eq!(rt; told, (1, 1));
-    Ok(())
+    let (front, refusal) = sell_both(rt, alloc, broker, contracts);
+    expect_one_seen(rt, feed.learn(&front));
+    drop(front);
+    assert_eq!(rt; refusal, full(rt));
 }
 
 /// The same at a broker of the domain.
@@ -81,24 +99,26 @@ fn one_of_two<J: Naming + Send + Sync, R: Threads + Wait + Abort + Copy + Drop +
     domain: Domain,
     limits: Limits,
     contracts: &[Contract],
-) -> Result<(), Fail>
+)
     requires log { log ≡ J.log }
     requires opening { J.opening ≡ record { domain = domain; limits = limits; history = [] } }
 {
-    let (broker, mut feeds) = opened::<J, R>(rt, alloc, log, domain, limits, 1)?;
-    let feed = feeds.pop().ok_or("one feed")?;
-    expect_one_grant(&rt, alloc, &broker, feed, contracts)
+    let (broker, mut feeds) = opened::<J, R>(rt, alloc, log, domain, limits, 1);
+    let feed = feeds.pop().expect(&rt, "one feed");
+    drop(feeds);
+    expect_one_grant(&rt, alloc, &broker, feed, contracts);
+    drop(broker);
 }
 
 #[test]
-fn of_two_callers_one_is_granted(rt: HostRuntime) -> Result<(), Fail> {
+fn of_two_callers_one_is_granted(rt: HostRuntime) {
     let alloc = rt.alloc();
     for _ in 0..50 {
         let Plan {
             domain,
             limits,
             contracts,
-        } = tight(alloc)?;
+        } = tight(&rt, alloc);
         one_of_two::<Brand, _>(
             rt,
             alloc,
@@ -106,9 +126,9 @@ fn of_two_callers_one_is_granted(rt: HostRuntime) -> Result<(), Fail> {
             domain,
             limits,
             contracts.as_slice(),
-        )?;
+        );
+        drop(contracts);
     }
-    Ok(())
 }
 
 /// What a thread does: it sells a contract over and over, or looks over and over.
@@ -125,16 +145,16 @@ enum Left<J: Naming> {
     Watched(Feed<J>),
 }
 
-/// What a contract is granted as. None where it is refused.
-fn granted<J: Naming, R: Wait + Drop, W: Wait>(
+/// What a contract is granted as.
+fn granted<J: Naming, R: Wait + Drop, W: Wait + Abort>(
     rt: &W,
     broker: &Broker<J, R>,
     contract: Contract,
-) -> Option<Grant> {
-    match broker.reserve(rt, contract) {
-        Ok(granted) => Some(granted.grant),
-        Err(_) => None,
-    }
+) -> Grant {
+    let granted = broker.reserve(rt, contract).ok().expect(rt, "a grant");
+    let grant = granted.grant;
+    drop(granted);
+    grant
 }
 
 /// The front of a retirement. None where it is refused.
@@ -146,103 +166,126 @@ fn given_back<J: Naming, R: Wait + Drop, W: Wait>(
 ) -> Option<Front<J>> {
     match broker.retire(rt, id, moment) {
         Ok(done) => Some(done.front),
-        Err(_) => None,
+        Err(refused) => {
+            drop(refused);
+            None
+        }
     }
 }
 
 /// Retires the contract of an id, at the first moment of some behind its beginning at which its hold has passed.
-fn give_back<J: Naming, R: Wait + Drop, W: Wait>(
+fn give_back<J: Naming, R: Wait + Drop, W: Wait + Abort>(
     rt: &W,
     broker: &Broker<J, R>,
     id: u32,
     since: u64,
-) -> Option<Front<J>> {
+) -> Front<J> {
     for seconds in 1..SECONDS {
-        let moment = since.checked_add(seconds * 1_000_000_000)?;
-        let front = given_back(rt, broker, id, Moment::new(moment).ok()?);
-        if front.is_some() {
+        let moment = since.checked_add(seconds * 1_000_000_000);
+        let moment = Moment::new(moment.expect(rt, "a moment")).expect(rt, "a moment");
+        if let Some(front) = given_back(rt, broker, id, moment) {
             return front;
         }
     }
-    None
+    panic!(rt; "no retirement")
 }
 
-/// Reserves, releases and retires a contract over and over. None where a command is refused.
-fn sell_each<J: Naming, R: Wait + Drop, W: Wait>(
+/// Reserves, releases and retires a contract: its id, and the front of the last answer.
+fn sell_once<J: Naming, R: Wait + Drop, W: Wait + Abort>(
     rt: &W,
     alloc: Global,
     broker: &Broker<J, R>,
     sold: &Contract,
-) -> Option<Left<J>> {
-    let mut ids = Vec::with_capacity(alloc, 1000).ok()?;
-    let mut last = None;
-    for _ in 0..EACH {
-        let grant = granted(rt, broker, sold.copy(alloc).ok()?)?;
-        ids.push(grant.id).ok()?;
-        broker.release(rt, grant.id, grant.since).ok()?;
-        last = Some(give_back(rt, broker, grant.id, grant.since.get())?);
-    }
-    Some(Left::Sold(ids, last?))
+) -> (u32, Front<J>) {
+    let grant = granted(rt, broker, sold.copy(alloc).expect(rt, "memory"));
+    let done = broker.release(rt, grant.id, grant.since);
+    drop(done.ok().expect(rt, "a release"));
+    (grant.id, give_back(rt, broker, grant.id, grant.since.get()))
 }
 
-/// Looks over and over. The feed, where no serial falls and each table has as many flows as contracts.
-fn watch<J: Naming>(feed: Feed<J>) -> Option<Left<J>> {
+/// Reserves, releases and retires a contract over and over.
+fn sell_each<J: Naming, R: Wait + Drop, W: Wait + Abort>(
+    rt: &W,
+    alloc: Global,
+    broker: &Broker<J, R>,
+    sold: &Contract,
+) -> Left<J> {
+    let mut ids = Vec::with_capacity(alloc, 1000).expect(rt, "memory");
+    let mut last = None;
+    for _ in 0..EACH {
+        let (id, front) = sell_once(rt, alloc, broker, sold);
+        ids.push(id).expect(rt, "memory");
+        drop(last.replace(front));
+    }
+    Left::Sold(ids, last.expect(rt, "a last answer"))
+}
+
+/// Looks once, behind a look at a serial: no serial falls, and each table has as many flows as contracts.
+fn watch_once<J: Naming>(rt: &impl Abort, feed: Feed<J>, newest: u32) -> (u32, Feed<J>) {
+    let seen = feed.look().ok().expect(rt, "a table is seen");
+    let serial = seen.serial().get();
+    let even = seen.table().contracts().len() == seen.flows().len();
+    let feed = seen.end();
+    assert!(rt; newest <= serial);
+    assert!(rt; even);
+    (serial, feed)
+}
+
+/// Looks over and over.
+fn watch<J: Naming>(rt: &impl Abort, feed: Feed<J>) -> Left<J> {
     let mut feed = feed;
     let mut newest = 0;
     for _ in 0..EACH {
-        let seen = feed.look().ok()?;
-        let serial = seen.serial().get();
-        let even = seen.table().contracts().len() == seen.flows().len();
-        feed = seen.end();
-        if serial < newest || !even {
-            return None;
-        }
-        newest = serial;
+        (newest, feed) = watch_once(rt, feed, newest);
     }
-    Some(Left::Watched(feed))
+    Left::Watched(feed)
 }
 
-/// Does the job of a thread. None where it does not come out.
-fn run<J: Naming, R: Wait + Drop, W: Wait>(
+/// Does the job of a thread.
+fn run<J: Naming, R: Wait + Drop, W: Wait + Abort>(
     rt: &W,
     alloc: Global,
     broker: &Broker<J, R>,
     job: Job<J>,
-) -> Option<Left<J>> {
+) -> Left<J> {
     match job {
-        Job::Sell(sold) => sell_each(rt, alloc, broker, &sold),
-        Job::Watch(feed) => watch(feed),
+        Job::Sell(sold) => {
+            let left = sell_each(rt, alloc, broker, &sold);
+            drop(sold);
+            left
+        }
+        Job::Watch(feed) => watch(rt, feed),
     }
 }
 
 /// The serial that a feed sees once it has learned of some answers.
-fn serial_behind<J: Naming>(feed: Feed<J>, fronts: &[Front<J>]) -> Result<u32, Fail> {
+fn serial_behind<J: Naming>(rt: &impl Abort, feed: Feed<J>, fronts: &[Front<J>]) -> u32 {
     let mut feed = feed;
     for front in fronts {
         feed = feed.learn(front);
     }
-    let Ok(seen) = feed.look() else {
-        return Err(Fail::from("nothing is seen"));
-    };
+    let seen = feed.look().ok().expect(rt, "a table is seen");
     let serial = seen.serial();
-    seen.end();
-    Ok(serial.get())
+    drop(seen.end());
+    serial.get()
 }
 
 /// The jobs of threads that sell a contract each, and of threads that look through a feed each.
 fn jobs<J: Naming>(
+    rt: &impl Abort,
     alloc: Global,
     contracts: &[Contract],
     feeds: Vec<Feed<J>>,
-) -> Result<Vec<Job<J>>, Fail> {
+) -> Vec<Job<J>> {
     let mut jobs = Vec::new(alloc);
     for contract in contracts {
-        jobs.push(Job::Sell(contract.copy(alloc)?))?;
+        let sold = contract.copy(alloc).expect(rt, "memory");
+        jobs.push(Job::Sell(sold)).expect(rt, "memory");
     }
     for feed in feeds {
-        jobs.push(Job::Watch(feed))?;
+        jobs.push(Job::Watch(feed)).expect(rt, "memory");
     }
-    Ok(jobs)
+    jobs
 }
 
 /// What all threads left: the ids that they were granted, the fronts of their last answers, and their feeds.
@@ -253,23 +296,76 @@ struct Gathered<J: Naming> {
     feeds: Vec<Feed<J>>,
 }
 
-/// Takes together what all threads left.
-fn gather<J: Naming>(alloc: Global, all: Vec<Option<Left<J>>>) -> Result<Gathered<J>, Fail> {
-    let mut ids = Vec::new(alloc);
-    let mut fronts = Vec::new(alloc);
-    let mut feeds = Vec::new(alloc);
-    for left in all {
-        match left.ok_or("a command is refused, or a look fails")? {
-            Left::Sold(sold, front) => {
-                for id in sold.iter() {
-                    ids.push(*id)?;
-                }
-                fronts.push(front)?;
-            }
-            Left::Watched(feed) => feeds.push(feed)?,
+/// Puts what a thread left beside what others left.
+fn put<J: Naming>(rt: &impl Abort, gathered: &mut Gathered<J>, left: Left<J>) {
+    match left {
+        Left::Sold(sold, front) => {
+            let put = gathered.ids.extend_from_slice(sold.as_slice());
+            drop(sold);
+            put.expect(rt, "memory");
+            gathered.fronts.push(front).expect(rt, "memory");
         }
+        Left::Watched(feed) => gathered.feeds.push(feed).expect(rt, "memory"),
     }
-    Ok(Gathered { ids, fronts, feeds })
+}
+
+/// Takes together what all threads left.
+fn gather<J: Naming>(rt: &impl Abort, alloc: Global, all: Vec<Left<J>>) -> Gathered<J> {
+    let mut gathered = Gathered {
+        ids: Vec::new(alloc),
+        fronts: Vec::new(alloc),
+        feeds: Vec::new(alloc),
+    };
+    for left in all {
+        put(rt, &mut gathered, left);
+    }
+    gathered
+}
+
+/// Four callers sell beside four feeds: what all threads left.
+fn sell_beside<J: Naming + Send + Sync, R: Wait + Drop + Send + Sync, W>(
+    rt: &W,
+    alloc: Global,
+    broker: &Broker<J, R>,
+    contracts: &[Contract],
+    feeds: Vec<Feed<J>>,
+) -> Gathered<J>
+where
+    W: Threads + Wait + Abort + Sync,
+{
+    let jobs = jobs(rt, alloc, contracts, feeds);
+    let all = map_vec(rt, jobs, &|job| run(rt, alloc, broker, job));
+    gather(rt, alloc, all.expect(rt, "memory"))
+}
+
+/// The ids that were granted are the first 4,000.
+fn expect_ids(rt: &impl Abort, ids: &mut [u32]) {
+    assert_eq!(rt; ids.len(), 4000);
+    ids.sort_unstable();
+    for (place, id) in ids.iter().enumerate() {
+        assert_eq!(rt; *id as usize, place + 1);
+    }
+}
+
+/// There are four feeds, and each sees all that was accepted.
+fn expect_feeds<J: Naming>(rt: &impl Abort, feeds: Vec<Feed<J>>, fronts: &[Front<J>]) {
+    assert_eq!(rt; feeds.len(), 4);
+    for feed in feeds {
+        assert_eq!(rt; serial_behind(rt, feed, fronts), 12_000);
+    }
+}
+
+/// All ids differ, and each feed sees all that was accepted.
+fn expect_gathered<J: Naming>(rt: &impl Abort, gathered: Gathered<J>) {
+    let Gathered {
+        mut ids,
+        fronts,
+        feeds,
+    } = gathered;
+    expect_ids(rt, ids.as_mut_slice());
+    drop(ids);
+    expect_feeds(rt, feeds, fronts.as_slice());
+    drop(fronts);
 }
 
 /// Four callers sell beside four feeds: all ids differ, and each feed sees all that was accepted.
@@ -280,39 +376,24 @@ fn four_beside_four<J: Naming + Send + Sync, R: Threads + Wait + Abort + Copy + 
     domain: Domain,
     limits: Limits,
     contracts: &[Contract],
-) -> Result<(), Fail>
+)
     requires log { log ≡ J.log }
     requires opening { J.opening ≡ record { domain = domain; limits = limits; history = [] } }
 {
-    let (broker, feeds) = opened::<J, R>(rt, alloc, log, domain, limits, 4)?;
-    let (rt, shared) = (&rt, &broker);
-    let jobs = jobs(alloc, contracts, feeds)?;
-    let all = map_vec(rt, jobs, &|job| run(rt, alloc, shared, job))?;
-    let Gathered {
-        mut ids,
-        fronts,
-        feeds,
-    } = gather(alloc, all)?;
-    assert_eq!(rt; ids.len(), 4000);
-    ids.as_mut_slice().sort_unstable();
-    for (place, id) in ids.iter().enumerate() {
-        assert_eq!(rt; *id as usize, place + 1);
-    }
-    assert_eq!(rt; feeds.len(), 4);
-    for feed in feeds {
-        assert_eq!(rt; serial_behind(feed, fronts.as_slice())?, 12_000);
-    }
-    Ok(())
+    let (broker, feeds) = opened::<J, R>(rt, alloc, log, domain, limits, 4);
+    let gathered = sell_beside(&rt, alloc, &broker, contracts, feeds);
+    expect_gathered(&rt, gathered);
+    drop(broker);
 }
 
 #[test]
-fn four_callers_sell_beside_four_feeds(rt: HostRuntime) -> Result<(), Fail> {
+fn four_callers_sell_beside_four_feeds(rt: HostRuntime) {
     let alloc = rt.alloc();
     let Plan {
         domain,
         limits,
         contracts,
-    } = four(alloc)?;
+    } = four(&rt, alloc);
     four_beside_four::<Brand, _>(
         rt,
         alloc,
@@ -320,5 +401,6 @@ fn four_callers_sell_beside_four_feeds(rt: HostRuntime) -> Result<(), Fail> {
         domain,
         limits,
         contracts.as_slice(),
-    )
+    );
+    drop(contracts);
 }

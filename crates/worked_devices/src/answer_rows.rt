@@ -1,11 +1,9 @@
-ghost use Rattle.std.specs.Prelude.{◌≤◌, ◌^◌};
-
+use crate::expecting::expect_same;
 use dsedge_lines::{Command, Ending, FirstLineFault, PumpFault, Words, first_line, pump};
 use line_text::push_number;
 use pcap_capture::{SliceIntake, VecOutlet};
 use std::alloc::{AllocError, Global};
 use std::process::Abort;
-use std::test::Fail;
 
 /// Says `ok ` to each line, and then the number of a line to come. An empty line is bad.
 #[derive(Drop)]
@@ -35,124 +33,191 @@ impl Command for Sample {
     }
 }
 
-/// What is answered to an input, and what is written by two bytes a call.
-fn answered(
-    alloc: Global,
-    mut intake: SliceIntake,
-    write_fails_at: Option<u64>,
-    turns: u64,
-) -> (Result<Ending, PumpFault>, Vec<u8>)
-    requires { turns ≤ 2 ^ 32 }
-{
-    let mut outlet = VecOutlet {
-        most: 2,
-        fails_at: write_fails_at,
-        ..VecOutlet::new(Vec::new(alloc))
-    };
-    let ending = pump(alloc, &mut Sample, &mut intake, &mut outlet, turns);
-    (ending, outlet.bytes)
-}
+/// An input, how many bytes it gives a call, which of its calls fails, and which of the calls of the output.
+type Devices = (&'static [u8], usize, Option<u64>, Option<u64>);
 
-/// Expects what is answered to an input, and what is written.
-fn expect(
-    rt: &impl Abort,
-    alloc: Global,
-    intake: SliceIntake,
-    write_fails_at: Option<u64>,
-    turns: u64,
-    wanted: (Result<Ending, PumpFault>, &[u8]),
-)
-    requires { turns ≤ 2 ^ 32 }
-{
-    let (ending, written) = answered(alloc, intake, write_fails_at, turns);
-    assert_eq!(rt; (ending, written.as_slice()), wanted);
-}
+/// What a row is about, its devices, for how many turns they are asked, and what is answered and written.
+type Answered = (
+    &'static str,
+    Devices,
+    u32,
+    Result<Ending, PumpFault>,
+    &'static [u8],
+);
 
-/// An input that comes so many bytes a call.
-fn slow(bytes: &[u8], most: usize) -> SliceIntake<'_> {
+const CUT: &[u8] = b"a\nbcd\nef";
+
+const THREE: &[u8] = b"a\nb\nc\n";
+
+static ANSWERS: [Answered; 9] = [
+    (
+        "one byte a call",
+        (CUT, 1, None, None),
+        100,
+        Ok(Ending::Whole),
+        b"ok ok ok 4",
+    ),
+    (
+        "two bytes a call",
+        (CUT, 2, None, None),
+        100,
+        Ok(Ending::Whole),
+        b"ok ok ok 4",
+    ),
+    (
+        "three bytes a call",
+        (CUT, 3, None, None),
+        100,
+        Ok(Ending::Whole),
+        b"ok ok ok 4",
+    ),
+    (
+        "all bytes at once",
+        (CUT, 100, None, None),
+        100,
+        Ok(Ending::Whole),
+        b"ok ok ok 4",
+    ),
+    (
+        "a_bad_line_ends_the_answer",
+        (b"a\n\nb\n", usize::MAX, None, None),
+        100,
+        Ok(Ending::BadLine(2)),
+        b"ok ",
+    ),
+    (
+        "no_input_is_no_line",
+        (b"", usize::MAX, None, None),
+        1,
+        Ok(Ending::Whole),
+        b"1",
+    ),
+    (
+        "a read that fails",
+        (THREE, 2, Some(3), None),
+        100,
+        Err(PumpFault::Read),
+        b"ok ok ",
+    ),
+    (
+        "only two turns",
+        (THREE, 2, None, None),
+        2,
+        Err(PumpFault::Read),
+        b"ok ok ",
+    ),
+    (
+        "a write that fails",
+        (THREE, 2, None, Some(2)),
+        100,
+        Err(PumpFault::Write),
+        b"ok",
+    ),
+];
+
+/// An input that gives so many bytes a call, and fails at a call.
+fn input(bytes: &[u8], most: usize, fails_at: Option<u64>) -> SliceIntake<'_> {
     SliceIntake {
         most,
+        fails_at,
         ..SliceIntake::new(bytes)
     }
 }
 
-#[test]
-fn lines_are_answered_however_they_are_cut(rt: HostRuntime) {
-    let whole = (Ok(Ending::Whole), b"ok ok ok 4".as_slice());
-    for most in [1, 2, 3, 100] {
-        expect(&rt, rt.alloc(), slow(b"a\nbcd\nef", most), None, 100, whole);
+/// An output that takes two bytes a call, and fails at a call.
+fn output(alloc: Global, fails_at: Option<u64>) -> VecOutlet {
+    VecOutlet {
+        most: 2,
+        fails_at,
+        ..VecOutlet::new(Vec::new(alloc))
     }
 }
 
-#[test]
-fn a_bad_line_ends_the_answer(rt: HostRuntime) {
-    let front = (Ok(Ending::BadLine(2)), b"ok ".as_slice());
-    expect(
-        &rt,
-        rt.alloc(),
-        SliceIntake::new(b"a\n\nb\n"),
-        None,
-        100,
-        front,
+/// Expects what is answered to an input, and what is written.
+fn expect(rt: &impl Abort, alloc: Global, (name, devices, turns, ending, written): &Answered) {
+    let (bytes, most, reading, writing) = devices;
+    let mut intake = input(bytes, *most, *reading);
+    let mut outlet = output(alloc, *writing);
+    let found = pump(
+        alloc,
+        &mut Sample,
+        &mut intake,
+        &mut outlet,
+        u64::from(*turns),
     );
+    expect_same(rt, name, found, *ending);
+    expect_same(rt, name, outlet.bytes.as_slice(), written);
+    drop(outlet);
 }
 
 #[test]
-fn no_input_is_no_line(rt: HostRuntime) {
-    let whole = (Ok(Ending::Whole), b"1".as_slice());
-    expect(&rt, rt.alloc(), SliceIntake::new(b""), None, 1, whole);
-}
-
-#[test]
-fn faults_leave_a_front_of_the_answer(rt: HostRuntime) {
-    let input = slow(b"a\nb\nc\n", 2);
-    let failing = SliceIntake {
-        fails_at: Some(3),
-        ..input
-    };
-    let unread = (Err(PumpFault::Read), b"ok ok ".as_slice());
-    expect(&rt, rt.alloc(), failing, None, 100, unread);
-    // only two turns
-    expect(&rt, rt.alloc(), input, None, 2, unread);
-    let unwritten = (Err(PumpFault::Write), b"ok".as_slice());
-    expect(&rt, rt.alloc(), input, Some(2), 100, unwritten);
+fn lines_are_answered_whole_or_up_to_a_fault(rt: HostRuntime) {
+    for row in &ANSWERS {
+        expect(&rt, rt.alloc(), row);
+    }
 }
 
 /// Expects of words the one at a place.
 fn expect_word(rt: &impl Abort, words: &Words, place: usize, wanted: &str) {
-    match words.get(place) {
-        Some(word) => assert_eq!(rt; word.as_str(), wanted),
-        None => assert!(rt; false, "no word at {place}"),
-    }
+    let word = words.get(place).expect(rt, wanted);
+    assert!(rt; word.as_str() == wanted);
+}
+
+/// Expects four words.
+fn expect_words(rt: &impl Abort, words: &Words) {
+    assert!(rt; words.len() == 4);
+    expect_word(rt, words, 0, "meter");
+    expect_word(rt, words, 2, "");
+    expect_word(rt, words, 3, "trtcm");
 }
 
 /// Expects of an input that its first line is no text of words.
 fn expect_usage(rt: &impl Abort, alloc: Global, bytes: &[u8]) {
-    let found = first_line(alloc, &mut SliceIntake::new(bytes));
-    assert!(rt; matches!(&found, Err(FirstLineFault::Usage)));
+    let found = first_line(alloc, &mut SliceIntake::new(bytes)).err();
+    assert!(rt; matches!(&found, Some(FirstLineFault::Usage)));
 }
 
-#[test]
-fn words_of_the_first_line(rt: HostRuntime) -> Result<(), Fail> {
+/// Expects the words of a first line, and what is left behind it.
+fn expect_first_line(rt: &impl Abort, alloc: Global) {
     let mut intake = SliceIntake::new(b"meter --kind  trtcm\n0 1 g\n");
-    let words = first_line(rt.alloc(), &mut intake)?;
-    assert_eq!(rt; words.len(), 4);
-    expect_word(&rt, &words, 0, "meter");
-    expect_word(&rt, &words, 2, "");
-    expect_word(&rt, &words, 3, "trtcm");
-    assert_eq!(rt; intake.bytes, b"0 1 g\n".as_slice());
-    expect_usage(&rt, rt.alloc(), b"a \xff\n");
-    Ok(())
+    let words = first_line(alloc, &mut intake).expect(rt, "words");
+    expect_words(rt, &words);
+    drop(words);
+    assert!(rt; intake.bytes == b"0 1 g\n".as_slice());
 }
 
 #[test]
-fn the_longest_first_line(rt: HostRuntime) -> Result<(), Fail> {
-    let mut line = Vec::new(rt.alloc());
-    for _ in 0..65536 {
+fn words_of_the_first_line(rt: HostRuntime) {
+    expect_first_line(&rt, rt.alloc());
+    expect_usage(&rt, rt.alloc(), b"a \xff\n");
+}
+
+/// A line of so many bytes.
+fn long_line(alloc: Global, bytes: u32) -> Result<Vec<u8>, AllocError> {
+    let mut line = Vec::new(alloc);
+    for _ in 0..bytes {
         line.push(b'a')?;
     }
-    assert!(rt; first_line(rt.alloc(), &mut SliceIntake::new(line.as_slice())).is_ok());
-    line.push(b'a')?;
-    expect_usage(&rt, rt.alloc(), line.as_slice());
-    Ok(())
+    Ok(line)
+}
+
+/// Expects that the longest first line is taken.
+fn expect_longest(rt: &impl Abort, alloc: Global) {
+    let line = long_line(alloc, 65536).expect(rt, "memory");
+    let mut intake = SliceIntake::new(line.as_slice());
+    drop(first_line(alloc, &mut intake).expect(rt, "words"));
+    drop(line);
+}
+
+/// Expects that no longer line is taken.
+fn expect_longer(rt: &impl Abort, alloc: Global) {
+    let line = long_line(alloc, 65537).expect(rt, "memory");
+    expect_usage(rt, alloc, line.as_slice());
+    drop(line);
+}
+
+#[test]
+fn the_longest_first_line(rt: HostRuntime) {
+    expect_longest(&rt, rt.alloc());
+    expect_longer(&rt, rt.alloc());
 }

@@ -9,6 +9,8 @@ mod capture_rows;
 #[cfg(test)]
 mod device_rows;
 #[cfg(test)]
+mod expecting;
+#[cfg(test)]
 mod lane_rows;
 #[cfg(test)]
 mod line_rows;

@@ -1,7 +1,7 @@
-use af_marker::{Class, Colour, Dscp, Header, OutOfRange, colour_of, dscp, header, remark};
+use crate::expecting::expect_same;
+use af_marker::{Class, Colour, Dscp, Header, colour_of, dscp, header, remark};
 use moment_core::PacketSize;
 use std::process::Abort;
-use std::test::Fail;
 
 /// A UDP packet's header with the checksum b861, and the ports 53 and 1,024 behind it.
 const DATAGRAM: [u8; 24] = [
@@ -20,140 +20,210 @@ pub fn changed(puts: &[(usize, u8)]) -> [u8; 24] {
     bytes
 }
 
-/// The code points of a class: green, yellow, red.
-fn code_points(class: u8) -> Result<[u8; 3], OutOfRange> {
-    let class = Class::new(class)?;
-    Ok([Colour::Green, Colour::Yellow, Colour::Red].map(|colour| dscp(class, colour).get()))
+/// A class of assured forwarding.
+fn class(rt: &impl Abort, number: u8) -> Class {
+    Class::new(number).expect(rt, "a class")
 }
 
-/// Expects of a class its code points.
-fn expect_code_points(rt: &impl Abort, class: u8, wanted: [u8; 3]) -> Result<(), OutOfRange> {
-    assert_eq!(rt; code_points(class)?, wanted);
-    Ok(())
+/// A code point.
+pub fn code_point(rt: &impl Abort, number: u8) -> Dscp {
+    Dscp::new(number).expect(rt, "a code point")
 }
 
-/// Expects of a code point the colour that it says in a class.
-fn expect_colour(
-    rt: &impl Abort,
-    class: u8,
-    code_point: u8,
-    wanted: Option<Colour>,
-) -> Result<(), OutOfRange> {
-    let found = colour_of(Class::new(class)?, Dscp::new(code_point)?);
-    assert_eq!(rt; found, wanted);
-    Ok(())
-}
+/// What a row is about, a class and its colour, and the code point of both.
+static CODE_POINTS: [(&str, u8, Colour, u8); 12] = [
+    ("AF11", 1, Colour::Green, 10),
+    ("AF12", 1, Colour::Yellow, 12),
+    ("AF13", 1, Colour::Red, 14),
+    ("AF21", 2, Colour::Green, 18),
+    ("AF22", 2, Colour::Yellow, 20),
+    ("AF23", 2, Colour::Red, 22),
+    ("AF31", 3, Colour::Green, 26),
+    ("AF32", 3, Colour::Yellow, 28),
+    ("AF33", 3, Colour::Red, 30),
+    ("AF41", 4, Colour::Green, 34),
+    ("AF42", 4, Colour::Yellow, 36),
+    ("AF43", 4, Colour::Red, 38),
+];
+
+/// What a row is about, a class, a code point, and the colour that it says in the class.
+static COLOURS: [(&str, u8, u8, Option<Colour>); 5] = [
+    ("AF12", 1, 12, Some(Colour::Yellow)),
+    ("AF22", 2, 20, Some(Colour::Yellow)),
+    ("AF32", 3, 28, Some(Colour::Yellow)),
+    ("AF42", 4, 36, Some(Colour::Yellow)),
+    ("none of assured forwarding", 1, 0, None),
+];
 
 #[test]
-fn the_twelve_code_points_of_the_standard(rt: HostRuntime) -> Result<(), OutOfRange> {
-    expect_code_points(&rt, 1, [10, 12, 14])?;
-    expect_code_points(&rt, 2, [18, 20, 22])?;
-    expect_code_points(&rt, 3, [26, 28, 30])?;
-    expect_code_points(&rt, 4, [34, 36, 38])?;
-    expect_colour(&rt, 1, 12, Some(Colour::Yellow))?;
-    expect_colour(&rt, 2, 20, Some(Colour::Yellow))?;
-    expect_colour(&rt, 3, 28, Some(Colour::Yellow))?;
-    expect_colour(&rt, 4, 36, Some(Colour::Yellow))?;
-    expect_colour(&rt, 1, 0, None)
+fn the_twelve_code_points_of_the_standard(rt: HostRuntime) {
+    for (name, number, colour, wanted) in &CODE_POINTS {
+        let found = dscp(class(&rt, *number), *colour).get();
+        expect_same(&rt, name, found, *wanted);
+    }
+    for (name, number, given, wanted) in &COLOURS {
+        let found = colour_of(class(&rt, *number), code_point(&rt, *given));
+        expect_same(&rt, name, found, *wanted);
+    }
 }
 
 /// Expects of the changed datagram what its header says.
-fn expect_header(rt: &impl Abort, puts: &[(usize, u8)], wanted: Header) -> Result<(), Fail> {
-    assert_eq!(rt; header(&changed(puts))?, wanted);
-    Ok(())
+fn expect_header(rt: &impl Abort, puts: &[(usize, u8)], wanted: Header) {
+    let found = header(&changed(puts)).expect(rt, "a header");
+    assert_eq!(rt; found, wanted);
 }
 
-#[test]
-fn a_header_says_what_stands_in_it(rt: HostRuntime) -> Result<(), Fail> {
-    let whole = Header {
+/// The header of the datagram.
+fn whole(rt: &impl Abort) -> Header {
+    Header {
         length: 20,
-        total: PacketSize::new(115)?,
-        dscp: Dscp::new(0)?,
+        total: PacketSize::new(115).expect(rt, "a size"),
+        dscp: code_point(rt, 0),
         protocol: 17,
         offset: 0,
         source: 0xc0a8_0001,
         target: 0xc0a8_00c7,
         ports: Some((53, 1024)),
         verified: true,
-    };
-    let fragment = Header {
+    }
+}
+
+/// The header of a later fragment of it.
+fn fragment(rt: &impl Abort) -> Header {
+    Header {
         offset: 1,
         ports: None,
         verified: false,
-        ..whole
-    };
-    expect_header(&rt, &[], whole)?;
-    expect_header(&rt, &[(7, 1)], fragment)
+        ..whole(rt)
+    }
 }
 
-/// Expects of so many bytes of the changed datagram the number of the fault of their header, 0 where it has none.
-fn expect_code(rt: &impl Abort, puts: &[(usize, u8)], length: usize, wanted: u8) {
+#[test]
+fn a_header_says_what_stands_in_it(rt: HostRuntime) {
+    expect_header(&rt, &[], whole(&rt));
+    expect_header(&rt, &[(7, 1)], fragment(&rt));
+}
+
+/// What a row is about, the bytes that are put elsewhere in the datagram, of how many bytes the header is read, and the
+/// number of its fault, 0 where it has none.
+type Tested = (&'static str, &'static [(usize, u8)], usize, u8);
+
+static TESTS: [Tested; 8] = [
+    ("no byte", &[], 0, 2),
+    ("another version", &[(0, 0x60)], 1, 1),
+    ("19 bytes", &[], 19, 2),
+    ("a header that is too short", &[(0, 0x44)], 20, 3),
+    ("more header than bytes", &[(0, 0x4f)], 24, 2),
+    ("a packet shorter than its header", &[(3, 19)], 20, 3),
+    ("a packet of no bytes", &[(3, 0)], 20, 3),
+    ("a packet that is its header", &[(3, 20)], 20, 0),
+];
+
+/// Expects of a row the number of its fault.
+fn expect_code(rt: &impl Abort, (name, puts, length, wanted): &Tested) {
     let bytes = changed(puts);
-    let code = match header(&bytes[..length.min(24)]) {
+    let code = match header(&bytes[..(*length).min(24)]) {
         Ok(_) => 0,
         Err(fault) => fault.code(),
     };
-    assert_eq!(rt; code, wanted);
+    expect_same(rt, name, code, *wanted);
 }
 
 #[test]
 fn each_test_of_a_header_in_its_order(rt: HostRuntime) {
-    expect_code(&rt, &[], 0, 2);
-    expect_code(&rt, &[(0, 0x60)], 1, 1);
-    expect_code(&rt, &[], 19, 2);
-    expect_code(&rt, &[(0, 0x44)], 20, 3);
-    expect_code(&rt, &[(0, 0x4f)], 24, 2);
-    expect_code(&rt, &[(3, 19)], 20, 3);
-    expect_code(&rt, &[(3, 0)], 20, 3);
-    expect_code(&rt, &[(3, 20)], 20, 0);
+    for row in &TESTS {
+        expect_code(&rt, row);
+    }
 }
 
-/// A header with the code point of class 1 and a colour put into it, and whether its checksum was right.
-fn marked(mut bytes: [u8; 24], colour: Colour) -> Result<([u8; 24], bool), Fail> {
-    let found = remark(&mut bytes, dscp(Class::new(1)?, colour))?;
-    Ok((bytes, found.verified))
-}
+/// What a row is about, the bytes that are put elsewhere in the datagram, the colour of class 1 whose code point is put
+/// into it then, the bytes that stand elsewhere in what that gives, and whether the checksum was right.
+type Marked = (
+    &'static str,
+    &'static [(usize, u8)],
+    Colour,
+    &'static [(usize, u8)],
+    bool,
+);
 
-/// Expects of a header with that code point put into it its bytes, and whether its checksum was right.
-fn expect_marked(
-    rt: &impl Abort,
-    given: [u8; 24],
-    colour: Colour,
-    wanted: ([u8; 24], bool),
-) -> Result<(), Fail> {
-    assert_eq!(rt; marked(given, colour)?, wanted);
-    Ok(())
+/// A checksum that is right is brought up to the mark, and any other stays. It is 0 and never all ones after a mark.
+static MARKS: [Marked; 9] = [
+    (
+        "a_right_checksum_is_brought_up_to_the_mark: green",
+        &[],
+        Colour::Green,
+        &[(1, 0x28), (11, 0x39)],
+        true,
+    ),
+    (
+        "a_right_checksum_is_brought_up_to_the_mark: yellow",
+        &[],
+        Colour::Yellow,
+        &[(1, 0x30), (11, 0x31)],
+        true,
+    ),
+    (
+        "a_right_checksum_is_brought_up_to_the_mark: red",
+        &[],
+        Colour::Red,
+        &[(1, 0x38), (11, 0x29)],
+        true,
+    ),
+    (
+        "a_right_checksum_is_brought_up_to_the_mark: congestion",
+        &[(1, 0x03), (11, 0x5e)],
+        Colour::Green,
+        &[(1, 0x2b), (11, 0x36)],
+        true,
+    ),
+    (
+        "a_checksum_that_is_not_right_stays",
+        &[(10, 0), (11, 0)],
+        Colour::Green,
+        &[(1, 0x28), (10, 0), (11, 0)],
+        false,
+    ),
+    (
+        "a_checksum_is_0_after_a_mark",
+        &[(4, 0xb8), (5, 0x39), (10, 0x00), (11, 0x28)],
+        Colour::Green,
+        &[(4, 0xb8), (5, 0x39), (1, 0x28), (10, 0x00), (11, 0x00)],
+        true,
+    ),
+    (
+        "a_checksum_of_all_ones_is_0_after_a_mark",
+        &[(4, 0xb8), (5, 0x39), (1, 0x28), (10, 0xff), (11, 0xff)],
+        Colour::Green,
+        &[(4, 0xb8), (5, 0x39), (1, 0x28), (10, 0x00), (11, 0x00)],
+        true,
+    ),
+    (
+        "a_checksum_of_0_before_a_mark",
+        &[(4, 0xb8), (5, 0x39), (1, 0x28), (10, 0x00), (11, 0x00)],
+        Colour::Yellow,
+        &[(4, 0xb8), (5, 0x39), (1, 0x30), (10, 0xff), (11, 0xf7)],
+        true,
+    ),
+    (
+        "a_checksum_of_all_ones_before_a_mark",
+        &[(4, 0xb8), (5, 0x39), (1, 0x28), (10, 0xff), (11, 0xff)],
+        Colour::Yellow,
+        &[(4, 0xb8), (5, 0x39), (1, 0x30), (10, 0xff), (11, 0xf7)],
+        true,
+    ),
+];
+
+/// Expects of a row the header's bytes behind the mark, and whether its checksum was right.
+fn expect_marked(rt: &impl Abort, (name, before, colour, after, verified): &Marked) {
+    let mut bytes = changed(before);
+    let found = remark(&mut bytes, dscp(class(rt, 1), *colour)).expect(rt, name);
+    expect_same(rt, name, found.verified, *verified);
+    expect_same(rt, name, bytes, changed(after));
 }
 
 #[test]
-fn a_right_checksum_is_brought_up_to_the_mark(rt: HostRuntime) -> Result<(), Fail> {
-    let green = changed(&[(1, 0x28), (11, 0x39)]);
-    expect_marked(&rt, DATAGRAM, Colour::Green, (green, true))?;
-    let yellow = changed(&[(1, 0x30), (11, 0x31)]);
-    expect_marked(&rt, DATAGRAM, Colour::Yellow, (yellow, true))?;
-    let red = changed(&[(1, 0x38), (11, 0x29)]);
-    expect_marked(&rt, DATAGRAM, Colour::Red, (red, true))?;
-    let congested = changed(&[(1, 0x03), (11, 0x5e)]);
-    let beside = changed(&[(1, 0x2b), (11, 0x36)]);
-    expect_marked(&rt, congested, Colour::Green, (beside, true))
-}
-
-#[test]
-fn a_checksum_that_is_not_right_stays(rt: HostRuntime) -> Result<(), Fail> {
-    let wrong = changed(&[(10, 0), (11, 0)]);
-    let wanted = changed(&[(1, 0x28), (10, 0), (11, 0)]);
-    expect_marked(&rt, wrong, Colour::Green, (wanted, false))
-}
-
-#[test]
-fn a_checksum_is_0_and_never_all_ones_after_a_mark(rt: HostRuntime) -> Result<(), Fail> {
-    let whole = [(4, 0xb8), (5, 0x39)];
-    let before = changed(&[whole[0], whole[1], (10, 0x00), (11, 0x28)]);
-    let nothing = changed(&[whole[0], whole[1], (1, 0x28), (10, 0x00), (11, 0x00)]);
-    expect_marked(&rt, before, Colour::Green, (nothing, true))?;
-    let all = changed(&[whole[0], whole[1], (1, 0x28), (10, 0xff), (11, 0xff)]);
-    expect_marked(&rt, all, Colour::Green, (nothing, true))?;
-    let after = changed(&[whole[0], whole[1], (1, 0x30), (10, 0xff), (11, 0xf7)]);
-    expect_marked(&rt, nothing, Colour::Yellow, (after, true))?;
-    expect_marked(&rt, all, Colour::Yellow, (after, true))
+fn marks_and_their_checksums(rt: HostRuntime) {
+    for row in &MARKS {
+        expect_marked(&rt, row);
+    }
 }

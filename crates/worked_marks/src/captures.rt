@@ -1,4 +1,5 @@
 use std::alloc::{AllocError, Global};
+use std::process::Abort;
 
 /// The heading of a capture: low bytes first, microseconds, Ethernet.
 pub const HEADING: &str = "d4c3b2a1 0200 0400 00000000 00000000 ffff0000 01000000";
@@ -67,10 +68,10 @@ fn push_bytes(bytes: &mut Vec<u8>, text: &str) -> Result<(), AllocError> {
 }
 
 /// A capture of parts in hexadecimal digits, one behind the other.
-pub fn capture(alloc: Global, parts: &[&str]) -> Result<Vec<u8>, AllocError> {
+pub fn capture(rt: &impl Abort, alloc: Global, parts: &[&str]) -> Vec<u8> {
     let mut bytes = Vec::new(alloc);
     for part in parts {
-        push_bytes(&mut bytes, part)?;
+        push_bytes(&mut bytes, part).expect(rt, "memory");
     }
-    Ok(bytes)
+    bytes
 }

@@ -8,20 +8,19 @@ use pcap_capture::{PcapFault, SliceIntake, VecOutlet};
 use run_audit::Verdict;
 use std::alloc::Global;
 use std::process::Abort;
-use std::test::Fail;
 use worked_texts::{LEAST_OF_POLICED, NARROW, POLICED, TWO_RATES, U, UDP};
 
 /// The least certificate of a policed contract of UDP packets with bursts of 150 and 300 bytes.
 const NARROW_LEAST: &str = "dscert 1\nu 0 151 301\nu 1 1151 2301\n";
 
 /// The table of the contract with bursts of 1,500 and 3,000 bytes.
-fn wide(alloc: Global) -> Result<Accepted, Fail> {
-    accepted(alloc, &[POLICED, U, TWO_RATES, UDP], LEAST_OF_POLICED)
+fn wide(rt: &impl Abort, alloc: Global) -> Accepted {
+    accepted(rt, alloc, &[POLICED, U, TWO_RATES, UDP], LEAST_OF_POLICED)
 }
 
 /// The table of the narrow one.
-pub fn narrow(alloc: Global) -> Result<Accepted, Fail> {
-    accepted(alloc, &[POLICED, U, NARROW, UDP], NARROW_LEAST)
+pub fn narrow(rt: &impl Abort, alloc: Global) -> Accepted {
+    accepted(rt, alloc, &[POLICED, U, NARROW, UDP], NARROW_LEAST)
 }
 
 /// A report of a capture with a fault, of so many records, of which so many are skipped, with the packets of each
@@ -113,198 +112,223 @@ struct Row<'a> {
     fault: Option<MarkFault>,
 }
 
-/// Expects what a row says of a capture at port `p`, by one byte a call, by seven, and by all that there is room for.
-fn expect_row(
+/// Expects what a row says of a capture at port `p`, by at most so many bytes a call.
+fn expect_pieces(
     rt: &impl Abort,
     alloc: Global,
-    accepted: &Accepted,
-    red: RedRule,
+    (accepted, red): (&Accepted, RedRule),
     row: &Row<'_>,
-) -> Result<(), Fail> {
-    let given = capture(alloc, row.given)?;
-    let written = capture(alloc, row.written)?;
+    most: usize,
+) {
+    let given = capture(rt, alloc, row.given);
+    let written = capture(rt, alloc, row.written);
+    let mut intake = SliceIntake {
+        most,
+        ..SliceIntake::new(given.as_slice())
+    };
+    let marked = leavings(alloc, accepted, "p", red, &mut intake);
+    expect(rt, &marked, written.as_slice(), row.report, row.fault);
+    drop(marked);
+    drop(written);
+    drop(given);
+}
+
+/// Expects the same by one byte a call, by seven, and by all that there is room for.
+fn expect_row(rt: &impl Abort, alloc: Global, accepted: &Accepted, red: RedRule, row: &Row<'_>) {
     for most in [1, 7, usize::MAX] {
-        let mut intake = SliceIntake {
-            most,
-            ..SliceIntake::new(given.as_slice())
-        };
-        let marked = leavings(alloc, accepted, "p", red, &mut intake);
-        expect(rt, &marked, written.as_slice(), row.report, row.fault);
+        expect_pieces(rt, alloc, (accepted, red), row, most);
     }
-    Ok(())
 }
 
 /// Expects of the wide contract what a row says.
-fn expect_wide(rt: &impl Abort, alloc: Global, row: &Row<'_>) -> Result<(), Fail> {
-    let accepted = wide(alloc)?;
-    expect_row(rt, alloc, &accepted, RedRule::Keep, row)
+fn expect_wide(rt: &impl Abort, alloc: Global, row: &Row<'_>) {
+    let accepted = wide(rt, alloc);
+    expect_row(rt, alloc, &accepted, RedRule::Keep, row);
+    drop(accepted);
+}
+
+/// Expects the same of the narrow one.
+fn expect_narrow(rt: &impl Abort, alloc: Global, red: RedRule, row: &Row<'_>) {
+    let accepted = narrow(rt, alloc);
+    expect_row(rt, alloc, &accepted, red, row);
+    drop(accepted);
 }
 
 #[test]
-fn a_tagged_frame_leaves_green(rt: HostRuntime) -> Result<(), Fail> {
+fn a_tagged_frame_leaves_green(rt: HostRuntime) {
     let row = Row {
         given: &[HEADING, TAGGED, OTHER],
         written: &[HEADING, GREEN, OTHER],
         report: kept(report(2, 1, 0, [1, 0, 0])),
         fault: None,
     };
-    expect_wide(&rt, rt.alloc(), &row)
+    expect_wide(&rt, rt.alloc(), &row);
 }
 
 #[test]
-fn three_frames_of_three_colours(rt: HostRuntime) -> Result<(), Fail> {
-    let accepted = narrow(rt.alloc())?;
+fn three_frames_of_three_colours(rt: HostRuntime) {
     let row = Row {
         given: &[HEADING, TAGGED, TAGGED, TAGGED],
         written: &[HEADING, GREEN, YELLOW, RED],
         report: kept(report(3, 0, 0, [1, 1, 1])),
         fault: None,
     };
-    expect_row(&rt, rt.alloc(), &accepted, RedRule::Keep, &row)
+    expect_narrow(&rt, rt.alloc(), RedRule::Keep, &row);
 }
 
 #[test]
-fn a_record_that_is_stamped_earlier_is_sent_at_the_greatest_stamp(
-    rt: HostRuntime,
-) -> Result<(), Fail> {
-    let accepted = narrow(rt.alloc())?;
+fn a_record_that_is_stamped_earlier_is_sent_at_the_greatest_stamp(rt: HostRuntime) {
     let row = Row {
         given: &[HEADING, TAGGED, EARLIER, TAGGED],
         written: &[HEADING, GREEN, EARLIER_YELLOW, RED],
         report: kept(report(3, 0, 0, [1, 1, 1])),
         fault: None,
     };
-    expect_row(&rt, rt.alloc(), &accepted, RedRule::Keep, &row)
+    expect_narrow(&rt, rt.alloc(), RedRule::Keep, &row);
 }
 
 #[test]
-fn a_red_frame_is_dropped(rt: HostRuntime) -> Result<(), Fail> {
-    let accepted = narrow(rt.alloc())?;
+fn a_red_frame_is_dropped(rt: HostRuntime) {
     let row = Row {
         given: &[HEADING, TAGGED, TAGGED, TAGGED],
         written: &[HEADING, GREEN, YELLOW],
         report: kept(report(3, 0, 1, [1, 1, 1])),
         fault: None,
     };
-    expect_row(&rt, rt.alloc(), &accepted, RedRule::Drop, &row)
+    expect_narrow(&rt, rt.alloc(), RedRule::Drop, &row);
 }
 
 #[test]
-fn a_capture_that_is_cut(rt: HostRuntime) -> Result<(), Fail> {
+fn a_capture_that_is_cut(rt: HostRuntime) {
     let row = Row {
         given: &[HEADING, TAGGED, TAGGED, CUT],
         written: &[HEADING, GREEN, GREEN],
         report: report(2, 0, 0, [2, 0, 0]),
         fault: Some(MarkFault::Capture(PcapFault::Truncated)),
     };
-    expect_wide(&rt, rt.alloc(), &row)
+    expect_wide(&rt, rt.alloc(), &row);
 }
 
 #[test]
-fn a_capture_without_records(rt: HostRuntime) -> Result<(), Fail> {
+fn a_capture_without_records(rt: HostRuntime) {
     let row = Row {
         given: &[HEADING],
         written: &[HEADING],
         report: kept(Report::nothing()),
         fault: None,
     };
-    expect_wide(&rt, rt.alloc(), &row)
+    expect_wide(&rt, rt.alloc(), &row);
 }
 
 #[test]
-fn a_capture_of_no_bytes(rt: HostRuntime) -> Result<(), Fail> {
+fn a_capture_of_no_bytes(rt: HostRuntime) {
     let row = Row {
         given: &[],
         written: &[],
         report: Report::nothing(),
         fault: Some(MarkFault::Capture(PcapFault::Truncated)),
     };
-    expect_wide(&rt, rt.alloc(), &row)
+    expect_wide(&rt, rt.alloc(), &row);
 }
 
 #[test]
-fn a_capture_of_another_link(rt: HostRuntime) -> Result<(), Fail> {
+fn a_capture_of_another_link(rt: HostRuntime) {
     let row = Row {
         given: &[OTHER_LINK],
         written: &[],
         report: Report::nothing(),
         fault: Some(MarkFault::Capture(PcapFault::LinkType(2))),
     };
-    expect_wide(&rt, rt.alloc(), &row)
+    expect_wide(&rt, rt.alloc(), &row);
+}
+
+/// Expects of a port that is not there that nothing is read or written.
+fn expect_no_port(rt: &impl Abort, alloc: Global, accepted: &Accepted) {
+    let given = capture(rt, alloc, &[HEADING]);
+    let mut intake = SliceIntake::new(given.as_slice());
+    let marked = leavings(alloc, accepted, "q", RedRule::Keep, &mut intake);
+    let fault = Some(MarkFault::UnknownPort);
+    expect(rt, &marked, &[], Report::nothing(), fault);
+    assert_eq!(rt; intake.turns, 0);
+    drop(marked);
+    drop(given);
+}
+
+/// Expects the same over the wide table.
+fn expect_no_port_of_wide(rt: &impl Abort, alloc: Global) {
+    let accepted = wide(rt, alloc);
+    expect_no_port(rt, alloc, &accepted);
+    drop(accepted);
 }
 
 #[test]
-fn no_such_port(rt: HostRuntime) -> Result<(), Fail> {
-    let accepted = wide(rt.alloc())?;
-    let given = capture(rt.alloc(), &[HEADING])?;
-    let mut intake = SliceIntake::new(given.as_slice());
-    let marked = leavings(rt.alloc(), &accepted, "q", RedRule::Keep, &mut intake);
-    expect(
-        &rt,
-        &marked,
-        &[],
-        Report::nothing(),
-        Some(MarkFault::UnknownPort),
-    );
-    assert_eq!(rt; intake.turns, 0);
-    Ok(())
+fn no_such_port(rt: HostRuntime) {
+    expect_no_port_of_wide(&rt, rt.alloc());
 }
 
 /// Expects of two records, of which the second cannot be read on at the fourth call, that the first is marked.
-fn expect_first(rt: &impl Abort, alloc: Global, accepted: &Accepted) -> Result<(), Fail> {
-    let given = capture(alloc, &[HEADING, TAGGED, TAGGED])?;
-    let written = capture(alloc, &[HEADING, GREEN])?;
+fn expect_first(rt: &impl Abort, alloc: Global, accepted: &Accepted) {
+    let given = capture(rt, alloc, &[HEADING, TAGGED, TAGGED]);
+    let written = capture(rt, alloc, &[HEADING, GREEN]);
     let mut intake = SliceIntake {
         most: 40,
         fails_at: Some(4),
         ..SliceIntake::new(given.as_slice())
     };
     let marked = leavings(alloc, accepted, "p", RedRule::Keep, &mut intake);
-    let fault = MarkFault::Capture(PcapFault::ReadFault);
-    expect(
-        rt,
-        &marked,
-        written.as_slice(),
-        report(1, 0, 0, [1, 0, 0]),
-        Some(fault),
-    );
-    Ok(())
+    let fault = Some(MarkFault::Capture(PcapFault::ReadFault));
+    let report = report(1, 0, 0, [1, 0, 0]);
+    expect(rt, &marked, written.as_slice(), report, fault);
+    drop(marked);
+    drop(written);
+    drop(given);
+}
+
+/// Expects the same over the wide table.
+fn expect_first_of_wide(rt: &impl Abort, alloc: Global) {
+    let accepted = wide(rt, alloc);
+    expect_first(rt, alloc, &accepted);
+    drop(accepted);
 }
 
 #[test]
-fn a_capture_that_cannot_be_read_on(rt: HostRuntime) -> Result<(), Fail> {
-    let accepted = wide(rt.alloc())?;
-    expect_first(&rt, rt.alloc(), &accepted)
+fn a_capture_that_cannot_be_read_on(rt: HostRuntime) {
+    expect_first_of_wide(&rt, rt.alloc());
 }
 
 /// A capture of so many tagged frames.
-fn frames(alloc: Global, records: u64) -> Result<Vec<u8>, Fail> {
-    let mut bytes = capture(alloc, &[HEADING])?;
-    let tagged = capture(alloc, &[TAGGED])?;
+fn frames(rt: &impl Abort, alloc: Global, records: u64) -> Vec<u8> {
+    let mut bytes = capture(rt, alloc, &[HEADING]);
+    let tagged = capture(rt, alloc, &[TAGGED]);
     for _record in 0..records {
-        bytes.extend_from_slice(tagged.as_slice())?;
+        bytes
+            .extend_from_slice(tagged.as_slice())
+            .expect(rt, "memory");
     }
-    Ok(bytes)
+    drop(tagged);
+    bytes
 }
 
 /// Expects of so many frames that each is marked and written, however often its meter was visited.
-fn expect_all(
-    rt: &impl Abort,
-    alloc: Global,
-    accepted: &Accepted,
-    records: u64,
-) -> Result<(), Fail> {
-    let given = frames(alloc, records)?;
+fn expect_all(rt: &impl Abort, alloc: Global, accepted: &Accepted, records: u64) {
+    let given = frames(rt, alloc, records);
     let mut intake = SliceIntake::new(given.as_slice());
     let marked = leavings(alloc, accepted, "p", RedRule::Keep, &mut intake);
     assert_eq!(rt; marked.fault, None);
     assert_eq!(rt; marked.report.marked, records);
     assert_eq!(rt; marked.written.len(), given.len());
-    Ok(())
+    drop(marked);
+    drop(given);
+}
+
+/// Expects the same over the narrow table.
+fn expect_all_of_narrow(rt: &impl Abort, alloc: Global, records: u64) {
+    let accepted = narrow(rt, alloc);
+    expect_all(rt, alloc, &accepted, records);
+    drop(accepted);
 }
 
 #[test]
-fn a_meter_that_is_visited_more_often_than_a_journal_has_rows(rt: HostRuntime) -> Result<(), Fail> {
-    let accepted = narrow(rt.alloc())?;
-    expect_all(&rt, rt.alloc(), &accepted, 1_048_577)
+fn a_meter_that_is_visited_more_often_than_a_journal_has_rows(rt: HostRuntime) {
+    expect_all_of_narrow(&rt, rt.alloc(), 1_048_577);
 }

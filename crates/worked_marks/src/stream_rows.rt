@@ -2,10 +2,12 @@ ghost use Rattle.std.specs.Prelude.{[]};
 
 use crate::captures::{HEADING, TAGGED, capture};
 use crate::mark_rows::narrow;
+use ds_checker::Accepted;
 use ds_conductor::{OpenGate, RedRule, mark};
 use pcap_capture::{DeviceFault, Intake, Outlet, SliceIntake};
+use std::alloc::Global;
+use std::process::Abort;
 use std::sync::atomic::{AtomicU64, Ordering};
-use std::test::Fail;
 
 /// An intake that notes, at each call, how many bytes were written so far.
 #[derive(Debug, Drop)]
@@ -60,27 +62,30 @@ impl Outlet for Counting<'_> {
     }
 }
 
-#[test]
-fn the_head_of_a_capture_is_written_before_the_rest_is_taken(rt: HostRuntime) -> Result<(), Fail> {
-    let alloc = rt.alloc();
-    let accepted = narrow(alloc)?;
-    let given = capture(alloc, &[HEADING, TAGGED, TAGGED, TAGGED])?;
-    let written = AtomicU64::new(0);
+/// Marks a capture, of which at most 108 bytes are taken at a time, and gives how many bytes were written at the last
+/// call that took some.
+fn noted(
+    rt: &impl Abort,
+    alloc: Global,
+    accepted: &Accepted,
+    given: &[u8],
+    written: &AtomicU64,
+) -> u64 {
     let mut intake = Watching {
         intake: SliceIntake {
             most: 108,
-            ..SliceIntake::new(given.as_slice())
+            ..SliceIntake::new(given)
         },
-        written: &written,
+        written,
         noted: 0,
     };
     let mut outlet = Counting {
         failures: 0,
-        written: &written,
+        written,
     };
     let marked = mark(
         alloc,
-        &accepted,
+        accepted,
         "p",
         1,
         RedRule::Keep,
@@ -89,7 +94,28 @@ fn the_head_of_a_capture_is_written_before_the_rest_is_taken(rt: HostRuntime) ->
         &OpenGate,
     );
     assert!(rt; marked.is_ok());
-    assert_eq!(rt; intake.noted, 24 + 108);
+    intake.noted
+}
+
+/// Expects of a capture of three records how many bytes were written before its last were taken, and at its end.
+fn expect_noted(rt: &impl Abort, alloc: Global, accepted: &Accepted, given: &[u8]) {
+    let written = AtomicU64::new(0);
+    let noted = noted(rt, alloc, accepted, given, &written);
+    assert_eq!(rt; noted, 24 + 108);
     assert_eq!(rt; written.load(Ordering::SeqCst), 24 + 162);
-    Ok(())
+    drop(written);
+}
+
+/// Expects the same over the narrow table.
+fn expect_head_first(rt: &impl Abort, alloc: Global) {
+    let accepted = narrow(rt, alloc);
+    let given = capture(rt, alloc, &[HEADING, TAGGED, TAGGED, TAGGED]);
+    expect_noted(rt, alloc, &accepted, given.as_slice());
+    drop(given);
+    drop(accepted);
+}
+
+#[test]
+fn the_head_of_a_capture_is_written_before_the_rest_is_taken(rt: HostRuntime) {
+    expect_head_first(&rt, rt.alloc());
 }

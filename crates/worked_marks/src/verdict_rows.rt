@@ -4,13 +4,12 @@ use af_marker::Dscp;
 use ds_checker::Accepted;
 use ds_conductor::{OpenGate, RedRule, Report, mark};
 use ds_conductor_base::Sent;
-use ds_visits_verdict::Judge;
+use ds_visits::Judge;
 use moment_core::{Column, Gap, Moment, PacketSize};
 use pcap_capture::{SliceIntake, VecOutlet};
 use run_audit::Verdict;
 use std::alloc::Global;
 use std::process::Abort;
-use std::test::Fail;
 
 /// A meter `m` whose buckets are full from 1 s on, with a skew of 500 µs; a port `p`; a link between them of 1 ms to
 /// 2 ms; and a contract that is trusted until 5 s with 3,000 bytes green, 4,000 green and yellow, and 1,000 yellow.
@@ -46,36 +45,37 @@ const AF12: u8 = 12;
 
 const AF13: u8 = 14;
 
-/// The verdict on packets of the contract, each with its number, its size, its code point and its moment.
-fn verdict(
-    alloc: Global,
-    accepted: &Accepted,
-    packets: &[(u64, u16, u8, u64)],
-) -> Result<Verdict, Fail> {
-    let mut judge = Judge::new(alloc, accepted)?;
-    for (packet, size, dscp, moment) in packets {
-        judge.note(&Sent {
-            flow: 0,
-            packet: *packet,
-            size: PacketSize::new(u64::from(*size))?,
-            dscp: Dscp::new(*dscp)?,
-            moment: Moment::new(*moment)?,
-        });
+/// A packet of the contract: its number, its size, its code point and its moment.
+type Packet = (u64, u16, u8, u64);
+
+/// That packet as it is sent.
+fn sent(rt: &impl Abort, (packet, size, dscp, moment): Packet) -> Sent {
+    Sent {
+        flow: 0,
+        packet,
+        size: PacketSize::new(u64::from(size)).expect(rt, "a size"),
+        dscp: Dscp::new(dscp).expect(rt, "a code point"),
+        moment: Moment::new(moment).expect(rt, "a moment"),
     }
-    Ok(judge.verdict())
+}
+
+/// The verdict on packets of the contract.
+fn verdict(rt: &impl Abort, alloc: Global, accepted: &Accepted, packets: &[Packet]) -> Verdict {
+    let mut judge = Judge::new(alloc, accepted).expect(rt, "memory");
+    for packet in packets {
+        judge.note(&sent(rt, *packet));
+    }
+    let told = judge.verdict();
+    drop(judge);
+    told
 }
 
 /// Expects a verdict on packets.
-fn expect(
-    rt: &impl Abort,
-    alloc: Global,
-    packets: &[(u64, u16, u8, u64)],
-    expected: Verdict,
-) -> Result<(), Fail> {
-    let accepted = table_of(alloc, TRUSTED, TRUSTED_LEAST)?;
-    let told = verdict(alloc, &accepted, packets)?;
+fn expect(rt: &impl Abort, alloc: Global, packets: &[Packet], expected: Verdict) {
+    let accepted = table_of(rt, alloc, TRUSTED, TRUSTED_LEAST);
+    let told = verdict(rt, alloc, &accepted, packets);
     assert_eq!(rt; told, expected);
-    Ok(())
+    drop(accepted);
 }
 
 /// That a column of the contract is over with a packet.
@@ -88,19 +88,19 @@ fn over(column: Column, packet: u64) -> Verdict {
 }
 
 #[test]
-fn a_burst_that_is_just_kept(rt: HostRuntime) -> Result<(), Fail> {
+fn a_burst_that_is_just_kept(rt: HostRuntime) {
     let second = 1_000_000_000;
     let burst = [
         (4, 1_500, AF11, second),
         (6, 1_500, AF11, second),
         (7, 1_000, AF12, second),
     ];
-    expect(&rt, rt.alloc(), &[], Verdict::Kept)?;
-    expect(&rt, rt.alloc(), &burst, Verdict::Kept)
+    expect(&rt, rt.alloc(), &[], Verdict::Kept);
+    expect(&rt, rt.alloc(), &burst, Verdict::Kept);
 }
 
 #[test]
-fn a_byte_more_than_a_burst(rt: HostRuntime) -> Result<(), Fail> {
+fn a_byte_more_than_a_burst(rt: HostRuntime) {
     let second = 1_000_000_000;
     let early = [
         (4, 3_000, AF11, second),
@@ -112,12 +112,12 @@ fn a_byte_more_than_a_burst(rt: HostRuntime) -> Result<(), Fail> {
         (6, 9_000, AF13, second),
         (7, 1, AF11, second + 1_000),
     ];
-    expect(&rt, rt.alloc(), &early, over(Column::Green, 7))?;
-    expect(&rt, rt.alloc(), &drained, Verdict::Kept)
+    expect(&rt, rt.alloc(), &early, over(Column::Green, 7));
+    expect(&rt, rt.alloc(), &drained, Verdict::Kept);
 }
 
 #[test]
-fn columns_are_judged_in_their_order(rt: HostRuntime) -> Result<(), Fail> {
+fn columns_are_judged_in_their_order(rt: HostRuntime) {
     let second = 1_000_000_000;
     let yellow = [
         (4, 1_000, AF12, second),
@@ -129,12 +129,12 @@ fn columns_are_judged_in_their_order(rt: HostRuntime) -> Result<(), Fail> {
         (6, 2_999, AF11, second),
         (7, 1, AF11, second),
     ];
-    expect(&rt, rt.alloc(), &yellow, over(Column::Excess, 6))?;
-    expect(&rt, rt.alloc(), &both, over(Column::All, 7))
+    expect(&rt, rt.alloc(), &yellow, over(Column::Excess, 6));
+    expect(&rt, rt.alloc(), &both, over(Column::All, 7));
 }
 
 #[test]
-fn a_packet_outside_its_contract_is_told_first(rt: HostRuntime) -> Result<(), Fail> {
+fn a_packet_outside_its_contract_is_told_first(rt: HostRuntime) {
     let packets = [
         (4, 9_000, AF11, 0),
         (6, 100, AF11, 4_999_999_999),
@@ -142,28 +142,24 @@ fn a_packet_outside_its_contract_is_told_first(rt: HostRuntime) -> Result<(), Fa
         (8, 100, AF11, 5_000_000_000),
     ];
     let outside = Verdict::OutsideContract { packet: 7 };
-    expect(&rt, rt.alloc(), &packets, outside)
+    expect(&rt, rt.alloc(), &packets, outside);
+}
+
+/// The verdict that the contract's packet comes so late to its meter, by the meter's clock.
+fn late(rt: &impl Abort, late: u64) -> Verdict {
+    Verdict::Late {
+        site: 0,
+        place: 0,
+        late: Gap::new(late).expect(rt, "a gap"),
+    }
 }
 
 #[test]
-fn a_packet_that_comes_before_its_meter(rt: HostRuntime) -> Result<(), Fail> {
-    let late = Verdict::Late {
-        site: 0,
-        place: 0,
-        late: Gap::new(500_001)?,
-    };
-    expect(
-        &rt,
-        rt.alloc(),
-        &[(4, 100, AF11, 998_499_999), (6, 100, AF11, 998_600_000)],
-        late,
-    )?;
-    expect(
-        &rt,
-        rt.alloc(),
-        &[(4, 100, AF11, 998_500_000)],
-        Verdict::Kept,
-    )
+fn a_packet_that_comes_before_its_meter(rt: HostRuntime) {
+    let packets = [(4, 100, AF11, 998_499_999), (6, 100, AF11, 998_600_000)];
+    expect(&rt, rt.alloc(), &packets, late(&rt, 500_001));
+    let packets = [(4, 100, AF11, 998_500_000)];
+    expect(&rt, rt.alloc(), &packets, Verdict::Kept);
 }
 
 /// Two meters, and two contracts that are trusted, one at each.
@@ -213,15 +209,13 @@ const OF_A: &str =
 const OF_B: &str =
     "00000000 00000000 14000000 14000000 4548 0014 0000 0000 4011 0000 0a00 0101 0a00 0001";
 
-#[test]
-fn two_meters_pass_two_packets(rt: HostRuntime) -> Result<(), Fail> {
-    let accepted = table_of(rt.alloc(), TWO_METERS, TWO_METERS_LEAST)?;
-    let given = capture(rt.alloc(), &[RAW, OF_A, OF_B])?;
-    let mut outlet = VecOutlet::new(Vec::new(rt.alloc()));
-    let mut intake = SliceIntake::new(given.as_slice());
+/// What `mark` writes of a capture at port `p`, and its report, where it has no fault.
+fn passed(alloc: Global, accepted: &Accepted, given: &[u8]) -> (Vec<u8>, Option<Report>) {
+    let mut outlet = VecOutlet::new(Vec::new(alloc));
+    let mut intake = SliceIntake::new(given);
     let answer = mark(
-        rt.alloc(),
-        &accepted,
+        alloc,
+        accepted,
         "p",
         1,
         RedRule::Keep,
@@ -229,7 +223,14 @@ fn two_meters_pass_two_packets(rt: HostRuntime) -> Result<(), Fail> {
         &mut outlet,
         &OpenGate,
     );
-    assert_eq!(rt; outlet.bytes.as_slice(), given.as_slice());
+    (outlet.bytes, answer.ok())
+}
+
+/// Expects of a capture of two packets that it is written as it is, and its report.
+fn expect_two(rt: &impl Abort, alloc: Global, accepted: &Accepted, given: &[u8]) {
+    let (written, report) = passed(alloc, accepted, given);
+    assert_eq!(rt; written.as_slice(), given);
+    drop(written);
     let expected = Report {
         records: 2,
         marked: 2,
@@ -239,8 +240,21 @@ fn two_meters_pass_two_packets(rt: HostRuntime) -> Result<(), Fail> {
         verdict: Some(Verdict::Kept),
         ..Report::nothing()
     };
-    assert_eq!(rt; answer.ok(), Some(expected));
-    Ok(())
+    assert_eq!(rt; report, Some(expected));
+}
+
+/// Expects the same of a packet to each of two meters.
+fn expect_two_meters(rt: &impl Abort, alloc: Global) {
+    let accepted = table_of(rt, alloc, TWO_METERS, TWO_METERS_LEAST);
+    let given = capture(rt, alloc, &[RAW, OF_A, OF_B]);
+    expect_two(rt, alloc, &accepted, given.as_slice());
+    drop(given);
+    drop(accepted);
+}
+
+#[test]
+fn two_meters_pass_two_packets(rt: HostRuntime) {
+    expect_two_meters(&rt, rt.alloc());
 }
 
 /// A contract that is trusted with 200 bytes, until 2 s.
@@ -279,43 +293,45 @@ fn expect_told(
     accepted: &Accepted,
     records: &[&str],
     verdict: Verdict,
-) -> Result<(), Fail> {
-    let given = capture(alloc, records)?;
-    let mut outlet = VecOutlet::new(Vec::new(alloc));
-    let mut intake = SliceIntake::new(given.as_slice());
-    let answer = mark(
-        alloc,
-        accepted,
-        "p",
-        1,
-        RedRule::Keep,
-        &mut intake,
-        &mut outlet,
-        &OpenGate,
-    );
-    let told = answer.map_or(None, |report| report.verdict);
+) {
+    let given = capture(rt, alloc, records);
+    let (written, report) = passed(alloc, accepted, given.as_slice());
+    let told = report.map_or(None, |report| report.verdict);
     assert_eq!(rt; told, Some(verdict));
-    Ok(())
+    drop(written);
+    drop(given);
+}
+
+/// Expects the same over the table of a contract with 200 bytes.
+fn expect_of_small(
+    rt: &impl Abort,
+    alloc: Global,
+    contract: &str,
+    records: &[&str],
+    verdict: Verdict,
+) {
+    let small = accepted(rt, alloc, &[contract], SMALL_LEAST);
+    expect_told(rt, alloc, &small, records, verdict);
+    drop(small);
 }
 
 #[test]
-fn a_capture_over_its_envelope(rt: HostRuntime) -> Result<(), Fail> {
-    let small = accepted(rt.alloc(), &[SMALL], SMALL_LEAST)?;
-    expect_told(&rt, rt.alloc(), &small, &[HEADING, GREEN], Verdict::Kept)?;
+fn a_capture_over_its_envelope(rt: HostRuntime) {
+    let alloc = rt.alloc();
+    expect_of_small(&rt, alloc, SMALL, &[HEADING, GREEN], Verdict::Kept);
     let over = over(Column::Green, 1);
-    expect_told(&rt, rt.alloc(), &small, &[HEADING, GREEN, GREEN], over)
+    expect_of_small(&rt, alloc, SMALL, &[HEADING, GREEN, GREEN], over);
 }
 
 #[test]
-fn a_capture_outside_its_contract(rt: HostRuntime) -> Result<(), Fail> {
-    let short = accepted(rt.alloc(), &[SHORT], SMALL_LEAST)?;
+fn a_capture_outside_its_contract(rt: HostRuntime) {
+    let records = [HEADING, GREEN, GREEN];
     let outside = Verdict::OutsideContract { packet: 0 };
-    expect_told(&rt, rt.alloc(), &short, &[HEADING, GREEN, GREEN], outside)
+    expect_of_small(&rt, rt.alloc(), SHORT, &records, outside);
 }
 
-#[test]
-fn a_capture_before_its_meter(rt: HostRuntime) -> Result<(), Fail> {
-    let domain = r#"
+/// A meter whose buckets are full from 2 s on, and a contract that is trusted.
+const FROM_TWO: &str = r#"
 meter = [{ name = "m", kind = "trtcm", cir = 24000000, cbs = 13500, pir = 24000000, pbs = 13500, skew = 500000,
     origin = 2000000000 }]
 port = [{ name = "p", skew = 0 }]
@@ -330,12 +346,19 @@ class = 1
 cir = 8000000
 cbs = 3000
 "#;
-    let least = "dscert 1\nt 0 3000 3000\nt 1 3000 3000\n";
-    let early = table_of(rt.alloc(), domain, least)?;
-    let late = Verdict::Late {
-        site: 0,
-        place: 0,
-        late: Gap::new(499_000_000)?,
-    };
-    expect_told(&rt, rt.alloc(), &early, &[HEADING, GREEN], late)
+
+/// Its least certificate.
+const FROM_TWO_LEAST: &str = "dscert 1\nt 0 3000 3000\nt 1 3000 3000\n";
+
+/// Expects of a packet that comes before its meter that it is late.
+fn expect_early(rt: &impl Abort, alloc: Global) {
+    let early = table_of(rt, alloc, FROM_TWO, FROM_TWO_LEAST);
+    let late = late(rt, 499_000_000);
+    expect_told(rt, alloc, &early, &[HEADING, GREEN], late);
+    drop(early);
+}
+
+#[test]
+fn a_capture_before_its_meter(rt: HostRuntime) {
+    expect_early(&rt, rt.alloc());
 }

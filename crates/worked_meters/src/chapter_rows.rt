@@ -1,209 +1,267 @@
-ghost use Rattle.std.specs.Prelude.{◌≤◌, ◌^◌};
+ghost use Rattle.std.specs.Prelude.{◌≤◌};
 
-use crate::book_rows::arrival;
-use crate::meters::opened;
-use crate::two_rate_rows::{Figures, parameters};
-use meter_book::{Chapter, JoinFault, Journal, MeterBook, NoteFault, Parameters, Row};
-use moment_core::{Colour, Gap, Mode, Moment};
+use crate::book_rows::{arrival, book};
+use crate::expecting::expect_same;
+use crate::meters::{Figures, moment};
+use meter_book::{Chapter, JoinFault, Journal, MeterBook, NoteFault, Row};
+use moment_core::{Colour, Mode};
 use std::alloc::Global;
 use std::process::Abort;
-use std::test::Fail;
 
-/// The figures of the meter at the edge of a contract that is policed to 8 Mbit/s and 1,500 bytes, and 16 Mbit/s and
-/// 3,000 bytes.
-const EDGE: Figures = (8_000_000, 1_500, 16_000_000, 3_000);
-
-/// A book of a colour-blind meter of such figures, with room for so many open rows.
-fn book(alloc: Global, figures: Figures, capacity: u32) -> Result<MeterBook, Fail>
-    requires least { 1 ≤ capacity }
-    requires most { capacity ≤ 2 ^ 20 }
-{
-    let meter = opened(Parameters::TrTcm(parameters(figures)?), Mode::Blind)?;
-    Ok(MeterBook::new(alloc, meter, Gap::NONE, capacity))
-}
+/// The meter at the edge of a contract that is policed to 8 Mbit/s and 1,500 bytes, and 16 Mbit/s and 3,000 bytes.
+const EDGE: (Figures, Mode) = (
+    Figures::Two(8_000_000, 1_500, 16_000_000, 3_000),
+    Mode::Blind,
+);
 
 /// What a book answers to a green packet of a number, of so many bytes, at a moment.
 fn noted(
+    rt: &impl Abort,
     book: &mut MeterBook,
-    packet: u64,
-    moment: u64,
+    (packet, moment): (u64, u64),
     size: u64,
-) -> Result<Result<Row, NoteFault>, Fail> {
-    Ok(book.note(arrival(packet, moment, size, Colour::Green)?))
+) -> Result<Row, NoteFault> {
+    book.note(arrival(rt, packet, moment, size, Colour::Green))
 }
 
 /// The place of the row that a book gives a green packet of a number, of 1,500 bytes, at a moment in milliseconds; the
 /// number of its fault where it refuses it.
-fn place(book: &mut MeterBook, packet: u64, milliseconds: u64) -> Result<Result<u64, u8>, Fail>
+fn place(rt: &impl Abort, book: &mut MeterBook, packet: u64, milliseconds: u64) -> Result<u64, u8>
     requires { milliseconds ≤ 1000 }
 {
-    match noted(book, packet, milliseconds * 1_000_000, 1_500)? {
-        Ok(row) => Ok(Ok(row.place)),
-        Err(fault) => Ok(Err(fault.code())),
+    match noted(rt, book, (packet, milliseconds * 1_000_000), 1_500) {
+        Ok(row) => Ok(row.place),
+        Err(fault) => Err(fault.code()),
     }
 }
 
-/// The first two of three arrivals, as a chapter, and a book that has taken the third.
-fn cut(rt: &impl Abort, alloc: Global) -> Result<(Chapter, MeterBook), Fail> {
-    let mut book = book(alloc, EDGE, 2)?;
-    assert_eq!(rt; place(&mut book, 0, 0)?, Ok(0));
-    assert_eq!(rt; place(&mut book, 1, 1)?, Ok(1));
-    assert_eq!(rt; place(&mut book, 2, 2)?, Err(1));
+/// A book with room for two that has refused the third of three arrivals.
+fn full(rt: &impl Abort, alloc: Global) -> MeterBook {
+    let mut book = book(rt, alloc, EDGE, 2);
+    assert!(rt; place(rt, &mut book, 0, 0) == Ok(0));
+    assert!(rt; place(rt, &mut book, 1, 1) == Ok(1));
+    assert!(rt; place(rt, &mut book, 2, 2) == Err(1));
+    book
+}
+
+/// The first two of three arrivals, as a chapter, of a book that takes the third then.
+fn cut(rt: &impl Abort, book: &mut MeterBook) -> Chapter {
     let chapter = book.cut();
-    assert_eq!(rt; (book.len(), place(&mut book, 2, 2)?), (0, Ok(2)));
-    Ok((chapter, book))
+    assert!(rt; book.len() == 0);
+    assert!(rt; place(rt, book, 2, 2) == Ok(2));
+    chapter
 }
 
 /// The journal of a book with room for three, of the same arrivals.
-fn whole(rt: &impl Abort, alloc: Global) -> Result<Journal, Fail> {
-    let mut book = book(alloc, EDGE, 3)?;
+fn whole(rt: &impl Abort, alloc: Global) -> Journal {
+    let mut book = book(rt, alloc, EDGE, 3);
     for packet in 0..3 {
-        assert_eq!(rt; place(&mut book, packet, packet)?, Ok(packet));
+        expect_same(
+            rt,
+            "of three packets",
+            place(rt, &mut book, packet, packet),
+            Ok(packet),
+        );
     }
-    assert_eq!(rt; book.opening().place, 0);
-    Ok(book.into_journal())
+    assert!(rt; book.opening().place == 0);
+    book.into_journal()
 }
 
 /// Expects that two journals of three rows are the same.
-fn expect_same(rt: &impl Abort, journal: &Journal, other: &Journal) {
-    assert_eq!(rt; (journal.site(), journal.len()), (other.site(), 3));
+fn expect_same_journals(rt: &impl Abort, journal: &Journal, other: &Journal) {
+    assert!(rt; journal.site() == other.site() && journal.len() == 3);
     assert!(rt; journal.opening() == other.opening() && journal.skew() == other.skew());
-    assert_eq!(rt; journal.accounts(), other.accounts());
+    assert!(rt; journal.accounts() == other.accounts());
     for place in 0..4 {
-        assert_eq!(rt; journal.row(place), other.row(place));
+        expect_same(rt, "of three rows", journal.row(place), other.row(place));
     }
 }
 
-#[test]
-fn chapters_of_a_book_join_to_its_journal(rt: HostRuntime) -> Result<(), Fail> {
-    let (first, book) = cut(&rt, rt.alloc())?;
-    assert_eq!(rt;
-        (first.len(), first.opening().place, first.closing().place),
-        (2, 0, 2)
-    );
-    let last = book.into_chapter();
-    assert_eq!(rt;
-        (last.len(), last.row(0).map(|row| row.place), last.row(1)),
-        (1, Some(2), None)
-    );
+/// Expects two chapters, of two rows and of a third.
+fn expect_chapters(rt: &impl Abort, first: &Chapter, last: &Chapter) {
+    assert!(rt; first.len() == 2);
+    assert!(rt; (first.opening().place, first.closing().place) == (0, 2));
+    assert!(rt; last.len() == 1);
+    assert!(rt; last.row(0).map(|row| row.place) == Some(2));
+    assert!(rt; last.row(1).is_none());
     assert!(rt; last.opening() == first.closing());
-    let mut chapters = Vec::new(rt.alloc());
-    chapters.push(first)?;
-    chapters.push(last)?;
-    match Journal::join(rt.alloc(), chapters) {
-        Ok(journal) => expect_same(&rt, &journal, &whole(&rt, rt.alloc())?),
-        Err((_, fault)) => return Err(fault.into()),
+}
+
+/// Two chapters.
+fn both(rt: &impl Abort, alloc: Global, first: Chapter, last: Chapter) -> Vec<Chapter> {
+    Vec::from_array(alloc, [first, last]).expect(rt, "memory")
+}
+
+/// The journal of two chapters.
+fn joined(rt: &impl Abort, alloc: Global, first: Chapter, last: Chapter) -> Option<Journal> {
+    match Journal::join(alloc, both(rt, alloc, first, last)) {
+        Ok(journal) => Some(journal),
+        Err(_refused) => None,
     }
-    Ok(())
+}
+
+/// Expects that the chapters of a book join to the journal of another of the same arrivals.
+fn expect_joined(rt: &impl Abort, alloc: Global) {
+    let mut book = full(rt, alloc);
+    let first = cut(rt, &mut book);
+    let last = book.into_chapter();
+    expect_chapters(rt, &first, &last);
+    let journal = joined(rt, alloc, first, last).expect(rt, "a journal");
+    let whole = whole(rt, alloc);
+    expect_same_journals(rt, &journal, &whole);
+    drop(whole);
+    drop(journal);
+}
+
+#[test]
+fn chapters_of_a_book_join_to_its_journal(rt: HostRuntime) {
+    expect_joined(&rt, rt.alloc());
+}
+
+/// How many chapters are handed back that do not join, and why; None where they do.
+fn gap_in(alloc: Global, chapters: Vec<Chapter>) -> Option<(usize, JoinFault)> {
+    match Journal::join(alloc, chapters) {
+        Ok(_journal) => None,
+        Err((chapters, fault)) => Some((chapters.len(), fault)),
+    }
 }
 
 /// Expects of two chapters that they do not join, with a gap at an index.
-fn expect_gap(
-    rt: &impl Abort,
-    alloc: Global,
-    first: Chapter,
-    last: Chapter,
-    index: usize,
-) -> Result<(), Fail> {
-    let mut chapters = Vec::new(alloc);
-    chapters.push(first)?;
-    chapters.push(last)?;
-    match Journal::join(alloc, chapters) {
-        Ok(_) => Err(Fail::from("chapters with a gap")),
-        Err((chapters, fault)) => {
-            assert_eq!(rt;
-                (chapters.len(), fault, fault.code()),
-                (2, JoinFault::Gap(index), 1)
-            );
-            Ok(())
-        }
-    }
+fn expect_gap(rt: &impl Abort, alloc: Global, (first, last): (Chapter, Chapter), index: usize) {
+    let gap = gap_in(alloc, both(rt, alloc, first, last));
+    assert_eq!(rt; gap, Some((2, JoinFault::Gap(index))));
+}
+
+/// The chapter of the first two of three arrivals, and the one of the third.
+fn chapters(rt: &impl Abort, alloc: Global) -> (Chapter, Chapter) {
+    let mut book = full(rt, alloc);
+    let first = cut(rt, &mut book);
+    (first, book.into_chapter())
+}
+
+/// Expects a gap of two chapters in the wrong order.
+fn expect_gap_at_first(rt: &impl Abort, alloc: Global) {
+    let (first, last) = chapters(rt, alloc);
+    expect_gap(rt, alloc, (last, first), 0);
+}
+
+/// Expects a gap of two chapters of which the second is of another site.
+fn expect_gap_at_site(rt: &impl Abort, alloc: Global) {
+    let (first, last) = chapters(rt, alloc);
+    expect_gap(rt, alloc, (first, last.at(1)), 1);
+}
+
+/// Expects a gap of two first chapters.
+fn expect_gap_behind_first(rt: &impl Abort, alloc: Global) {
+    let (first, _) = chapters(rt, alloc);
+    let (other, _) = chapters(rt, alloc);
+    expect_gap(rt, alloc, (first, other), 1);
+}
+
+/// Expects these gaps, and that of no chapters.
+fn expect_gaps(rt: &impl Abort, alloc: Global) {
+    expect_gap_at_first(rt, alloc);
+    expect_gap_at_site(rt, alloc);
+    expect_gap_behind_first(rt, alloc);
+    let none = gap_in(alloc, Vec::new(alloc));
+    assert_eq!(rt; none, Some((0, JoinFault::Gap(0))));
+    assert_eq!(rt; JoinFault::Gap(1).code(), 1);
 }
 
 #[test]
-fn chapters_with_a_gap_do_not_join(rt: HostRuntime) -> Result<(), Fail> {
-    let (first, book) = cut(&rt, rt.alloc())?;
-    expect_gap(&rt, rt.alloc(), book.into_chapter(), first, 0)?;
-    let (first, book) = cut(&rt, rt.alloc())?;
-    expect_gap(&rt, rt.alloc(), first, book.into_chapter().at(1), 1)?;
-    let (first, _) = cut(&rt, rt.alloc())?;
-    let (other, _) = cut(&rt, rt.alloc())?;
-    expect_gap(&rt, rt.alloc(), first, other, 1)?;
-    let none = Journal::join(rt.alloc(), Vec::new(rt.alloc()));
-    assert!(rt; matches!(none, Err((_, JoinFault::Gap(0)))));
-    Ok(())
+fn chapters_with_a_gap_do_not_join(rt: HostRuntime) {
+    expect_gaps(&rt, rt.alloc());
 }
 
 /// The moment at which a book is shut that is to be shut at a moment.
-fn shut(book: &mut MeterBook, moment: u64) -> Result<Option<u64>, Fail> {
-    Ok(book.shut(Moment::new(moment)?).map(|end| end.get()))
+fn shut(rt: &impl Abort, book: &mut MeterBook, nanoseconds: u64) -> Option<u64> {
+    book.shut(moment(rt, nanoseconds)).map(|end| end.get())
+}
+
+/// Expects of a book why it refuses a green packet.
+fn expect_refused(rt: &impl Abort, book: &mut MeterBook, packet: (u64, u64), wanted: NoteFault) {
+    assert_eq!(rt; noted(rt, book, packet, 115).err(), Some(wanted));
+}
+
+/// Expects of a book that it notes a green packet, in the row of its number.
+fn expect_noted(rt: &impl Abort, book: &mut MeterBook, packet: (u64, u64)) {
+    let row = noted(rt, book, packet, 115).expect(rt, "room for a row");
+    assert_eq!(rt; row.place, packet.0);
 }
 
 /// Expects that a book of two rows is shut behind its first one, and what it refuses from then on.
-fn expect_shut(rt: &impl Abort, book: &mut MeterBook) -> Result<(), Fail> {
-    noted(book, 0, 1_000, 115)??;
-    assert_eq!(rt; shut(book, 500)?, Some(1_001));
-    let refused = noted(book, 1, 1_001, 115)?.err();
-    assert_eq!(rt; refused.map(|fault| fault.code()), Some(3));
-    assert_eq!(rt; noted(book, 1, 1_000, 115)??.place, 1);
-    let refused = noted(book, 2, 1_001, 115)?.err();
-    assert_eq!(rt; refused, Some(NoteFault::Shut));
-    let refused = noted(book, 2, 1_000, 115)?.err();
-    assert_eq!(rt; refused, Some(NoteFault::JournalFull));
-    assert_eq!(rt; shut(book, 5_000)?, Some(1_001));
-    Ok(())
+fn expect_shut(rt: &impl Abort, book: &mut MeterBook) {
+    expect_noted(rt, book, (0, 1_000));
+    assert!(rt; shut(rt, book, 500) == Some(1_001));
+    expect_refused(rt, book, (1, 1_001), NoteFault::Shut);
+    expect_noted(rt, book, (1, 1_000));
+    expect_refused(rt, book, (2, 1_001), NoteFault::Shut);
+    expect_refused(rt, book, (2, 1_000), NoteFault::JournalFull);
+    assert!(rt; shut(rt, book, 5_000) == Some(1_001));
+    assert!(rt; NoteFault::Shut.code() == 3);
+}
+
+/// Expects that of a book, and that it stays shut behind a cut.
+fn expect_shut_book(rt: &impl Abort, alloc: Global) {
+    let mut book = book(rt, alloc, EDGE, 2);
+    expect_shut(rt, &mut book);
+    let chapter = book.cut();
+    assert!(rt; chapter.opening().shut.is_none());
+    assert!(rt; chapter.closing().shut == Some(moment(rt, 1_001)));
+    drop(chapter);
+    expect_refused(rt, &mut book, (2, 1_001), NoteFault::Shut);
+    drop(book);
 }
 
 #[test]
-fn a_book_that_is_shut_refuses_from_then_on(rt: HostRuntime) -> Result<(), Fail> {
-    let end = Moment::new(1_001)?;
-    let mut book = book(rt.alloc(), EDGE, 2)?;
-    expect_shut(&rt, &mut book)?;
-    let chapter = book.cut();
-    assert_eq!(rt;
-        (chapter.opening().shut, chapter.closing().shut),
-        (None, Some(end))
-    );
-    assert_eq!(rt;
-        noted(&mut book, 2, 1_001, 115)?.err(),
-        Some(NoteFault::Shut)
-    );
-    Ok(())
+fn a_book_that_is_shut_refuses_from_then_on(rt: HostRuntime) {
+    expect_shut_book(&rt, rt.alloc());
 }
 
 /// Expects of a packet of the most bytes at a moment that it leaves green, so much later.
-fn expect_green(
-    rt: &impl Abort,
-    book: &mut MeterBook,
-    packet: u64,
-    moment: u64,
-    late: u64,
-) -> Result<(), Fail> {
-    let row = noted(book, packet, moment, 65_535)??;
-    assert_eq!(rt; (row.left, row.late.get()), (Colour::Green, late));
-    Ok(())
+fn expect_green(rt: &impl Abort, book: &mut MeterBook, packet: (u64, u64), late: u64) {
+    let row = noted(rt, book, packet, 65_535).expect(rt, "room for a row");
+    assert!(rt; row.left == Colour::Green);
+    assert!(rt; row.late.get() == late);
 }
 
-#[test]
-fn a_book_that_metered_at_the_last_moment_is_not_shut(rt: HostRuntime) -> Result<(), Fail> {
+/// Expects that a book that metered at the last moment is not shut.
+fn expect_last_moment(rt: &impl Abort, alloc: Global) {
     let last = 9_223_372_036_854_775_807;
-    let figures = (10_000_000_000_000, u32::MAX, 10_000_000_000_000, u32::MAX);
-    let mut book = book(rt.alloc(), figures, 3)?;
-    expect_green(&rt, &mut book, 0, last, 0)?;
-    expect_green(&rt, &mut book, 1, 0, last)?;
-    assert_eq!(rt; shut(&mut book, 0)?, None);
-    expect_green(&rt, &mut book, 2, last, 0)
+    let figures = Figures::Two(10_000_000_000_000, u32::MAX, 10_000_000_000_000, u32::MAX);
+    let mut book = book(rt, alloc, (figures, Mode::Blind), 3);
+    expect_green(rt, &mut book, (0, last), 0);
+    expect_green(rt, &mut book, (1, 0), last);
+    assert!(rt; shut(rt, &mut book, 0).is_none());
+    expect_green(rt, &mut book, (2, last), 0);
+    drop(book);
 }
 
 #[test]
-fn room_is_what_a_book_can_still_take(rt: HostRuntime) -> Result<(), Fail> {
-    let mut book = book(rt.alloc(), EDGE, 5)?;
-    assert_eq!(rt; book.room(), 5);
-    assert_eq!(rt; place(&mut book, 0, 0)?, Ok(0));
-    assert_eq!(rt; book.room(), 4);
+fn a_book_that_metered_at_the_last_moment_is_not_shut(rt: HostRuntime) {
+    expect_last_moment(&rt, rt.alloc());
+}
+
+/// Expects of a book that has taken one packet that it is in its chapter alone from then on.
+fn expect_room(rt: &impl Abort, book: &mut MeterBook) {
     let chapter = book.cut();
-    assert_eq!(rt; (chapter.len(), book.room()), (1, 5));
-    assert_eq!(rt; book.accounts(), chapter.closing().accounts);
-    assert_eq!(rt; book.accounts().packets, [1, 0, 0]);
-    Ok(())
+    assert!(rt; (chapter.len(), book.room()) == (1, 5));
+    assert!(rt; book.accounts() == chapter.closing().accounts);
+    assert!(rt; book.accounts().packets == [1, 0, 0]);
+    drop(chapter);
+}
+
+/// Expects of a book for five what room it has.
+fn expect_room_left(rt: &impl Abort, alloc: Global) {
+    let mut book = book(rt, alloc, EDGE, 5);
+    assert!(rt; book.room() == 5);
+    assert!(rt; place(rt, &mut book, 0, 0) == Ok(0));
+    assert!(rt; book.room() == 4);
+    expect_room(rt, &mut book);
+    drop(book);
+}
+
+#[test]
+fn room_is_what_a_book_can_still_take(rt: HostRuntime) {
+    expect_room_left(&rt, rt.alloc());
 }

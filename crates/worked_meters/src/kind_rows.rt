@@ -1,58 +1,78 @@
 use crate::book_rows::arrival;
-use crate::envelope_rows::figures;
-use crate::meters::opened;
-use crate::separate_rate_rows::parameters as separate_rates;
-use crate::single_rate_rows::parameters as single_rate;
-use crate::two_rate_rows::parameters as two_rates;
-use meter_book::{AnyMeter, Meter, Parameters, meter_all};
+use crate::envelope_rows::figures_of;
+use crate::expecting::expect_same;
+use crate::meters::{Figures, opened};
+use meter_book::{AnyMeter, Meter, meter_all};
 use moment_core::{Colour, Mode};
 use std::alloc::Global;
 use std::process::Abort;
-use std::test::Fail;
 
-/// A mode, and the rates and bursts of what leaves a meter green, green or yellow, and yellow.
-type Told = (Mode, [(u64, u64); 3]);
+/// What a row is about, the figures of a meter, its mode, and the rates and bursts of what leaves it green, green or
+/// yellow, and yellow.
+type Told = (&'static str, Figures, Mode, &'static [(u64, u64)]);
 
-/// What a meter tells of itself.
-fn told(meter: &AnyMeter) -> Told {
-    let green = figures(meter.green_envelope());
-    let all = figures(meter.all_envelope());
-    let excess = figures(meter.excess_envelope());
-    (Meter::mode(meter), [green, all, excess])
+static TOLD: [Told; 3] = [
+    (
+        "a single rate",
+        Figures::Single(8_000, 1_000, 500),
+        Mode::Aware,
+        &[(8_000, 1_001), (8_000, 1_501), (8_000, 501)],
+    ),
+    (
+        "two rates",
+        Figures::Two(8_000, 1_500, 16_000, 3_000),
+        Mode::Blind,
+        &[(8_000, 1_501), (16_000, 3_001), (16_000, 3_001)],
+    ),
+    (
+        "separate rates",
+        Figures::Separate(8_000, 1_000, 4_000, 500),
+        Mode::Aware,
+        &[(8_000, 1_001), (12_000, 1_502), (4_000, 501)],
+    ),
+];
+
+/// What leaves a meter green, green or yellow, and yellow.
+fn envelopes(meter: &AnyMeter) -> [(u64, u64); 3] {
+    [
+        figures_of(meter.green_envelope()),
+        figures_of(meter.all_envelope()),
+        figures_of(meter.excess_envelope()),
+    ]
 }
 
-/// Expects of a meter in a mode what it tells of itself.
-fn expect(rt: &impl Abort, parameters: Parameters, wanted: Told) -> Result<(), Fail> {
-    assert_eq!(rt; told(&opened(parameters, wanted.0)?), wanted);
-    Ok(())
+/// Expects what a meter tells of itself.
+fn expect_told(rt: &impl Abort, (name, figures, mode, wanted): &Told) {
+    let meter = opened(rt, *figures, *mode);
+    expect_same(rt, name, Meter::mode(&meter), *mode);
+    expect_same(rt, name, envelopes(&meter).as_slice(), wanted);
 }
 
 #[test]
-fn envelopes_and_modes_of_each_kind(rt: HostRuntime) -> Result<(), Fail> {
-    let single = Parameters::SrTcm(single_rate((8_000, 1_000, 500))?);
-    let envelopes = [(8_000, 1_001), (8_000, 1_501), (8_000, 501)];
-    expect(&rt, single, (Mode::Aware, envelopes))?;
-    let two = Parameters::TrTcm(two_rates((8_000, 1_500, 16_000, 3_000))?);
-    let envelopes = [(8_000, 1_501), (16_000, 3_001), (16_000, 3_001)];
-    expect(&rt, two, (Mode::Blind, envelopes))?;
-    let separate = Parameters::Rfc4115(separate_rates((8_000, 1_000, 4_000, 500))?);
-    let envelopes = [(8_000, 1_001), (12_000, 1_502), (4_000, 501)];
-    expect(&rt, separate, (Mode::Aware, envelopes))
+fn envelopes_and_modes_of_each_kind(rt: HostRuntime) {
+    for row in &TOLD {
+        expect_told(&rt, row);
+    }
 }
 
 /// The colours that four red packets of 500 bytes at moment 7 leave a meter with.
-fn four(alloc: Global, meter: &mut AnyMeter) -> Result<Vec<Colour>, Fail> {
-    let arrivals = [arrival(0, 7, 500, Colour::Red)?; 4];
-    Ok(meter_all(alloc, meter, &arrivals)?)
+fn four(rt: &impl Abort, alloc: Global, meter: &mut AnyMeter) -> Vec<Colour> {
+    let arrivals = [arrival(rt, 0, 7, 500, Colour::Red); 4];
+    meter_all(alloc, meter, &arrivals).expect(rt, "memory")
+}
+
+/// What they leave a blind meter of a single rate with.
+static LEFT: [Colour; 4] = [Colour::Green, Colour::Green, Colour::Yellow, Colour::Red];
+
+/// Expects of such a meter these colours, and its newest moment.
+fn expect_metered(rt: &impl Abort, alloc: Global) {
+    let mut meter = opened(rt, Figures::Single(8_000, 1_000, 500), Mode::Blind);
+    let left = four(rt, alloc, &mut meter);
+    expect_same(rt, "four red packets", left.as_slice(), LEFT.as_slice());
+    assert!(rt; meter.newest().get() == 7);
 }
 
 #[test]
-fn arrivals_metered_one_after_the_other(rt: HostRuntime) -> Result<(), Fail> {
-    let parameters = Parameters::SrTcm(single_rate((8_000, 1_000, 500))?);
-    let mut meter = opened(parameters, Mode::Blind)?;
-    let left = four(rt.alloc(), &mut meter)?;
-    let wanted = [Colour::Green, Colour::Green, Colour::Yellow, Colour::Red];
-    assert_eq!(rt; left.as_slice(), wanted.as_slice());
-    assert_eq!(rt; meter.newest().get(), 7);
-    Ok(())
+fn arrivals_metered_one_after_the_other(rt: HostRuntime) {
+    expect_metered(&rt, rt.alloc());
 }

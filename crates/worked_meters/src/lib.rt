@@ -9,6 +9,10 @@ mod chapter_rows;
 #[cfg(test)]
 mod envelope_rows;
 #[cfg(test)]
+mod expecting;
+#[cfg(test)]
+mod fault_rows;
+#[cfg(test)]
 mod kind_rows;
 #[cfg(test)]
 mod meters;

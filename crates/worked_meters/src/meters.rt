@@ -1,16 +1,85 @@
 use line_text::{number, split_field, two_fields};
 use meter_book::{AnyMeter, Meter, Parameters};
-use moment_core::{Colour, Mode, Moment, OutOfRange, PacketSize};
+use moment_core::{Colour, Mode, Moment, PacketSize, Rate};
+use rfc4115_core::Rfc4115Parameters;
+use srtcm_core::SrTcmParameters;
 use std::process::Abort;
-use std::test::Fail;
+use trtcm_core::TrTcmParameters;
 
-/// A meter with its origin at 0.
-pub fn opened(parameters: Parameters, mode: Mode) -> Result<AnyMeter, Fail> {
-    Ok(AnyMeter::new(parameters, mode, Moment::new(0)?)?)
+/// The figures of a meter.
+#[derive(Clone, Copy)]
+pub enum Figures {
+    /// A rate, and a committed and an excess burst.
+    Single(u64, u32, u32),
+    /// A committed rate and burst, and a peak rate and burst.
+    Two(u64, u32, u64, u32),
+    /// A committed rate and burst, and an excess rate and burst.
+    Separate(u64, u32, u64, u32),
+}
+
+/// A rate.
+fn rate(rt: &impl Abort, bits: u64) -> Rate {
+    Rate::new(bits).expect(rt, "a rate")
+}
+
+/// A moment.
+pub fn moment(rt: &impl Abort, nanoseconds: u64) -> Moment {
+    Moment::new(nanoseconds).expect(rt, "a moment")
+}
+
+/// The parameters of a meter of a single rate.
+pub fn single_rate(rt: &impl Abort, cir: u64, cbs: u32, ebs: u32) -> SrTcmParameters {
+    SrTcmParameters {
+        committed_rate: rate(rt, cir),
+        committed_burst: cbs,
+        excess_burst: ebs,
+    }
+}
+
+/// The parameters of a meter of two rates.
+pub fn two_rates(rt: &impl Abort, cir: u64, cbs: u32, pir: u64, pbs: u32) -> TrTcmParameters {
+    TrTcmParameters {
+        committed_rate: rate(rt, cir),
+        committed_burst: cbs,
+        peak_rate: rate(rt, pir),
+        peak_burst: pbs,
+    }
+}
+
+/// The parameters of a meter of separate rates.
+pub fn separate_rates(
+    rt: &impl Abort,
+    cir: u64,
+    cbs: u32,
+    eir: u64,
+    ebs: u32,
+) -> Rfc4115Parameters {
+    Rfc4115Parameters {
+        committed_rate: rate(rt, cir),
+        committed_burst: cbs,
+        excess_rate: rate(rt, eir),
+        excess_burst: ebs,
+    }
+}
+
+/// The parameters of such figures.
+pub fn parameters(rt: &impl Abort, figures: Figures) -> Parameters {
+    match figures {
+        Figures::Single(cir, cbs, ebs) => Parameters::SrTcm(single_rate(rt, cir, cbs, ebs)),
+        Figures::Two(cir, cbs, pir, pbs) => Parameters::TrTcm(two_rates(rt, cir, cbs, pir, pbs)),
+        Figures::Separate(cir, cbs, eir, ebs) => {
+            Parameters::Rfc4115(separate_rates(rt, cir, cbs, eir, ebs))
+        }
+    }
+}
+
+/// A meter of such figures with its origin at 0.
+pub fn opened(rt: &impl Abort, figures: Figures, mode: Mode) -> AnyMeter {
+    AnyMeter::new(parameters(rt, figures), mode, moment(rt, 0)).expect(rt, "a meter")
 }
 
 /// The moment of so many nanoseconds.
-fn moment(field: &[u8]) -> Option<Moment> {
+fn moment_of(field: &[u8]) -> Option<Moment> {
     Moment::new(number(field, u64::MAX)?).ok()
 }
 
@@ -36,57 +105,32 @@ fn row(line: &[u8]) -> Option<(Moment, PacketSize, Colour, Colour)> {
     let (bytes, behind) = split_field(behind?);
     let (came, left) = two_fields(behind?)?;
     Some((
-        moment(nanoseconds)?,
+        moment_of(nanoseconds)?,
         size(bytes)?,
         colour(came)?,
         colour(left)?,
     ))
 }
 
-/// Expects of a meter that each packet leaves it as its row says. The rows stand a line each.
-pub fn expect<M: Meter>(rt: &impl Abort, meter: &mut M, rows: &str) -> Result<(), Fail> {
-    for line in rows.trim().split('\n') {
-        let Some((moment, size, came, left)) = row(line.as_bytes()) else {
-            return Err(Fail::from("a line that is no row"));
-        };
-        assert_eq!(rt; meter.admit(moment, size, came), left, "{line}");
+/// Expects of a packet that it leaves a meter as its line says.
+fn expect_left(rt: &impl Abort, meter: &mut AnyMeter, name: &str, line: &str) {
+    let (moment, size, came, left) = row(line.as_bytes()).expect(rt, line);
+    assert_eq!(rt; meter.admit(moment, size, came), left, "{name}: {line}");
+}
+
+/// Expects of each packet that it leaves a meter as its line says.
+pub fn expect_all(rt: &impl Abort, meter: &mut AnyMeter, name: &str, lines: &str) {
+    for line in lines.trim().split('\n') {
+        expect_left(rt, meter, name, line);
     }
-    Ok(())
 }
 
-/// Expects of parameters the number of their fault, 0 where they are those of a meter.
-pub fn expect_code(rt: &impl Abort, parameters: Parameters, wanted: u8) -> Result<(), Fail> {
-    let made = AnyMeter::new(parameters, Mode::Blind, Moment::new(5)?);
-    let code = match made {
-        Ok(_) => 0,
-        Err(fault) => fault.code(),
-    };
-    assert_eq!(rt; code, wanted);
-    assert!(rt; made.err() == parameters.fault());
-    Ok(())
-}
+/// What a row is about, the figures of a meter and its mode, and a line for each packet that it meters.
+pub type Metered = (&'static str, Figures, Mode, &'static str);
 
-/// The newest moment of a meter that has metered a byte at a moment.
-fn newest_behind<M: Meter>(meter: &mut M, moment: u64) -> Result<u64, OutOfRange> {
-    meter.admit(Moment::new(moment)?, PacketSize::new(1)?, Colour::Green);
-    Ok(meter.newest().get())
-}
-
-/// Expects the newest moment of a meter that has metered a byte at a moment.
-fn expect_behind<M: Meter>(
-    rt: &impl Abort,
-    meter: &mut M,
-    moment: u64,
-    newest: u64,
-) -> Result<(), OutOfRange> {
-    assert_eq!(rt; newest_behind(meter, moment)?, newest);
-    Ok(())
-}
-
-/// Expects of a meter with its origin at 5 that its newest moment never goes back.
-pub fn expect_newest<M: Meter>(rt: &impl Abort, meter: &mut M) -> Result<(), OutOfRange> {
-    assert_eq!(rt; meter.newest().get(), 5);
-    expect_behind(rt, meter, 4, 5)?;
-    expect_behind(rt, meter, 6, 6)?;
-    expect_behind(rt, meter, 5, 6)
+/// Expects of the packets of each row that they leave its meter as their lines say.
+pub fn expect_rows(rt: &impl Abort, rows: &[Metered]) {
+    for (name, figures, mode, lines) in rows {
+        expect_all(rt, &mut opened(rt, *figures, *mode), name, lines);
+    }
 }

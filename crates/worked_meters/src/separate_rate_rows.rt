@@ -1,28 +1,5 @@
-use crate::meters::{expect, expect_code, expect_newest, opened};
-use meter_book::Parameters;
-use moment_core::{Mode, Moment, Rate};
-use rfc4115_core::{Rfc4115, Rfc4115Parameters};
-use std::process::Abort;
-use std::test::Fail;
-
-/// A committed rate and burst, and an excess rate and burst.
-type Figures = (u64, u32, u64, u32);
-
-/// The parameters of such figures.
-pub fn parameters((cir, cbs, eir, ebs): Figures) -> Result<Rfc4115Parameters, Fail> {
-    Ok(Rfc4115Parameters {
-        committed_rate: Rate::new(cir)?,
-        committed_burst: cbs,
-        excess_rate: Rate::new(eir)?,
-        excess_burst: ebs,
-    })
-}
-
-/// Expects of a meter of such figures that each packet leaves it as its row says.
-fn expect_rows(rt: &impl Abort, figures: Figures, mode: Mode, rows: &str) -> Result<(), Fail> {
-    let mut meter = opened(Parameters::Rfc4115(parameters(figures)?), mode)?;
-    expect(rt, &mut meter, rows)
-}
+use crate::meters::{Figures, Metered, expect_rows};
+use moment_core::{Mode, Rate};
 
 const SEPARATE: &str = "
 0 100 r r
@@ -34,23 +11,12 @@ const SEPARATE: &str = "
 8000000 8 g g
 ";
 
-#[test]
-fn each_bucket_fills_at_its_own_rate(rt: HostRuntime) -> Result<(), Fail> {
-    expect_rows(&rt, (8_000, 1_000, 8_000, 500), Mode::Aware, SEPARATE)
-}
-
 const ONE_A_NANOSECOND: &str = "
 9 20 g g
 9 20 y y
 10 1 g g
 10 1 y y
 ";
-
-#[test]
-fn tokens_of_a_nanosecond_come_before_its_packets(rt: HostRuntime) -> Result<(), Fail> {
-    let figures = (800_000_000, 20, 800_000_000, 20);
-    expect_rows(&rt, figures, Mode::Aware, ONE_A_NANOSECOND)
-}
 
 /// 8 000 bits a second are a token a millisecond. Equality admits; red takes nothing; what finds the committed bucket
 /// full is lost.
@@ -134,51 +100,70 @@ const LATE: &str = "
 
 /// The colours were worked out by hand from the algorithm of RFC 4115: a token a byte, at the first whole
 /// nanosecond by which a rate has given it.
-#[test]
-fn colours_at_the_edges(rt: HostRuntime) -> Result<(), Fail> {
-    expect_rows(&rt, (8_000, 10, 16_000, 20), Mode::Aware, EQUAL)?;
-    expect_rows(&rt, (8_000, 1_000, 1, 500), Mode::Aware, IDLE)?;
-    expect_rows(&rt, (1, 65_535, 2, 1), Mode::Blind, SIZES)?;
-    expect_rows(
-        &rt,
-        (Rate::MOST, 2_500, Rate::MOST, 1_250),
+static METERS: [Metered; 10] = [
+    (
+        "each_bucket_fills_at_its_own_rate",
+        Figures::Separate(8_000, 1_000, 8_000, 500),
+        Mode::Aware,
+        SEPARATE,
+    ),
+    (
+        "tokens_of_a_nanosecond_come_before_its_packets",
+        Figures::Separate(800_000_000, 20, 800_000_000, 20),
+        Mode::Aware,
+        ONE_A_NANOSECOND,
+    ),
+    (
+        "colours_at_the_edges: equal",
+        Figures::Separate(8_000, 10, 16_000, 20),
+        Mode::Aware,
+        EQUAL,
+    ),
+    (
+        "colours_at_the_edges: idle",
+        Figures::Separate(8_000, 1_000, 1, 500),
+        Mode::Aware,
+        IDLE,
+    ),
+    (
+        "colours_at_the_edges: sizes",
+        Figures::Separate(1, 65_535, 2, 1),
+        Mode::Blind,
+        SIZES,
+    ),
+    (
+        "colours_at_the_edges: fast",
+        Figures::Separate(Rate::MOST, 2_500, Rate::MOST, 1_250),
         Mode::Aware,
         FAST,
-    )?;
-    expect_rows(
-        &rt,
-        (8_000, 0, 8_000, u32::MAX),
+    ),
+    (
+        "colours_at_the_edges: greatest_excess",
+        Figures::Separate(8_000, 0, 8_000, u32::MAX),
         Mode::Aware,
         GREATEST_EXCESS,
-    )?;
-    expect_rows(
-        &rt,
-        (8_000, u32::MAX, 8_000, 0),
+    ),
+    (
+        "colours_at_the_edges: greatest_committed",
+        Figures::Separate(8_000, u32::MAX, 8_000, 0),
         Mode::Aware,
         GREATEST_COMMITTED,
-    )?;
-    expect_rows(&rt, (3_000, 1, 3_000, 1), Mode::Aware, THIRDS)?;
-    expect_rows(&rt, (8_000, 2, 8, 0), Mode::Blind, LATE)
-}
-
-/// Expects of a committed and an excess burst the number of the fault of such a meter, 0 where it has none.
-fn expect_fault(rt: &impl Abort, (cbs, ebs): (u32, u32), wanted: u8) -> Result<(), Fail> {
-    let parameters = parameters((8_000, cbs, 8_000, ebs))?;
-    let code = match Rfc4115::new(parameters, Mode::Blind, Moment::new(5)?) {
-        Ok(_) => 0,
-        Err(fault) => fault.code(),
-    };
-    assert_eq!(rt; code, wanted);
-    expect_code(rt, Parameters::Rfc4115(parameters), wanted)
-}
+    ),
+    (
+        "colours_at_the_edges: thirds",
+        Figures::Separate(3_000, 1, 3_000, 1),
+        Mode::Aware,
+        THIRDS,
+    ),
+    (
+        "colours_at_the_edges: late",
+        Figures::Separate(8_000, 2, 8, 0),
+        Mode::Blind,
+        LATE,
+    ),
+];
 
 #[test]
-fn a_meter_begins_at_its_origin_and_wants_a_burst(rt: HostRuntime) -> Result<(), Fail> {
-    expect_fault(&rt, (0, 0), 1)?;
-    expect_fault(&rt, (0, 1), 0)?;
-    expect_fault(&rt, (1, 0), 0)?;
-    let parameters = parameters((8_000, 1, 8_000, 1))?;
-    let mut meter = Rfc4115::new(parameters, Mode::Blind, Moment::new(5)?)?;
-    expect_newest(&rt, &mut meter)?;
-    Ok(())
+fn meters_of_separate_rates(rt: HostRuntime) {
+    expect_rows(&rt, &METERS);
 }

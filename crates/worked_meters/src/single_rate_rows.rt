@@ -1,27 +1,5 @@
-use crate::meters::{expect, expect_code, expect_newest, opened};
-use meter_book::Parameters;
-use moment_core::{Mode, Moment, Rate};
-use srtcm_core::{SrTcm, SrTcmParameters};
-use std::process::Abort;
-use std::test::Fail;
-
-/// A rate, and a committed and an excess burst.
-type Figures = (u64, u32, u32);
-
-/// The parameters of such figures.
-pub fn parameters((cir, cbs, ebs): Figures) -> Result<SrTcmParameters, Fail> {
-    Ok(SrTcmParameters {
-        committed_rate: Rate::new(cir)?,
-        committed_burst: cbs,
-        excess_burst: ebs,
-    })
-}
-
-/// Expects of a meter of such figures that each packet leaves it as its row says.
-fn expect_rows(rt: &impl Abort, figures: Figures, mode: Mode, rows: &str) -> Result<(), Fail> {
-    let mut meter = opened(Parameters::SrTcm(parameters(figures)?), mode)?;
-    expect(rt, &mut meter, rows)
-}
+use crate::meters::{Figures, Metered, expect_rows};
+use moment_core::{Mode, Rate};
 
 const FULL: &str = "
 0 1000 g g
@@ -31,23 +9,11 @@ const FULL: &str = "
 1250000000 1000 g g
 ";
 
-#[test]
-fn tokens_fill_the_excess_bucket_once_the_committed_one_is_full(
-    rt: HostRuntime,
-) -> Result<(), Fail> {
-    expect_rows(&rt, (8_000, 1_000, 500), Mode::Aware, FULL)
-}
-
 const NO_COMMITTED: &str = "
 0 10 g y
 1000000 1 g y
 1000000 1 g r
 ";
-
-#[test]
-fn without_a_committed_burst_all_that_conforms_is_yellow(rt: HostRuntime) -> Result<(), Fail> {
-    expect_rows(&rt, (8_000, 0, 10), Mode::Blind, NO_COMMITTED)
-}
 
 /// 8 000 bits a second are a token a millisecond. Equality admits; red takes nothing.
 const EQUAL: &str = "
@@ -136,36 +102,76 @@ const LATE: &str = "
 
 /// The colours were worked out by hand from the algorithm of RFC 2697 section 3: a token a byte, at the first whole
 /// nanosecond by which the rate has given it.
-#[test]
-fn colours_at_the_edges(rt: HostRuntime) -> Result<(), Fail> {
-    expect_rows(&rt, (8_000, 1_000, 500), Mode::Aware, EQUAL)?;
-    expect_rows(&rt, (8_000, 10, 10), Mode::Aware, SPILLED)?;
-    expect_rows(&rt, (8_000, 1_000, 500), Mode::Aware, IDLE)?;
-    expect_rows(&rt, (1, 65_535, 1), Mode::Blind, SIZES)?;
-    expect_rows(&rt, (Rate::MOST, 2_500, 1_250), Mode::Aware, FAST)?;
-    expect_rows(&rt, (8_000, 0, u32::MAX), Mode::Aware, GREATEST_EXCESS)?;
-    expect_rows(&rt, (8_000, u32::MAX, 0), Mode::Aware, GREATEST_COMMITTED)?;
-    expect_rows(&rt, (3_000, 3, 0), Mode::Blind, THIRDS)?;
-    expect_rows(&rt, (8_000, 2, 0), Mode::Blind, LATE)
-}
+static METERS: [Metered; 11] = [
+    (
+        "tokens_fill_the_excess_bucket_once_the_committed_one_is_full",
+        Figures::Single(8_000, 1_000, 500),
+        Mode::Aware,
+        FULL,
+    ),
+    (
+        "without_a_committed_burst_all_that_conforms_is_yellow",
+        Figures::Single(8_000, 0, 10),
+        Mode::Blind,
+        NO_COMMITTED,
+    ),
+    (
+        "colours_at_the_edges: equal",
+        Figures::Single(8_000, 1_000, 500),
+        Mode::Aware,
+        EQUAL,
+    ),
+    (
+        "colours_at_the_edges: spilled",
+        Figures::Single(8_000, 10, 10),
+        Mode::Aware,
+        SPILLED,
+    ),
+    (
+        "colours_at_the_edges: idle",
+        Figures::Single(8_000, 1_000, 500),
+        Mode::Aware,
+        IDLE,
+    ),
+    (
+        "colours_at_the_edges: sizes",
+        Figures::Single(1, 65_535, 1),
+        Mode::Blind,
+        SIZES,
+    ),
+    (
+        "colours_at_the_edges: fast",
+        Figures::Single(Rate::MOST, 2_500, 1_250),
+        Mode::Aware,
+        FAST,
+    ),
+    (
+        "colours_at_the_edges: greatest_excess",
+        Figures::Single(8_000, 0, u32::MAX),
+        Mode::Aware,
+        GREATEST_EXCESS,
+    ),
+    (
+        "colours_at_the_edges: greatest_committed",
+        Figures::Single(8_000, u32::MAX, 0),
+        Mode::Aware,
+        GREATEST_COMMITTED,
+    ),
+    (
+        "colours_at_the_edges: thirds",
+        Figures::Single(3_000, 3, 0),
+        Mode::Blind,
+        THIRDS,
+    ),
+    (
+        "colours_at_the_edges: late",
+        Figures::Single(8_000, 2, 0),
+        Mode::Blind,
+        LATE,
+    ),
+];
 
-/// Expects of a committed and an excess burst the number of the fault of such a meter, 0 where it has none.
-fn expect_fault(rt: &impl Abort, (cbs, ebs): (u32, u32), wanted: u8) -> Result<(), Fail> {
-    let parameters = parameters((8_000, cbs, ebs))?;
-    let code = match SrTcm::new(parameters, Mode::Blind, Moment::new(5)?) {
-        Ok(_) => 0,
-        Err(fault) => fault.code(),
-    };
-    assert_eq!(rt; code, wanted);
-    expect_code(rt, Parameters::SrTcm(parameters), wanted)
-}
-
 #[test]
-fn a_meter_begins_at_its_origin_and_wants_a_burst(rt: HostRuntime) -> Result<(), Fail> {
-    expect_fault(&rt, (0, 0), 1)?;
-    expect_fault(&rt, (0, 1), 0)?;
-    expect_fault(&rt, (1, 0), 0)?;
-    let mut meter = SrTcm::new(parameters((8_000, 1, 1))?, Mode::Blind, Moment::new(5)?)?;
-    expect_newest(&rt, &mut meter)?;
-    Ok(())
+fn meters_of_a_single_rate(rt: HostRuntime) {
+    expect_rows(&rt, &METERS);
 }

@@ -3,4 +3,6 @@
 #![tactic(auto)]
 
 #[cfg(test)]
+mod expecting;
+#[cfg(test)]
 mod rows;

@@ -15,4 +15,4 @@ pub use domains::{
     LEAST_OF_POLICED, LEAST_OF_TRUSTED, over_excess, over_way, policed, tight, wide,
 };
 pub use joining::{joined, push_all};
-pub use sites::{LINK, METER, ONE, PORT, TWO};
+pub use sites::{EXCESS_WAY, LINK, METER, ONE, PORT, TIGHT_METER, TWO};

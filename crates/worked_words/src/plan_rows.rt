@@ -383,13 +383,10 @@ fn help_for_the_program_and_its_commands(rt: HostRuntime) -> Result<(), Fail> {
 }
 
 #[test]
-fn the_version_and_the_kit_that_proved_it(rt: HostRuntime) -> Result<(), Fail> {
+fn the_version_and_the_logic_that_it_is_proved_with(rt: HostRuntime) -> Result<(), Fail> {
     for line in ["--version", "-V"] {
         let text = text_for(rt.alloc(), line)?;
-        assert_eq!(rt;
-            text.as_str(),
-            "dsedge 0.1.0\nrattle-kit-13f logic dac8208d650f15bf\n"
-        );
+        assert_eq!(rt; text.as_str(), "dsedge 0.1.0\nlogic dac8208d650f15bf\n");
     }
     Ok(())
 }

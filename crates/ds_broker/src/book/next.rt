@@ -60,7 +60,7 @@ impl Book {
             return Err(refusal);
         }
         let serial = self.next_serial();
-        let since = self.newest.max(contract.lifetime.since());
+        let since = self.moment_of(contract.lifetime.since());
         let Ok(mut table) = self.table.copy(alloc) else {
             return Err(BrokerRefusal::NoMemory);
         };
@@ -89,17 +89,9 @@ impl Book {
         ensures refused { IfErr result
             (λ refusal. (refusal ≡ NoMemory) ⊎ (refusal_in self.now (Release id at) ≡ Some refusal)) }
     {
-        let Some((place, released)) = self.find(id) else {
-            return Err(BrokerRefusal::UnknownId);
-        };
-        if released {
-            return Err(BrokerRefusal::AlreadyReleased);
-        }
-        if self.is_history_full() {
-            return Err(BrokerRefusal::HistoryFull);
-        }
+        let place = self.releasable(id)?;
         let serial = self.next_serial();
-        let lifetime = self.ended(place, self.newest.max(at));
+        let lifetime = self.ended(place, self.moment_of(at));
         let Ok(mut table) = self.table.copy(alloc) else {
             return Err(BrokerRefusal::NoMemory);
         };
@@ -123,19 +115,7 @@ impl Book {
         ensures refused { IfErr result
             (λ refusal. (refusal ≡ NoMemory) ⊎ (refusal_in self.now (Retire id moment) ≡ Some refusal)) }
     {
-        let Some((place, released)) = self.find(id) else {
-            return Err(BrokerRefusal::UnknownId);
-        };
-        if !released {
-            return Err(BrokerRefusal::NotReleased);
-        }
-        if self.is_history_full() {
-            return Err(BrokerRefusal::HistoryFull);
-        }
-        let left = self.hold_left(place, self.newest.max(moment));
-        if left > 0 {
-            return Err(BrokerRefusal::HoldLeft(left));
-        }
+        let place = self.retirable(id, moment)?;
         let serial = self.next_serial();
         let Ok(table) = self.table.without(alloc, place) else {
             return Err(BrokerRefusal::NoMemory);

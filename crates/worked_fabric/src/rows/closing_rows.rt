@@ -1,16 +1,30 @@
 ghost use Rattle.std.specs.Prelude.{◌≡◌, ◌+◌, length};
 
-use crate::rows::tables::{EDGE, enter, fit, none, opened, policed, visit};
+use crate::rows::tables::{EDGE, closed, entered, fit, none, opened, policed, popped, visited};
 use ds_checker::Accepted;
 use meter_book::{Chapter, Journal};
-use meter_fabric::{Fabric, FabricLedger, Pass, ticket_parts};
-use moment_core::Moment;
+use meter_fabric::{Fabric, FabricLedger, Pass, Traveller, ticket_parts};
 use std::alloc::Global;
 use std::marker::Brand;
 use std::process::Abort;
 use std::sync::Wait;
 use std::sync::ledger::Blank;
-use std::test::Fail;
+
+/// The chapter that an edge of two rows is cut to.
+fn cut<L: FabricLedger, R: Wait + Abort>(rt: &R, fabric: &Fabric<'_, L>) -> Chapter {
+    let chapter = fabric.cut(rt, EDGE).expect(rt, "a chapter");
+    assert!(rt; chapter.site() == EDGE);
+    assert!(rt; chapter.len() == 2);
+    chapter
+}
+
+/// Expects of a packet that it has one row, the third of its edge.
+fn expect_third(rt: &impl Abort, third: Traveller) {
+    let trail = third.into_trail();
+    let place = trail.receipts.first().map(|receipt| receipt.row.place);
+    drop(trail);
+    assert!(rt; place == Some(2));
+}
 
 /// Expects that an edge of capacity 2 takes a third packet once it is cut, at place 2: the chapter.
 fn expect_cut<L: FabricLedger, R: Wait + Abort>(
@@ -19,88 +33,64 @@ fn expect_cut<L: FabricLedger, R: Wait + Abort>(
     fabric: &Fabric<'_, L>,
     accepted: &Accepted,
     pass: &mut Pass<L>,
-) -> Result<Chapter, Fail> {
-    assert_eq!(rt; fit(rt, alloc, fabric, accepted, 0)?, 0);
-    for number in 1..3 {
-        let (_, code) = enter(rt, alloc, fabric, accepted, pass, (number, 10))?;
-        assert_eq!(rt; code, 0);
-    }
-    let (third, code) = enter(rt, alloc, fabric, accepted, pass, (3, 10))?;
-    assert_eq!(rt; code, 2);
-    let moment = Moment::new(10)?;
-    let chapter = fabric.cut(rt, EDGE)?;
-    assert_eq!(rt; (chapter.site(), chapter.len()), (EDGE, 2));
-    let (third, code) = visit(rt, fabric, pass, third, moment);
-    assert_eq!(rt; code, 0);
-    let place = third
-        .into_trail()
-        .receipts
-        .first()
-        .map(|receipt| receipt.row.place);
-    assert_eq!(rt; place, Some(2));
-    Ok(chapter)
+) -> Chapter {
+    assert!(rt; fit(rt, alloc, fabric, accepted, 0) == 0);
+    drop(entered(rt, alloc, fabric, accepted, pass, (1, 10, 0)));
+    drop(entered(rt, alloc, fabric, accepted, pass, (2, 10, 0)));
+    let third = entered(rt, alloc, fabric, accepted, pass, (3, 10, 2));
+    let chapter = cut(rt, fabric);
+    expect_third(rt, visited(rt, fabric, pass, third, (10, 0)));
+    chapter
 }
 
 /// Expects the journals of a meter that no packet came to, and of an edge of three rows.
 fn expect_journals(rt: &impl Abort, journals: &[Journal]) {
-    assert_eq!(rt; journals.len(), 2);
-    assert_eq!(rt; journals.first().map(|journal| journal.len()), Some(0));
-    assert_eq!(rt;
-        journals
-            .last()
-            .map(|journal| (journal.site(), journal.len())),
-        Some((EDGE, 3))
-    );
+    assert!(rt; journals.len() == 2);
+    assert!(rt; journals[0].len() == 0);
+    assert!(rt; journals[1].site() == EDGE);
+    assert!(rt; journals[1].len() == 3);
 }
 
-/// Expects that a fabric closes with a chapter of its edge and not without it.
-fn expect_closing<L: FabricLedger>(
+/// The journals that a fabric closes to with a chapter of its edge; it does not close without it.
+fn closed_with<L: FabricLedger>(
     rt: &impl Abort,
     alloc: Global,
     fabric: Fabric<'_, L>,
     passes: Vec<Pass<L>>,
     chapter: Chapter,
-) -> Result<(), Fail> {
+) -> Vec<Journal> {
     match fabric.close(alloc, passes, none(alloc)) {
-        Ok(_) => Err(Fail::from("a chapter was missing")),
+        Ok(_) => panic!(rt; "a chapter was missing"),
         Err((fabric, passes, mut chapters, fault)) => {
-            assert_eq!(rt; (fault.code(), passes.len()), (3, 2));
-            chapters.push(chapter)?;
-            match fabric.close(alloc, passes, chapters) {
-                Ok(journals) => {
-                    expect_journals(rt, journals.as_slice());
-                    Ok(())
-                }
-                Err((_, _, _, fault)) => Err(fault.into()),
-            }
+            assert!(rt; (fault.code(), passes.len()) == (3, 2));
+            chapters.push(chapter).expect(rt, "memory");
+            closed(rt, alloc, fabric, passes, chapters)
         }
     }
 }
 
 /// A fabric whose edge is cut closes with the chapter.
-fn cuts<L: FabricLedger, R: Wait + Abort>(
-    rt: &R,
-    alloc: Global,
-    accepted: &Accepted,
-    blank: Blank,
-) -> Result<(), Fail>
+fn cuts<L: FabricLedger, R: Wait + Abort>(rt: &R, alloc: Global, accepted: &Accepted, blank: Blank)
     requires name { blank.name ≡ L.name }
     requires parts { blank.parts ≡ L.parts }
     requires cut { blank.parts ≡ 1 + (length accepted.now.domain.meters + 1) + 2 }
     requires sites { L.sites ≡ length accepted.now.domain.meters + 1 }
 {
-    let (fabric, mut passes) = opened::<L>(alloc, accepted, blank, 2)?;
-    let mut pass = passes.pop().expect(rt, "two passes");
-    let chapter = expect_cut(rt, alloc, &fabric, accepted, &mut pass)?;
-    passes.push(pass)?;
-    expect_closing(rt, alloc, fabric, passes, chapter)
+    let (fabric, mut passes) = opened::<L>(alloc, accepted, blank, 2).expect(rt, "memory");
+    let mut pass = popped(rt, &mut passes);
+    let chapter = expect_cut(rt, alloc, &fabric, accepted, &mut pass);
+    passes.push(pass).expect(rt, "memory");
+    let journals = closed_with(rt, alloc, fabric, passes, chapter);
+    expect_journals(rt, journals.as_slice());
+    drop(journals);
 }
 
 #[test]
-fn a_fabric_closes_with_its_chapters(rt: HostRuntime) -> Result<(), Fail> {
-    let accepted = policed(rt.alloc()).ok_or("no table")?;
+fn a_fabric_closes_with_its_chapters(rt: HostRuntime) {
+    let accepted = policed(rt.alloc()).expect(&rt, "a table");
     let blank = Blank::new(ticket_parts(accepted.domain(), 1, 2));
-    cuts::<Brand, _>(&rt, rt.alloc(), &accepted, blank)
+    cuts::<Brand, _>(&rt, rt.alloc(), &accepted, blank);
+    drop(accepted);
 }
 
 /// Expects that a fabric whose slot was never fitted closes to the journal of its meter alone.
@@ -109,25 +99,22 @@ fn unfitted<L: FabricLedger, R: Wait + Abort>(
     alloc: Global,
     accepted: &Accepted,
     blank: Blank,
-) -> Result<(), Fail>
+)
     requires name { blank.name ≡ L.name }
     requires parts { blank.parts ≡ L.parts }
     requires cut { blank.parts ≡ 1 + (length accepted.now.domain.meters + 1) + 2 }
     requires sites { L.sites ≡ length accepted.now.domain.meters + 1 }
 {
-    let (fabric, passes) = opened::<L>(alloc, accepted, blank, 2)?;
-    match fabric.close(alloc, passes, none(alloc)) {
-        Ok(journals) => {
-            assert_eq!(rt; journals.len(), 1);
-            Ok(())
-        }
-        Err((_, _, _, fault)) => Err(fault.into()),
-    }
+    let (fabric, passes) = opened::<L>(alloc, accepted, blank, 2).expect(rt, "memory");
+    let journals = closed(rt, alloc, fabric, passes, none(alloc));
+    assert!(rt; journals.len() == 1);
+    drop(journals);
 }
 
 #[test]
-fn a_slot_that_was_never_fitted_gives_no_journal(rt: HostRuntime) -> Result<(), Fail> {
-    let accepted = policed(rt.alloc()).ok_or("no table")?;
+fn a_slot_that_was_never_fitted_gives_no_journal(rt: HostRuntime) {
+    let accepted = policed(rt.alloc()).expect(&rt, "a table");
     let blank = Blank::new(ticket_parts(accepted.domain(), 1, 2));
-    unfitted::<Brand, _>(&rt, rt.alloc(), &accepted, blank)
+    unfitted::<Brand, _>(&rt, rt.alloc(), &accepted, blank);
+    drop(accepted);
 }

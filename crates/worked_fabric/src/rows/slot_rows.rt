@@ -1,16 +1,16 @@
 ghost use Rattle.std.specs.Prelude.{◌≡◌, ◌+◌, All, IsTrue, Some, length};
 ghost use Rattle.meter_fabric_base.specs.Travels.{next_site};
 
-use crate::rows::tables::{EDGE, METER, enter, fit, opened, packet, policed, visit};
+use crate::rows::tables::{
+    EDGE, METER, entered, fit, moment, opened, packet, policed, popped, visited,
+};
 use ds_checker::Accepted;
 use meter_fabric::{Fabric, FabricLedger, Pass, Traveller, Visit, ticket_parts};
-use moment_core::Moment;
 use std::alloc::Global;
 use std::marker::Brand;
 use std::process::Abort;
 use std::sync::Wait;
 use std::sync::ledger::Blank;
-use std::test::Fail;
 
 /// Expects what is refused of a slot that is not fitted: a visit, which leaves its packet where it is, and a cut.
 fn expect_unfitted<L: FabricLedger, R: Wait + Abort>(
@@ -19,12 +19,12 @@ fn expect_unfitted<L: FabricLedger, R: Wait + Abort>(
     fabric: &Fabric<'_, L>,
     accepted: &Accepted,
     pass: &mut Pass<L>,
-) -> Result<Traveller, Fail> {
-    let (early, code) = enter(rt, alloc, fabric, accepted, pass, (1, 10))?;
-    assert_eq!(rt; (code, pass.visits(EDGE)), (5, 0));
-    let early_cut = fabric.cut(rt, EDGE);
-    assert_eq!(rt; early_cut.err().map(|fault| fault.code()), Some(1));
-    Ok(early)
+) -> Traveller {
+    let early = entered(rt, alloc, fabric, accepted, pass, (1, 10, 5));
+    assert!(rt; pass.visits(EDGE) == 0);
+    let early_cut = fabric.cut(rt, EDGE).err();
+    assert!(rt; early_cut.map(|fault| fault.code()) == Some(1));
+    early
 }
 
 /// Expects that slots are fitted once, where there are any.
@@ -33,11 +33,10 @@ fn expect_fitted<L: FabricLedger, R: Wait + Abort>(
     alloc: Global,
     fabric: &Fabric<'_, L>,
     accepted: &Accepted,
-) -> Result<(), Fail> {
-    assert_eq!(rt; fit(rt, alloc, fabric, accepted, 0)?, 0);
-    assert_eq!(rt; fit(rt, alloc, fabric, accepted, 0)?, 2);
-    assert_eq!(rt; fit(rt, alloc, fabric, accepted, 1)?, 1);
-    Ok(())
+) {
+    assert!(rt; fit(rt, alloc, fabric, accepted, 0) == 0);
+    assert!(rt; fit(rt, alloc, fabric, accepted, 0) == 2);
+    assert!(rt; fit(rt, alloc, fabric, accepted, 1) == 1);
 }
 
 /// Expects that a packet goes through edge and meter at moment 10, and neither earlier nor any further.
@@ -46,17 +45,21 @@ fn expect_way<L: FabricLedger, R: Wait + Abort>(
     fabric: &Fabric<'_, L>,
     pass: &mut Pass<L>,
     sent: Traveller,
-) -> Result<(), Fail> {
-    let (before, then) = (Moment::new(9)?, Moment::new(10)?);
-    let (early, code) = visit(rt, fabric, pass, sent, before);
-    assert_eq!(rt; code, 4);
-    let (within, code) = visit(rt, fabric, pass, early, then);
-    assert_eq!(rt; code, 0);
-    let (ended, code) = visit(rt, fabric, pass, within, then);
-    assert_eq!(rt; code, 0);
-    let (ended, code) = visit(rt, fabric, pass, ended, then);
-    assert_eq!(rt; (code, ended.into_trail().receipts.len()), (1, 2));
-    Ok(())
+) {
+    let early = visited(rt, fabric, pass, sent, (9, 4));
+    let within = visited(rt, fabric, pass, early, (10, 0));
+    let ended = visited(rt, fabric, pass, within, (10, 0));
+    let ended = visited(rt, fabric, pass, ended, (10, 1));
+    let trail = ended.into_trail();
+    assert!(rt; trail.receipts.len() == 2);
+    drop(trail);
+}
+
+/// Expects of a pass one visit to the meter and one to the edge.
+fn expect_visits<L: FabricLedger>(rt: &impl Abort, pass: &Pass<L>) {
+    assert!(rt; pass.visits(METER) == 1);
+    assert!(rt; pass.visits(EDGE) == 1);
+    assert!(rt; pass.visits(2) == 0);
 }
 
 /// Expects what comes of a slot before and after it is fitted, and of one that is not there.
@@ -65,29 +68,29 @@ fn expect_slots<L: FabricLedger, R: Wait + Abort>(
     alloc: Global,
     accepted: &Accepted,
     blank: Blank,
-) -> Result<(), Fail>
+)
     requires name { blank.name ≡ L.name }
     requires parts { blank.parts ≡ L.parts }
     requires cut { blank.parts ≡ 1 + (length accepted.now.domain.meters + 1) + 2 }
     requires sites { L.sites ≡ length accepted.now.domain.meters + 1 }
 {
-    let (fabric, mut passes) = opened::<L>(alloc, accepted, blank, 8)?;
-    let mut pass = passes.pop().expect(rt, "two passes");
-    let early = expect_unfitted(rt, alloc, &fabric, accepted, &mut pass)?;
-    expect_fitted(rt, alloc, &fabric, accepted)?;
-    expect_way(rt, &fabric, &mut pass, early)?;
-    assert_eq!(rt;
-        [pass.visits(METER), pass.visits(EDGE), pass.visits(2)],
-        [1, 1, 0]
-    );
-    Ok(())
+    let (fabric, mut passes) = opened::<L>(alloc, accepted, blank, 8).expect(rt, "memory");
+    let mut pass = popped(rt, &mut passes);
+    let early = expect_unfitted(rt, alloc, &fabric, accepted, &mut pass);
+    expect_fitted(rt, alloc, &fabric, accepted);
+    expect_way(rt, &fabric, &mut pass, early);
+    expect_visits(rt, &pass);
+    drop(pass);
+    drop(passes);
+    drop(fabric);
 }
 
 #[test]
-fn a_slot_is_fitted_once(rt: HostRuntime) -> Result<(), Fail> {
-    let accepted = policed(rt.alloc()).ok_or("no table")?;
+fn a_slot_is_fitted_once(rt: HostRuntime) {
+    let accepted = policed(rt.alloc()).expect(&rt, "a table");
     let blank = Blank::new(ticket_parts(accepted.domain(), 1, 2));
-    expect_slots::<Brand, _>(&rt, rt.alloc(), &accepted, blank)
+    expect_slots::<Brand, _>(&rt, rt.alloc(), &accepted, blank);
+    drop(accepted);
 }
 
 /// Expects that an edge, once it is fitted, is shut behind a packet of moment 10, and at no other moment afterwards.
@@ -97,45 +100,38 @@ fn expect_shut<L: FabricLedger, R: Wait + Abort>(
     fabric: &Fabric<'_, L>,
     accepted: &Accepted,
     pass: &mut Pass<L>,
-) -> Result<(), Fail> {
-    let (early, behind, late) = (Moment::new(5)?, Moment::new(11)?, Moment::new(99)?);
-    let unfitted = fabric.shut(rt, 0, early).err();
-    assert_eq!(rt; unfitted.map(|fault| fault.code()), Some(1));
-    assert_eq!(rt; fit(rt, alloc, fabric, accepted, 0)?, 0);
-    let (_, code) = enter(rt, alloc, fabric, accepted, pass, (1, 10))?;
-    assert_eq!(rt; code, 0);
-    assert_eq!(rt; fabric.shut(rt, 0, early), Ok(behind));
-    assert_eq!(rt; fabric.shut(rt, 0, late), Ok(behind));
-    Ok(())
+) {
+    let unfitted = fabric.shut(rt, 0, moment(rt, 5)).err();
+    assert!(rt; unfitted.map(|fault| fault.code()) == Some(1));
+    assert!(rt; fit(rt, alloc, fabric, accepted, 0) == 0);
+    drop(entered(rt, alloc, fabric, accepted, pass, (1, 10, 0)));
+    assert!(rt; fabric.shut(rt, 0, moment(rt, 5)) == Ok(moment(rt, 11)));
+    assert!(rt; fabric.shut(rt, 0, moment(rt, 99)) == Ok(moment(rt, 11)));
 }
 
 /// Expects what comes of shutting an edge at moment 5 behind a packet of moment 10.
-fn shuts<L: FabricLedger, R: Wait + Abort>(
-    rt: &R,
-    alloc: Global,
-    accepted: &Accepted,
-    blank: Blank,
-) -> Result<(), Fail>
+fn shuts<L: FabricLedger, R: Wait + Abort>(rt: &R, alloc: Global, accepted: &Accepted, blank: Blank)
     requires name { blank.name ≡ L.name }
     requires parts { blank.parts ≡ L.parts }
     requires cut { blank.parts ≡ 1 + (length accepted.now.domain.meters + 1) + 2 }
     requires sites { L.sites ≡ length accepted.now.domain.meters + 1 }
 {
-    let (fabric, mut passes) = opened::<L>(alloc, accepted, blank, 8)?;
-    let mut pass = passes.pop().expect(rt, "two passes");
-    expect_shut(rt, alloc, &fabric, accepted, &mut pass)?;
-    let (back, code) = enter(rt, alloc, &fabric, accepted, &mut pass, (2, 11))?;
-    assert_eq!(rt; code, 6);
-    let (_, code) = visit(rt, &fabric, &mut pass, back, Moment::new(10)?);
-    assert_eq!(rt; code, 0);
-    Ok(())
+    let (fabric, mut passes) = opened::<L>(alloc, accepted, blank, 8).expect(rt, "memory");
+    let mut pass = popped(rt, &mut passes);
+    expect_shut(rt, alloc, &fabric, accepted, &mut pass);
+    let back = entered(rt, alloc, &fabric, accepted, &mut pass, (2, 11, 6));
+    drop(visited(rt, &fabric, &mut pass, back, (10, 0)));
+    drop(pass);
+    drop(passes);
+    drop(fabric);
 }
 
 #[test]
-fn an_edge_is_shut(rt: HostRuntime) -> Result<(), Fail> {
-    let accepted = policed(rt.alloc()).ok_or("no table")?;
+fn an_edge_is_shut(rt: HostRuntime) {
+    let accepted = policed(rt.alloc()).expect(&rt, "a table");
     let blank = Blank::new(ticket_parts(accepted.domain(), 1, 2));
-    shuts::<Brand, _>(&rt, rt.alloc(), &accepted, blank)
+    shuts::<Brand, _>(&rt, rt.alloc(), &accepted, blank);
+    drop(accepted);
 }
 
 /// Whether visits are to one site, all of them.
@@ -150,42 +146,56 @@ fn come_to(visits: &[Visit], site: u32) -> bool
     true
 }
 
+/// A packet of a number, and when it comes.
+fn visit_at(
+    rt: &impl Abort,
+    alloc: Global,
+    accepted: &Accepted,
+    (number, nanoseconds): (u64, u64),
+) -> Visit {
+    Visit::at(packet(rt, alloc, accepted, number), moment(rt, nanoseconds))
+}
+
 /// Three packets, and when they come, the second too early.
-fn three_visits(alloc: Global, accepted: &Accepted) -> Result<Vec<Visit>, Fail> {
-    let mut visits = Vec::with_capacity(alloc, 3)?;
-    for (number, moment) in [(1, 10), (2, 9), (3, 10)] {
-        visits.push(Visit::at(packet(alloc, accepted, number)?, Moment::new(moment)?))?;
+fn three_visits(rt: &impl Abort, alloc: Global, accepted: &Accepted) -> Vec<Visit> {
+    let mut visits = Vec::new(alloc);
+    for asked in [(1, 10), (2, 9), (3, 10)] {
+        let visit = visit_at(rt, alloc, accepted, asked);
+        visits.push(visit).expect(rt, "memory");
     }
-    Ok(visits)
+    visits
 }
 
-/// The numbers of the faults of visits, 0 where there is none.
-fn codes_of(alloc: Global, visits: &[Visit]) -> Result<Vec<u8>, Fail> {
-    let mut codes = Vec::with_capacity(alloc, visits.len())?;
-    for visit in visits {
-        codes.push(visit.fault.map_or(0, |fault| fault.code()))?;
-    }
-    Ok(codes)
+/// The number of the fault of a visit, 0 where there is none.
+fn code_of(visit: &Visit) -> u8 {
+    visit.fault.map_or(0, |fault| fault.code())
 }
 
-/// Expects what comes of three visits under one lock, of which the second comes too early and the third finds no room.
+/// Expects of three visits that the second came too early and that the third found no room.
+fn expect_codes(rt: &impl Abort, visits: &[Visit]) {
+    assert!(rt; visits.len() == 3);
+    assert!(rt; code_of(&visits[0]) == 0);
+    assert!(rt; code_of(&visits[1]) == 4);
+    assert!(rt; code_of(&visits[2]) == 2);
+}
+
+/// Expects what comes of three visits under one lock.
 fn expect_several<L: FabricLedger, R: Wait + Abort>(
     rt: &R,
     alloc: Global,
     fabric: &Fabric<'_, L>,
     accepted: &Accepted,
     pass: &mut Pass<L>,
-) -> Result<(), Fail> {
-    assert_eq!(rt; fit(rt, alloc, fabric, accepted, 0)?, 0);
-    let mut visits = three_visits(alloc, accepted)?;
+) {
+    assert!(rt; fit(rt, alloc, fabric, accepted, 0) == 0);
+    let mut visits = three_visits(rt, alloc, accepted);
     if !come_to(visits.as_slice(), EDGE) {
-        return Err(Fail::from("another site"));
+        panic!(rt; "another site")
     }
     fabric.visit_all(rt, pass, EDGE, visits.as_mut_slice());
-    let codes = codes_of(alloc, visits.as_slice())?;
-    assert_eq!(rt; codes.as_slice(), [0, 4, 2].as_slice());
-    assert_eq!(rt; pass.visits(EDGE), 1);
-    Ok(())
+    expect_codes(rt, visits.as_slice());
+    drop(visits);
+    assert!(rt; pass.visits(EDGE) == 1);
 }
 
 /// The same at a fabric whose books have room for one row.
@@ -194,20 +204,24 @@ fn several<L: FabricLedger, R: Wait + Abort>(
     alloc: Global,
     accepted: &Accepted,
     blank: Blank,
-) -> Result<(), Fail>
+)
     requires name { blank.name ≡ L.name }
     requires parts { blank.parts ≡ L.parts }
     requires cut { blank.parts ≡ 1 + (length accepted.now.domain.meters + 1) + 2 }
     requires sites { L.sites ≡ length accepted.now.domain.meters + 1 }
 {
-    let (fabric, mut passes) = opened::<L>(alloc, accepted, blank, 1)?;
-    let mut pass = passes.pop().expect(rt, "two passes");
-    expect_several(rt, alloc, &fabric, accepted, &mut pass)
+    let (fabric, mut passes) = opened::<L>(alloc, accepted, blank, 1).expect(rt, "memory");
+    let mut pass = popped(rt, &mut passes);
+    expect_several(rt, alloc, &fabric, accepted, &mut pass);
+    drop(pass);
+    drop(passes);
+    drop(fabric);
 }
 
 #[test]
-fn several_visits_under_one_lock(rt: HostRuntime) -> Result<(), Fail> {
-    let accepted = policed(rt.alloc()).ok_or("no table")?;
+fn several_visits_under_one_lock(rt: HostRuntime) {
+    let accepted = policed(rt.alloc()).expect(&rt, "a table");
     let blank = Blank::new(ticket_parts(accepted.domain(), 1, 2));
-    several::<Brand, _>(&rt, rt.alloc(), &accepted, blank)
+    several::<Brand, _>(&rt, rt.alloc(), &accepted, blank);
+    drop(accepted);
 }

@@ -3,13 +3,13 @@ ghost use Rattle.std.specs.Prelude.{◌≡◌, ◌+◌, ◌≤◌, ◌^◌, IfOk
 use af_marker::Dscp;
 use ds_checker::Accepted;
 use dsedge_texts::accept;
-use meter_book::Chapter;
+use meter_book::{Chapter, Journal};
 use meter_fabric::{Fabric, FabricLedger, Pass, Traveller, contract_of};
 use moment_core::{Moment, PacketSize};
 use std::alloc::{AllocError, Global};
+use std::process::Abort;
 use std::sync::Wait;
 use std::sync::ledger::Blank;
-use std::test::Fail;
 use worked_texts::LEAST_OF_POLICED;
 
 /// The number of the meter's site, and of the edge's.
@@ -40,23 +40,26 @@ pub fn opened<'a, L: FabricLedger>(
     Fabric::new(alloc, blank, accepted.domain(), 1, capacity, 2)
 }
 
+/// A moment.
+pub fn moment(rt: &impl Abort, nanoseconds: u64) -> Moment {
+    Moment::new(nanoseconds).expect(rt, "a moment")
+}
+
 /// Puts the edge meter of contract 0 in a slot: the number of the fault, 0 where it was put there.
-pub fn fit<L: FabricLedger, R: Wait>(
+pub fn fit<L: FabricLedger, R: Wait + Abort>(
     rt: &R,
     alloc: Global,
     fabric: &Fabric<'_, L>,
     accepted: &Accepted,
     flow: u32,
-) -> Result<u8, Fail> {
-    let Some(contract) = contract_of(accepted, 0) else {
-        return Err(Fail::from("no contract"));
-    };
+) -> u8 {
+    let contract = contract_of(accepted, 0).expect(rt, "a contract");
     if meter_fabric::edge_opening(accepted.domain(), contract).is_none() {
-        return Err(Fail::from("no policed contract"));
+        panic!(rt; "no policed contract")
     }
     match fabric.fit(rt, alloc, flow, contract) {
-        Ok(()) => Ok(0),
-        Err(fault) => Ok(fault.code()),
+        Ok(()) => 0,
+        Err(fault) => fault.code(),
     }
 }
 
@@ -69,8 +72,8 @@ pub fn sent(alloc: Global, accepted: &Accepted, number: u64) -> Option<Traveller
 }
 
 /// The same, or a failed row.
-pub fn packet(alloc: Global, accepted: &Accepted, number: u64) -> Result<Traveller, Fail> {
-    Ok(sent(alloc, accepted, number).ok_or("no packet")?)
+pub fn packet(rt: &impl Abort, alloc: Global, accepted: &Accepted, number: u64) -> Traveller {
+    sent(alloc, accepted, number).expect(rt, "a packet")
 }
 
 /// A visit at a moment: the traveller behind it, and the number of the fault or 0 where there is none.
@@ -88,16 +91,62 @@ pub fn visit<L: FabricLedger, R: Wait>(
 }
 
 /// The first visit of a packet of a number, at a moment.
-pub fn enter<L: FabricLedger, R: Wait>(
+pub fn enter<L: FabricLedger, R: Wait + Abort>(
     rt: &R,
     alloc: Global,
     fabric: &Fabric<'_, L>,
     accepted: &Accepted,
     pass: &mut Pass<L>,
-    (number, moment): (u64, u64),
-) -> Result<(Traveller, u8), Fail> {
-    let packet = packet(alloc, accepted, number)?;
-    Ok(visit(rt, fabric, pass, packet, Moment::new(moment)?))
+    (number, nanoseconds): (u64, u64),
+) -> (Traveller, u8) {
+    let packet = packet(rt, alloc, accepted, number);
+    visit(rt, fabric, pass, packet, moment(rt, nanoseconds))
+}
+
+/// Expects of the first visit of a packet of a number, at a moment, the number of its fault or 0: the traveller.
+pub fn entered<L: FabricLedger, R: Wait + Abort>(
+    rt: &R,
+    alloc: Global,
+    fabric: &Fabric<'_, L>,
+    accepted: &Accepted,
+    pass: &mut Pass<L>,
+    (number, nanoseconds, wanted): (u64, u64, u8),
+) -> Traveller {
+    let (traveller, code) = enter(rt, alloc, fabric, accepted, pass, (number, nanoseconds));
+    assert!(rt; code == wanted);
+    traveller
+}
+
+/// Expects of a traveller's visit at a moment the number of its fault or 0: the traveller.
+pub fn visited<L: FabricLedger, R: Wait + Abort>(
+    rt: &R,
+    fabric: &Fabric<'_, L>,
+    pass: &mut Pass<L>,
+    traveller: Traveller,
+    (nanoseconds, wanted): (u64, u8),
+) -> Traveller {
+    let (traveller, code) = visit(rt, fabric, pass, traveller, moment(rt, nanoseconds));
+    assert!(rt; code == wanted);
+    traveller
+}
+
+/// The pass that is taken of two.
+pub fn popped<L: FabricLedger>(rt: &impl Abort, passes: &mut Vec<Pass<L>>) -> Pass<L> {
+    passes.pop().expect(rt, "two passes")
+}
+
+/// The journals that a fabric closes to.
+pub fn closed<L: FabricLedger>(
+    rt: &impl Abort,
+    alloc: Global,
+    fabric: Fabric<'_, L>,
+    passes: Vec<Pass<L>>,
+    chapters: Vec<Chapter>,
+) -> Vec<Journal> {
+    match fabric.close(alloc, passes, chapters) {
+        Ok(journals) => journals,
+        Err((_, _, _, fault)) => panic!(rt; "{fault:?}"),
+    }
 }
 
 /// No chapters.

@@ -1,6 +1,6 @@
 ghost use Rattle.std.specs.Prelude.{◌≡◌, ◌+◌, length};
 
-use crate::rows::tables::{fit, none, opened, policed, sent, visit};
+use crate::rows::tables::{closed, fit, none, opened, policed, popped, sent, visit};
 use ds_checker::Accepted;
 use meter_book::Journal;
 use meter_fabric::{Fabric, FabricLedger, Pass, Trail, ticket_parts};
@@ -11,7 +11,6 @@ use std::marker::Brand;
 use std::process::Abort;
 use std::sync::Wait;
 use std::sync::ledger::Blank;
-use std::test::Fail;
 use std::thread::{Threads, join};
 
 /// How many packets each thread takes.
@@ -60,45 +59,58 @@ fn work<L: FabricLedger, R: Wait>(
 /// Journals and trails of what two threads did.
 type Parts = (Vec<Journal>, Vec<Trail>);
 
+/// The journals that a fabric closes to with both passes; it does not close without one of them.
+fn closed_with<L: FabricLedger>(
+    rt: &impl Abort,
+    alloc: Global,
+    fabric: Fabric<'_, L>,
+    one: Pass<L>,
+    other: Pass<L>,
+) -> Vec<Journal> {
+    let passes = Vec::from_array(alloc, [one]).expect(rt, "memory");
+    match fabric.close(alloc, passes, none(alloc)) {
+        Ok(_) => panic!(rt; "a pass was missing"),
+        Err((fabric, mut passes, chapters, fault)) => {
+            assert!(rt; (fault.code(), passes.len()) == (1, 1));
+            passes.push(other).expect(rt, "memory");
+            closed(rt, alloc, fabric, passes, chapters)
+        }
+    }
+}
+
+/// The trails of two threads, one behind the other.
+fn both(rt: &impl Abort, first: Option<Vec<Trail>>, second: Option<Vec<Trail>>) -> Vec<Trail> {
+    let mut trails = first.expect(rt, "no visit is refused");
+    for trail in second.expect(rt, "no visit is refused") {
+        trails.push(trail).expect(rt, "memory");
+    }
+    trails
+}
+
 /// Two threads take packets through one fabric. Without one of the passes it does not close, and then it does.
 fn taken<L: FabricLedger + Send + Sync, R: Threads + Wait + Abort + Sync>(
     rt: &R,
     alloc: Global,
     accepted: &Accepted,
     blank: Blank,
-) -> Result<Parts, Fail>
+) -> Parts
     requires name { blank.name ≡ L.name }
     requires parts { blank.parts ≡ L.parts }
     requires cut { blank.parts ≡ 1 + (length accepted.now.domain.meters + 1) + 2 }
     requires sites { L.sites ≡ length accepted.now.domain.meters + 1 }
 {
-    let (fabric, mut passes) = opened::<L>(alloc, accepted, blank, 1 << 12)?;
-    assert_eq!(rt; fit(rt, alloc, &fabric, accepted, 0)?, 0);
-    let one = passes.pop().expect(rt, "two passes");
-    let other = passes.pop().expect(rt, "two passes");
+    let (fabric, mut passes) = opened::<L>(alloc, accepted, blank, 1 << 12).expect(rt, "memory");
+    assert!(rt; fit(rt, alloc, &fabric, accepted, 0) == 0);
+    let one = popped(rt, &mut passes);
+    let other = popped(rt, &mut passes);
     let shared = &fabric;
     let ((one, first), (other, second)) = join(
         rt,
         move || work(rt, alloc, shared, accepted, one, 0),
         move || work(rt, alloc, shared, accepted, other, 5000),
     );
-    let mut trails = first.ok_or("a visit was refused")?;
-    for trail in second.ok_or("a visit was refused")? {
-        trails.push(trail)?;
-    }
-    let mut passes = Vec::with_capacity(alloc, 2)?;
-    passes.push(one)?;
-    match fabric.close(alloc, passes, none(alloc)) {
-        Ok(_) => Err(Fail::from("a pass was missing")),
-        Err((fabric, mut passes, chapters, fault)) => {
-            assert_eq!(rt; (fault.code(), passes.len()), (1, 1));
-            passes.push(other)?;
-            match fabric.close(alloc, passes, chapters) {
-                Ok(journals) => Ok((journals, trails)),
-                Err((_, _, _, fault)) => Err(fault.into()),
-            }
-        }
-    }
+    let trails = both(rt, first, second);
+    (closed_with(rt, alloc, fabric, one, other), trails)
 }
 
 /// The verdict on what two threads did.
@@ -106,26 +118,24 @@ fn judged(
     rt: &impl Abort,
     alloc: Global,
     accepted: &Accepted,
-    parts: Parts,
-) -> Result<Verdict, Fail> {
-    let (journals, trails) = parts;
-    assert_eq!(rt; (journals.len(), trails.len()), (2, 2000));
-    for journal in &journals {
-        assert_eq!(rt; journal.len(), 2000);
-    }
+    (journals, trails): Parts,
+) -> Verdict {
+    assert!(rt; (journals.len(), trails.len()) == (2, 2000));
+    assert!(rt; journals[0].len() == 2000);
+    assert!(rt; journals[1].len() == 2000);
     match Run::assemble(alloc, Ground::Table(accepted), journals, trails) {
-        Ok(run) => Ok(audit(alloc, &run)?),
-        Err((_, _, fault)) => Err(fault.into()),
+        Ok(run) => audit(alloc, &run).expect(rt, "memory"),
+        Err((_, _, fault)) => panic!(rt; "{fault:?}"),
     }
 }
 
 #[test]
-fn what_two_threads_leave_behind_is_a_run(rt: HostRuntime) -> Result<(), Fail> {
-    let accepted = policed(rt.alloc()).ok_or("no table")?;
+fn what_two_threads_leave_behind_is_a_run(rt: HostRuntime) {
+    let accepted = policed(rt.alloc()).expect(&rt, "a table");
     for _ in 0..20 {
         let blank = Blank::new(ticket_parts(accepted.domain(), 1, 2));
-        let parts = taken::<Brand, _>(&rt, rt.alloc(), &accepted, blank)?;
-        assert_eq!(rt; judged(&rt, rt.alloc(), &accepted, parts)?, Verdict::Kept);
+        let parts = taken::<Brand, _>(&rt, rt.alloc(), &accepted, blank);
+        assert_eq!(rt; judged(&rt, rt.alloc(), &accepted, parts), Verdict::Kept);
     }
-    Ok(())
+    drop(accepted);
 }

@@ -1,20 +1,13 @@
-use crate::rows::tables::contracts;
+use crate::expecting::expect_same;
+use crate::rows::tables::parsed;
 use ds_certificate::{Bound, Bounds, Certificate, CertificateFault, fault_line, make, read, write};
-use ds_domain::{Contract, Domain, parse};
+use ds_domain::{Contract, Domain};
 use std::alloc::Global;
 use std::process::Abort;
-use std::test::Fail;
-use worked_texts::{A, SHARE, TRUSTED, joined, over_way};
+use worked_texts::{A, LINK, METER, PORT, SHARE, TRUSTED};
 
-/// The text of a domain of a trusted contract `a` of 8 Mbit/s and 3,000 bytes over one meter.
-fn alone(alloc: Global) -> Result<String, Fail> {
-    Ok(over_way(alloc, &[TRUSTED, A, SHARE])?)
-}
-
-/// The contracts of that text.
-fn one(alloc: Global) -> Result<Vec<Contract>, Fail> {
-    contracts(alloc, alone(alloc)?.as_str())
-}
+/// A domain of a trusted contract `a` of 8 Mbit/s and 3,000 bytes over one meter.
+const ALONE: &[&str] = &[METER, PORT, LINK, TRUSTED, A, SHARE];
 
 /// A meter `n` behind the same port, and the same contract over that.
 const ELSEWHERE: &str = r#"
@@ -27,72 +20,77 @@ port = "p"
 path = ["n"]
 "#;
 
-/// Why a text is no certificate of that contract alone; None where it is one.
-fn refusal(alloc: Global, text: &str) -> Result<Option<CertificateFault>, Fail> {
-    let contracts = one(alloc)?;
-    Ok(read(alloc, text.as_bytes(), contracts.as_slice()).err())
-}
+static LINES_THAT_ARE_NONE_OF_A_CERTIFICATE: [&str; 14] = [
+    "dscert 01\n",
+    "dscert 3\n",
+    "dscert 2 \n",
+    "dscert 1\n 0 3000 3000\n",
+    "dscert 1\nb 0 3000 3000 \n",
+    "dscert 1\na 0 3000 3000\r\n",
+    "dscert 1\na\r 0 3000 3000\n",
+    "dscert 1\n? 0 1 1000000000000001\n",
+    "dscert 1\na 0 3000 000000000000000003000\n",
+    "dscert 1\na 0 1 1\na 1 1 1\n\n",
+    "dscert 1\na 0 3000 3000 3000\n",
+    "dscert 2\na 0 3000 3000\n",
+    "dscert 2\na 0 3000 3000 3000 3000\n",
+    "dscert 2\na 0 3000 3000 +1\n",
+];
 
-/// Expects why a text is no certificate of that contract alone.
-fn expect(
+static LINES_THAT_ARE_NOT_THOSE_OF_THE_CONTRACTS: [&str; 7] = [
+    "",
+    "dscert 1\na 0 3000 3000\n",
+    "dscert 1\nb 0 1 1000000000000001\n",
+    "dscert 1\na 1 1 1\na 0 1 1\n",
+    "dscert 1\na 0 1 1\na 1 1 1\na 2 1 1\n",
+    "dscert 2\nb 0 1 1 1000000000000001\n",
+    "dscert 2\na 0 1 1 1\n",
+];
+
+static BOUNDS_ABOVE_THEIR_RANGE: [&str; 3] = [
+    "dscert 1\na 0 1000000000000001 1\n",
+    "dscert 1\na 0 1 99999999999999999999\n",
+    "dscert 2\na 0 1 1 1000000000000001\n",
+];
+
+/// Expects why a text is no certificate of some contracts.
+fn expect_fault(
     rt: &impl Abort,
     alloc: Global,
+    contracts: &[Contract],
     text: &str,
     wanted: CertificateFault,
-) -> Result<(), Fail> {
-    assert_eq!(rt; refusal(alloc, text)?, Some(wanted), "{text}");
-    Ok(())
+) {
+    let fault = read(alloc, text.as_bytes(), contracts).err();
+    expect_same(rt, text, fault, Some(wanted));
 }
 
-#[test]
-fn lines_that_are_none_of_a_certificate(rt: HostRuntime) -> Result<(), Fail> {
-    for text in [
-        "dscert 01\n",
-        "dscert 3\n",
-        "dscert 2 \n",
-        "dscert 1\n 0 3000 3000\n",
-        "dscert 1\nb 0 3000 3000 \n",
-        "dscert 1\na 0 3000 3000\r\n",
-        "dscert 1\na\r 0 3000 3000\n",
-        "dscert 1\n? 0 1 1000000000000001\n",
-        "dscert 1\na 0 3000 000000000000000003000\n",
-        "dscert 1\na 0 1 1\na 1 1 1\n\n",
-        "dscert 1\na 0 3000 3000 3000\n",
-        "dscert 2\na 0 3000 3000\n",
-        "dscert 2\na 0 3000 3000 3000 3000\n",
-        "dscert 2\na 0 3000 3000 +1\n",
-    ] {
-        expect(&rt, rt.alloc(), text, CertificateFault::Text)?;
+/// Expects of each text why it is no certificate of some contracts.
+fn expect_each(
+    rt: &impl Abort,
+    alloc: Global,
+    contracts: &[Contract],
+    (texts, wanted): (&[&str], CertificateFault),
+) {
+    for text in texts {
+        expect_fault(rt, alloc, contracts, text, wanted);
     }
-    Ok(())
 }
 
-#[test]
-fn lines_that_are_not_those_of_the_contracts(rt: HostRuntime) -> Result<(), Fail> {
-    for text in [
-        "",
-        "dscert 1\na 0 3000 3000\n",
-        "dscert 1\nb 0 1 1000000000000001\n",
-        "dscert 1\na 1 1 1\na 0 1 1\n",
-        "dscert 1\na 0 1 1\na 1 1 1\na 2 1 1\n",
-        "dscert 2\nb 0 1 1 1000000000000001\n",
-        "dscert 2\na 0 1 1 1\n",
-    ] {
-        expect(&rt, rt.alloc(), text, CertificateFault::Shape)?;
-    }
-    Ok(())
-}
-
-#[test]
-fn bounds_above_their_range(rt: HostRuntime) -> Result<(), Fail> {
-    for text in [
-        "dscert 1\na 0 1000000000000001 1\n",
-        "dscert 1\na 0 1 99999999999999999999\n",
-        "dscert 2\na 0 1 1 1000000000000001\n",
-    ] {
-        expect(&rt, rt.alloc(), text, CertificateFault::Range)?;
-    }
-    Ok(())
+/// Expects the faults of texts that are no certificate of some contracts.
+fn expect_faults(rt: &impl Abort, alloc: Global, contracts: &[Contract]) {
+    let lines = (
+        LINES_THAT_ARE_NONE_OF_A_CERTIFICATE.as_slice(),
+        CertificateFault::Text,
+    );
+    let others = (
+        LINES_THAT_ARE_NOT_THOSE_OF_THE_CONTRACTS.as_slice(),
+        CertificateFault::Shape,
+    );
+    let bounds = (BOUNDS_ABOVE_THEIR_RANGE.as_slice(), CertificateFault::Range);
+    expect_each(rt, alloc, contracts, lines);
+    expect_each(rt, alloc, contracts, others);
+    expect_each(rt, alloc, contracts, bounds);
 }
 
 /// Two contracts, `a` over two meters and `b` over one.
@@ -121,121 +119,153 @@ cir = 8000000
 cbs = 3000
 "#;
 
-#[test]
-fn the_first_line_that_is_at_fault(rt: HostRuntime) -> Result<(), Fail> {
-    let contracts = contracts(rt.alloc(), TWO_CONTRACTS)?;
-    for (text, line) in [
-        ("", 1),
-        ("dscert 3\n", 1),
-        ("dscert 1\n", 2),
-        ("dscert 1\na 0 1 1\na 1 1 1", 4),
-        ("dscert 1\na 0 1 1\na 2 1 1\na 2 1 1\n", 3),
-        (
-            "dscert 1\na 0 1 1\na 1 1 1\na 2 1 1\nb 0 1 1000000000000001\n",
-            5,
-        ),
-        ("dscert 1\na 0 1 1\na 1 1 1\na 2 1 1\nb 0 1 1\nc 1 1 1\n", 6),
-        (
-            "dscert 1\na 0 1 1\na 1 1 1\na 2 1 1\nb 0 1 1\nb 1 1 1\n\n",
-            7,
-        ),
-    ] {
-        let found = fault_line(text.as_bytes(), contracts.as_slice());
-        assert_eq!(rt; found, line, "{text}");
+const BOTH: &[&str] = &[TWO_CONTRACTS];
+
+/// Texts, and the first line of each that is at fault.
+static FAULTY_LINES: [(&str, usize); 8] = [
+    ("", 1),
+    ("dscert 3\n", 1),
+    ("dscert 1\n", 2),
+    ("dscert 1\na 0 1 1\na 1 1 1", 4),
+    ("dscert 1\na 0 1 1\na 2 1 1\na 2 1 1\n", 3),
+    (
+        "dscert 1\na 0 1 1\na 1 1 1\na 2 1 1\nb 0 1 1000000000000001\n",
+        5,
+    ),
+    ("dscert 1\na 0 1 1\na 1 1 1\na 2 1 1\nb 0 1 1\nc 1 1 1\n", 6),
+    (
+        "dscert 1\na 0 1 1\na 1 1 1\na 2 1 1\nb 0 1 1\nb 1 1 1\n\n",
+        7,
+    ),
+];
+
+/// Expects of each text which line is at fault.
+fn expect_lines(rt: &impl Abort, contracts: &[Contract]) {
+    for (text, line) in &FAULTY_LINES {
+        expect_same(rt, text, fault_line(text.as_bytes(), contracts), *line);
     }
-    Ok(())
+}
+
+/// Expects the same of certificates of these two contracts.
+fn expect_lines_of_two(rt: &impl Abort, alloc: Global) {
+    expect_lines(rt, parsed(rt, alloc, BOTH).contracts.as_slice());
+}
+
+#[test]
+fn the_first_line_that_is_at_fault(rt: HostRuntime) {
+    expect_lines_of_two(&rt, rt.alloc());
 }
 
 /// What the certificate of a text is written as.
-fn rewritten(alloc: Global, text: &str, contracts: &[Contract]) -> Result<Vec<u8>, Fail> {
+fn rewritten(
+    alloc: Global,
+    text: &str,
+    contracts: &[Contract],
+) -> Result<Vec<u8>, CertificateFault> {
     let certificate = read(alloc, text.as_bytes(), contracts)?;
-    Ok(write(alloc, &certificate, contracts)?)
+    write(alloc, &certificate, contracts)
 }
 
-#[test]
-fn leading_zeros_and_a_last_line_without_its_end(rt: HostRuntime) -> Result<(), Fail> {
-    let contracts = one(rt.alloc())?;
-    let text = "dscert 1\na 00 3000 03000\na 1 4000 1000000000000000";
-    let again = rewritten(rt.alloc(), text, contracts.as_slice())?;
-    let canonical = b"dscert 1\na 0 3000 3000\na 1 4000 1000000000000000\n";
-    assert_eq!(rt; again.as_slice(), canonical.as_slice());
-    Ok(())
+/// Certificates by their names, and what they are written as.
+static REWRITTEN: [(&str, &str, &str); 3] = [
+    (
+        "leading_zeros_and_a_last_line_without_its_end",
+        "dscert 1\na 00 3000 03000\na 1 4000 1000000000000000",
+        "dscert 1\na 0 3000 3000\na 1 4000 1000000000000000\n",
+    ),
+    (
+        "the_short_form_is_written_where_no_excess_differs",
+        "dscert 2\na 0 3000 3000 3000\na 1 4000 6000 6000\n",
+        "dscert 1\na 0 3000 3000\na 1 4000 6000\n",
+    ),
+    (
+        "the_long_form_is_written_where_an_excess_differs",
+        "dscert 2\na 0 3000 3000 3000\na 1 4000 6000 06001",
+        "dscert 2\na 0 3000 3000 3000\na 1 4000 6000 6001\n",
+    ),
+];
+
+/// Expects what the certificate of a text is written as.
+fn expect_rewritten(
+    rt: &impl Abort,
+    alloc: Global,
+    contracts: &[Contract],
+    (name, text, wanted): &(&str, &str, &str),
+) {
+    let again = rewritten(alloc, text, contracts).expect(rt, name);
+    expect_same(rt, name, again.as_slice(), wanted.as_bytes());
 }
 
-#[test]
-fn the_long_form_is_written_where_an_excess_differs(rt: HostRuntime) -> Result<(), Fail> {
-    let contracts = one(rt.alloc())?;
-    for (text, wanted) in [
-        (
-            "dscert 2\na 0 3000 3000 3000\na 1 4000 6000 6000\n",
-            "dscert 1\na 0 3000 3000\na 1 4000 6000\n",
-        ),
-        (
-            "dscert 2\na 0 3000 3000 3000\na 1 4000 6000 06001",
-            "dscert 2\na 0 3000 3000 3000\na 1 4000 6000 6001\n",
-        ),
-    ] {
-        let again = rewritten(rt.alloc(), text, contracts.as_slice())?;
-        assert_eq!(rt; again.as_slice(), wanted.as_bytes());
+/// Expects of each row what its certificate is written as.
+fn expect_all_rewritten(rt: &impl Abort, alloc: Global, contracts: &[Contract]) {
+    for row in &REWRITTEN {
+        expect_rewritten(rt, alloc, contracts, row);
     }
-    Ok(())
 }
 
 /// The text of the least certificate of no contracts over a domain.
-fn least_over(alloc: Global, domain: &Domain) -> Result<Vec<u8>, Fail> {
+fn least_of_none(alloc: Global, domain: &Domain) -> Result<Vec<u8>, CertificateFault> {
     let least = make(alloc, domain, &[])?;
-    Ok(write(alloc, &least, &[])?)
+    write(alloc, &least, &[])
 }
 
-/// The text of the least certificate of no contracts.
-fn least_of_none(alloc: Global) -> Result<Vec<u8>, Fail> {
-    let (domain, _) = parse(alloc, alone(alloc)?.as_bytes())?;
-    least_over(alloc, &domain)
-}
-
-#[test]
-fn no_contracts_have_a_heading_alone(rt: HostRuntime) -> Result<(), Fail> {
-    let text = least_of_none(rt.alloc())?;
+/// Expects of a domain the text of that certificate.
+fn expect_heading(rt: &impl Abort, alloc: Global, domain: &Domain) {
+    let text = least_of_none(alloc, domain).expect(rt, "a certificate");
     assert_eq!(rt; text.as_slice(), b"dscert 1\n".as_slice());
-    let again = read(rt.alloc(), b"dscert 1", &[])?;
-    assert_eq!(rt; again.bounds().len(), 0);
-    Ok(())
-}
-
-/// Why there is no certificate of contracts in that domain; None where there is one.
-fn unmade(alloc: Global, contracts: &[Contract]) -> Result<Option<CertificateFault>, Fail> {
-    let (domain, _) = parse(alloc, alone(alloc)?.as_bytes())?;
-    Ok(make(alloc, &domain, contracts).err())
 }
 
 #[test]
-fn a_contract_over_an_unknown_meter(rt: HostRuntime) -> Result<(), Fail> {
-    let elsewhere = joined(rt.alloc(), &[ELSEWHERE, A, SHARE])?;
-    let contracts = contracts(rt.alloc(), elsewhere.as_str())?;
-    let refused = unmade(rt.alloc(), contracts.as_slice())?;
-    assert_eq!(rt; refused, Some(CertificateFault::Shape));
-    Ok(())
+fn a_heading_alone_is_of_no_contracts(rt: HostRuntime) {
+    let again = read(rt.alloc(), b"dscert 1", &[]).expect(&rt, "a certificate");
+    assert_eq!(rt; again.bounds().len(), 0);
 }
+
+/// Expects that the contracts of another domain have no certificate in a domain.
+fn expect_none_made(rt: &impl Abort, alloc: Global, domain: &Domain, parts: &[&str]) {
+    let other = parsed(rt, alloc, parts);
+    let refused = make(alloc, domain, other.contracts.as_slice()).err();
+    assert_eq!(rt; refused, Some(CertificateFault::Shape));
+}
+
+/// A contract over the other meter.
+const BEHIND: &[&str] = &[ELSEWHERE, A, SHARE];
 
 /// A certificate of one contract, which has a bound for hop 0 alone.
-fn short(alloc: Global) -> Result<Certificate, Fail> {
-    let mut hops = Vec::new(alloc);
-    hops.push(Bound::new(3000, 3000, 3000)?)?;
-    let mut rows = Vec::new(alloc);
-    rows.push(Bounds::new(alloc, hops)?)?;
-    Ok(Certificate::new(rows))
+fn short(rt: &impl Abort, alloc: Global) -> Certificate {
+    let bound = Bound::new(3000, 3000, 3000).expect(rt, "a bound");
+    let hops = Vec::from_array(alloc, [bound]).expect(rt, "memory");
+    let bounds = Bounds::new(alloc, hops).expect(rt, "memory");
+    Certificate::new(Vec::from_array(alloc, [bounds]).expect(rt, "memory"))
 }
 
-/// Why it is not written for contracts; None where it is.
-fn unwritten(alloc: Global, contracts: &[Contract]) -> Result<Option<CertificateFault>, Fail> {
-    let certificate = short(alloc)?;
-    Ok(write(alloc, &certificate, contracts).err())
+/// Expects that this certificate is not written for some contracts.
+fn expect_unwritten(rt: &impl Abort, alloc: Global, contracts: &[Contract]) {
+    let refused = write(alloc, &short(rt, alloc), contracts).err();
+    assert_eq!(rt; refused, Some(CertificateFault::Shape));
+}
+
+/// Expects of one contract what is no certificate of it, and what certificates of it are written as.
+fn expect_of_one(rt: &impl Abort, alloc: Global) {
+    let one = parsed(rt, alloc, ALONE);
+    expect_faults(rt, alloc, one.contracts.as_slice());
+    expect_all_rewritten(rt, alloc, one.contracts.as_slice());
+    expect_unwritten(rt, alloc, one.contracts.as_slice());
 }
 
 #[test]
-fn bounds_of_another_path_are_not_written(rt: HostRuntime) -> Result<(), Fail> {
-    let contracts = one(rt.alloc())?;
-    let refused = unwritten(rt.alloc(), contracts.as_slice())?;
-    assert_eq!(rt; refused, Some(CertificateFault::Shape));
-    Ok(())
+fn certificates_of_one_contract(rt: HostRuntime) {
+    expect_of_one(&rt, rt.alloc());
+}
+
+/// Expects of a domain that no contracts have a heading alone in it, and one over an unknown meter no certificate.
+fn expect_in_one(rt: &impl Abort, alloc: Global) {
+    let one = parsed(rt, alloc, ALONE);
+    expect_heading(rt, alloc, &one.domain);
+    expect_none_made(rt, alloc, &one.domain, BEHIND);
+}
+
+#[test]
+fn certificates_in_a_domain(rt: HostRuntime) {
+    expect_in_one(&rt, rt.alloc());
 }

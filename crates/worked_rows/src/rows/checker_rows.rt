@@ -1,38 +1,50 @@
+use crate::expecting::expect_same;
+use crate::rows::excess_rows::ENOUGH;
+use crate::rows::tables::{Said, parsed, text_of};
 use ds_certificate::{Bound, Bounds, Certificate};
-use ds_checker::{Accepted, Candidate, Refusal, check};
-use ds_domain::parse;
+use ds_checker::{Candidate, Refusal, check};
 use dsedge_texts::{TableFault, accept};
 use std::alloc::Global;
 use std::process::Abort;
-use std::test::Fail;
-use worked_texts::{A, TRUSTED, joined};
+use worked_texts::{A, TRUSTED};
 
-/// These bytes again.
-fn copied(alloc: Global, bytes: &[u8]) -> Result<Vec<u8>, Fail> {
-    let mut copied = Vec::new(alloc);
-    copied.extend_from_slice(bytes)?;
-    Ok(copied)
+/// Why two texts say no acceptable table.
+fn fault_of(alloc: Global, domain: &str, certificate: &str) -> Result<(), TableFault> {
+    match accept(alloc, domain.as_bytes(), certificate.as_bytes()) {
+        Ok(_accepted) => Ok(()),
+        Err(fault) => Err(fault),
+    }
 }
 
-/// The line of the refusal of two texts; nothing where they are accepted.
-fn refusal_line(alloc: Global, domain: &str, certificate: &str) -> Result<Vec<u8>, Fail> {
-    match accept(alloc, domain.as_bytes(), certificate.as_bytes()) {
-        Ok(_) => Ok(Vec::new(alloc)),
-        Err(TableFault::Refused(line)) => copied(alloc, line.bytes()),
-        Err(_) => Err(Fail::from("a text with a fault")),
+/// The line of a refusal; nothing where there is none.
+fn line(answer: &Result<(), TableFault>) -> &[u8] {
+    match answer {
+        Ok(()) => b"",
+        Err(TableFault::Refused(line)) => line.bytes(),
+        Err(_) => b"a text with a fault",
     }
 }
 
 /// Expects the line of the refusal of two texts, or nothing where they are accepted.
-pub fn expect(
-    rt: &impl Abort,
-    alloc: Global,
-    (domain, certificate): (&str, &str),
-    wanted: &str,
-) -> Result<(), Fail> {
-    let line = refusal_line(alloc, domain, certificate)?;
-    assert_eq!(rt; line.as_slice(), wanted.as_bytes());
-    Ok(())
+pub fn expect(rt: &impl Abort, alloc: Global, (domain, certificate): (&str, &str), wanted: &str) {
+    let answer = fault_of(alloc, domain, certificate);
+    expect_same(rt, certificate, line(&answer), wanted.as_bytes());
+}
+
+/// The parts of a domain, a certificate, and the line of their refusal, or nothing where they are accepted.
+type Checked = (&'static [&'static str], &'static str, &'static str);
+
+/// Expects of parts of a domain and a certificate the line of their refusal, or nothing where they are accepted.
+fn expect_row(rt: &impl Abort, alloc: Global, (parts, certificate, wanted): &Checked) {
+    let domain = text_of(rt, alloc, parts);
+    expect(rt, alloc, (domain.as_str(), certificate), wanted);
+}
+
+/// Expects the same of each row.
+fn expect_rows(rt: &impl Abort, alloc: Global, rows: &[Checked]) {
+    for row in rows {
+        expect_row(rt, alloc, row);
+    }
 }
 
 /// The envelope of a contract of 8,000 bit/s and 500 bytes.
@@ -45,36 +57,24 @@ port = [{ name = "p", skew = 0 }]
 link = [{ from = "p", to = "m", floor = 0, jitter = 0 }]
 "#;
 
-/// Expects of that contract over that meter with a peak, and of a certificate, the line of the refusal or nothing.
-fn expect_peak(
-    rt: &impl Abort,
-    alloc: Global,
-    (peak, certificate): (&str, &str),
-    wanted: &str,
-) -> Result<(), Fail> {
-    let domain = joined(alloc, &[EXCESS_RATE, TRUSTED, A, SLOW, peak])?;
-    expect(rt, alloc, (domain.as_str(), certificate), wanted)
-}
-
-#[test]
-fn a_peak_is_held_against_the_excess_rate_and_bucket(rt: HostRuntime) -> Result<(), Fail> {
-    for (peak, certificate, wanted) in [
-        (
-            "pir = 8000\npbs = 1001\n",
-            "dscert 1\na 0 500 1001\na 1 500 1001\n",
-            "refused 7 AllBurst m 1001 1000\n",
-        ),
-        ("", "dscert 1\na 0 500 500\na 1 500 500\n", ""),
-        (
-            "pir = 8001\npbs = 1000\n",
-            "dscert 1\na 0 500 1000\na 1 500 1000\n",
-            "refused 6 AllRate m 8001 8000\n",
-        ),
-    ] {
-        expect_peak(&rt, rt.alloc(), (peak, certificate), wanted)?;
-    }
-    Ok(())
-}
+/// That contract over that meter with a peak.
+static A_PEAK_IS_HELD_AGAINST_THE_EXCESS_RATE_AND_BUCKET: [Checked; 3] = [
+    (
+        &[EXCESS_RATE, TRUSTED, A, SLOW, "pir = 8000\npbs = 1001\n"],
+        "dscert 1\na 0 500 1001\na 1 500 1001\n",
+        "refused 7 AllBurst m 1001 1000\n",
+    ),
+    (
+        &[EXCESS_RATE, TRUSTED, A, SLOW],
+        "dscert 1\na 0 500 500\na 1 500 500\n",
+        "",
+    ),
+    (
+        &[EXCESS_RATE, TRUSTED, A, SLOW, "pir = 8001\npbs = 1000\n"],
+        "dscert 1\na 0 500 1000\na 1 500 1000\n",
+        "refused 6 AllRate m 8001 8000\n",
+    ),
+];
 
 /// A link with a jitter of 2 ms, in which that contract sends 2 bytes more.
 const JITTERED: &str = r#"
@@ -83,33 +83,27 @@ port = [{ name = "p", skew = 0 }]
 link = [{ from = "p", to = "m", floor = 0, jitter = 2000000 }]
 "#;
 
-/// The text of a domain of that contract behind that link.
-fn jittered(alloc: Global) -> Result<String, Fail> {
-    Ok(joined(alloc, &[JITTERED, TRUSTED, A, SLOW])?)
-}
+/// That contract behind that link.
+const JITTERED_WAY: &[&str] = &[JITTERED, TRUSTED, A, SLOW];
 
-#[test]
-fn bounds_that_are_too_low(rt: HostRuntime) -> Result<(), Fail> {
-    let domain = jittered(rt.alloc())?;
-    for (certificate, wanted) in [
-        ("dscert 1\na 0 500 500\na 1 502 502\n", ""),
-        (
-            "dscert 1\na 0 499 499\na 1 502 502\n",
-            "refused 2 FirstBound a green 500 499\n",
-        ),
-        (
-            "dscert 1\na 0 500 500\na 1 501 502\n",
-            "refused 3 HopBound a 1 green 502 501\n",
-        ),
-        (
-            "dscert 1\na 0 500 501\na 1 502 502\n",
-            "refused 3 HopBound a 1 all 503 502\n",
-        ),
-    ] {
-        expect(&rt, rt.alloc(), (domain.as_str(), certificate), wanted)?;
-    }
-    Ok(())
-}
+static BOUNDS_THAT_ARE_TOO_LOW: [Checked; 4] = [
+    (JITTERED_WAY, "dscert 1\na 0 500 500\na 1 502 502\n", ""),
+    (
+        JITTERED_WAY,
+        "dscert 1\na 0 499 499\na 1 502 502\n",
+        "refused 2 FirstBound a green 500 499\n",
+    ),
+    (
+        JITTERED_WAY,
+        "dscert 1\na 0 500 500\na 1 501 502\n",
+        "refused 3 HopBound a 1 green 502 501\n",
+    ),
+    (
+        JITTERED_WAY,
+        "dscert 1\na 0 500 501\na 1 502 502\n",
+        "refused 3 HopBound a 1 all 503 502\n",
+    ),
+];
 
 /// A meter of 24 Mbit/s and 4,499 bytes with a skew of 500 µs, and a link to it without jitter.
 const SKEWED: &str = r#"
@@ -121,74 +115,104 @@ link = [{ from = "p", to = "m", floor = 0, jitter = 0 }]
 /// The envelope of a contract of 24 Mbit/s and 3,000 bytes.
 const WHOLE_RATE: &str = "cir = 24000000\ncbs = 3000\n";
 
-#[test]
-fn the_skew_of_a_meter_widens_the_bursts(rt: HostRuntime) -> Result<(), Fail> {
-    let alloc = rt.alloc();
-    let domain = joined(alloc, &[SKEWED, TRUSTED, A, WHOLE_RATE])?;
-    let certificate = "dscert 1\na 0 3000 3000\na 1 3000 3000\n";
-    let wanted = "refused 5 GreenBurst m 4500 4499\n";
-    expect(&rt, alloc, (domain.as_str(), certificate), wanted)
-}
+/// A trusted contract with an excess that its meter has room for.
+static BOUNDS_OF_YELLOW_PACKETS_THAT_ARE_TOO_LOW: [Checked; 3] = [
+    (
+        ENOUGH,
+        "dscert 2\na 0 3000 4000 999\na 1 4000 6000 2000\n",
+        "refused 2 FirstBound a excess 1000 999\n",
+    ),
+    (
+        ENOUGH,
+        "dscert 2\na 0 3000 4000 1000\na 1 4000 6000 1999\n",
+        "refused 3 HopBound a 1 excess 2000 1999\n",
+    ),
+    (
+        ENOUGH,
+        "dscert 2\na 0 3000 3999 999\na 1 4000 6000 2000\n",
+        "refused 2 FirstBound a all 4000 3999\n",
+    ),
+];
+
+static THE_SKEW_OF_A_METER_WIDENS_THE_BURSTS: [Checked; 1] = [(
+    &[SKEWED, TRUSTED, A, WHOLE_RATE],
+    "dscert 1\na 0 3000 3000\na 1 3000 3000\n",
+    "refused 5 GreenBurst m 4500 4499\n",
+)];
+
+static NO_CONTRACT_BRINGS_ANYTHING: [Checked; 1] = [(&[SKEWED], "dscert 1\n", "")];
 
 #[test]
-fn no_contract_brings_anything(rt: HostRuntime) -> Result<(), Fail> {
-    expect(&rt, rt.alloc(), (SKEWED, "dscert 1\n"), "")
+fn certificates_that_are_accepted_or_refused(rt: HostRuntime) {
+    let alloc = rt.alloc();
+    expect_rows(
+        &rt,
+        alloc,
+        &A_PEAK_IS_HELD_AGAINST_THE_EXCESS_RATE_AND_BUCKET,
+    );
+    expect_rows(&rt, alloc, &BOUNDS_THAT_ARE_TOO_LOW);
+    expect_rows(&rt, alloc, &BOUNDS_OF_YELLOW_PACKETS_THAT_ARE_TOO_LOW);
+    expect_rows(&rt, alloc, &THE_SKEW_OF_A_METER_WIDENS_THE_BURSTS);
+    expect_rows(&rt, alloc, &NO_CONTRACT_BRINGS_ANYTHING);
 }
 
 /// The bounds that are given, of green packets and of green and yellow ones; the excess is no less than the latter.
-fn bounds(alloc: Global, row: &[(u64, u64)]) -> Result<Bounds, Fail> {
+fn bounds(rt: &impl Abort, alloc: Global, row: &[(u64, u64)]) -> Bounds {
     let mut hops = Vec::new(alloc);
     for (green, all) in row {
-        hops.push(Bound::new(*green, *all, *all)?)?;
+        let bound = Bound::new(*green, *all, *all).expect(rt, "a bound");
+        hops.push(bound).expect(rt, "memory");
     }
-    Ok(Bounds::new(alloc, hops)?)
+    Bounds::new(alloc, hops).expect(rt, "memory")
 }
 
 /// A certificate of a list for each contract, of the bounds that are given.
-fn certificate(alloc: Global, rows: &[&[(u64, u64)]]) -> Result<Certificate, Fail> {
+fn certificate(rt: &impl Abort, alloc: Global, rows: &[&[(u64, u64)]]) -> Certificate {
     let mut lists = Vec::new(alloc);
     for row in rows {
-        lists.push(bounds(alloc, row)?)?;
+        lists.push(bounds(rt, alloc, row)).expect(rt, "memory");
     }
-    Ok(Certificate::new(lists))
+    Certificate::new(lists)
 }
 
 /// That domain and that contract with bounds.
-fn candidate(alloc: Global, rows: &[&[(u64, u64)]]) -> Result<Candidate, Fail> {
-    let certificate = certificate(alloc, rows)?;
-    let (domain, contracts) = parse(alloc, jittered(alloc)?.as_bytes())?;
-    Ok(Candidate {
+fn candidate(rt: &impl Abort, alloc: Global, rows: &[&[(u64, u64)]]) -> Candidate {
+    let certificate = certificate(rt, alloc, rows);
+    let Said { domain, contracts } = parsed(rt, alloc, JITTERED_WAY);
+    Candidate {
         domain,
         contracts,
         certificate,
-    })
+    }
 }
 
-/// The contract whose bounds are refused for their number, with the number of the refusal; None for any other answer.
-fn misshapen(answer: &Result<Accepted, (Candidate, Refusal)>) -> Option<(u8, usize)> {
-    match answer {
-        Err((_, Refusal::Shape { contract })) => {
-            let shape = Refusal::Shape {
-                contract: *contract,
-            };
-            Some((shape.code(), *contract))
-        }
+/// The number of a refusal of bounds for their number, and the contract; None for any other refusal.
+fn misshapen(refusal: &Refusal) -> Option<(u8, usize)> {
+    match refusal {
+        Refusal::Shape { contract } => Some((refusal.code(), *contract)),
         _ => None,
     }
 }
 
-/// The contract whose bounds are refused for their number.
-fn refused(alloc: Global, rows: &[&[(u64, u64)]]) -> Result<Option<(u8, usize)>, Fail> {
-    let candidate = candidate(alloc, rows)?;
-    Ok(misshapen(&check(alloc, candidate)))
+/// Why the bounds are refused.
+fn refusal(rt: &impl Abort, alloc: Global, rows: &[&[(u64, u64)]]) -> Option<Refusal> {
+    match check(alloc, candidate(rt, alloc, rows)) {
+        Ok(_accepted) => None,
+        Err((_candidate, refusal)) => Some(refusal),
+    }
 }
 
+/// Lists of bounds by their names, and the contract whose bounds are refused for their number.
+static LISTS: [(&str, &[&[(u64, u64)]], usize); 3] = [
+    ("no_list", &[], 0),
+    ("a_list_that_is_too_short", &[&[(500, 500)]], 0),
+    ("a_list_too_many", &[&[(500, 500), (502, 502)], &[]], 1),
+];
+
 #[test]
-fn lists_that_are_not_those_of_the_contracts(rt: HostRuntime) -> Result<(), Fail> {
-    let alloc = rt.alloc();
-    let whole: &[(u64, u64)] = &[(500, 500), (502, 502)];
-    assert_eq!(rt; refused(alloc, &[])?, Some((1, 0)));
-    assert_eq!(rt; refused(alloc, &[&[(500, 500)]])?, Some((1, 0)));
-    assert_eq!(rt; refused(alloc, &[whole, &[]])?, Some((1, 1)));
-    Ok(())
+fn lists_that_are_not_those_of_the_contracts(rt: HostRuntime) {
+    for (name, rows, contract) in &LISTS {
+        let refusal = refusal(&rt, rt.alloc(), rows).expect(&rt, name);
+        expect_same(&rt, name, misshapen(&refusal), Some((1, *contract)));
+    }
 }

@@ -1,10 +1,10 @@
-use ds_certificate::{Certificate, bounds_of};
+use crate::rows::tables::{Said, parsed};
+use ds_certificate::{Bound, Certificate, bounds_of};
 use ds_checker::{Accepted, Candidate, Refusal, check};
-use ds_domain::{Contract, Domain, Name, parse};
+use ds_domain::{Contract, Domain, Name};
 use std::alloc::Global;
 use std::process::Abort;
-use std::test::Fail;
-use worked_texts::tight;
+use worked_texts::{A, B, LINK, PORT, SHARE, TIGHT_METER, TRUSTED};
 
 /// The table of a domain without a contract; None where memory runs out.
 fn empty(alloc: Global, domain: Domain) -> Option<Accepted> {
@@ -19,65 +19,84 @@ fn empty(alloc: Global, domain: Domain) -> Option<Accepted> {
     }
 }
 
-/// The table with a contract more, under its least bounds, or why it is refused; None where memory runs out.
+/// The least bounds of a contract in a table's domain.
+fn least(rt: &impl Abort, alloc: Global, table: &Accepted, contract: &Contract) -> Vec<Bound> {
+    bounds_of(alloc, table.domain(), contract).expect(rt, "least bounds")
+}
+
+/// The table with a contract more, under its least bounds, or why it is refused.
 fn larger(
+    rt: &impl Abort,
     alloc: Global,
     table: &Accepted,
     contract: &Contract,
-) -> Option<Result<Accepted, Refusal>> {
-    let bounds = bounds_of(alloc, table.domain(), contract).ok()?;
-    let copy = contract.copy(alloc).ok()?;
+) -> Result<Accepted, Refusal> {
+    let bounds = least(rt, alloc, table, contract);
+    let copy = contract.copy(alloc).expect(rt, "memory");
     match table.with(alloc, copy, bounds) {
-        Ok(larger) => Some(Ok(larger)),
-        Err(refused) => {
-            let (_contract, _bounds, refusal) = refused;
-            Some(Err(refusal))
-        }
+        Ok(larger) => Ok(larger),
+        Err((_contract, _bounds, refusal)) => Err(refusal),
     }
 }
 
-/// Expects of a table with `a` alone how long it is held, that `b` has no room beside it, and that it can be taken out.
-fn expect_room_for_one(
-    rt: &impl Abort,
-    alloc: Global,
-    one: &Accepted,
-    other: &Contract,
-) -> Result<(), Fail> {
-    assert_eq!(rt; one.hold(0), 6_000_000);
-    let both = larger(alloc, one, other).ok_or("no answer")?;
+/// Expects that a table has no room for a contract.
+fn expect_no_room(rt: &impl Abort, alloc: Global, table: &Accepted, contract: &Contract) {
     let wanted = Refusal::GreenBurst {
-        meter: Name::new("m")?,
+        meter: Name::new("m").expect(rt, "a name"),
         needed: 9000,
         available: 4500,
     };
-    assert_eq!(rt; both.err(), Some(wanted));
-    let none = one.without(alloc, 0)?;
-    assert_eq!(rt; none.contracts().len(), 0);
-    let alone = larger(alloc, &none, other).ok_or("no answer")?;
-    assert_eq!(rt; alone.is_ok(), true);
-    Ok(())
+    let refusal = larger(rt, alloc, table, contract).err();
+    assert_eq!(rt; refusal, Some(wanted));
+}
+
+/// Expects that a table without contracts has room for one.
+fn expect_room(rt: &impl Abort, alloc: Global, table: &Accepted, contract: &Contract) {
+    assert_eq!(rt; table.contracts().len(), 0);
+    assert!(rt; larger(rt, alloc, table, contract).is_ok());
+}
+
+/// Expects of a table with `a` alone how long it is held, that `b` has no room beside it, and that it can be taken out.
+fn expect_room_for_one(rt: &impl Abort, alloc: Global, one: &Accepted, other: &Contract) {
+    assert_eq!(rt; one.contracts().len(), 1);
+    assert_eq!(rt; one.hold(0), 6_000_000);
+    expect_no_room(rt, alloc, one, other);
+    expect_room(
+        rt,
+        alloc,
+        &one.without(alloc, 0).expect(rt, "memory"),
+        other,
+    );
 }
 
 /// Expects that an empty table takes the first of two contracts, and what then comes of the other.
-fn expect_first(
-    rt: &impl Abort,
-    alloc: Global,
-    table: &Accepted,
-    contracts: &[Contract],
-) -> Result<(), Fail> {
-    let first = contracts.first().ok_or("no contract")?;
-    let other = contracts.get(1).ok_or("no second contract")?;
-    match larger(alloc, table, first) {
-        Some(Ok(one)) => expect_room_for_one(rt, alloc, &one, other),
-        _ => Err(Fail::from("no room for one")),
-    }
+fn expect_first(rt: &impl Abort, alloc: Global, table: &Accepted, contracts: &[Contract]) {
+    assert_eq!(rt; contracts.len(), 2);
+    let one = larger(rt, alloc, table, &contracts[0]).expect(rt, "room for one");
+    expect_room_for_one(rt, alloc, &one, &contracts[1]);
+}
+
+/// The meter has room for the burst of one of two contracts.
+const TIGHT: &[&str] = &[
+    TIGHT_METER,
+    PORT,
+    LINK,
+    TRUSTED,
+    A,
+    SHARE,
+    TRUSTED,
+    B,
+    SHARE,
+];
+
+/// Expects that of the empty table and the contracts of this text.
+fn expect_taken_out(rt: &impl Abort, alloc: Global) {
+    let Said { domain, contracts } = parsed(rt, alloc, TIGHT);
+    let table = empty(alloc, domain).expect(rt, "an empty table");
+    expect_first(rt, alloc, &table, contracts.as_slice());
 }
 
 #[test]
-fn a_share_that_was_taken_out_is_free_for_another(rt: HostRuntime) -> Result<(), Fail> {
-    let alloc = rt.alloc();
-    let text = tight(alloc)?;
-    let (domain, contracts) = parse(alloc, text.as_bytes())?;
-    let table = empty(alloc, domain).ok_or("no table")?;
-    expect_first(&rt, alloc, &table, contracts.as_slice())
+fn a_share_that_was_taken_out_is_free_for_another(rt: HostRuntime) {
+    expect_taken_out(&rt, rt.alloc());
 }

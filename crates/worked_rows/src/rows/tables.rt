@@ -1,9 +1,25 @@
-use ds_domain::{Contract, parse};
+use ds_domain::{Contract, Domain, parse};
 use std::alloc::Global;
-use std::test::Fail;
+use std::process::Abort;
+use worked_texts::joined;
 
-/// The contracts of a domain text.
-pub fn contracts(alloc: Global, domain: &str) -> Result<Vec<Contract>, Fail> {
-    let (_, contracts) = parse(alloc, domain.as_bytes())?;
-    Ok(contracts)
+/// What a domain text says.
+#[derive(Drop)]
+pub struct Said {
+    /// Its domain.
+    pub domain: Domain,
+    /// Its contracts.
+    pub contracts: Vec<Contract>,
+}
+
+/// The parts of a text, one behind the other.
+pub fn text_of(rt: &impl Abort, alloc: Global, parts: &[&str]) -> String {
+    joined(alloc, parts).expect(rt, "memory for a text")
+}
+
+/// What the text of these parts says.
+pub fn parsed(rt: &impl Abort, alloc: Global, parts: &[&str]) -> Said {
+    let text = text_of(rt, alloc, parts);
+    let (domain, contracts) = parse(alloc, text.as_bytes()).expect(rt, "a domain text");
+    Said { domain, contracts }
 }

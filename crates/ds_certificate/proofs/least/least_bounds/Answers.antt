@@ -29,3 +29,12 @@ returns-clause-value c =
     let rest = ap (λ rest. c.loop-to.hops.items ++ least_behind c.of-source.result (jitters_along c.args.domain.now c.loop-to.from.now rest) c.loop-to.last) ended in
     let none = least_behind-ended c.loop-to.hops.items c.of-source.result c.args.domain.now c.loop-to.from.now c.loop-to.last in
     sym none ∙ sym rest ∙ c.loop-to.invariant.value
+
+pub bounds-path-to-index : goal.bounds-path-to-index
+bounds-path-to-index c = c.loop-to-test.true
+
+pub offset_bounds-path-to-index : goal.offset_bounds-path-to-index
+offset_bounds-path-to-index c = omega (arith, c.loop-to-test.true)
+
+pub loop-to-smaller : goal.loop-to-smaller
+loop-to-smaller c = omega (arith, c.loop-to-test.true)

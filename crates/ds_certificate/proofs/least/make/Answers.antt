@@ -18,3 +18,15 @@ returns-clause-least c other met =
     let value : c.new-2.result ≡ least c.args.domain.now c.args.contracts.now =
     least-made _ _ _ _ c.loop-contract.contract-index (omega arith) c.loop-contract.invariant.value c.new-2.ensures in
     subst (λ rows. AreAtMost rows other) (sym value) (least-below c.args.domain.now c.args.contracts.now other met)
+
+pub bounds-contracts-contract-index : goal.bounds-contracts-contract-index
+bounds-contracts-contract-index c = c.loop-contract-test.true
+
+pub offset_bounds-contracts-contract-index : goal.offset_bounds-contracts-contract-index
+offset_bounds-contracts-contract-index c = omega (arith, c.loop-contract-test.true)
+
+pub loop-contract-smaller : goal.loop-contract-smaller
+loop-contract-smaller c = omega (arith, c.loop-contract-test.true)
+
+pub returns-clause-value : goal.returns-clause-value
+returns-clause-value c = least-made _ _ _ _ c.loop-contract.contract-index (omega arith) c.loop-contract.invariant.value c.new-2.ensures

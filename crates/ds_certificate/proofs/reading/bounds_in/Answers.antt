@@ -31,3 +31,6 @@ returns-clause-bounds c =
     let whole = ap (λ (path : List (List ℕ)). bounds_in c.args.form name 0 (length path + 1) (lines_of c.args.text.now)) c.meters.ensures in
     let ended = bounds_in-ended c.args.form c.loop-hop.hops.items name c.loop-hop.hop (length c.meters.result.now + 1) (lines_of c.loop-hop.rest.now) (omega arith) in
     sym whole ∙ sym c.loop-hop.invariant ∙ ended ∙ ap (λ bounds. Ok (bounds, lines_of c.loop-hop.rest.now)) (sym c.in_ok-new.ensures.made)
+
+pub loop-hop-smaller : goal.loop-hop-smaller
+loop-hop-smaller c = omega (arith, c.loop-hop-test.true)

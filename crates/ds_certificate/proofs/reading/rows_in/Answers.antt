@@ -33,3 +33,12 @@ pub returns-in-Some-clause-refused : goal.returns-in-Some-clause-refused
 returns-in-Some-clause-refused c =
     inr (sym c.loop-contract.invariant
     ∙ rows_in-excess c.args.form c.loop-contract.rows.items c.args.contracts.now c.loop-contract.contract-index (lines_of c.loop-contract.rest.now) c.in-Some.fault (omega arith) c.in-Some.ensures)
+
+pub bounds-contracts-contract-index : goal.bounds-contracts-contract-index
+bounds-contracts-contract-index c = c.loop-contract-test.true
+
+pub offset_bounds-contracts-contract-index : goal.offset_bounds-contracts-contract-index
+offset_bounds-contracts-contract-index c = omega (arith, c.loop-contract-test.true)
+
+pub loop-contract-smaller : goal.loop-contract-smaller
+loop-contract-smaller c = omega (arith, c.loop-contract-test.true)

@@ -1,4 +1,4 @@
-use Rattle.std.proofs.Common.{rules, ◌≡◌, ◌++◌, [], ◌∷◌, ap, ap₂, ◌∙◌, subst}
+use Rattle.std.proofs.Common.{rules, ◌≡◌, ◌++◌, [], ◌∷◌, ap, ap₂, ◌∙◌, subst, arith, length}
 use Rattle.std.specs.Iterator.Adapters.{zip_first, zip_second}
 use Rattle.std.specs.Slice.Iter.{iter_rest}
 use Rattle.std.proofs.lemmas.Slice.Zip.{Zip-more, either_empty_from_Zip}
@@ -49,3 +49,8 @@ returns-clause-reads c =
     ∙ ap (λ form. text_in form contracts rows) c.of-form.ensures in
     let back = back-ended c.of-form.result contracts _ _ rows none c.loop-contract.invariant.reads in
     ap (certificate_in contracts) text ∙ certificate_in-text contracts rows (subst (λ form. RowsBack form contracts rows) c.of-form.ensures back)
+
+pub loop-contract-smaller : goal.loop-contract-smaller
+loop-contract-smaller c =
+    let more = Zip-more c.loop-contract.contract-iterator c.next.new.self c.next.result _ c.in-Some.is c.next.ensures.steps in
+    omega (arith, ap length more.0, ap length more.1)

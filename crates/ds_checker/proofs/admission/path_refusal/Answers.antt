@@ -1,6 +1,9 @@
-use Rattle.std.proofs.Common.{sym, ap, option_map, ◌∙◌}
+use Rattle.std.proofs.Common.{◌^◌, length, arith, sym, ap, subst, option_map, ◌∙◌}
+use Rattle.std.specs.Map.{keys_of}
+use Rattle.std.proofs.lemmas.Map.Entries.{length-keys_of}
 use Rattle.std.proofs.lemmas.Slice.Zip.{Zip-more, either_empty_from_Zip}
-use Rattle.ds_checker.proofs.LoadLaws.{once_behind}
+use Rattle.ds_checker.specs.Sums.{AreBelow}
+use Rattle.ds_checker.proofs.LoadLaws.{AreBelow-at, once_behind, position-inside}
 use Rattle.ds_checker.proofs.PlaceLaws.{found-ended, found-hop, found-past}
 use Rattle.ds_checker.proofs.admission.path_refusal.Goals as goal
 
@@ -35,3 +38,36 @@ returns c =
     let found = found-ended c.args.source.now c.args.has_peak _ _ c.args.domain.now.meters c.args.sums.now _ c.loop-name.first c.requires.places c.requires.passed
     (either_empty_from_Zip c.loop-name.name-iterator c.next.new.self c.next.result c.in-None.is c.next.ensures.steps) c.loop-name.invariant.value in
     sym (ap (option_map (λ f. f.1)) c.in_ok-refusal.was) ∙ found
+
+pub bounds-sums-place : goal.bounds-sums-place
+bounds-sums-place c =
+    position-inside c.in-Some.name.now (keys_of c.args.domain.now.meters) c.args.sums.now c.in-Some-meter_index.place c.meter_index.result c.meter_index.ensures c.in-Some-meter_index.is
+    (c.requires.places ∙ sym (length-keys_of c.args.domain.now.meters))
+
+pub offset_bounds-sums-place : goal.offset_bounds-sums-place
+offset_bounds-sums-place c =
+    let inside = position-inside c.in-Some.name.now (keys_of c.args.domain.now.meters) c.args.sums.now c.in-Some-meter_index.place c.meter_index.result c.meter_index.ensures c.in-Some-meter_index.is
+    (c.requires.places ∙ sym (length-keys_of c.args.domain.now.meters)) in
+    omega (arith, inside)
+
+pub with-requires-clause-room : goal.with-requires-clause-room
+with-requires-clause-room c =
+    let inside = position-inside c.in-Some.name.now (keys_of c.args.domain.now.meters) c.args.sums.now c.in-Some-meter_index.place c.meter_index.result c.meter_index.ensures c.in-Some-meter_index.is
+    (c.requires.places ∙ sym (length-keys_of c.args.domain.now.meters)) in
+    subst (AreBelow (2 ^ 121)) (sym c.index-sums-place.is) (AreBelow-at (2 ^ 121) c.args.sums.now c.in-Some-meter_index.place c.index-sums-place.result inside c.requires.room)
+
+pub place_refusal-refusal-requires : goal.place_refusal-refusal-requires
+place_refusal-refusal-requires c =
+    let inside = position-inside c.in-Some.name.now (keys_of c.args.domain.now.meters) c.args.sums.now c.in-Some-meter_index.place c.meter_index.result c.meter_index.ensures c.in-Some-meter_index.is
+    (c.requires.places ∙ sym (length-keys_of c.args.domain.now.meters)) in
+    omega (arith, inside, c.requires.places)
+
+pub loop-name-smaller-in-Some-meter_index : goal.loop-name-smaller-in-Some-meter_index
+loop-name-smaller-in-Some-meter_index c =
+    let more = Zip-more c.loop-name.name-iterator c.next.new.self c.next.result _ c.in-Some.is c.next.ensures.steps in
+    omega (arith, ap length more.0, ap length more.1)
+
+pub loop-name-smaller : goal.loop-name-smaller
+loop-name-smaller c =
+    let more = Zip-more c.loop-name.name-iterator c.next.new.self c.next.result _ c.in-Some.is c.next.ensures.steps in
+    omega (arith, ap length more.0, ap length more.1)

@@ -72,3 +72,36 @@ returns-clause-small c =
     c.loop-name.invariant.small
     (small-ended c.args.source.now c.args.has_peak _ _ c.args.domain.now.meters
     (either_empty_from_Zip c.loop-name.name-iterator c.next.new.self c.next.result c.in-None.is c.next.ensures.steps))
+
+pub bounds-sums-place : goal.bounds-sums-place
+bounds-sums-place c =
+    position-inside c.in-Some.name.now (keys_of c.args.domain.now.meters) c.loop-name.sums c.in-Some-meter_index.place c.meter_index.result c.meter_index.ensures c.in-Some-meter_index.is
+    (c.loop-name.invariant.places ∙ sym (length-keys_of c.args.domain.now.meters))
+
+pub bounds-sums-place-in-Some-meter_index : goal.bounds-sums-place-in-Some-meter_index
+bounds-sums-place-in-Some-meter_index c =
+    position-inside c.in-Some.name.now (keys_of c.args.domain.now.meters) c.loop-name.sums c.in-Some-meter_index.place c.meter_index.result c.meter_index.ensures c.in-Some-meter_index.is
+    (c.loop-name.invariant.places ∙ sym (length-keys_of c.args.domain.now.meters))
+
+pub offset_bounds-sums-place : goal.offset_bounds-sums-place
+offset_bounds-sums-place c =
+    let inside = position-inside c.in-Some.name.now (keys_of c.args.domain.now.meters) c.loop-name.sums c.in-Some-meter_index.place c.meter_index.result c.meter_index.ensures c.in-Some-meter_index.is
+    (c.loop-name.invariant.places ∙ sym (length-keys_of c.args.domain.now.meters)) in
+    omega (arith, inside)
+
+pub loop-name-smaller-in-Some-meter_index : goal.loop-name-smaller-in-Some-meter_index
+loop-name-smaller-in-Some-meter_index c =
+    let more = Zip-more c.loop-name.name-iterator c.next.new.self c.next.result _ c.in-Some.is c.next.ensures.steps in
+    omega (arith, ap length more.0, ap length more.1)
+
+pub loop-name-smaller : goal.loop-name-smaller
+loop-name-smaller c =
+    let more = Zip-more c.loop-name.name-iterator c.next.new.self c.next.result _ c.in-Some.is c.next.ensures.steps in
+    omega (arith, ap length more.0, ap length more.1)
+
+pub offset_bounds-sums-place-in-Some-meter_index :
+    goal.offset_bounds-sums-place-in-Some-meter_index
+offset_bounds-sums-place-in-Some-meter_index c =
+    let inside = position-inside c.in-Some.name.now (keys_of c.args.domain.now.meters) c.loop-name.sums c.in-Some-meter_index.place c.meter_index.result c.meter_index.ensures c.in-Some-meter_index.is
+    (c.loop-name.invariant.places ∙ sym (length-keys_of c.args.domain.now.meters)) in
+    omega (arith, inside)

@@ -1,9 +1,9 @@
-use Rattle.std.proofs.Common.{sym, ◌∙◌}
+use Rattle.std.proofs.Common.{length, arith, sym, ap, ◌∙◌}
 use Rattle.std.specs.Map.{keys_of}
 use Rattle.std.proofs.lemmas.List.{length-set}
 use Rattle.std.proofs.lemmas.Map.Entries.{length-keys_of}
 use Rattle.std.proofs.lemmas.Slice.Zip.{Zip-more, either_empty_from_Zip}
-use Rattle.ds_checker.proofs.LoadLaws.{once_behind}
+use Rattle.ds_checker.proofs.LoadLaws.{once_behind, position-inside}
 use Rattle.ds_checker.proofs.PlaceLaws.{taken-counted, taken-ended, taken-hop, taken-past}
 use Rattle.ds_checker.proofs.table.take_path.Goals as goal
 
@@ -41,3 +41,36 @@ pub returns : goal.returns
 returns c before is_before =
     taken-ended c.args.source.now c.args.has_peak _ _ (keys_of c.args.domain.now.meters) c.loop-name.sums before (c.loop-name.invariant.places ∙ sym (length-keys_of c.args.domain.now.meters))
     (either_empty_from_Zip c.loop-name.name-iterator c.next.new.self c.next.result c.in-None.is c.next.ensures.steps) (c.loop-name.invariant.value before is_before)
+
+pub bounds-sums-place : goal.bounds-sums-place
+bounds-sums-place c =
+    position-inside c.in-Some.name.now (keys_of c.args.domain.now.meters) c.loop-name.sums c.in-Some-meter_index.place c.meter_index.result c.meter_index.ensures c.in-Some-meter_index.is
+    (c.loop-name.invariant.places ∙ sym (length-keys_of c.args.domain.now.meters))
+
+pub offset_bounds-sums-place : goal.offset_bounds-sums-place
+offset_bounds-sums-place c =
+    let inside = position-inside c.in-Some.name.now (keys_of c.args.domain.now.meters) c.loop-name.sums c.in-Some-meter_index.place c.meter_index.result c.meter_index.ensures c.in-Some-meter_index.is
+    (c.loop-name.invariant.places ∙ sym (length-keys_of c.args.domain.now.meters)) in
+    omega (arith, inside)
+
+pub bounds-sums-place-in-Some-meter_index : goal.bounds-sums-place-in-Some-meter_index
+bounds-sums-place-in-Some-meter_index c =
+    position-inside c.in-Some.name.now (keys_of c.args.domain.now.meters) c.loop-name.sums c.in-Some-meter_index.place c.meter_index.result c.meter_index.ensures c.in-Some-meter_index.is
+    (c.loop-name.invariant.places ∙ sym (length-keys_of c.args.domain.now.meters))
+
+pub loop-name-smaller-in-Some-meter_index : goal.loop-name-smaller-in-Some-meter_index
+loop-name-smaller-in-Some-meter_index c =
+    let more = Zip-more c.loop-name.name-iterator c.next.new.self c.next.result _ c.in-Some.is c.next.ensures.steps in
+    omega (arith, ap length more.0, ap length more.1)
+
+pub loop-name-smaller : goal.loop-name-smaller
+loop-name-smaller c =
+    let more = Zip-more c.loop-name.name-iterator c.next.new.self c.next.result _ c.in-Some.is c.next.ensures.steps in
+    omega (arith, ap length more.0, ap length more.1)
+
+pub offset_bounds-sums-place-in-Some-meter_index :
+    goal.offset_bounds-sums-place-in-Some-meter_index
+offset_bounds-sums-place-in-Some-meter_index c =
+    let inside = position-inside c.in-Some.name.now (keys_of c.args.domain.now.meters) c.loop-name.sums c.in-Some-meter_index.place c.meter_index.result c.meter_index.ensures c.in-Some-meter_index.is
+    (c.loop-name.invariant.places ∙ sym (length-keys_of c.args.domain.now.meters)) in
+    omega (arith, inside)

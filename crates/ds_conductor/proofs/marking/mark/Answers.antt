@@ -16,16 +16,16 @@ returns-in-Ok-clause-reads g c =
     c.mark_behind.ensures.reads (g.I.Intake.failed c.args.intake.now) (g.I.Intake.turns c.args.intake.now)
     (c.in-Ok.ensures.asked (g.I.Intake.failed c.args.intake.now) (g.I.Intake.turns c.args.intake.now) first)
 
-pub returns-in-Err-clause-marked : goal.returns-in-Err-clause-marked
-returns-in-Err-clause-marked g c = λ given tells.
+pub returns-clause-marked : goal.returns-clause-marked
+returns-clause-marked g c = λ given tells.
     let bytes = g.I.Intake.left c.args.intake.now in
     let held = g.O.Outlet.held c.args.outlet.now in
     let read = c.in-Err.ensures.read bytes given (c.begin-progress.ensures.begun bytes) in
     marked_at c.args.accepted.now c.domain.result.now c.args.port.now c.in-Some.port c.args.red bytes _ _ _ _ c.domain.ensures.value c.in-Some.ensures
     (unheaded c.args.accepted.now c.in-Some.port c.args.red bytes _ held held read.0 c.in-Err.fault c.nothing-in-Err.result c.of_reading.result c.in-Err.ensures.no_write c.of_reading.ensures c.nothing-in-Err.ensures read.1 refl)
 
-pub returns-in-Err-clause-reads : goal.returns-in-Err-clause-reads
-returns-in-Err-clause-reads g c =
+pub returns-clause-reads : goal.returns-clause-reads
+returns-clause-reads g c =
     let failed = g.I.Intake.failed c.args.intake.now in
     let asked = g.I.Intake.turns c.args.intake.now in
     unheaded_reads c.nothing-in-Err.result c.in-Err.fault c.of_reading.result failed _ asked _ c.of_reading.ensures

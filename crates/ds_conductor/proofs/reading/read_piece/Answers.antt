@@ -1,5 +1,6 @@
-use Rattle.std.proofs.Common.{◌≡◌, ◌<◌, ◌-◌, [], ◌++◌, length, length-append, append_assoc, None, Some, Ok, refl, sym, subst, ap, ◌∙◌, inl, inr, arith}
+use Rattle.std.proofs.Common.{◌≡◌, ◌<◌, ◌-◌, List, [], ◌++◌, length, length-append, append_assoc, None, Some, Ok, refl, sym, subst, ap, ◌∙◌, inl, inr, arith}
 use Rattle.std.proofs.lemmas.Result.{err_from_is_err_and}
+use Rattle.pcap_capture.specs.Frames.{FrameValue}
 use Rattle.pcap_capture.specs.Grammar.{CaptureState}
 use Rattle.pcap_capture.specs.declared.fault.PcapFault.TheVariants.{ReadFault, WriteFault}
 use Rattle.pcap_capture.proofs.TakingLaws.{taken_unread}
@@ -31,7 +32,7 @@ returns-in-Err-clause-read g c = λ gone bytes tells at.
     let fault = c.in-Err.fault in
     elim c.in-Err.ensures.err [
       | inl unread ↦
-          subst (λ frames. IsReading bytes more before.heading (gone ++ frames) (Some fault)) (sym unread.2)
+          subst (λ (frames : List FrameValue). IsReading bytes more before.heading (gone ++ frames) (Some fault)) (sym {A = List FrameValue} unread.2)
           (failed gone bytes _ more before fault at (unread.3 tells) unread.0)
       | inr it ↦
           stopped gone bytes it.piece more before c.take_from.new.out.items fault (subst (λ left. IsUnderway gone bytes left before) (it.given tells) at)

@@ -13,7 +13,7 @@ loop-frame-preserved g c =
       records = c.in-Some.ensures.records ∙ was.records;
       waiting = c.in-Some.ensures.waiting ∙ was.waiting;
       told = λ tells. c.in_ok-write_frame.ensures.told (was.told tells);
-      failures = c.in_ok-write_frame.ensures.failures ∙ was.failures;
+      failures = ◌∙◌ {b = g.O.Outlet.failed c.loop-frame.outlet} c.in_ok-write_frame.ensures.failures was.failures;
       bytes = λ tells more frames text before at written.
           let so_far = was.bytes tells more frames text before at written in
           let own = record_text p.accepted.now p.red p.heading.link c.in-Some.frame c.in-Some.packet in (

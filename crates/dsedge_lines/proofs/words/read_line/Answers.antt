@@ -77,3 +77,45 @@ returns-clause-long g c = λ tells is_usage.
     let line = c.loop-turn.line.items in
     let rest = g.I.Intake.left c.loop-turn.intake in
     rw (was.left tells) (too_many_bytes _ _ _ was.size c.loop-turn-test.false (first_line_of-long line rest was.unbroken))
+
+pub returns-in-Ok-None-clause-told : goal.returns-in-Ok-None-clause-told
+returns-in-Ok-None-clause-told g c = λ tells. c.next_byte.ensures.told (c.loop-turn.invariant.told tells)
+
+pub returns-in-Ok-None-clause-long : goal.returns-in-Ok-None-clause-long
+returns-in-Ok-None-clause-long g c = λ tells is. absurd cc
+
+pub returns-in-Ok-None-clause-failures : goal.returns-in-Ok-None-clause-failures
+returns-in-Ok-None-clause-failures g c = c.in-Ok-None.ensures.failures ∙ c.loop-turn.invariant.failed
+
+pub returns-then-byte-eq10-clause-told : goal.returns-then-byte-eq10-clause-told
+returns-then-byte-eq10-clause-told g c = λ tells. c.next_byte.ensures.told (c.loop-turn.invariant.told tells)
+
+pub returns-then-byte-eq10-clause-long : goal.returns-then-byte-eq10-clause-long
+returns-then-byte-eq10-clause-long g c = λ tells is. absurd cc
+
+pub returns-then-byte-eq10-clause-failures : goal.returns-then-byte-eq10-clause-failures
+returns-then-byte-eq10-clause-failures g c = c.in-Ok-Some.ensures.failures ∙ c.loop-turn.invariant.failed
+
+pub returns-in_default-clause-told : goal.returns-in_default-clause-told
+returns-in_default-clause-told g c = λ tells. c.next_byte.ensures.told (c.loop-turn.invariant.told tells)
+
+pub returns-in_default-clause-long : goal.returns-in_default-clause-long
+returns-in_default-clause-long g c = λ tells is. absurd cc
+
+pub returns-in_default-clause-failures : goal.returns-in_default-clause-failures
+returns-in_default-clause-failures g c = c.in-Ok-Some.ensures.failures ∙ c.loop-turn.invariant.failed
+
+pub returns-in_default-clause-line : goal.returns-in_default-clause-line
+returns-in_default-clause-line g c = λ tells. tt
+
+pub returns-in-Err-clause-told : goal.returns-in-Err-clause-told
+returns-in-Err-clause-told g c = λ tells. c.next_byte.ensures.told (c.loop-turn.invariant.told tells)
+
+pub returns-in-Err-clause-long : goal.returns-in-Err-clause-long
+returns-in-Err-clause-long g c = λ tells is. absurd cc
+
+pub returns-in-Err-clause-failures : goal.returns-in-Err-clause-failures
+returns-in-Err-clause-failures g c = c.in-Err.ensures.failures ∙ ap next_count c.loop-turn.invariant.failed
+
+pub returns-in-Err-clause-line : goal.returns-in-Err-clause-line
+returns-in-Err-clause-line g c = λ tells. tt

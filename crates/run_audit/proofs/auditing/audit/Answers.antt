@@ -3,7 +3,7 @@ use Rattle.std.specs.Prelude.{unwrap_or}
 use Rattle.run_audit.specs.Bases.{IsGranted}
 use Rattle.run_audit.specs.Verdicts.{verdict_of}
 use Rattle.run_audit.specs.declared.verdict.Verdict.TheVariants.{Kept}
-use Rattle.run_audit_base.proofs.ColourLaws.{timeline_keeps}
+use Rattle.run_audit.proofs.ColourLaws.{timeline_keeps}
 use Rattle.run_audit.proofs.PremiseLaws.{kept_is_premises}
 use Rattle.run_audit.proofs.auditing.audit.Goals as goal
 

@@ -1,6 +1,6 @@
 use Rattle.std.proofs.Common.{ap, map, subst, sym, ◌∙◌}
 use Rattle.std.specs.Map.{values_of}
-use Rattle.run_audit_base.specs.Runs.{IsRun}
+use Rattle.run_audit.specs.Runs.{IsRun}
 use Rattle.run_audit.specs.Assembled.{passage_of}
 use Rattle.run_audit.specs.Bases.{basis_of}
 use Rattle.run_audit.specs.Spills.{spilled_from}

@@ -1,7 +1,7 @@
-use Rattle.std.proofs.Common.{◌≡◌, None, true, inl, inr, rules, arith, refl, sym, ap, ◌∙◌}
-use Rattle.std.specs.Prelude.{cond, length, max, option_map}
+use Rattle.std.proofs.Common.{◌≡◌, None, true, inl, inr, arith, refl, sym, ap, ◌∙◌}
+use Rattle.std.specs.Prelude.{cond, length, option_map}
 use Rattle.std.specs.Str.{bytes_eq}
-use Rattle.ds_broker.specs.Books.{moment_in, newest_of, table_of}
+use Rattle.ds_broker.specs.Books.{moment_in, table_of}
 use Rattle.ds_broker.specs.Kept.{book_of}
 use Rattle.ds_broker.specs.Refusals.{reserve_refusal, room_refusal}
 use Rattle.ds_broker.specs.declared.refusal.BrokerRefusal.TheVariants.{Checker}
@@ -9,6 +9,7 @@ use Rattle.ds_broker.proofs.KeptLaws.{kept-reserved}
 use Rattle.ds_broker.proofs.RefusalLaws.{fitting, passed}
 use Rattle.ds_broker.proofs.StandingLaws.{granted-most}
 use Rattle.ds_broker.proofs.TableLaws.{checked-refusal}
+use Rattle.ds_broker.proofs.BookLaws.{newest-moment}
 use Rattle.ds_broker.proofs.book.Book.reserve.Goals as goal
 
 pub admit-requires-clause-fit : goal.admit-requires-clause-fit
@@ -24,11 +25,10 @@ returns-in-Err-clause-refused c =
     let k = c.args.contract in
     let none : room_refusal b k ≡ None = sym c.room_refusal.ensures.value ∙ c.in_default.is in
     let table : c.self.inside.table ≡ table_of b = c.self.invariant.table ∙ ap table_of c.self.view_is in
-    let since : c.max-since.result ≡ max c.self.inside.newest k.lifetime.since = search rules in
-    let moment : c.max-since.result ≡ moment_in b k.lifetime.since = since ∙ ap (λ m. max m k.lifetime.since) (c.self.invariant.newest ∙ ap newest_of c.self.view_is) in
+    let moment : c.moment_of-since.result ≡ moment_in b k.lifetime.since = c.moment_of-since.ensures ∙ ap (moment_in b) c.since.ensures in
     elim c.in-Err.ensures.refused [
       | inl memory ↦ inl memory
-      | inr refused ↦ inr (checked-refusal b k c.self.inside.table c.max-since.result none table moment ∙ refused)
+      | inr refused ↦ inr (checked-refusal b k c.self.inside.table c.moment_of-since.result none table moment ∙ refused)
     ]
 
 pub overflow_add-id : goal.overflow_add-id
@@ -40,10 +40,11 @@ invariant_of-self-2 c =
     let b = c.args.self.now in
     let k = c.args.contract in
     let none : room_refusal (book_of i) k ≡ None = ap (λ x. room_refusal x k) c.self.view_is ∙ sym c.room_refusal.ensures.value ∙ c.in_default.is in
-    let since : c.max-since.result ≡ max i.newest k.lifetime.since = search rules in
-    let moment : c.max-since.result ≡ moment_in (book_of i) k.lifetime.since = since ∙ ap (λ m. max m k.lifetime.since) c.self.invariant.newest in
+    let moment : c.moment_of-since.result ≡ moment_in (book_of i) k.lifetime.since =
+    c.moment_of-since.ensures ∙ ap (moment_in b) c.since.ensures ∙ ap (λ x. moment_in x k.lifetime.since) (sym c.self.view_is) in
+    let since = newest-moment i (book_of i) k.lifetime.since c.moment_of-since.result refl c.self.invariant moment in
     let unrefused : reserve_refusal (book_of i) k ≡ None =
-    checked-refusal (book_of i) k i.table c.max-since.result none c.self.invariant.table moment ∙ ap (λ o. option_map Checker o) c.in_default-admit.ensures.unrefused in
+    checked-refusal (book_of i) k i.table c.moment_of-since.result none c.self.invariant.table moment ∙ ap (λ o. option_map Checker o) c.in_default-admit.ensures.unrefused in
     let count : length i.history.items ≡ length b.history = ap (λ x. length x.history) c.self.view_is in
     kept-reserved i _ k c.self.invariant (passed (book_of i) k none) unrefused (omega (arith, count, c.in_default.ensures.room))
     c.in_default-admit.ensures.admitted c.in_default-admit.ensures.acceptable
@@ -59,6 +60,17 @@ returns-clause-unrefused c =
     let k = c.args.contract in
     let none : room_refusal b k ≡ None = sym c.room_refusal.ensures.value ∙ c.in_default.is in
     let table : c.self.inside.table ≡ table_of b = c.self.invariant.table ∙ ap table_of c.self.view_is in
-    let since : c.max-since.result ≡ max c.self.inside.newest k.lifetime.since = search rules in
-    let moment : c.max-since.result ≡ moment_in b k.lifetime.since = since ∙ ap (λ m. max m k.lifetime.since) (c.self.invariant.newest ∙ ap newest_of c.self.view_is) in
-    checked-refusal b k c.self.inside.table c.max-since.result none table moment ∙ ap (λ o. option_map Checker o) c.in_default-admit.ensures.unrefused
+    let moment : c.moment_of-since.result ≡ moment_in b k.lifetime.since = c.moment_of-since.ensures ∙ ap (moment_in b) c.since.ensures in
+    checked-refusal b k c.self.inside.table c.moment_of-since.result none table moment ∙ ap (λ o. option_map Checker o) c.in_default-admit.ensures.unrefused
+
+pub unwrap-requires : goal.unwrap-requires
+unwrap-requires c = c.push.ensures.succeeds (omega (arith, c.in-Ok.ensures.id_room))
+
+pub unwrap-requires-2 : goal.unwrap-requires-2
+unwrap-requires-2 c = c.push-2.ensures.succeeds (omega (arith, c.in-Ok.ensures.released_room))
+
+pub unwrap-requires-3 : goal.unwrap-requires-3
+unwrap-requires-3 c = c.insert.ensures.succeeds c.in-Ok.ensures.name_room
+
+pub unwrap-requires-4 : goal.unwrap-requires-4
+unwrap-requires-4 c = c.push-3.ensures.succeeds (omega (arith, c.in-Ok.ensures.command_room))

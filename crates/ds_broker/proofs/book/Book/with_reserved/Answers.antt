@@ -1,7 +1,7 @@
-use Rattle.std.proofs.Common.{◌≡◌, None, inl, inr, rules, sym, ap, subst, ◌∙◌}
-use Rattle.std.specs.Prelude.{max, option_map}
+use Rattle.std.proofs.Common.{◌≡◌, None, inl, inr, sym, ap, subst, ◌∙◌}
+use Rattle.std.specs.Prelude.{option_map}
 use Rattle.ds_domain_base.specs.Lifetimes.{IsInOrder}
-use Rattle.ds_broker.specs.Books.{moment_in, newest_of, standing, table_of}
+use Rattle.ds_broker.specs.Books.{moment_in, standing, table_of}
 use Rattle.ds_broker.specs.Refusals.{room_refusal}
 use Rattle.ds_broker.specs.declared.refusal.BrokerRefusal.TheVariants.{Checker}
 use Rattle.ds_broker.proofs.NextLaws.{flows-after-reserve, flows-kept, table-after-reserve}
@@ -21,8 +21,7 @@ admit-requires-clause-order c =
     let b = c.args.self.now in
     let k = c.args.contract.now in
     let none : room_refusal b k ≡ None = sym c.room_refusal.ensures.value ∙ c.in_default.is in
-    let since : c.max-since.result ≡ max c.self.inside.newest k.lifetime.since = search rules in
-    let moment : c.max-since.result ≡ moment_in b k.lifetime.since = since ∙ ap (λ m. max m k.lifetime.since) (c.self.invariant.newest ∙ ap newest_of c.self.view_is) in
+    let moment : c.moment_of-since.result ≡ moment_in b k.lifetime.since = c.moment_of-since.ensures ∙ ap (moment_in b) c.since.ensures in
     subst (λ m. IsInOrder m k.lifetime.until) (sym moment) (ordered (moment_in b k.lifetime.since) k.lifetime.until (passed b k none).ordered)
 
 pub returns-in-Err-clause-refused : goal.returns-in-Err-clause-refused
@@ -31,11 +30,10 @@ returns-in-Err-clause-refused c =
     let k = c.args.contract.now in
     let none : room_refusal b k ≡ None = sym c.room_refusal.ensures.value ∙ c.in_default.is in
     let table : c.in-Ok.table ≡ table_of b = c.in-Ok.ensures ∙ c.self.invariant.table ∙ ap table_of c.self.view_is in
-    let since : c.max-since.result ≡ max c.self.inside.newest k.lifetime.since = search rules in
-    let moment : c.max-since.result ≡ moment_in b k.lifetime.since = since ∙ ap (λ m. max m k.lifetime.since) (c.self.invariant.newest ∙ ap newest_of c.self.view_is) in
+    let moment : c.moment_of-since.result ≡ moment_in b k.lifetime.since = c.moment_of-since.ensures ∙ ap (moment_in b) c.since.ensures in
     elim c.in-Err.ensures.refused [
       | inl memory ↦ inl memory
-      | inr refused ↦ inr (checked-refusal b k c.in-Ok.table c.max-since.result none table moment ∙ refused)
+      | inr refused ↦ inr (checked-refusal b k c.in-Ok.table c.moment_of-since.result none table moment ∙ refused)
     ]
 
 pub returns-in-Ok-push-clause-table : goal.returns-in-Ok-push-clause-table
@@ -43,9 +41,8 @@ returns-in-Ok-push-clause-table c =
     let b = c.args.self.now in
     let k = c.args.contract.now in
     let table : c.in-Ok.table ≡ table_of b = c.in-Ok.ensures ∙ c.self.invariant.table ∙ ap table_of c.self.view_is in
-    let since : c.max-since.result ≡ max c.self.inside.newest k.lifetime.since = search rules in
-    let moment : c.max-since.result ≡ moment_in b k.lifetime.since = since ∙ ap (λ m. max m k.lifetime.since) (c.self.invariant.newest ∙ ap newest_of c.self.view_is) in
-    table-after-reserve b k c.in-Ok.table c.admit.new.table c.max-since.result table moment c.in_default-admit.ensures.admitted
+    let moment : c.moment_of-since.result ≡ moment_in b k.lifetime.since = c.moment_of-since.ensures ∙ ap (moment_in b) c.since.ensures in
+    table-after-reserve b k c.in-Ok.table c.admit.new.table c.moment_of-since.result table moment c.in_default-admit.ensures.admitted
 
 pub returns-in-Ok-push-clause-flows : goal.returns-in-Ok-push-clause-flows
 returns-in-Ok-push-clause-flows c =
@@ -60,6 +57,5 @@ returns-in-Ok-push-clause-unrefused c =
     let k = c.args.contract.now in
     let none : room_refusal b k ≡ None = sym c.room_refusal.ensures.value ∙ c.in_default.is in
     let table : c.in-Ok.table ≡ table_of b = c.in-Ok.ensures ∙ c.self.invariant.table ∙ ap table_of c.self.view_is in
-    let since : c.max-since.result ≡ max c.self.inside.newest k.lifetime.since = search rules in
-    let moment : c.max-since.result ≡ moment_in b k.lifetime.since = since ∙ ap (λ m. max m k.lifetime.since) (c.self.invariant.newest ∙ ap newest_of c.self.view_is) in
-    checked-refusal b k c.in-Ok.table c.max-since.result none table moment ∙ ap (λ o. option_map Checker o) c.in_default-admit.ensures.unrefused
+    let moment : c.moment_of-since.result ≡ moment_in b k.lifetime.since = c.moment_of-since.ensures ∙ ap (moment_in b) c.since.ensures in
+    checked-refusal b k c.in-Ok.table c.moment_of-since.result none table moment ∙ ap (λ o. option_map Checker o) c.in_default-admit.ensures.unrefused

@@ -1,9 +1,9 @@
-use Rattle.std.proofs.Common.{rules, refl, ◌≡◌, ◌<◌, ◌^◌, true, false, length, sym, subst, ◌∙◌}
+use Rattle.std.proofs.Common.{rules, refl, ◌≡◌, ◌<◌, ◌^◌, true, false, length, ap, sym, subst, ◌∙◌}
 use Rattle.std.specs.List.{AllByRecursion}
 use Rattle.std.specs.Arc.{arc_value}
 use Rattle.ds_checker.specs.Sums.{AreBelow}
 use Rattle.ds_checker.proofs.BoundLaws.{not_found}
-use Rattle.ds_checker.proofs.ChangeLaws.{found_by_bounds, kept-below, refused-shaped, refused-unshaped, self-of, sound-of, sums_pass, table}
+use Rattle.ds_checker.proofs.ChangeLaws.{found_by_bounds, kept-below, kept-long, refused-shaped, refused-unshaped, self-of, sound-of, sums_pass, table}
 use Rattle.ds_checker.proofs.LoadLaws.{AreBelow-more}
 use Rattle.ds_checker.proofs.candidate.Accepted.refusal_with.Goals as goal
 
@@ -41,3 +41,9 @@ returns-clause-value c =
     (refused-shaped c.deref-domain.result.now c.self.inside.contracts.items c.self.inside.certificate c.self.inside.sums.items c.as_slice.result.now c.args.self.now c.args.contract.now c.args.bounds.now
     c.args.bounds.now c.len-number.result c.has_shape.result c.contract_refusal-refusal.result c.contract_refusal_at_meters.result (sound-of c.deref-domain.result.now (arc_value c.self.inside.domain) c.self.inside.contracts.items c.self.inside.certificate c.self.inside.sums.items c.deref-domain.ensures c.self.invariant) (self-of c.deref-domain.result.now (arc_value c.self.inside.domain) c.self.inside.contracts.items c.self.inside.certificate c.args.self.now c.deref-domain.ensures c.self.view_is) number c.as_slice.ensures.value
     refl c.has_shape.ensures holds c.contract_refusal-refusal.ensures c.contract_refusal_at_meters.ensures)
+
+pub contract_refusal_at_meters-requires-clause-places : goal.contract_refusal_at_meters-requires-clause-places
+contract_refusal_at_meters-requires-clause-places c =
+    ap length c.as_slice.ensures.value
+    ∙ kept-long (table c.deref-domain.result.now c.self.inside.contracts.items c.self.inside.certificate) c.self.inside.sums.items
+    (sound-of c.deref-domain.result.now (arc_value c.self.inside.domain) c.self.inside.contracts.items c.self.inside.certificate c.self.inside.sums.items c.deref-domain.ensures c.self.invariant).kept

@@ -1,10 +1,10 @@
-use Rattle.std.proofs.Common.{rules, ◌≡◌, ◌<◌, Some, length, refl, subst, sym}
+use Rattle.std.proofs.Common.{rules, ◌≡◌, ◌<◌, Some, length, ap, refl, subst, sym, ◌∙◌}
 use Rattle.std.specs.List.{slice_get}
 use Rattle.std.specs.Arc.{arc_value}
 use Rattle.ds_checker.specs.Acceptance.{Table}
 use Rattle.ds_checker.specs.Changes.{without_contract}
 use Rattle.ds_checker.specs.Sums.{loads_of}
-use Rattle.ds_checker.proofs.ChangeLaws.{before-less, got, row-inside, shape-less, sound-less, sound-of, table}
+use Rattle.ds_checker.proofs.ChangeLaws.{before-less, got, kept-long, row-inside, shape-less, sound-less, sound-of, table}
 use Rattle.ds_checker.proofs.candidate.Accepted.withdraw.Goals as goal
 
 pub remove-bounds-requires : goal.remove-bounds-requires
@@ -50,3 +50,9 @@ returns-clause-bounds c =
     subst (λ (t : Table). slice_get t.certificate c.args.index ≡ Some c.remove-bounds.result) c.self.view_is
     (got c.self.inside.certificate c.args.index c.remove-bounds.result
     (row-inside (arc_value c.self.inside.domain) c.self.inside.contracts.items c.self.inside.certificate c.self.inside.sums.items c.args.index c.self.invariant inside) c.remove-bounds.ensures.value)
+
+pub take_contract-requires-clause-places : goal.take_contract-requires-clause-places
+take_contract-requires-clause-places c =
+    ap length c.as_mut_slice.ensures.value
+    ∙ kept-long (table c.deref-domain.result.now c.self.inside.contracts.items c.self.inside.certificate) c.self.inside.sums.items
+    (sound-of c.deref-domain.result.now (arc_value c.self.inside.domain) c.self.inside.contracts.items c.self.inside.certificate c.self.inside.sums.items c.deref-domain.ensures c.self.invariant).kept

@@ -2,13 +2,13 @@ use Rattle.std.proofs.Common.{ap, sym, subst, ◌∙◌}
 use Rattle.std.proofs.lemmas.Result.{OkIff-at_ok}
 use Rattle.ds_checker.specs.Acceptance.{IsAcceptable}
 use Rattle.ds_conductor_base.specs.Ways.{AreInReach}
-use Rattle.ds_visits_verdict.specs.Judging.{unjudged}
+use Rattle.ds_visits.specs.Judging.{unjudged}
 use Rattle.ds_conductor_base.specs.Streams.{begun}
 use Rattle.ds_conductor.proofs.ConditionLaws.{begins}
 use Rattle.ds_conductor.proofs.conditioner.Conditioner.new.Goals as goal
 
 pub returns-clause-begun : goal.returns-clause-begun
 returns-clause-begun c p same seeing =
-    begins p _ (c.in_ok-new.ensures.begun ∙ ap begun (sym same)) c.new-2.ensures.items (OkIff-at_ok c.new-3.result _ _ c.unwrap.result c.new-3.ensures c.unwrap.ensures).1
-    c.nothing.ensures c.nothing-2.ensures (c.in_ok-new-2.ensures.unjudged ∙ ap unjudged (sym same)) (subst IsAcceptable (sym same) c.domain-domain.ensures.acceptable)
-    (subst AreInReach (sym same) c.in_ok-new-2.ensures.reach) seeing
+    begins p _ (c.in_ok-under_way.ensures.begun ∙ ap begun (sym same)) c.new-3.ensures.items (OkIff-at_ok c.new-4.result _ _ c.unwrap.result c.new-4.ensures c.unwrap.ensures).1
+    c.nothing.ensures c.nothing-2.ensures (c.in_ok-judge.ensures.unjudged ∙ ap unjudged (sym same)) (subst IsAcceptable (sym same) c.domain-domain.ensures.acceptable)
+    (subst AreInReach (sym same) c.in_ok-judge.ensures.reach) seeing

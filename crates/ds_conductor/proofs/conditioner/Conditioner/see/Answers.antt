@@ -1,6 +1,6 @@
 use Rattle.std.proofs.Common.{◌<◌, ◌-◌, ◌^◌, ℕ, arith, ◌≡◌, [], ◌∷◌, ◌++◌, if◌then◌else◌, is_ok, ap, refl, ◌∙◌}
 use Rattle.std.specs.Prelude.{max, option_to_list}
-use Rattle.ds_visits_verdict.specs.Judging.{verdict_with}
+use Rattle.ds_visits.specs.Judging.{verdict_with}
 use Rattle.pcap_capture.specs.Frames.{FrameValue}
 use Rattle.ds_conductor.specs.Conditionings.{see_at}
 use Rattle.ds_conductor.specs.Sendings.{counted_on}

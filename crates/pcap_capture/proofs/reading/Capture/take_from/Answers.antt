@@ -1,10 +1,10 @@
-use Rattle.std.proofs.Common.{◌≡◌, ℕ, length, false, None, Some, Err, subst, ap, ◌∙◌, arith, inl, inr}
+use Rattle.std.proofs.Common.{◌≡◌, ℕ, false, None, Some, Err, subst, ap, ◌∙◌, inl, inr}
 use Rattle.std.proofs.lemmas.Result.{err_from_is_err_and}
 use Rattle.pcap_capture.specs.Grammar.{CaptureState, broken}
 use Rattle.pcap_capture.specs.Takings.{IsTaken, is_read_fault}
 use Rattle.pcap_capture.specs.declared.fault.PcapFault.TheVariants.{Failed}
 use Rattle.pcap_capture.proofs.OwnLaws.{own_unread}
-use Rattle.pcap_capture.proofs.TakingLaws.{failed_again, gone_on, taken_unread}
+use Rattle.pcap_capture.proofs.TakingLaws.{failed_again, gone_on_by, taken_unread}
 use Rattle.pcap_capture.proofs.reading.Capture.take_from.Goals as goal
 
 pub returns-in-Broken-clause-err : goal.returns-in-Broken-clause-err
@@ -23,7 +23,7 @@ returns-in_err-go_on g c =
     let was : record { stage = c.stage.inside.stage; rest = c.stage.inside.rest.items } ≡ c.args.self.now = c.stage.view_is ∙ c.replace.ensures.value in
     let over : c.go_on.new.self ≡ broken = c.in_err-go_on.ensures.err.0 ∙ c.replace.ensures.after ∙ c.broken.ensures in
     let read : IsTaken tells c.args.most left more c.args.self.now c.go_on.new.self c.args.out.now.items c.go_on.new.out.items (Some fault) =
-    (gone_on tells c.args.most left more it.0 _ _ _ c.args.self.now c.go_on.new.self c.args.out.now.items c.go_on.new.out.items (Some fault) was it.3 (omega (arith, it.1, it.2)) it.4
+    (gone_on_by tells c.args.most c.in-Ok-answer.taken left more it.0 _ _ _ c.args.self.now c.go_on.new.self c.args.out.now.items c.go_on.new.out.items (Some fault) was it.3 it.1 it.2 it.4
     (over, c.in_err-go_on.ensures.err.1)).0 in
     let unread : is_read_fault {T = ℕ} (Err fault) ≡ false = own_unread fault (taken_unread tells c.args.most left more c.args.self.now c.go_on.new.self c.args.out.now.items c.go_on.new.out.items fault read) in
     let p = err_from_is_err_and c.from_residual.result c.from_residual.ensures.1 in
@@ -44,10 +44,9 @@ returns g c =
     let more = g.I.Intake.left c.take_behind.new.intake in
     let it = rw c.in-Ok-answer.is at c.in-Ok.ensures.ok in
     let was : record { stage = c.stage.inside.stage; rest = c.stage.inside.rest.items } ≡ c.args.self.now = c.stage.view_is ∙ c.replace.ensures.value in
-    let read = gone_on tells c.args.most left more it.0 _ _ _ c.args.self.now c.go_on.new.self c.args.out.now.items c.go_on.new.out.items None was it.3 (omega (arith, it.1, it.2)) it.4 c.in_ok-go_on.ensures.ok in
     record {
       told = c.in-Ok.ensures.told;
-      ok = (read.0, ap length read.1 ∙ it.1);
+      ok = gone_on_by tells c.args.most c.in-Ok-answer.taken left more it.0 _ _ _ c.args.self.now c.go_on.new.self c.args.out.now.items c.go_on.new.out.items None was it.3 it.1 it.2 it.4 c.in_ok-go_on.ensures.ok;
       err = tt;
       end = λ tells is. c.in-Ok.ensures.end tells cc;
       failures = rw c.in-Ok-answer.is at c.in-Ok.ensures.failures;

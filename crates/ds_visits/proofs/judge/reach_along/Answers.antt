@@ -1,0 +1,10 @@
+use Rattle.ds_visits.proofs.StepLaws.{along_ended, along_more}
+use Rattle.ds_visits.proofs.judge.reach_along.Goals as goal
+
+pub loop-stop-preserved : goal.loop-stop-preserved
+loop-stop-preserved c =
+    along_more c.loop-stop.firsts.items c.reach.new.firsts.items c.args.moment c.later.result c.loop-stop.stop-index c.stop-item.result c.args.stops.now _
+    c.loop-stop-test.true c.stop-item.is c.later.ensures c.reach.ensures c.loop-stop.invariant
+
+pub returns : goal.returns
+returns c = along_ended c.loop-stop.firsts.items c.args.moment c.loop-stop.stop-index c.args.stops.now _ c.loop-stop-test.false c.loop-stop.invariant

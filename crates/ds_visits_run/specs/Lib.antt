@@ -1,4 +1,0 @@
-pub mod Behind
-pub mod Example
-pub mod Laws
-pub mod Making

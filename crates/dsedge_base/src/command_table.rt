@@ -1,0 +1,184 @@
+ghost use Rattle.std.specs.Prelude.{◌≡◌};
+ghost use Rattle.dsedge_base.specs.CommandLine.{dsedge, program};
+ghost use Rattle.dsedge_base.specs.CommandTable.{with_commands};
+
+/// How a command is given one of its texts.
+#[derive(Clone, Copy)]
+pub(crate) enum Form {
+    /// By a word that has to be there.
+    Word,
+    /// By an option that has to be there.
+    Needed,
+    /// By an option that may be left out.
+    Choice,
+}
+
+/// A word or an option of a command.
+pub(crate) struct ArgumentEntry {
+    pub(crate) form: Form,
+    pub(crate) name: &'static str,
+    /// What stands for its text in the help.
+    pub(crate) value: &'static str,
+    pub(crate) help: &'static str,
+}
+
+/// A command of `dsedge`, with its words and options in the order of the help.
+pub(crate) struct CommandEntry {
+    pub(crate) name: &'static str,
+    pub(crate) about: &'static str,
+    pub(crate) arguments: &'static [ArgumentEntry],
+}
+
+/// The word of each command that reads a domain.
+const DOMAIN: ArgumentEntry = ArgumentEntry {
+    form: Form::Word,
+    name: "domain",
+    value: "DOMAIN",
+    help: "the domain: a TOML text of meters, ports, links and contracts",
+};
+
+/// The word of each command that reads a certificate.
+const CERTIFICATE: ArgumentEntry = ArgumentEntry {
+    form: Form::Word,
+    name: "certificate",
+    value: "CERTIFICATE",
+    help: "the certificate of its contracts, as certify prints one",
+};
+
+/// What the help says of `mark`.
+const MARK_ABOUT: &str =
+    "Marks the capture on standard input by the meters that its packets pass, and reports on standard error.";
+
+/// The commands of `dsedge`, in the order of the help.
+pub(crate) fn commands() -> &'static [CommandEntry]
+    ensures { with_commands program result.now ≡ dsedge }
+{
+    COMMANDS
+}
+
+const COMMANDS: &[CommandEntry] = &[
+    CommandEntry {
+        name: "meter",
+        about: "Meters the arrivals on standard input: lines MOMENT SIZE COLOUR, colour g, y or r.",
+        arguments: &[
+            ArgumentEntry {
+                form: Form::Needed,
+                name: "kind",
+                value: "KIND",
+                help: "the meter: srtcm (RFC 2697), trtcm (RFC 2698) or rfc4115 (RFC 4115)",
+            },
+            ArgumentEntry {
+                form: Form::Needed,
+                name: "mode",
+                value: "MODE",
+                help: "whether it heeds the colour that a packet comes in with: blind or aware",
+            },
+            ArgumentEntry {
+                form: Form::Needed,
+                name: "cir",
+                value: "RATE",
+                help: "committed information rate, in bits per second",
+            },
+            ArgumentEntry {
+                form: Form::Needed,
+                name: "cbs",
+                value: "BYTES",
+                help: "committed burst size",
+            },
+            ArgumentEntry {
+                form: Form::Choice,
+                name: "pir",
+                value: "RATE",
+                help: "peak information rate, in bits per second (trtcm)",
+            },
+            ArgumentEntry {
+                form: Form::Choice,
+                name: "pbs",
+                value: "BYTES",
+                help: "peak burst size (trtcm)",
+            },
+            ArgumentEntry {
+                form: Form::Choice,
+                name: "eir",
+                value: "RATE",
+                help: "excess information rate, in bits per second (rfc4115)",
+            },
+            ArgumentEntry {
+                form: Form::Choice,
+                name: "ebs",
+                value: "BYTES",
+                help: "excess burst size (srtcm, rfc4115)",
+            },
+            ArgumentEntry {
+                form: Form::Choice,
+                name: "origin",
+                value: "MOMENT",
+                help: "when the meter begins with full buckets, in nanoseconds [default: 0]",
+            },
+        ],
+    },
+    CommandEntry {
+        name: "envelope",
+        about: "Tests whether the packets on standard input, lines MOMENT SIZE, keep an envelope.",
+        arguments: &[
+            ArgumentEntry {
+                form: Form::Needed,
+                name: "rate",
+                value: "RATE",
+                help: "the rate that the packets may keep up, in bits per second",
+            },
+            ArgumentEntry {
+                form: Form::Needed,
+                name: "burst",
+                value: "BYTES",
+                help: "the bytes that they may send beyond it, at any time",
+            },
+        ],
+    },
+    CommandEntry {
+        name: "certify",
+        about: "Prints the least certificate of the contracts of a domain.",
+        arguments: &[DOMAIN],
+    },
+    CommandEntry {
+        name: "check",
+        about: "Checks a certificate: accepted, or the first test that fails.",
+        arguments: &[DOMAIN, CERTIFICATE],
+    },
+    CommandEntry {
+        name: "audit",
+        about: "Judges the run on standard input: lines send CONTRACT PACKET SIZE DSCP MOMENT and visit PACKET MOMENT.",
+        arguments: &[DOMAIN, CERTIFICATE],
+    },
+    CommandEntry {
+        name: "drive",
+        about: "Sells a domain's contracts: lines reserve NAME, release ID MOMENT, retire ID MOMENT, list and look.",
+        arguments: &[DOMAIN],
+    },
+    CommandEntry {
+        name: "mark",
+        about: MARK_ABOUT,
+        arguments: &[
+            DOMAIN,
+            CERTIFICATE,
+            ArgumentEntry {
+                form: Form::Needed,
+                name: "port",
+                value: "PORT",
+                help: "the port that the frames come in at",
+            },
+            ArgumentEntry {
+                form: Form::Needed,
+                name: "workers",
+                value: "WORKERS",
+                help: "how many workers mark: 1",
+            },
+            ArgumentEntry {
+                form: Form::Needed,
+                name: "red",
+                value: "RULE",
+                help: "what is done with red frames: keep or drop",
+            },
+        ],
+    },
+];

@@ -1,0 +1,86 @@
+use Rattle.std.proofs.Common.{refl}
+use Rattle.dsedge_lines.proofs.engine.answer_next.Goals as goal
+
+pub returns-in_default-clause-told : goal.returns-in_default-clause-told
+returns-in_default-clause-told g c = c.take.ensures.told
+
+pub returns-in_default-clause-asked : goal.returns-in_default-clause-asked
+returns-in_default-clause-asked g c = c.take.ensures.asked
+
+pub returns-in_default-clause-failures : goal.returns-in_default-clause-failures
+returns-in_default-clause-failures g c = c.in_default.ensures.failures
+
+pub returns-in_default-clause-input : goal.returns-in_default-clause-input
+returns-in_default-clause-input g c = refl
+
+pub returns-in_default-clause-number : goal.returns-in_default-clause-number
+returns-in_default-clause-number g c = tt
+
+pub returns-in_default-clause-carried : goal.returns-in_default-clause-carried
+returns-in_default-clause-carried g c = tt
+
+pub returns-in-Ok-answer_end-clause-told : goal.returns-in-Ok-answer_end-clause-told
+returns-in-Ok-answer_end-clause-told g c = c.take.ensures.told
+
+pub returns-in-Ok-answer_end-clause-asked : goal.returns-in-Ok-answer_end-clause-asked
+returns-in-Ok-answer_end-clause-asked g c = c.take.ensures.asked
+
+pub returns-in-Ok-answer_end-clause-failures : goal.returns-in-Ok-answer_end-clause-failures
+returns-in-Ok-answer_end-clause-failures g c = c.in-Ok.ensures.failures
+
+pub returns-in-Ok-answer_end-clause-input : goal.returns-in-Ok-answer_end-clause-input
+returns-in-Ok-answer_end-clause-input g c = refl
+
+pub returns-in-Ok-answer_end-clause-number : goal.returns-in-Ok-answer_end-clause-number
+returns-in-Ok-answer_end-clause-number g c = tt
+
+pub returns-in-Ok-answer_end-clause-carried : goal.returns-in-Ok-answer_end-clause-carried
+returns-in-Ok-answer_end-clause-carried g c = tt
+
+pub returns-in-Err-clause-told : goal.returns-in-Err-clause-told
+returns-in-Err-clause-told g c = c.take.ensures.told
+
+pub returns-in-Err-clause-asked : goal.returns-in-Err-clause-asked
+returns-in-Err-clause-asked g c = c.take.ensures.asked
+
+pub returns-in-Err-clause-failures : goal.returns-in-Err-clause-failures
+returns-in-Err-clause-failures g c = c.in-Ok.ensures.failures
+
+pub returns-in-Err-clause-input : goal.returns-in-Err-clause-input
+returns-in-Err-clause-input g c = refl
+
+pub returns-in-Err-clause-number : goal.returns-in-Err-clause-number
+returns-in-Err-clause-number g c = tt
+
+pub returns-in-Err-clause-carried : goal.returns-in-Err-clause-carried
+returns-in-Err-clause-carried g c = tt
+
+pub returns-in-Ok-answer_piece-clause-told : goal.returns-in-Ok-answer_piece-clause-told
+returns-in-Ok-answer_piece-clause-told g c = c.take.ensures.told
+
+pub returns-in-Ok-answer_piece-clause-asked : goal.returns-in-Ok-answer_piece-clause-asked
+returns-in-Ok-answer_piece-clause-asked g c = c.take.ensures.asked
+
+pub returns-in-Ok-answer_piece-clause-failures : goal.returns-in-Ok-answer_piece-clause-failures
+returns-in-Ok-answer_piece-clause-failures g c = c.in-Ok.ensures.failures
+
+pub returns-in-Ok-answer_piece-clause-input : goal.returns-in-Ok-answer_piece-clause-input
+returns-in-Ok-answer_piece-clause-input g c = refl
+
+pub returns-in-Err-answer_piece-clause-told : goal.returns-in-Err-answer_piece-clause-told
+returns-in-Err-answer_piece-clause-told g c = c.take.ensures.told
+
+pub returns-in-Err-answer_piece-clause-asked : goal.returns-in-Err-answer_piece-clause-asked
+returns-in-Err-answer_piece-clause-asked g c = c.take.ensures.asked
+
+pub returns-in-Err-answer_piece-clause-failures : goal.returns-in-Err-answer_piece-clause-failures
+returns-in-Err-answer_piece-clause-failures g c = c.in-Ok.ensures.failures
+
+pub returns-in-Err-answer_piece-clause-input : goal.returns-in-Err-answer_piece-clause-input
+returns-in-Err-answer_piece-clause-input g c = refl
+
+pub returns-in-Err-answer_piece-clause-number : goal.returns-in-Err-answer_piece-clause-number
+returns-in-Err-answer_piece-clause-number g c = tt
+
+pub returns-in-Err-answer_piece-clause-carried : goal.returns-in-Err-answer_piece-clause-carried
+returns-in-Err-answer_piece-clause-carried g c = tt

@@ -1,5 +1,0 @@
-use Rattle.run_audit_base.proofs.SoldTwiceLaws.{share_sold_twice_kept}
-use Rattle.run_audit_base.proofs.laws.a_share_sold_twice_is_kept.Goals as goal
-
-pub returns : goal.returns
-returns c = share_sold_twice_kept

@@ -1,5 +1,0 @@
-use Rattle.run_audit_base.proofs.ColourLaws.{colours_kept}
-use Rattle.run_audit_base.proofs.laws.every_run_keeps_colours.Goals as goal
-
-pub returns : goal.returns
-returns c = colours_kept

@@ -1,5 +1,0 @@
-use Rattle.run_audit_base.proofs.ExampleLaws.{small_run_kept}
-use Rattle.run_audit_base.proofs.laws.small_run_is_kept.Goals as goal
-
-pub returns : goal.returns
-returns c = small_run_kept

@@ -1,0 +1,139 @@
+use crate::rows::{Done, run};
+use dsedge_texts::MemoryFolder;
+use pcap_capture::{SliceIntake, VecOutlet};
+use std::alloc::Global;
+use std::process::Abort;
+use std::sync::Wait;
+use std::test::Fail;
+use worked_texts::{tight, wide};
+
+/// `drive` on lines, over a domain.
+fn run_drive(
+    rt: &impl Wait,
+    alloc: Global,
+    domain: &str,
+    intake: SliceIntake,
+    output: VecOutlet,
+) -> Result<Done, Fail> {
+    let files = [("domain.toml", domain.as_bytes())];
+    let folder = MemoryFolder { files: &files };
+    run(rt, alloc, "drive domain.toml", folder, intake, output)
+}
+
+/// Expects of `drive` on lines, over a domain, an output, what is told, and a status.
+fn expect_of_drive(
+    rt: &(impl Abort + Wait),
+    alloc: Global,
+    (domain, lines): (&str, &str),
+    (output, told, status): (&str, &str, u8),
+) -> Result<(), Fail> {
+    let intake = SliceIntake::new(lines.as_bytes());
+    let outlet = VecOutlet::new(Vec::new(alloc));
+    let done = run_drive(rt, alloc, domain, intake, outlet)?;
+    assert_eq!(rt; done.output.as_slice(), output.as_bytes(), "{lines}");
+    assert_eq!(rt; done.told.as_slice(), told.as_bytes(), "{lines}");
+    assert_eq!(rt; done.status, status, "{lines}");
+    Ok(())
+}
+
+#[test]
+fn a_contract_is_granted_once(rt: HostRuntime) -> Result<(), Fail> {
+    let domain = wide(rt.alloc())?;
+    let lines = "look\nreserve a\nlook\nreserve a\n";
+    let output = "serial 0 contracts 0\ngranted 1 1 0\nserial 1 contracts 1\nrefused 1 Twice\n";
+    expect_of_drive(&rt, rt.alloc(), (domain.as_str(), lines), (output, "", 0))
+}
+
+/// A contract that leaves no room for another is released, and its share given away once its hold has passed.
+const SOLD_AGAIN: [(&str, &str); 14] = [
+    ("list", "none"),
+    ("reserve a", "granted 1 1 0"),
+    ("release 1 1000000000", "released 1 2"),
+    ("reserve b", "refused 5 GreenBurst m 9000 4500"),
+    ("list", "1 a 0 1000000000"),
+    ("release 1 5", "refused 5 AlreadyReleased"),
+    ("release 9 5", "refused 4 UnknownId"),
+    ("reserve zz", "refused 1 UnknownName"),
+    ("retire 1 1005999999", "refused 9 HoldLeft 1"),
+    ("retire 1 1006000000", "retired 1 3"),
+    ("reserve b", "granted 2 4 1006000000"),
+    ("list", "2 b 1006000000 -"),
+    ("retire 1 0", "refused 4 UnknownId"),
+    ("retire 2 0", "refused 8 NotReleased"),
+];
+
+#[test]
+fn a_share_is_sold_again_once_its_hold_has_passed(rt: HostRuntime) -> Result<(), Fail> {
+    let alloc = rt.alloc();
+    let mut lines = String::new(alloc);
+    let mut answers = String::new(alloc);
+    for (line, answer) in SOLD_AGAIN {
+        lines.push_str(line)?;
+        lines.push('\n')?;
+        answers.push_str(answer)?;
+        answers.push('\n')?;
+    }
+    let domain = tight(alloc)?;
+    expect_of_drive(
+        &rt,
+        alloc,
+        (domain.as_str(), lines.as_str()),
+        (answers.as_str(), "", 0),
+    )
+}
+
+/// Lines that ask for nothing, the empty one first.
+const NO_REQUESTS: &str =
+    "\nlist\x20\nlook 1\nreserve\nreserve a b\nreserve  a\nreserve a\r\nrelease 1\nrelease 1 5 6\nrelease x 5\n\
+    release 1 9223372036854775808\nretire 18446744073709551616 5\nretire -1 5\nLook\nbook";
+
+#[test]
+fn a_line_that_asks_for_nothing(rt: HostRuntime) -> Result<(), Fail> {
+    let domain = wide(rt.alloc())?;
+    for line in NO_REQUESTS.split('\n') {
+        let lines = format!(in rt.alloc(); "reserve a\n{line}\nlook\n")?;
+        let answer = ("granted 1 1 0\n", "dsedge: line 2\n", 3);
+        expect_of_drive(&rt, rt.alloc(), (domain.as_str(), lines.as_str()), answer)?;
+    }
+    Ok(())
+}
+
+#[test]
+fn ids_and_names_that_are_not_held(rt: HostRuntime) -> Result<(), Fail> {
+    let domain = wide(rt.alloc())?;
+    for (line, answer) in [
+        ("release 0 5", "refused 4 UnknownId\n"),
+        ("release 4294967297 5", "refused 4 UnknownId\n"),
+        ("retire 18446744073709551615 5", "refused 4 UnknownId\n"),
+        ("reserve A!", "refused 1 UnknownName\n"),
+    ] {
+        let lines = format!(in rt.alloc(); "reserve a\n{line}\nlook")?;
+        let output = format!(in rt.alloc(); "granted 1 1 0\n{answer}serial 1 contracts 1\n")?;
+        let all = (domain.as_str(), lines.as_str());
+        expect_of_drive(&rt, rt.alloc(), all, (output.as_str(), "", 0))?;
+    }
+    Ok(())
+}
+
+#[test]
+fn a_domain_with_a_fault_sells_nothing(rt: HostRuntime) -> Result<(), Fail> {
+    let told = "dsedge: domain 3 Range top 0 version\n";
+    expect_of_drive(&rt, rt.alloc(), ("version = 3", "look\n"), ("", told, 3))
+}
+
+#[test]
+fn answers_before_a_read_that_fails(rt: HostRuntime) -> Result<(), Fail> {
+    let domain = wide(rt.alloc())?;
+    let intake = SliceIntake {
+        most: 10,
+        fails_at: Some(3),
+        ..SliceIntake::new(b"reserve a\nreserve b\nlook\n")
+    };
+    let outlet = VecOutlet::new(Vec::new(rt.alloc()));
+    let done = run_drive(&rt, rt.alloc(), domain.as_str(), intake, outlet)?;
+    let answers = b"granted 1 1 0\ngranted 2 2 0\n";
+    assert_eq!(rt; done.output.as_slice(), answers.as_slice());
+    assert_eq!(rt; done.told.as_slice(), b"dsedge: read\n".as_slice());
+    assert_eq!(rt; done.status, 4);
+    Ok(())
+}

@@ -1,0 +1,14 @@
+//! Worked rows of the whole program: words, files and input in, and what it writes, what it tells and its status out. They
+//! stand here, and not beside `start`, since a crate with tests is proved twice.
+#![tactic(auto)]
+
+#[cfg(test)]
+mod advice_rows;
+#[cfg(test)]
+mod drive_rows;
+#[cfg(test)]
+mod excess_rows;
+#[cfg(test)]
+mod mark_rows;
+#[cfg(test)]
+mod rows;

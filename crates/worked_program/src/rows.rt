@@ -1,0 +1,627 @@
+use dsedge_serve::{Advice, start};
+use dsedge_texts::MemoryFolder;
+use pcap_capture::{SliceIntake, VecOutlet};
+use std::alloc::{AllocError, Global};
+use std::process::Abort;
+use std::sync::Wait;
+use std::test::Fail;
+use worked_texts::{
+    A, B, C, LEAST_OF_POLICED, LEAST_OF_TRUSTED, LINK, POLICED, PORT, SHARE, TRUSTED, TWO_RATES, U,
+    UDP, joined, push_all,
+};
+
+/// What the program left behind.
+#[derive(Drop)]
+pub(crate) struct Done {
+    pub output: Vec<u8>,
+    pub told: Vec<u8>,
+    pub writes: u64,
+    pub status: u8,
+    pub advice: Option<Advice>,
+}
+
+/// No files.
+const NO_FILES: MemoryFolder<'static> = MemoryFolder { files: &[] };
+
+/// The program on words that stand one space apart, with its files, its input and its output.
+pub(crate) fn run(
+    rt: &impl Wait,
+    alloc: Global,
+    words: &str,
+    files: MemoryFolder<'_>,
+    mut intake: SliceIntake,
+    mut output: VecOutlet,
+) -> Result<Done, Fail> {
+    let mut given = Vec::new(alloc);
+    for word in words.split(' ') {
+        given.push(String::from_str(alloc, word)?)?;
+    }
+    let mut faults = VecOutlet::new(Vec::new(alloc));
+    let ended = start(
+        alloc,
+        rt,
+        given,
+        &files,
+        &mut intake,
+        &mut output,
+        &mut faults,
+    );
+    Ok(Done {
+        output: output.bytes,
+        told: faults.bytes,
+        writes: faults.turns,
+        status: ended.status,
+        advice: ended.advice,
+    })
+}
+
+/// Expects of the program on words and an input an output, what is told, and a status.
+fn expect(
+    rt: &(impl Abort + Wait),
+    alloc: Global,
+    (words, input): (&str, &str),
+    (output, told, status): (&str, &str, u8),
+) -> Result<(), Fail> {
+    let intake = SliceIntake::new(input.as_bytes());
+    let done = run(
+        rt,
+        alloc,
+        words,
+        NO_FILES,
+        intake,
+        VecOutlet::new(Vec::new(alloc)),
+    )?;
+    assert_eq!(rt;
+        done.output.as_slice(),
+        output.as_bytes(),
+        "{words}: {input}"
+    );
+    assert_eq!(rt; done.told.as_slice(), told.as_bytes(), "{words}: {input}");
+    assert_eq!(rt; done.status, status, "{words}: {input}");
+    Ok(())
+}
+
+/// A blind meter of two rates.
+const BLIND: &str = "meter --kind trtcm --mode blind --cir 8000 --cbs 1500 --pir 16000 --pbs 3000";
+
+#[test]
+fn colours_and_accounts(rt: HostRuntime) -> Result<(), Fail> {
+    let aware = "meter --kind trtcm --mode aware --cir 8000 --cbs 1000 --pir 16000 --pbs 2000";
+    for (words, input, output) in [
+        (BLIND, "", "green 0 0\nyellow 0 0\nred 0 0\n"),
+        (
+            BLIND,
+            "00 01500 g",
+            "green\ngreen 1 1500\nyellow 0 0\nred 0 0\n",
+        ),
+        (
+            aware,
+            "0 500 y\n0 100 r\n0 1000 g\n0 500 g\n0 1 g\n1000000 2 g\n0 1 g\n",
+            "yellow\nred\ngreen\nyellow\nred\nyellow\nred\ngreen 1 1000\nyellow 3 1002\nred 3 102\n",
+        ),
+    ] {
+        expect(&rt, rt.alloc(), (words, input), (output, "", 0))?;
+    }
+    Ok(())
+}
+
+/// Lines that are no arrival, the empty one first.
+const NO_ARRIVALS: &str =
+    "\n0 0 g\n0 1 g\r\n0  1 g\n\x200 1 g\n0 1 g\x20\n0 1\n0 1 g 2\n0 1 b\n0 1 green\n\
+    0 65536 g\n9223372036854775808 1 g\n000000000000000000000 1 g\n-1 1 g\n+1 1 g\nx 1 g";
+
+fn expect_no_arrival(rt: &(impl Abort + Wait), alloc: Global, line: &str) -> Result<(), Fail> {
+    let first = format!(in alloc; "{line}\n0 1 g\n")?;
+    expect(
+        rt,
+        alloc,
+        (BLIND, first.as_str()),
+        ("", "dsedge: line 1\n", 3),
+    )?;
+    let second = format!(in alloc; "0 1 g\n{line}\n")?;
+    expect(
+        rt,
+        alloc,
+        (BLIND, second.as_str()),
+        ("green\n", "dsedge: line 2\n", 3),
+    )
+}
+
+#[test]
+fn lines_that_are_no_arrival(rt: HostRuntime) -> Result<(), Fail> {
+    for line in NO_ARRIVALS.split('\n') {
+        expect_no_arrival(&rt, rt.alloc(), line)?;
+    }
+    Ok(())
+}
+
+#[test]
+fn envelopes_kept_and_left(rt: HostRuntime) -> Result<(), Fail> {
+    for (words, input, output, status) in [
+        ("envelope --rate 1 --burst 0", "", "kept\n", 0),
+        (
+            "envelope --rate 8000000000 --burst 10",
+            "0 10\n5 5\n6 2\n",
+            "over 3\n",
+            1,
+        ),
+        (
+            "envelope --rate 1 --burst 1",
+            "0 1\n7999999999 1\n",
+            "over 2\n",
+            1,
+        ),
+        (
+            "envelope --rate 1 --burst 1",
+            "0 1\n8000000000 1",
+            "kept\n",
+            0,
+        ),
+        (
+            "envelope --rate 800000000 --burst 21",
+            "9 20\n10 1\n",
+            "kept\n",
+            0,
+        ),
+        (
+            "envelope --rate 800000000 --burst 20",
+            "9 20\n10 1\n",
+            "over 2\n",
+            1,
+        ),
+        ("envelope --rate 1 --burst 1", "0 2\n0 2\n", "over 1\n", 1),
+    ] {
+        expect(&rt, rt.alloc(), (words, input), (output, "", status))?;
+    }
+    Ok(())
+}
+
+/// Lines that are no sized moment behind one of moment 5, the empty one first.
+const NO_SIZED_MOMENTS: &str = "\n4 1\n5 0\n5 1\r\n5  1\n5\n5 1 g\n5 65536\n9223372036854775808 1";
+
+#[test]
+fn lines_that_are_no_sized_moment(rt: HostRuntime) -> Result<(), Fail> {
+    for line in NO_SIZED_MOMENTS.split('\n') {
+        let input = format!(in rt.alloc(); "5 1\n{line}\n")?;
+        let words = "envelope --rate 1 --burst 10";
+        expect(
+            &rt,
+            rt.alloc(),
+            (words, input.as_str()),
+            ("", "dsedge: line 2\n", 3),
+        )?;
+    }
+    Ok(())
+}
+
+#[test]
+fn words_that_are_refused(rt: HostRuntime) -> Result<(), Fail> {
+    for words in [
+        "meter --kind trtcm --mode aware --cir 8000 --cbs 1000 --pir 7000 --pbs 2000",
+        "meter --kind trtcm --mode aware --cir 8000 --cbs 0 --pir 16000 --pbs 2000",
+        "envelope --rate 0 --burst 1",
+    ] {
+        expect(
+            &rt,
+            rt.alloc(),
+            (words, "0 1\n"),
+            ("", "dsedge: usage\n", 2),
+        )?;
+    }
+    Ok(())
+}
+
+#[test]
+fn words_on_the_first_line(rt: HostRuntime) -> Result<(), Fail> {
+    let alloc = rt.alloc();
+    let mut intake = SliceIntake::new(b"envelope --rate 1 --burst 1\n0 1\n7999999999 1\n");
+    let mut output = VecOutlet::new(Vec::new(alloc));
+    let mut faults = VecOutlet::new(Vec::new(alloc));
+    let ended = start(
+        alloc,
+        &rt,
+        Vec::new(alloc),
+        &NO_FILES,
+        &mut intake,
+        &mut output,
+        &mut faults,
+    );
+    assert_eq!(rt; ended.status, 1);
+    assert_eq!(rt; output.bytes.as_slice(), b"over 2\n".as_slice());
+    assert!(rt; faults.bytes.is_empty());
+    Ok(())
+}
+
+#[test]
+fn a_read_that_fails(rt: HostRuntime) -> Result<(), Fail> {
+    let intake = SliceIntake {
+        most: 9,
+        fails_at: Some(3),
+        ..SliceIntake::new(b"0 1500 g\n0 1500 g\n0 1500 g\n")
+    };
+    let done = run(
+        &rt,
+        rt.alloc(),
+        BLIND,
+        NO_FILES,
+        intake,
+        VecOutlet::new(Vec::new(rt.alloc())),
+    )?;
+    assert_eq!(rt; done.output.as_slice(), b"green\nyellow\n".as_slice());
+    assert_eq!(rt; done.told.as_slice(), b"dsedge: read\n".as_slice());
+    assert_eq!(rt; done.status, 4);
+    Ok(())
+}
+
+#[test]
+fn a_write_that_fails(rt: HostRuntime) -> Result<(), Fail> {
+    for (words, input, front) in [
+        (BLIND, "0 1500 g\n", "gr"),
+        ("envelope --rate 1 --burst 1", "0 1\n", "ke"),
+    ] {
+        let output = VecOutlet {
+            most: 2,
+            fails_at: Some(2),
+            ..VecOutlet::new(Vec::new(rt.alloc()))
+        };
+        let done = run(
+            &rt,
+            rt.alloc(),
+            words,
+            NO_FILES,
+            SliceIntake::new(input.as_bytes()),
+            output,
+        )?;
+        assert_eq!(rt; done.output.as_slice(), front.as_bytes());
+        assert_eq!(rt; done.told.as_slice(), b"dsedge: write\n".as_slice());
+        assert_eq!(rt; done.status, 4);
+    }
+    Ok(())
+}
+
+/// A contract that is trusted.
+pub(crate) const ALONE: [&str; 3] = [TRUSTED, A, SHARE];
+
+/// A contract that is policed by a meter of two rates.
+const AT_EDGE: [&str; 4] = [POLICED, U, TWO_RATES, UDP];
+
+/// The text of a domain of one meter with a skew, behind a port with a skew and a link with a jitter, and of one
+/// contract.
+pub(crate) fn domain_text(
+    alloc: Global,
+    (meter_skew, port_skew): (u64, u64),
+    jitter: u64,
+    contract: &[&str],
+) -> Result<String, AllocError> {
+    let mut text = format!(in alloc;
+        r#"
+meter = [
+    {{ name = "m", kind = "trtcm", cir = 24000000, cbs = 13500, pir = 24000000, pbs = 13500, skew = {meter_skew} }},
+]
+port = [{{ name = "p", skew = {port_skew} }}]
+link = [{{ from = "p", to = "m", floor = 0, jitter = {jitter} }}]
+"#
+    )?;
+    push_all(&mut text, contract)?;
+    Ok(text)
+}
+
+/// The program on words, with one file `domain.toml`.
+pub(crate) fn run_on_domain(
+    rt: &impl Wait,
+    alloc: Global,
+    words: &str,
+    domain: &str,
+) -> Result<Done, Fail> {
+    let files = [("domain.toml", domain.as_bytes())];
+    let folder = MemoryFolder { files: &files };
+    let output = VecOutlet::new(Vec::new(alloc));
+    run(rt, alloc, words, folder, SliceIntake::new(b""), output)
+}
+
+#[test]
+fn least_certificates(rt: HostRuntime) -> Result<(), Fail> {
+    let trusted: &[&str] = &ALONE;
+    let policed: &[&str] = &AT_EDGE;
+    for (skew, jitter, contract, certificate) in [
+        (0, 1_000_000, trusted, LEAST_OF_TRUSTED),
+        (0, 1, trusted, "dscert 1\na 0 3000 3000\na 1 3001 3001\n"),
+        (0, 1_000_000, policed, LEAST_OF_POLICED),
+        (
+            1_000,
+            1_000_000,
+            policed,
+            "dscert 1\nu 0 1502 3003\nu 1 2502 5003\n",
+        ),
+    ] {
+        let domain = domain_text(rt.alloc(), (500_000, skew), jitter, contract)?;
+        let done = run_on_domain(&rt, rt.alloc(), "certify domain.toml", domain.as_str())?;
+        assert_eq!(rt; done.output.as_slice(), certificate.as_bytes());
+        assert!(rt; done.told.is_empty());
+        assert_eq!(rt; done.status, 0);
+    }
+    Ok(())
+}
+
+#[test]
+fn faults_of_domains_and_files(rt: HostRuntime) -> Result<(), Fail> {
+    for (words, domain, (output, told, status)) in [
+        ("certify domain.toml", "", ("dscert 1\n", "", 0)),
+        (
+            "certify domain.toml",
+            "version = 3",
+            ("", "dsedge: domain 3 Range top 0 version\n", 3),
+        ),
+        (
+            "certify domain.toml",
+            "[",
+            ("", "dsedge: domain 1 Text text 0 -\n", 3),
+        ),
+        (
+            "certify other.toml",
+            "[",
+            ("", "dsedge: file other.toml\n", 4),
+        ),
+        ("certify other.toml [", "[", ("", "dsedge: usage\n", 2)),
+    ] {
+        let done = run_on_domain(&rt, rt.alloc(), words, domain)?;
+        assert_eq!(rt; done.output.as_slice(), output.as_bytes(), "{words}");
+        assert_eq!(rt; done.told.as_slice(), told.as_bytes(), "{words}");
+        assert_eq!(rt; done.status, status, "{words}");
+    }
+    Ok(())
+}
+
+/// The text of a domain of a meter `m` of two rates, and of three contracts of 8 Mbit/s and 3,000 bytes.
+fn three_contracts(alloc: Global, rate: u64, burst: u64) -> Result<String, AllocError> {
+    let mut text = format!(in alloc;
+        r#"
+meter = [{{ name = "m", kind = "trtcm", cir = {rate}, cbs = {burst}, pir = 24000000, pbs = 13500, skew = 500000 }}]
+"#
+    )?;
+    let contracts = [TRUSTED, A, SHARE, TRUSTED, B, SHARE, TRUSTED, C, SHARE];
+    push_all(&mut text, &[PORT, LINK])?;
+    push_all(&mut text, &contracts)?;
+    Ok(text)
+}
+
+/// The least certificate of three such contracts, but for its last line.
+const ALL_BUT_THE_LAST: &str =
+    "dscert 1\na 0 3000 3000\na 1 4000 4000\nb 0 3000 3000\nb 1 4000 4000\nc 0 3000 3000\n";
+
+/// The least certificate of three such contracts.
+const LEAST_OF_THREE: &str =
+    "dscert 1\na 0 3000 3000\na 1 4000 4000\nb 0 3000 3000\nb 1 4000 4000\nc 0 3000 3000\nc 1 4000 4000";
+
+/// Expects of `check` on a domain and a certificate an output, what is told, and a status.
+pub(crate) fn expect_of_check(
+    rt: &(impl Abort + Wait),
+    alloc: Global,
+    (domain, certificate): (&str, &str),
+    (output, told, status): (&str, &str, u8),
+) -> Result<(), Fail> {
+    let files = [
+        ("domain.toml", domain.as_bytes()),
+        ("domain.cert", certificate.as_bytes()),
+    ];
+    let folder = MemoryFolder { files: &files };
+    let outlet = VecOutlet::new(Vec::new(alloc));
+    let words = "check domain.toml domain.cert";
+    let done = run(rt, alloc, words, folder, SliceIntake::new(b""), outlet)?;
+    assert_eq!(rt; done.output.as_slice(), output.as_bytes());
+    assert_eq!(rt; done.told.as_slice(), told.as_bytes());
+    assert_eq!(rt; done.status, status);
+    Ok(())
+}
+
+#[test]
+fn three_contracts_fill_a_meter(rt: HostRuntime) -> Result<(), Fail> {
+    let alloc = rt.alloc();
+    let full = three_contracts(alloc, 24_000_000, 13_500)?;
+    let domain = full.as_str();
+    let accepted = ("accepted\n", "", 0);
+    expect_of_check(&rt, alloc, (domain, LEAST_OF_THREE), accepted)?;
+    let short = ("", "dsedge: certificate 2 Shape\n", 3);
+    expect_of_check(&rt, alloc, (domain, ALL_BUT_THE_LAST), short)?;
+    let tight = three_contracts(alloc, 24_000_000, 13_499)?;
+    let burst = ("refused 5 GreenBurst m 13500 13499\n", "", 1);
+    expect_of_check(&rt, alloc, (tight.as_str(), LEAST_OF_THREE), burst)?;
+    let slow = three_contracts(alloc, 23_999_999, 13_500)?;
+    let rate = ("refused 4 GreenRate m 24000000 23999999\n", "", 1);
+    expect_of_check(&rt, alloc, (slow.as_str(), LEAST_OF_THREE), rate)
+}
+
+#[test]
+fn bounds_that_are_too_low(rt: HostRuntime) -> Result<(), Fail> {
+    let alloc = rt.alloc();
+    let alone = domain_text(alloc, (500_000, 0), 1_000_000, &ALONE)?;
+    for (certificate, output) in [
+        (
+            "dscert 1\na 0 3000 3000\na 1 3999 4000\n",
+            "refused 3 HopBound a 1 green 4000 3999\n",
+        ),
+        (
+            "dscert 1\na 0 3000 2999\na 1 4000 4000\n",
+            "refused 2 FirstBound a all 3000 2999\n",
+        ),
+    ] {
+        expect_of_check(&rt, alloc, (alone.as_str(), certificate), (output, "", 1))?;
+    }
+    Ok(())
+}
+
+/// A meter of a single rate of 8,000 bit/s, with 500 bytes and 1,000 more, and a link to it without jitter.
+const SINGLE_RATE: &str = r#"
+meter = [{ name = "m", kind = "srtcm", cir = 8000, cbs = 500, ebs = 1000, skew = 0 }]
+port = [{ name = "p", skew = 0 }]
+link = [{ from = "p", to = "m", floor = 0, jitter = 0 }]
+"#;
+
+/// A domain of that meter, and a contract that may have a peak.
+fn single_rate(alloc: Global, peak: &str) -> Result<String, AllocError> {
+    let envelope = "cir = 8000\ncbs = 500\n";
+    joined(alloc, &[SINGLE_RATE, TRUSTED, A, envelope, peak])
+}
+
+#[test]
+fn a_peak_is_held_against_the_excess_bucket(rt: HostRuntime) -> Result<(), Fail> {
+    let alloc = rt.alloc();
+    let peaked = single_rate(alloc, "pir = 8000\npbs = 1001")?;
+    let certificate = "dscert 1\na 0 500 1001\na 1 500 1001\n";
+    let refused = ("refused 7 AllBurst m 1001 1000\n", "", 1);
+    expect_of_check(&rt, alloc, (peaked.as_str(), certificate), refused)?;
+    let plain = single_rate(alloc, "")?;
+    let least = "dscert 1\na 0 500 500\na 1 500 500\n";
+    expect_of_check(&rt, alloc, (plain.as_str(), least), ("accepted\n", "", 0))
+}
+
+#[test]
+fn faults_of_tables(rt: HostRuntime) -> Result<(), Fail> {
+    for (domain, certificate, answer) in [
+        ("", "dscert 1\n", ("accepted\n", "", 0)),
+        ("", "dscert 01\n", ("", "dsedge: certificate 1 Text\n", 3)),
+        (
+            "version = 3",
+            "dscert 01\n",
+            ("", "dsedge: domain 3 Range top 0 version\n", 3),
+        ),
+    ] {
+        expect_of_check(&rt, rt.alloc(), (domain, certificate), answer)?;
+    }
+    let done = run_on_domain(&rt, rt.alloc(), "check domain.toml domain.cert", "[")?;
+    let told = b"dsedge: file domain.cert\n";
+    assert_eq!(rt; done.told.as_slice(), told.as_slice());
+    assert_eq!(rt; done.status, 4);
+    Ok(())
+}
+
+/// The program on words, with a domain and a certificate in files `domain.toml` and `domain.cert`, and an input.
+pub(crate) fn run_on_table(
+    rt: &impl Wait,
+    alloc: Global,
+    words: &str,
+    domain: &str,
+    certificate: &[u8],
+    input: &[u8],
+) -> Result<Done, Fail> {
+    let files = [
+        ("domain.toml", domain.as_bytes()),
+        ("domain.cert", certificate),
+    ];
+    let folder = MemoryFolder { files: &files };
+    let intake = SliceIntake::new(input);
+    let output = VecOutlet::new(Vec::new(alloc));
+    run(rt, alloc, words, folder, intake, output)
+}
+
+/// `audit` on steps, over a domain with a certificate.
+fn run_audit(
+    rt: &impl Wait,
+    alloc: Global,
+    domain: &str,
+    certificate: &[u8],
+    steps: &str,
+) -> Result<Done, Fail> {
+    let words = "audit domain.toml domain.cert";
+    run_on_table(rt, alloc, words, domain, certificate, steps.as_bytes())
+}
+
+/// Expects of `audit` on steps, over a domain with its least certificate, how the output begins, what is told, and a
+/// status.
+pub(crate) fn expect_of_audit(
+    rt: &(impl Abort + Wait),
+    alloc: Global,
+    (domain, steps): (&str, &str),
+    (beginning, told, status): (&str, &str, u8),
+) -> Result<(), Fail> {
+    let least = run_on_domain(rt, alloc, "certify domain.toml", domain)?;
+    let done = run_audit(rt, alloc, domain, least.output.as_slice(), steps)?;
+    assert!(rt; done.output.as_slice().starts_with(beginning.as_bytes()));
+    assert_eq!(rt; done.told.as_slice(), told.as_bytes());
+    assert_eq!(rt; done.status, status);
+    Ok(())
+}
+
+/// A domain of a trusted contract, with a meter that keeps time within 100 ns.
+fn close_clock(alloc: Global) -> Result<String, AllocError> {
+    domain_text(alloc, (100, 0), 0, &ALONE)
+}
+
+#[test]
+fn a_visit_late_by_the_skew_is_kept(rt: HostRuntime) -> Result<(), Fail> {
+    let domain = close_clock(rt.alloc())?;
+    let steps = "send a 1 100 10 1000\nvisit 1 1000\nsend a 2 100 10 900\nvisit 2 900\n";
+    let kept = ("kept\nm green 2 200 yellow 0 0 red 0 0\n", "", 0);
+    expect_of_audit(&rt, rt.alloc(), (domain.as_str(), steps), kept)
+}
+
+#[test]
+fn a_visit_later_than_the_skew_is_late(rt: HostRuntime) -> Result<(), Fail> {
+    let domain = close_clock(rt.alloc())?;
+    let steps = "send a 1 100 10 1000\nvisit 1 1000\nsend a 2 100 10 899\nvisit 2 899\n";
+    let late = ("late m 1 101\n", "", 1);
+    expect_of_audit(&rt, rt.alloc(), (domain.as_str(), steps), late)
+}
+
+#[test]
+fn a_link_that_takes_too_long(rt: HostRuntime) -> Result<(), Fail> {
+    let domain = close_clock(rt.alloc())?;
+    let steps = "send a 1 100 10 1000\nvisit 1 1001\n";
+    let over = ("delay-over 1 1\n", "", 1);
+    expect_of_audit(&rt, rt.alloc(), (domain.as_str(), steps), over)
+}
+
+#[test]
+fn a_source_over_its_contract(rt: HostRuntime) -> Result<(), Fail> {
+    let domain = close_clock(rt.alloc())?;
+    let steps = "send a 1 1500 10 0\nsend a 2 1500 10 0\nsend a 3 1 10 0\n";
+    let over = ("source-over a green 3\n", "", 1);
+    expect_of_audit(&rt, rt.alloc(), (domain.as_str(), steps), over)
+}
+
+#[test]
+fn a_packet_after_the_end_of_its_contract(rt: HostRuntime) -> Result<(), Fail> {
+    let ended = [TRUSTED, A, SHARE, "until = 5\n"];
+    let domain = domain_text(rt.alloc(), (500_000, 0), 1_000_000, &ended)?;
+    let steps = "send a 1 100 10 5\n";
+    let outside = ("outside 1\n", "", 1);
+    expect_of_audit(&rt, rt.alloc(), (domain.as_str(), steps), outside)
+}
+
+#[test]
+fn packets_policed_at_the_edge(rt: HostRuntime) -> Result<(), Fail> {
+    let domain = domain_text(rt.alloc(), (500_000, 0), 1_000_000, &AT_EDGE)?;
+    let steps = "send u 1 1500 0 0\nvisit 1 0\nvisit 1 0\n\
+        send u 2 1500 0 0\nvisit 2 0\nvisit 2 500\nsend u 3 1 0 0\nvisit 3 0\n";
+    let accounts =
+        "kept\nm green 1 1500 yellow 1 1500 red 0 0\nedge:u green 1 1500 yellow 1 1500 red 1 1\n";
+    expect_of_audit(&rt, rt.alloc(), (domain.as_str(), steps), (accounts, "", 0))
+}
+
+#[test]
+fn a_visit_of_no_packet(rt: HostRuntime) -> Result<(), Fail> {
+    let domain = domain_text(rt.alloc(), (500_000, 0), 1_000_000, &ALONE)?;
+    let done = run_audit(
+        &rt,
+        rt.alloc(),
+        domain.as_str(),
+        LEAST_OF_TRUSTED.as_bytes(),
+        "visit 7 0\n",
+    )?;
+    assert!(rt; done.output.is_empty());
+    assert_eq!(rt; done.told.as_slice(), b"dsedge: line 1\n".as_slice());
+    assert_eq!(rt; done.status, 3);
+    Ok(())
+}
+
+#[test]
+fn an_audit_of_a_refused_table(rt: HostRuntime) -> Result<(), Fail> {
+    let domain = domain_text(rt.alloc(), (500_000, 0), 1_000_000, &ALONE)?;
+    let low = b"dscert 1\na 0 3000 3000\na 1 3999 4000\n";
+    let done = run_audit(&rt, rt.alloc(), domain.as_str(), low, "visit 7 0\n")?;
+    let told = b"refused 3 HopBound a 1 green 4000 3999\n";
+    assert!(rt; done.output.is_empty());
+    assert_eq!(rt; done.told.as_slice(), told.as_slice());
+    assert_eq!(rt; done.status, 1);
+    Ok(())
+}
