@@ -62,7 +62,7 @@ awk -F '\t' -v ticks="$(getconf CLK_TCK)" '
         # a copy that a prover makes of itself counts with it
         for (one in taken) if (!(parent[one] in isprover)) {
             kinds[kind[one]] += taken[one]
-            crates[crate[one]] += taken[one]
+            crates[crate[one] ", " kind[one]] += taken[one]
         }
         for (one in kinds) printf "%6.1f  %s\n", kinds[one] / ticks / 60, one
         for (one in crates) printf "%6.1f  %s\n", crates[one] / ticks / 60, one | "sort -rn | head -n 10"

@@ -120,7 +120,8 @@ fn judged(
     accepted: &Accepted,
     (journals, trails): Parts,
 ) -> Verdict {
-    assert!(rt; (journals.len(), trails.len()) == (2, 2000));
+    assert!(rt; journals.len() == 2);
+    assert!(rt; trails.len() == 2000);
     assert!(rt; journals[0].len() == 2000);
     assert!(rt; journals[1].len() == 2000);
     match Run::assemble(alloc, Ground::Table(accepted), journals, trails) {
