@@ -3,7 +3,6 @@ use meter_fabric_base::Hop;
 use moment_core::{Gap, Moment};
 use std::alloc::Global;
 use std::process::Abort;
-use worked_texts::expect_same;
 
 /// The visit of a packet to the first meter of its path, at a moment in nanoseconds.
 fn visit(rt: &impl Abort, (packet, nanoseconds): (u64, u64)) -> Visit {
@@ -35,7 +34,7 @@ fn expect_lengths(
 ) {
     let skew = Gap::new(skew).expect(rt, "a gap");
     let lengths = rounds(alloc, visits, skew).expect(rt, "memory");
-    expect_same(rt, name, lengths.as_slice(), wanted);
+    assert_eq!(rt; lengths.as_slice(), wanted, "{name}");
     drop(lengths);
 }
 
