@@ -16,10 +16,11 @@ pub fn every_run_keeps_colours()
     ensures { EveryRunKeepsColours }
 {}
 
-/// So it is where contracts come and go, and a share is sold to one contract after another: where what is reserved at
-/// each moment is acceptable, no contract sends before its share is reserved, and each share is held behind its
-/// contract's end for its hold, every packet leaves every meter with the colour that it was sent with, in every run
-/// that meets the same premises.
+/// So it is where contracts come and go, and a share is sold to one contract after another: where no two contracts have
+/// the same flow, what is reserved at each moment is acceptable, no contract sends before its share is reserved, each
+/// share is held behind its contract's end for its hold, and what was retired had a rate of at least 1 bit per second in
+/// each column, every packet leaves every meter with the colour that it was sent with, in every run that meets the same
+/// premises.
 ///
 /// The hold is as long as the last packet may take to a meter, and then as long as the rate takes for the burst there.
 /// So what a retired contract brought into a window of time its rate alone gives, in the time for which its share was
