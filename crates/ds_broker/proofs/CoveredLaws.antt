@@ -76,7 +76,7 @@ table-same d rs contracts rows is_contracts is_rows =
 table-held : (d : Domain) (held : List Holding) → table_by d (map (held_as d) held) ≡ table_in d held
 table-held d held = table-same d (map (held_as d) held) (contracts_in held) (least d (contracts_in held)) (contracts-held d held) (bounds-held d held)
 
-table-by_now : (d : Domain) (s : Standing) (p : Past) (moment : ℕ) → IsPast d s p → p.newest ≤ moment → table_by d (reserved moment p.granted) ≡ table_in d s.held
+pub table-by_now : (d : Domain) (s : Standing) (p : Past) (moment : ℕ) → IsPast d s p → p.newest ≤ moment → table_by d (reserved moment p.granted) ≡ table_in d s.held
 table-by_now d s p moment past late =
     ap (table_by d) (filter-same (λ r. is_reserved r moment) is_unretired p.granted (all-by_now moment p.newest p.granted late past.told) ∙ past.unretired)
     ∙ table-held d s.held

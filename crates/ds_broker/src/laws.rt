@@ -1,11 +1,11 @@
 //! The laws of a broker's book, each proved as the contract of a function that does nothing.
-ghost use Rattle.std.specs.Prelude.{◌≡◌, [], List, Some};
+ghost use Rattle.std.specs.Prelude.{◌≡◌, ◌≤◌, ℕ, [], List, Some};
 ghost use Rattle.ds_certificate.specs.Columns as columns;
 ghost use Rattle.ds_checker.specs.Acceptance.{IsAcceptable};
 ghost use Rattle.ds_checker.specs.declared.refusal.Refusal as refusals;
 ghost use Rattle.ds_domain_base.specs.declared.contract.Contract as contracts;
-ghost use Rattle.ds_timeline.specs.Timelines.{IsCovered};
-ghost use Rattle.ds_broker.specs.Books.{Book, table_of, with_command};
+ghost use Rattle.ds_timeline.specs.Timelines.{IsCovered, table_at};
+ghost use Rattle.ds_broker.specs.Books.{Book, newest_of, table_of, with_command};
 ghost use Rattle.ds_broker.specs.Refusals.{reserve_refusal};
 ghost use Rattle.ds_broker.specs.Requests.{AreUnrefused, IsFoldOfAccepted, LeadsTo};
 ghost use Rattle.ds_broker.specs.Timelines.{timeline_of};
@@ -32,4 +32,9 @@ pub fn a_book_is_the_fold_of_what_it_accepted()
 pub fn what_was_granted_is_covered()
     ensures { (b : Book) (accepted : List commands.Command) → b.history ≡ [] → AreUnrefused b accepted →
         IsCovered (timeline_of (record b { history = accepted })) }
+{}
+
+/// What a book holds is what its timeline has reserved from its newest moment on: the two folds of its history agree.
+pub fn what_is_reserved_is_what_is_held()
+    ensures { (b : Book) (moment : ℕ) → newest_of b ≤ moment → table_at (timeline_of b) moment ≡ table_of b }
 {}
