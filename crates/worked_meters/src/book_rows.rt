@@ -78,17 +78,12 @@ fn expect_accounts(rt: &impl Abort, book: &MeterBook, packets: [u64; 3], bytes: 
     assert!(rt; accounts.bytes == bytes);
 }
 
-/// The number of the packet of a row.
-fn packet(journal: &Journal, place: usize) -> Option<u64> {
-    Some(journal.row(place)?.packet)
-}
-
 /// Expects of the journal of site 7 five rows, the last of packet 4.
 fn expect_journal(rt: &impl Abort, journal: &Journal) {
     assert!(rt; journal.site() == 7);
     assert!(rt; journal.len() == 5);
-    assert!(rt; packet(journal, 4) == Some(4));
-    assert!(rt; packet(journal, 5).is_none());
+    assert!(rt; journal.row(4).map(|row| row.packet) == Some(4));
+    assert!(rt; journal.row(5).is_none());
 }
 
 /// Expects of a book what these packets leave behind.
@@ -107,19 +102,14 @@ fn committed_burst_of_one_packet_and_peak_burst_of_two(rt: HostRuntime) {
     expect_bursts(&rt, rt.alloc());
 }
 
-/// Expects of a book that it refuses a packet, with the number of its fault.
-fn expect_refused(rt: &impl Abort, book: &mut MeterBook, packet: Arrival, wanted: u8) {
-    let fault = book.note(packet).err().expect(rt, "a refusal");
-    assert_eq!(rt; fault.code(), wanted);
-}
-
 /// Expects that a book of two packets refuses a third and stays as it was.
 fn expect_full(rt: &impl Abort, alloc: Global) {
     let mut book = book(rt, alloc, (SLOW, Mode::Aware), 2);
     noted(rt, &mut book, (0, 10, 100), Colour::Yellow);
     noted(rt, &mut book, (1, 10, 100), Colour::Yellow);
     let third = arrival(rt, 2, 10, 100, Colour::Green);
-    expect_refused(rt, &mut book, third, 1);
+    let refused = book.note(third).err();
+    assert!(rt; refused.map(|fault| fault.code()) == Some(1));
     assert_eq!(rt; book.len(), 2);
     expect_accounts(rt, &book, [0, 2, 0], [0, 200, 0]);
     drop(book);

@@ -139,30 +139,16 @@ fn chapters(rt: &impl Abort, alloc: Global) -> (Chapter, Chapter) {
     (first, book.into_chapter())
 }
 
-/// Expects a gap of two chapters in the wrong order.
-fn expect_gap_at_first(rt: &impl Abort, alloc: Global) {
+/// Expects a gap of two chapters in the wrong order, of two of which the second is of another site, of two first ones,
+/// and of none.
+fn expect_gaps(rt: &impl Abort, alloc: Global) {
     let (first, last) = chapters(rt, alloc);
     expect_gap(rt, alloc, (last, first), 0);
-}
-
-/// Expects a gap of two chapters of which the second is of another site.
-fn expect_gap_at_site(rt: &impl Abort, alloc: Global) {
     let (first, last) = chapters(rt, alloc);
     expect_gap(rt, alloc, (first, last.at(1)), 1);
-}
-
-/// Expects a gap of two first chapters.
-fn expect_gap_behind_first(rt: &impl Abort, alloc: Global) {
     let (first, _) = chapters(rt, alloc);
     let (other, _) = chapters(rt, alloc);
     expect_gap(rt, alloc, (first, other), 1);
-}
-
-/// Expects these gaps, and that of no chapters.
-fn expect_gaps(rt: &impl Abort, alloc: Global) {
-    expect_gap_at_first(rt, alloc);
-    expect_gap_at_site(rt, alloc);
-    expect_gap_behind_first(rt, alloc);
     let none = gap_in(alloc, Vec::new(alloc));
     assert_eq!(rt; none, Some((0, JoinFault::Gap(0))));
     assert_eq!(rt; JoinFault::Gap(1).code(), 1);

@@ -94,16 +94,11 @@ fn parameters_that_are_not_those_of_a_meter(rt: HostRuntime) {
     }
 }
 
-/// The newest moment of a meter that has metered a byte at a moment.
-fn newest_behind<M: Meter>(rt: &impl Abort, meter: &mut M, nanoseconds: u64) -> u64 {
-    let size = PacketSize::new(1).expect(rt, "a size");
-    meter.admit(moment(rt, nanoseconds), size, Colour::Green);
-    meter.newest().get()
-}
-
 /// Expects the newest moment of a meter that has metered a byte at a moment.
 fn expect_behind<M: Meter>(rt: &impl Abort, meter: &mut M, nanoseconds: u64, newest: u64) {
-    assert!(rt; newest_behind(rt, meter, nanoseconds) == newest);
+    let size = PacketSize::new(1).expect(rt, "a size");
+    meter.admit(moment(rt, nanoseconds), size, Colour::Green);
+    assert!(rt; meter.newest().get() == newest);
 }
 
 /// Expects of a meter with its origin at 5 that its newest moment never goes back.
