@@ -18,16 +18,16 @@ use Rattle.ds_conductor_base.specs.Passing.{colours_of}
 use Rattle.ds_conductor_base.specs.Streams.{AreSentFrom, begun, colours_left}
 use Rattle.ds_conductor_base.specs.declared.sent.Sent.{Sent}
 use Rattle.ds_checker.specs.Acceptance.{IsAcceptable, Table}
-use Rattle.meter_fabric_base.specs.Grounds.{ground_of}
-use Rattle.run_audit.specs.Verdicts.{verdict_of}
 use Rattle.ds_conductor_base.specs.Ways.{AreInReach}
 use Rattle.ds_visits.specs.Behind.{AreSendable}
 use Rattle.ds_visits.specs.Making.{run_behind}
 use Rattle.ds_visits.proofs.JudgingLaws.{made_run_judged}
+use Rattle.ds_visits.proofs.MarkLaws.{kept_marks}
+use Rattle.ds_visits.proofs.RunLaws.{the_run_is_behind}
 use Rattle.ds_visits.specs.Judging.{Judging, unjudged, verdict_with}
 use Rattle.pcap_capture.specs.declared.heading.Heading.{Heading}
 use Rattle.ds_conductor.proofs.SendableLaws.{frames_can_be_sent}
-use Rattle.ds_conductor.specs.Markings.{see}
+use Rattle.ds_conductor.specs.Markings.{IsVerdictOn, see}
 use Rattle.ds_conductor.specs.Conditionings.{IsConditioned, IsJudging, IsSeeing, IsUndecided, MayCome, held_from, newest_after, see_at}
 use Rattle.ds_conductor.specs.Passings.{marking_at}
 use Rattle.ds_conductor.specs.Reports.{bytes_as, is_skipped, is_unmatched, is_unverified, packets_as, seen_as}
@@ -467,13 +467,20 @@ seeing_by p t name heading table head sees = (
   λ bytes. sees bytes ∙ ap (λ u. see u name heading.link bytes) (sym table) ∙ ap (λ (h : Heading). see p.accepted.now name h.link bytes) (sym head),
 )
 
--- What a judge keeps tells the verdict on the run behind what frames send.
+-- What a judge keeps tells the verdict on a run behind what frames send.
 pub judged_by : (p : Port) (frames : List FrameValue) (judge : Judging) → IsJudging p frames judge → length frames ≤ 2 ^ 44
-    → verdict_with judge [] ≡ verdict_of (ground_of p.accepted.now) (run_behind p.accepted.now (sent_of (see_at p) frames))
+    → IsVerdictOn p.accepted.now (sent_of (see_at p) frames) (verdict_with judge [])
 judged_by p frames judge is few =
     let t = p.accepted.now in
     let sent = sent_of (see_at p) frames in
     let look : see_at p ≡ see t is.seeing.0 p.heading.link = fun_ext is.seeing.1 in
     let sendable : AreSendable t sent =
     subst (λ (view : List ℕ → Sight). AreSendable t (sent_of view frames)) (sym look) (frames_can_be_sent t is.seeing.0 p.heading.link frames is.early few) in
-    sym (is.tells []) ∙ ap (verdict_with (unjudged t)) (append-nil sent) ∙ made_run_judged t sent is.acceptable is.reach sendable
+    let behind = the_run_is_behind t sent is.acceptable sendable in
+    let told = sym (is.tells []) ∙ ap (verdict_with (unjudged t)) (append-nil sent) ∙ made_run_judged t sent is.acceptable is.reach sendable in
+    record {
+      run = run_behind t sent;
+      behind = behind;
+      told = told;
+      kept = λ kept. kept_marks t sent (run_behind t sent) is.acceptable behind (sym told ∙ kept);
+    }

@@ -40,7 +40,9 @@ const TURNS: u64 = 1 << 32;
 /// is decided, before more is read: the heading and each record stand as they came but for the marks. What is held are
 /// the frames whose last visit is still to come, and one piece.
 ///
-/// At its end the report has the verdict on the run behind the capture: that of its audit.
+/// At its end the report has the verdict of the audit on the run behind the capture: the visits of what was sent make
+/// it, and each packet left its last meter there with the colour that its frame is marked with. Where that is `Kept`,
+/// each packet is marked with the colour that it was sent with: one of a trusted contract with that of its code point.
 ///
 /// Refused, with the report of what was read: `UnknownPort` exactly where the domain has no port of that name (nothing
 /// is read); `NoMemory` (a front is written, and the report is that of the frames that memory was there for); `Capture`
@@ -221,7 +223,7 @@ fn finish<O: Outlet>(
     ensures marked { O.tells outlet.old → (frames : List FrameValue) (text before : List ℕ)
         → IsConditioned port.now false frames text conditioner.old
         → IsWrittenTo out.old.items before (port.now.heading.bytes ++ text) (O.held outlet.old)
-        → IsFinished (marking_at port.now frames) fault before (O.held outlet.new) result }
+        → IsFinished port.now.accepted.now (marking_at port.now frames) fault before (O.held outlet.new) result }
     ensures writes { O.failed outlet.new
         ≡ (if is_unwritten result then next_count (O.failed outlet.old) else O.failed outlet.old) }
     ensures known { IfErr result (λ refused. ¬ (refused.1 ≡ MarkFault.UnknownPort)) }
