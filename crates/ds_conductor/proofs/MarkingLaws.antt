@@ -240,6 +240,7 @@ starved_marked t port red bytes read more before after report front same told = 
   front = front;
   parted = refl;
   written = subst (λ now. IsFrontOf before (marking_in t port red read).text now) (sym same) (IsFrontOf-none before (marking_in t port red read).text);
+  covered = let text = (marking_behind t port red (heading_of read) []).text in subst (λ now. IsFrontOf before text now) (sym same) (IsFrontOf-none before text);
   told = told ∙ nothing_behind t port red (heading_of read);
 }
 
@@ -295,9 +296,9 @@ at_port p t port red heading frames table rule head sees =
 stopped_as : (t : Table) (port : List ℕ) (red : RedRule) (bytes read more before after : List ℕ) (heading : Heading) (frames others : List FrameValue) (fault : MarkFault)
     → bytes ≡ read ++ more → heading_of read ≡ Some (Ok heading) → (capture read).frames ≡ frames ++ others → (fault ≡ marks.Capture pcaps.WriteFault → others ≡ [])
     → (fault ≡ marks.Capture pcaps.WriteFault) ⊎ (fault ≡ marks.NoMemory)
-    → IsFrontOf before (marking_of t port red heading (frames ++ others)).text after
+    → IsFrontOf before (marking_of t port red heading (frames ++ others)).text after → IsFrontOf before (marking_of t port red heading frames).text after
     → IsMarkedAs t port red bytes more before after (Err ((marking_of t port red heading frames).report, fault))
-stopped_as t port red bytes read more before after heading frames others fault front headed parted all (inl unwritten) written =
+stopped_as t port red bytes read more before after heading frames others fault front headed parted all (inl unwritten) written covered =
     let report = (marking_of t port red heading frames).report in
     let is : marking_of t port red heading (frames ++ others) ≡ marking_in t port red read = marked_is t port red read (Some heading) (frames ++ others) headed (sym parted) in
     let same : frames ++ others ≡ frames = ap (λ fs. frames ++ fs) (all unwritten) ∙ append-nil frames in
@@ -307,7 +308,7 @@ stopped_as t port red bytes read more before after heading frames others fault f
       written = subst (λ (m : Marking). IsFrontOf before m.text after) is written;
       told = ap (λ fs. (marking_of t port red heading fs).report) (sym same) ∙ ap (λ (m : Marking). m.report) is;
     })
-stopped_as t port red bytes read more before after heading frames others fault front headed parted all (inr memory) written =
+stopped_as t port red bytes read more before after heading frames others fault front headed parted all (inr memory) written covered =
     let report = (marking_of t port red heading frames).report in
     let is : marking_of t port red heading (frames ++ others) ≡ marking_in t port red read = marked_is t port red read (Some heading) (frames ++ others) headed (sym parted) in
     subst (λ f. IsMarkedAs t port red bytes more before after (Err (report, f))) (sym memory) (record {
@@ -317,6 +318,7 @@ stopped_as t port red bytes read more before after heading frames others fault f
       front = front;
       parted = parted;
       written = subst (λ (m : Marking). IsFrontOf before m.text after) is written;
+      covered = subst (λ found. IsFrontOf before (marking_behind t port red found frames).text after) (sym headed) covered;
       told = ap (λ found. (marking_behind t port red found frames).report) (sym headed);
     })
 
@@ -330,7 +332,9 @@ broken_marked p t port red heading bytes more before after c fault report table 
     let all = at_port p t port red heading (off.frames ++ off.others) table rule head sees in
     subst (λ r. IsMarkedAs t port red bytes more before after (Err (r, fault))) (sym (told ∙ ap (λ (m : Marking). m.report) is))
     (stopped_as t port red bytes off.read more before after heading off.frames off.others fault off.front (off.headed ∙ ap (λ (h : Heading). Some (Ok h)) head) off.parted off.all why
-    (subst (λ (m : Marking). IsFrontOf before m.text after) all (front p off.frames off.others off.text before after c off.conditioned off.written)))
+    (subst (λ (m : Marking). IsFrontOf before m.text after) all (front p off.frames off.others off.text before after c off.conditioned off.written))
+    (subst (λ (m : Marking). IsFrontOf before m.text after) is
+    (subst (λ fs. IsFrontOf before (marking_at p fs).text after) (append-nil off.frames) (front p off.frames [] off.text before after c off.conditioned off.written))))
 
 -- a marking that was finished
 finished_by : (p : Port) (t : Table) (port : List ℕ) (red : RedRule) (heading : Heading) (bytes more before after : List ℕ) (frames : List FrameValue) (fault : Option PcapFault)
@@ -346,7 +350,8 @@ finished_by p t port red heading bytes more before after frames fault m answer i
     subst (IsMarkedAs t port red bytes more before after) (sym told)
     (subst (λ (n : Marking). IsMarkedAs t port red bytes more before after (Err (n.report, unwritten))) (sym is)
     (stopped_as t port red bytes at.read more before after heading frames [] unwritten at.front at.told (sym at.shown ∙ sym (append-nil frames)) (λ e. refl) why
-    (subst (λ fs. IsFrontOf before (marking_of t port red heading fs).text after) (sym (append-nil frames)) (subst (λ (n : Marking). IsFrontOf before n.text after) is written))))
+    (subst (λ fs. IsFrontOf before (marking_of t port red heading fs).text after) (sym (append-nil frames)) (subst (λ (n : Marking). IsFrontOf before n.text after) is written))
+    (subst (λ (n : Marking). IsFrontOf before n.text after) is written)))
 
 pub finished_marked : (p : Port) (t : Table) (port : List ℕ) (red : RedRule) (heading : Heading) (bytes more before after : List ℕ) (frames : List FrameValue) (fault : Option PcapFault)
     (answer : Result Report (Report × MarkFault)) → p.accepted.now ≡ t → p.red ≡ red → p.heading ≡ heading → ((look : List ℕ) → see_at p look ≡ see t port heading.link look)

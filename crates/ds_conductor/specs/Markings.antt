@@ -94,7 +94,7 @@ pub record IsCutOff (marked : List ℕ → Marking) (bytes more before after : L
   pub told : report ≡ (marked read).report
 
 -- Memory ran out: a front of the marking of what was read is written, and told is the report of those of its frames that
--- memory was there for.
+-- memory was there for. What is written is a front of the marking of these alone, so the report covers all of it.
 pub record IsStarved (t : Table) (port : List ℕ) (red : RedRule) (bytes more before after : List ℕ) (report : Report)
     : Type 0 where
   pub read : List ℕ
@@ -103,6 +103,7 @@ pub record IsStarved (t : Table) (port : List ℕ) (red : RedRule) (bytes more b
   pub front : bytes ≡ read ++ more
   pub parted : (capture read).frames ≡ frames ++ others
   pub written : IsFrontOf before (marking_in t port red read).text after
+  pub covered : IsFrontOf before (marking_behind t port red (heading_of read) frames).text after
   pub told : report ≡ (marking_behind t port red (heading_of read) frames).report
 
 -- The marking of the bytes that a device gave before it failed was written whole, and no fault stands in them.
