@@ -7,7 +7,8 @@ use Rattle.pcap_capture.proofs.CountLaws.{count_after-more}
 use Rattle.pcap_capture.proofs.OwnLaws.{own_unread}
 use Rattle.pcap_capture.specs.Takings.{is_own}
 use Rattle.ds_conductor.specs.Markings.{is_read}
-use Rattle.ds_conductor.specs.Readings.{IsAsked, IsAskedTo}
+use Rattle.std.specs.Prelude.{IfErr}
+use Rattle.ds_conductor.specs.Readings.{IsAsked, IsAskedOn, IsAskedTo}
 
 -- one call more, which the device did not fail
 pub asked_more : (left failed before now start asked after : ℕ) → IsAsked left failed before start asked → 0 < left → now ≡ before → after ≡ next_count asked
@@ -50,3 +51,13 @@ asked_once P Q taken (inr (same, inr e)) = absurd cc
 -- a fault of a capture is none of the device that takes bytes
 pub own_written : (fault : PcapFault) → is_own fault ≡ true → ¬ (fault ≡ WriteFault)
 own_written fault own is = let no : false ≡ true = sym (ap is_own is) ∙ own in cc
+
+-- a reading that ended, by itself or by a fault of the capture
+pub asked_ended : {T : Type 0} (result : Result T PcapFault) (left failed now start asked : ℕ) → IfErr result (λ fault. is_own fault ≡ true)
+    → IsAsked left failed now start asked → IsAskedOn result left failed now start asked
+asked_ended (Ok value) left failed now start asked own was = was
+asked_ended (Err fault) left failed now start asked own was = asked_own fault failed now start asked own was.unfailed
+
+pub own_unwritten : {T : Type 0} (result : Result T PcapFault) → IfErr result (λ fault. is_own fault ≡ true) → ¬ (result ≡ Err WriteFault)
+own_unwritten (Ok value) own is = cc
+own_unwritten (Err fault) own is = own_written fault own cc

@@ -10,6 +10,8 @@ use Rattle.moment_core.specs.declared.colour.Colour.{Colour}
 use Rattle.pcap_capture.proofs.FrontLaws.{IsFrontOf-first}
 use Rattle.pcap_capture.specs.Frames.{FrameValue}
 use Rattle.pcap_capture.specs.Fronts.{IsFrontOf}
+use Rattle.pcap_capture.specs.declared.heading.LinkType.{LinkType}
+use Rattle.frame_marker.specs.Marks.{mark_in}
 use Rattle.frame_marker.specs.declared.sight.Sight.{Sight}
 use Rattle.frame_marker.specs.declared.sight.Sight.TheVariants.{Matched, Skipped, Unmatched}
 use Rattle.ds_conductor_base.proofs.ColouringLaws.{handed_out, sent_first}
@@ -18,19 +20,20 @@ use Rattle.ds_conductor_base.specs.Passing.{colours_of}
 use Rattle.ds_conductor_base.specs.Streams.{AreSentFrom, begun, colours_left}
 use Rattle.ds_conductor_base.specs.declared.sent.Sent.{Sent}
 use Rattle.ds_checker.specs.Acceptance.{IsAcceptable, Table}
-use Rattle.meter_fabric_base.specs.Grounds.{ground_of}
-use Rattle.run_audit.specs.Verdicts.{verdict_of}
 use Rattle.ds_conductor_base.specs.Ways.{AreInReach}
 use Rattle.ds_visits.specs.Behind.{AreSendable}
 use Rattle.ds_visits.specs.Making.{run_behind}
 use Rattle.ds_visits.proofs.JudgingLaws.{made_run_judged}
+use Rattle.ds_visits.proofs.MarkLaws.{kept_marks}
+use Rattle.ds_visits.proofs.RunLaws.{the_run_is_behind}
 use Rattle.ds_visits.specs.Judging.{Judging, unjudged, verdict_with}
 use Rattle.pcap_capture.specs.declared.heading.Heading.{Heading}
 use Rattle.ds_conductor.proofs.SendableLaws.{frames_can_be_sent}
-use Rattle.ds_conductor.specs.Markings.{see}
+use Rattle.ds_conductor.specs.Markings.{IsVerdictOn, see}
 use Rattle.ds_conductor.specs.Conditionings.{IsConditioned, IsJudging, IsSeeing, IsUndecided, MayCome, held_from, newest_after, see_at}
 use Rattle.ds_conductor.specs.Passings.{marking_at}
 use Rattle.ds_conductor.specs.Reports.{bytes_as, is_skipped, is_unmatched, is_unverified, packets_as, seen_as}
+use Rattle.ds_conductor.specs.Seens.{IsSeenAt, SeenValue, seen_at}
 use Rattle.ds_conductor.specs.Sendings.{AreCounted, counted_on, nothing_counted, packet_of, sent_by, sent_from, sent_of}
 use Rattle.ds_conductor.specs.Tallies.{AreTallied, grown, grown_all, nothing_tallied, tally_of}
 use Rattle.ds_conductor.specs.Texts.{record_text, text_from}
@@ -81,7 +84,7 @@ pub seen : (p : Port) (frames : List FrameValue) (text : List ℕ) (f : FrameVal
     → IsConditioned p true frames text before
     → sight ≡ see_at p f.bytes → moment ≡ max before.newest f.moment → packet ≡ packet_of sight before.counts.records moment
     → after.newest ≡ moment → after.counts ≡ counted_on before.counts sight → after.tallies ≡ before.tallies
-    → after.held.items ≡ before.held.items ++ record { frame = f; packet = packet } ∷ []
+    → after.held.items ≡ before.held.items ++ record { frame = seen_at p.heading.link f; packet = packet } ∷ []
     → ((back : List Sent) → colours_left after.under_way back ≡ colours_left before.under_way (option_to_list packet ++ back))
     → f.moment < 2 ^ 63 - 2 ^ 40 → ((back : List Sent) → verdict_with after.judge back ≡ verdict_with before.judge (option_to_list packet ++ back))
     → IsConditioned p true (frames ++ f ∷ []) text after
@@ -93,12 +96,12 @@ seen p frames text f sight moment packet before after was sighted late sent newe
     let all = sent_of-one see frames f sight moment sighted now in
     let place : length frames ≡ length was.gone + length was.waiting = ap length was.parted ∙ length-append was.gone was.waiting in
     let stamp : newest_after (newest_after 0 was.gone) was.waiting ≡ newest_after 0 frames = sym (newest_after-both 0 was.gone was.waiting) ∙ ap (newest_after 0) (sym was.parted) in
-    let one : Held = record { frame = f; packet = packet } in
-    let last : held_from see (length frames) (newest_after 0 frames) (f ∷ []) ≡ one ∷ [] =
-    held_from-cons see (length frames) (newest_after 0 frames) f []
-    ∙ ap (λ (q : Option Sent). record { frame = f; packet = q } ∷ held_from see (suc (length frames)) (max (newest_after 0 frames) f.moment) [])
+    let one : Held = record { frame = seen_at p.heading.link f; packet = packet } in
+    let last : held_from p.heading.link see (length frames) (newest_after 0 frames) (f ∷ []) ≡ one ∷ [] =
+    held_from-cons p.heading.link see (length frames) (newest_after 0 frames) f []
+    ∙ ap (λ (q : Option Sent). record { frame = seen_at p.heading.link f; packet = q } ∷ held_from p.heading.link see (suc (length frames)) (max (newest_after 0 frames) f.moment) [])
     (ap₂ (λ s m. packet_of s (length frames) m) (sym sighted) (sym now) ∙ sym own)
-    ∙ ap (λ rest. one ∷ rest) (held_from-none see (suc (length frames)) (max (newest_after 0 frames) f.moment)) in
+    ∙ ap (λ rest. one ∷ rest) (held_from-none p.heading.link see (suc (length frames)) (max (newest_after 0 frames) f.moment)) in
     record {
       gone = was.gone;
       waiting = was.waiting ++ f ∷ [];
@@ -107,9 +110,9 @@ seen p frames text f sight moment packet before after was sighted late sent newe
       paired = was.paired;
       written = was.written;
       held = held ∙ ap (λ hs. hs ++ one ∷ []) was.held
-          ∙ ap (λ more. held_from see (length was.gone) (newest_after 0 was.gone) was.waiting ++ more)
-          (sym last ∙ ap (λ m. held_from see (length frames) m (f ∷ [])) (sym stamp))
-          ∙ sym (held_from-both see (length was.gone) (newest_after 0 was.gone) (length frames) was.waiting (f ∷ []) place);
+          ∙ ap (λ more. held_from p.heading.link see (length was.gone) (newest_after 0 was.gone) was.waiting ++ more)
+          (sym last ∙ ap (λ m. held_from p.heading.link see (length frames) m (f ∷ [])) (sym stamp))
+          ∙ sym (held_from-both p.heading.link see (length was.gone) (newest_after 0 was.gone) (length frames) was.waiting (f ∷ []) place);
       newest = newest ∙ now ∙ sym (newest_after-both 0 frames (f ∷ []) ∙ newest_after-one (newest_after 0 frames) f);
       comes = λ back from.
           let up : before.newest ≤ moment = omega (arith, late) in
@@ -174,7 +177,7 @@ begins p c first none zero_ counts tallies judge acceptable reach seeing =
       parted = refl;
       paired = sym (ap length nobody);
       written = sym (text_none p.accepted.now p.red p.heading.link 0 (zip (sent_of see []) []));
-      held = none ∙ sym (held_from-none see 0 (newest_after 0 []));
+      held = none ∙ sym (held_from-none p.heading.link see 0 (newest_after 0 []));
       newest = zero_ ∙ sym (newest_after-none 0);
       comes = λ back from.
           ap (λ s. colours_of p.accepted.now (s ++ back)) nobody ∙ sym (sent_first p.accepted.now back c.under_way first);
@@ -220,10 +223,10 @@ abbrev HandsOut : Port → Bool → List FrameValue → List ℕ → Held → Li
 HandsOut p more frames text first others own before after gone waiting colours =
     frames ≡ gone ++ waiting → length colours ≡ length (sent_of (see_at p) gone)
     → text ≡ text_from p.accepted.now p.red p.heading.link 0 gone (zip (sent_of (see_at p) gone) colours)
-    → first ∷ others ≡ held_from (see_at p) (length gone) (newest_after 0 gone) waiting
+    → first ∷ others ≡ held_from p.heading.link (see_at p) (length gone) (newest_after 0 gone) waiting
     → AreTallied (zip (sent_of (see_at p) gone) colours) before.tallies
     → IsConditioned p more frames text before
-    → IsConditioned p more frames (text ++ record_text p.accepted.now p.red p.heading.link first.frame (coloured_by first.packet own)) after
+    → IsSeenAt p.heading.link first.frame × IsConditioned p more frames (text ++ record_text p.accepted.now p.red p.heading.link first.frame.frame (coloured_by first.packet own)) after
 
 hands_out : (p : Port) (more : Bool) (frames : List FrameValue) (text : List ℕ) (first : Held) (others : List Held) (own : List Colour) (before after : Conditioner)
     → after.held.items ≡ others → after.newest ≡ before.newest → after.counts ≡ before.counts → after.judge ≡ before.judge
@@ -233,16 +236,17 @@ hands_out : (p : Port) (more : Bool) (frames : List FrameValue) (text : List ℕ
     → ((back : List Sent) → MayCome more before.newest back → colours_of p.accepted.now (sent_of (see_at p) frames ++ back) ≡ colours ++ (own ++ colours_left after.under_way back))
     → HandsOut p more frames text first others own before after gone waiting colours
 hands_out p more frames text first others own before after held newest counts judge even tallies gone [] colours under parted paired written is tallied was =
-    absurd (no_held first others (is ∙ held_from-none (see_at p) (length gone) (newest_after 0 gone)))
+    absurd (no_held first others (is ∙ held_from-none p.heading.link (see_at p) (length gone) (newest_after 0 gone)))
 hands_out p more frames text first others own before after held newest counts judge even tallies gone (f ∷ waiting) colours under parted paired written is tallied was =
     let see = see_at p in
     let stamp = newest_after 0 gone in
     let moment = max stamp f.moment in
     let sight = see f.bytes in
-    let here : Held = record { frame = f; packet = packet_of sight (length gone) moment } in
-    let rest = held_from see (suc (length gone)) moment waiting in
-    let apart = first_held first here others rest (is ∙ held_from-cons see (length gone) stamp f waiting) in
-    let frame : first.frame ≡ f = ap (λ (h : Held). h.frame) apart.0 in
+    let here : Held = record { frame = seen_at p.heading.link f; packet = packet_of sight (length gone) moment } in
+    let rest = held_from p.heading.link see (suc (length gone)) moment waiting in
+    let apart = first_held first here others rest (is ∙ held_from-cons p.heading.link see (length gone) stamp f waiting) in
+    let seen : first.frame ≡ seen_at p.heading.link f = ap (λ (h : Held). h.frame) apart.0 in
+    let frame : first.frame.frame ≡ f = ap (λ (s : SeenValue). s.frame) seen in
     let packet : first.packet ≡ packet_of sight (length gone) moment = ap (λ (h : Held). h.packet) apart.0 in
     let one = sent_of-one see gone f sight moment refl refl in
     let fits : length own ≡ length (sent_by sight (length gone) moment) = even ∙ ap (λ (q : Option Sent). length (option_to_list q)) packet in
@@ -250,6 +254,7 @@ hands_out p more frames text first others own before after held newest counts ju
     let late : moment ≡ newest_after 0 (gone ++ f ∷ []) = sym (newest_after-both 0 gone (f ∷ []) ∙ newest_after-one stamp f) in
     let record_here = record_text p.accepted.now p.red p.heading.link f (coloured_by (packet_of sight (length gone) moment) own) in
     let front = text_from p.accepted.now p.red p.heading.link 0 gone (zip (sent_of see gone) colours) in
+    let conditioned : IsConditioned p more frames (text ++ record_text p.accepted.now p.red p.heading.link first.frame.frame (coloured_by first.packet own)) after =
     record {
       gone = gone ++ f ∷ [];
       waiting = waiting;
@@ -259,7 +264,7 @@ hands_out p more frames text first others own before after held newest counts ju
       written = ap₂ (λ a b. a ++ b) written (ap₂ (λ g q. record_text p.accepted.now p.red p.heading.link g (coloured_by q own)) frame packet)
           ∙ ap (λ b. front ++ b) (sym (text_one p.accepted.now p.red p.heading.link see (length gone) stamp f own fits))
           ∙ sym (text_both p.accepted.now p.red p.heading.link see 0 0 (length gone) gone (f ∷ []) colours own (omega arith) paired);
-      held = held ∙ apart.1 ∙ ap₂ (λ n m. held_from see n m waiting) place late;
+      held = held ∙ apart.1 ∙ ap₂ (λ n m. held_from p.heading.link see n m waiting) place late;
       newest = newest ∙ was.newest;
       comes = λ back from.
           under back (subst (λ n. MayCome more n back) newest from) ∙ sym (append_assoc colours own (colours_left after.under_way back));
@@ -270,7 +275,8 @@ hands_out p more frames text first others own before after held newest counts ju
           ∙ ap (λ s. zip s (colours ++ own)) (sym one))
           (tallies (zip (sent_of see gone) colours) tallied);
       judging = subst (IsJudging p frames) (sym judge) was.judging;
-    }
+    } in
+    (ap (λ (s : SeenValue). s.mark) seen ∙ ap (λ (g : FrameValue). mark_in p.heading.link g.bytes) (sym frame), conditioned)
 
 -- The first frame that is held is handed out with what its packet left with.
 pub popped : (p : Port) (more : Bool) (frames : List FrameValue) (text : List ℕ) (first : Held) (others : List Held) (own : List Colour) (before after : Conditioner)
@@ -279,7 +285,7 @@ pub popped : (p : Port) (more : Bool) (frames : List FrameValue) (text : List �
     → ((all : List (Sent × Colour)) → AreTallied all before.tallies → AreTallied (all ++ zip (option_to_list first.packet) own) after.tallies)
     → ((back : List Sent) → colours_left before.under_way back ≡ own ++ colours_left after.under_way back)
     → IsConditioned p more frames text before
-    → IsConditioned p more frames (text ++ record_text p.accepted.now p.red p.heading.link first.frame (coloured_by first.packet own)) after
+    → IsSeenAt p.heading.link first.frame × IsConditioned p more frames (text ++ record_text p.accepted.now p.red p.heading.link first.frame.frame (coloured_by first.packet own)) after
 popped p more frames text first others own before after items held newest counts judge even tallies under was =
     hands_out p more frames text first others own before after held newest counts judge even tallies was.gone was.waiting was.colours
     (λ back from. was.comes back from ∙ ap (λ cs. was.colours ++ cs) (under back))
@@ -294,9 +300,9 @@ pub popped_none : (p : Port) (more : Bool) (frames : List FrameValue) (text : Li
     → before.held.items ≡ first ∷ others → after.held.items ≡ others → after.newest ≡ before.newest → after.counts ≡ before.counts → after.judge ≡ before.judge → after.tallies ≡ before.tallies
     → first.packet ≡ None → ((back : List Sent) → colours_left after.under_way back ≡ colours_left before.under_way back)
     → IsConditioned p more frames text before
-    → IsConditioned p more frames (text ++ record_text p.accepted.now p.red p.heading.link first.frame None) after
+    → IsSeenAt p.heading.link first.frame × IsConditioned p more frames (text ++ record_text p.accepted.now p.red p.heading.link first.frame.frame None) after
 popped_none p more frames text first others before after items held newest counts judge tallies none under was =
-    subst (λ (q : Option Sent). IsConditioned p more frames (text ++ record_text p.accepted.now p.red p.heading.link first.frame (coloured_by q [])) after) none
+    subst (λ (q : Option Sent). IsSeenAt p.heading.link first.frame × IsConditioned p more frames (text ++ record_text p.accepted.now p.red p.heading.link first.frame.frame (coloured_by q [])) after) none
     (popped p more frames text first others [] before after items held newest counts judge (sym (ap (λ (q : Option Sent). length (option_to_list q)) none))
     (λ all so_far. subst (λ (q : Option Sent). AreTallied (all ++ zip (option_to_list q) []) after.tallies) (sym none)
     (subst (λ (xs : List (Sent × Colour)). AreTallied xs after.tallies) (sym (append-nil all)) (subst (AreTallied all) (sym tallies) so_far)))
@@ -308,9 +314,9 @@ pub popped_some : (p : Port) (more : Bool) (frames : List FrameValue) (text : Li
     → first.packet ≡ Some s → after.tallies ≡ grown_all before.tallies colour s.size
     → ((back : List Sent) → colours_left before.under_way back ≡ colour ∷ colours_left after.under_way back)
     → IsConditioned p more frames text before
-    → IsConditioned p more frames (text ++ record_text p.accepted.now p.red p.heading.link first.frame (Some (s, colour))) after
+    → IsSeenAt p.heading.link first.frame × IsConditioned p more frames (text ++ record_text p.accepted.now p.red p.heading.link first.frame.frame (Some (s, colour))) after
 popped_some p more frames text first others s colour before after items held newest counts judge some tallies under was =
-    subst (λ (q : Option Sent). IsConditioned p more frames (text ++ record_text p.accepted.now p.red p.heading.link first.frame (coloured_by q (colour ∷ []))) after) some
+    subst (λ (q : Option Sent). IsSeenAt p.heading.link first.frame × IsConditioned p more frames (text ++ record_text p.accepted.now p.red p.heading.link first.frame.frame (coloured_by q (colour ∷ []))) after) some
     (popped p more frames text first others (colour ∷ []) before after items held newest counts judge (sym (ap (λ (q : Option Sent). length (option_to_list q)) some))
     (λ all so_far. subst (λ (q : Option Sent). AreTallied (all ++ zip (option_to_list q) (colour ∷ [])) after.tallies) (sym some) (tallied_one all s colour before.tallies after.tallies so_far tallies))
     under was)
@@ -324,22 +330,22 @@ unseen p frames text before after was newest counts tallies held judge same =
 
 -- ---- at the end
 
-no_one_waits : (see : List ℕ → Sight) (number newest : ℕ) (waiting : List FrameValue) → [] ≡ held_from see number newest waiting → waiting ≡ []
-no_one_waits see number newest [] none = refl
-no_one_waits see number newest (f ∷ waiting) none =
-    absurd (no_held (record { frame = f; packet = packet_of (see f.bytes) number (max newest f.moment) }) (held_from see (suc number) (max newest f.moment) waiting)
-    (sym (held_from-cons see number newest f waiting) ∙ sym none))
+no_one_waits : (link : LinkType) (see : List ℕ → Sight) (number newest : ℕ) (waiting : List FrameValue) → [] ≡ held_from link see number newest waiting → waiting ≡ []
+no_one_waits link see number newest [] none = refl
+no_one_waits link see number newest (f ∷ waiting) none =
+    absurd (no_held (record { frame = seen_at link f; packet = packet_of (see f.bytes) number (max newest f.moment) }) (held_from link see (suc number) (max newest f.moment) waiting)
+    (sym (held_from-cons link see number newest f waiting) ∙ sym none))
 
 some_long : (packet : Option Sent) → IsSome packet → 1 ≤ length (option_to_list packet)
 some_long None some = absurd cc
 some_long (Some s) some = omega arith
 
-packet_waits : (see : List ℕ → Sight) (number newest : ℕ) (waiting : List FrameValue) (first : Held) (others : List Held) → first ∷ others ≡ held_from see number newest waiting
+packet_waits : (link : LinkType) (see : List ℕ → Sight) (number newest : ℕ) (waiting : List FrameValue) (first : Held) (others : List Held) → first ∷ others ≡ held_from link see number newest waiting
     → IsSome first.packet → length (sent_from see number newest waiting) ≡ 0 → ⊥
-packet_waits see number newest [] first others is some none = no_held first others (is ∙ held_from-none see number newest)
-packet_waits see number newest (f ∷ waiting) first others is some none =
-    let here : Held = record { frame = f; packet = packet_of (see f.bytes) number (max newest f.moment) } in
-    let apart = first_held first here others (held_from see (suc number) (max newest f.moment) waiting) (is ∙ held_from-cons see number newest f waiting) in
+packet_waits link see number newest [] first others is some none = no_held first others (is ∙ held_from-none link see number newest)
+packet_waits link see number newest (f ∷ waiting) first others is some none =
+    let here : Held = record { frame = seen_at link f; packet = packet_of (see f.bytes) number (max newest f.moment) } in
+    let apart = first_held first here others (held_from link see (suc number) (max newest f.moment) waiting) (is ∙ held_from-cons link see number newest f waiting) in
     let same : first.packet ≡ packet_of (see f.bytes) number (max newest f.moment) = ap (λ (h : Held). h.packet) apart.0 in
     let long = some_long first.packet some in
     let all = ap length (sent_from-cons see number newest f waiting) in
@@ -347,13 +353,13 @@ packet_waits see number newest (f ∷ waiting) first others is some none =
 
 -- where all visits are made, and the first frame is not decided, none waits
 none_waits : (p : Port) (frames : List FrameValue) (text : List ℕ) (c : Conditioner) (was : IsConditioned p false frames text c) → c.under_way.waiting ≡ [] → IsUndecided c → was.waiting ≡ []
-none_waits p frames text c was over (inl none) = no_one_waits (see_at p) (length was.gone) (newest_after 0 was.gone) was.waiting (sym none ∙ was.held)
+none_waits p frames text c was over (inl none) = no_one_waits p.heading.link (see_at p) (length was.gone) (newest_after 0 was.gone) was.waiting (sym none ∙ was.held)
 none_waits p frames text c was over (inr (undecided, (first, others, items, some))) =
     let see = see_at p in
     let all = handed_out c.under_way was.colours (colours_of p.accepted.now (sent_of see frames ++ [])) over (sym undecided) (sym (was.comes [] refl)) in
     let one = one_colour_each p.accepted.now (sent_of see frames ++ []) in
     let parts = ap (sent_of see) was.parted ∙ sent_of-both see was.gone was.waiting in
-    absurd (packet_waits see (length was.gone) (newest_after 0 was.gone) was.waiting first others (sym items ∙ was.held) some
+    absurd (packet_waits p.heading.link see (length was.gone) (newest_after 0 was.gone) was.waiting first others (sym items ∙ was.held) some
     (omega (arith, was.paired, one, ap length all, ap length parts, length-append (sent_of see frames) [], length-append (sent_of see was.gone) (sent_from see (length was.gone) (newest_after 0 was.gone) was.waiting))))
 
 -- what stands in the end
@@ -447,13 +453,14 @@ front_last p frames text before after c was written =
 -- ---- as calls tell it
 
 -- what a call of `pop` leaves
-pub passed_on : (p : Port) (more : Bool) (frames : List FrameValue) (text : List ℕ) (c : Conditioner) (result : Option (FrameValue × Option (Sent × Colour)))
-    → MatchOption result (IsConditioned p more frames text c) (λ it. IsConditioned p more frames (text ++ record_text p.accepted.now p.red p.heading.link it.0 it.1) c)
+pub passed_on : (p : Port) (more : Bool) (frames : List FrameValue) (text : List ℕ) (c : Conditioner) (result : Option (SeenValue × Option (Sent × Colour)))
+    → MatchOption result (IsConditioned p more frames text c)
+    (λ it. IsSeenAt p.heading.link it.0 × IsConditioned p more frames (text ++ record_text p.accepted.now p.red p.heading.link it.0.frame it.1) c)
     → (after : List ℕ) × IsConditioned p more frames after c
 passed_on p more frames text c None is = (text, is)
-passed_on p more frames text c (Some it) is = (text ++ record_text p.accepted.now p.red p.heading.link it.0 it.1, is)
+passed_on p more frames text c (Some it) is = (text ++ record_text p.accepted.now p.red p.heading.link it.0.frame it.1, is.1)
 
-pub undecided_by : (result : Option (FrameValue × Option (Sent × Colour))) (c : Conditioner) → is_some result ≡ false → IfNone result (IsUndecided c) → IsUndecided c
+pub undecided_by : (result : Option (SeenValue × Option (Sent × Colour))) (c : Conditioner) → is_some result ≡ false → IfNone result (IsUndecided c) → IsUndecided c
 undecided_by None c none is = is
 undecided_by (Some it) c none is = absurd cc
 
@@ -467,13 +474,20 @@ seeing_by p t name heading table head sees = (
   λ bytes. sees bytes ∙ ap (λ u. see u name heading.link bytes) (sym table) ∙ ap (λ (h : Heading). see p.accepted.now name h.link bytes) (sym head),
 )
 
--- What a judge keeps tells the verdict on the run behind what frames send.
+-- What a judge keeps tells the verdict on a run behind what frames send.
 pub judged_by : (p : Port) (frames : List FrameValue) (judge : Judging) → IsJudging p frames judge → length frames ≤ 2 ^ 44
-    → verdict_with judge [] ≡ verdict_of (ground_of p.accepted.now) (run_behind p.accepted.now (sent_of (see_at p) frames))
+    → IsVerdictOn p.accepted.now (sent_of (see_at p) frames) (verdict_with judge [])
 judged_by p frames judge is few =
     let t = p.accepted.now in
     let sent = sent_of (see_at p) frames in
     let look : see_at p ≡ see t is.seeing.0 p.heading.link = fun_ext is.seeing.1 in
     let sendable : AreSendable t sent =
     subst (λ (view : List ℕ → Sight). AreSendable t (sent_of view frames)) (sym look) (frames_can_be_sent t is.seeing.0 p.heading.link frames is.early few) in
-    sym (is.tells []) ∙ ap (verdict_with (unjudged t)) (append-nil sent) ∙ made_run_judged t sent is.acceptable is.reach sendable
+    let behind = the_run_is_behind t sent is.acceptable sendable in
+    let told = sym (is.tells []) ∙ ap (verdict_with (unjudged t)) (append-nil sent) ∙ made_run_judged t sent is.acceptable is.reach sendable in
+    record {
+      run = run_behind t sent;
+      behind = behind;
+      told = told;
+      kept = λ kept. kept_marks t sent (run_behind t sent) is.acceptable behind (sym told ∙ kept);
+    }

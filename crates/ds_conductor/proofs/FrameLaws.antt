@@ -13,6 +13,7 @@ use Rattle.frame_marker.specs.declared.sight.Sight.TheVariants.{Matched, Skipped
 use Rattle.ds_conductor_base.specs.Streams.{AreSentFrom}
 use Rattle.ds_conductor_base.specs.declared.sent.Sent.{Sent}
 use Rattle.ds_conductor.specs.Conditionings.{held_from, newest_after}
+use Rattle.ds_conductor.specs.Seens.{seen_at}
 use Rattle.ds_conductor.specs.Sendings.{packet_of, sent_by, sent_from}
 use Rattle.ds_conductor.specs.Texts.{marked_text, plain_text, record_text, text_from}
 use Rattle.ds_conductor.specs.declared.conditioner.Held.{Held}
@@ -54,24 +55,24 @@ sent_from-both see number newest next (f ∷ xs) ys at =
     ap (λ more. sent_by (see f.bytes) number (max newest f.moment) ++ more) (sent_from-both see (suc number) (max newest f.moment) next xs ys behind)
     ∙ sym (append_assoc (sent_by (see f.bytes) number (max newest f.moment)) (sent_from see (suc number) (max newest f.moment) xs) (sent_from see next (newest_after (max newest f.moment) xs) ys))
 
-pub held_from-none : (see : List ℕ → Sight) (number newest : ℕ) → held_from see number newest [] ≡ []
+pub held_from-none : (link : LinkType) (see : List ℕ → Sight) (number newest : ℕ) → held_from link see number newest [] ≡ []
 unfolding held_from
-held_from-none see number newest = refl
+held_from-none link see number newest = refl
 
-pub held_from-cons : (see : List ℕ → Sight) (number newest : ℕ) (f : FrameValue) (frames : List FrameValue)
-    → held_from see number newest (f ∷ frames)
-    ≡ record { frame = f; packet = packet_of (see f.bytes) number (max newest f.moment) } ∷ held_from see (suc number) (max newest f.moment) frames
+pub held_from-cons : (link : LinkType) (see : List ℕ → Sight) (number newest : ℕ) (f : FrameValue) (frames : List FrameValue)
+    → held_from link see number newest (f ∷ frames)
+    ≡ record { frame = seen_at link f; packet = packet_of (see f.bytes) number (max newest f.moment) } ∷ held_from link see (suc number) (max newest f.moment) frames
 unfolding held_from
-held_from-cons see number newest f frames = refl
+held_from-cons link see number newest f frames = refl
 
-pub held_from-both : (see : List ℕ → Sight) (number newest next : ℕ) (xs ys : List FrameValue) → next ≡ number + length xs
-    → held_from see number newest (xs ++ ys) ≡ held_from see number newest xs ++ held_from see next (newest_after newest xs) ys
+pub held_from-both : (link : LinkType) (see : List ℕ → Sight) (number newest next : ℕ) (xs ys : List FrameValue) → next ≡ number + length xs
+    → held_from link see number newest (xs ++ ys) ≡ held_from link see number newest xs ++ held_from link see next (newest_after newest xs) ys
 unfolding held_from newest_after
-held_from-both see number newest next [] ys at = ap (λ n. held_from see n newest ys) (let e : number ≡ next = omega arith in e)
-held_from-both see number newest next (f ∷ xs) ys at =
+held_from-both link see number newest next [] ys at = ap (λ n. held_from link see n newest ys) (let e : number ≡ next = omega arith in e)
+held_from-both link see number newest next (f ∷ xs) ys at =
     let behind : next ≡ suc number + length xs = omega arith in
-    let own : Held = record { frame = f; packet = packet_of (see f.bytes) number (max newest f.moment) } in
-    ap (λ more. own ∷ more) (held_from-both see (suc number) (max newest f.moment) next xs ys behind)
+    let own : Held = record { frame = seen_at link f; packet = packet_of (see f.bytes) number (max newest f.moment) } in
+    ap (λ more. own ∷ more) (held_from-both link see (suc number) (max newest f.moment) next xs ys behind)
 
 packet_at_number : (sight : Sight) (number moment : ℕ) → All (λ (s : Sent). number ≤ s.packet) (sent_by sight number moment)
 packet_at_number Skipped number moment = All-nil (λ (s : Sent). number ≤ s.packet)

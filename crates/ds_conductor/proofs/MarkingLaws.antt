@@ -7,13 +7,11 @@ use Rattle.pcap_capture.specs.declared.fault.PcapFault.TheVariants as pcaps
 use Rattle.pcap_capture.specs.declared.heading.Heading.{Heading}
 use Rattle.pcap_capture.proofs.HeadingLaws.{heading-append}
 use Rattle.ds_domain_base.specs.Domains.{Domain, is_port}
-use Rattle.meter_fabric_base.specs.Grounds.{ground_of}
-use Rattle.run_audit.specs.Verdicts.{verdict_of}
 use Rattle.run_audit.specs.declared.verdict.Verdict.{Verdict}
-use Rattle.ds_visits.specs.Making.{run_behind}
+use Rattle.run_audit.specs.declared.verdict.Verdict.TheVariants.{Kept}
 use Rattle.ds_checker.specs.Acceptance.{Table}
 use Rattle.ds_conductor_base.specs.Passing.{colours_of}
-use Rattle.ds_conductor.specs.Markings.{IsMarked, IsMarkedAs, IsMarkedBut, IsWhole, IsWholeSoFar, IsWholeWith, Marking, answer_of, is_read_whole, marking_behind, marking_in, marking_of, nothing_marked, see}
+use Rattle.ds_conductor.specs.Markings.{IsMarked, IsMarkedAs, IsMarkedBut, IsVerdictOn, IsWhole, IsWholeSoFar, IsWholeWith, Marking, answer_of, is_read_whole, marking_behind, marking_in, marking_of, nothing_marked, see}
 use Rattle.pcap_capture.specs.Takings.{is_own}
 use Rattle.pcap_capture.proofs.OwnLaws.{fault_in_own}
 use Rattle.ds_conductor.specs.Readings.{IsHeadingTold, IsReading, IsReadTo, heading_in}
@@ -195,17 +193,13 @@ answered marked bytes read more before after report (Some fault) well unwritten 
     marked_but marked bytes read more before after report fault well unwritten front stays ended whole
 
 as_answered : (t : Table) (port : List ℕ) (red : RedRule) (bytes more before after : List ℕ) (report : Report) (verdict : Verdict) (fault : Option PcapFault)
-    → (fault ≡ None → verdict ≡ (marking_in t port red bytes).verdict)
+    → (fault ≡ None → IsVerdictOn t (marking_in t port red bytes).sent verdict)
     → IsAnswered (marking_in t port red) bytes more before after report fault → IsMarkedAs t port red bytes more before after (answer_of verdict report fault)
-as_answered t port red bytes more before after report verdict None judges is =
-    let m = marking_in t port red bytes in
-    record {
-      whole = record {
-        written = is.whole.written;
-        told = ap (with_verdict verdict) is.whole.told ∙ ap (λ (v : Verdict). with_verdict v m.report) (judges refl);
-      };
-      stands = is.stands;
-    }
+as_answered t port red bytes more before after report verdict None judges is = record {
+  verdict = verdict;
+  whole = record { whole = record { written = is.whole.written; told = ap (with_verdict verdict) is.whole.told }; stands = is.stands };
+  behind = judges refl;
+}
 as_answered t port red bytes more before after report verdict (Some fault) judges is = is
 
 -- where a capture has no fault, all of it was read
@@ -217,11 +211,12 @@ read_all t port red bytes read more (Some fault) front ended none = absurd cc
 -- frames that were marked are the marked capture, by what was read of it
 pub all_marked : (t : Table) (port : List ℕ) (red : RedRule) (bytes more before after : List ℕ) (heading : Option Heading) (frames : List FrameValue) (report : Report)
     (verdict : Verdict) (fault : Option PcapFault) → ¬ (fault ≡ Some pcaps.NoMemory) → ¬ (fault ≡ Some pcaps.WriteFault) → IsSeen bytes more heading frames fault
-    → verdict ≡ (marking_told t port red heading frames).verdict
+    → (fault ≡ None → IsVerdictOn t (marking_told t port red heading frames).sent verdict)
     → IsWhole (marking_told t port red heading frames) report before after → IsMarkedAs t port red bytes more before after (answer_of verdict report fault)
 all_marked t port red bytes more before after heading frames report verdict fault well unwritten at judges whole =
     as_answered t port red bytes more before after report verdict fault
-    (λ none. judges ∙ ap (λ (m : Marking). m.verdict) (marked_is t port red at.read heading frames at.told at.shown ∙ read_all t port red bytes at.read more fault at.front at.ended none))
+    (λ none. subst (λ (m : Marking). IsVerdictOn t m.sent verdict)
+    (marked_is t port red at.read heading frames at.told at.shown ∙ read_all t port red bytes at.read more fault at.front at.ended none) (judges none))
     (answered (marking_in t port red) bytes at.read more before after report fault well unwritten at.front
     (λ stands why. marking_on t port red at.read more heading stands at.told why) at.ended
     (subst (λ m. IsWhole m report before after) (marked_is t port red at.read heading frames at.told at.shown) whole))
@@ -245,6 +240,7 @@ starved_marked t port red bytes read more before after report front same told = 
   front = front;
   parted = refl;
   written = subst (λ now. IsFrontOf before (marking_in t port red read).text now) (sym same) (IsFrontOf-none before (marking_in t port red read).text);
+  covered = let text = (marking_behind t port red (heading_of read) []).text in subst (λ now. IsFrontOf before text now) (sym same) (IsFrontOf-none before text);
   told = told ∙ nothing_behind t port red (heading_of read);
 }
 
@@ -255,7 +251,7 @@ unheaded_by : (t : Table) (port : List ℕ) (red : RedRule) (bytes more before a
 unheaded_by t port red bytes more before after frames fault well writable reading same =
     let memory : ¬ (Some fault ≡ Some pcaps.NoMemory) = λ e. well cc in
     let unwritten : ¬ (Some fault ≡ Some pcaps.WriteFault) = λ e. writable cc in
-    all_marked t port red bytes more before after None frames nothing_read nothing_marked.verdict (Some fault) memory unwritten (seen bytes more None frames (Some fault) memory reading) refl
+    all_marked t port red bytes more before after None frames nothing_read Kept (Some fault) memory unwritten (seen bytes more None frames (Some fault) memory reading) (λ none. absurd cc)
     (record { written = same ∙ sym (append-nil before); told = refl })
 
 abbrev told_of : PcapFault → Result Heading PcapFault
@@ -290,7 +286,7 @@ at_port p t port red heading frames table rule head sees =
     let by : (List ℕ → Sight) → Table → RedRule → Heading → Marking = λ look u r h. record {
       text = h.bytes ++ text_from u r h.link 0 frames (zip (sent_of look frames) (colours_of u (sent_of look frames)));
       report = report_of look r frames (zip (sent_of look frames) (colours_of u (sent_of look frames)));
-      verdict = verdict_of (ground_of u) (run_behind u (sent_of look frames));
+      sent = sent_of look frames;
     } in
     let look : see_at p ≡ see t port heading.link = fun_ext sees in
     ap (λ f. by f p.accepted.now p.red p.heading) look ∙ ap (λ u. by (see t port heading.link) u p.red p.heading) table
@@ -300,9 +296,9 @@ at_port p t port red heading frames table rule head sees =
 stopped_as : (t : Table) (port : List ℕ) (red : RedRule) (bytes read more before after : List ℕ) (heading : Heading) (frames others : List FrameValue) (fault : MarkFault)
     → bytes ≡ read ++ more → heading_of read ≡ Some (Ok heading) → (capture read).frames ≡ frames ++ others → (fault ≡ marks.Capture pcaps.WriteFault → others ≡ [])
     → (fault ≡ marks.Capture pcaps.WriteFault) ⊎ (fault ≡ marks.NoMemory)
-    → IsFrontOf before (marking_of t port red heading (frames ++ others)).text after
+    → IsFrontOf before (marking_of t port red heading (frames ++ others)).text after → IsFrontOf before (marking_of t port red heading frames).text after
     → IsMarkedAs t port red bytes more before after (Err ((marking_of t port red heading frames).report, fault))
-stopped_as t port red bytes read more before after heading frames others fault front headed parted all (inl unwritten) written =
+stopped_as t port red bytes read more before after heading frames others fault front headed parted all (inl unwritten) written covered =
     let report = (marking_of t port red heading frames).report in
     let is : marking_of t port red heading (frames ++ others) ≡ marking_in t port red read = marked_is t port red read (Some heading) (frames ++ others) headed (sym parted) in
     let same : frames ++ others ≡ frames = ap (λ fs. frames ++ fs) (all unwritten) ∙ append-nil frames in
@@ -312,7 +308,7 @@ stopped_as t port red bytes read more before after heading frames others fault f
       written = subst (λ (m : Marking). IsFrontOf before m.text after) is written;
       told = ap (λ fs. (marking_of t port red heading fs).report) (sym same) ∙ ap (λ (m : Marking). m.report) is;
     })
-stopped_as t port red bytes read more before after heading frames others fault front headed parted all (inr memory) written =
+stopped_as t port red bytes read more before after heading frames others fault front headed parted all (inr memory) written covered =
     let report = (marking_of t port red heading frames).report in
     let is : marking_of t port red heading (frames ++ others) ≡ marking_in t port red read = marked_is t port red read (Some heading) (frames ++ others) headed (sym parted) in
     subst (λ f. IsMarkedAs t port red bytes more before after (Err (report, f))) (sym memory) (record {
@@ -322,6 +318,7 @@ stopped_as t port red bytes read more before after heading frames others fault f
       front = front;
       parted = parted;
       written = subst (λ (m : Marking). IsFrontOf before m.text after) is written;
+      covered = subst (λ found. IsFrontOf before (marking_behind t port red found frames).text after) (sym headed) covered;
       told = ap (λ found. (marking_behind t port red found frames).report) (sym headed);
     })
 
@@ -335,30 +332,35 @@ broken_marked p t port red heading bytes more before after c fault report table 
     let all = at_port p t port red heading (off.frames ++ off.others) table rule head sees in
     subst (λ r. IsMarkedAs t port red bytes more before after (Err (r, fault))) (sym (told ∙ ap (λ (m : Marking). m.report) is))
     (stopped_as t port red bytes off.read more before after heading off.frames off.others fault off.front (off.headed ∙ ap (λ (h : Heading). Some (Ok h)) head) off.parted off.all why
-    (subst (λ (m : Marking). IsFrontOf before m.text after) all (front p off.frames off.others off.text before after c off.conditioned off.written)))
+    (subst (λ (m : Marking). IsFrontOf before m.text after) all (front p off.frames off.others off.text before after c off.conditioned off.written))
+    (subst (λ (m : Marking). IsFrontOf before m.text after) is
+    (subst (λ fs. IsFrontOf before (marking_at p fs).text after) (append-nil off.frames) (front p off.frames [] off.text before after c off.conditioned off.written))))
 
 -- a marking that was finished
 finished_by : (p : Port) (t : Table) (port : List ℕ) (red : RedRule) (heading : Heading) (bytes more before after : List ℕ) (frames : List FrameValue) (fault : Option PcapFault)
     (m : Marking) (answer : Result Report (Report × MarkFault)) → m ≡ marking_of t port red heading frames
     → ¬ (fault ≡ Some pcaps.NoMemory) → ¬ (fault ≡ Some pcaps.WriteFault) → IsSeen bytes more (Some heading) frames fault
-    → IsFinished m fault before after answer → IsMarkedAs t port red bytes more before after answer
-finished_by p t port red heading bytes more before after frames fault m answer is well writable at (inl (whole, told)) =
+    → IsFinished t m fault before after answer → IsMarkedAs t port red bytes more before after answer
+finished_by p t port red heading bytes more before after frames fault m answer is well writable at (inl (verdict, behind, whole, told)) =
     subst (IsMarkedAs t port red bytes more before after) (sym told)
-    (all_marked t port red bytes more before after (Some heading) frames m.report m.verdict fault well writable at (ap (λ (n : Marking). n.verdict) is)
+    (all_marked t port red bytes more before after (Some heading) frames m.report verdict fault well writable at
+    (λ none. subst (λ (n : Marking). IsVerdictOn t n.sent verdict) is behind)
     (subst (λ (n : Marking). IsWhole n m.report before after) is whole))
 finished_by p t port red heading bytes more before after frames fault m answer is well writable at (inr (unwritten, why, written, told)) =
     subst (IsMarkedAs t port red bytes more before after) (sym told)
     (subst (λ (n : Marking). IsMarkedAs t port red bytes more before after (Err (n.report, unwritten))) (sym is)
     (stopped_as t port red bytes at.read more before after heading frames [] unwritten at.front at.told (sym at.shown ∙ sym (append-nil frames)) (λ e. refl) why
-    (subst (λ fs. IsFrontOf before (marking_of t port red heading fs).text after) (sym (append-nil frames)) (subst (λ (n : Marking). IsFrontOf before n.text after) is written))))
+    (subst (λ fs. IsFrontOf before (marking_of t port red heading fs).text after) (sym (append-nil frames)) (subst (λ (n : Marking). IsFrontOf before n.text after) is written))
+    (subst (λ (n : Marking). IsFrontOf before n.text after) is written)))
 
 pub finished_marked : (p : Port) (t : Table) (port : List ℕ) (red : RedRule) (heading : Heading) (bytes more before after : List ℕ) (frames : List FrameValue) (fault : Option PcapFault)
     (answer : Result Report (Report × MarkFault)) → p.accepted.now ≡ t → p.red ≡ red → p.heading ≡ heading → ((look : List ℕ) → see_at p look ≡ see t port heading.link look)
     → ¬ (fault ≡ Some pcaps.NoMemory) → ¬ (fault ≡ Some pcaps.WriteFault) → IsReading bytes more (Some p.heading) frames fault
-    → IsFinished (marking_at p frames) fault before after answer → IsMarkedAs t port red bytes more before after answer
+    → IsFinished p.accepted.now (marking_at p frames) fault before after answer → IsMarkedAs t port red bytes more before after answer
 finished_marked p t port red heading bytes more before after frames fault answer table rule head sees well writable reading done =
     let at = seen bytes more (Some heading) frames fault well (subst (λ (h : Heading). IsReading bytes more (Some h) frames fault) head reading) in
-    finished_by p t port red heading bytes more before after frames fault (marking_at p frames) answer (at_port p t port red heading frames table rule head sees) well writable at done
+    finished_by p t port red heading bytes more before after frames fault (marking_at p frames) answer (at_port p t port red heading frames table rule head sees) well writable at
+    (subst (λ u. IsFinished u (marking_at p frames) fault before after answer) table done)
 
 -- what is marked at a port is marked by its table, its name and its rule for red frames
 pub marked_by : (p : Port) (t : Table) (name : List ℕ) (red : RedRule) (heading : Heading) (bytes more before after : List ℕ) (answer : Result Report (Report × MarkFault))

@@ -4,12 +4,12 @@ use Rattle.std.proofs.Math.ListN.{drop_of_length-le}
 use Rattle.pcap_capture.specs.Frames.{FrameValue}
 use Rattle.pcap_capture.specs.Grammar.{CaptureState, IsSoFar, Next, Partial, TooLong, Whole, Reading, Stops, after_heading, capture, continued_from, fault_after, fault_in, from_next, heading_of, next_of, prepend, read_on, reading, records, records_within}
 use Rattle.pcap_capture.specs.declared.fault.PcapFault.{PcapFault}
-use Rattle.pcap_capture.specs.declared.fault.PcapFault.TheVariants.{ReadFault}
+use Rattle.pcap_capture.specs.declared.fault.PcapFault.TheVariants.{ReadFault, Truncated}
 use Rattle.pcap_capture.specs.declared.heading.Heading.{Heading}
 use Rattle.pcap_capture.specs.declared.stage.Stage.{Stage}
 use Rattle.pcap_capture.specs.declared.stage.Stage.TheVariants.{Opening, Records, Broken}
 use Rattle.pcap_capture.proofs.CutLaws.{capture-cut, so_far}
-use Rattle.pcap_capture.proofs.HeadingLaws.{heading-append, heading_read, heading_waits}
+use Rattle.pcap_capture.proofs.HeadingLaws.{heading-append, heading_waits}
 use Rattle.ds_conductor.specs.Readings.{IsEnded, IsHeadingTold, IsReading, IsReadOn, IsReadTo, IsUnderway, heading_at, heading_in}
 use Rattle.ds_conductor.specs.declared.reading.Progress.{Progress}
 
@@ -142,25 +142,16 @@ nothing : (bytes : List ℕ) → length bytes ≡ 0 → bytes ≡ []
 nothing [] none = refl
 nothing (byte ∷ bytes) none = absurd (omega (arith, none))
 
--- a piece without a byte
-pub still : (gone : List FrameValue) (bytes more piece : List ℕ) (before after : Progress) → length piece ≡ 0
-    → record { frames = after.frames.items; fault = None; state = after.capture } ≡ prepend before.frames.items (reading before.capture piece)
-    → after.heading ≡ before.heading → after.missing ≡ before.missing → IsUnderway gone bytes more before → IsUnderway gone bytes more after
-still gone bytes more piece before after none is heading missing at =
+-- a piece without a byte changes no heading
+pub still : (gone : List FrameValue) (bytes more piece : List ℕ) (before : Progress) (after : CaptureState) (frames : List FrameValue) → length piece ≡ 0
+    → record { frames = frames; fault = None; state = after } ≡ prepend before.frames.items (reading before.capture piece)
+    → IsUnderway gone bytes more before → heading_at after.stage ≡ before.heading
+still gone bytes more piece before after frames none is at =
     let all : at.read ++ piece ≡ at.read = ap (λ p. at.read ++ p) (nothing piece none) ∙ append-nil at.read in
-    let so_far : IsSoFar at.read [] after.capture (gone ++ after.frames.items) =
-    subst (λ read. IsSoFar read [] after.capture (gone ++ after.frames.items)) all (fed gone at.read piece before.capture after.capture before.frames.items after.frames.items at.so_far is) in
-    let same : after.capture ≡ before.capture = ap (λ (r : Reading). r.state) so_far ∙ sym (ap (λ (r : Reading). r.state) at.so_far) in record {
-      read = at.read;
-      front = at.front;
-      so_far = so_far;
-      known = heading ∙ at.known ∙ ap (λ (s : CaptureState). heading_at s.stage) (sym same);
-      to_come = missing ∙ at.to_come;
-    }
-
--- no byte is left behind a piece without one
-pub at_end : (piece left more : List ℕ) → length piece ≡ 0 → left ≡ piece ++ more → more ≡ [] → left ≡ []
-at_end piece left more none given over = given ∙ ap (λ m. piece ++ m) over ∙ append-nil piece ∙ nothing piece none
+    let so_far : IsSoFar at.read [] after (gone ++ frames) =
+    subst (λ read. IsSoFar read [] after (gone ++ frames)) all (fed gone at.read piece before.capture after before.frames.items frames at.so_far is) in
+    let same : after ≡ before.capture = ap (λ (r : Reading). r.state) so_far ∙ sym (ap (λ (r : Reading). r.state) at.so_far) in
+    ap (λ (s : CaptureState). heading_at s.stage) same ∙ sym at.known
 
 -- and one that stopped the reading of a capture
 fed_stopped : (gone : List FrameValue) (read piece : List ℕ) (state : CaptureState) (old new : List FrameValue) (fault : PcapFault) → IsSoFar read [] state (gone ++ old)
@@ -235,41 +226,34 @@ taken gone bytes more before after same heading missing none at = record {
         subst (λ (s : CaptureState). IsSoFar read [] s ((gone ++ old) ++ new)) (sym same)
         (subst (λ (fs : List FrameValue). IsSoFar read [] before fs) (sym (ap (λ fs. (gone ++ old) ++ fs) none ∙ append-nil (gone ++ old))) at)
 
-least_by : (read : List ℕ) (found : Option (Result Heading PcapFault)) → heading_of read ≡ found
-    → fault_after (after_heading read found).fault (after_heading read found).state ≡ None → 24 ≤ length read
-least_by read None is none = absurd cc
-least_by read (Some (Err fault)) is none = absurd cc
-least_by read (Some (Ok heading)) is none = heading_read read heading is
+cut_by : (read : List ℕ) (found : Option (Result Heading PcapFault)) → heading_of read ≡ found → (after_heading read found).fault ≡ None → heading_in read None
+    → fault_after (after_heading read found).fault (after_heading read found).state ≡ Some Truncated
+cut_by read None e none missing = refl
+cut_by read (Some (Err fault)) e none missing = absurd cc
+cut_by read (Some (Ok heading)) e none missing = absurd (missing heading e)
 
-least : (read : List ℕ) → fault_in read ≡ None → 24 ≤ length read
+-- without a heading, and without a fault, the end of the bytes is one
+cut_heading : (read : List ℕ) → (capture read).fault ≡ None → heading_in read None → fault_in read ≡ Some Truncated
 unfolding capture
-least read none = least_by read (heading_of read) refl none
+cut_heading read none missing = cut_by read (heading_of read) refl none missing
 
--- a capture that ends whole has a whole heading
-pub whole_heading : (gone : List FrameValue) (bytes more : List ℕ) (progress : Progress) (at : IsUnderway gone bytes more progress) → fault_in at.read ≡ None → progress.missing ≡ 0
-whole_heading gone bytes more progress at none =
-    let long = least at.read none in
-    omega (arith, at.to_come, long)
-
--- once none is, the heading is there
-pub headed : (gone : List FrameValue) (bytes more : List ℕ) (progress : Progress) (at : IsUnderway gone bytes more progress) → progress.missing ≡ 0 → progress.heading ≡ None → ⊥
-headed gone bytes more progress at whole none =
-    let short = capture_short at.read (so_far_fault at.read progress.capture (gone ++ progress.frames.items) at.so_far)
-    (subst (λ heading. heading_in at.read heading) none (told gone bytes more progress at)) in
-    omega (arith, at.to_come, whole, short)
-
--- without a whole heading none is told
-no_heading : (read : List ℕ) (heading : Option Heading) → heading_in read heading → length read < 24 → heading ≡ None
-no_heading read None told short = refl
-no_heading read (Some heading) told short = let long = heading_read read heading told in absurd (omega (arith, long, short))
+-- a capture that ends before its heading is there
+pub cut_short : (bytes left : List ℕ) (progress : Progress) → left ≡ [] → progress.heading ≡ None → IsUnderway [] bytes left progress
+    → (frames : List FrameValue) × IsReading bytes left None frames (Some Truncated)
+cut_short bytes left progress over none at =
+    let here : IsUnderway [] bytes [] progress = subst (λ more. IsUnderway [] bytes more progress) over at in
+    let found = cut_heading here.read (so_far_fault here.read progress.capture progress.frames.items here.so_far)
+    (subst (λ heading. heading_in here.read heading) none (told [] bytes [] progress here)) in (
+      progress.frames.items,
+      subst (λ more. IsReading bytes more None progress.frames.items (Some Truncated)) (sym over)
+          (subst (λ (h : Option Heading). IsReading bytes [] h progress.frames.items (Some Truncated)) none (cut [] bytes progress Truncated here found)),
+    )
 
 -- a reading that ended before the heading was there
-pub unheaded : (bytes old more : List ℕ) (before after : Progress) (fault : PcapFault) (at : IsUnderway [] bytes old before) → 0 < before.missing → after.heading ≡ before.heading
+pub unheaded : (bytes more : List ℕ) (before after : Progress) (fault : PcapFault) → before.heading ≡ None → after.heading ≡ before.heading
     → IsEnded [] bytes more after (Some fault) → (frames : List FrameValue) × IsReading bytes more None frames (Some fault)
-unheaded bytes old more before after fault at some same ended =
-    let short : length at.read < 24 = omega (arith, at.to_come, some) in
-    let none = same ∙ no_heading at.read before.heading (told [] bytes old before at) short in
-    (after.frames.items, subst (λ (h : Option Heading). IsReading bytes more h after.frames.items (Some fault)) none ended)
+unheaded bytes more before after fault none same ended =
+    (after.frames.items, subst (λ (h : Option Heading). IsReading bytes more h after.frames.items (Some fault)) (same ∙ none) ended)
 
 -- a capture whose records come has its heading from then on
 pub stays_records : (heading : Heading) (state after : CaptureState) (piece : List ℕ) (old new : List FrameValue) → state.stage ≡ Records heading

@@ -3,6 +3,7 @@ use Rattle.std.specs.Prelude.{◌≡◌, ◌⊎◌, ℕ, suc, ◌≤◌, ◌^◌
 use Rattle.std.specs.Prelude.{◌-◌, ◌<◌, All, IsSome}
 use Rattle.moment_core.specs.declared.colour.Colour.{Colour}
 use Rattle.pcap_capture.specs.Frames.{FrameValue}
+use Rattle.pcap_capture.specs.declared.heading.LinkType.{LinkType}
 use Rattle.frame_marker.specs.Ports.{sight_at}
 use Rattle.frame_marker.specs.declared.sight.Sight.{Sight}
 use Rattle.ds_conductor_base.specs.Passing.{colours_of}
@@ -12,6 +13,7 @@ use Rattle.ds_conductor_base.specs.Ways.{AreInReach}
 use Rattle.ds_visits.specs.Judging.{Judging, unjudged, verdict_with}
 use Rattle.ds_conductor_base.specs.declared.sent.Sent.{Sent}
 use Rattle.ds_conductor.specs.Markings.{see}
+use Rattle.ds_conductor.specs.Seens.{seen_at}
 use Rattle.ds_conductor.specs.Sendings.{AreCounted, packet_of, sent_of}
 use Rattle.ds_conductor.specs.Tallies.{AreTallied, AreWithin}
 use Rattle.ds_conductor.specs.Texts.{text_from}
@@ -28,12 +30,13 @@ unfoldable pub newest_after : ℕ → List FrameValue → ℕ
 newest_after newest [] = newest
 newest_after newest (f ∷ frames) = newest_after (max newest f.moment) frames
 
--- frames as they are held, of which the first has this number, and before which the greatest stamp is this
-unfoldable pub held_from : (List ℕ → Sight) → ℕ → ℕ → List FrameValue → List Held
-held_from see number newest [] = []
-held_from see number newest (f ∷ frames) =
-    record { frame = f; packet = packet_of (see f.bytes) number (max newest f.moment) }
-    ∷ held_from see (suc number) (max newest f.moment) frames
+-- frames as they are seen at a link and held, of which the first has this number, and before which the greatest stamp is
+-- this
+unfoldable pub held_from : LinkType → (List ℕ → Sight) → ℕ → ℕ → List FrameValue → List Held
+held_from link see number newest [] = []
+held_from link see number newest (f ∷ frames) =
+    record { frame = seen_at link f; packet = packet_of (see f.bytes) number (max newest f.moment) }
+    ∷ held_from link see (suc number) (max newest f.moment) frames
 
 -- the packets that may still be sent: those of later frames, or none
 abbrev pub MayCome : Bool → ℕ → List Sent → Type 0
@@ -72,7 +75,7 @@ pub record IsConditioned (p : Port) (more : Bool) (frames : List FrameValue) (te
     pub parted : frames ≡ gone ++ waiting
     pub paired : length colours ≡ length (sent_of (see_at p) gone)
     pub written : text ≡ text_from p.accepted.now p.red p.heading.link 0 gone (zip (sent_of (see_at p) gone) colours)
-    pub held : c.held.items ≡ held_from (see_at p) (length gone) (newest_after 0 gone) waiting
+    pub held : c.held.items ≡ held_from p.heading.link (see_at p) (length gone) (newest_after 0 gone) waiting
     pub newest : c.newest ≡ newest_after 0 frames
     pub comes : (back : List Sent) → MayCome more c.newest back
         → colours_of p.accepted.now (sent_of (see_at p) frames ++ back) ≡ colours ++ colours_left c.under_way back

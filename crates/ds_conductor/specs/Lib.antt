@@ -6,6 +6,7 @@ pub mod Markings
 pub mod Passings
 pub mod Readings
 pub mod Reports
+pub mod Seens
 pub mod Sendings
 pub mod Tallies
 pub mod Texts

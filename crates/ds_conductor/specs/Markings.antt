@@ -12,13 +12,15 @@ use Rattle.pcap_capture.specs.declared.heading.LinkType.{LinkType}
 use Rattle.ds_domain_base.specs.Domains.{is_port}
 use Rattle.ds_checker.specs.Acceptance.{Table}
 use Rattle.meter_fabric_base.specs.Grounds.{ground_of}
+use Rattle.run_audit.specs.Runs.{Run}
 use Rattle.run_audit.specs.Verdicts.{verdict_of}
 use Rattle.run_audit.specs.declared.verdict.Verdict.{Verdict}
 use Rattle.run_audit.specs.declared.verdict.Verdict.TheVariants.{Kept}
 use Rattle.frame_marker.specs.Sights.{sight_of}
 use Rattle.frame_marker.specs.declared.sight.Sight.{Sight}
 use Rattle.ds_conductor_base.specs.Passing.{colours_of}
-use Rattle.ds_visits.specs.Making.{run_behind}
+use Rattle.ds_visits.specs.Behind.{IsBehind}
+use Rattle.ds_visits.specs.Laws.{MarksAreSentColours}
 use Rattle.ds_conductor_base.specs.declared.sent.Sent.{Sent}
 use Rattle.ds_conductor.specs.Reports.{nothing_read, report_of, with_verdict}
 use Rattle.ds_conductor.specs.Sendings.{sent_of}
@@ -30,11 +32,11 @@ use Rattle.ds_conductor.specs.declared.fault.MarkFault.TheVariants as marks
 use Rattle.ds_conductor.specs.declared.report.Report.{Report}
 use Rattle.ds_conductor.specs.declared.rule.RedRule.{RedRule}
 
--- what is written, what is told, and the verdict on the run behind what was sent
+-- what is written, what is told, and what was sent
 pub record Marking : Type 0 where
   pub text : List ℕ
   pub report : Report
-  pub verdict : Verdict
+  pub sent : List Sent
 
 -- what a frame is at a port of a table
 abbrev pub see : Table → List ℕ → LinkType → List ℕ → Sight
@@ -45,7 +47,7 @@ abbrev pub marking_with : Table → List ℕ → RedRule → Heading → List Fr
 marking_with t port red heading frames sent colours = record {
   text = heading.bytes ++ text_from t red heading.link 0 frames (zip sent colours);
   report = report_of (see t port heading.link) red frames (zip sent colours);
-  verdict = verdict_of (ground_of t) (run_behind t sent);
+  sent = sent;
 }
 
 -- the marking of frames that stand behind a heading
@@ -56,7 +58,7 @@ marking_of t port red heading frames =
 
 -- without a heading there is nothing to mark
 abbrev pub nothing_marked : Marking
-nothing_marked = record { text = []; report = nothing_read; verdict = Kept }
+nothing_marked = record { text = []; report = nothing_read; sent = [] }
 
 abbrev pub marking_behind : Table → List ℕ → RedRule → Option (Result Heading PcapFault) → List FrameValue → Marking
 marking_behind t port red (Some (Ok heading)) frames = marking_of t port red heading frames
@@ -67,9 +69,17 @@ marking_behind t port red None frames = nothing_marked
 abbrev pub marking_in : Table → List ℕ → RedRule → List ℕ → Marking
 marking_in t port red bytes = marking_behind t port red (heading_of bytes) (capture bytes).frames
 
--- a marking whose report tells the verdict, as where a capture was marked to its end
-abbrev pub judged : Marking → Marking
-judged m = record m { report = with_verdict m.verdict m.report }
+-- a marking whose report tells a verdict, as where a capture was marked to its end
+abbrev pub judged : Verdict → Marking → Marking
+judged verdict m = record m { report = with_verdict verdict m.report }
+
+-- A verdict is that of the audit on a run behind packets that are sent: their visits made it, and in it each packet left
+-- its last meter with the colour that it is marked with. Where it is Kept, that is the colour that it was sent with.
+pub record IsVerdictOn (t : Table) (sent : List Sent) (verdict : Verdict) : Type 0 where
+  pub run : Run
+  pub behind : IsBehind t sent run
+  pub told : verdict ≡ verdict_of (ground_of t) run
+  pub kept : verdict ≡ Kept → MarksAreSentColours t sent run
 
 -- a marking was written whole behind what stood, and this is its report
 pub record IsWhole (m : Marking) (report : Report) (before after : List ℕ) : Type 0 where
@@ -84,7 +94,7 @@ pub record IsCutOff (marked : List ℕ → Marking) (bytes more before after : L
   pub told : report ≡ (marked read).report
 
 -- Memory ran out: a front of the marking of what was read is written, and told is the report of those of its frames that
--- memory was there for.
+-- memory was there for. What is written is a front of the marking of these alone, so the report covers all of it.
 pub record IsStarved (t : Table) (port : List ℕ) (red : RedRule) (bytes more before after : List ℕ) (report : Report)
     : Type 0 where
   pub read : List ℕ
@@ -93,6 +103,7 @@ pub record IsStarved (t : Table) (port : List ℕ) (red : RedRule) (bytes more b
   pub front : bytes ≡ read ++ more
   pub parted : (capture read).frames ≡ frames ++ others
   pub written : IsFrontOf before (marking_in t port red read).text after
+  pub covered : IsFrontOf before (marking_behind t port red (heading_of read) frames).text after
   pub told : report ≡ (marking_behind t port red (heading_of read) frames).report
 
 -- The marking of the bytes that a device gave before it failed was written whole, and no fault stands in them.
@@ -108,6 +119,14 @@ pub record IsWholeWith (marked : List ℕ → Marking) (bytes before after : Lis
   pub whole : IsWhole (marked bytes) report before after
   pub stands : fault_in bytes ≡ fault
 
+-- A capture was marked to its end: its marking was written whole, no fault stands in it, and told is the verdict on a
+-- run behind what its frames sent.
+pub record IsMarkedToItsEnd (t : Table) (marked : List ℕ → Marking) (bytes before after : List ℕ) (report : Report)
+    : Type 0 where
+  pub verdict : Verdict
+  pub whole : IsWholeWith (λ read. judged verdict (marked read)) bytes before after report None
+  pub behind : IsVerdictOn t (marked bytes).sent verdict
+
 -- what was written, by the fault of the capture that came
 abbrev pub IsMarkedBut : (List ℕ → Marking) → List ℕ → List ℕ → List ℕ → List ℕ → Report → PcapFault → Type 0
 IsMarkedBut marked bytes more before after report pcaps.ReadFault = IsWholeSoFar marked bytes more before after report
@@ -117,13 +136,12 @@ IsMarkedBut marked bytes more before after report fault =
     IsWholeWith marked bytes before after report (Some fault)
 
 -- What was written behind what stood, and what is answered, for the bytes that a device had and those that it still
--- has: all of the marked capture, up to its end, with the verdict on the run behind it, or to the first fault that
--- stands in it; or all of what the device gave
--- before it failed; or a front, where the other device failed or memory ran out.
+-- has: all of the marked capture, up to its end, with the verdict on a run behind it, or to the first fault that stands
+-- in it; or all of what the device gave before it failed; or a front, where the other device failed or memory ran out.
 abbrev pub IsMarkedAs : Table → List ℕ → RedRule → List ℕ → List ℕ → List ℕ → List ℕ
     → Result Report (Report × MarkFault) → Type 0
 IsMarkedAs t port red bytes more before after (Ok report) =
-    IsWholeWith (λ read. judged (marking_in t port red read)) bytes before after report None
+    IsMarkedToItsEnd t (marking_in t port red) bytes before after report
 IsMarkedAs t port red bytes more before after (Err (report, marks.Capture fault)) =
     IsMarkedBut (marking_in t port red) bytes more before after report fault
 IsMarkedAs t port red bytes more before after (Err (report, marks.UnknownPort)) = ⊥

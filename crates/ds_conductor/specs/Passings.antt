@@ -6,12 +6,11 @@ use Rattle.pcap_capture.specs.Frames.{FrameValue}
 use Rattle.pcap_capture.specs.Grammar.{capture, heading_of}
 use Rattle.pcap_capture.specs.declared.fault.PcapFault.{PcapFault}
 use Rattle.pcap_capture.specs.declared.fault.PcapFault.TheVariants as pcaps
-use Rattle.meter_fabric_base.specs.Grounds.{ground_of}
-use Rattle.run_audit.specs.Verdicts.{verdict_of}
+use Rattle.run_audit.specs.declared.verdict.Verdict.{Verdict}
+use Rattle.ds_checker.specs.Acceptance.{Table}
 use Rattle.ds_conductor_base.specs.Passing.{colours_of}
-use Rattle.ds_visits.specs.Making.{run_behind}
 use Rattle.ds_conductor.specs.Conditionings.{IsConditioned, see_at}
-use Rattle.ds_conductor.specs.Markings.{IsMarkedAs, IsWhole, Marking, answer_of, is_read}
+use Rattle.ds_conductor.specs.Markings.{IsMarkedAs, IsVerdictOn, IsWhole, Marking, answer_of, is_read}
 use Rattle.ds_conductor.specs.Readings.{IsAsked, IsAskedTo, IsReading, IsUnderway, is_starved}
 use Rattle.ds_conductor.specs.Reports.{report_of}
 use Rattle.ds_conductor.specs.Sendings.{sent_of}
@@ -99,14 +98,16 @@ marking_at p frames =
     record {
       text = p.heading.bytes ++ text_from p.accepted.now p.red p.heading.link 0 frames coloured;
       report = report_of (see_at p) p.red frames coloured;
-      verdict = verdict_of (ground_of p.accepted.now) (run_behind p.accepted.now (sent_of (see_at p) frames));
+      sent = sent_of (see_at p) frames;
     }
 
 -- What is answered to frames whose reading ended by a fault, or not: that with the report of their marking, which is
--- written whole; or a fault of the writing, where a front of it is.
-abbrev pub IsFinished : Marking → Option PcapFault → List ℕ → List ℕ → Result Report (Report × MarkFault) → Type 0
-IsFinished m fault before after answer =
-    (IsWhole m m.report before after × (answer ≡ answer_of m.verdict m.report fault))
+-- written whole, and with the verdict on what they sent; or a fault of the writing, where a front of it is.
+abbrev pub IsFinished : Table → Marking → Option PcapFault → List ℕ → List ℕ → Result Report (Report × MarkFault)
+    → Type 0
+IsFinished t m fault before after answer =
+    ((verdict : Verdict) × IsVerdictOn t m.sent verdict × IsWhole m m.report before after
+    × (answer ≡ answer_of verdict m.report fault))
     ⊎ ((unwritten : MarkFault) × ((unwritten ≡ marks.Capture pcaps.WriteFault) ⊎ (unwritten ≡ marks.NoMemory))
     × IsFrontOf before m.text after × (answer ≡ Err (m.report, unwritten)))
 

@@ -6,6 +6,7 @@ ghost use Rattle.ds_conductor_base.specs.Streams.{colours_left, decided, next_pl
 ghost use Rattle.ds_conductor.specs.Conditionings.{IsBounded, IsConditioned, IsSeeing, IsUndecided, see_at};
 ghost use Rattle.ds_visits.specs.Judging.{verdict_with};
 ghost use Rattle.ds_conductor.specs.Reports.{report_of};
+ghost use Rattle.ds_conductor.specs.Seens.{IsSeenAt};
 ghost use Rattle.ds_conductor.specs.Sendings.{counted_on, packet_of, sent_of};
 ghost use Rattle.std.specs.VecDeque.{deque_capacity, deque_len};
 ghost use Rattle.ds_conductor.specs.Texts.{record_text};
@@ -87,7 +88,7 @@ impl<'a> Conditioner<'a> {
         let moment = later(self.newest, frame.moment());
         let seen = port.classifier.see(port.heading.link, frame.bytes());
         let packet = packet_of(&seen.sight, self.counts.records, moment);
-        let frame = SeenFrame::new(frame, port.heading.link, seen.mark);
+        let frame = SeenFrame::new(frame, seen.mark);
         self.held.reserve(1)?;
         self.send(&packet)?;
         self.held.push_back(Held { frame, packet }).unwrap();
@@ -169,8 +170,8 @@ impl<'a> Conditioner<'a> {
         ensures handed { (p : Port) (more : Bool) (frames : List FrameValue) (text : List ℕ)
             → IsConditioned p more frames text self.old → MatchOption result
             (IsConditioned p more frames text self.new)
-            (λ it. IsConditioned p more frames
-            (text ++ record_text p.accepted.now p.red p.heading.link it.0 it.1) self.new) }
+            (λ it. IsSeenAt p.heading.link it.0 × IsConditioned p more frames
+            (text ++ record_text p.accepted.now p.red p.heading.link it.0.frame it.1) self.new) }
     {
         match self.held.front()?.packet {
             None => {

@@ -40,12 +40,16 @@ const TURNS: u64 = 1 << 32;
 /// is decided, before more is read: the heading and each record stand as they came but for the marks. What is held are
 /// the frames whose last visit is still to come, and one piece.
 ///
-/// At its end the report has the verdict on the run behind the capture: that of its audit.
+/// At its end the report has the verdict of the audit on the run behind the capture: the visits of what was sent make
+/// it, and each packet left its last meter there with the colour that its frame is marked with. Where that is `Kept`,
+/// each packet is marked with the colour that it was sent with: one of a trusted contract with that of its code point.
 ///
 /// Refused, with the report of what was read: `UnknownPort` exactly where the domain has no port of that name (nothing
-/// is read); `NoMemory` (a front is written, and the report is that of the frames that memory was there for); `Capture`
-/// with the first fault that stands in the capture, or a read fault, where every record before it is written, or with a
-/// write fault, where a front is written. It never answers `JournalFull`: no journal is kept.
+/// is read); `NoMemory` (a front is written, and the report is that of the frames that memory was there for, of whose
+/// marking that is a front too); `Capture` with the first fault that stands in the capture, or a read fault, where every
+/// record before it is written, or with a write fault, where a front is written. Where a device fails to give bytes, and
+/// what it gave before cannot be written whole, that is what is answered: a read fault says that all of it stands there.
+/// The device's own count tells that it failed. It never answers `JournalFull`: no journal is kept.
 pub fn mark<I: Intake, O: Outlet, G: Gate>(
     alloc: Global,
     accepted: &Accepted,
@@ -70,6 +74,7 @@ pub fn mark<I: Intake, O: Outlet, G: Gate>(
         ≡ (if is_unwritten result then next_count (O.failed outlet.old) else O.failed outlet.old) }
     ensures reads { IsOfReads result (I.failed intake.old) (I.failed intake.new) (I.turns intake.old)
         (I.turns intake.new) }
+    ensures few { IfOk result (λ report. report.records ≤ 2 ^ 44) }
 {
     let Some(port) = accepted.domain().port_named(port) else {
         return Err((Report::nothing(), MarkFault::UnknownPort));
@@ -221,7 +226,7 @@ fn finish<O: Outlet>(
     ensures marked { O.tells outlet.old → (frames : List FrameValue) (text before : List ℕ)
         → IsConditioned port.now false frames text conditioner.old
         → IsWrittenTo out.old.items before (port.now.heading.bytes ++ text) (O.held outlet.old)
-        → IsFinished (marking_at port.now frames) fault before (O.held outlet.new) result }
+        → IsFinished port.now.accepted.now (marking_at port.now frames) fault before (O.held outlet.new) result }
     ensures writes { O.failed outlet.new
         ≡ (if is_unwritten result then next_count (O.failed outlet.old) else O.failed outlet.old) }
     ensures known { IfErr result (λ refused. ¬ (refused.1 ≡ MarkFault.UnknownPort)) }

@@ -1,5 +1,5 @@
 ghost use Rattle.std.specs.Prelude.{◌≡◌, ℕ, ◌-◌, ◌≤◌, ◌<◌, List, [], ◌++◌, length, Ok};
-ghost use Rattle.std.specs.Prelude.{None, Some, Err, IfErr, MatchResult, Option, ◌+◌, ◌*◌, OnErr, OnOk, false, true};
+ghost use Rattle.std.specs.Prelude.{None, Some, Err, IfErr, MatchResult, Option, ◌+◌, ◌*◌, OnErr, OnOk, true};
 ghost use Rattle.pcap_capture.specs.Frames.{FrameValue};
 ghost use Rattle.ds_conductor.specs.Readings.{IsAsked, IsAskedOn, IsEnded, IsReadOn, IsReading, IsUnderway};
 ghost use Rattle.ds_conductor.specs.Readings.{bytes_of, heading_at};
@@ -47,15 +47,10 @@ fn wanted(missing: usize) -> usize
     if missing > 0 { missing } else { PIECE }
 }
 
-/// Ends a capture of which no byte is left.
-fn finish(progress: &mut Progress) -> Result<(), PcapFault>
+/// Ends a capture of which no byte is left: no piece comes any more.
+fn finish(progress: &mut Progress) -> Result<bool, PcapFault>
     ensures read { (gone : List FrameValue) (bytes : List ℕ)
-        → IsUnderway gone bytes [] progress.old
-        → MatchResult result
-        (λ _. IsEnded gone bytes [] progress.new None)
-        (λ fault. IsEnded gone bytes [] progress.new (Some fault)) }
-    ensures whole { OnOk result ((gone : List FrameValue) (bytes more : List ℕ)
-        → IsUnderway gone bytes more progress.old → progress.old.missing ≡ 0) }
+        → IsUnderway gone bytes [] progress.old → IsReadOn gone bytes [] progress.new result }
     ensures missing { progress.new.missing ≡ progress.old.missing }
     ensures heading { progress.new.heading ≡ progress.old.heading }
     ensures turns { progress.new.turns ≡ progress.old.turns }
@@ -63,33 +58,34 @@ fn finish(progress: &mut Progress) -> Result<(), PcapFault>
     ensures fault { IfErr result (λ fault. is_own fault ≡ true) }
 {
     match progress.capture.finish() {
-        Ok(()) => Ok(()),
+        Ok(()) => Ok(false),
         Err(fault) => Err(fault),
     }
 }
 
-/// Takes a piece of a device, which has no byte behind the heading as long as that is to come, and reads it, or ends the
-/// capture where no byte is left. Answers whether there was a piece.
-pub(crate) fn read_piece<I: Intake>(
+/// Takes a piece of a device, which has no byte behind the heading as long as that is to come, and reads it. Answers how
+/// many bytes were taken: none only where no byte is left.
+fn take_piece<I: Intake>(
     alloc: Global,
     intake: &mut I,
     progress: &mut Progress,
-) -> Result<bool, PcapFault>
+) -> Result<usize, PcapFault>
     requires missing { progress.old.missing ≤ 24 }
     ensures missing { progress.new.missing ≤ progress.old.missing }
-    ensures nearer { result ≡ Ok true → 0 < progress.old.missing → progress.new.missing < progress.old.missing }
     ensures turns { progress.new.turns ≡ progress.old.turns - 1 }
-    ensures going { result ≡ Ok true → 0 < progress.old.turns }
+    ensures going { OnOk result (0 < progress.old.turns) }
     ensures heading { OnErr result (progress.new.heading ≡ progress.old.heading) }
     ensures stays { (heading : Heading) → progress.old.capture.stage ≡ Stage.Records heading
         → progress.old.heading ≡ Some heading → progress.new.heading ≡ Some heading }
     ensures few { bytes_of progress.new ≤ bytes_of progress.old }
     ensures told { I.tells intake.old → I.tells intake.new }
     ensures read { (gone : List FrameValue) (bytes : List ℕ) → I.tells intake.old
-        → IsUnderway gone bytes (I.left intake.old) progress.old
-        → IsReadOn gone bytes (I.left intake.new) progress.new result }
-    ensures whole { result ≡ Ok false → (gone : List FrameValue) (bytes more : List ℕ)
-        → IsUnderway gone bytes more progress.old → progress.old.missing ≡ 0 }
+        → IsUnderway gone bytes (I.left intake.old) progress.old → MatchResult result
+        (λ _. IsUnderway gone bytes (I.left intake.new) progress.new)
+        (λ fault. IsEnded gone bytes (I.left intake.new) progress.new (Some fault)) }
+    ensures end { I.tells intake.old → result ≡ Ok 0 → I.left intake.new ≡ [] }
+    ensures still { result ≡ Ok 0 → (gone : List FrameValue) (bytes more : List ℕ)
+        → IsUnderway gone bytes more progress.old → progress.new.heading ≡ progress.old.heading }
     ensures asked { (failed asked : ℕ) → IsAsked progress.old.turns failed (I.failed intake.old) asked
         (I.turns intake.old)
         → IsAskedOn result progress.new.turns failed (I.failed intake.new) asked (I.turns intake.new) }
@@ -107,12 +103,41 @@ pub(crate) fn read_piece<I: Intake>(
         Ok(taken) => taken,
         Err(fault) => return Err(fault),
     };
-    if taken == 0 {
-        finish(progress)?;
-        return Ok(false);
-    }
     progress.heading = heading_by(progress.capture.stage());
     progress.missing = progress.missing.saturating_sub(taken);
+    Ok(taken)
+}
+
+/// Takes a piece of a device, which has no byte behind the heading as long as that is to come, and reads it, or ends the
+/// capture where no byte is left. Answers whether there was a piece.
+pub(crate) fn read_piece<I: Intake>(
+    alloc: Global,
+    intake: &mut I,
+    progress: &mut Progress,
+) -> Result<bool, PcapFault>
+    requires missing { progress.old.missing ≤ 24 }
+    ensures missing { progress.new.missing ≤ progress.old.missing }
+    ensures turns { progress.new.turns ≡ progress.old.turns - 1 }
+    ensures going { OnOk result (0 < progress.old.turns) }
+    ensures stays { (heading : Heading) → progress.old.capture.stage ≡ Stage.Records heading
+        → progress.old.heading ≡ Some heading → progress.new.heading ≡ Some heading }
+    ensures few { bytes_of progress.new ≤ bytes_of progress.old }
+    ensures told { I.tells intake.old → I.tells intake.new }
+    ensures read { (gone : List FrameValue) (bytes : List ℕ) → I.tells intake.old
+        → IsUnderway gone bytes (I.left intake.old) progress.old
+        → IsReadOn gone bytes (I.left intake.new) progress.new result }
+    ensures asked { (failed asked : ℕ) → IsAsked progress.old.turns failed (I.failed intake.old) asked
+        (I.turns intake.old)
+        → IsAskedOn result progress.new.turns failed (I.failed intake.new) asked (I.turns intake.new) }
+    ensures no_write { ¬ (result ≡ Err PcapFault.WriteFault) }
+{
+    let taken = match take_piece(alloc, intake, progress) {
+        Ok(taken) => taken,
+        Err(fault) => return Err(fault),
+    };
+    if taken == 0 {
+        return finish(progress);
+    }
     Ok(true)
 }
 
@@ -136,16 +161,17 @@ pub(crate) fn read_heading<I: Intake>(
         → IsAskedOn result progress.new.turns failed (I.failed intake.new) asked (I.turns intake.new) }
     ensures no_write { ¬ (result ≡ Err PcapFault.WriteFault) }
 {
-    while progress.missing > 0 {
-        match read_piece(alloc, intake, progress) {
-            Ok(true) => {}
-            Ok(false) => return Err(PcapFault::Truncated),
-            Err(fault) => return Err(fault),
+    loop {
+        if let Some(heading) = progress.heading {
+            return Ok(heading);
         }
-    }
-    match progress.heading {
-        Some(heading) => Ok(heading),
-        None => Err(PcapFault::Failed),
+        let taken = match take_piece(alloc, intake, progress) {
+            Ok(taken) => taken,
+            Err(fault) => return Err(fault),
+        };
+        if taken == 0 {
+            return Err(PcapFault::Truncated);
+        }
     }
 }
 

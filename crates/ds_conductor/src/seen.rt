@@ -1,66 +1,61 @@
 ghost use Rattle.std.specs.Prelude.{◌≡◌, ◌++◌};
-ghost use Rattle.pcap_capture.specs.Frames.{FrameValue};
+ghost use Rattle.pcap_capture.specs.declared.heading.LinkType.{LinkType};
 ghost use Rattle.frame_marker.specs.Frames.{marked_frame};
-ghost use Rattle.frame_marker.specs.Marks.{mark_in};
+ghost use Rattle.frame_marker.specs.Marks.{IsMarkOf};
+ghost use Rattle.ds_conductor.specs.Seens.{IsSeenAt};
 
 use af_marker::Dscp;
-use frame_marker::{Mark, mark_frame, mark_seen};
-use pcap_capture::{Frame, LinkType};
+use frame_marker::{Mark, mark_seen};
+use pcap_capture::Frame;
 use std::marker::Model;
 
 /// A frame that was seen at a link, with what marking it there needs, so that its header is not read again.
 #[derive(Drop)]
 pub(crate) struct SeenFrame {
     frame: Frame,
-    link: LinkType,
     mark: Option<Mark>,
 }
 
 impl Model for SeenFrame {
-    ghost use Rattle.std.specs.Prelude.{◌≡◌};
-    ghost use Rattle.pcap_capture.specs.Frames.{FrameValue};
-    ghost use Rattle.frame_marker.specs.Marks.{mark_in};
+    ghost use Rattle.frame_marker.specs.Marks.{IsMarkOf};
+    ghost use Rattle.ds_conductor.specs.Seens.{SeenValue};
 
-    ghost Value = { FrameValue };
+    ghost Value = { SeenValue };
 
-    ghost view = { λ f. f.frame };
+    ghost view = { λ f. record { frame = f.frame; mark = f.mark } };
 
-    ghost invariant = { λ f. f.mark ≡ mark_in f.link f.frame.bytes };
+    ghost invariant = { λ f. IsMarkOf f.mark f.frame.bytes };
 }
 
 impl SeenFrame {
-    /// A frame, and what was seen of it at a link.
-    pub(crate) fn new(frame: Frame, link: LinkType, mark: Option<Mark>) -> Self
-        requires { mark ≡ mark_in link frame.bytes }
-        ensures { result ≡ frame }
+    /// A frame, and what was seen of it.
+    pub(crate) fn new(frame: Frame, mark: Option<Mark>) -> Self
+        requires { IsMarkOf mark frame.bytes }
+        ensures { result ≡ record { frame = frame; mark = mark } }
     {
-        SeenFrame { frame, link, mark }
+        SeenFrame { frame, mark }
     }
 
     /// The captured bytes.
     pub(crate) fn bytes(&self) -> &[u8]
-        ensures { result.now ≡ self.now.bytes }
+        ensures { result.now ≡ self.now.frame.bytes }
     {
         self.frame.bytes()
     }
 
     /// The whole record, as it stands in the capture: its own sixteen bytes, and the captured bytes.
     pub(crate) fn record(&self) -> &[u8]
-        ensures { result.now ≡ self.now.head ++ self.now.bytes }
+        ensures { result.now ≡ self.now.frame.head ++ self.now.frame.bytes }
     {
         self.frame.record()
     }
 
-    /// Puts a code point into these bytes, which are the captured ones, as a frame of a link (RFC 2474 section 3): by
-    /// what was seen, where it was seen at that link.
-    pub(crate) fn mark(&self, bytes: &mut [u8], link: LinkType, dscp: Dscp)
-        requires { bytes.old ≡ self.now.bytes }
-        ensures { bytes.new ≡ marked_frame link dscp bytes.old }
+    /// Puts a code point into these bytes, which are the captured ones, as a frame of the link at which it was seen
+    /// (RFC 2474 section 3).
+    pub(crate) fn mark(&self, bytes: &mut [u8], dscp: Dscp)
+        requires { bytes.old ≡ self.now.frame.bytes }
+        ensures { (link : LinkType) → IsSeenAt link self.now → bytes.new ≡ marked_frame link dscp bytes.old }
     {
-        if link == self.link {
-            mark_seen(bytes, self.mark, dscp);
-        } else {
-            mark_frame(link, bytes, dscp);
-        }
+        mark_seen(bytes, self.mark, dscp);
     }
 }

@@ -5,7 +5,9 @@ ghost use Rattle.meter_fabric_base.specs.Grounds.{contract_of, ground_of};
 ghost use Rattle.pcap_capture.specs.Counts.{next_count};
 ghost use Rattle.pcap_capture.specs.Frames.{FrameValue};
 ghost use Rattle.pcap_capture.specs.Fronts.{IsFrontOf};
+ghost use Rattle.pcap_capture.specs.declared.heading.LinkType.{LinkType};
 ghost use Rattle.ds_conductor.specs.Conditionings.{IsBounded, IsConditioned, IsUndecided};
+ghost use Rattle.ds_conductor.specs.Seens.{IsSeenAt};
 ghost use Rattle.ds_conductor.specs.Texts.{is_dropped, record_text, text_in_class};
 ghost use Rattle.ds_conductor.specs.Writings.{IsWrittenTo, is_write_fault};
 
@@ -18,7 +20,7 @@ use af_marker::{Dscp, dscp};
 use ds_conductor_base::Sent;
 use meter_fabric_base::contract_of;
 use moment_core::Colour;
-use pcap_capture::{LinkType, Outlet, PcapFault, hand_over};
+use pcap_capture::{Outlet, PcapFault, hand_over};
 use std::alloc::AllocError;
 
 /// From so many bytes on, what is collected is handed over.
@@ -68,12 +70,13 @@ fn is_dropped(red: RedRule, colour: Colour) -> bool
 }
 
 /// Marks a frame in a text, where its bytes stand from a place on.
-fn mark_from(text: &mut Vec<u8>, start: usize, frame: &SeenFrame, link: LinkType, dscp: Dscp)
+fn mark_from(text: &mut Vec<u8>, start: usize, frame: &SeenFrame, dscp: Dscp)
     requires within { start ≤ length text.old.items }
-    requires bytes { drop start text.old.items ≡ frame.now.bytes }
-    ensures { text.new.items ≡ take start text.old.items ++ marked_frame link dscp (drop start text.old.items) }
+    requires bytes { drop start text.old.items ≡ frame.now.frame.bytes }
+    ensures { (link : LinkType) → IsSeenAt link frame.now
+        → text.new.items ≡ take start text.old.items ++ marked_frame link dscp (drop start text.old.items) }
 {
-    frame.mark(&mut text.as_mut_slice()[start..], link, dscp);
+    frame.mark(&mut text.as_mut_slice()[start..], dscp);
 }
 
 /// Adds the record of a frame to a text, marked there with the code point of a colour in the class of a contract.
@@ -84,20 +87,14 @@ fn add_marked(
     flow: u32,
     colour: Colour,
 ) -> Result<(), AllocError>
-    ensures { OnOk result
-        (out.new.items ≡ out.old.items ++ text_in_class port.now.heading.link frame.now colour
+    ensures { OnOk result (IsSeenAt port.now.heading.link frame.now
+        → out.new.items ≡ out.old.items ++ text_in_class port.now.heading.link frame.now.frame colour
         (contract_of (ground_of port.now.accepted.now) flow)) }
 {
     out.extend_from_slice(frame.record())?;
     if let Some(contract) = contract_of(port.accepted, flow) {
         let start = out.len() - frame.bytes().len();
-        mark_from(
-            out,
-            start,
-            frame,
-            port.heading.link,
-            dscp(contract.class, colour),
-        );
+        mark_from(out, start, frame, dscp(contract.class, colour));
     }
     Ok(())
 }
@@ -110,8 +107,8 @@ fn add_record(
     frame: &SeenFrame,
     packet: Option<(Sent, Colour)>,
 ) -> Result<(), AllocError>
-    ensures { OnOk result (out.new.items
-        ≡ out.old.items ++ record_text port.now.accepted.now port.now.red port.now.heading.link frame.now packet) }
+    ensures { OnOk result (IsSeenAt port.now.heading.link frame.now → out.new.items
+        ≡ out.old.items ++ record_text port.now.accepted.now port.now.red port.now.heading.link frame.now.frame packet) }
 {
     match packet {
         None => out.extend_from_slice(frame.record()),
@@ -130,11 +127,12 @@ fn write_frame<O: Outlet>(
     packet: Option<(Sent, Colour)>,
 ) -> Result<(), MarkFault>
     ensures told { O.tells outlet.old → O.tells outlet.new }
-    ensures bytes { O.tells outlet.old → MatchResult result
-        (λ _. IsWrittenTo out.new.items (O.held outlet.old)
-        (out.old.items ++ record_text port.now.accepted.now port.now.red port.now.heading.link frame packet) (O.held outlet.new))
-        (λ _. IsFrontOf (O.held outlet.old) (out.old.items ++ record_text port.now.accepted.now port.now.red port.now.heading.link frame packet)
-        (O.held outlet.new)) }
+    ensures bytes { O.tells outlet.old → IsSeenAt port.now.heading.link frame →
+        let text = out.old.items
+        ++ record_text port.now.accepted.now port.now.red port.now.heading.link frame.frame packet in
+        MatchResult result
+        (λ _. IsWrittenTo out.new.items (O.held outlet.old) text (O.held outlet.new))
+        (λ _. IsFrontOf (O.held outlet.old) text (O.held outlet.new)) }
     ensures fault { IfErr result (λ fault. (fault ≡ MarkFault.Capture PcapFault.WriteFault)
         ⊎ (fault ≡ MarkFault.NoMemory)) }
     ensures failures { O.failed outlet.new

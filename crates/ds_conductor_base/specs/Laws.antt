@@ -16,7 +16,7 @@ use Rattle.ds_conductor_base.specs.declared.step.Step.{Step}
 use Rattle.ds_conductor_base.specs.declared.step.Step.TheVariants.{Send, Visit}
 use Rattle.run_audit.specs.Orders.{in_order}
 use Rattle.ds_conductor_base.specs.Passing.{colours_of}
-use Rattle.ds_conductor_base.specs.Streams.{AreSentFrom, begun, colours_left, due, late}
+use Rattle.ds_conductor_base.specs.Streams.{AreSentFrom, Stream, begun, colours_left, decided, due, late}
 use Rattle.ds_conductor_base.specs.Visits.{is_before, visits_from, visits_of}
 use Rattle.ds_conductor_base.specs.declared.sent.Sent.{Sent}
 
@@ -97,3 +97,7 @@ VisitsUpToAMomentAreFinal =
 -- Before the first packet is sent, the colours of all are still to come.
 abbrev pub AllColoursCome : Type 0
 AllColoursCome = (t : Table) (sent : List Sent) → colours_left (begun t) sent ≡ colours_of t sent
+
+-- Where all visits are made and the next packet is not decided, no colour is still to come.
+abbrev pub NoColourIsLeft : Type 0
+NoColourIsLeft = (u : Stream) → u.waiting ≡ [] → decided u ≡ None → colours_left u [] ≡ []

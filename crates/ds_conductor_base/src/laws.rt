@@ -1,5 +1,5 @@
 //! What steps and visits make, proved as the contracts of functions that do nothing.
-ghost use Rattle.ds_conductor_base.specs.Laws.{AllColoursCome, JournalsAreTheVisits, OneColourEach};
+ghost use Rattle.ds_conductor_base.specs.Laws.{AllColoursCome, JournalsAreTheVisits, NoColourIsLeft, OneColourEach};
 ghost use Rattle.ds_conductor_base.specs.Laws.{PacketsAreThoseSent, StepsKeepOnTheWay, StepsMakeRuns};
 ghost use Rattle.ds_conductor_base.specs.Laws.{VisitsUpToAMomentAreFinal};
 
@@ -40,4 +40,10 @@ pub fn visits_up_to_a_moment_are_final()
 /// Before the first packet is sent, the colours of all packets are still to come.
 pub fn all_colours_come()
     ensures { AllColoursCome }
+{}
+
+/// Once all visits are made and the next packet is not decided, since there is none, no colour is still to come: all
+/// were handed out.
+pub fn no_colour_is_left()
+    ensures { NoColourIsLeft }
 {}

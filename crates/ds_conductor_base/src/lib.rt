@@ -10,13 +10,12 @@
 //! - what is sent → `sent`; where a contract's packets come, and when → `way`; a packet at a hop → `visit`
 //! - visits that wait until they are due, in the order in which they are made → `queue`
 //! - a visit is made, and the gate is called round it → `passing`, `gate`; over the meters of all sites → `meters`
-//! - packets under way, whose colours are handed out once they are decided → `under_way`; all at once → `colouring`
+//! - packets under way, whose colours are handed out once they are decided → `under_way`
 //!
 //! What holds of both → `laws`
 #![tactic(auto)]
 
 mod closing;
-pub mod colouring;
 pub mod conducting;
 pub mod conductor;
 pub mod fault;
@@ -33,7 +32,6 @@ pub mod visit;
 mod visiting;
 pub mod way;
 
-pub use colouring::colours;
 pub use conducting::conduct;
 pub use conductor::Conductor;
 pub use fault::{ConductFault, StepFault};

@@ -1,9 +1,9 @@
 ghost use Rattle.std.specs.Prelude.{◌≡◌, ◌+◌, ◌-◌, ◌<◌, ◌^◌, ◌++◌, [], ◌∷◌, List, IfOk, OnErr, OnOk, option_to_list};
+ghost use Rattle.ds_conductor_base.specs.Passing.{came_of};
 ghost use Rattle.ds_conductor_base.specs.Streams.{AreSentFrom, begun, colours_left, decided, handed, made_due, next_place};
 ghost use Rattle.ds_conductor_base.specs.Streams.{with_sent};
 ghost use Rattle.ds_conductor_base.specs.declared.sent.Sent.{Sent};
 
-use crate::colouring::came;
 use crate::gate::Gate;
 use crate::meters::opened_meters;
 use crate::passing::{OnTheWay, pass};
@@ -12,6 +12,7 @@ use crate::sent::Sent;
 use crate::way::{Way, all_ways, stops_at};
 use ds_checker::Accepted;
 use meter_book_base::AnyMeter;
+use meter_fabric_base::contract_of;
 use moment_core::{Colour, Moment};
 use std::alloc::{AllocError, Global};
 use std::collections::VecDeque;
@@ -128,5 +129,15 @@ impl<'a> UnderWay<'a> {
         let packet = self.packets.pop_front()?;
         self.first += 1;
         Some(packet.colour)
+    }
+}
+
+/// The colour that a packet comes in with: red where there is no contract of its number.
+fn came(accepted: &Accepted, packet: Sent) -> Colour
+    ensures { result ≡ came_of accepted.now packet }
+{
+    match contract_of(accepted, packet.flow) {
+        Some(contract) => contract.came(packet.dscp),
+        None => Colour::Red,
     }
 }

@@ -309,26 +309,33 @@ fn frames(rt: &impl Abort, alloc: Global, records: u64) -> Vec<u8> {
     bytes
 }
 
-/// Expects of so many frames that each is marked and written, however often its meter was visited.
-fn expect_all(rt: &impl Abort, alloc: Global, accepted: &Accepted, records: u64) {
+/// Expects of so many frames that each is marked and written, however often its meter was visited, and that they are
+/// taken by so many calls: one for the heading, one for each piece of 65,536 bytes behind it, and one at the end.
+fn expect_all(rt: &impl Abort, alloc: Global, accepted: &Accepted, records: u64, turns: u64) {
     let given = frames(rt, alloc, records);
     let mut intake = SliceIntake::new(given.as_slice());
     let marked = leavings(alloc, accepted, "p", RedRule::Keep, &mut intake);
     assert_eq!(rt; marked.fault, None);
     assert_eq!(rt; marked.report.marked, records);
     assert_eq!(rt; marked.written.len(), given.len());
+    assert_eq!(rt; intake.turns, turns);
     drop(marked);
     drop(given);
 }
 
 /// Expects the same over the narrow table.
-fn expect_all_of_narrow(rt: &impl Abort, alloc: Global, records: u64) {
+fn expect_all_of_narrow(rt: &impl Abort, alloc: Global, records: u64, turns: u64) {
     let accepted = narrow(rt, alloc);
-    expect_all(rt, alloc, &accepted, records);
+    expect_all(rt, alloc, &accepted, records, turns);
     drop(accepted);
 }
 
 #[test]
 fn a_meter_that_is_visited_more_often_than_a_journal_has_rows(rt: HostRuntime) {
-    expect_all_of_narrow(&rt, rt.alloc(), 1_048_577);
+    expect_all_of_narrow(&rt, rt.alloc(), 1_048_577, 867);
+}
+
+#[test]
+fn a_capture_is_taken_in_pieces_as_large_as_may_be(rt: HostRuntime) {
+    expect_all_of_narrow(&rt, rt.alloc(), 1_214, 4);
 }

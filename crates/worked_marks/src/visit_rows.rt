@@ -2,7 +2,7 @@ use crate::mark_rows::narrow;
 use crate::tables::table_of;
 use af_marker::Dscp;
 use ds_checker::Accepted;
-use ds_conductor_base::{OpenGate, Sent, UnderWay, colours};
+use ds_conductor_base::{OpenGate, Sent, UnderWay};
 use moment_core::{Colour, Moment, PacketSize};
 use std::alloc::Global;
 use std::process::Abort;
@@ -10,9 +10,10 @@ use std::process::Abort;
 /// Expects no colour where nothing is sent into a domain of nothing.
 fn expect_none(rt: &impl Abort, alloc: Global) {
     let accepted = table_of(rt, alloc, "", "dscert 1\n");
-    let left = colours(alloc, &accepted, &[], &OpenGate).expect(rt, "memory");
-    assert_eq!(rt; left.len(), 0);
-    drop(left);
+    let mut under_way = UnderWay::new(alloc, &accepted).expect(rt, "memory");
+    under_way.make_all(&OpenGate);
+    assert_eq!(rt; under_way.decided(), None);
+    drop(under_way);
     drop(accepted);
 }
 

@@ -1,8 +1,9 @@
-use Rattle.std.proofs.Common.{◌≤◌, ◌^◌, length, arith, ◌++◌, ap, sym, inl, inr, refl, Err, ◌∙◌}
-use Rattle.ds_conductor.specs.Markings.{answer_of, is_read_whole, is_unread}
+use Rattle.std.proofs.Common.{◌≤◌, ◌^◌, length, arith, ◌++◌, ap, subst, sym, inl, inr, refl, Err, ◌∙◌}
+use Rattle.ds_conductor.specs.Conditionings.{see_at}
+use Rattle.ds_conductor.specs.Markings.{IsVerdictOn, answer_of, is_read_whole, is_unread}
+use Rattle.ds_conductor.specs.Sendings.{sent_of}
 use Rattle.ds_conductor.specs.Texts.{text_from}
 use Rattle.ds_conductor.proofs.ConditionLaws.{ended, front_last, judged_by}
-use Rattle.ds_conductor.specs.Passings.{marking_at}
 use Rattle.ds_conductor.proofs.PassingLaws.{answer_read, answer_unread, broken_read, broken_unread}
 use Rattle.ds_conductor.proofs.WritingLaws.{written_whole}
 use Rattle.ds_conductor.proofs.marking.finish.Goals as goal
@@ -16,13 +17,13 @@ returns-in-Ok-clause-marked g c = λ tells frames text before at written.
     let few : length frames ≤ 2 ^ 44 = omega (arith, last.1.counted.records, c.write_on-written.ensures.bounded.records) in
     let whole = written_whole (p.heading.bytes ++ last.0) _ before _ last.2 c.in-Ok.ensures.emptied in
     inl (
+      c.verdict-verdict.result,
+      subst (IsVerdictOn p.accepted.now (sent_of (see_at p) frames)) (sym c.verdict-verdict.ensures) (judged_by p frames c.write_on-written.new.conditioner.judge last.1.judging few),
       record {
         written = whole ∙ ap (λ it. before ++ (p.heading.bytes ++ it)) (all.written ∙ ap (text_from p.accepted.now p.red p.heading.link 0 frames) all.whole);
         told = refl;
       },
-      c.answer.ensures ∙ ap (λ r. answer_of c.verdict-verdict.result r c.args.fault) told
-          ∙ ap (λ v. answer_of v (marking_at p frames).report c.args.fault)
-          (c.verdict-verdict.ensures ∙ judged_by p frames c.write_on-written.new.conditioner.judge last.1.judging few),
+      c.answer.ensures ∙ ap (λ r. answer_of c.verdict-verdict.result r c.args.fault) told,
     )
 
 pub returns-in-Err-clause-marked : goal.returns-in-Err-clause-marked

@@ -1,4 +1,4 @@
-use Rattle.std.proofs.Common.{◌++◌, Option, None, Some, Ok, arith, inr, refl, sym, ap, subst, ◌∙◌, append_assoc}
+use Rattle.std.proofs.Common.{◌++◌, Option, None, Some, arith, inr, refl, sym, ap, subst, ◌∙◌, append_assoc}
 use Rattle.std.proofs.lemmas.Result.{err_from_is_err_and}
 use Rattle.pcap_capture.specs.declared.heading.Heading.{Heading}
 use Rattle.ds_conductor.specs.Readings.{IsReading}
@@ -123,7 +123,7 @@ returns-in_ok-write_due-in-Ok-true-clause-few g c = omega (arith, c.read_piece-r
 
 pub returns-in_ok-write_due-in-Ok-true-clause-fewer : goal.returns-in_ok-write_due-in-Ok-true-clause-fewer
 returns-in_ok-write_due-in-Ok-true-clause-fewer g c = λ is.
-    let some = c.in-Ok-true.ensures.going (ap Ok c.in-Ok-true.field-0-test) in omega (arith, some, c.read_piece-read.ensures.turns, c.see_read.ensures.turns)
+    let some = c.in-Ok-true.ensures.going in omega (arith, some, c.read_piece-read.ensures.turns, c.see_read.ensures.turns)
 
 pub returns-in_ok-write_due-in-Ok-true-clause-fault : goal.returns-in_ok-write_due-in-Ok-true-clause-fault
 returns-in_ok-write_due-in-Ok-true-clause-fault g c = (λ e. cc, λ e. cc)

@@ -1,14 +1,10 @@
 use Rattle.std.proofs.Common.{[], ◌++◌}
-use Rattle.ds_conductor.proofs.ReadingLaws.{cut, ended, whole_heading}
+use Rattle.ds_conductor.proofs.ReadingLaws.{cut, ended}
 use Rattle.ds_conductor.proofs.reading.finish.Goals as goal
 
 pub returns-in-Ok-clause-read : goal.returns-in-Ok-clause-read
 returns-in-Ok-clause-read c gone bytes at =
     ended gone bytes c.args.progress.now at (c.in-Ok.ensures.so_far at.read [] (gone ++ c.args.progress.now.frames.items) at.so_far)
-
-pub returns-in-Ok-clause-whole : goal.returns-in-Ok-clause-whole
-returns-in-Ok-clause-whole c gone bytes more at =
-    whole_heading gone bytes more c.args.progress.now at (c.in-Ok.ensures.so_far at.read [] (gone ++ c.args.progress.now.frames.items) at.so_far)
 
 pub returns-in-Err-clause-read : goal.returns-in-Err-clause-read
 returns-in-Err-clause-read c gone bytes at =

@@ -15,4 +15,4 @@ invariant-loop-progress g l = record {
 }
 
 abbrev pub decreases-loop-progress : goal.decreases-loop-progress
-decreases-loop-progress g l = l.progress.missing
+decreases-loop-progress g l = l.progress.turns

@@ -1,118 +1,15 @@
-use Rattle.std.proofs.Common.{◌≡◌, ◌<◌, ◌-◌, List, [], ◌++◌, length, length-append, append_assoc, None, Some, Ok, refl, sym, subst, ap, ◌∙◌, inl, inr, arith}
-use Rattle.std.proofs.lemmas.Result.{err_from_is_err_and}
-use Rattle.pcap_capture.specs.Frames.{FrameValue}
-use Rattle.pcap_capture.specs.Grammar.{CaptureState}
-use Rattle.pcap_capture.specs.declared.fault.PcapFault.TheVariants.{ReadFault, WriteFault}
-use Rattle.pcap_capture.proofs.TakingLaws.{taken_unread}
-use Rattle.ds_conductor.specs.Readings.{IsReading, IsUnderway, heading_at}
-use Rattle.ds_conductor.proofs.AskedLaws.{asked_on, asked_once, own_written}
-use Rattle.ds_conductor.proofs.ReadingLaws.{at_end, failed, fed, stays_records, still, stopped}
-use Rattle.ds_conductor.proofs.SizeLaws.{taken_size}
+use Rattle.std.proofs.Common.{Ok, ap}
+use Rattle.ds_conductor.proofs.AskedLaws.{asked_ended, own_unwritten}
 use Rattle.ds_conductor.proofs.reading.read_piece.Goals as goal
-
-pub returns-then-progress-eq0-clause-read : goal.returns-then-progress-eq0-clause-read
-returns-then-progress-eq0-clause-read g c = λ gone bytes tells at.
-    failed gone bytes _ _ c.args.progress.now ReadFault at refl refl
-
-pub returns-in-Err-clause-few : goal.returns-in-Err-clause-few
-returns-in-Err-clause-few g c =
-    let some : 0 < c.args.progress.now.turns = let apart = c.if-progress-eq0.false in omega arith in
-    elim c.in-Err.ensures.err [
-      | inl unread ↦ omega (arith, some, ap (λ (s : CaptureState). length s.rest) unread.1, ap length unread.2)
-      | inr it ↦
-          let size = taken_size _ _ _ _ c.args.progress.now.capture c.take_from.new.self c.args.progress.now.frames.items c.take_from.new.out.items (Some c.in-Err.fault) it in
-          let most = c.wanted-most.ensures.most c.requires.missing in
-          omega (arith, some, size, most)
-    ]
-
-pub returns-in-Err-clause-read : goal.returns-in-Err-clause-read
-returns-in-Err-clause-read g c = λ gone bytes tells at.
-    let before = c.args.progress.now in
-    let more = g.I.Intake.left c.take_from.new.intake in
-    let fault = c.in-Err.fault in
-    elim c.in-Err.ensures.err [
-      | inl unread ↦
-          subst (λ (frames : List FrameValue). IsReading bytes more before.heading (gone ++ frames) (Some fault)) (sym {A = List FrameValue} unread.2)
-          (failed gone bytes _ more before fault at (unread.3 tells) unread.0)
-      | inr it ↦
-          stopped gone bytes it.piece more before c.take_from.new.out.items fault (subst (λ left. IsUnderway gone bytes left before) (it.given tells) at)
-          (λ some. let most = c.wanted-most.ensures.heading some in omega (arith, it.few, most)) it.read.1
-    ]
-
-pub returns-in-Err-clause-no_write : goal.returns-in-Err-clause-no_write
-returns-in-Err-clause-no_write g c = λ is.
-    let same : c.in-Err.fault ≡ WriteFault = cc in
-    elim c.in-Err.ensures.err [
-      | inl unread ↦ let no = sym unread.0 ∙ same in absurd cc
-      | inr it ↦
-          absurd (own_written c.in-Err.fault
-          (taken_unread _ _ _ _ c.args.progress.now.capture c.take_from.new.self c.args.progress.now.frames.items c.take_from.new.out.items c.in-Err.fault it) same)
-    ]
-
-pub returns-in_err-finish-clause-few : goal.returns-in_err-finish-clause-few
-returns-in_err-finish-clause-few g c =
-    let some : 0 < c.args.progress.now.turns = let apart = c.if-progress-eq0.false in omega arith in
-    let size = taken_size _ _ _ _ c.args.progress.now.capture c.take_from.new.self c.args.progress.now.frames.items c.take_from.new.out.items None c.in-Ok.ensures.ok.0 in
-    let most = c.wanted-most.ensures.most c.requires.missing in
-    omega (arith, some, size, most, c.in_err-finish.ensures.few)
-
-pub returns-in_err-finish-clause-read : goal.returns-in_err-finish-clause-read
-returns-in_err-finish-clause-read g c = λ gone bytes tells at.
-    let it = c.in-Ok.ensures.ok.0 in
-    let none : length it.piece ≡ 0 = c.in-Ok.ensures.ok.1 ∙ c.if-taken-eq0.true in
-    let over : g.I.Intake.left c.take_from.new.intake ≡ [] = c.in-Ok.ensures.end tells (ap Ok c.if-taken-eq0.true) c.wanted-most.ensures.some in
-    let p = err_from_is_err_and c.from_residual.result c.from_residual.ensures.1 in
-    rw (p.1, p.2, over) (c.in_err-finish.ensures.read gone bytes (still gone bytes [] it.piece c.args.progress.now _ none it.read refl refl
-    (subst (λ left. IsUnderway gone bytes left c.args.progress.now) (at_end it.piece _ _ none (it.given tells) over) at)))
-
-pub returns-then-taken-eq0-clause-few : goal.returns-then-taken-eq0-clause-few
-returns-then-taken-eq0-clause-few g c =
-    let some : 0 < c.args.progress.now.turns = let apart = c.if-progress-eq0.false in omega arith in
-    let size = taken_size _ _ _ _ c.args.progress.now.capture c.take_from.new.self c.args.progress.now.frames.items c.take_from.new.out.items None c.in-Ok.ensures.ok.0 in
-    let most = c.wanted-most.ensures.most c.requires.missing in
-    omega (arith, some, size, most, c.in_ok-finish.ensures.few)
 
 pub returns-then-taken-eq0-clause-read : goal.returns-then-taken-eq0-clause-read
 returns-then-taken-eq0-clause-read g c = λ gone bytes tells at.
-    let it = c.in-Ok.ensures.ok.0 in
-    let none : length it.piece ≡ 0 = c.in-Ok.ensures.ok.1 ∙ c.if-taken-eq0.true in
-    let over : g.I.Intake.left c.take_from.new.intake ≡ [] = c.in-Ok.ensures.end tells (ap Ok c.if-taken-eq0.true) c.wanted-most.ensures.some in
-    rw over (c.in_ok-finish.ensures.read gone bytes (still gone bytes [] it.piece c.args.progress.now _ none it.read refl refl
-    (subst (λ left. IsUnderway gone bytes left c.args.progress.now) (at_end it.piece _ _ none (it.given tells) over) at)))
-
-pub returns-then-taken-eq0-clause-whole : goal.returns-then-taken-eq0-clause-whole
-returns-then-taken-eq0-clause-whole g c = λ same gone bytes more at.
-    let it = c.in-Ok.ensures.ok.0 in
-    c.in_ok-finish.ensures.whole gone bytes more (still gone bytes more it.piece c.args.progress.now _ (c.in-Ok.ensures.ok.1 ∙ c.if-taken-eq0.true) it.read refl refl at)
+    let over = c.in-Ok.ensures.end tells (ap Ok c.if-taken-eq0.true) in
+    rw over (c.finish.ensures.read gone bytes (rw over at (c.in-Ok.ensures.read gone bytes tells at)))
 
 pub returns-then-taken-eq0-clause-asked : goal.returns-then-taken-eq0-clause-asked
 returns-then-taken-eq0-clause-asked g c = λ failed asked was.
-    asked_on c.args.progress.now.turns c.finish.new.progress.turns failed _ _ asked _ _ was (let apart = c.if-progress-eq0.false in omega arith) c.in_ok-finish.ensures.turns c.in-Ok.ensures.failures
-    (asked_once _ _ c.in-Ok.taken c.in-Ok.ensures.asked)
+    rw c.finish.ensures.turns (asked_ended c.finish.result _ failed _ asked _ c.finish.ensures.fault (c.in-Ok.ensures.asked failed asked was))
 
-pub returns-clause-stays : goal.returns-clause-stays
-returns-clause-stays g c = λ heading records known.
-    let it = c.in-Ok.ensures.ok.0 in
-    c.heading_by-progress.ensures ∙ ap heading_at (c.stage.ensures ∙ stays_records heading c.args.progress.now.capture c.take_from.new.self it.piece c.args.progress.now.frames.items c.take_from.new.out.items records it.read)
-
-pub returns-clause-few : goal.returns-clause-few
-returns-clause-few g c =
-    let some : 0 < c.args.progress.now.turns = let apart = c.if-progress-eq0.false in omega arith in
-    let size = taken_size _ _ _ _ c.args.progress.now.capture c.take_from.new.self c.args.progress.now.frames.items c.take_from.new.out.items None c.in-Ok.ensures.ok.0 in
-    let most = c.wanted-most.ensures.most c.requires.missing in
-    omega (arith, some, size, most)
-
-pub returns-clause-read : goal.returns-clause-read
-returns-clause-read g c = λ gone bytes tells at.
-    let it = c.in-Ok.ensures.ok.0 in record {
-      read = at.read ++ it.piece;
-      front = at.front ∙ ap (λ left. at.read ++ left) (it.given tells) ∙ sym (append_assoc at.read it.piece (g.I.Intake.left c.take_from.new.intake));
-      so_far = fed gone at.read it.piece c.args.progress.now.capture c.take_from.new.self c.args.progress.now.frames.items c.take_from.new.out.items at.so_far it.read;
-      known = c.heading_by-progress.ensures ∙ ap heading_at c.stage.ensures;
-      to_come = omega (arith, c.saturating_sub-progress.ensures, at.to_come, length-append at.read it.piece, c.in-Ok.ensures.ok.1);
-    }
-
-pub returns-clause-asked : goal.returns-clause-asked
-returns-clause-asked g c = λ failed asked was.
-    asked_on c.args.progress.now.turns (c.args.progress.now.turns - 1) failed _ _ asked _ _ was (let apart = c.if-progress-eq0.false in omega arith) refl c.in-Ok.ensures.failures
-    (asked_once _ _ c.in-Ok.taken c.in-Ok.ensures.asked)
+pub returns-then-taken-eq0-clause-no_write : goal.returns-then-taken-eq0-clause-no_write
+returns-then-taken-eq0-clause-no_write g c = own_unwritten c.finish.result c.finish.ensures.fault

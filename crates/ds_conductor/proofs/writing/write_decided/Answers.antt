@@ -16,10 +16,11 @@ loop-frame-preserved g c =
       failures = ◌∙◌ {b = g.O.Outlet.failed c.loop-frame.outlet} c.in_ok-write_frame.ensures.failures was.failures;
       bytes = λ tells more frames text before at written.
           let so_far = was.bytes tells more frames text before at written in
-          let own = record_text p.accepted.now p.red p.heading.link c.in-Some.frame c.in-Some.packet in (
+          let own = record_text p.accepted.now p.red p.heading.link c.in-Some.frame.frame c.in-Some.packet in
+          let handed = c.in-Some.ensures.handed p more frames so_far.0 so_far.1 in (
             so_far.0 ++ own,
-            c.in-Some.ensures.handed p more frames so_far.0 so_far.1,
-            written_on p.heading.bytes so_far.0 own _ _ before _ _ so_far.2 (c.in_ok-write_frame.ensures.bytes (was.told tells)),
+            handed.1,
+            written_on p.heading.bytes so_far.0 own _ _ before _ _ so_far.2 (c.in_ok-write_frame.ensures.bytes (was.told tells) handed.0),
           );
     }
 
@@ -28,12 +29,13 @@ returns-in_err-write_frame-clause-bytes g c = λ tells more frames text before a
     let was = c.loop-frame.invariant in
     let p = c.args.port.now in
     let so_far = was.bytes tells more frames text before at written in
-    let own = record_text p.accepted.now p.red p.heading.link c.in-Some.frame c.in-Some.packet in
+    let own = record_text p.accepted.now p.red p.heading.link c.in-Some.frame.frame c.in-Some.packet in
+    let handed = c.in-Some.ensures.handed p more frames so_far.0 so_far.1 in
     let q = err_from_is_err_and c.from_residual.result c.from_residual.ensures.1 in
     rw q.1 (
       so_far.0 ++ own,
-      c.in-Some.ensures.handed p more frames so_far.0 so_far.1,
-      broken_on p.heading.bytes so_far.0 own _ before _ _ so_far.2 (c.in_err-write_frame.ensures.bytes (was.told tells)),
+      handed.1,
+      broken_on p.heading.bytes so_far.0 own _ before _ _ so_far.2 (c.in_err-write_frame.ensures.bytes (was.told tells) handed.0),
     )
 
 pub returns-clause-bytes : goal.returns-clause-bytes

@@ -1,8 +1,10 @@
-use Rattle.std.proofs.Common.{◌<◌, ◌-◌, ◌^◌, ℕ, arith, ◌≡◌, [], ◌∷◌, ◌++◌, if◌then◌else◌, is_ok, ap, refl, ◌∙◌}
+use Rattle.std.proofs.Common.{◌<◌, ◌-◌, ◌^◌, ℕ, arith, ◌≡◌, [], ◌∷◌, ◌++◌, if◌then◌else◌, is_ok, Option, ap, refl, ◌∙◌}
 use Rattle.std.specs.Prelude.{max, option_to_list}
 use Rattle.ds_visits.specs.Judging.{verdict_with}
-use Rattle.pcap_capture.specs.Frames.{FrameValue}
+use Rattle.frame_marker.specs.Marks.{mark_in}
+use Rattle.frame_marker.specs.declared.mark.Mark.{Mark}
 use Rattle.ds_conductor.specs.Conditionings.{see_at}
+use Rattle.ds_conductor.specs.Seens.{SeenValue}
 use Rattle.ds_conductor.specs.Sendings.{counted_on}
 use Rattle.ds_conductor.specs.declared.conditioner.Held.{Held}
 use Rattle.ds_conductor.proofs.ConditionLaws.{seen}
@@ -24,6 +26,10 @@ returns-clause-seen c frames text was =
     (c.see-seen.ensures.sight ∙ ap (see_at p) c.bytes.ensures) (c.later-moment.ensures ∙ ap (max c.args.self.now.newest) c.moment.ensures.value) c.packet_of-packet.ensures
     refl (c.add.ensures ∙ ap (λ d. counted_on d.counts c.see-seen.result.sight) rest) (ap (λ d. d.tallies) rest)
     (pushed ∙ ap (λ hs. hs ++ put ∷ []) (ap (λ d. d.held.items) rest ∙ c.in_ok-reserve.ensures.items)
-    ∙ ap (λ (f : FrameValue). c.args.self.now.held.items ++ record { frame = f; packet = c.packet_of-packet.result } ∷ []) c.new-frame.ensures) c.in_ok-send.ensures.comes
+    ∙ ap (λ (s : SeenValue). c.args.self.now.held.items ++ record { frame = s; packet = c.packet_of-packet.result } ∷ [])
+    (c.new-frame.ensures ∙ ap (λ (m : Option Mark). let s : SeenValue = record { frame = c.args.frame; mark = m } in s) (c.see-seen.ensures.mark ∙ ap (mark_in p.heading.link) c.bytes.ensures))) c.in_ok-send.ensures.comes
     (early_by c.moment.result c.args.frame.moment c.moment.ensures.value c.moment.ensures.early)
     (λ back. c.note.ensures back ∙ ap (λ d. verdict_with d.judge (option_to_list c.packet_of-packet.result ++ back)) rest)
+
+pub new-frame-requires : goal.new-frame-requires
+new-frame-requires c = (c.args.port.now.heading.link, c.see-seen.ensures.mark ∙ ap (mark_in c.args.port.now.heading.link) c.bytes.ensures)
