@@ -1,11 +1,11 @@
 use crate::rows::{Done, run};
 use dsedge_texts::MemoryFolder;
 use pcap_capture::{SliceIntake, VecOutlet};
-use std::alloc::Global;
+use std::alloc::{AllocError, Global};
 use std::process::Abort;
 use std::sync::Wait;
 use std::test::Fail;
-use worked_texts::{tight, wide};
+use worked_texts::{MOST_CONTRACTS, most_contracts, tight, wide};
 
 /// `drive` on lines, over a domain.
 fn run_drive(
@@ -136,4 +136,34 @@ fn answers_before_a_read_that_fails(rt: HostRuntime) -> Result<(), Fail> {
     assert_eq!(rt; done.told.as_slice(), b"dsedge: read\n".as_slice());
     assert_eq!(rt; done.status, 4);
     Ok(())
+}
+
+/// Appends the line that reserves the contract of a number, and its answer where all before it are held.
+fn push_sale(lines: &mut String, answers: &mut String, number: u32) -> Result<(), AllocError> {
+    writeln!(lines, "reserve c{number}")?;
+    writeln!(answers, "granted {number} {number} 0")
+}
+
+/// Lines that reserve as many contracts as a table takes, with a look behind, and their answers.
+fn most_sales(lines: &mut String, answers: &mut String) -> Result<(), AllocError> {
+    for number in 1..=MOST_CONTRACTS {
+        push_sale(lines, answers, number)?;
+    }
+    lines.push_str("look\n")?;
+    answers.push_str("serial 4096 contracts 4096\n")
+}
+
+/// A feed sees a table however long it is: `look` is answered behind as many contracts as there can be.
+#[test]
+fn a_table_is_seen_however_long_it_is(rt: HostRuntime) -> Result<(), Fail> {
+    let domain = most_contracts(rt.alloc())?;
+    let mut lines = String::new(rt.alloc());
+    let mut answers = String::new(rt.alloc());
+    most_sales(&mut lines, &mut answers)?;
+    expect_of_drive(
+        &rt,
+        rt.alloc(),
+        (domain.as_str(), lines.as_str()),
+        (answers.as_str(), "", 0),
+    )
 }

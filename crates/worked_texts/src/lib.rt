@@ -5,6 +5,7 @@
 mod contracts;
 mod domains;
 mod joining;
+mod many;
 mod sites;
 
 pub use contracts::{
@@ -15,4 +16,5 @@ pub use domains::{
     LEAST_OF_POLICED, LEAST_OF_TRUSTED, over_excess, over_way, policed, tight, wide,
 };
 pub use joining::{joined, push_all};
+pub use many::{MOST_CONTRACTS, most_contracts};
 pub use sites::{EXCESS_WAY, LINK, METER, ONE, PORT, TIGHT_METER, TWO};
