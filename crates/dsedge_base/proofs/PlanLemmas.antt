@@ -1,5 +1,5 @@
 -- What words are answered with, from what the parser of command lines says of them.
-use Rattle.std.proofs.Common.{◌≡◌, ◌≢◌, ◌⊎◌, ℕ, codes, inl, inr, refl, ap, sym, subst, ◌∙◌, Bool, true, false, if◌then◌else◌, List, [], Option, None, Some, option_and_then, String, IfOk, IfErr}
+use Rattle.std.proofs.Common.{◌≡◌, ◌≢◌, ◌⊎◌, ℕ, codes, inl, inr, refl, ap, sym, subst, ◌∙◌, Bool, true, false, if◌then◌else◌, List, [], Option, None, Some, option_and_then, String, IfOk, IfErr, IfSome, IsSome}
 use Rattle.std.specs.declared.alloc.Global.{Global}
 use Rattle.std.specs.Option.{ok_or}
 use Rattle.std.specs.Str.{bytes_eq}
@@ -12,7 +12,9 @@ use Rattle.clap.specs.declared.error.kind.ErrorKind.TheVariants.{DisplayHelp, Di
 use Rattle.clap.proofs.OnLiterals.{clap_on_literals}
 use Rattle.dsedge_base.specs.CommandLine.{dsedge}
 use Rattle.dsedge_base.specs.Options.{Given, envelope_given, marking_given, meter_given, table_given, ◌>>=◌}
-use Rattle.dsedge_base.specs.Plans.{IsMalformed, IsPlanOf, IsRefusalOf, IsShown, IsWellFormed, IsWish, asked_by, given_by, mark_given, plan_of}
+use Rattle.dsedge_base.specs.Plans.{IsExplanationOf, IsMalformed, IsOfForm, IsPlanOf, IsRefusalOf, IsShown, IsWellFormed, IsWish, asked_by, asks_other_workers, given_by, mark_given, plan_of}
+use Rattle.dsedge_base.specs.declared.explanation.Explanation.{Explanation}
+use Rattle.dsedge_base.specs.declared.explanation.Explanation.TheVariants.{Form, Value, Workers}
 use Rattle.dsedge_base.specs.declared.fault.UsageFault.{UsageFault}
 use Rattle.dsedge_base.specs.declared.fault.UsageFault.TheVariants.{Usage, NoMemory}
 use Rattle.dsedge_base.specs.declared.work.Plan.{Plan}
@@ -98,15 +100,38 @@ asked_by-answers words (Some (Drive domain)) formed e = ((formed, sym e), tt)
 asked_by-answers words (Some (Mark domain certificate port keeps_red)) formed e = ((formed, sym e), tt)
 asked_by-answers words (Some (Show text)) formed e = absurd (plan_of-no_text (subcommand_of dsedge words) text (sym e))
 
+-- the program's command line that was parsed is well formed, and asks for what its words do
+pub parsed-asks : (app : App) (words : List Text) (matches : ArgMatches) → app ≡ dsedge → (is_simple_and_free app ≡ true → fault_of app words ≡ [])
+    → HasMatchesOf app words matches → IsWellFormed words × (subcommand_rows_of matches ≡ subcommand_of dsedge words)
+parsed-asks app words matches is_dsedge formed has = (
+  ap (λ a. fault_of a words) (sym is_dsedge) ∙ formed (ap is_simple_and_free is_dsedge ∙ dsedge-simple_and_free),
+  (has (ap is_simple is_dsedge ∙ dsedge-simple)).1 ∙ ap (λ (a : App). subcommand_of a words) is_dsedge,
+)
+
 -- the same of a command line that is the program's and was parsed
 pub parsed-answers : (app : App) (words : List Text) (matches : ArgMatches) (asked : Option Plan) → app ≡ dsedge
     → (is_simple_and_free app ≡ true → fault_of app words ≡ []) → HasMatchesOf app words matches
     → asked ≡ option_and_then plan_of (subcommand_rows_of matches)
     → IfOk (ok_or asked Usage) (IsPlanOf words) × IfErr (ok_or asked Usage) (IsRefusalOf words)
-parsed-answers app words matches asked is_dsedge formed has is_asked = asked_by-answers words asked
-    (ap (λ a. fault_of a words) (sym is_dsedge) ∙ formed (ap is_simple_and_free is_dsedge ∙ dsedge-simple_and_free))
-    (is_asked ∙ ap (option_and_then plan_of) ((has (ap is_simple is_dsedge ∙ dsedge-simple)).1
-    ∙ ap (λ (a : App). subcommand_of a words) is_dsedge))
+parsed-answers app words matches asked is_dsedge formed has is_asked =
+    let asks = parsed-asks app words matches is_dsedge formed has in
+    asked_by-answers words asked asks.0 (is_asked ∙ ap (option_and_then plan_of) asks.1)
+
+-- which value is none is told of words that are well formed and ask for nothing, whether for other workers than one or not
+value-explains-by : (words : List Text) (command : Option (Text × List Row)) (explanation : Explanation) → IsWellFormed words
+    → command ≡ subcommand_of dsedge words → option_and_then plan_of command ≡ None → (others : Bool) → asks_other_workers command ≡ others
+    → explanation ≡ (if others then Workers else Value) → IsExplanationOf words explanation
+value-explains-by words command explanation formed is nothing true others told =
+    rw told (formed, ap (option_and_then plan_of) (sym is) ∙ nothing, ap asks_other_workers (sym is) ∙ others)
+value-explains-by words command explanation formed is nothing false others told =
+    rw told (formed, ap (option_and_then plan_of) (sym is) ∙ nothing, ap asks_other_workers (sym is) ∙ others)
+
+-- the same, by what is told
+pub value-explains : (words : List Text) (command : Option (Text × List Row)) (explanation : Explanation) → IsWellFormed words
+    → command ≡ subcommand_of dsedge words → option_and_then plan_of command ≡ None
+    → explanation ≡ (if asks_other_workers command then Workers else Value) → IsExplanationOf words explanation
+value-explains words command explanation formed is nothing told =
+    value-explains-by words command explanation formed is nothing (asks_other_workers command) refl told
 
 -- the parser may fail in this way
 abbrev pub MayFail : List Text → ErrorKind → Type 0
@@ -147,3 +172,16 @@ pub fault-answers : (words : List Text) (kind : ErrorKind) (fault : UsageFault) 
     → (fault ≡ Usage → ¬ IsWish kind × (kind ≢ OutOfMemory)) → IsRefusalOf words fault
 fault-answers words kind NoMemory fails is = tt
 fault-answers words kind Usage fails is = inl (malformed words kind fails (is refl))
+
+-- what the parser says of malformed words explains them
+form-explains : (words : List Text) (explanation : Explanation) → IsOfForm explanation → IsMalformed words → IsExplanationOf words explanation
+form-explains words (Form text) is wrong = wrong
+form-explains words Workers is wrong = absurd is
+form-explains words Value is wrong = absurd is
+
+-- the same of what is said, if anything
+pub forms-explain : (words : List Text) (kind : ErrorKind) (told : Option Explanation) → MayFail words kind → IfSome told IsOfForm
+    → (IsSome told → ¬ IsWish kind × (kind ≢ OutOfMemory)) → IfSome told (IsExplanationOf words)
+forms-explain words kind None fails form wrong = tt
+forms-explain words kind (Some explanation) fails form wrong =
+    form-explains words explanation form (malformed words kind fails (wrong refl))

@@ -1,4 +1,4 @@
--- The files that a plan names.
+-- The files and the port that a plan names.
 use Rattle.std.specs.Prelude.{ℕ, List, [], ◌∷◌}
 use Rattle.dsedge_base.specs.declared.work.Plan.{Plan}
 use Rattle.dsedge_base.specs.declared.work.Plan.TheVariants.{Audit, Certify, Check, Drive, Envelope, Mark, Meter, Show}
@@ -13,3 +13,8 @@ files_of (Check domain certificate) = domain ∷ certificate ∷ []
 files_of (Audit domain certificate) = domain ∷ certificate ∷ []
 files_of (Drive domain) = domain ∷ []
 files_of (Mark domain certificate port keeps_red) = domain ∷ certificate ∷ []
+
+-- the name of the port at which a capture is to be marked
+abbrev pub port_of : Plan → List ℕ
+port_of (Mark domain certificate port keeps_red) = port
+port_of _ = []

@@ -134,6 +134,9 @@ table_given given = do
 abbrev pub workers_said : List ℕ → Option ℕ
 workers_said = number_within 1 1
 
+abbrev pub workers_given : Given → Option ℕ
+workers_given given = given (codes "workers") >>= workers_said
+
 -- whether red frames are kept, or dropped
 abbrev pub red_said : List ℕ → Option Bool
 red_said text =
@@ -145,6 +148,6 @@ red_said text =
 unfoldable pub marking_given : Given → Option (List ℕ × Bool)
 marking_given given = do
   port ← given (codes "port")
-  workers ← given (codes "workers") >>= workers_said
+  workers ← workers_given given
   keeps_red ← given (codes "red") >>= red_said
   Some (port, keeps_red)

@@ -1,11 +1,15 @@
 -- What words ask for.
-use Rattle.std.specs.Prelude.{◌≡◌, ◌⊎◌, List, [], codes, Option, None, Some, option_and_then, if◌then◌else◌}
+use Rattle.std.specs.Prelude.{◌≡◌, ◌⊎◌, List, [], codes, Bool, true, false, ◌&&◌, Option, None, Some, is_none}
+use Rattle.std.specs.Prelude.{option_and_then, if◌then◌else◌}
+use Rattle.std.specs.Option.{option_map_or}
 use Rattle.std.specs.Str.{bytes_eq}
 use Rattle.clap.specs.Words.{IsAmong, Row, Text, fault_of, first_of, subcommand_of}
 use Rattle.clap.specs.declared.error.kind.ErrorKind.{ErrorKind}
 use Rattle.clap.specs.declared.error.kind.ErrorKind.TheVariants.{DisplayHelp, DisplayVersion}
 use Rattle.dsedge_base.specs.CommandLine.{dsedge}
-use Rattle.dsedge_base.specs.Options.{Given, envelope_given, marking_given, meter_given, table_given, ◌>>=◌}
+use Rattle.dsedge_base.specs.Options.{Given, envelope_given, marking_given, meter_given, table_given, workers_given, ◌>>=◌}
+use Rattle.dsedge_base.specs.declared.explanation.Explanation.{Explanation}
+use Rattle.dsedge_base.specs.declared.explanation.Explanation.TheVariants.{Form, Value, Workers}
 use Rattle.dsedge_base.specs.declared.fault.UsageFault.{UsageFault}
 use Rattle.dsedge_base.specs.declared.fault.UsageFault.TheVariants.{Usage, NoMemory}
 use Rattle.dsedge_base.specs.declared.work.Plan.{Plan}
@@ -75,6 +79,28 @@ IsMalformed words = (kind : ErrorKind) × IsAmong kind (fault_of dsedge words) �
 abbrev pub IsRefusalOf : List Text → UsageFault → Type 0
 IsRefusalOf words Usage = IsMalformed words ⊎ (IsWellFormed words × (asked_by words ≡ None))
 IsRefusalOf words NoMemory = Unit {0}
+
+-- whether a command is `mark`, and asks for other workers than one
+abbrev pub has_other_workers : Text × List Row → Bool
+has_other_workers c = bytes_eq c.0 (codes "mark") && is_none (workers_given (given_by c.1))
+
+-- whether words ask for that
+abbrev pub asks_other_workers : Option (Text × List Row) → Bool
+asks_other_workers command = option_map_or has_other_workers command false
+
+-- Why words give no plan: their form is wrong, or `mark` is asked for other workers than one, or another value is none.
+abbrev pub IsExplanationOf : List Text → Explanation → Type 0
+IsExplanationOf words (Form text) = IsMalformed words
+IsExplanationOf words Workers =
+    IsWellFormed words × (asked_by words ≡ None) × (asks_other_workers (subcommand_of dsedge words) ≡ true)
+IsExplanationOf words Value =
+    IsWellFormed words × (asked_by words ≡ None) × (asks_other_workers (subcommand_of dsedge words) ≡ false)
+
+-- the form of words is explained
+abbrev pub IsOfForm : Explanation → Type 0
+IsOfForm (Form text) = Unit {0}
+IsOfForm Workers = ⊥
+IsOfForm Value = ⊥
 
 abbrev pub IsShown : Plan → Type 0
 IsShown (Show text) = Unit {0}

@@ -3,11 +3,13 @@
 
 mod command_line;
 mod command_table;
+mod explanation;
 mod fault;
 mod options;
 mod words;
 mod work;
 
+pub use explanation::Explanation;
 pub use fault::UsageFault;
-pub use words::{explanation, plan};
+pub use words::{explain, plan};
 pub use work::Plan;

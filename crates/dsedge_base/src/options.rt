@@ -4,7 +4,7 @@ ghost use Rattle.dsedge_base.specs.Options.{burst_given, burst_said, envelope_bu
 ghost use Rattle.dsedge_base.specs.Options.{marking_given, meter_given, mode_said, moment_said, opened};
 ghost use Rattle.dsedge_base.specs.Options.{origin_said, parameters_given, rate_given, rate_said, red_said};
 ghost use Rattle.dsedge_base.specs.Options.{separate_rates_given, single_rate_given, table_given, two_rate_given};
-ghost use Rattle.dsedge_base.specs.Options.{workers_said};
+ghost use Rattle.dsedge_base.specs.Options.{workers_given, workers_said};
 ghost use Rattle.dsedge_base.specs.Plans.{given_by};
 
 use clap::ArgMatches;
@@ -63,9 +63,16 @@ pub(crate) fn marking_in<'a>(options: &ArgMatches<'a>) -> Option<(GivenName<'a>,
     ensures { result ≡ marking_given (given_by (rows_of (found_of options.now))) }
 {
     let port = name_in(options, "port")?;
-    workers_said_by(text_in(options, "workers")?)?;
+    workers_in(options)?;
     let keeps_red = red_said_by(text_in(options, "red")?)?;
     Some((port, keeps_red))
+}
+
+/// How many workers the options of `mark` ask for, if that is one.
+pub(crate) fn workers_in(options: &ArgMatches<'_>) -> Option<u64>
+    ensures { result ≡ workers_given (given_by (rows_of (found_of options.now))) }
+{
+    workers_said_by(text_in(options, "workers")?)
 }
 
 /// The meter of parameters that are those of one.

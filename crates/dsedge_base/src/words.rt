@@ -1,11 +1,13 @@
-ghost use Rattle.std.specs.Prelude.{◌≡◌, ◌≢◌, IfErr, IfOk, IsSome, map, option_and_then};
+ghost use Rattle.std.specs.Prelude.{◌≡◌, ◌≢◌, IfErr, IfOk, IfSome, IsSome, None, map};
+ghost use Rattle.std.specs.Prelude.{option_and_then, if◌then◌else◌};
 ghost use Rattle.clap.specs.Words.{found_of, kind_of, rows_of, subcommand_rows_of};
-ghost use Rattle.dsedge_base.specs.Plans.{IsMalformed, IsPlanOf, IsRefusalOf, IsShown, IsWish, audit_given};
-ghost use Rattle.dsedge_base.specs.Plans.{check_given, given_by, mark_given, plan_of};
+ghost use Rattle.dsedge_base.specs.Plans.{IsExplanationOf, IsOfForm, IsPlanOf, IsRefusalOf, IsShown, IsWish};
+ghost use Rattle.dsedge_base.specs.Plans.{asks_other_workers, audit_given, check_given, given_by, mark_given, plan_of};
 
 use crate::command_line::command_line;
+use crate::explanation::Explanation;
 use crate::fault::UsageFault;
-use crate::options::{envelope_in, marking_in, meter_in, name_in, table_in};
+use crate::options::{envelope_in, marking_in, meter_in, name_in, table_in, workers_in};
 use crate::work::Plan;
 use clap::error::ErrorKind;
 use clap::{ArgMatches, Error};
@@ -27,27 +29,57 @@ pub fn plan<'a, S: AsStr>(alloc: Global, words: &'a [S]) -> Result<Plan<'a>, Usa
     }
 }
 
-/// What the parser of command lines says where words are malformed: which of them is wrong, the usage of the command, and
-/// where help is. None where their form is right, or they ask for a text, or memory runs out.
-pub fn explanation<S: AsStr>(alloc: Global, words: &[S]) -> Option<String>
-    ensures { IsSome result → IsMalformed (map S.text words.entry.now) }
+/// What there is to say of words that give no plan. None where they give one, or memory runs out.
+pub fn explain<S: AsStr>(alloc: Global, words: &[S]) -> Option<Explanation>
+    ensures { IfSome result (IsExplanationOf (map S.text words.entry.now)) }
 {
     let Ok(command) = command_line(alloc) else {
         return None;
     };
     match command.try_get_matches_from(words) {
-        Ok(_) => None,
-        Err(error) => explanation_of(alloc, &error),
+        Ok(matches) => value_explanation(&matches),
+        Err(error) => form_explanation(alloc, &error),
+    }
+}
+
+/// Why a command line that is well formed asks for nothing that there is. None where it asks for something.
+fn value_explanation(matches: &ArgMatches<'_>) -> Option<Explanation>
+    ensures none { result ≡ None → IsSome (option_and_then plan_of (subcommand_rows_of matches.now)) }
+    ensures told { IfSome result (λ explanation. (option_and_then plan_of (subcommand_rows_of matches.now) ≡ None)
+        × (explanation ≡ (if asks_other_workers (subcommand_rows_of matches.now)
+        then Explanation.Workers else Explanation.Value))) }
+{
+    if asked_by(matches).is_some() {
+        return None;
+    }
+    if asks_other_workers(matches) {
+        Some(Explanation::Workers)
+    } else {
+        Some(Explanation::Value)
+    }
+}
+
+/// Whether a command line that is well formed asks `mark` to mark by other workers than one.
+fn asks_other_workers(matches: &ArgMatches<'_>) -> bool
+    ensures { result ≡ asks_other_workers (subcommand_rows_of matches.now) }
+{
+    match matches.subcommand() {
+        Some((name, options)) => name == "mark" && workers_in(options).is_none(),
+        None => false,
     }
 }
 
 /// What an error says, where it is one of malformed words.
-fn explanation_of(alloc: Global, error: &Error) -> Option<String>
-    ensures { IsSome result → ¬ IsWish (kind_of error.now) × (kind_of error.now ≢ ErrorKind.OutOfMemory) }
+fn form_explanation(alloc: Global, error: &Error) -> Option<Explanation>
+    ensures form { IfSome result IsOfForm }
+    ensures malformed { IsSome result → ¬ IsWish (kind_of error.now) × (kind_of error.now ≢ ErrorKind.OutOfMemory) }
 {
     match error.kind() {
         ErrorKind::DisplayHelp | ErrorKind::DisplayVersion | ErrorKind::OutOfMemory => None,
-        _ => format!(in alloc; "{error}").ok(),
+        _ => match format!(in alloc; "{error}") {
+            Ok(text) => Some(Explanation::Form(text)),
+            Err(_) => None,
+        },
     }
 }
 

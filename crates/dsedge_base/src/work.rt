@@ -1,5 +1,5 @@
 ghost use Rattle.std.specs.Prelude.{◌≡◌, IfOk};
-ghost use Rattle.dsedge_base.specs.Files.{files_of};
+ghost use Rattle.dsedge_base.specs.Files.{files_of, port_of};
 
 use dsedge_lines::GivenName;
 use meter_book_base::AnyMeter;
@@ -86,5 +86,15 @@ impl<'a> Plan<'a> {
             }
         }
         Ok(names)
+    }
+
+    /// The name of the port at which a capture is to be marked; an empty one where the plan is another.
+    pub fn port(&self) -> &str
+        ensures { result.now ≡ port_of self.now }
+    {
+        match self {
+            Plan::Mark { port, .. } => port.text(),
+            _ => "",
+        }
     }
 }

@@ -52,6 +52,17 @@ pub given_as : {E : Type 0} (result : Result (Unit {0}) E) (before after text li
     → MatchResult result (λ _. after ≡ before ++ line) (λ _. IsFrontOf before line after)
 given_as result before after text line same h = rw (← same) h
 
+-- a front of the first of three texts was given
+pub first_of_three : (before after first second third : List ℕ) → IsFrontOf before first after
+    → IsFrontOf before (first ++ (second ++ third)) after
+first_of_three before after first second third h = IsFrontOf-first before after first (second ++ third) h
+
+-- a front of the second, behind the first
+pub second_of_three : (before mid after first second third : List ℕ) → mid ≡ before ++ first → IsFrontOf mid second after
+    → IsFrontOf before (first ++ (second ++ third)) after
+second_of_three before mid after first second third so h =
+    IsFrontOf-second before mid after first (second ++ third) so (IsFrontOf-first mid after second third h)
+
 -- a word between two texts
 pub between : (front middle word back : List ℕ) → middle ≡ word → front ++ (middle ++ (back ++ [])) ≡ front ++ (word ++ back)
 between front middle word back same = rw (same, append-nil back) refl

@@ -1,2 +1,3 @@
+pub mod AdviceLemmas
 pub mod FrontLemmas
 pub mod StartLemmas

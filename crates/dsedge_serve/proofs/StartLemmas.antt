@@ -1,32 +1,133 @@
 -- What becomes of a start.
-use Rattle.std.proofs.Common.{◌≡◌, ◌≤◌, ℕ, List, refl, arith}
-use Rattle.pcap_capture.specs.Counts.{count_after}
-use Rattle.dsedge_serve.specs.declared.fault.Fault.{Fault}
-use Rattle.dsedge_serve.specs.declared.fault.Fault.TheVariants.{Usage, Line, Domain, Certificate, Capture, Port, File, Read, Write, Memory, Full}
+use Rattle.std.proofs.Common.{◌≡◌, ◌≢◌, ◌≤◌, ℕ, List, [], ◌∷◌, None, Some, Ok, Err, refl, arith, inr, subst, sym, cond, true, false, map, length, ◌==◌}
+use Rattle.pcap_capture.specs.Counts.{count_after, next_count}
+use Rattle.pcap_capture.specs.declared.fault.PcapFault.TheVariants as pcaps
+use Rattle.dsedge_base.specs.declared.fault.UsageFault.{UsageFault}
+use Rattle.dsedge_base.specs.declared.fault.UsageFault.TheVariants as usage_faults
+use Rattle.dsedge_base.specs.Files.{port_of}
+use Rattle.dsedge_base.specs.Plans.{IsPlanOf, IsRefusalOf}
+use Rattle.dsedge_base.specs.declared.work.Plan.{Plan}
+use Rattle.dsedge_lines.specs.FirstLine.{is_read_fault}
+use Rattle.dsedge_lines.specs.declared.words.FirstLineFault.{FirstLineFault}
+use Rattle.dsedge_lines.specs.declared.words.FirstLineFault.TheVariants as first_line_faults
+use Rattle.dsedge_lines.specs.declared.command.Ending.TheVariants as endings
+use Rattle.dsedge_lines.specs.declared.fault.PumpFault.TheVariants as pump_faults
+use Rattle.ds_conductor.specs.declared.fault.MarkFault.TheVariants as marks
+use Rattle.dsedge_serve.specs.declared.conclusion.Conclusion.TheVariants.{Ended, Unaccepted, Uncertified, Unsound}
 use Rattle.dsedge_serve.specs.declared.outcome.Outcome.{Outcome}
-use Rattle.dsedge_serve.specs.Served.{IsOfInput}
-use Rattle.dsedge_serve.specs.Started.{IsRefused, failures_with}
+use Rattle.dsedge_serve.specs.declared.outcome.Outcome.TheVariants.{Answered, Marked}
+use Rattle.dsedge_serve.specs.Served.{IsAnswered, status_after}
+use Rattle.dsedge_serve.specs.Started.{Course, HasWords, IsCourseFrom, IsCourseOn, IsCourseWith, IsFromInput, IsRefused, IsWordless, IsWritten, LacksWords}
+use Rattle.dsedge_serve.specs.Started.{failures_with, fault_of_line, fault_of_words, input_from, status_in, words_from}
+use Rattle.dsedge_serve.specs.Started.Course.{Refused, Served, Unread}
+
+-- words that are given are some
+pub some_mapped : {X Y : Type 0} (f : X → Y) (xs : List X) → (length xs == 0) ≡ false → map f xs ≢ []
+some_mapped f [] some = let none : ⊥ = cc in absurd none
+some_mapped f (x ∷ xs) some = λ e. cc
+
+-- words that are not given are none
+pub none_mapped : {X Y : Type 0} (f : X → Y) (xs : List X) → (length xs == 0) ≡ true → map f xs ≡ []
+none_mapped f [] none = refl
+none_mapped f (x ∷ xs) none = let e : length (x ∷ xs) ≡ 0 = grind (arith, none) in absurd (omega (arith, e))
 
 -- nothing is asked
 pub unasked : (most turns : ℕ) → (asked : ℕ) × (asked ≤ most) × (turns ≡ count_after asked turns)
 unfolding count_after
 unasked most turns = (0, omega arith, refl)
 
--- the fault of words that are refused is no failure of the input
-pub refused_unread : (words : List (List ℕ)) (fault : Fault) (failed : ℕ) → IsRefused words fault → failed ≡ failures_with fault failed
-refused_unread words Usage failed is = refl
-refused_unread words Memory failed is = refl
-refused_unread words Read failed is = absurd is
-refused_unread words (Line number) failed is = absurd is
-refused_unread words (Domain why) failed is = absurd is
-refused_unread words (Certificate why) failed is = absurd is
-refused_unread words (Capture why) failed is = absurd is
-refused_unread words (Port name) failed is = absurd is
-refused_unread words (File name reason) failed is = absurd is
-refused_unread words Write failed is = absurd is
-refused_unread words Full failed is = absurd is
+-- words that are refused ask for nothing
+pub is_refused : (words : List (List ℕ)) (fault : UsageFault) → IsRefusalOf words fault → IsRefused words (fault_of_words fault)
+is_refused words usage_faults.Usage is = is
+is_refused words usage_faults.NoMemory is = tt
 
--- the counts that stand before a plan is served are those that the words left
-pub reads_behind : (outcome : Outcome) (failed first now before behind asked : ℕ) → first ≡ failed → behind ≡ before
-    → IsOfInput outcome first now behind asked → IsOfInput outcome failed now before asked
-reads_behind outcome failed first now before behind asked e f h = rw (← e, ← f) h
+-- their fault is no failure of the input
+pub refused_unread : (fault : UsageFault) (failed : ℕ) → failed ≡ failures_with (fault_of_words fault) failed
+refused_unread usage_faults.Usage failed = refl
+refused_unread usage_faults.NoMemory failed = refl
+
+-- a first line that is refused gives no words
+pub is_wordless : (bytes : List ℕ) (fault : FirstLineFault) → (fault ≡ first_line_faults.Usage → LacksWords [] bytes)
+    → IsWordless [] bytes (fault_of_line fault)
+is_wordless bytes first_line_faults.Usage lacks = lacks refl
+is_wordless bytes first_line_faults.Read lacks = refl
+is_wordless bytes first_line_faults.NoMemory lacks = tt
+
+-- its failure is the input's
+pub unread_failures : (fault : FirstLineFault) (failed now : ℕ)
+    → now ≡ cond (is_read_fault {T = Unit {0}} (Err fault)) (next_count failed) failed → now ≡ failures_with (fault_of_line fault) failed
+unread_failures first_line_faults.Usage failed now e = e
+unread_failures first_line_faults.Read failed now e = e
+unread_failures first_line_faults.NoMemory failed now e = e
+
+-- no plan that was served ends as usage does
+served_is_no_usage : (port : List ℕ) (outcome : Outcome) → status_after port outcome ≡ 2 → ⊥
+served_is_no_usage port (Answered (Ok (Ended endings.Whole))) e = omega (arith, e)
+served_is_no_usage port (Answered (Ok (Ended endings.Refused))) e = omega (arith, e)
+served_is_no_usage port (Answered (Ok (Ended (endings.BadLine number)))) e = omega (arith, e)
+served_is_no_usage port (Answered (Ok (Ended endings.Full))) e = omega (arith, e)
+served_is_no_usage port (Answered (Ok (Unsound fault))) e = omega (arith, e)
+served_is_no_usage port (Answered (Ok (Uncertified fault))) e = omega (arith, e)
+served_is_no_usage port (Answered (Ok (Unaccepted line))) e = omega (arith, e)
+served_is_no_usage port (Answered (Err pump_faults.Read)) e = omega (arith, e)
+served_is_no_usage port (Answered (Err pump_faults.Write)) e = omega (arith, e)
+served_is_no_usage port (Answered (Err pump_faults.NoMemory)) e = omega (arith, e)
+served_is_no_usage port (Marked report None) e = omega (arith, e)
+served_is_no_usage port (Marked report (Some (marks.Capture pcaps.NotPcap))) e = omega (arith, e)
+served_is_no_usage port (Marked report (Some (marks.Capture pcaps.IsPcapng))) e = omega (arith, e)
+served_is_no_usage port (Marked report (Some (marks.Capture pcaps.BadVersion))) e = omega (arith, e)
+served_is_no_usage port (Marked report (Some (marks.Capture (pcaps.LinkType number)))) e = omega (arith, e)
+served_is_no_usage port (Marked report (Some (marks.Capture (pcaps.RecordTooLong count)))) e = omega (arith, e)
+served_is_no_usage port (Marked report (Some (marks.Capture pcaps.Truncated))) e = omega (arith, e)
+served_is_no_usage port (Marked report (Some (marks.Capture pcaps.ReadFault))) e = omega (arith, e)
+served_is_no_usage port (Marked report (Some (marks.Capture pcaps.WriteFault))) e = omega (arith, e)
+served_is_no_usage port (Marked report (Some (marks.Capture pcaps.NoMemory))) e = omega (arith, e)
+served_is_no_usage port (Marked report (Some (marks.Capture pcaps.Failed))) e = omega (arith, e)
+served_is_no_usage port (Marked report (Some marks.UnknownPort)) e = omega (arith, e)
+served_is_no_usage port (Marked report (Some marks.JournalFull)) e = omega (arith, e)
+served_is_no_usage port (Marked report (Some marks.NoMemory)) e = omega (arith, e)
+
+-- a course that ends as usage does writes nothing
+pub usage_unwritten : (course : Course) (tells : Type 0) (input more before after : List ℕ) → status_in course ≡ 2
+    → IsWritten course tells input more before after → after ≡ before
+usage_unwritten (Refused fault) tells input more before after usage is = is
+usage_unwritten (Unread plan fault) tells input more before after usage is = is
+usage_unwritten (Served plan texts outcome) tells input more before after usage is =
+    absurd (served_is_no_usage (port_of plan) outcome usage)
+
+-- a course with the plan that words ask for is one on them
+pub on_plan : (words : List (List ℕ)) (plan : Plan) (course : Course) → IsPlanOf words plan → IsCourseWith plan course → IsCourseOn words course
+on_plan words plan (Refused fault) asked with = absurd with
+on_plan words plan (Unread other fault) asked with = let P : Plan → Type 0 = IsPlanOf words in subst P (sym with) asked
+on_plan words plan (Served other texts outcome) asked with = let P : Plan → Type 0 = IsPlanOf words in subst P (sym with) asked
+
+-- a course on the words that there are
+pub from_words : (given : List (List ℕ)) (bytes : List ℕ) (course : Course) → HasWords given bytes → IsCourseOn (words_from given bytes) course
+    → IsCourseFrom given bytes course
+from_words given bytes (Refused fault) has is = inr (has, is)
+from_words given bytes (Unread plan fault) has is = (has, is)
+from_words given bytes (Served plan texts outcome) has is = (has, is)
+
+-- a course on words that are given
+pub from_given : (given : List (List ℕ)) (bytes : List ℕ) (course : Course) → given ≢ [] → IsCourseOn given course → IsCourseFrom given bytes course
+from_given [] bytes course some is = absurd (some refl)
+from_given (word ∷ words) bytes course some is = from_words (word ∷ words) bytes course tt is
+
+-- the input of words that are given is all
+pub input_given : (given : List (List ℕ)) (bytes : List ℕ) → given ≢ [] → bytes ≡ input_from given bytes
+input_given [] bytes some = absurd (some refl)
+input_given (word ∷ words) bytes some = refl
+
+-- what was written for what an input has left is what was written for the input
+pub written_behind : (course : Course) (T U : Type 0) (left input more before after : List ℕ) → (T → U) → (T → left ≡ input)
+    → IsWritten course U left more before after → IsWritten course T input more before after
+written_behind (Refused fault) T U left input more before after tells behind is = is
+written_behind (Unread plan fault) T U left input more before after tells behind is = is
+written_behind (Served plan texts outcome) T U left input more before after tells behind is =
+    let P : List ℕ → Type 0 = λ bytes. IsAnswered plan texts bytes more outcome before after in
+    λ told. subst P (behind told) (is (tells told))
+
+-- the counts that stand before a course are those that the words left
+pub reads_behind : (course : Course) (failed first now before behind asked : ℕ) → first ≡ failed → behind ≡ before
+    → IsFromInput course first now behind asked → IsFromInput course failed now before asked
+reads_behind course failed first now before behind asked e f h = rw (← e, ← f) h

@@ -1,5 +1,5 @@
 -- The faults of the program: their lines on standard error and its exit statuses.
-use Rattle.std.specs.Prelude.{◌≡◌, ℕ, List, [], ◌∷◌, ◌++◌, codes, decimal}
+use Rattle.std.specs.Prelude.{ℕ, ◌==◌, ◌||◌, nat_lt, if◌then◌else◌, List, [], ◌∷◌, ◌++◌, flat_map, codes, decimal}
 use Rattle.ds_domain_base.specs.Faults.{field_text, kind_code, section_text}
 use Rattle.ds_domain_base.specs.declared.fault.DomainFault.{DomainFault}
 use Rattle.ds_certificate.specs.declared.fault.CertificateFault.{CertificateFault}
@@ -17,6 +17,14 @@ use Rattle.dsedge_serve.specs.declared.notice.Notice.TheVariants as notices
 abbrev pub text_or_dash : List ℕ → List ℕ
 text_or_dash [] = codes "-"
 text_or_dash (letter ∷ letters) = letter ∷ letters
+
+-- a control character of ASCII is shown as `?`, so that a name stays on one line
+abbrev pub shown_byte : ℕ → ℕ
+shown_byte byte = if nat_lt byte 32 || byte == 127 then 63 else byte
+
+-- how a name is shown
+abbrev pub shown : List ℕ → List ℕ
+shown name = flat_map (λ byte. shown_byte byte ∷ []) name
 
 -- what is wrong with a domain, and where: CODE KIND SECTION INDEX FIELD
 abbrev pub domain_fault_text : DomainFault → List ℕ
@@ -52,8 +60,8 @@ fault_text (Line number) = codes "dsedge: line " ++ decimal number ++ codes "\n"
 fault_text (Domain fault) = codes "dsedge: domain " ++ domain_fault_text fault ++ codes "\n"
 fault_text (Certificate place) = codes "dsedge: certificate " ++ certificate_fault_text place.fault ++ codes "\n"
 fault_text (Capture fault) = codes "dsedge: capture " ++ capture_fault_text fault ++ codes "\n"
-fault_text (Port name) = codes "dsedge: port " ++ name ++ codes "\n"
-fault_text (File name reason) = codes "dsedge: file " ++ name ++ codes "\n"
+fault_text (Port name) = codes "dsedge: port " ++ shown name ++ codes "\n"
+fault_text (File name reason) = codes "dsedge: file " ++ shown name ++ codes "\n"
 fault_text Read = codes "dsedge: read\n"
 fault_text Write = codes "dsedge: write\n"
 fault_text Memory = codes "dsedge: memory\n"

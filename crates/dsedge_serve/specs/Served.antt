@@ -99,14 +99,14 @@ pub record IsServed (reply : Reply) (outcome : Result Conclusion PumpFault) (bef
 -- a reply was given, and not the marking of a capture
 abbrev pub IsReplied : Reply → Outcome → List ℕ → List ℕ → Type 0
 IsReplied reply (Answered outcome) before after = IsServed reply outcome before after
-IsReplied reply (Marked report fault port) before after = ⊥
+IsReplied reply (Marked report fault) before after = ⊥
 
 -- a capture was marked at this port of a table, if that is accepted
 abbrev pub IsMarkedAt : Result Table TableFault → List ℕ → RedRule → List ℕ → List ℕ → Outcome → List ℕ → List ℕ
     → Type 0
 IsMarkedAt found port red bytes more (Answered outcome) before after = IsUnmarked found outcome before after
-IsMarkedAt found port red bytes more (Marked report fault name) before after =
-    (name ≡ port) × IsMarkedOver found port red bytes more report fault before after
+IsMarkedAt found port red bytes more (Marked report fault) before after =
+    IsMarkedOver found port red bytes more report fault before after
 
 -- What a plan asks for was written, for the texts of its files and the bytes that the input had, of which it still has
 -- more.
@@ -140,7 +140,7 @@ IsRefusedBefore found outcome = IfErr found (λ fault. IsSettled (Answered (refu
 
 abbrev pub IsPortlessBefore : Result Table TableFault → List ℕ → Outcome → Type 0
 IsPortlessBefore found port outcome = IfOk found
-    (λ t. is_port t.domain port ≡ false → IsSettled (Marked nothing_read (Some marks.UnknownPort) port) outcome)
+    (λ t. is_port t.domain port ≡ false → IsSettled (Marked nothing_read (Some marks.UnknownPort)) outcome)
 
 -- Where a domain's text has a fault, the outcome is settled whatever the devices do.
 abbrev pub IsUnsoundBefore : Result (Domain × List Contract) DomainFault → Outcome → Type 0
@@ -209,21 +209,21 @@ pub record IsOfReads (fault : Bool) (failed now asked_before asked : ℕ) : Type
 -- whether the output could not be written
 abbrev pub is_output_fault : Outcome → Bool
 is_output_fault (Answered outcome) = is_write_fault outcome
-is_output_fault (Marked report fault port) = is_unwritten (marking_answer report fault)
+is_output_fault (Marked report fault) = is_unwritten (marking_answer report fault)
 
 -- a read fault comes only where the input failed once, or was asked 2^32 times
 abbrev pub IsOfInput : Outcome → ℕ → ℕ → ℕ → ℕ → Type 0
 IsOfInput (Answered outcome) failed now asked_before asked =
     IsOfReads (is_read_fault outcome) failed now asked_before asked
-IsOfInput (Marked report fault port) failed now asked_before asked =
+IsOfInput (Marked report fault) failed now asked_before asked =
     IsOfCaptureReads (marking_answer report fault) failed now asked_before asked
 
--- the exit status of a plan that went so
-abbrev pub status_after : Outcome → ℕ
-status_after (Answered outcome) = status_for outcome
-status_after (Marked report fault port) = marking_status fault port
+-- the exit status of a plan that went so at a port
+abbrev pub status_after : List ℕ → Outcome → ℕ
+status_after port (Answered outcome) = status_for outcome
+status_after port (Marked report fault) = marking_status fault port
 
 -- what is told of it on standard error
-abbrev pub told_after : Outcome → List ℕ
-told_after (Answered outcome) = told_of outcome
-told_after (Marked report fault port) = marking_told report fault port
+abbrev pub told_after : List ℕ → Outcome → List ℕ
+told_after port (Answered outcome) = told_of outcome
+told_after port (Marked report fault) = marking_told report fault port

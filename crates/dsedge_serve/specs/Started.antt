@@ -3,14 +3,19 @@ use Rattle.std.specs.Prelude.{◌≡◌, ℕ, ◌<◌, ◌≤◌, ◌⊎◌, Boo
 use Rattle.std.specs.Prelude.{if◌then◌else◌}
 use Rattle.std.specs.List.{Contains}
 use Rattle.std.specs.Str.{IsUtf8}
+use Rattle.std.specs.declared.io.ErrorKind.{ErrorKind}
+use Rattle.std.specs.declared.io.ErrorKind.TheVariants.{OutOfMemory}
 use Rattle.line_text.specs.Lines.{fields_of}
 use Rattle.pcap_capture.specs.Counts.{next_count}
-use Rattle.dsedge_base.specs.Files.{files_of}
+use Rattle.dsedge_base.specs.Files.{files_of, port_of}
 use Rattle.dsedge_base.specs.Plans.{IsPlanOf, IsRefusalOf}
+use Rattle.dsedge_base.specs.declared.fault.UsageFault.{UsageFault}
 use Rattle.dsedge_base.specs.declared.fault.UsageFault.TheVariants as usage_faults
 use Rattle.dsedge_base.specs.declared.work.Plan.{Plan}
 use Rattle.dsedge_texts.specs.Readable.{texts_of}
 use Rattle.dsedge_lines.specs.FirstLine.{after_first_line, first_line_of}
+use Rattle.dsedge_lines.specs.declared.words.FirstLineFault.{FirstLineFault}
+use Rattle.dsedge_lines.specs.declared.words.FirstLineFault.TheVariants as first_line_faults
 use Rattle.dsedge_serve.specs.declared.advice.Advice.{Advice}
 use Rattle.dsedge_serve.specs.declared.fault.Fault.{Fault}
 use Rattle.dsedge_serve.specs.declared.fault.Fault.TheVariants.{File, Memory, Read, Usage}
@@ -52,6 +57,27 @@ LacksWords (word ∷ words) bytes = ⊥
 -- A plan is what the words of the command ask for.
 abbrev pub IsPlanFrom : List (List ℕ) → List ℕ → Plan → Type 0
 IsPlanFrom given bytes plan = HasWords given bytes × IsPlanOf (words_from given bytes) plan
+
+-- the words behind the program's own name
+abbrev pub behind_name : List (List ℕ) → List (List ℕ)
+behind_name [] = []
+behind_name (name ∷ words) = words
+
+-- Why there are no words at all, by why the command line could not be had: memory ran out, or one of them is not UTF-8.
+abbrev pub wordless : ErrorKind → Fault
+wordless OutOfMemory = Memory
+wordless _ = Usage
+
+-- the fault that a first line is refused with
+abbrev pub fault_of_line : FirstLineFault → Fault
+fault_of_line first_line_faults.Usage = Usage
+fault_of_line first_line_faults.Read = Read
+fault_of_line first_line_faults.NoMemory = Memory
+
+-- the fault that words are refused with
+abbrev pub fault_of_words : UsageFault → Fault
+fault_of_words usage_faults.Usage = Usage
+fault_of_words usage_faults.NoMemory = Memory
 
 -- Why there are no words: the first line gives none, or where it is wanted, it could not be read; memory may run out.
 abbrev pub IsWordless : List (List ℕ) → List ℕ → Fault → Type 0
@@ -98,19 +124,31 @@ pub data Course : Type 0 where
 abbrev pub status_in : Course → ℕ
 status_in (Refused fault) = status_of fault
 status_in (Unread plan fault) = status_of fault
-status_in (Served plan texts outcome) = status_after outcome
+status_in (Served plan texts outcome) = status_after (port_of plan) outcome
 
 -- what there is to say behind what is told of a start
 abbrev pub advice_in : Course → Option Advice
 advice_in (Refused fault) = advice_on fault
 advice_in (Unread plan fault) = advice_on fault
-advice_in (Served plan texts outcome) = advice_after outcome
+advice_in (Served plan texts outcome) = advice_after (port_of plan) outcome
 
 -- what is told of a start on standard error
 abbrev pub told_in : Course → List ℕ
 told_in (Refused fault) = fault_text fault
 told_in (Unread plan fault) = fault_text fault
-told_in (Served plan texts outcome) = told_after outcome
+told_in (Served plan texts outcome) = told_after (port_of plan) outcome
+
+-- A plan is served, or its files refuse it.
+abbrev pub IsCourseWith : Plan → Course → Type 0
+IsCourseWith given (Refused fault) = ⊥
+IsCourseWith given (Unread plan fault) = plan ≡ given
+IsCourseWith given (Served plan texts outcome) = plan ≡ given
+
+-- A plan is what the words ask for, and a refusal why they ask for nothing.
+abbrev pub IsCourseOn : List (List ℕ) → Course → Type 0
+IsCourseOn words (Refused fault) = IsRefused words fault
+IsCourseOn words (Unread plan fault) = IsPlanOf words plan
+IsCourseOn words (Served plan texts outcome) = IsPlanOf words plan
 
 -- A start goes as the words and the input have it.
 abbrev pub IsCourseFrom : List (List ℕ) → List ℕ → Course → Type 0

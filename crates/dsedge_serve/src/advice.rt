@@ -11,6 +11,10 @@ pub enum Advice {
     Certificate(FaultyLine),
     /// How a pcapng capture is converted.
     Pcapng,
+    /// Which link type a capture has, and which are read.
+    LinkType(u16),
+    /// How many bytes a record is said to have, and how many are read.
+    RecordTooLong(u32),
 }
 
 /// How the program ended.

@@ -3,10 +3,11 @@ ghost use Rattle.pcap_capture.specs.Counts.{next_count};
 ghost use Rattle.pcap_capture.specs.Fronts.{IsFrontOf};
 ghost use Rattle.dsedge_serve.specs.Advised.{advice_on};
 ghost use Rattle.dsedge_serve.specs.Faults.{capture_fault_text, certificate_fault_text, fault_text};
-ghost use Rattle.dsedge_serve.specs.Faults.{status_of, text_or_dash};
+ghost use Rattle.dsedge_serve.specs.Faults.{shown, status_of, text_or_dash};
 
 use crate::advice::Advice;
 use crate::parts::give_parts;
+use crate::shown::give_shown;
 use ds_certificate::CertificateFault;
 use ds_domain_base::DomainFault;
 use dsedge_lines::GivenName;
@@ -67,12 +68,15 @@ impl Fault<'_> {
             Fault::File(_, reason) => Some(Advice::File(*reason)),
             Fault::Certificate(place) => Some(Advice::Certificate(*place)),
             Fault::Capture(PcapFault::IsPcapng) => Some(Advice::Pcapng),
+            Fault::Capture(PcapFault::LinkType(number)) => Some(Advice::LinkType(*number)),
+            Fault::Capture(PcapFault::RecordTooLong(count)) => Some(Advice::RecordTooLong(*count)),
             _ => None,
         }
     }
 
     /// Writes the fault's line, `dsedge: ..`.
     pub fn tell<F: Outlet>(&self, faults: &mut F) -> Result<(), DeviceFault>
+        ensures told { F.tells faults.old → F.tells faults.new }
         ensures line { F.tells faults.old → MatchResult result
             (λ _. F.held faults.new ≡ F.held faults.old ++ fault_text self.now)
             (λ _. IsFrontOf (F.held faults.old) (fault_text self.now) (F.held faults.new)) }
@@ -93,8 +97,8 @@ impl Fault<'_> {
                 )
             }
             Fault::Capture(fault) => tell_line("dsedge: capture ", capture_text(*fault), faults),
-            Fault::Port(name) => tell_line("dsedge: port ", name.text(), faults),
-            Fault::File(name, _) => tell_line("dsedge: file ", name.text(), faults),
+            Fault::Port(name) => tell_name("dsedge: port ", name.text(), faults),
+            Fault::File(name, _) => tell_name("dsedge: file ", name.text(), faults),
             Fault::Read => give_all(faults, b"dsedge: read\n"),
             Fault::Write => give_all(faults, b"dsedge: write\n"),
             Fault::Memory => give_all(faults, b"dsedge: memory\n"),
@@ -105,6 +109,7 @@ impl Fault<'_> {
 
 /// Writes a line of two texts.
 fn tell_line<F: Outlet>(front: &str, back: &str, faults: &mut F) -> Result<(), DeviceFault>
+    ensures told { F.tells faults.old → F.tells faults.new }
     ensures line { F.tells faults.old → let line = front.now ++ (back.now ++ codes "\n") in MatchResult result
         (λ _. F.held faults.new ≡ F.held faults.old ++ line)
         (λ _. IsFrontOf (F.held faults.old) line (F.held faults.new)) }
@@ -114,8 +119,23 @@ fn tell_line<F: Outlet>(front: &str, back: &str, faults: &mut F) -> Result<(), D
     give_parts(faults, &[front, back, "\n"])
 }
 
+/// Writes a line of a text and a name, whose control characters are shown as `?`.
+fn tell_name<F: Outlet>(front: &str, name: &str, faults: &mut F) -> Result<(), DeviceFault>
+    ensures told { F.tells faults.old → F.tells faults.new }
+    ensures line { F.tells faults.old → let line = front.now ++ (shown name.now ++ codes "\n") in MatchResult result
+        (λ _. F.held faults.new ≡ F.held faults.old ++ line)
+        (λ _. IsFrontOf (F.held faults.old) line (F.held faults.new)) }
+    ensures failures { F.failed faults.new
+        ≡ (if is_ok result then F.failed faults.old else next_count (F.failed faults.old)) }
+{
+    give_all(faults, front.as_bytes())?;
+    give_shown(name, faults)?;
+    give_all(faults, b"\n")
+}
+
 /// Writes the line of a domain's fault, `dsedge: domain CODE KIND SECTION INDEX FIELD`.
 fn tell_domain<F: Outlet>(fault: &DomainFault, faults: &mut F) -> Result<(), DeviceFault>
+    ensures told { F.tells faults.old → F.tells faults.new }
     ensures line { F.tells faults.old → MatchResult result
         (λ _. F.held faults.new ≡ F.held faults.old ++ fault_text (Fault.Domain fault.now))
         (λ _. IsFrontOf (F.held faults.old) (fault_text (Fault.Domain fault.now)) (F.held faults.new)) }

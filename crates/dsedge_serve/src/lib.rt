@@ -2,6 +2,7 @@
 #![tactic(auto)]
 
 mod advice;
+mod advising;
 mod conclusion;
 mod fault;
 mod marking;
@@ -9,13 +10,16 @@ mod notice;
 mod outcome;
 mod parts;
 mod report;
+mod running;
 mod selling;
 mod serving;
+mod shown;
 mod starting;
 
 pub use advice::{Advice, Ended};
 pub use conclusion::Conclusion;
 pub use fault::Fault;
 pub use outcome::Outcome;
+pub use running::run;
 pub use serving::serve;
 pub use starting::{refuse, start};

@@ -23,21 +23,21 @@ use pcap_capture::{DeviceFault, Intake, Outlet, PcapFault, VecOutlet, give_all};
 use std::alloc::Global;
 
 /// Answers with the capture of the input, marked at a port of the table that two texts say.
-pub(crate) fn answer_mark<'a, I: Intake, O: Outlet>(
+pub(crate) fn answer_mark<I: Intake, O: Outlet>(
     alloc: Global,
     domain: &[u8],
     certificate: &[u8],
-    port: GivenName<'a>,
+    port: &str,
     red: RedRule,
     intake: &mut I,
     output: &mut O,
-) -> Outcome<'a>
+) -> Outcome
     ensures served { I.tells intake.old → O.tells output.old →
-        IsMarkedAt (accepted_in domain.now certificate.now) port.entry red (I.left intake.old) (I.left intake.new)
+        IsMarkedAt (accepted_in domain.now certificate.now) port.now red (I.left intake.old) (I.left intake.new)
         result
         (O.held output.old) (O.held output.new) }
     ensures refused { IsRefusedBefore (accepted_in domain.now certificate.now) result }
-    ensures unknown { IsPortlessBefore (accepted_in domain.now certificate.now) port.entry result }
+    ensures unknown { IsPortlessBefore (accepted_in domain.now certificate.now) port.now result }
     ensures writes { IsOfWrites (is_output_fault result) (O.failed output.old) (O.failed output.new) }
     ensures reads { IsOfInput result (I.failed intake.old) (I.failed intake.new) (I.turns intake.old)
         (I.turns intake.new) }
@@ -49,35 +49,26 @@ pub(crate) fn answer_mark<'a, I: Intake, O: Outlet>(
 }
 
 /// Answers with the capture of the input, marked at a port of an accepted table.
-fn mark_over<'a, I: Intake, O: Outlet>(
+fn mark_over<I: Intake, O: Outlet>(
     alloc: Global,
     accepted: &Accepted,
-    port: GivenName<'a>,
+    port: &str,
     red: RedRule,
     intake: &mut I,
     output: &mut O,
-) -> Outcome<'a>
+) -> Outcome
     ensures served { I.tells intake.old → O.tells output.old →
-        IsMarkedAt (Ok accepted.now) port.entry red (I.left intake.old) (I.left intake.new) result (O.held output.old)
+        IsMarkedAt (Ok accepted.now) port.now red (I.left intake.old) (I.left intake.new) result (O.held output.old)
         (O.held output.new) }
-    ensures unknown { is_port accepted.now.domain port.entry ≡ false
-        → result ≡ Outcome.Marked nothing_read (Some MarkFault.UnknownPort) port.entry }
+    ensures unknown { is_port accepted.now.domain port.now ≡ false
+        → result ≡ Outcome.Marked nothing_read (Some MarkFault.UnknownPort) }
     ensures writes { IsOfWrites (is_output_fault result) (O.failed output.old) (O.failed output.new) }
     ensures reads { IsOfInput result (I.failed intake.old) (I.failed intake.new) (I.turns intake.old)
         (I.turns intake.new) }
 {
-    match mark(
-        alloc,
-        accepted,
-        port.text(),
-        1,
-        red,
-        intake,
-        output,
-        &OpenGate,
-    ) {
-        Ok(report) => Outcome::Marked(report, None, port),
-        Err((report, fault)) => Outcome::Marked(report, Some(fault), port),
+    match mark(alloc, accepted, port, 1, red, intake, output, &OpenGate) {
+        Ok(report) => Outcome::Marked(report, None),
+        Err((report, fault)) => Outcome::Marked(report, Some(fault)),
     }
 }
 
@@ -106,19 +97,19 @@ fn capture_fault(fault: PcapFault) -> Fault<'static>
 }
 
 /// What is told where a capture was not marked to its end at a port.
-fn marking_fault<'a>(fault: MarkFault, port: &GivenName<'a>) -> Fault<'a>
+fn marking_fault<'a>(fault: MarkFault, port: &'a str) -> Fault<'a>
     ensures { result ≡ marking_fault port.now fault }
 {
     match fault {
         MarkFault::Capture(fault) => capture_fault(fault),
-        MarkFault::UnknownPort => Fault::Port(GivenName::new(port.text())),
+        MarkFault::UnknownPort => Fault::Port(GivenName::new(port)),
         MarkFault::JournalFull => Fault::Full,
         MarkFault::NoMemory => Fault::Memory,
     }
 }
 
 /// The exit status of a marking.
-pub(crate) fn marking_status(fault: Option<MarkFault>, port: &GivenName<'_>) -> u8
+pub(crate) fn marking_status(fault: Option<MarkFault>, port: &str) -> u8
     ensures { result ≡ marking_status fault port.now }
 {
     match fault {
@@ -128,7 +119,7 @@ pub(crate) fn marking_status(fault: Option<MarkFault>, port: &GivenName<'_>) -> 
 }
 
 /// What there is to say behind what is told of a marking, if anything.
-pub(crate) fn marking_advice(fault: Option<MarkFault>, port: &GivenName<'_>) -> Option<Advice>
+pub(crate) fn marking_advice(fault: Option<MarkFault>, port: &str) -> Option<Advice>
     ensures { result ≡ marking_advice fault port.now }
 {
     match fault {
@@ -143,9 +134,10 @@ pub(crate) fn tell_marking<F: Outlet>(
     alloc: Global,
     report: &Report,
     fault: Option<MarkFault>,
-    port: &GivenName<'_>,
+    port: &str,
     faults: &mut F,
 ) -> Result<(), DeviceFault>
+    ensures told { F.tells faults.old → F.tells faults.new }
     ensures line { F.tells faults.old → MatchResult result
         (λ _. F.held faults.new ≡ F.held faults.old ++ marking_told report.now fault port.now)
         (λ _. IsFrontOf (F.held faults.old) (marking_told report.now fault port.now) (F.held faults.new)) }
@@ -163,9 +155,10 @@ pub(crate) fn tell_marking<F: Outlet>(
 fn tell_parts<F: Outlet>(
     report: &Report,
     fault: Option<MarkFault>,
-    port: &GivenName<'_>,
+    port: &str,
     faults: &mut F,
 ) -> Result<(), DeviceFault>
+    ensures told { F.tells faults.old → F.tells faults.new }
     ensures line { F.tells faults.old → MatchResult result
         (λ _. F.held faults.new ≡ F.held faults.old ++ marking_told report.now fault port.now)
         (λ _. IsFrontOf (F.held faults.old) (marking_told report.now fault port.now) (F.held faults.new)) }
@@ -179,9 +172,10 @@ fn tell_parts<F: Outlet>(
 /// Tells the fault of a marking, if any.
 fn tell_fault<F: Outlet>(
     fault: Option<MarkFault>,
-    port: &GivenName<'_>,
+    port: &str,
     faults: &mut F,
 ) -> Result<(), DeviceFault>
+    ensures told { F.tells faults.old → F.tells faults.new }
     ensures line { F.tells faults.old → MatchResult result
         (λ _. F.held faults.new ≡ F.held faults.old ++ marking_fault_text port.now fault)
         (λ _. IsFrontOf (F.held faults.old) (marking_fault_text port.now fault) (F.held faults.new)) }

@@ -31,6 +31,7 @@ impl Notice {
 
     /// Writes the line of a fault, or the checker's line as it is.
     pub fn tell<F: Outlet>(&self, faults: &mut F) -> Result<(), DeviceFault>
+        ensures told { F.tells faults.old → F.tells faults.new }
         ensures line { F.tells faults.old → MatchResult result
             (λ _. F.held faults.new ≡ F.held faults.old ++ notice_text self.now)
             (λ _. IsFrontOf (F.held faults.old) (notice_text self.now) (F.held faults.new)) }

@@ -72,7 +72,7 @@ fn sell<J: Naming, R: Wait, I: Intake, O: Outlet>(
         (I.turns intake.old) (I.turns intake.new) }
 {
     match DriveCommand::<J, &R>::new(alloc, rt, opened, domain, contracts) {
-        Ok(mut command) => answer_lines(alloc, &mut command, intake, output),
+        Ok(command) => answer_lines(alloc, command, intake, output),
         Err(_) => Err(PumpFault::NoMemory),
     }
 }

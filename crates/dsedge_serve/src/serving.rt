@@ -1,5 +1,5 @@
 ghost use Rattle.std.specs.Prelude.{◌≡◌, false, length, map};
-ghost use Rattle.dsedge_base.specs.Files.{files_of};
+ghost use Rattle.dsedge_base.specs.Files.{files_of, port_of};
 ghost use Rattle.dsedge_lines.specs.Faults.{is_read_fault, is_write_fault};
 ghost use Rattle.dsedge_serve.specs.Served.{IsForeseen, IsRefusedBefore};
 ghost use Rattle.dsedge_serve.specs.Served.{IsAnswered, IsOfInput, IsOfReads, IsOfWrites, IsServed, IsTold, Reply};
@@ -37,20 +37,23 @@ use std::sync::Wait;
 const TURNS: u64 = 1 << 32;
 
 /// Answers the lines of the input by a command.
-pub(crate) fn answer_lines<C: Command, I: Intake, O: Outlet>(
+pub(crate) fn answer_lines<C: Command + Drop, I: Intake, O: Outlet>(
     alloc: Global,
-    command: &mut C,
+    command: C,
     intake: &mut I,
     output: &mut O,
 ) -> Result<Conclusion, PumpFault>
     ensures served { I.tells intake.old → O.tells output.old →
-        IsServed (reply_of (C.answer command.old 1 (lines_of (I.left intake.old)))) result (O.held output.old)
+        IsServed (reply_of (C.answer command 1 (lines_of (I.left intake.old)))) result (O.held output.old)
         (O.held output.new) }
     ensures writes { IsOfWrites (is_write_fault result) (O.failed output.old) (O.failed output.new) }
     ensures reads { IsOfReads (is_read_fault result) (I.failed intake.old) (I.failed intake.new)
         (I.turns intake.old) (I.turns intake.new) }
 {
-    match pump(alloc, command, intake, output, TURNS) {
+    let mut command = command;
+    let answered = pump(alloc, &mut command, intake, output, TURNS);
+    drop(command);
+    match answered {
         Ok(ending) => Ok(Conclusion::Ended(ending)),
         Err(fault) => Err(fault),
     }
@@ -155,25 +158,25 @@ fn judge_run<I: Intake, O: Outlet>(
         (I.turns intake.old) (I.turns intake.new) }
 {
     match AuditCommand::new(alloc, accepted) {
-        Ok(mut command) => answer_lines(alloc, &mut command, intake, output),
+        Ok(command) => answer_lines(alloc, command, intake, output),
         Err(_) => Err(PumpFault::NoMemory),
     }
 }
 
 /// Answers what a plan asks for, on the output, from the texts of its files.
-fn answer<'a, R: Wait, I: Intake, O: Outlet>(
+fn answer<R: Wait, I: Intake, O: Outlet>(
     alloc: Global,
     rt: &R,
-    plan: Plan<'a>,
+    plan: &Plan<'_>,
     texts: &[Vec<u8>],
     intake: &mut I,
     output: &mut O,
-) -> Outcome<'a>
-    requires { length texts.now ≡ length (files_of plan) }
+) -> Outcome
+    requires { length texts.now ≡ length (files_of plan.now) }
     ensures served { I.tells intake.old → O.tells output.old →
-        IsAnswered plan.entry (map (λ text. text.items) texts.now) (I.left intake.old) (I.left intake.new) result
+        IsAnswered plan.now (map (λ text. text.items) texts.now) (I.left intake.old) (I.left intake.new) result
         (O.held output.old) (O.held output.new) }
-    ensures foreseen { IsForeseen plan.entry (map (λ text. text.items) texts.now) result }
+    ensures foreseen { IsForeseen plan.now (map (λ text. text.items) texts.now) result }
     ensures writes { IsOfWrites (is_output_fault result) (O.failed output.old) (O.failed output.new) }
     ensures reads { IsOfInput result (I.failed intake.old) (I.failed intake.new) (I.turns intake.old)
         (I.turns intake.new) }
@@ -183,12 +186,12 @@ fn answer<'a, R: Wait, I: Intake, O: Outlet>(
             Outcome::Answered(answer_text(text.as_bytes(), Ending::Whole, output))
         }
         Plan::Meter(meter) => {
-            let mut command = MeterCommand::new(alloc, meter);
-            Outcome::Answered(answer_lines(alloc, &mut command, intake, output))
+            let command = MeterCommand::new(alloc, *meter);
+            Outcome::Answered(answer_lines(alloc, command, intake, output))
         }
         Plan::Envelope { rate, burst } => {
-            let mut command = EnvelopeCommand::new(alloc, rate, burst);
-            Outcome::Answered(answer_lines(alloc, &mut command, intake, output))
+            let command = EnvelopeCommand::new(alloc, *rate, *burst);
+            Outcome::Answered(answer_lines(alloc, command, intake, output))
         }
         Plan::Certify { .. } => {
             Outcome::Answered(answer_certify(alloc, texts[0].as_slice(), output))
@@ -211,7 +214,7 @@ fn answer<'a, R: Wait, I: Intake, O: Outlet>(
             ..
         } => {
             let (domain, certificate) = (texts[0].as_slice(), texts[1].as_slice());
-            let red = rule_said(keeps_red);
+            let (port, red) = (port.text(), rule_said(*keeps_red));
             answer_mark(alloc, domain, certificate, port, red, intake, output)
         }
     }
@@ -266,6 +269,7 @@ fn status(outcome: &Result<Conclusion, PumpFault>) -> u8
 /// Tells an outcome on standard error, where there is anything to tell, and gives what there is to say behind it. A
 /// failure to write there is passed over.
 fn tell<F: Outlet>(outcome: Result<Conclusion, PumpFault>, faults: &mut F) -> Option<Advice>
+    ensures still { F.tells faults.old → F.tells faults.new }
     ensures told { F.tells faults.old →
         IsTold (told_of outcome) (F.held faults.old) (F.held faults.new) (F.failed faults.old) (F.failed faults.new) }
     ensures advice { result ≡ advice_for outcome }
@@ -277,29 +281,35 @@ fn tell<F: Outlet>(outcome: Result<Conclusion, PumpFault>, faults: &mut F) -> Op
     notice.advice()
 }
 
-/// The exit status of a plan that went so.
-fn status_after(outcome: &Outcome<'_>) -> u8
-    ensures { result ≡ status_after outcome.now }
+/// The exit status of a plan that went so at a port.
+fn status_after(port: &str, outcome: &Outcome) -> u8
+    ensures { result ≡ status_after port.now outcome.now }
 {
     match outcome {
         Outcome::Answered(outcome) => status(outcome),
-        Outcome::Marked(_, fault, port) => marking_status(*fault, port),
+        Outcome::Marked(_, fault) => marking_status(*fault, port),
     }
 }
 
-/// Tells how a plan went, where there is anything to tell, and gives what there is to say behind it. A failure to write
-/// there is passed over.
-fn tell_after<F: Outlet>(alloc: Global, outcome: Outcome<'_>, faults: &mut F) -> Option<Advice>
+/// Tells how a plan went at a port, where there is anything to tell, and gives what there is to say behind it. A failure
+/// to write there is passed over.
+fn tell_after<F: Outlet>(
+    alloc: Global,
+    port: &str,
+    outcome: Outcome,
+    faults: &mut F,
+) -> Option<Advice>
+    ensures still { F.tells faults.old → F.tells faults.new }
     ensures told { F.tells faults.old →
-        IsTold (told_after outcome.entry) (F.held faults.old) (F.held faults.new) (F.failed faults.old)
+        IsTold (told_after port.now outcome) (F.held faults.old) (F.held faults.new) (F.failed faults.old)
         (F.failed faults.new) }
-    ensures advice { result ≡ advice_after outcome.entry }
+    ensures advice { result ≡ advice_after port.now outcome }
 {
     match outcome {
         Outcome::Answered(outcome) => tell(outcome, faults),
-        Outcome::Marked(report, fault, port) => {
-            let _told = tell_marking(alloc, &report, fault, &port, faults);
-            marking_advice(fault, &port)
+        Outcome::Marked(report, fault) => {
+            let _told = tell_marking(alloc, &report, fault, port, faults);
+            marking_advice(fault, port)
         }
     }
 }
@@ -312,27 +322,31 @@ fn tell_after<F: Outlet>(alloc: Global, outcome: Outcome<'_>, faults: &mut F) ->
 pub fn serve<R: Wait, I: Intake, O: Outlet, F: Outlet>(
     alloc: Global,
     rt: &R,
-    plan: Plan<'_>,
+    plan: &Plan<'_>,
     texts: &[Vec<u8>],
     intake: &mut I,
     output: &mut O,
     faults: &mut F,
 ) -> Ended
-    requires { length texts.now ≡ length (files_of plan) }
+    requires { length texts.now ≡ length (files_of plan.now) }
+    ensures still { F.tells faults.old → F.tells faults.new }
     // One outcome stands behind what is written, what is told, the status and the advice.
-    ensures { (outcome : Outcome) × (result.status ≡ status_after outcome)
+    ensures outcome { let port = port_of plan.now in
+        (outcome : Outcome) × (result.status ≡ status_after port outcome)
         × (I.tells intake.old → O.tells output.old →
-        IsAnswered plan.entry (map (λ text. text.items) texts.now) (I.left intake.old) (I.left intake.new) outcome
+        IsAnswered plan.now (map (λ text. text.items) texts.now) (I.left intake.old) (I.left intake.new) outcome
         (O.held output.old) (O.held output.new))
         × (F.tells faults.old →
-        IsTold (told_after outcome) (F.held faults.old) (F.held faults.new) (F.failed faults.old) (F.failed faults.new))
+        IsTold (told_after port outcome) (F.held faults.old) (F.held faults.new) (F.failed faults.old)
+        (F.failed faults.new))
         × IsOfWrites (is_output_fault outcome) (O.failed output.old) (O.failed output.new)
         × IsOfInput outcome (I.failed intake.old) (I.failed intake.new) (I.turns intake.old) (I.turns intake.new)
-        × IsForeseen plan.entry (map (λ text. text.items) texts.now) outcome
-        × (result.advice ≡ advice_after outcome) }
+        × IsForeseen plan.now (map (λ text. text.items) texts.now) outcome
+        × (result.advice ≡ advice_after port outcome) }
 {
     let outcome = answer(alloc, rt, plan, texts, intake, output);
-    let status = status_after(&outcome);
-    let advice = tell_after(alloc, outcome, faults);
+    let port = plan.port();
+    let status = status_after(port, &outcome);
+    let advice = tell_after(alloc, port, outcome, faults);
     Ended { status, advice }
 }

@@ -1,13 +1,12 @@
-ghost use Rattle.std.specs.Prelude.{◌≡◌, ℕ, ◌≤◌, IfErr, IfOk, MatchResult, Ok, OnOk, length, map, string_bytes};
-ghost use Rattle.dsedge_base.specs.Plans.{IsPlanOf};
+ghost use Rattle.std.specs.Prelude.{◌≡◌, ℕ, ◌≤◌, IfErr, IfOk, Ok, length, map, string_bytes};
 ghost use Rattle.pcap_capture.specs.Counts.{count_after};
 ghost use Rattle.dsedge_serve.specs.Advised.{advice_on};
 ghost use Rattle.dsedge_serve.specs.Faults.{fault_text, status_of};
 ghost use Rattle.dsedge_serve.specs.Served.{IsOfWrites, IsTold};
-ghost use Rattle.dsedge_serve.specs.Started.{AreKnown, Course, HasWords, IsCourseFrom, IsFromInput, IsRefused, IsWordless};
-ghost use Rattle.dsedge_serve.specs.Started.{IsWritten};
-ghost use Rattle.dsedge_serve.specs.Started.{IsCourseOf, IsUnreadable, failures_with, input_from, is_unwritten, most_asked};
-ghost use Rattle.dsedge_serve.specs.Started.{advice_in, status_in, told_in, words_from};
+ghost use Rattle.dsedge_serve.specs.Started.{AreKnown, Course, IsCourseFrom, IsCourseOn, IsCourseWith, IsFromInput};
+ghost use Rattle.dsedge_serve.specs.Started.{IsWritten, fault_of_line, fault_of_words};
+ghost use Rattle.dsedge_serve.specs.Started.{IsCourseOf, IsUnreadable, input_from, is_unwritten, most_asked};
+ghost use Rattle.dsedge_serve.specs.Started.{advice_in, status_in, told_in};
 ghost use Rattle.dsedge_base.specs.Files.{files_of};
 ghost use Rattle.dsedge_texts.specs.Readable.{texts_of};
 
@@ -15,7 +14,7 @@ use crate::advice::Ended;
 use crate::fault::Fault;
 use crate::serving::serve;
 use dsedge_base::{Plan, UsageFault, plan};
-use dsedge_lines::{FirstLineFault, Words, first_line};
+use dsedge_lines::{FirstLineFault, first_line};
 use dsedge_texts::{Folder, TextFault, read_texts};
 use pcap_capture::{Intake, Outlet};
 use std::alloc::Global;
@@ -25,6 +24,7 @@ use std::sync::Wait;
 pub fn refuse<F: Outlet>(fault: &Fault<'_>, faults: &mut F) -> Ended
     ensures status { result.status ≡ status_of fault.now }
     ensures advice { result.advice ≡ advice_on fault.now }
+    ensures still { F.tells faults.old → F.tells faults.new }
     ensures told { F.tells faults.old →
         IsTold (fault_text fault.now) (F.held faults.old) (F.held faults.new) (F.failed faults.old)
         (F.failed faults.new) }
@@ -36,48 +36,24 @@ pub fn refuse<F: Outlet>(fault: &Fault<'_>, faults: &mut F) -> Ended
     }
 }
 
-/// The words of a command: those given, or where there are none, those of the input's first line.
-///
-/// Refused: `Usage` for a first line of more than 65,536 bytes or one that is not UTF-8, `Read` where it could not be
-/// read, `Memory` where memory ran out.
-fn words_for<I: Intake>(
-    alloc: Global,
-    given: Words,
-    intake: &mut I,
-) -> Result<Words, Fault<'static>>
-    ensures told { I.tells intake.old → I.tells intake.new }
-    ensures words { let texts = map string_bytes given.items in
-        AreKnown texts (I.tells intake.old) → IfOk result (λ words. HasWords texts (I.left intake.old)
-        × (map string_bytes words.items ≡ words_from texts (I.left intake.old))) }
-    ensures refused { let texts = map string_bytes given.items in
-        AreKnown texts (I.tells intake.old) → IfErr result (IsWordless texts (I.left intake.old)) }
-    ensures input { I.tells intake.old → OnOk result
-        (I.left intake.new ≡ input_from (map string_bytes given.items) (I.left intake.old)) }
-    ensures failures { MatchResult result (λ _. I.failed intake.new ≡ I.failed intake.old)
-        (λ fault. I.failed intake.new ≡ failures_with fault (I.failed intake.old)) }
-    ensures asked { (asked : ℕ) × (asked ≤ most_asked (map string_bytes given.items))
-        × (I.turns intake.new ≡ count_after asked (I.turns intake.old)) }
+/// The fault that a first line is refused with.
+fn fault_of_line(fault: FirstLineFault) -> Fault<'static>
+    ensures { result ≡ fault_of_line fault }
 {
-    if !given.is_empty() {
-        return Ok(given);
-    }
-    match first_line(alloc, intake) {
-        Ok(words) => Ok(words),
-        Err(FirstLineFault::Usage) => Err(Fault::Usage),
-        Err(FirstLineFault::Read) => Err(Fault::Read),
-        Err(FirstLineFault::NoMemory) => Err(Fault::Memory),
+    match fault {
+        FirstLineFault::Usage => Fault::Usage,
+        FirstLineFault::Read => Fault::Read,
+        FirstLineFault::NoMemory => Fault::Memory,
     }
 }
 
-/// What words ask for, or the fault that refuses them.
-fn plan_for<'a>(alloc: Global, words: &'a [String]) -> Result<Plan<'a>, Fault<'static>>
-    ensures plan { IfOk result (IsPlanOf (map string_bytes words.entry.now)) }
-    ensures refused { IfErr result (IsRefused (map string_bytes words.entry.now)) }
+/// The fault that words are refused with.
+fn fault_of_words(fault: UsageFault) -> Fault<'static>
+    ensures { result ≡ fault_of_words fault }
 {
-    match plan(alloc, words) {
-        Ok(plan) => Ok(plan),
-        Err(UsageFault::Usage) => Err(Fault::Usage),
-        Err(UsageFault::NoMemory) => Err(Fault::Memory),
+    match fault {
+        UsageFault::Usage => Fault::Usage,
+        UsageFault::NoMemory => Fault::Memory,
     }
 }
 
@@ -102,13 +78,72 @@ fn texts_for<'a, D: Folder>(
     }
 }
 
+/// Serves a plan with the texts of its files.
+fn start_with<R: Wait, D: Folder, I: Intake, O: Outlet, F: Outlet>(
+    alloc: Global,
+    rt: &R,
+    plan: &Plan<'_>,
+    folder: &D,
+    intake: &mut I,
+    output: &mut O,
+    faults: &mut F,
+) -> Ended
+    ensures still { F.tells faults.old → F.tells faults.new }
+    ensures course { (course : Course) × (result.status ≡ status_in course)
+        × IsCourseWith plan.now course
+        × IsCourseOf (D.tells folder.now) (D.holds folder.now) course
+        × IsWritten course (I.tells intake.old × O.tells output.old) (I.left intake.old) (I.left intake.new)
+        (O.held output.old) (O.held output.new)
+        × (F.tells faults.old →
+        IsTold (told_in course) (F.held faults.old) (F.held faults.new) (F.failed faults.old) (F.failed faults.new))
+        × IsOfWrites (is_unwritten course) (O.failed output.old) (O.failed output.new)
+        × IsFromInput course (I.failed intake.old) (I.failed intake.new) (I.turns intake.old) (I.turns intake.new)
+        × (result.advice ≡ advice_in course) }
+{
+    match texts_for(alloc, folder, plan) {
+        Ok(texts) => serve(alloc, rt, plan, texts.as_slice(), intake, output, faults),
+        Err(fault) => refuse(&fault, faults),
+    }
+}
+
+/// Serves the plan that words ask for.
+fn start_on<R: Wait, D: Folder, I: Intake, O: Outlet, F: Outlet>(
+    alloc: Global,
+    rt: &R,
+    words: &[String],
+    folder: &D,
+    intake: &mut I,
+    output: &mut O,
+    faults: &mut F,
+) -> Ended
+    ensures still { F.tells faults.old → F.tells faults.new }
+    ensures course { (course : Course) × (result.status ≡ status_in course)
+        × IsCourseOn (map string_bytes words.now) course
+        × IsCourseOf (D.tells folder.now) (D.holds folder.now) course
+        × IsWritten course (I.tells intake.old × O.tells output.old) (I.left intake.old) (I.left intake.new)
+        (O.held output.old) (O.held output.new)
+        × (F.tells faults.old →
+        IsTold (told_in course) (F.held faults.old) (F.held faults.new) (F.failed faults.old) (F.failed faults.new))
+        × IsOfWrites (is_unwritten course) (O.failed output.old) (O.failed output.new)
+        × IsFromInput course (I.failed intake.old) (I.failed intake.new) (I.turns intake.old) (I.turns intake.new)
+        × (result.advice ≡ advice_in course) }
+{
+    match plan(alloc, words) {
+        Ok(plan) => start_with(alloc, rt, &plan, folder, intake, output, faults),
+        Err(fault) => refuse(&fault_of_words(fault), faults),
+    }
+}
+
 /// Runs the program on its words, the name of the program left out; where there are none, the first line of the input
 /// gives them, and the rest is the input. Files that the words name come from `folder`. Gives the exit status, and what
 /// there is to say behind what was told.
+///
+/// Refused: `Usage` for a first line of more than 65,536 bytes or one that is not UTF-8, and for words that ask for
+/// nothing; `Read` where the first line could not be read, `File` where a file could not, `Memory` where memory ran out.
 pub fn start<R: Wait, D: Folder, I: Intake, O: Outlet, F: Outlet>(
     alloc: Global,
     rt: &R,
-    given: Words,
+    given: &[String],
     folder: &D,
     intake: &mut I,
     output: &mut O,
@@ -116,8 +151,9 @@ pub fn start<R: Wait, D: Folder, I: Intake, O: Outlet, F: Outlet>(
 ) -> Ended
     // Words that are refused leave the output as it was.
     ensures usage { result.status ≡ 2 → O.held output.new ≡ O.held output.old }
+    ensures still { F.tells faults.old → F.tells faults.new }
     // One course of things stands behind what is written, what is told, the status and the advice.
-    ensures course { let texts = map string_bytes given.items in
+    ensures course { let texts = map string_bytes given.now in
         (course : Course) × (result.status ≡ status_in course)
         × (AreKnown texts (I.tells intake.old) → IsCourseFrom texts (I.left intake.old) course)
         × IsCourseOf (D.tells folder.now) (D.holds folder.now) course
@@ -131,16 +167,11 @@ pub fn start<R: Wait, D: Folder, I: Intake, O: Outlet, F: Outlet>(
         (count_after asked (I.turns intake.old)) (I.turns intake.new))
         × (result.advice ≡ advice_in course) }
 {
-    let words = match words_for(alloc, given, intake) {
-        Ok(words) => words,
-        Err(fault) => return refuse(&fault, faults),
-    };
-    let plan = match plan_for(alloc, words.as_slice()) {
-        Ok(plan) => plan,
-        Err(fault) => return refuse(&fault, faults),
-    };
-    match texts_for(alloc, folder, &plan) {
-        Ok(texts) => serve(alloc, rt, plan, texts.as_slice(), intake, output, faults),
-        Err(fault) => refuse(&fault, faults),
+    if !given.is_empty() {
+        return start_on(alloc, rt, given, folder, intake, output, faults);
+    }
+    match first_line(alloc, intake) {
+        Ok(words) => start_on(alloc, rt, words.as_slice(), folder, intake, output, faults),
+        Err(fault) => refuse(&fault_of_line(fault), faults),
     }
 }

@@ -12,3 +12,5 @@ mod excess_rows;
 mod mark_rows;
 #[cfg(test)]
 mod rows;
+#[cfg(test)]
+mod terminal_rows;

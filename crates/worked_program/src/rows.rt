@@ -40,7 +40,7 @@ pub(crate) fn run(
     let ended = start(
         alloc,
         rt,
-        given,
+        given.as_slice(),
         &files,
         &mut intake,
         &mut output,
@@ -220,7 +220,7 @@ fn words_on_the_first_line(rt: HostRuntime) -> Result<(), Fail> {
     let ended = start(
         alloc,
         &rt,
-        Vec::new(alloc),
+        &[],
         &NO_FILES,
         &mut intake,
         &mut output,

@@ -1,5 +1,5 @@
 use Rattle.std.proofs.Common.{◌++◌, ap, codes}
-use Rattle.dsedge_serve.specs.Faults.{fault_text}
+use Rattle.dsedge_serve.specs.Faults.{fault_text, shown}
 use Rattle.dsedge_serve.specs.declared.fault.Fault.TheVariants.{Capture, Certificate, Line, Port}
 use Rattle.dsedge_serve.proofs.FrontLemmas.{given_as, given_or_front}
 use Rattle.dsedge_serve.proofs.fault.Fault.tell.Goals as goal
@@ -34,8 +34,8 @@ returns-in-Domain-clause-line g c told = rw c.in-Domain.is (c.tell_domain.ensure
 
 pub returns-in-File-clause-line : goal.returns-in-File-clause-line
 returns-in-File-clause-line g c told =
-    rw c.in-File.is (given_as c.tell_line-in-File.result (g.F.Outlet.held c.args.faults.now) (g.F.Outlet.held c.tell_line-in-File.new.faults) _ (codes "dsedge: file " ++ c.in-File.name ++ codes "\n")
-    (ap (λ text. codes "dsedge: file " ++ text ++ codes "\n") c.text-in-File.ensures) (c.tell_line-in-File.ensures.line told))
+    rw c.in-File.is (given_as c.tell_name-in-File.result (g.F.Outlet.held c.args.faults.now) (g.F.Outlet.held c.tell_name-in-File.new.faults) _ (codes "dsedge: file " ++ shown c.in-File.name ++ codes "\n")
+    (ap (λ text. codes "dsedge: file " ++ shown text ++ codes "\n") c.text-in-File.ensures) (c.tell_name-in-File.ensures.line told))
 
 pub returns-in-Certificate-clause-line : goal.returns-in-Certificate-clause-line
 returns-in-Certificate-clause-line g c told =
@@ -49,5 +49,5 @@ returns-in-Capture-clause-line g c told =
 
 pub returns-in-Port-clause-line : goal.returns-in-Port-clause-line
 returns-in-Port-clause-line g c told =
-    rw c.in-Port.is (given_as c.tell_line-in-Port.result (g.F.Outlet.held c.args.faults.now) (g.F.Outlet.held c.tell_line-in-Port.new.faults) _ (fault_text (Port c.in-Port.name))
-    (ap (λ text. codes "dsedge: port " ++ text ++ codes "\n") c.text.ensures) (c.tell_line-in-Port.ensures.line told))
+    rw c.in-Port.is (given_as c.tell_name.result (g.F.Outlet.held c.args.faults.now) (g.F.Outlet.held c.tell_name.new.faults) _ (fault_text (Port c.in-Port.name))
+    (ap (λ text. codes "dsedge: port " ++ shown text ++ codes "\n") c.text.ensures) (c.tell_name.ensures.line told))

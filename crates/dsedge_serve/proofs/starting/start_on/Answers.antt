@@ -1,0 +1,23 @@
+use Rattle.std.proofs.Common.{map, refl, string_bytes}
+use Rattle.dsedge_serve.specs.Started.Course.{Refused}
+use Rattle.dsedge_serve.proofs.StartLemmas.{is_refused, on_plan, refused_unread}
+use Rattle.dsedge_serve.proofs.starting.start_on.Goals as goal
+
+pub returns-in-Ok-clause-course : goal.returns-in-Ok-clause-course
+returns-in-Ok-clause-course g c =
+    let started = c.start_with.ensures.course in
+    (started.0, started.1, on_plan (map string_bytes c.args.words.now) c.in-Ok.plan started.0 c.in-Ok.ensures.ok started.2, started.3, started.4, started.5, started.6, started.7, started.8)
+
+pub returns-in-Err-clause-course : goal.returns-in-Err-clause-course
+returns-in-Err-clause-course g c =
+    let fault = c.in-Err.fault in (
+      Refused c.fault_of_words.result,
+      c.refuse.ensures.status,
+      rw (c.fault_of_words.ensures) (is_refused (map string_bytes c.args.words.now) fault c.in-Err.ensures.err),
+      tt,
+      refl,
+      c.refuse.ensures.told,
+      refl,
+      (rw (c.fault_of_words.ensures) (refused_unread fault (g.I.Intake.failed c.args.intake.now)), refl),
+      c.refuse.ensures.advice,
+    )

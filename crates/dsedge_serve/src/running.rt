@@ -1,0 +1,124 @@
+ghost use Rattle.std.specs.Prelude.{◌≡◌, ℕ, ◌≤◌, IfErr, IfOk, map, string_bytes};
+ghost use Rattle.std.specs.IoError.{error_kind};
+ghost use Rattle.dsedge_base.specs.Files.{files_of};
+ghost use Rattle.pcap_capture.specs.Counts.{count_after};
+ghost use Rattle.dsedge_serve.specs.Advised.{IsToldAt};
+ghost use Rattle.dsedge_serve.specs.Faults.{fault_text, status_of};
+ghost use Rattle.dsedge_serve.specs.Served.{IsOfWrites, IsTold};
+ghost use Rattle.dsedge_serve.specs.Started.{AreKnown, Course, IsCourseFrom, IsCourseOf, IsFromInput, IsWritten};
+ghost use Rattle.dsedge_serve.specs.Started.{advice_in, behind_name, input_from, is_unwritten, most_asked, status_in};
+ghost use Rattle.dsedge_serve.specs.Started.{told_in, wordless};
+
+use crate::advising::advise;
+use crate::fault::Fault;
+use crate::starting::{refuse, start};
+use dsedge_lines::Words;
+use dsedge_texts::Folder;
+use pcap_capture::{Intake, Outlet};
+use std::alloc::Global;
+use std::io::{self, ErrorKind};
+use std::sync::Wait;
+
+/// Runs the program on the words of its command line, the first of which is its own name, and gives its exit status.
+/// Where there are no others, the first line of the input gives them, and the rest is the input. Files that the words
+/// name come from `folder`. Where faults are read at a terminal, what there is to say stands behind a fault's line, and
+/// nowhere else.
+///
+/// Words that could not be had are refused: for want of memory, or since one of them is not UTF-8.
+pub fn run<R: Wait, D: Folder, I: Intake, O: Outlet, F: Outlet>(
+    alloc: Global,
+    rt: &R,
+    line: io::Result<Words>,
+    at_terminal: bool,
+    folder: &D,
+    intake: &mut I,
+    output: &mut O,
+    faults: &mut F,
+) -> u8
+    // Words that could not be had are refused, and nothing is read or written.
+    ensures wordless { IfErr line (λ error. let fault = wordless (error_kind error) in
+        (result ≡ status_of fault) × (intake.new ≡ intake.old) × (output.new ≡ output.old)
+        × (F.tells faults.old →
+        IsTold (fault_text fault) (F.held faults.old) (F.held faults.new) (F.failed faults.old) (F.failed faults.new))) }
+    // One course of things stands behind what is written, what is told and the status.
+    ensures course { IfOk line (λ line. let words = behind_name (map string_bytes line.items) in
+        (course : Course) × (result ≡ status_in course)
+        × (AreKnown words (I.tells intake.old) → IsCourseFrom words (I.left intake.old) course)
+        × IsCourseOf (D.tells folder.now) (D.holds folder.now) course
+        × IsWritten course (I.tells intake.old × O.tells output.old) (input_from words (I.left intake.old))
+        (I.left intake.new)
+        (O.held output.old) (O.held output.new)
+        × (F.tells faults.old →
+        IsToldAt at_terminal words (advice_in course) (told_in course) (F.held faults.old) (F.held faults.new)
+        (F.failed faults.old) (F.failed faults.new))
+        × IsOfWrites (is_unwritten course) (O.failed output.old) (O.failed output.new)
+        × ((asked : ℕ) × (asked ≤ most_asked words) × IsFromInput course (I.failed intake.old) (I.failed intake.new)
+        (count_after asked (I.turns intake.old)) (I.turns intake.new))) }
+{
+    match line {
+        Ok(line) => {
+            let words = behind_name(line.as_slice());
+            run_on(
+                alloc,
+                rt,
+                words,
+                at_terminal,
+                folder,
+                intake,
+                output,
+                faults,
+            )
+        }
+        Err(error) => refuse(&wordless(error.kind()), faults).status,
+    }
+}
+
+/// The words behind the program's own name.
+fn behind_name(line: &[String]) -> &[String]
+    ensures { map string_bytes result.now ≡ behind_name (map string_bytes line.now) }
+{
+    match line.split_first() {
+        Some((_, words)) => words,
+        None => line,
+    }
+}
+
+/// Why there are no words, by why the command line could not be had.
+fn wordless(kind: ErrorKind) -> Fault<'static>
+    ensures { result ≡ wordless kind }
+{
+    match kind {
+        ErrorKind::OutOfMemory => Fault::Memory,
+        _ => Fault::Usage,
+    }
+}
+
+/// Runs the program on its words.
+fn run_on<R: Wait, D: Folder, I: Intake, O: Outlet, F: Outlet>(
+    alloc: Global,
+    rt: &R,
+    words: &[String],
+    at_terminal: bool,
+    folder: &D,
+    intake: &mut I,
+    output: &mut O,
+    faults: &mut F,
+) -> u8
+    ensures course { let texts = map string_bytes words.now in
+        (course : Course) × (result ≡ status_in course)
+        × (AreKnown texts (I.tells intake.old) → IsCourseFrom texts (I.left intake.old) course)
+        × IsCourseOf (D.tells folder.now) (D.holds folder.now) course
+        × IsWritten course (I.tells intake.old × O.tells output.old) (input_from texts (I.left intake.old))
+        (I.left intake.new)
+        (O.held output.old) (O.held output.new)
+        × (F.tells faults.old →
+        IsToldAt at_terminal texts (advice_in course) (told_in course) (F.held faults.old) (F.held faults.new)
+        (F.failed faults.old) (F.failed faults.new))
+        × IsOfWrites (is_unwritten course) (O.failed output.old) (O.failed output.new)
+        × ((asked : ℕ) × (asked ≤ most_asked texts) × IsFromInput course (I.failed intake.old) (I.failed intake.new)
+        (count_after asked (I.turns intake.old)) (I.turns intake.new)) }
+{
+    let ended = start(alloc, rt, words, folder, intake, output, faults);
+    advise(alloc, words, at_terminal, ended.advice, faults);
+    ended.status
+}
