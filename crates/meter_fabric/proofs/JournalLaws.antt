@@ -1,14 +1,16 @@
 -- The journals of sites, one by one.
 use Rattle.std.proofs.Common.{◌≡◌, ◌+◌, ℕ, zero, suc, ◌<◌, ◌≤◌, List, [], ◌∷◌, ◌++◌, length, drop, set, get_or, Option, None, Some, ◌⊎◌, inl, inr, refl, sym, ap, subst, ◌∙◌, append-nil, append_assoc, arith}
-use Rattle.std.specs.Prelude.{All, option_to_list, slice_get}
+use Rattle.std.specs.Prelude.{All, option_to_list, slice_get, IsSomeAnd}
+use Rattle.std.specs.List.{sum_by}
+use Rattle.std.proofs.lemmas.List.Sums.{sum_by-cons}
 use Rattle.std.proofs.lemmas.Option.{slice_get_past, slice_get_read, slice_get_within}
 use Rattle.meter_book.specs.Chapters.{AreChapters, Chapter, joined}
 use Rattle.meter_book.specs.Gathering.{last_part, of_site, parts_of}
 use Rattle.meter_book.specs.Replay.{Book, Journal}
 use Rattle.meter_book.specs.declared.row.Arrival.{Arrival}
 use Rattle.meter_book.proofs.GatheringLaws.{length-joined}
-use Rattle.meter_fabric.specs.Closing.{AreEven, AreThere, IsJoined, IsThere, journals_from, rows_at}
-use Rattle.meter_fabric.specs.Fabrics.{book_at, places_of, visits_at}
+use Rattle.meter_fabric.specs.Closing.{AreEven, AreThere, HaveMeters, IsJoined, IsThere, RiseFrom, journals_from, rows_at, rows_in}
+use Rattle.meter_fabric.specs.Fabrics.{Fabric, StandFrom, book_at, places_of, visits_at}
 use Rattle.meter_fabric.specs.Gathered.{AreGathered, HasAll, HaveAll, IsGathered, IsJournalOf}
 use Rattle.meter_fabric.proofs.TailLaws.{EachOf, each_of}
 
@@ -171,3 +173,85 @@ journals_long all books passes there even =
     long_from (visits_at passes) all 0 books
     (λ i. let on : i ≡ 0 + i = omega arith in subst (λ s. IsThere all s (book_at books i)) on (there i))
     (λ i below. let on : i ≡ 0 + i = omega arith in even i below ∙ ap (visits_at passes) on)
+
+-- ---- their order
+
+from_lower : (least lower : ℕ) (js : List Journal) → lower ≤ least → RiseFrom least js → RiseFrom lower js
+from_lower least lower [] below rise = tt
+from_lower least lower (j ∷ js) below rise = (omega (arith, below, rise.0), rise.1)
+
+found_rise : (site : ℕ) (found : Option Journal) (js : List Journal) → ((j : Journal) → found ≡ Some j → j.site ≡ site) → RiseFrom (suc site) js → RiseFrom site (option_to_list found ++ js)
+found_rise site None js own rise = from_lower (suc site) site js (omega arith) rise
+found_rise site (Some j) js own rise = let same = own j refl in (omega (arith, same), subst (λ s. RiseFrom (suc s) js) (sym same) rise)
+
+rise_from : (all : List Chapter) (site : ℕ) (books : List (Option Book)) → RiseFrom site (journals_from site all books)
+rise_from all site [] = tt
+rise_from all site (None ∷ books) = from_lower (suc site) site (journals_from (suc site) all books) (omega arith) (rise_from all (suc site) books)
+rise_from all site (Some b ∷ books) =
+    found_rise site (joined (parts_of all site b)) (journals_from (suc site) all books) (λ j found. site_joined site (of_site site all) b j (each_of site all) found)
+    (rise_from all (suc site) books)
+
+pub journals_rise : (all : List Chapter) (books : List (Option Book)) → RiseFrom 0 (journals_from 0 all books)
+journals_rise all books = rise_from all 0 books
+
+-- ---- how many rows they have together
+
+some_joined : (own : List Chapter) (last : Chapter) → (j : Journal) × (joined (own ++ last ∷ []) ≡ Some j)
+some_joined [] last = (_, refl)
+some_joined (c ∷ own) last = (_, refl)
+
+found_rows : (own : List Chapter) (last : Chapter) (js : List Journal) (rows : ℕ) → ((j : Journal) → joined (own ++ last ∷ []) ≡ Some j → length j.arrivals ≡ rows)
+    → rows_in (option_to_list (joined (own ++ last ∷ [])) ++ js) ≡ rows + rows_in js
+found_rows own last js rows long =
+    let (j, is) = some_joined own last in
+    ap (λ (found : Option Journal). rows_in (option_to_list found ++ js)) is ∙ sum_by-cons (λ (k : Journal). length k.arrivals) j js ∙ ap (λ n. n + rows_in js) (long j is)
+
+rows_from : (all : List Chapter) (site : ℕ) (books : List (Option Book)) → ((i : ℕ) → IsThere all (site + i) (book_at books i))
+    → rows_in (journals_from site all books) ≡ sum_by places_of books
+rows_from all site [] there = refl
+rows_from all site (b ∷ books) there =
+    let here : site + 0 ≡ site = omega arith in
+    let rest : rows_in (journals_from (suc site) all books) ≡ sum_by places_of books =
+    rows_from all (suc site) books (λ i. let on : site + suc i ≡ suc site + i = omega arith in subst (λ s. IsThere all s (book_at books i)) on (there (suc i))) in
+    by b (subst (λ s. IsThere all s b) here (there 0)) rest ∙ sym (sum_by-cons places_of b books)
+  where
+    by : (b : Option Book) → IsThere all site b → rows_in (journals_from (suc site) all books) ≡ sum_by places_of books
+        → rows_in (journals_from site all (b ∷ books)) ≡ places_of b + sum_by places_of books
+    by None is rest = rest ∙ omega arith
+    by (Some b) is rest =
+        found_rows (of_site site all) (last_part site b) (journals_from (suc site) all books) (places_of (Some b))
+        (λ j found. length-joined (of_site site all) (last_part site b) j is found)
+        ∙ ap (λ n. places_of (Some b) + n) rest
+
+pub journals_rows : (all : List Chapter) (books : List (Option Book)) → AreThere books all → rows_in (journals_from 0 all books) ≡ sum_by places_of books
+journals_rows all books there = rows_from all 0 books (λ i. let on : i ≡ 0 + i = omega arith in subst (λ s. IsThere all s (book_at books i)) on (there i))
+
+-- ---- those of meters come first
+
+joined_at : (own : List Chapter) (site : ℕ) (b : Book) → EachOf site own → (j : Journal) × (joined (own ++ last_part site b ∷ []) ≡ Some j) × (j.site ≡ site)
+joined_at [] site b each = (_, refl, refl)
+joined_at (c ∷ own) site b each = (_, refl, each.0)
+
+meters_behind : (count meters from : ℕ) (j : Journal) (js : List Journal) → j.site ≡ from
+    → ((k : ℕ) → k < count → suc from + k < meters → IsSomeAnd (slice_get js k) (λ (x : Journal). x.site ≡ suc from + k))
+    → (i : ℕ) → i < suc count → from + i < meters → IsSomeAnd (slice_get (j ∷ js) i) (λ (x : Journal). x.site ≡ from + i)
+meters_behind count meters from j js at more zero within below = omega (arith, at)
+meters_behind count meters from j js at more (suc i) within below =
+    let on : suc from + i ≡ from + suc i = omega arith in
+    subst (λ n. IsSomeAnd (slice_get js i) (λ (x : Journal). x.site ≡ n)) on (more i (omega (arith, within)) (omega (arith, below)))
+
+meters_from : (f : Fabric) (all : List Chapter) (from : ℕ) (books : List (Option Book)) → StandFrom f from books → (i : ℕ) → i < length books → from + i < length f.domain.meters
+    → IsSomeAnd (slice_get (journals_from from all books) i) (λ j. j.site ≡ from + i)
+meters_from f all from [] stand i within below = absurd (omega (arith, within))
+meters_from f all from (None ∷ books) stand i within below = let slot : length f.domain.meters ≤ from = stand.0 in absurd (omega (arith, slot, below))
+meters_from f all from (Some b ∷ books) stand i within below =
+    let (j, is, at) = joined_at (of_site from all) from b (each_of from all) in
+    let front : journals_from from all (Some b ∷ books) ≡ j ∷ journals_from (suc from) all books = ap (λ (found : Option Journal). option_to_list found ++ journals_from (suc from) all books) is in
+    subst (λ js. IsSomeAnd (slice_get js i) (λ (k : Journal). k.site ≡ from + i)) (sym front)
+    (meters_behind (length books) (length f.domain.meters) from j (journals_from (suc from) all books) at (λ k inside under. meters_from f all (suc from) books stand.1 k inside under) i (omega (arith, within)) below)
+
+pub journals_of_meters : (f : Fabric) (all : List Chapter) (books : List (Option Book)) → StandFrom f 0 books → length f.domain.meters ≤ length books → HaveMeters f (journals_from 0 all books)
+journals_of_meters f all books stand many site below =
+    let same : 0 + site ≡ site = omega arith in
+    subst (λ n. IsSomeAnd (slice_get (journals_from 0 all books) site) (λ (j : Journal). j.site ≡ n)) same
+    (meters_from f all 0 books stand site (omega (arith, many, below)) (omega (arith, below)))

@@ -7,7 +7,7 @@ use Rattle.std.proofs.lemmas.List.{drop-set-lt, get_or-drop, get_or-set_same, ta
 use Rattle.std.proofs.lemmas.List.Elements.{AllZip-push}
 use Rattle.std.proofs.lemmas.List.Sums.{sum_by_push}
 use Rattle.meter_fabric_base.specs.declared.fault.VisitFault.{VisitFault}
-use Rattle.meter_fabric.specs.Fabrics.{one_more}
+use Rattle.meter_fabric.specs.Fabrics.{Fabric, one_more}
 use Rattle.meter_fabric.specs.Visits.{IsAnswered}
 use Rattle.meter_fabric.specs.declared.visit.Visit.{Visit}
 
@@ -35,10 +35,10 @@ left_more now was i new left =
     let next : suc i ≡ i + 1 = omega arith in
     drop-set-lt (i + 1) now i new (omega arith) ∙ ap (λ n. drop n now) (sym next) ∙ drop_more now was i left ∙ ap (λ n. drop n was) next
 
-pub answered_more : (was now : List Visit) (i : ℕ) (d new : Visit) → i < length was → i < length now → AllZip IsAnswered (take i was) (take i now) → IsAnswered (get_or was i d) new
-    → AllZip IsAnswered (take (i + 1) was) (take (i + 1) (set now i new))
-answered_more was now i d new below short so_far here =
-    rw (take_more was i d below, take_more_set now i new short) (AllZip-push IsAnswered (take i was) (take i now) (get_or was i d) new so_far here)
+pub answered_more : (f : Fabric) (was now : List Visit) (i : ℕ) (d new : Visit) → i < length was → i < length now → AllZip (IsAnswered f) (take i was) (take i now)
+    → IsAnswered f (get_or was i d) new → AllZip (IsAnswered f) (take (i + 1) was) (take (i + 1) (set now i new))
+answered_more f was now i d new below short so_far here =
+    rw (take_more was i d below, take_more_set now i new short) (AllZip-push (IsAnswered f) (take i was) (take i now) (get_or was i d) new so_far here)
 
 -- a count of a pass, and more
 set_twice : (counts : List ℕ) (site a b : ℕ) → set (set counts site a) site b ≡ set counts site b

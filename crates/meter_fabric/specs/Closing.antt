@@ -1,9 +1,10 @@
 -- What a fabric that is closed comes to: the journals of its books, and what stands against them.
-use Rattle.std.specs.Prelude.{◌≡◌, ℕ, suc, ◌<◌, List, [], ◌∷◌, ◌++◌, length, option_to_list, Option, None, Some}
+use Rattle.std.specs.Prelude.{◌≡◌, ℕ, suc, ◌<◌, ◌≤◌, List, [], ◌∷◌, ◌++◌, length, option_to_list, Option, None, Some}
+use Rattle.std.specs.Prelude.{slice_get, sum_by, IsSomeAnd}
 use Rattle.meter_book.specs.Chapters.{AreChapters, Chapter, joined}
 use Rattle.meter_book.specs.Gathering.{last_part, of_site, parts_of}
 use Rattle.meter_book.specs.Replay.{Book, Journal}
-use Rattle.meter_fabric.specs.Fabrics.{Fabric, book_at, places_of, visits_at}
+use Rattle.meter_fabric.specs.Fabrics.{Fabric, StandFrom, book_at, places_of, sites_of, visits_at}
 use Rattle.meter_fabric.specs.declared.fault.CloseFault.{CloseFault}
 use Rattle.meter_fabric.specs.declared.fault.CloseFault.TheVariants.{PassMissing, NoMemory, ChapterMissing, Uneven}
 
@@ -61,3 +62,24 @@ journals_from site chapters [] = []
 journals_from site chapters (None ∷ books) = journals_from (suc site) chapters books
 journals_from site chapters (Some b ∷ books) =
     option_to_list (joined (parts_of chapters site b)) ++ journals_from (suc site) chapters books
+
+-- the sites of journals rise, the first of them from a number on
+abbrev pub RiseFrom : ℕ → List Journal → Type 0
+RiseFrom least [] = Unit {0}
+RiseFrom least (j ∷ journals) = (least ≤ j.site) × RiseFrom (suc j.site) journals
+
+-- how many rows journals have together
+abbrev pub rows_in : List Journal → ℕ
+rows_in journals = sum_by (λ j. length j.arrivals) journals
+
+-- the first journals are those of the meters, in their order
+abbrev pub HaveMeters : Fabric → List Journal → Type 0
+HaveMeters f journals =
+    (site : ℕ) → site < length f.domain.meters → IsSomeAnd (slice_get journals site) (λ j. j.site ≡ site)
+
+-- what stands against closing a fabric, by books that may lie under its locks
+pub record IsUnclosed (f : Fabric) (passes : List (List ℕ)) (chapters : List Chapter) (why : CloseFault) : Type 0 where
+  pub books : List (Option Book)
+  pub all : length books ≡ sites_of f
+  pub stand : StandFrom f 0 books
+  pub unsettled : IsUnsettled books passes chapters why

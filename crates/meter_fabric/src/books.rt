@@ -1,12 +1,12 @@
 ghost use Rattle.std.specs.Prelude.{◌≡◌, ◌≢◌, ◌+◌, ◌<◌, ◌≤◌, ◌^◌, ℕ, [], All, IfErr, IfOk, IsErrAnd, OnOk, length, sum};
-ghost use Rattle.std.specs.Prelude.{sum_by, vec_capacity, vec_len};
-ghost use Rattle.meter_book.specs.Gathering.{of_site};
-ghost use Rattle.meter_fabric.specs.Closing.{AreEven, AreThere, IsFirstMissing, IsUnsettled, journals_from};
-ghost use Rattle.meter_fabric.specs.Fabrics.{IsTicketed, places_left, places_of, visits_at};
+ghost use Rattle.std.specs.Prelude.{option_copied, sum_by, vec_capacity, vec_len};
+ghost use Rattle.meter_fabric.specs.Closing.{AreEven, AreThere, HaveMeters, IsUnclosed, IsUnsettled, RiseFrom};
+ghost use Rattle.meter_fabric.specs.Closing.{journals_from, rows_in};
+ghost use Rattle.meter_fabric.specs.Fabrics.{IsTicketed, StandFrom, StandsAt, book_at, places_of, sites_of, visits_at};
 ghost use Rattle.meter_fabric.specs.Gathered.{AreGathered};
 
 use crate::columns::{rows_of, uneven};
-use crate::fabric::{Fabric, Frame};
+use crate::fabric::{Fabric, Frame, never};
 use crate::fault::CloseFault;
 use crate::gathering::{gather_all, journals_of};
 use crate::ledger::{FabricLedger, PLACES};
@@ -17,8 +17,8 @@ use crossbeam_utils::CachePadded;
 use meter_book::{Chapter, Journal, MeterBook};
 use std::alloc::Global;
 use std::marker::Model;
-use std::sync::Mutex;
 use std::sync::ledger::{Share, Total};
+use std::sync::{Mutex, Wait};
 
 /// The books and tickets of a fabric, taken out of its locks. Its value is that of the fabric, and the book of each
 /// site, if one stands there.
@@ -35,74 +35,67 @@ pub struct FabricBooks<'a, L: FabricLedger> {
 impl<'a, L: FabricLedger> Model for FabricBooks<'a, L> {
     ghost use Rattle.std.specs.Prelude.{◌≡◌, ◌≤◌, [], vec_capacity, vec_len};
     ghost use Rattle.meter_fabric.specs.Closing.{Books};
-    ghost use Rattle.meter_fabric.specs.Fabrics.{Fabric, IsFramed, IsTicketed};
+    ghost use Rattle.meter_fabric.specs.Fabrics.{IsFramed, IsTicketed, StandFrom, sites_of};
 
     ghost Value = { Books };
 
-    ghost view = { λ f. record {
-      fabric = record {
-        domain = f.frame.domain.now;
-        edges = f.frame.edges;
-        capacity = f.frame.capacity;
-        passes = f.frame.passes;
-      };
-      books = f.books.items;
-    } };
+    ghost view = { λ f. record { fabric = L.fabric; books = f.books.items } };
 
-    ghost invariant = { λ f. IsFramed f.frame.domain.now f.frame.edges f.frame.capacity f.frame.passes L.sites
-        f.frame.total.parts f.frame.total.amount × IsTicketed f.books.items L.sites f.share.parts f.share.amount
-        × (vec_len f.books ≡ L.sites) × (vec_len f.tails ≡ L.sites)
-        × (f.locks.items ≡ []) × (L.sites ≤ vec_capacity f.locks) };
+    ghost invariant = { λ f. IsFramed L.fabric f.frame.domain.now f.frame.edges f.frame.capacity f.frame.passes
+        f.frame.total.parts f.frame.total.amount
+        × IsTicketed f.books.items (sites_of L.fabric) f.share.parts f.share.amount
+        × (vec_len f.books ≡ sites_of L.fabric) × (vec_len f.tails ≡ sites_of L.fabric)
+        × StandFrom L.fabric 0 f.books.items
+        × (f.locks.items ≡ []) × (sites_of L.fabric ≤ vec_capacity f.locks) };
 }
 
 impl<'a, L: FabricLedger> Fabric<'a, L> {
-    /// Takes the books out of their locks. The fabric is handed back where memory runs out.
-    pub fn into_books(self, alloc: Global) -> Result<FabricBooks<'a, L>, Fabric<'a, L>>
-        ensures fabric { IfOk result (λ books. books.fabric ≡ self.entry) }
-        ensures back { IfErr result (λ fabric. fabric ≡ self.entry) }
+    /// Takes the books out of their locks. It takes no memory.
+    pub fn into_books<R: Wait>(self, rt: &R) -> FabricBooks<'a, L>
+        ensures fabric { result.fabric ≡ self.entry }
+        ensures stand { StandFrom self.entry 0 result.books }
+        ensures all { length result.books ≡ sites_of self.entry }
     {
-        let count = self.sites.len();
-        let Ok(mut books) = Vec::with_capacity(alloc, count) else {
-            return Err(self);
-        };
-        let Ok(mut tails) = Vec::with_capacity(alloc, count) else {
-            return Err(self);
-        };
-        tails.resize(count, Tail::Fresh).unwrap();
         let Fabric {
             frame,
             sites: mut locks,
+            mut books,
+            tails,
             spare,
         } = self;
         let Spare { mut share } = spare.into_inner();
-        unlock_all(&mut locks, &mut books, &mut share);
-        Ok(FabricBooks {
+        unlock_all(rt, &mut locks, &mut books, &mut share);
+        FabricBooks {
             frame,
             locks,
             books,
             tails,
             share,
-        })
+        }
     }
 
     /// Ends the visits: the journal of each site where something stands, in the order of the sites, each as long as the
-    /// passes count visits to it. `chapters` are those that were cut, each site's in the order of their cuts.
+    /// passes count visits to it, and all together as long as all that the passes count. `chapters` are those that were
+    /// cut, each site's in the order of their cuts.
     ///
     /// Refused, with all handed back: `PassMissing` exactly where there are not as many passes as it was made with, and
-    /// else as `FabricBooks::settle` refuses what lay under the locks; `NoMemory` also where there is none to take them
-    /// out.
-    pub fn close(
+    /// else as `FabricBooks::settle` refuses what lay under the locks.
+    pub fn close<R: Wait>(
         self,
+        rt: &R,
         alloc: Global,
         passes: Vec<Pass<L>>,
         chapters: Vec<Chapter>,
     ) -> Result<Vec<Journal>, (Fabric<'a, L>, Vec<Pass<L>>, Vec<Chapter>, CloseFault)>
         ensures long { IfOk result
             (λ journals. All (λ j. length j.arrivals ≡ visits_at passes.items j.site) journals.items) }
+        ensures rising { IfOk result (λ journals. RiseFrom 0 journals.items) }
+        ensures total { IfOk result (λ journals. rows_in journals.items ≡ sum_by sum passes.items) }
+        ensures meters { IfOk result (λ journals. HaveMeters self.entry journals.items) }
         ensures missing { vec_len passes ≢ self.entry.passes
             → IsErrAnd result (λ refused. refused.3 ≡ CloseFault.PassMissing) }
-        ensures all { vec_len passes ≡ self.entry.passes
-            → IfErr result (λ refused. refused.3 ≢ CloseFault.PassMissing) }
+        ensures refused { vec_len passes ≡ self.entry.passes
+            → IfErr result (λ refused. IsUnclosed self.entry passes.items chapters.items refused.3) }
         ensures apart { IfErr result
             (λ refused. (short long : ℕ) → refused.3 ≡ CloseFault.Uneven short long → short ≢ long) }
         ensures fabric { IfErr result (λ refused. refused.0 ≡ self.entry) }
@@ -112,19 +105,23 @@ impl<'a, L: FabricLedger> Fabric<'a, L> {
         if passes.len() != self.frame.passes {
             return Err((self, passes, chapters, CloseFault::PassMissing));
         }
-        match self.into_books(alloc) {
-            Err(fabric) => Err((fabric, passes, chapters, CloseFault::NoMemory)),
-            Ok(books) => match books.settle(alloc, passes, chapters) {
-                Ok(journals) => Ok(journals),
-                Err((books, passes, chapters, fault)) => {
-                    Err((books.into_fabric(), passes, chapters, fault))
-                }
-            },
+        match self.into_books(rt).settle(alloc, passes, chapters) {
+            Ok(journals) => Ok(journals),
+            Err((books, passes, chapters, fault)) => {
+                Err((books.into_fabric(), passes, chapters, fault))
+            }
         }
     }
 }
 
 impl<'a, L: FabricLedger> FabricBooks<'a, L> {
+    /// The book of a site; None where none stands, or there is no such site.
+    pub fn book(&self, site: u32) -> Option<&MeterBook>
+        ensures { option_copied result ≡ book_at self.now.books site }
+    {
+        self.books.get(site as usize)?.as_ref()
+    }
+
     /// Locks the books again. It takes no memory.
     pub fn into_fabric(self) -> Fabric<'a, L>
         ensures { result ≡ self.entry.fabric }
@@ -133,13 +130,15 @@ impl<'a, L: FabricLedger> FabricBooks<'a, L> {
             frame,
             mut locks,
             mut books,
-            tails: _,
+            tails,
             mut share,
         } = self;
         lock_all(&mut locks, &mut books, &mut share);
         Fabric {
             frame,
             sites: locks,
+            books,
+            tails,
             spare: Mutex::new(Spare { share }),
         }
     }
@@ -159,10 +158,13 @@ impl<'a, L: FabricLedger> FabricBooks<'a, L> {
     ) -> Result<Vec<Journal>, (FabricBooks<'a, L>, Vec<Pass<L>>, Vec<Chapter>, CloseFault)>
         requires { vec_len passes ≡ self.fabric.passes }
         ensures journals { IfOk result (λ journals. journals.items ≡ journals_from 0 chapters.items self.entry.books) }
+        ensures meters { IfOk result (λ journals. HaveMeters self.entry.fabric journals.items) }
         ensures there { OnOk result (AreThere self.entry.books chapters.items) }
         ensures even { OnOk result (AreEven self.entry.books passes.items) }
         ensures long { IfOk result
             (λ journals. All (λ j. length j.arrivals ≡ visits_at passes.items j.site) journals.items) }
+        ensures rising { IfOk result (λ journals. RiseFrom 0 journals.items) }
+        ensures total { IfOk result (λ journals. rows_in journals.items ≡ sum_by sum passes.items) }
         ensures refused { IfErr result
             (λ refused. IsUnsettled self.entry.books passes.items chapters.items refused.3) }
         ensures books { IfErr result (λ refused. refused.0 ≡ self.entry) }
@@ -201,6 +203,7 @@ impl<'a, L: FabricLedger> FabricBooks<'a, L> {
         ensures none { IfOk result (λ made. made.1.items ≡ []) }
         ensures room { IfOk result (λ made. length self.old.books ≤ vec_capacity made.1) }
         ensures few { length self.old.books ≤ 2 ^ 20 }
+        ensures total { sum_by places_of self.old.books ≡ sum_by sum passes.old.items }
         ensures refused { IfErr result (λ fault. IsUnsettled self.old.books passes.old.items chapters.now fault) }
     {
         let FabricBooks {
@@ -232,25 +235,46 @@ impl<'a, L: FabricLedger> FabricBooks<'a, L> {
 }
 
 /// Takes the books out of their locks, in their order, and their tickets together.
-fn unlock_all<L: FabricLedger>(
+fn unlock_all<L: FabricLedger, R: Wait>(
+    rt: &R,
     locks: &mut Vec<CachePadded<Mutex<Site<L>>>>,
     books: &mut Vec<Option<MeterBook>>,
     share: &mut Share<L>,
 )
+    requires all { vec_len locks.old ≡ sites_of L.fabric }
+    requires few { vec_len locks.old < 2 ^ 32 }
     requires none { books.old.items ≡ [] }
     requires room { vec_len locks.old ≤ vec_capacity books.old }
     requires spare { (share.old.parts ≡ 1) × (share.old.amount ≡ 0) }
     ensures locks { locks.new.items ≡ [] }
     ensures room { vec_len locks.old ≤ vec_capacity locks.new }
     ensures books { vec_len books.new ≡ vec_len locks.old }
+    ensures stand { StandFrom L.fabric 0 books.new.items }
     ensures tickets { IsTicketed books.new.items (vec_len locks.old) share.new.parts share.new.amount }
 {
     while let Some(lock) = locks.pop() {
-        let (book, tickets) = lock.into_inner().into_inner().into_parts();
+        let (book, tickets) = unlock(rt, lock, locks.len() as u32);
         share.merge(tickets);
         books.push(book).unwrap();
     }
     books.reverse();
+}
+
+/// Takes the book and the tickets of the site of a number out of its lock.
+fn unlock<L: FabricLedger, R: Wait>(
+    rt: &R,
+    lock: CachePadded<Mutex<Site<L>>>,
+    number: u32,
+) -> (Option<MeterBook>, Share<L>)
+    ensures stands { StandsAt L.fabric number result.0 }
+    ensures tickets { result.1.amount + places_of result.0 ≡ 2 ^ 44 }
+    ensures part { result.1.parts ≡ 1 }
+{
+    let site = lock.into_inner().into_inner();
+    if site.number() != number {
+        never(rt);
+    }
+    site.into_parts()
 }
 
 /// Puts the books behind locks again, in their order, each with its tickets.
@@ -259,17 +283,23 @@ fn lock_all<L: FabricLedger>(
     books: &mut Vec<Option<MeterBook>>,
     share: &mut Share<L>,
 )
+    requires all { vec_len books.old ≡ sites_of L.fabric }
+    requires few { vec_len books.old < 2 ^ 32 }
+    requires stand { StandFrom L.fabric 0 books.old.items }
     requires none { locks.old.items ≡ [] }
     requires room { vec_len books.old ≤ vec_capacity locks.old }
     requires tickets { IsTicketed books.old.items (vec_len books.old) share.old.parts share.old.amount }
     ensures locks { vec_len locks.new ≡ vec_len books.old }
+    ensures books { books.new.items ≡ [] }
+    ensures room { vec_len books.old ≤ vec_capacity books.new }
     ensures spare { (share.new.parts ≡ 1) × (share.new.amount ≡ 0) }
 {
     books.reverse();
     while let Some(book) = books.pop() {
+        let number = locks.len() as u32;
         let tickets = share.split_off(1, PLACES - rows_of(&book));
         locks
-            .push(CachePadded::new(Mutex::new(Site::new(book, tickets))))
+            .push(CachePadded::new(Mutex::new(Site::new(number, book, tickets))))
             .unwrap();
     }
 }
@@ -284,7 +314,7 @@ fn audit<L: FabricLedger>(total: &Total<L>, whole: &mut Share<L>, passes: &mut V
     ensures passes { passes.new.items ≡ passes.old.items }
     ensures room { vec_capacity passes.old ≤ vec_capacity passes.new }
     ensures total { whole.old.amount + sum_by sum passes.old.items ≡ total.now.amount }
-    ensures sized { All (λ counts. length counts ≡ L.sites) passes.old.items }
+    ensures sized { All (λ counts. length counts ≡ sites_of L.fabric) passes.old.items }
 {
     let Some(pass) = passes.pop() else {
         total.audit(whole);

@@ -1,17 +1,18 @@
-ghost use Rattle.std.specs.Prelude.{◌≡◌, ℕ, ◌+◌, ◌≤◌, ◌^◌, length};
+ghost use Rattle.std.specs.Prelude.{◌≡◌, ◌+◌, length};
+ghost use Rattle.meter_fabric.specs.Fabrics.{Fabric, no_fabric};
 
 use ds_domain_base::Domain;
 use meter_book::MeterBook;
 use std::marker::Brand;
 use std::sync::ledger::Ledger;
 
-/// The name of a fabric: that of its ledger of tickets, and how many sites it has. Each call that makes one picks it.
+/// The name of a fabric: that of its ledger of tickets, and what the fabric is of. Each call that makes one picks it.
 pub trait FabricLedger: Ledger {
-    ghost sites: { ℕ };
+    ghost fabric: { Fabric };
 }
 
 impl FabricLedger for Brand {
-    ghost sites = { 0 };
+    ghost fabric = { no_fabric };
 }
 
 /// With how many tickets each site begins: as many as a book gives places.

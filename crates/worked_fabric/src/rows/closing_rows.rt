@@ -1,4 +1,5 @@
-ghost use Rattle.std.specs.Prelude.{◌≡◌, ◌+◌, length};
+ghost use Rattle.std.specs.Prelude.{◌≡◌};
+ghost use Rattle.meter_fabric.specs.Fabrics.{fabric_of, parts_of};
 
 use crate::rows::tables::{EDGE, closed, entered, fit, none, opened, policed, popped, visited};
 use ds_checker::Accepted;
@@ -52,14 +53,14 @@ fn expect_journals(rt: &impl Abort, journals: &[Journal]) {
 }
 
 /// The journals that a fabric closes to with a chapter of its edge; it does not close without it.
-fn closed_with<L: FabricLedger>(
-    rt: &impl Abort,
+fn closed_with<L: FabricLedger, R: Wait + Abort>(
+    rt: &R,
     alloc: Global,
     fabric: Fabric<'_, L>,
     passes: Vec<Pass<L>>,
     chapter: Chapter,
 ) -> Vec<Journal> {
-    match fabric.close(alloc, passes, none(alloc)) {
+    match fabric.close(rt, alloc, passes, none(alloc)) {
         Ok(_) => panic!(rt; "a chapter was missing"),
         Err((fabric, passes, mut chapters, fault)) => {
             assert!(rt; (fault.code(), passes.len()) == (3, 2));
@@ -73,8 +74,8 @@ fn closed_with<L: FabricLedger>(
 fn cuts<L: FabricLedger, R: Wait + Abort>(rt: &R, alloc: Global, accepted: &Accepted, blank: Blank)
     requires name { blank.name ≡ L.name }
     requires parts { blank.parts ≡ L.parts }
-    requires cut { blank.parts ≡ 1 + (length accepted.now.domain.meters + 1) + 2 }
-    requires sites { L.sites ≡ length accepted.now.domain.meters + 1 }
+    requires cut { blank.parts ≡ parts_of L.fabric }
+    requires fabric { L.fabric ≡ fabric_of accepted.now.domain 1 2 2 }
 {
     let (fabric, mut passes) = opened::<L>(alloc, accepted, blank, 2).expect(rt, "memory");
     let mut pass = popped(rt, &mut passes);
@@ -102,8 +103,8 @@ fn unfitted<L: FabricLedger, R: Wait + Abort>(
 )
     requires name { blank.name ≡ L.name }
     requires parts { blank.parts ≡ L.parts }
-    requires cut { blank.parts ≡ 1 + (length accepted.now.domain.meters + 1) + 2 }
-    requires sites { L.sites ≡ length accepted.now.domain.meters + 1 }
+    requires cut { blank.parts ≡ parts_of L.fabric }
+    requires fabric { L.fabric ≡ fabric_of accepted.now.domain 1 2 2 }
 {
     let (fabric, passes) = opened::<L>(alloc, accepted, blank, 2).expect(rt, "memory");
     let journals = closed(rt, alloc, fabric, passes, none(alloc));

@@ -1,5 +1,6 @@
 //! Under `rt try --test --fail-alloc N`, for each N up to the growths of a row, one try at one of its calls fails.
-ghost use Rattle.std.specs.Prelude.{◌≡◌, ◌+◌, length};
+ghost use Rattle.std.specs.Prelude.{◌≡◌};
+ghost use Rattle.meter_fabric.specs.Fabrics.{fabric_of, parts_of};
 
 use crate::rows::tables::{EDGE, fit, moment, none, opened, policed, popped, sent, visit, visited};
 use ds_checker::Accepted;
@@ -29,13 +30,13 @@ fn expect_visit<L: FabricLedger, R: Wait + Abort>(
 }
 
 /// Whether a fabric closes once there is memory.
-fn closes<L: FabricLedger>(
-    rt: &impl Abort,
+fn closes<L: FabricLedger, R: Wait + Abort>(
+    rt: &R,
     alloc: Global,
     fabric: Fabric<'_, L>,
     passes: Vec<Pass<L>>,
 ) -> bool {
-    match fabric.close(alloc, passes, none(alloc)) {
+    match fabric.close(rt, alloc, passes, none(alloc)) {
         Ok(journals) => {
             assert!(rt; journals.len() == 2);
             drop(journals);
@@ -43,7 +44,7 @@ fn closes<L: FabricLedger>(
         }
         Err((fabric, passes, chapters, fault)) => {
             assert!(rt; (fault.code(), passes.len()) == (2, 2));
-            fabric.close(alloc, passes, chapters).is_ok()
+            fabric.close(rt, alloc, passes, chapters).is_ok()
         }
     }
 }
@@ -57,10 +58,10 @@ fn whole<L: FabricLedger, R: Wait + Abort>(
 ) -> bool
     requires name { blank.name ≡ L.name }
     requires parts { blank.parts ≡ L.parts }
-    requires cut { blank.parts ≡ 1 + (length accepted.now.domain.meters + 1) + 2 }
-    requires sites { L.sites ≡ length accepted.now.domain.meters + 1 }
+    requires cut { blank.parts ≡ parts_of L.fabric }
+    requires fabric { L.fabric ≡ fabric_of accepted.now.domain 1 8 2 }
 {
-    let Ok((fabric, mut passes)) = opened::<L>(alloc, accepted, blank, 8) else {
+    let Some((fabric, mut passes)) = opened::<L>(alloc, accepted, blank, 8) else {
         return false;
     };
     assert!(rt; fit(rt, alloc, &fabric, accepted, 0) == 0);

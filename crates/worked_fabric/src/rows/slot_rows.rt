@@ -1,8 +1,8 @@
-ghost use Rattle.std.specs.Prelude.{◌≡◌, ◌+◌, All, IsTrue, Some, length};
-ghost use Rattle.meter_fabric_base.specs.Travels.{next_site};
+ghost use Rattle.std.specs.Prelude.{◌≡◌};
+ghost use Rattle.meter_fabric.specs.Fabrics.{fabric_of, parts_of};
 
 use crate::rows::tables::{
-    EDGE, METER, entered, fit, moment, opened, packet, policed, popped, visited,
+    EDGE, METER, come_to, entered, fit, moment, opened, packet, policed, popped, shut, visited,
 };
 use ds_checker::Accepted;
 use meter_fabric::{Fabric, FabricLedger, Pass, Traveller, Visit, ticket_parts};
@@ -71,8 +71,8 @@ fn expect_slots<L: FabricLedger, R: Wait + Abort>(
 )
     requires name { blank.name ≡ L.name }
     requires parts { blank.parts ≡ L.parts }
-    requires cut { blank.parts ≡ 1 + (length accepted.now.domain.meters + 1) + 2 }
-    requires sites { L.sites ≡ length accepted.now.domain.meters + 1 }
+    requires cut { blank.parts ≡ parts_of L.fabric }
+    requires fabric { L.fabric ≡ fabric_of accepted.now.domain 1 8 2 }
 {
     let (fabric, mut passes) = opened::<L>(alloc, accepted, blank, 8).expect(rt, "memory");
     let mut pass = popped(rt, &mut passes);
@@ -101,20 +101,19 @@ fn expect_shut<L: FabricLedger, R: Wait + Abort>(
     accepted: &Accepted,
     pass: &mut Pass<L>,
 ) {
-    let unfitted = fabric.shut(rt, 0, moment(rt, 5)).err();
-    assert!(rt; unfitted.map(|fault| fault.code()) == Some(1));
+    assert!(rt; shut(rt, fabric, 0, 5) == Err(1));
     assert!(rt; fit(rt, alloc, fabric, accepted, 0) == 0);
     drop(entered(rt, alloc, fabric, accepted, pass, (1, 10, 0)));
-    assert!(rt; fabric.shut(rt, 0, moment(rt, 5)) == Ok(moment(rt, 11)));
-    assert!(rt; fabric.shut(rt, 0, moment(rt, 99)) == Ok(moment(rt, 11)));
+    assert!(rt; shut(rt, fabric, 0, 5) == Ok(11));
+    assert!(rt; shut(rt, fabric, 0, 99) == Ok(11));
 }
 
 /// Expects what comes of shutting an edge at moment 5 behind a packet of moment 10.
 fn shuts<L: FabricLedger, R: Wait + Abort>(rt: &R, alloc: Global, accepted: &Accepted, blank: Blank)
     requires name { blank.name ≡ L.name }
     requires parts { blank.parts ≡ L.parts }
-    requires cut { blank.parts ≡ 1 + (length accepted.now.domain.meters + 1) + 2 }
-    requires sites { L.sites ≡ length accepted.now.domain.meters + 1 }
+    requires cut { blank.parts ≡ parts_of L.fabric }
+    requires fabric { L.fabric ≡ fabric_of accepted.now.domain 1 8 2 }
 {
     let (fabric, mut passes) = opened::<L>(alloc, accepted, blank, 8).expect(rt, "memory");
     let mut pass = popped(rt, &mut passes);
@@ -132,18 +131,6 @@ fn an_edge_is_shut(rt: HostRuntime) {
     let blank = Blank::new(ticket_parts(accepted.domain(), 1, 2));
     shuts::<Brand, _>(&rt, rt.alloc(), &accepted, blank);
     drop(accepted);
-}
-
-/// Whether visits are to one site, all of them.
-fn come_to(visits: &[Visit], site: u32) -> bool
-    ensures { IsTrue result → All (λ visit. next_site visit.traveller ≡ Some site) visits.now }
-{
-    for visit in visits {
-        if visit.traveller.next_site() != Some(site) {
-            return false;
-        }
-    }
-    true
 }
 
 /// A packet of a number, and when it comes.
@@ -207,8 +194,8 @@ fn several<L: FabricLedger, R: Wait + Abort>(
 )
     requires name { blank.name ≡ L.name }
     requires parts { blank.parts ≡ L.parts }
-    requires cut { blank.parts ≡ 1 + (length accepted.now.domain.meters + 1) + 2 }
-    requires sites { L.sites ≡ length accepted.now.domain.meters + 1 }
+    requires cut { blank.parts ≡ parts_of L.fabric }
+    requires fabric { L.fabric ≡ fabric_of accepted.now.domain 1 1 2 }
 {
     let (fabric, mut passes) = opened::<L>(alloc, accepted, blank, 1).expect(rt, "memory");
     let mut pass = popped(rt, &mut passes);

@@ -1,12 +1,14 @@
-ghost use Rattle.std.specs.Prelude.{◌≡◌, ◌+◌, ◌≤◌, ◌^◌, IfOk, length};
+ghost use Rattle.std.specs.Prelude.{◌≡◌, ◌≤◌, ◌^◌, All, IsTrue, Some};
+ghost use Rattle.meter_fabric_base.specs.Travels.{next_site};
+ghost use Rattle.meter_fabric.specs.Fabrics.{fabric_of, parts_of};
 
 use af_marker::Dscp;
 use ds_checker::Accepted;
 use dsedge_texts::accept;
 use meter_book::{Chapter, Journal};
-use meter_fabric::{Fabric, FabricLedger, Pass, Traveller, contract_of};
+use meter_fabric::{Fabric, FabricLedger, Pass, Traveller, Visit, contract_of};
 use moment_core::{Moment, PacketSize};
-use std::alloc::{AllocError, Global};
+use std::alloc::Global;
 use std::process::Abort;
 use std::sync::Wait;
 use std::sync::ledger::Blank;
@@ -23,21 +25,20 @@ pub fn policed(alloc: Global) -> Option<Accepted> {
     accept(alloc, domain.as_bytes(), LEAST_OF_POLICED.as_bytes()).ok()
 }
 
-/// A fabric of a table with one slot, and its two passes.
+/// A fabric of a table with one slot, and its two passes; None where memory runs out.
 pub fn opened<'a, L: FabricLedger>(
     alloc: Global,
     accepted: &'a Accepted,
     blank: Blank,
     capacity: u32,
-) -> Result<(Fabric<'a, L>, Vec<Pass<L>>), AllocError>
+) -> Option<(Fabric<'a, L>, Vec<Pass<L>>)>
     requires name { blank.name ≡ L.name }
     requires parts { blank.parts ≡ L.parts }
-    requires cut { blank.parts ≡ 1 + (length accepted.now.domain.meters + 1) + 2 }
-    requires sites { L.sites ≡ length accepted.now.domain.meters + 1 }
+    requires cut { blank.parts ≡ parts_of L.fabric }
+    requires fabric { L.fabric ≡ fabric_of accepted.now.domain 1 capacity 2 }
     requires room { (1 ≤ capacity) × (capacity ≤ 2 ^ 20) }
-    ensures { IfOk result (λ made. (made.0.edges ≡ 1) × (made.0.domain ≡ accepted.now.domain)) }
 {
-    Fabric::new(alloc, blank, accepted.domain(), 1, capacity, 2)
+    Fabric::new(alloc, blank, accepted.domain(), 1, capacity, 2).ok()
 }
 
 /// A moment.
@@ -58,7 +59,7 @@ pub fn fit<L: FabricLedger, R: Wait + Abort>(
         panic!(rt; "no policed contract")
     }
     match fabric.fit(rt, alloc, flow, contract) {
-        Ok(()) => 0,
+        Ok(_) => 0,
         Err(fault) => fault.code(),
     }
 }
@@ -135,15 +136,40 @@ pub fn popped<L: FabricLedger>(rt: &impl Abort, passes: &mut Vec<Pass<L>>) -> Pa
     passes.pop().expect(rt, "two passes")
 }
 
+/// Whether visits are to one site, all of them.
+pub fn come_to(visits: &[Visit], site: u32) -> bool
+    ensures { IsTrue result → All (λ visit. next_site visit.traveller ≡ Some site) visits.now }
+{
+    for visit in visits {
+        if visit.traveller.next_site() != Some(site) {
+            return false;
+        }
+    }
+    true
+}
+
+/// Shuts the edge of a flow at a moment: when it is shut, or the number of the fault.
+pub fn shut<L: FabricLedger, R: Wait + Abort>(
+    rt: &R,
+    fabric: &Fabric<'_, L>,
+    flow: u32,
+    nanoseconds: u64,
+) -> Result<u64, u8> {
+    match fabric.shut(rt, flow, moment(rt, nanoseconds)) {
+        Ok(ended) => Ok(ended.end().get()),
+        Err(fault) => Err(fault.code()),
+    }
+}
+
 /// The journals that a fabric closes to.
-pub fn closed<L: FabricLedger>(
-    rt: &impl Abort,
+pub fn closed<L: FabricLedger, R: Wait + Abort>(
+    rt: &R,
     alloc: Global,
     fabric: Fabric<'_, L>,
     passes: Vec<Pass<L>>,
     chapters: Vec<Chapter>,
 ) -> Vec<Journal> {
-    match fabric.close(alloc, passes, chapters) {
+    match fabric.close(rt, alloc, passes, chapters) {
         Ok(journals) => journals,
         Err((_, _, _, fault)) => panic!(rt; "{fault:?}"),
     }

@@ -1,4 +1,5 @@
-ghost use Rattle.std.specs.Prelude.{◌≡◌, ◌+◌, length};
+ghost use Rattle.std.specs.Prelude.{◌≡◌};
+ghost use Rattle.meter_fabric.specs.Fabrics.{fabric_of, parts_of};
 
 use crate::rows::tables::{closed, fit, none, opened, policed, popped, sent, visit};
 use ds_checker::Accepted;
@@ -60,15 +61,15 @@ fn work<L: FabricLedger, R: Wait>(
 type Parts = (Vec<Journal>, Vec<Trail>);
 
 /// The journals that a fabric closes to with both passes; it does not close without one of them.
-fn closed_with<L: FabricLedger>(
-    rt: &impl Abort,
+fn closed_with<L: FabricLedger, R: Wait + Abort>(
+    rt: &R,
     alloc: Global,
     fabric: Fabric<'_, L>,
     one: Pass<L>,
     other: Pass<L>,
 ) -> Vec<Journal> {
     let passes = Vec::from_array(alloc, [one]).expect(rt, "memory");
-    match fabric.close(alloc, passes, none(alloc)) {
+    match fabric.close(rt, alloc, passes, none(alloc)) {
         Ok(_) => panic!(rt; "a pass was missing"),
         Err((fabric, mut passes, chapters, fault)) => {
             assert!(rt; (fault.code(), passes.len()) == (1, 1));
@@ -96,8 +97,8 @@ fn taken<L: FabricLedger + Send + Sync, R: Threads + Wait + Abort + Sync>(
 ) -> Parts
     requires name { blank.name ≡ L.name }
     requires parts { blank.parts ≡ L.parts }
-    requires cut { blank.parts ≡ 1 + (length accepted.now.domain.meters + 1) + 2 }
-    requires sites { L.sites ≡ length accepted.now.domain.meters + 1 }
+    requires cut { blank.parts ≡ parts_of L.fabric }
+    requires fabric { L.fabric ≡ fabric_of accepted.now.domain 1 4096 2 }
 {
     let (fabric, mut passes) = opened::<L>(alloc, accepted, blank, 1 << 12).expect(rt, "memory");
     assert!(rt; fit(rt, alloc, &fabric, accepted, 0) == 0);

@@ -1,5 +1,6 @@
 //! A broker's life with shared meters.
-ghost use Rattle.std.specs.Prelude.{◌≡◌, ◌+◌, [], length};
+ghost use Rattle.std.specs.Prelude.{◌≡◌, []};
+ghost use Rattle.meter_fabric.specs.Fabrics.{fabric_of, parts_of};
 
 use crate::rows::packets::Packet;
 use crate::rows::stays::{Passes, Shares, packets_pass, released, retired, settled};
@@ -95,10 +96,12 @@ fn fabric_of<'a, L: FabricLedger>(
 ) -> Result<(Fabric<'a, L>, Passes<L>), Fail>
     requires name { blank.name ≡ L.name }
     requires parts { blank.parts ≡ L.parts }
-    requires cut { blank.parts ≡ 1 + (length domain.now.meters + 2) + 2 }
-    requires sites { L.sites ≡ length domain.now.meters + 2 }
+    requires cut { blank.parts ≡ parts_of L.fabric }
+    requires fabric { L.fabric ≡ fabric_of domain.now 2 64 2 }
 {
-    let (fabric, mut passes) = Fabric::new(alloc, blank, domain, 2, 64, 2)?;
+    let Ok((fabric, mut passes)) = Fabric::new(alloc, blank, domain, 2, 64, 2) else {
+        return Err(Fail::from("no fabric"));
+    };
     let one = passes.pop().ok_or("no pass")?;
     let other = passes.pop().ok_or("no second pass")?;
     Ok((fabric, Passes { one, other }))
@@ -131,7 +134,8 @@ fn lived<J: Naming, R: Wait + Drop, L: FabricLedger + Send + Sync, W: Threads + 
 }
 
 /// Closes a fabric from which nothing was cut: the journals of its meters and edges.
-fn closed<L: FabricLedger>(
+fn closed<L: FabricLedger, W: Wait>(
+    rt: &W,
     alloc: Global,
     fabric: Fabric<'_, L>,
     passes: Passes<L>,
@@ -140,7 +144,7 @@ fn closed<L: FabricLedger>(
     let mut all: Vec<Pass<L>> = Vec::with_capacity(alloc, 2)?;
     all.push(one)?;
     all.push(other)?;
-    match fabric.close(alloc, all, Vec::new(alloc)) {
+    match fabric.close(rt, alloc, all, Vec::new(alloc)) {
         Ok(journals) => Ok(journals),
         Err((_, _, _, fault)) => Err(fault.into()),
     }
@@ -160,8 +164,8 @@ fn life<J: Naming, L: FabricLedger + Send + Sync, R: Threads + Wait + Abort + Co
     requires opening { J.opening ≡ record { domain = plan.domain; limits = plan.limits; history = [] } }
     requires name { blank.name ≡ L.name }
     requires parts { blank.parts ≡ L.parts }
-    requires cut { blank.parts ≡ 1 + (length domain.now.meters + 2) + 2 }
-    requires sites { L.sites ≡ length domain.now.meters + 2 }
+    requires cut { blank.parts ≡ parts_of L.fabric }
+    requires fabric { L.fabric ≡ fabric_of domain.now 2 64 2 }
 {
     let Plan {
         domain: own,
@@ -183,7 +187,7 @@ fn life<J: Naming, L: FabricLedger + Send + Sync, R: Threads + Wait + Abort + Co
         story,
         &mut trails,
     )?;
-    let journals = closed(alloc, fabric, passes)?;
+    let journals = closed(&rt, alloc, fabric, passes)?;
     let timeline = broker.timeline(&rt, alloc)?.timeline;
     Ok(Left {
         timeline,

@@ -167,7 +167,7 @@ pub fn released<J: Naming, R: Wait + Drop, L: FabricLedger, W: Wait>(
         return Err(Fail::from("no release"));
     }
     match fabric.shut(rt, flow, until) {
-        Ok(shut) if shut == until => Ok(()),
+        Ok(ended) if ended.end() == until => Ok(()),
         Ok(_) => Err(Fail::from("the edge sent a packet too late")),
         Err(_) => Ok(()),
     }

@@ -1,5 +1,4 @@
-use Rattle.std.proofs.Common.{◌≡◌, ◌+◌, ◌<◌, Option, Vec, Global, length, map, ap, arith, refl, sym, subst, ◌∙◌}
-use Rattle.std.proofs.lemmas.List.{length_push}
+use Rattle.std.proofs.Common.{◌≡◌, ◌<◌, Vec, Global, length, map, ap, arith, refl, subst, ◌∙◌}
 use Rattle.std.proofs.lemmas.Option.{slice_get_read}
 use denote.Bor.{Bor}
 use Rattle.meter_book.specs.Chapters.{Chapter}

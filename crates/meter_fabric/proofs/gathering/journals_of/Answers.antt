@@ -1,10 +1,10 @@
-use Rattle.std.proofs.Common.{◌≡◌, ◌+◌, ◌<◌, ◌≤◌, ◌∷◌, ◌++◌, [], Option, None, Some, length, set, get_or, ap, arith, refl, sym, subst, ◌∙◌, append-nil}
+use Rattle.std.proofs.Common.{◌≡◌, ◌<◌, ◌≤◌, ◌∷◌, ◌++◌, [], Option, Some, length, set, get_or, ap, arith, sym, subst, ◌∙◌}
 use Rattle.std.specs.Prelude.{slice_get}
 use Rattle.std.specs.Vec.Iter.{into_iter_items}
-use Rattle.std.proofs.lemmas.List.{length-set, nil_from_length}
+use Rattle.std.proofs.lemmas.List.{length-set}
 use Rattle.meter_book.specs.Replay.{Book, Journal}
-use Rattle.meter_fabric.specs.Gathered.{HasAll, IsJournalOf}
-use Rattle.meter_fabric.proofs.JournalLaws.{head_at, journals_more, journals_past, left_more, left_there, rest_at}
+use Rattle.meter_fabric.specs.Gathered.{IsJournalOf}
+use Rattle.meter_fabric.proofs.JournalLaws.{head_at, journals_more, left_more, left_there, rest_at}
 use Rattle.meter_fabric.proofs.gathering.journals_of.Goals as goal
 
 pub journal_at-requires : goal.journal_at-requires

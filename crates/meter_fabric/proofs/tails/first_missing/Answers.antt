@@ -1,4 +1,4 @@
-use Rattle.std.proofs.Common.{◌≡◌, ℕ, ◌<◌, length, get_or, Option, None, Some, ap, arith, refl, subst, sym, ◌∙◌, below_more}
+use Rattle.std.proofs.Common.{◌≡◌, ℕ, get_or, Option, None, Some, arith, refl, subst, below_more}
 use Rattle.std.proofs.lemmas.Bool.{false≢true}
 use Rattle.std.specs.Prelude.{MatchOption}
 use Rattle.meter_book.specs.Replay.{Book}

@@ -1,7 +1,7 @@
-use Rattle.std.proofs.Common.{◌≡◌, ◌<◌, ◌≤◌, length, take, get_or, set, ap, arith, refl, subst, sym}
+use Rattle.std.proofs.Common.{◌<◌, ◌≤◌, length, take, get_or, subst}
 use Rattle.std.proofs.lemmas.List.{take_all}
 use Rattle.meter_book.specs.Gathering.{of_site}
-use Rattle.meter_fabric.specs.Tails.{AreTails, IsAfter, IsTail}
+use Rattle.meter_fabric.specs.Tails.{AreTails, IsAfter}
 use Rattle.meter_fabric.specs.declared.tails.Tail.TheVariants.{Fresh}
 use Rattle.meter_fabric.proofs.TailLaws.{reaches, tails_more, tails_past}
 use Rattle.meter_fabric.proofs.tails.follow_all.Goals as goal

@@ -1,4 +1,5 @@
-use Rattle.std.proofs.Common.{◌+◌, [], length}
+use Rattle.std.proofs.Common.{[]}
+use Rattle.meter_fabric.specs.Fabrics.{fabric_of}
 use Rattle.worked_life.proofs.rows.life.left_behind.Given as goal
 
 -- the desk that is opened
@@ -7,7 +8,7 @@ ghosts-life-J-Naming g a = record { log = a.log; opening = record { domain = a.p
 
 -- the fabric of its domain
 abbrev pub ghosts-life-L-FabricLedger : goal.ghosts-life-L-FabricLedger
-ghosts-life-L-FabricLedger g a = record { sites = length a.domain.now.meters + 2 }
+ghosts-life-L-FabricLedger g a = record { fabric = fabric_of a.domain.now 2 64 2 }
 
 abbrev pub ghosts-life-L-Ledger : goal.ghosts-life-L-Ledger
 ghosts-life-L-Ledger g a = record { name = a.blank.name; parts = a.blank.parts }

@@ -1,7 +1,7 @@
 use Rattle.std.proofs.Common.{◌≡◌, Some, take}
 use Rattle.std.specs.Prelude.{All}
 use Rattle.meter_fabric_base.specs.Travels.{next_site}
-use Rattle.worked_fabric.proofs.rows.slot_rows.come_to.Given as goal
+use Rattle.worked_fabric.proofs.rows.tables.come_to.Given as goal
 
 -- those up to here come to the site
 abbrev pub invariant-loop-visit : goal.invariant-loop-visit

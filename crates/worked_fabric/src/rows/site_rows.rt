@@ -1,0 +1,433 @@
+//! Two meters that differ in all that a meter has, and three edges behind ports of other skews.
+use crate::rows::tables::{closed, come_to, moment, none, popped, shut, visited};
+use af_marker::Dscp;
+use ds_checker::Accepted;
+use dsedge_texts::{accept, certify};
+use meter_book::{Chapter, Journal};
+use meter_fabric::{
+    Fabric, FabricLedger, FabricWork, Fitted, Opening, Pass, Trail, Traveller, Visit, contract_of,
+    edge_opening, opening_at, with_fabric,
+};
+use moment_core::PacketSize;
+use run_audit::{Ground, Run, Verdict, audit};
+use std::alloc::Global;
+use std::process::Abort;
+use std::sync::Wait;
+
+/// Meters `m` and `n`, ports `p` and `q`, and the contracts `u` over both, `v` over `m` and `w` over `n`.
+const DOMAIN: &str = r#"
+meter = [
+  { name = "m", kind = "trtcm", cir = 24000000, cbs = 13500, pir = 32000000, pbs = 27000, skew = 500000 },
+  { name = "n", kind = "srtcm", cir = 16000000, cbs = 9000, ebs = 18000, skew = 250000, origin = 7 },
+]
+port = [{ name = "p", skew = 1000 }, { name = "q", skew = 2000 }]
+link = [
+  { from = "p", to = "m", floor = 0, jitter = 1000 },
+  { from = "q", to = "m", floor = 0, jitter = 1000 },
+  { from = "q", to = "n", floor = 0, jitter = 1000 },
+  { from = "m", to = "n", floor = 0, jitter = 1000 },
+]
+
+[[contract]]
+name = "u"
+kind = "trtcm"
+port = "p"
+path = ["m", "n"]
+class = 1
+mode = "blind"
+cir = 1000000
+cbs = 1500
+pir = 2000000
+pbs = 3000
+
+[[contract]]
+name = "v"
+kind = "rfc4115"
+port = "q"
+path = ["m"]
+class = 2
+mode = "aware"
+cir = 2000000
+cbs = 1000
+eir = 1000000
+ebs = 500
+
+[[contract]]
+name = "w"
+kind = "srtcm"
+port = "q"
+path = ["n"]
+class = 3
+mode = "aware"
+cir = 3000000
+cbs = 500
+ebs = 400
+"#;
+
+/// How many slots there are, and where they begin.
+const EDGES: u32 = 3;
+
+const FIRST_EDGE: u32 = 2;
+
+/// The table of the three contracts under their least certificate; None where memory runs out.
+fn three(alloc: Global) -> Option<Accepted> {
+    let certificate = certify(alloc, DOMAIN.as_bytes()).ok()?;
+    accept(alloc, DOMAIN.as_bytes(), certificate.as_slice()).ok()
+}
+
+/// Puts the edge of a contract in the slot of its flow.
+fn fit<L: FabricLedger, R: Wait + Abort>(
+    rt: &R,
+    alloc: Global,
+    fabric: &Fabric<'_, L>,
+    accepted: &Accepted,
+    flow: u32,
+) -> Fitted {
+    let contract = contract_of(accepted, flow).expect(rt, "a contract");
+    if edge_opening(accepted.domain(), contract).is_none() {
+        panic!(rt; "no policed contract")
+    }
+    fabric.fit(rt, alloc, flow, contract).expect(rt, "a slot")
+}
+
+/// What stands at a site, as the table says.
+fn opening(rt: &impl Abort, accepted: &Accepted, site: u32) -> Opening {
+    opening_at(accepted, site).expect(rt, "an opening")
+}
+
+/// Fits all slots, each with what the table says.
+fn fit_all<L: FabricLedger, R: Wait + Abort>(
+    rt: &R,
+    alloc: Global,
+    fabric: &Fabric<'_, L>,
+    accepted: &Accepted,
+) {
+    for flow in 0..EDGES {
+        let fitted = fit(rt, alloc, fabric, accepted, flow);
+        let site = flow.wrapping_add(FIRST_EDGE);
+        assert!(rt; fitted.site() == site);
+        assert!(rt; fitted.opening() == opening(rt, accepted, site));
+    }
+}
+
+/// Expects of journals that each opens as the table says, in the order of the sites, and how many rows each has.
+fn expect_journals(rt: &impl Abort, accepted: &Accepted, journals: &[Journal], rows: [usize; 5]) {
+    assert!(rt; journals.len() == rows.len());
+    for site in 0..rows.len() {
+        let wanted = opening(rt, accepted, site as u32);
+        assert!(rt; journals[site].site() == site as u32);
+        assert!(rt; journals[site].opening() == wanted.meter);
+        assert!(rt; journals[site].skew() == wanted.skew);
+        assert!(rt; journals[site].len() == rows[site]);
+    }
+}
+
+/// A packet of 100 green bytes of a flow at its beginning, at moment 10.
+fn packet(
+    rt: &impl Abort,
+    alloc: Global,
+    accepted: &Accepted,
+    flow: u32,
+    number: u64,
+) -> Traveller {
+    let size = PacketSize::new(100).expect(rt, "a size");
+    let code = [10, 18, 26];
+    let dscp = Dscp::new(code[flow as usize % 3]).expect(rt, "a code point");
+    Traveller::begin(alloc, accepted, flow, number, size, dscp, moment(rt, 10))
+        .ok()
+        .expect(rt, "a packet")
+}
+
+/// Two packets of a flow that come to a site next, at moment 10.
+fn two_visits(rt: &impl Abort, alloc: Global, accepted: &Accepted, flow: u32) -> Vec<Visit> {
+    let mut visits = Vec::new(alloc);
+    for number in 0..2u64 {
+        let number = u64::from(flow).wrapping_mul(10).wrapping_add(number);
+        let packet = packet(rt, alloc, accepted, flow, number);
+        visits
+            .push(Visit::at(packet, moment(rt, 10)))
+            .expect(rt, "memory");
+    }
+    visits
+}
+
+/// Expects of visits that each was made.
+fn expect_made(rt: &impl Abort, visits: &[Visit]) {
+    for visit in visits {
+        assert!(rt; visit.fault.is_none());
+    }
+}
+
+/// Takes packets to their next site together, which must be this one.
+fn take_to<L: FabricLedger, R: Wait + Abort>(
+    rt: &R,
+    fabric: &Fabric<'_, L>,
+    pass: &mut Pass<L>,
+    visits: &mut [Visit],
+    site: u32,
+) {
+    if !come_to(visits, site) {
+        panic!(rt; "another site")
+    }
+    fabric.visit_all(rt, pass, site, visits);
+    expect_made(rt, visits);
+}
+
+/// Takes two packets of a flow over all sites of their way.
+fn travel<L: FabricLedger, R: Wait + Abort>(
+    rt: &R,
+    alloc: Global,
+    fabric: &Fabric<'_, L>,
+    accepted: &Accepted,
+    pass: &mut Pass<L>,
+    (flow, sites): (u32, &[u32]),
+) -> Vec<Visit> {
+    let mut visits = two_visits(rt, alloc, accepted, flow);
+    for site in sites {
+        take_to(rt, fabric, pass, visits.as_mut_slice(), *site);
+    }
+    visits
+}
+
+/// Puts what packets carried away behind `trails`.
+fn put_behind(rt: &impl Abort, trails: &mut Vec<Trail>, visits: Vec<Visit>) {
+    for visit in visits {
+        trails
+            .push(visit.traveller.into_trail())
+            .expect(rt, "memory");
+    }
+}
+
+/// Cuts a site of so many open rows.
+fn cut<L: FabricLedger, R: Wait + Abort>(
+    rt: &R,
+    fabric: &Fabric<'_, L>,
+    chapters: &mut Vec<Chapter>,
+    (site, rows): (u32, usize),
+) {
+    let chapter = fabric.cut(rt, site).expect(rt, "a chapter");
+    assert!(rt; (chapter.site(), chapter.len()) == (site, rows));
+    chapters.push(chapter).expect(rt, "memory");
+}
+
+/// The way of each flow.
+static WAYS: [(u32, &[u32]); 3] = [(0, &[2, 0, 1]), (1, &[3, 0]), (2, &[4, 1])];
+
+/// Takes packets of all flows through the fabric, and cuts meters and edges in between: the chapters.
+fn take_all<L: FabricLedger, R: Wait + Abort>(
+    rt: &R,
+    alloc: Global,
+    fabric: &Fabric<'_, L>,
+    accepted: &Accepted,
+    pass: &mut Pass<L>,
+    trails: &mut Vec<Trail>,
+) -> Vec<Chapter> {
+    let mut chapters = none(alloc);
+    for way in WAYS {
+        let visits = travel(rt, alloc, fabric, accepted, pass, way);
+        put_behind(rt, trails, visits);
+        cut(
+            rt,
+            fabric,
+            &mut chapters,
+            (way.0.wrapping_add(FIRST_EDGE), 2),
+        );
+    }
+    cut(rt, fabric, &mut chapters, (0, 4));
+    cut(rt, fabric, &mut chapters, (4, 0));
+    cut(rt, fabric, &mut chapters, (1, 4));
+    chapters
+}
+
+/// The verdict on journals and trails.
+fn judged(
+    rt: &impl Abort,
+    alloc: Global,
+    accepted: &Accepted,
+    journals: Vec<Journal>,
+    trails: Vec<Trail>,
+) -> Verdict {
+    match Run::assemble(alloc, Ground::Table(accepted), journals, trails) {
+        Ok(run) => audit(alloc, &run).expect(rt, "memory"),
+        Err((_, _, fault)) => panic!(rt; "{fault:?}"),
+    }
+}
+
+/// What a test does with a fabric of the three contracts' domain.
+#[derive(Drop)]
+struct CutAll<'a, R: Wait + Abort> {
+    rt: &'a R,
+    alloc: Global,
+    accepted: &'a Accepted,
+}
+
+impl<R: Wait + Abort> FabricWork for CutAll<'_, R> {
+    type Done = ();
+
+    /// Expects that a fabric whose sites were all cut closes with the chapters to a run that is kept.
+    fn work<L: FabricLedger + Send + Sync>(self, fabric: Fabric<'_, L>, passes: Vec<Pass<L>>) {
+        cuts_all(self.rt, self.alloc, self.accepted, fabric, passes);
+    }
+}
+
+/// The same, of its parts.
+fn cuts_all<L: FabricLedger, R: Wait + Abort>(
+    rt: &R,
+    alloc: Global,
+    accepted: &Accepted,
+    fabric: Fabric<'_, L>,
+    mut passes: Vec<Pass<L>>,
+) {
+    fit_all(rt, alloc, &fabric, accepted);
+    let mut pass = popped(rt, &mut passes);
+    let mut trails = Vec::new(alloc);
+    let chapters = take_all(rt, alloc, &fabric, accepted, &mut pass, &mut trails);
+    passes.push(pass).expect(rt, "memory");
+    let journals = closed(rt, alloc, fabric, passes, chapters);
+    expect_journals(rt, accepted, journals.as_slice(), [4, 4, 2, 2, 2]);
+    assert_eq!(rt;
+        judged(rt, alloc, accepted, journals, trails),
+        Verdict::Kept
+    );
+}
+
+#[test]
+fn chapters_of_meters_and_edges_join(rt: HostRuntime) {
+    let alloc = rt.alloc();
+    let accepted = three(alloc).expect(&rt, "a table");
+    let work = CutAll {
+        rt: &rt,
+        alloc,
+        accepted: &accepted,
+    };
+    let done = with_fabric(alloc, accepted.domain(), EDGES, 4, 1, work);
+    assert!(rt; done.is_ok());
+    drop(accepted);
+}
+
+/// What another test does with one.
+#[derive(Drop)]
+struct ShutLate<'a, R: Wait + Abort> {
+    rt: &'a R,
+    alloc: Global,
+    accepted: &'a Accepted,
+}
+
+impl<R: Wait + Abort> FabricWork for ShutLate<'_, R> {
+    type Done = ();
+
+    /// Expects that an edge which metered at the last moment is not shut, and that the others are.
+    fn work<L: FabricLedger + Send + Sync>(self, fabric: Fabric<'_, L>, passes: Vec<Pass<L>>) {
+        shuts_late(self.rt, self.alloc, self.accepted, fabric, passes);
+    }
+}
+
+/// The last moment that there is.
+const LAST: u64 = (1 << 63) - 1;
+
+/// The same, of its parts.
+fn shuts_late<L: FabricLedger, R: Wait + Abort>(
+    rt: &R,
+    alloc: Global,
+    accepted: &Accepted,
+    fabric: Fabric<'_, L>,
+    mut passes: Vec<Pass<L>>,
+) {
+    fit_all(rt, alloc, &fabric, accepted);
+    let mut pass = popped(rt, &mut passes);
+    let late = packet(rt, alloc, accepted, 1, 1);
+    drop(visited(rt, &fabric, &mut pass, late, (LAST, 0)));
+    assert!(rt; shut(rt, &fabric, 0, 5) == Ok(5));
+    assert!(rt; shut(rt, &fabric, 1, 5) == Err(2));
+    assert!(rt; shut(rt, &fabric, 2, 7) == Ok(7));
+    assert!(rt; shut(rt, &fabric, 3, 7) == Err(1));
+    let shut_out = packet(rt, alloc, accepted, 0, 2);
+    drop(visited(rt, &fabric, &mut pass, shut_out, (10, 6)));
+    drop(pass);
+    drop(passes);
+    drop(fabric);
+}
+
+#[test]
+fn an_edge_of_the_last_moment_is_not_shut(rt: HostRuntime) {
+    let alloc = rt.alloc();
+    let accepted = three(alloc).expect(&rt, "a table");
+    let work = ShutLate {
+        rt: &rt,
+        alloc,
+        accepted: &accepted,
+    };
+    let done = with_fabric(alloc, accepted.domain(), EDGES, 4, 1, work);
+    assert!(rt; done.is_ok());
+    drop(accepted);
+}
+
+/// What a third test does with one.
+#[derive(Drop)]
+struct Fill<'a, R: Wait + Abort> {
+    rt: &'a R,
+    alloc: Global,
+    accepted: &'a Accepted,
+}
+
+impl<R: Wait + Abort> FabricWork for Fill<'_, R> {
+    type Done = ();
+
+    /// Expects that a meter whose book is full takes no more until it is cut.
+    fn work<L: FabricLedger + Send + Sync>(self, fabric: Fabric<'_, L>, passes: Vec<Pass<L>>) {
+        fills(self.rt, self.alloc, self.accepted, fabric, passes);
+    }
+}
+
+/// A packet of contract 2 behind its edge.
+fn behind_edge<L: FabricLedger, R: Wait + Abort>(
+    rt: &R,
+    alloc: Global,
+    fabric: &Fabric<'_, L>,
+    accepted: &Accepted,
+    pass: &mut Pass<L>,
+    number: u64,
+) -> Traveller {
+    let begun = packet(rt, alloc, accepted, 2, number);
+    visited(rt, fabric, pass, begun, (10, 0))
+}
+
+/// The same, of its parts, where books have room for one row: first at an edge, then at a meter.
+fn fills<L: FabricLedger, R: Wait + Abort>(
+    rt: &R,
+    alloc: Global,
+    accepted: &Accepted,
+    fabric: Fabric<'_, L>,
+    mut passes: Vec<Pass<L>>,
+) {
+    fit_all(rt, alloc, &fabric, accepted);
+    let mut pass = popped(rt, &mut passes);
+    let mut chapters = none(alloc);
+    let one = behind_edge(rt, alloc, &fabric, accepted, &mut pass, 1);
+    let full = packet(rt, alloc, accepted, 2, 2);
+    drop(visited(rt, &fabric, &mut pass, full, (10, 2)));
+    cut(rt, &fabric, &mut chapters, (4, 1));
+    let two = behind_edge(rt, alloc, &fabric, accepted, &mut pass, 3);
+    drop(visited(rt, &fabric, &mut pass, one, (10, 0)));
+    let two = visited(rt, &fabric, &mut pass, two, (10, 2));
+    cut(rt, &fabric, &mut chapters, (1, 1));
+    drop(visited(rt, &fabric, &mut pass, two, (10, 0)));
+    passes.push(pass).expect(rt, "memory");
+    let journals = closed(rt, alloc, fabric, passes, chapters);
+    expect_journals(rt, accepted, journals.as_slice(), [0, 2, 0, 0, 2]);
+    drop(journals);
+}
+
+#[test]
+fn a_full_book_takes_no_more_until_it_is_cut(rt: HostRuntime) {
+    let alloc = rt.alloc();
+    let accepted = three(alloc).expect(&rt, "a table");
+    let work = Fill {
+        rt: &rt,
+        alloc,
+        accepted: &accepted,
+    };
+    let done = with_fabric(alloc, accepted.domain(), EDGES, 1, 1, work);
+    assert!(rt; done.is_ok());
+    drop(accepted);
+}
