@@ -10,7 +10,7 @@ use crate::watch::Watch;
 use crate::watched::{WatchedIntake, WatchedOutlet};
 use dsedge_lines::Words;
 use dsedge_serve::run;
-use dsedge_texts::SystemFolder;
+use dsedge_texts::{Folder, SystemFolder};
 use pcap_capture::{Intake, Outlet, ReadIntake, WriteOutlet};
 use std::env;
 use std::io::{self, IsTerminal};
@@ -23,7 +23,30 @@ fn command_line<R: Env + AllocGlobal>(rt: &R) -> io::Result<Words> {
     Ok(env::args(rt)?.collect::<Words>(rt.alloc())?)
 }
 
-/// Runs the program with these devices, and gives its exit status.
+/// Runs the program with this folder and these devices, and gives its exit status. It names no type of theirs, since a
+/// call of `run` is dear to prove at one that has a lifetime.
+fn run_in<W: Wait, D: Folder, I: Intake, O: Outlet, F: Outlet>(
+    rt: &HostRuntime,
+    waiting: &W,
+    folder: &D,
+    intake: &mut I,
+    output: &mut O,
+    faults: &mut F,
+) -> u8 {
+    let at_terminal = rt.stderr().is_terminal();
+    run(
+        rt.alloc(),
+        waiting,
+        command_line(rt),
+        at_terminal,
+        folder,
+        intake,
+        output,
+        faults,
+    )
+}
+
+/// Runs the program with the files of the system and these devices.
 fn run_with<W: Wait, I: Intake, O: Outlet, F: Outlet>(
     rt: &HostRuntime,
     waiting: &W,
@@ -31,18 +54,7 @@ fn run_with<W: Wait, I: Intake, O: Outlet, F: Outlet>(
     output: &mut O,
     faults: &mut F,
 ) -> u8 {
-    let folder = SystemFolder::new(rt);
-    let at_terminal = rt.stderr().is_terminal();
-    run(
-        rt.alloc(),
-        waiting,
-        command_line(rt),
-        at_terminal,
-        &folder,
-        intake,
-        output,
-        faults,
-    )
+    run_in(rt, waiting, &SystemFolder::new(rt), intake, output, faults)
 }
 
 /// Runs the program on standard input, under the eye of a watch, if there is one.
