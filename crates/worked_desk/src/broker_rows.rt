@@ -3,7 +3,7 @@ ghost use Rattle.std.specs.Prelude.{◌≡◌, []};
 use crate::desks::{Plan, contract, full, opened, released, reserved, retired, tight};
 use af_marker::Dscp;
 use ds_broker::{BrokerRefusal, Limits};
-use ds_desk::{Broker, Feed, Front, Granted, Naming, Opened, Seen};
+use ds_desk::{Broker, Feed, Front, Granted, LookFault, Naming, Opened, Seen};
 use ds_domain_base::{Contract, Domain};
 use ds_timeline::Timeline;
 use meter_fabric_base::{Numbered, Traveller};
@@ -194,14 +194,17 @@ fn refusals_stand_beside_the_newest_front(rt: HostRuntime) {
     drop(contracts);
 }
 
-/// A feed sees nothing, and hands itself back.
+/// A feed sees nothing, and hands itself back, since its desk is gone.
 fn expect_unseen<J: Naming>(rt: &impl Abort, feed: Feed<J>) {
     match feed.look() {
         Ok(seen) => {
             drop(seen.end());
             panic!(rt; "a table is seen");
         }
-        Err(feed) => drop(feed),
+        Err((feed, fault)) => {
+            drop(feed);
+            assert!(rt; (fault, fault.code()) == (LookFault::DeskGone, 1));
+        }
     }
 }
 
