@@ -1,9 +1,9 @@
 ghost use Rattle.std.specs.Prelude.{◌≡◌, []};
 
-use crate::desks::{Plan, contract, full, opened, released, reserved, retired, tight};
+use crate::desks::{Plan, contract, full, looked, opened, released, reserved, retired, tight};
 use af_marker::Dscp;
 use ds_broker::{BrokerRefusal, Limits};
-use ds_desk::{Broker, Feed, Front, Granted, LookFault, Naming, Opened, Seen};
+use ds_desk::{Broker, Feed, Front, Granted, LookFault, Naming, Opened};
 use ds_domain_base::{Contract, Domain};
 use ds_timeline::Timeline;
 use meter_fabric_base::{Numbered, Traveller};
@@ -12,22 +12,6 @@ use std::alloc::Global;
 use std::marker::Brand;
 use std::process::Abort;
 use std::sync::Wait;
-
-/// What is seen: the serial, how many contracts, and their flows' sum.
-fn told_of<J: Naming>(seen: &Seen<J>) -> (u32, usize, u32) {
-    let mut flows = 0u32;
-    for flow in seen.flows() {
-        flows = flows.wrapping_add(*flow);
-    }
-    (seen.serial().get(), seen.table().contracts().len(), flows)
-}
-
-/// What a feed sees: the serial, how many contracts, and their flows' sum; and the feed.
-fn looked<J: Naming>(rt: &impl Abort, feed: Feed<J>) -> ((u32, usize, u32), Feed<J>) {
-    let seen = feed.look().ok().expect(rt, "a table is seen");
-    let told = told_of(&seen);
-    (told, seen.end())
-}
 
 /// Whether a packet of a flow can begin over a table.
 fn begins(rt: &impl Abort, alloc: Global, numbered: &Numbered<'_>, flow: u32) -> bool {

@@ -2,7 +2,7 @@ ghost use Rattle.std.specs.Prelude.{◌≡◌, ◌<◌, ◌≤◌, []};
 
 use ds_broker::{BrokerRefusal, Limits};
 use ds_checker::Refusal;
-use ds_desk::{Broker, Desk, Done, Feed, Granted, Naming, Opened, Refused};
+use ds_desk::{Broker, Desk, Done, Feed, Granted, Naming, Opened, Refused, Seen};
 use ds_domain::parse;
 use ds_domain_base::{Contract, Domain, Name};
 use moment_core::Moment;
@@ -154,4 +154,20 @@ pub fn retired<J: Naming, R: Wait + Drop, W: Wait + Abort>(
         Ok(done) => Ok(told_of_done(done)),
         Err(refused) => Err(told_of_refusal(refused)),
     }
+}
+
+/// What is seen: the serial, how many contracts, and their flows' sum.
+fn told_of<J: Naming>(seen: &Seen<J>) -> (u32, usize, u32) {
+    let mut flows = 0u32;
+    for flow in seen.flows() {
+        flows = flows.wrapping_add(*flow);
+    }
+    (seen.serial().get(), seen.table().contracts().len(), flows)
+}
+
+/// What a feed sees: the serial, how many contracts, and their flows' sum; and the feed.
+pub fn looked<J: Naming>(rt: &impl Abort, feed: Feed<J>) -> ((u32, usize, u32), Feed<J>) {
+    let seen = feed.look().ok().expect(rt, "a table is seen");
+    let told = told_of(&seen);
+    (told, seen.end())
 }

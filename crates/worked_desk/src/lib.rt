@@ -7,4 +7,6 @@ mod broker_rows;
 #[cfg(test)]
 mod desks;
 #[cfg(test)]
+mod memory_rows;
+#[cfg(test)]
 mod thread_rows;
