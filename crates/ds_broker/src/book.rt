@@ -15,7 +15,7 @@ ghost use Rattle.ds_broker.specs.Books.{table_of, table_with, with_command};
 ghost use Rattle.ds_broker.specs.Entries.{entries_of, entry_in, grant_of, next_serial, room_of, told_of};
 ghost use Rattle.ds_broker.specs.Found.{IsFound};
 ghost use Rattle.ds_broker.specs.Histories.{Holding, beginning, end_by, ended};
-ghost use Rattle.ds_broker.specs.Refusals.{contract_fault, ends_early, free_from, release_refusal};
+ghost use Rattle.ds_broker.specs.Refusals.{IsRefusal, contract_fault, ends_early, free_from, release_refusal};
 ghost use Rattle.ds_broker.specs.Refusals.{reserve_refusal, retire_refusal, room_refusal};
 
 use crate::command::Command;
@@ -111,14 +111,13 @@ impl Book {
     /// Refused, with the contract handed back and the book unchanged, for the first of these: `Contract` where it has a
     /// fault (section `contract`, index 0: `Twice` where the book holds a contract of its name, then `Range` where it
     /// would end before it begins, then what `fits` finds), `TableFull`, `HistoryFull`, `Checker` where the table with
-    /// it is refused. `NoMemory` where memory runs out.
+    /// it is refused. `NoMemory` where none of these is met and memory runs out.
     pub fn reserve(&mut self, contract: Contract) -> Result<Grant, (Contract, BrokerRefusal)>
         ensures granted { IfOk result (λ grant. grant ≡ grant_of self.old contract) }
         ensures accepted { OnOk result (self.new ≡ with_command self.old (Reserve contract)) }
         ensures unrefused { OnOk result (reserve_refusal self.old contract ≡ None) }
         ensures back { IfErr result (λ refused. refused.0 ≡ contract) }
-        ensures refused { IfErr result
-            (λ refused. (refused.1 ≡ NoMemory) ⊎ (reserve_refusal self.old contract ≡ Some refused.1)) }
+        ensures refused { IfErr result (λ refused. IsRefusal (reserve_refusal self.old contract) refused.1) }
         ensures unchanged { OnErr result (self.new ≡ self.old) }
     {
         if let Some(refusal) = self.room_refusal(&contract) {
@@ -132,7 +131,8 @@ impl Book {
             &mut self.names,
             &mut self.history,
         ) else {
-            return Err((contract, BrokerRefusal::NoMemory));
+            let refusal = wanting(&self.table, &contract);
+            return Err((contract, refusal));
         };
         let alloc = *self.ids.allocator();
         if let Err(refusal) = admit(alloc, &mut self.table, &contract, since) {
@@ -152,13 +152,12 @@ impl Book {
     /// An earlier end stays.
     ///
     /// Refused, and unchanged, for the first of these: `UnknownId`, `AlreadyReleased`, `HistoryFull`. `NoMemory` where
-    /// memory runs out.
+    /// none of these is met and memory runs out.
     pub fn release(&mut self, id: u32, at: Moment) -> Result<Serial, BrokerRefusal>
         ensures released { IfOk result (λ serial. serial ≡ next_serial self.old) }
         ensures accepted { OnOk result (self.new ≡ with_command self.old (Release id at)) }
         ensures unrefused { OnOk result (release_refusal self.old id ≡ None) }
-        ensures refused { IfErr result
-            (λ refusal. (refusal ≡ NoMemory) ⊎ (release_refusal self.old id ≡ Some refusal)) }
+        ensures refused { IfErr result (λ refusal. IsRefusal (release_refusal self.old id) refusal) }
         ensures unchanged { OnErr result (self.new ≡ self.old) }
     {
         let place = self.releasable(id)?;
@@ -179,13 +178,12 @@ impl Book {
     /// greatest moment of all accepted commands where that is later. From then on its id is unknown, and its name free.
     ///
     /// Refused, and unchanged, for the first of these: `UnknownId`, `NotReleased`, `HistoryFull`, `HoldLeft` with what
-    /// is left of the hold, in nanoseconds. `NoMemory` where memory runs out.
+    /// is left of the hold, in nanoseconds. `NoMemory` where none of these is met and memory runs out.
     pub fn retire(&mut self, id: u32, moment: Moment) -> Result<Serial, BrokerRefusal>
         ensures retired { IfOk result (λ serial. serial ≡ next_serial self.old) }
         ensures accepted { OnOk result (self.new ≡ with_command self.old (Retire id moment)) }
         ensures unrefused { OnOk result (retire_refusal self.old id moment ≡ None) }
-        ensures refused { IfErr result
-            (λ refusal. (refusal ≡ NoMemory) ⊎ (retire_refusal self.old id moment ≡ Some refusal)) }
+        ensures refused { IfErr result (λ refusal. IsRefusal (retire_refusal self.old id moment) refusal) }
         ensures unchanged { OnErr result (self.new ≡ self.old) }
     {
         let place = self.retirable(id, moment)?;
@@ -506,6 +504,19 @@ fn begun(alloc: Global, contract: &Contract, since: Moment) -> Result<Contract, 
     Ok(begun)
 }
 
+/// Why a contract is refused that finds no memory: what the checker has against it, or want of memory where that is
+/// nothing. It takes no memory.
+fn wanting(table: &Accepted, contract: &Contract) -> BrokerRefusal
+    requires { IsTrue (fits table.now.domain contract.now) }
+    ensures { (since : ℕ) → IsRefusal
+        (option_map BrokerRefusal.Checker (refusal_of (table_with since contract.now table.now))) result }
+{
+    match table.refusal_with_least(contract) {
+        Some(refusal) => BrokerRefusal::Checker(refusal),
+        None => BrokerRefusal::NoMemory,
+    }
+}
+
 /// Takes a contract up in a table, to begin at a moment, with its least bounds. The table is unchanged where it is
 /// refused: by the checker, or where memory runs out.
 fn admit(
@@ -520,11 +531,11 @@ fn admit(
     ensures acceptable { OnOk result (IsAcceptable table.new) }
     ensures unrefused { OnOk result (refusal_of (table_with since contract.now table.old) ≡ None) }
     ensures unchanged { OnErr result (table.new ≡ table.old) }
-    ensures refused { IfErr result (λ refusal. (refusal ≡ BrokerRefusal.NoMemory)
-        ⊎ (option_map BrokerRefusal.Checker (refusal_of (table_with since contract.now table.old)) ≡ Some refusal)) }
+    ensures refused { IfErr result (λ refusal. IsRefusal
+        (option_map BrokerRefusal.Checker (refusal_of (table_with since contract.now table.old))) refusal) }
 {
     let Ok(begun) = begun(alloc, contract, since) else {
-        return Err(BrokerRefusal::NoMemory);
+        return Err(wanting(table, contract));
     };
     match table.admit_least(alloc, begun) {
         Ok(()) => Ok(()),

@@ -101,8 +101,8 @@ pub fn least_bounds(
     Ok(hops)
 }
 
-/// The least first bound of traffic: the bursts that it enters with.
-fn entering(source: &Source) -> Bound
+/// The least first bound of traffic: the bursts that it enters with, each at most 5 * 10^13 bytes.
+pub fn entering(source: &Source) -> Bound
     requires { IsModerate source.now }
     ensures value { result ≡ entering source.now }
     ensures range { IsWithin (5 * 10 ^ 13) result }
@@ -115,8 +115,9 @@ fn entering(source: &Source) -> Bound
     .unwrap()
 }
 
-/// The least bound behind a link of a jitter.
-fn delayed(source: &Source, jitter: Gap, before: Bound) -> Bound
+/// The least bound behind a link of a jitter of at most 10^10 nanoseconds, of the bound before it: larger in each column by
+/// what the rate gives over the jitter, a begun byte counted whole (Cruz 1991, section II).
+pub fn delayed(source: &Source, jitter: Gap, before: Bound) -> Bound
     requires moderate { IsModerate source.now }
     requires jitter { jitter ≤ 10 ^ 10 }
     requires before { IsWithin (9 * 10 ^ 14) before }

@@ -1,11 +1,12 @@
 ghost use Rattle.std.specs.Prelude.{◌≡◌, ◌<◌, ◌⊎◌, None, Some, IfOk, IfErr, IsTrue, OnErr, OnOk, length, slice_get};
 ghost use Rattle.ds_certificate.specs.Bounds.{fits, least_of};
 ghost use Rattle.ds_checker.specs.Acceptance.{IsAcceptable, refusal_of, table_of};
-ghost use Rattle.ds_checker.specs.Changes.{with_contract, with_lifetime, without_contract};
+ghost use Rattle.ds_domain_base.specs.Lifetimes.{Span};
+ghost use Rattle.ds_checker.specs.Changes.{lasting, with_contract, with_lifetime, without_contract};
 ghost use Rattle.ds_checker.specs.Holds.{hold_at};
 ghost use Rattle.ds_checker.specs.Sums.{IsKept};
 
-use crate::admission::contract_refusal_at_meters;
+use crate::admission::{contract_refusal_at_meters, least_refusal_at_meters};
 use crate::bounds::{contract_refusal, has_shape};
 use crate::hold::hold_of;
 use crate::load::Loads;
@@ -177,8 +178,8 @@ impl Accepted {
     /// Takes up one contract more that fits the domain, behind the others, with its least bounds, where the table is
     /// acceptable with it. Nothing can stand against such bounds, so it looks at the meters of the contract's path alone.
     ///
-    /// Else it hands the contract back, is as it was, and tells the first test that fails; or `NoMemory` where memory
-    /// runs out.
+    /// Else it hands the contract back, is as it was, and tells the first test that fails; or `NoMemory` where none does
+    /// and memory runs out.
     pub fn admit_least(
         &mut self,
         alloc: Global,
@@ -190,15 +191,16 @@ impl Accepted {
         ensures acceptable { IsAcceptable self.new }
         ensures unchanged { OnErr result (self.new ≡ self.old) }
         ensures back { IfErr result (λ refused. refused.0 ≡ contract) }
-        ensures refused { IfErr result (λ refused. (refused.1 ≡ Refusal.NoMemory)
-            ⊎ (refusal_of (with_contract self.old contract (least_of self.old.domain contract)) ≡ Some refused.1)) }
+        ensures refused { IfErr result (λ refused.
+            let larger = with_contract self.old contract (least_of self.old.domain contract) in
+            ((refused.1 ≡ Refusal.NoMemory) × (refusal_of larger ≡ None)) ⊎ (refusal_of larger ≡ Some refused.1)) }
     {
+        if let Some(refusal) = self.refusal_with_least(&contract) {
+            return Err((contract, refusal));
+        }
         let Ok(bounds) = least_bounds(alloc, self.domain(), &contract) else {
             return Err((contract, Refusal::NoMemory));
         };
-        if let Some(refusal) = self.refusal_at_meters(&contract, bounds.as_slice()) {
-            return Err((contract, refusal));
-        }
         match self.take_up(contract, bounds) {
             Ok(()) => Ok(()),
             Err((contract, _)) => Err((contract, Refusal::NoMemory)),
@@ -284,15 +286,17 @@ impl Accepted {
         contract_refusal_at_meters(domain, self.sums.as_slice(), contract, bounds)
     }
 
-    /// The first test that fails of the table with one contract more that fits the domain and has its least bounds.
-    fn refusal_at_meters(&self, contract: &Contract, bounds: &[Bound]) -> Option<Refusal>
-        requires fit { IsTrue (fits self.now.domain contract.now) }
-        requires least { bounds.now ≡ least_of self.now.domain contract.now }
-        ensures value { result ≡ refusal_of (with_contract self.now contract.now bounds.now) }
+    /// The first test that fails of the table with one contract more that fits the domain and has its least bounds, if
+    /// one does; when the contract begins and ends makes no difference. It takes no memory, and looks at the meters of
+    /// the contract's path alone.
+    pub fn refusal_with_least(&self, contract: &Contract) -> Option<Refusal>
+        requires { IsTrue (fits self.now.domain contract.now) }
+        ensures value { (lifetime : Span) → let other = lasting lifetime contract.now in
+            result ≡ refusal_of (with_contract self.now other (least_of self.now.domain other)) }
         ensures acceptable { IsAcceptable self.now }
     {
         let domain: &Domain = &self.domain;
-        contract_refusal_at_meters(domain, self.sums.as_slice(), contract, bounds)
+        least_refusal_at_meters(domain, self.sums.as_slice(), contract)
     }
 
     /// Takes up a contract against which nothing stands; where memory runs out it hands it back, and is as it was.

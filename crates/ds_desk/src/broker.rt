@@ -1,7 +1,7 @@
 //! A desk that many threads call at once.
-ghost use Rattle.std.specs.Prelude.{◌≡◌, ◌⊎◌, ◌∷◌, ◌++◌, [], List, None, Some, IfErr, IfOk};
+ghost use Rattle.std.specs.Prelude.{◌≡◌, ◌∷◌, ◌++◌, [], List, None, IfErr, IfOk};
 ghost use Rattle.ds_broker.specs.Entries.{grant_of, next_serial};
-ghost use Rattle.ds_broker.specs.Refusals.{release_refusal, reserve_refusal, retire_refusal};
+ghost use Rattle.ds_broker.specs.Refusals.{IsRefusal, release_refusal, reserve_refusal, retire_refusal};
 ghost use Rattle.ds_broker.specs.Timelines.{timeline_behind};
 ghost use Rattle.ds_broker.specs.declared.command.Command as commands;
 ghost use Rattle.ds_desk.specs.Histories.{book_behind};
@@ -26,7 +26,6 @@ pub struct Broker<J: Naming, R: Wait + Drop> {
 
 impl<J: Naming, R: Wait + Drop> Broker<J, R> {
     ghost use Rattle.ds_broker.specs.declared.command.Command.TheVariants.{Reserve, Release, Retire};
-    ghost use Rattle.ds_broker.specs.declared.refusal.BrokerRefusal.TheVariants.{NoMemory};
 
     /// A desk under a lock. It takes no memory.
     pub fn new(desk: Desk<J, R>) -> Self {
@@ -46,8 +45,8 @@ impl<J: Naming, R: Wait + Drop> Broker<J, R> {
             × (granted.grant ≡ grant_of (book_behind J.opening before) contract)
             × (reserve_refusal (book_behind J.opening before) contract ≡ None)) }
         ensures back { IfErr result (λ refused. refused.0 ≡ contract) }
-        ensures refused { IfErr result (λ refused. (refused.1.refusal ≡ NoMemory)
-            ⊎ (reserve_refusal (book_behind J.opening refused.1.front) contract ≡ Some refused.1.refusal)) }
+        ensures refused { IfErr result (λ refused.
+            IsRefusal (reserve_refusal (book_behind J.opening refused.1.front) contract) refused.1.refusal) }
     {
         self.desk.lock(rt).reserve(contract)
     }
@@ -58,8 +57,8 @@ impl<J: Naming, R: Wait + Drop> Broker<J, R> {
             × (done.front ≡ before ++ Release id at ∷ [])
             × (done.serial ≡ next_serial (book_behind J.opening before))
             × (release_refusal (book_behind J.opening before) id ≡ None)) }
-        ensures refused { IfErr result (λ refused. (refused.refusal ≡ NoMemory)
-            ⊎ (release_refusal (book_behind J.opening refused.front) id ≡ Some refused.refusal)) }
+        ensures refused { IfErr result (λ refused.
+            IsRefusal (release_refusal (book_behind J.opening refused.front) id) refused.refusal) }
     {
         self.desk.lock(rt).release(id, at)
     }
@@ -70,8 +69,8 @@ impl<J: Naming, R: Wait + Drop> Broker<J, R> {
             × (done.front ≡ before ++ Retire id moment ∷ [])
             × (done.serial ≡ next_serial (book_behind J.opening before))
             × (retire_refusal (book_behind J.opening before) id moment ≡ None)) }
-        ensures refused { IfErr result (λ refused. (refused.refusal ≡ NoMemory)
-            ⊎ (retire_refusal (book_behind J.opening refused.front) id moment ≡ Some refused.refusal)) }
+        ensures refused { IfErr result (λ refused.
+            IsRefusal (retire_refusal (book_behind J.opening refused.front) id moment) refused.refusal) }
     {
         self.desk.lock(rt).retire(id, moment)
     }

@@ -1,9 +1,9 @@
 //! A desk: a book, and the writer of its feeds' tables.
-ghost use Rattle.std.specs.Prelude.{◌≡◌, ◌⊎◌, ◌<◌, ◌≤◌, [], None, Some, IfErr, IfOk, OnErr, OnOk, vec_len};
+ghost use Rattle.std.specs.Prelude.{◌≡◌, ◌<◌, ◌≤◌, [], None, IfErr, IfOk, OnErr, OnOk, vec_len};
 ghost use Rattle.ds_checker.specs.Acceptance.{IsAcceptable};
 ghost use Rattle.ds_broker.specs.Books.{table_of, with_command};
 ghost use Rattle.ds_broker.specs.Entries.{grant_of, next_serial};
-ghost use Rattle.ds_broker.specs.Refusals.{release_refusal, reserve_refusal, retire_refusal};
+ghost use Rattle.ds_broker.specs.Refusals.{IsRefusal, release_refusal, reserve_refusal, retire_refusal};
 ghost use Rattle.ds_broker.specs.Timelines.{timeline_behind, timeline_of};
 ghost use Rattle.ds_desk.specs.Histories.{book_behind};
 
@@ -125,8 +125,7 @@ impl<J: Naming, R: Wait + Drop> Desk<J, R> {
         ensures unrefused { OnOk result (reserve_refusal self.old contract ≡ None) }
         ensures stands { IfOk result (λ granted. granted.front ≡ self.new.history) }
         ensures back { IfErr result (λ refused. refused.0 ≡ contract) }
-        ensures refused { IfErr result (λ refused. (refused.1.refusal ≡ NoMemory)
-            ⊎ (reserve_refusal self.old contract ≡ Some refused.1.refusal)) }
+        ensures refused { IfErr result (λ refused. IsRefusal (reserve_refusal self.old contract) refused.1.refusal) }
         ensures front { IfErr result (λ refused. refused.1.front ≡ self.old.history) }
         ensures unchanged { OnErr result (self.new ≡ self.old) }
         ensures named { self.old ≡ book_behind J.opening self.old.history }
@@ -159,8 +158,7 @@ impl<J: Naming, R: Wait + Drop> Desk<J, R> {
         ensures accepted { OnOk result (self.new ≡ with_command self.old (Release id at)) }
         ensures unrefused { OnOk result (release_refusal self.old id ≡ None) }
         ensures stands { IfOk result (λ done. done.front ≡ self.new.history) }
-        ensures refused { IfErr result (λ refused. (refused.refusal ≡ NoMemory)
-            ⊎ (release_refusal self.old id ≡ Some refused.refusal)) }
+        ensures refused { IfErr result (λ refused. IsRefusal (release_refusal self.old id) refused.refusal) }
         ensures front { IfErr result (λ refused. refused.front ≡ self.old.history) }
         ensures unchanged { OnErr result (self.new ≡ self.old) }
         ensures named { self.old ≡ book_behind J.opening self.old.history }
@@ -189,8 +187,7 @@ impl<J: Naming, R: Wait + Drop> Desk<J, R> {
         ensures accepted { OnOk result (self.new ≡ with_command self.old (Retire id moment)) }
         ensures unrefused { OnOk result (retire_refusal self.old id moment ≡ None) }
         ensures stands { IfOk result (λ done. done.front ≡ self.new.history) }
-        ensures refused { IfErr result (λ refused. (refused.refusal ≡ NoMemory)
-            ⊎ (retire_refusal self.old id moment ≡ Some refused.refusal)) }
+        ensures refused { IfErr result (λ refused. IsRefusal (retire_refusal self.old id moment) refused.refusal) }
         ensures front { IfErr result (λ refused. refused.front ≡ self.old.history) }
         ensures unchanged { OnErr result (self.new ≡ self.old) }
         ensures named { self.old ≡ book_behind J.opening self.old.history }

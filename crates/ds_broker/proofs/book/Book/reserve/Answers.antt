@@ -1,4 +1,4 @@
-use Rattle.std.proofs.Common.{◌≡◌, None, true, inl, inr, arith, refl, sym, ap, ◌∙◌}
+use Rattle.std.proofs.Common.{◌≡◌, None, true, arith, refl, sym, ap, ◌∙◌}
 use Rattle.std.specs.Prelude.{cond, length, option_map}
 use Rattle.std.specs.Str.{bytes_eq}
 use Rattle.ds_broker.specs.Books.{moment_in, table_of}
@@ -8,7 +8,7 @@ use Rattle.ds_broker.specs.declared.refusal.BrokerRefusal.TheVariants.{Checker}
 use Rattle.ds_broker.proofs.KeptLaws.{kept-reserved}
 use Rattle.ds_broker.proofs.RefusalLaws.{fitting, passed}
 use Rattle.ds_broker.proofs.StandingLaws.{granted-most}
-use Rattle.ds_broker.proofs.TableLaws.{checked-refusal}
+use Rattle.ds_broker.proofs.TableLaws.{checked-refusal, refused-checked}
 use Rattle.ds_broker.proofs.BookLaws.{newest-moment}
 use Rattle.ds_broker.proofs.book.Book.reserve.Goals as goal
 
@@ -26,10 +26,7 @@ returns-in-Err-clause-refused c =
     let none : room_refusal b k ≡ None = sym c.room_refusal.ensures.value ∙ c.in_default.is in
     let table : c.self.inside.table ≡ table_of b = c.self.invariant.table ∙ ap table_of c.self.view_is in
     let moment : c.moment_of-since.result ≡ moment_in b k.lifetime.since = c.moment_of-since.ensures ∙ ap (moment_in b) c.since.ensures in
-    elim c.in-Err.ensures.refused [
-      | inl memory ↦ inl memory
-      | inr refused ↦ inr (checked-refusal b k c.self.inside.table c.moment_of-since.result none table moment ∙ refused)
-    ]
+    refused-checked b k c.self.inside.table c.moment_of-since.result c.in-Err.refusal none table moment c.in-Err.ensures.refused
 
 pub overflow_add-id : goal.overflow_add-id
 overflow_add-id c = omega (arith, c.self.invariant.granted, granted-most c.self.inside.history.items, c.self.invariant.short)

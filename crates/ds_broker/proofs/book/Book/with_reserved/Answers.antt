@@ -1,4 +1,4 @@
-use Rattle.std.proofs.Common.{◌≡◌, None, inl, inr, sym, ap, subst, ◌∙◌}
+use Rattle.std.proofs.Common.{◌≡◌, None, sym, ap, subst, ◌∙◌}
 use Rattle.std.specs.Prelude.{option_map}
 use Rattle.ds_domain_base.specs.Lifetimes.{IsInOrder}
 use Rattle.ds_broker.specs.Books.{moment_in, standing, table_of}
@@ -6,7 +6,7 @@ use Rattle.ds_broker.specs.Refusals.{room_refusal}
 use Rattle.ds_broker.specs.declared.refusal.BrokerRefusal.TheVariants.{Checker}
 use Rattle.ds_broker.proofs.NextLaws.{flows-after-reserve, flows-kept, table-after-reserve}
 use Rattle.ds_broker.proofs.RefusalLaws.{fitting, ordered, passed}
-use Rattle.ds_broker.proofs.TableLaws.{checked-refusal}
+use Rattle.ds_broker.proofs.TableLaws.{checked-refusal, refused-checked}
 use Rattle.ds_broker.proofs.book.Book.with_reserved.Goals as goal
 
 pub admit-requires-clause-fit : goal.admit-requires-clause-fit
@@ -31,10 +31,7 @@ returns-in-Err-clause-refused c =
     let none : room_refusal b k ≡ None = sym c.room_refusal.ensures.value ∙ c.in_default.is in
     let table : c.in-Ok.table ≡ table_of b = c.in-Ok.ensures ∙ c.self.invariant.table ∙ ap table_of c.self.view_is in
     let moment : c.moment_of-since.result ≡ moment_in b k.lifetime.since = c.moment_of-since.ensures ∙ ap (moment_in b) c.since.ensures in
-    elim c.in-Err.ensures.refused [
-      | inl memory ↦ inl memory
-      | inr refused ↦ inr (checked-refusal b k c.in-Ok.table c.moment_of-since.result none table moment ∙ refused)
-    ]
+    refused-checked b k c.in-Ok.table c.moment_of-since.result c.in-Err.refusal none table moment c.in-Err.ensures.refused
 
 pub returns-in-Ok-push-clause-table : goal.returns-in-Ok-push-clause-table
 returns-in-Ok-push-clause-table c =
