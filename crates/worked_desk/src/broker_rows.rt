@@ -46,7 +46,8 @@ fn first_grant<J: Naming, R: Wait + Drop, W: Wait + Abort>(
     broker: &Broker<J, R>,
     a: Contract,
 ) -> Front<J> {
-    let Granted { grant, front } = broker.reserve(rt, a).ok().expect(rt, "a grant");
+    let sold = broker.desk(rt).reserve(a);
+    let Granted { grant, front } = sold.ok().expect(rt, "a grant");
     assert_eq!(rt; (grant.id, grant.serial.get()), (1, 1));
     front
 }
@@ -116,7 +117,7 @@ fn told_of_both<J: Naming, R: Wait + Drop, W: Wait + Abort>(
     alloc: Global,
     broker: &Broker<J, R>,
 ) {
-    let told = broker.timeline(rt, alloc).expect(rt, "memory");
+    let told = broker.desk(rt).told(alloc).expect(rt, "memory");
     assert_eq!(rt; told.front.serial().get(), 4);
     expect_both(rt, &told.timeline);
     drop(told);
@@ -219,5 +220,56 @@ fn a_feed_sees_nothing_once_its_desk_is_gone(rt: HostRuntime) {
         contracts,
     } = tight(&rt, alloc);
     outlived::<Brand, _>(rt, alloc, Opened::new(), domain, limits);
+    drop(contracts);
+}
+
+/// A feed that is taken once a place is free, which knows of the first contract from the beginning.
+fn expect_another<J: Naming, R: Wait + Drop, W: Wait + Abort>(
+    rt: &W,
+    broker: &Broker<J, R>,
+    feed: Feed<J>,
+) -> Feed<J> {
+    assert!(rt; broker.desk(rt).feed().is_none());
+    drop(feed);
+    let feed = broker.desk(rt).feed().expect(rt, "a place");
+    assert_eq!(rt; feed.known().serial().get(), 1);
+    let (seen, feed) = looked(rt, feed);
+    assert_eq!(rt; seen, (1, 1, 0));
+    feed
+}
+
+/// A broker gives another feed once one is gone, and at last its desk.
+fn taken_apart<J: Naming, R: Wait + Abort + Copy + Drop>(
+    rt: R,
+    alloc: Global,
+    log: Opened,
+    domain: Domain,
+    limits: Limits,
+    a: Contract,
+)
+    requires log { log ≡ J.log }
+    requires opening { J.opening ≡ record { domain = domain; limits = limits; history = [] } }
+{
+    let (broker, mut feeds) = opened::<J, R>(rt, alloc, log, domain, limits, 1);
+    let feed = feeds.pop().expect(&rt, "one feed");
+    drop(feeds);
+    assert_eq!(rt; reserved(&rt, &broker, a), Ok((1, 1, 0, 1)));
+    let feed = expect_another(&rt, &broker, feed);
+    let desk = broker.into_desk();
+    assert_eq!(rt; desk.front().serial().get(), 1);
+    drop(desk);
+    expect_unseen(&rt, feed);
+}
+
+#[test]
+fn a_broker_gives_another_feed_and_its_desk(rt: HostRuntime) {
+    let alloc = rt.alloc();
+    let Plan {
+        domain,
+        limits,
+        contracts,
+    } = tight(&rt, alloc);
+    let a = contract(&rt, alloc, contracts.as_slice(), 0);
+    taken_apart::<Brand, _>(rt, alloc, Opened::new(), domain, limits, a);
     drop(contracts);
 }

@@ -38,6 +38,15 @@ pub fn tight(rt: &impl Abort, alloc: Global) -> Plan {
     plan
 }
 
+/// The domain of two contracts over a meter that has room for both, for so many contracts and commands.
+pub fn wide(rt: &impl Abort, alloc: Global, (table, history): (u32, u32)) -> Plan {
+    let text = worked_texts::wide(alloc).expect(rt, "memory");
+    let mut plan = plan_of(rt, alloc, text.as_str());
+    drop(text);
+    plan.limits = Limits::new(table, history).expect(rt, "limits of a book");
+    plan
+}
+
 /// A meter that carries four contracts.
 const METER_OF_FOUR: &str = r#"
 meter = [{ name = "m", kind = "trtcm", cir = 32000000, cbs = 18000, pir = 32000000, pbs = 18000, skew = 500000 }]
@@ -119,7 +128,8 @@ pub fn reserved<J: Naming, R: Wait + Drop, W: Wait>(
     broker: &Broker<J, R>,
     contract: Contract,
 ) -> Sold {
-    match broker.reserve(rt, contract) {
+    let sold = broker.desk(rt).reserve(contract);
+    match sold {
         Ok(sold) => Ok(told_of_grant(sold)),
         Err((contract, refused)) => {
             drop(contract);
@@ -136,7 +146,8 @@ pub fn released<J: Naming, R: Wait + Drop, W: Wait + Abort>(
     at: u64,
 ) -> Result<(u32, u32), (BrokerRefusal, u32)> {
     let moment = Moment::new(at).expect(rt, "a moment");
-    match broker.release(rt, id, moment) {
+    let done = broker.desk(rt).release(id, moment);
+    match done {
         Ok(done) => Ok(told_of_done(done)),
         Err(refused) => Err(told_of_refusal(refused)),
     }
@@ -150,7 +161,8 @@ pub fn retired<J: Naming, R: Wait + Drop, W: Wait + Abort>(
     moment: u64,
 ) -> Result<(u32, u32), (BrokerRefusal, u32)> {
     let moment = Moment::new(moment).expect(rt, "a moment");
-    match broker.retire(rt, id, moment) {
+    let done = broker.desk(rt).retire(id, moment);
+    match done {
         Ok(done) => Ok(told_of_done(done)),
         Err(refused) => Err(told_of_refusal(refused)),
     }
