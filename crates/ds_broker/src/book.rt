@@ -401,7 +401,8 @@ impl Book {
     {
         let end = end_of(self.table.contracts()[place].lifetime);
         let passed = u128::from(moment.get() - end);
-        self.table.hold(place).saturating_sub(passed)
+        let hold = self.table.hold(place).unwrap();
+        hold.saturating_sub(passed)
     }
 }
 

@@ -122,18 +122,14 @@ impl Accepted {
 
     /// How long the share of the contract at a place is to be held once the contract has ended, in nanoseconds: the
     /// greatest, over the hops of its path and the columns, of what delays can be up to that hop, the meter's skew, and
-    /// the time in which the column's rate gives the bound there, widened by that skew (Cruz 1991, section II). It is 0
+    /// the time in which the column's rate gives the bound there, widened by that skew (Cruz 1991, section II). None
     /// where no contract stands at that place.
-    pub fn hold(&self, index: usize) -> u128
+    pub fn hold(&self, index: usize) -> Option<u128>
         ensures { result ≡ hold_at self.now index }
     {
-        let Some(contract) = self.contracts.as_slice().get(index) else {
-            return 0;
-        };
-        let Some(bounds) = self.certificate.bounds().get(index) else {
-            return 0;
-        };
-        hold_of(&self.domain, contract, bounds.hops())
+        let contract = self.contracts.as_slice().get(index)?;
+        let bounds = self.certificate.bounds().get(index)?;
+        Some(hold_of(&self.domain, contract, bounds.hops()))
     }
 
     /// The same table again; `AllocError` where memory runs out.
@@ -146,33 +142,6 @@ impl Accepted {
             certificate: self.certificate.copy(alloc)?,
             sums: self.sums.as_slice().to_vec(alloc)?,
         })
-    }
-
-    /// Takes up one contract more, behind the others, with its bounds, where the table is acceptable with it.
-    ///
-    /// Else it hands both back, is as it was, and tells what `check` of the table with that contract would: the first
-    /// test that fails; or `NoMemory` where none does and memory runs out. It looks at the contract, at its bounds and
-    /// at the meters of its path alone.
-    pub fn admit(
-        &mut self,
-        contract: Contract,
-        bounds: Vec<Bound>,
-    ) -> Result<(), (Contract, Vec<Bound>, Refusal)>
-        ensures admitted { OnOk result (self.new ≡ with_contract self.old contract bounds.items) }
-        ensures acceptable { IsAcceptable self.new }
-        ensures unchanged { OnErr result (self.new ≡ self.old) }
-        ensures back { IfErr result (λ refused. (refused.0 ≡ contract) × (refused.1.items ≡ bounds.items)) }
-        ensures refused { IfErr result (λ refused.
-            ((refused.2 ≡ Refusal.NoMemory) × (refusal_of (with_contract self.old contract bounds.items) ≡ None))
-            ⊎ (refusal_of (with_contract self.old contract bounds.items) ≡ Some refused.2)) }
-    {
-        if let Some(refusal) = self.refusal_with(&contract, bounds.as_slice()) {
-            return Err((contract, bounds, refusal));
-        }
-        match self.take_up(contract, bounds) {
-            Ok(()) => Ok(()),
-            Err((contract, bounds)) => Err((contract, bounds, Refusal::NoMemory)),
-        }
     }
 
     /// Takes up one contract more that fits the domain, behind the others, with its least bounds, where the table is
@@ -207,7 +176,11 @@ impl Accepted {
         }
     }
 
-    /// The table with one contract more, as `admit` makes it of a copy.
+    /// The table with one contract more, behind the others, with its bounds, where it is acceptable with it.
+    ///
+    /// Else it hands both back, and tells what `check` of the table with that contract would: the first test that fails;
+    /// or `NoMemory` where none does and memory runs out. It looks at the contract, at its bounds and at the meters of
+    /// its path alone.
     pub fn with(
         &self,
         alloc: Global,
