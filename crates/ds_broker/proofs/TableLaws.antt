@@ -1,5 +1,5 @@
 -- The table of a book: with one contract more, and with none.
-use Rattle.std.proofs.Common.{◌≡◌, ◌+◌, ℕ, false, List, [], ◌∷◌, ◌++◌, None, Some, refl, sym, ap, subst, ◌∙◌, arith}
+use Rattle.std.proofs.Common.{◌≡◌, ◌+◌, ℕ, false, List, [], ◌∷◌, ◌++◌, Option, None, Some, refl, sym, ap, ◌∙◌, arith}
 use Rattle.std.specs.Prelude.{All, option_map, slice_get}
 use Rattle.std.proofs.lemmas.List.{map-append}
 use Rattle.std.proofs.lemmas.List.Elements.{All-cons, All-nil}
@@ -13,9 +13,8 @@ use Rattle.ds_checker.specs.Acceptance.{Carries, IsAcceptable, Table, refusal_of
 use Rattle.ds_checker.specs.Loads.{counted, shares_at}
 use Rattle.ds_broker.specs.Books.{Book, contracts_in, held_of, moment_in, newest_of, table_in, table_of, table_with, with_command}
 use Rattle.ds_broker.specs.Histories.{Holding, begun, beginning, ended, standing_of, with_released, with_retired}
-use Rattle.ds_broker.specs.Refusals.{IsRefusal, refusal_or_checked, reserve_refusal, room_refusal}
+use Rattle.ds_broker.specs.Refusals.{refusal_or_checked, reserve_refusal, room_refusal}
 use Rattle.ds_broker.specs.declared.command.Command.TheVariants.{Reserve}
-use Rattle.ds_broker.specs.declared.refusal.BrokerRefusal.{BrokerRefusal}
 use Rattle.ds_broker.specs.declared.refusal.BrokerRefusal.TheVariants.{Checker}
 use Rattle.ds_broker.specs.Found.{IsFirst}
 use Rattle.ds_checker.specs.Changes.{with_lifetime, without_contract}
@@ -81,7 +80,11 @@ checked-refusal b c t since none is moment =
     ∙ ap (λ x. option_map Checker (refusal_of x))
     (table-reserved b c ∙ ap (λ m. table_with m c (table_of b)) (sym moment) ∙ ap (λ x. table_with since c x) (sym is))
 
--- and a refusal by what the checker has against it is one of the reserve
-pub refused-checked : (b : Book) (c : Contract) (t : Table) (since : ℕ) (refusal : BrokerRefusal) → room_refusal b c ≡ None → t ≡ table_of b → since ≡ moment_in b c.lifetime.since
-    → IsRefusal (option_map Checker (refusal_of (table_with since c t))) refusal → IsRefusal (reserve_refusal b c) refusal
-refused-checked b c t since refusal none is moment refused = subst (λ o. IsRefusal o refusal) (sym (checked-refusal b c t since none is moment)) refused
+none-by : {A B : Type 0} (f : A → B) (o : Option A) → option_map f o ≡ None → o ≡ None
+none-by f None is = refl
+none-by f (Some x) is = absurd (cc (is))
+
+-- where nothing stands against the reserve, the checker has nothing against it
+pub unrefused-checked : (b : Book) (c : Contract) (t : Table) (since : ℕ) → room_refusal b c ≡ None → t ≡ table_of b → since ≡ moment_in b c.lifetime.since
+    → reserve_refusal b c ≡ None → refusal_of (table_with since c t) ≡ None
+unrefused-checked b c t since none is moment unrefused = none-by Checker (refusal_of (table_with since c t)) (sym (checked-refusal b c t since none is moment) ∙ unrefused)

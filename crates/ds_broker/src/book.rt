@@ -120,7 +120,7 @@ impl Book {
         ensures refused { IfErr result (λ refused. IsRefusal (reserve_refusal self.old contract) refused.1) }
         ensures unchanged { OnErr result (self.new ≡ self.old) }
     {
-        if let Some(refusal) = self.room_refusal(&contract) {
+        if let Some(refusal) = self.refusal_against(&contract) {
             return Err((contract, refusal));
         }
         let serial = self.next_serial();
@@ -131,13 +131,12 @@ impl Book {
             &mut self.names,
             &mut self.history,
         ) else {
-            let refusal = wanting(&self.table, &contract);
-            return Err((contract, refusal));
+            return Err((contract, BrokerRefusal::NoMemory));
         };
         let alloc = *self.ids.allocator();
-        if let Err(refusal) = admit(alloc, &mut self.table, &contract, since) {
-            return Err((contract, refusal));
-        }
+        let Ok(()) = take(alloc, &mut self.table, &contract, since) else {
+            return Err((contract, BrokerRefusal::NoMemory));
+        };
         let id = self.granted + 1;
         self.ids.push(id).unwrap();
         self.released.push(false).unwrap();
@@ -298,6 +297,21 @@ impl Book {
             Some(BrokerRefusal::HistoryFull)
         } else {
             None
+        }
+    }
+
+    /// What stands against a contract that is to be reserved. It takes no memory.
+    fn refusal_against(&self, contract: &Contract) -> Option<BrokerRefusal>
+        ensures value { result ≡ reserve_refusal self.now contract.now }
+        ensures unrefused { IfNone result (room_refusal self.now contract.now ≡ None) }
+        ensures room { IfNone result (length self.now.history < 65536) }
+    {
+        if let Some(refusal) = self.room_refusal(contract) {
+            return Some(refusal);
+        }
+        match self.table.refusal_with_least(contract) {
+            Some(refusal) => Some(BrokerRefusal::Checker(refusal)),
+            None => None,
         }
     }
 
@@ -505,41 +519,21 @@ fn begun(alloc: Global, contract: &Contract, since: Moment) -> Result<Contract, 
     Ok(begun)
 }
 
-/// Why a contract is refused that finds no memory: what the checker has against it, or want of memory where that is
-/// nothing. It takes no memory.
-fn wanting(table: &Accepted, contract: &Contract) -> BrokerRefusal
-    requires { IsTrue (fits table.now.domain contract.now) }
-    ensures { (since : ℕ) → IsRefusal
-        (option_map BrokerRefusal.Checker (refusal_of (table_with since contract.now table.now))) result }
-{
-    match table.refusal_with_least(contract) {
-        Some(refusal) => BrokerRefusal::Checker(refusal),
-        None => BrokerRefusal::NoMemory,
-    }
-}
-
-/// Takes a contract up in a table, to begin at a moment, with its least bounds. The table is unchanged where it is
-/// refused: by the checker, or where memory runs out.
-fn admit(
+/// Takes a contract up in a table, to begin at a moment, with its least bounds, where nothing stands against that;
+/// `AllocError` where memory runs out, and then the table is unchanged.
+fn take(
     alloc: Global,
     table: &mut Accepted,
     contract: &Contract,
     since: Moment,
-) -> Result<(), BrokerRefusal>
+) -> Result<(), AllocError>
     requires fit { IsTrue (fits table.old.domain contract.now) }
     requires order { IsInOrder since contract.now.lifetime.until }
-    ensures admitted { OnOk result (table.new ≡ table_with since contract.now table.old) }
+    requires unrefused { refusal_of (table_with since contract.now table.old) ≡ None }
+    ensures taken { OnOk result (table.new ≡ table_with since contract.now table.old) }
     ensures acceptable { OnOk result (IsAcceptable table.new) }
-    ensures unrefused { OnOk result (refusal_of (table_with since contract.now table.old) ≡ None) }
     ensures unchanged { OnErr result (table.new ≡ table.old) }
-    ensures refused { IfErr result (λ refusal. IsRefusal
-        (option_map BrokerRefusal.Checker (refusal_of (table_with since contract.now table.old))) refusal) }
 {
-    let Ok(begun) = begun(alloc, contract, since) else {
-        return Err(wanting(table, contract));
-    };
-    match table.admit_least(alloc, begun) {
-        Ok(()) => Ok(()),
-        Err((_contract, refusal)) => Err(BrokerRefusal::from(refusal)),
-    }
+    let begun = begun(alloc, contract, since)?;
+    table.take_least(alloc, begun)
 }

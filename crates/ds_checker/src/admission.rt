@@ -100,6 +100,7 @@ fn least_path_refusal(
     let mut bound = entering(source);
     for to in path {
         bound = delayed(source, domain.jitter(from, *to), bound);
+        from = *to;
         let share = Share {
             source: *source,
             bound,
@@ -109,7 +110,6 @@ fn least_path_refusal(
             let loads = sums[place].with(&share);
             first = earlier(first, place, place_refusal(domain, place, &loads));
         }
-        from = *to;
     }
     let (_, refusal) = first?;
     Some(refusal)

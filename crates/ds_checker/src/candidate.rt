@@ -144,35 +144,21 @@ impl Accepted {
         })
     }
 
-    /// Takes up one contract more that fits the domain, behind the others, with its least bounds, where the table is
-    /// acceptable with it. Nothing can stand against such bounds, so it looks at the meters of the contract's path alone.
-    ///
-    /// Else it hands the contract back, is as it was, and tells the first test that fails; or `NoMemory` where none does
-    /// and memory runs out.
-    pub fn admit_least(
-        &mut self,
-        alloc: Global,
-        contract: Contract,
-    ) -> Result<(), (Contract, Refusal)>
-        requires { IsTrue (fits self.old.domain contract) }
-        ensures admitted { OnOk result
+    /// Takes up one contract more that fits the domain, behind the others, with its least bounds, where nothing stands
+    /// against the table with it, as `refusal_with_least` tells; `AllocError` where memory runs out, and then it is as
+    /// it was.
+    pub fn take_least(&mut self, alloc: Global, contract: Contract) -> Result<(), AllocError>
+        requires fit { IsTrue (fits self.old.domain contract) }
+        requires unrefused { refusal_of (with_contract self.old contract (least_of self.old.domain contract)) ≡ None }
+        ensures taken { OnOk result
             (self.new ≡ with_contract self.old contract (least_of self.old.domain contract)) }
         ensures acceptable { IsAcceptable self.new }
         ensures unchanged { OnErr result (self.new ≡ self.old) }
-        ensures back { IfErr result (λ refused. refused.0 ≡ contract) }
-        ensures refused { IfErr result (λ refused.
-            let larger = with_contract self.old contract (least_of self.old.domain contract) in
-            ((refused.1 ≡ Refusal.NoMemory) × (refusal_of larger ≡ None)) ⊎ (refusal_of larger ≡ Some refused.1)) }
     {
-        if let Some(refusal) = self.refusal_with_least(&contract) {
-            return Err((contract, refusal));
-        }
-        let Ok(bounds) = least_bounds(alloc, self.domain(), &contract) else {
-            return Err((contract, Refusal::NoMemory));
-        };
+        let bounds = least_bounds(alloc, self.domain(), &contract)?;
         match self.take_up(contract, bounds) {
             Ok(()) => Ok(()),
-            Err((contract, _)) => Err((contract, Refusal::NoMemory)),
+            Err(_back) => Err(AllocError),
         }
     }
 

@@ -4,7 +4,7 @@ ghost use Rattle.ds_broker.specs.Books.{table_of, with_command};
 ghost use Rattle.ds_broker.specs.Entries.{flows_of, next_serial};
 ghost use Rattle.ds_broker.specs.Refusals.{IsRefusal, refusal_in};
 
-use super::{Book, admit, wanting};
+use super::{Book, take};
 use crate::command::Command;
 use crate::entry::Serial;
 use crate::refusal::BrokerRefusal;
@@ -55,17 +55,17 @@ impl Book {
         ensures unrefused { OnOk result (refusal_in self.now (Reserve contract.now) ≡ None) }
         ensures refused { IfErr result (λ refusal. IsRefusal (refusal_in self.now (Reserve contract.now)) refusal) }
     {
-        if let Some(refusal) = self.room_refusal(contract) {
+        if let Some(refusal) = self.refusal_against(contract) {
             return Err(refusal);
         }
         let serial = self.next_serial();
         let since = self.moment_of(contract.lifetime.since());
         let Ok(mut table) = self.table.copy(alloc) else {
-            return Err(wanting(&self.table, contract));
+            return Err(BrokerRefusal::NoMemory);
         };
-        if let Err(refusal) = admit(alloc, &mut table, contract, since) {
-            return Err(refusal);
-        }
+        let Ok(()) = take(alloc, &mut table, contract, since) else {
+            return Err(BrokerRefusal::NoMemory);
+        };
         let Ok(mut flows) = flows(alloc, self.ids.as_slice()) else {
             return Err(BrokerRefusal::NoMemory);
         };

@@ -15,7 +15,7 @@ abbrev pub invariant-loop-to : goal.invariant-loop-to
 invariant-loop-to l =
     let path = drop l.to-index l.path in
     let bounds = least_behind l.source (jitters_along l.domain l.from path) l.bound in
-    let whole = least_behind l.source (jitters_along l.domain l.port l.path) (entering l.source) in
+    let whole = least_behind l.source (jitters_along l.domain l.fn.port l.path) (entering l.source) in
     let meters = l.domain.meters in
     record {
       value : earlier l.first (first_at 0 (answers meters (with_brought (brought_along l.source l.has_peak path bounds) (keys_of meters) l.sums)))
