@@ -86,16 +86,17 @@ contract-placed i b view kept contracts is place h other at =
     ap (λ cs. slice_index_or cs place other) (is ∙ ap (λ t. t.contracts) kept.table)
     ∙ looked-at (λ g. g.contract) (held_in i) place h other (ap (λ x. slice_get (held_of x) place) view ∙ at)
 
-hold-at : (d : Domain) (held : List Holding) (place : ℕ) (h : Holding) → slice_get held place ≡ Some h → hold_at (table_in d held) place ≡ hold_of d h.contract (least_of d h.contract)
+hold-at : (d : Domain) (held : List Holding) (place : ℕ) (h : Holding) → slice_get held place ≡ Some h
+    → hold_at (table_in d held) place ≡ Some (hold_of d h.contract (least_of d h.contract))
 hold-at d held place h at =
     rw (slice_get-map (least_of d) (map (λ g. g.contract) held) place, slice_get-map (λ g. g.contract) held place, at) refl
 
 -- and its hold is that of its least bounds
 pub hold-placed : (i : book.Inside) (b : Book) → book_of i ≡ b → IsBook i → (place : ℕ) (h : Holding) → slice_get (held_of b) place ≡ Some h
-    → hold_at i.table place ≡ hold_of b.domain h.contract (least_of b.domain h.contract)
+    → hold_at i.table place ≡ Some (hold_of b.domain h.contract (least_of b.domain h.contract))
 hold-placed i b view kept place h at =
     ap (λ t. hold_at t place) kept.table ∙ hold-at i.table.domain (held_in i) place h (ap (λ x. slice_get (held_of x) place) view ∙ at)
-    ∙ ap (λ x. hold_of x.domain h.contract (least_of x.domain h.contract)) view
+    ∙ ap (λ x. Some (hold_of x.domain h.contract (least_of x.domain h.contract))) view
 
 -- what is left until an end and a hold behind it, counted from the end
 pub left-of : (hold passed moment end : ℕ) → passed ≡ moment - end → end ≤ moment → hold - passed ≡ (end + hold) - moment

@@ -1,5 +1,5 @@
 -- The table of a book: with one contract more, and with none.
-use Rattle.std.proofs.Common.{◌≡◌, ◌+◌, ℕ, false, List, [], ◌∷◌, ◌++◌, None, Some, refl, sym, ap, ◌∙◌, arith}
+use Rattle.std.proofs.Common.{◌≡◌, ◌+◌, ℕ, false, List, [], ◌∷◌, ◌++◌, Option, None, Some, refl, sym, ap, ◌∙◌, arith}
 use Rattle.std.specs.Prelude.{All, option_map, slice_get}
 use Rattle.std.proofs.lemmas.List.{map-append}
 use Rattle.std.proofs.lemmas.List.Elements.{All-cons, All-nil}
@@ -79,3 +79,12 @@ checked-refusal b c t since none is moment =
     ap (λ o. refusal_or_checked o b c) none
     ∙ ap (λ x. option_map Checker (refusal_of x))
     (table-reserved b c ∙ ap (λ m. table_with m c (table_of b)) (sym moment) ∙ ap (λ x. table_with since c x) (sym is))
+
+none-by : {A B : Type 0} (f : A → B) (o : Option A) → option_map f o ≡ None → o ≡ None
+none-by f None is = refl
+none-by f (Some x) is = absurd (cc (is))
+
+-- where nothing stands against the reserve, the checker has nothing against it
+pub unrefused-checked : (b : Book) (c : Contract) (t : Table) (since : ℕ) → room_refusal b c ≡ None → t ≡ table_of b → since ≡ moment_in b c.lifetime.since
+    → reserve_refusal b c ≡ None → refusal_of (table_with since c t) ≡ None
+unrefused-checked b c t since none is moment unrefused = none-by Checker (refusal_of (table_with since c t)) (sym (checked-refusal b c t since none is moment) ∙ unrefused)

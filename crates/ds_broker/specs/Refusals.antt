@@ -1,5 +1,5 @@
 -- Why a broker's book refuses a command, memory aside: the first that stands against it.
-use Rattle.std.specs.Prelude.{ℕ, Bool, false, ◌+◌, ◌-◌, nat_lt, option_map, Option, None, Some, unwrap_or}
+use Rattle.std.specs.Prelude.{◌≡◌, ◌⊎◌, ℕ, Bool, false, ◌+◌, ◌-◌, nat_lt, option_map, Option, None, Some, unwrap_or}
 use Rattle.std.specs.Prelude.{if◌then◌else◌}
 use Rattle.ds_domain_base.specs.Domains.{Domain}
 use Rattle.ds_domain_base.specs.Faults.{fault_at}
@@ -104,3 +104,7 @@ abbrev pub refusal_in : Book → Command → Option BrokerRefusal
 refusal_in b (Reserve contract) = reserve_refusal b contract
 refusal_in b (Release id at) = release_refusal b id
 refusal_in b (Retire id moment) = retire_refusal b id moment
+
+-- a refusal, where this stands against what was asked: just that, or want of memory where nothing does
+abbrev pub IsRefusal : Option BrokerRefusal → BrokerRefusal → Type 0
+IsRefusal standing refusal = ((refusal ≡ refusals.NoMemory) × (standing ≡ None)) ⊎ (standing ≡ Some refusal)

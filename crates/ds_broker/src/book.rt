@@ -15,7 +15,7 @@ ghost use Rattle.ds_broker.specs.Books.{table_of, table_with, with_command};
 ghost use Rattle.ds_broker.specs.Entries.{entries_of, entry_in, grant_of, next_serial, room_of, told_of};
 ghost use Rattle.ds_broker.specs.Found.{IsFound};
 ghost use Rattle.ds_broker.specs.Histories.{Holding, beginning, end_by, ended};
-ghost use Rattle.ds_broker.specs.Refusals.{contract_fault, ends_early, free_from, release_refusal};
+ghost use Rattle.ds_broker.specs.Refusals.{IsRefusal, contract_fault, ends_early, free_from, release_refusal};
 ghost use Rattle.ds_broker.specs.Refusals.{reserve_refusal, retire_refusal, room_refusal};
 
 use crate::command::Command;
@@ -111,17 +111,16 @@ impl Book {
     /// Refused, with the contract handed back and the book unchanged, for the first of these: `Contract` where it has a
     /// fault (section `contract`, index 0: `Twice` where the book holds a contract of its name, then `Range` where it
     /// would end before it begins, then what `fits` finds), `TableFull`, `HistoryFull`, `Checker` where the table with
-    /// it is refused. `NoMemory` where memory runs out.
+    /// it is refused. `NoMemory` where none of these is met and memory runs out.
     pub fn reserve(&mut self, contract: Contract) -> Result<Grant, (Contract, BrokerRefusal)>
         ensures granted { IfOk result (λ grant. grant ≡ grant_of self.old contract) }
         ensures accepted { OnOk result (self.new ≡ with_command self.old (Reserve contract)) }
         ensures unrefused { OnOk result (reserve_refusal self.old contract ≡ None) }
         ensures back { IfErr result (λ refused. refused.0 ≡ contract) }
-        ensures refused { IfErr result
-            (λ refused. (refused.1 ≡ NoMemory) ⊎ (reserve_refusal self.old contract ≡ Some refused.1)) }
+        ensures refused { IfErr result (λ refused. IsRefusal (reserve_refusal self.old contract) refused.1) }
         ensures unchanged { OnErr result (self.new ≡ self.old) }
     {
-        if let Some(refusal) = self.room_refusal(&contract) {
+        if let Some(refusal) = self.refusal_against(&contract) {
             return Err((contract, refusal));
         }
         let serial = self.next_serial();
@@ -135,9 +134,9 @@ impl Book {
             return Err((contract, BrokerRefusal::NoMemory));
         };
         let alloc = *self.ids.allocator();
-        if let Err(refusal) = admit(alloc, &mut self.table, &contract, since) {
-            return Err((contract, refusal));
-        }
+        let Ok(()) = take(alloc, &mut self.table, &contract, since) else {
+            return Err((contract, BrokerRefusal::NoMemory));
+        };
         let id = self.granted + 1;
         self.ids.push(id).unwrap();
         self.released.push(false).unwrap();
@@ -152,13 +151,12 @@ impl Book {
     /// An earlier end stays.
     ///
     /// Refused, and unchanged, for the first of these: `UnknownId`, `AlreadyReleased`, `HistoryFull`. `NoMemory` where
-    /// memory runs out.
+    /// none of these is met and memory runs out.
     pub fn release(&mut self, id: u32, at: Moment) -> Result<Serial, BrokerRefusal>
         ensures released { IfOk result (λ serial. serial ≡ next_serial self.old) }
         ensures accepted { OnOk result (self.new ≡ with_command self.old (Release id at)) }
         ensures unrefused { OnOk result (release_refusal self.old id ≡ None) }
-        ensures refused { IfErr result
-            (λ refusal. (refusal ≡ NoMemory) ⊎ (release_refusal self.old id ≡ Some refusal)) }
+        ensures refused { IfErr result (λ refusal. IsRefusal (release_refusal self.old id) refusal) }
         ensures unchanged { OnErr result (self.new ≡ self.old) }
     {
         let place = self.releasable(id)?;
@@ -179,13 +177,12 @@ impl Book {
     /// greatest moment of all accepted commands where that is later. From then on its id is unknown, and its name free.
     ///
     /// Refused, and unchanged, for the first of these: `UnknownId`, `NotReleased`, `HistoryFull`, `HoldLeft` with what
-    /// is left of the hold, in nanoseconds. `NoMemory` where memory runs out.
+    /// is left of the hold, in nanoseconds. `NoMemory` where none of these is met and memory runs out.
     pub fn retire(&mut self, id: u32, moment: Moment) -> Result<Serial, BrokerRefusal>
         ensures retired { IfOk result (λ serial. serial ≡ next_serial self.old) }
         ensures accepted { OnOk result (self.new ≡ with_command self.old (Retire id moment)) }
         ensures unrefused { OnOk result (retire_refusal self.old id moment ≡ None) }
-        ensures refused { IfErr result
-            (λ refusal. (refusal ≡ NoMemory) ⊎ (retire_refusal self.old id moment ≡ Some refusal)) }
+        ensures refused { IfErr result (λ refusal. IsRefusal (retire_refusal self.old id moment) refusal) }
         ensures unchanged { OnErr result (self.new ≡ self.old) }
     {
         let place = self.retirable(id, moment)?;
@@ -303,6 +300,21 @@ impl Book {
         }
     }
 
+    /// What stands against a contract that is to be reserved. It takes no memory.
+    fn refusal_against(&self, contract: &Contract) -> Option<BrokerRefusal>
+        ensures value { result ≡ reserve_refusal self.now contract.now }
+        ensures unrefused { IfNone result (room_refusal self.now contract.now ≡ None) }
+        ensures room { IfNone result (length self.now.history < 65536) }
+    {
+        if let Some(refusal) = self.room_refusal(contract) {
+            return Some(refusal);
+        }
+        match self.table.refusal_with_least(contract) {
+            Some(refusal) => Some(BrokerRefusal::Checker(refusal)),
+            None => None,
+        }
+    }
+
     /// What is wrong with a contract that is to be reserved.
     fn contract_fault(&self, contract: &Contract) -> Option<DomainFault>
         ensures { result ≡ contract_fault self.now contract.now }
@@ -403,7 +415,8 @@ impl Book {
     {
         let end = end_of(self.table.contracts()[place].lifetime);
         let passed = u128::from(moment.get() - end);
-        self.table.hold(place).saturating_sub(passed)
+        let hold = self.table.hold(place).unwrap();
+        hold.saturating_sub(passed)
     }
 }
 
@@ -506,28 +519,21 @@ fn begun(alloc: Global, contract: &Contract, since: Moment) -> Result<Contract, 
     Ok(begun)
 }
 
-/// Takes a contract up in a table, to begin at a moment, with its least bounds. The table is unchanged where it is
-/// refused: by the checker, or where memory runs out.
-fn admit(
+/// Takes a contract up in a table, to begin at a moment, with its least bounds, where nothing stands against that;
+/// `AllocError` where memory runs out, and then the table is unchanged.
+fn take(
     alloc: Global,
     table: &mut Accepted,
     contract: &Contract,
     since: Moment,
-) -> Result<(), BrokerRefusal>
+) -> Result<(), AllocError>
     requires fit { IsTrue (fits table.old.domain contract.now) }
     requires order { IsInOrder since contract.now.lifetime.until }
-    ensures admitted { OnOk result (table.new ≡ table_with since contract.now table.old) }
+    requires unrefused { refusal_of (table_with since contract.now table.old) ≡ None }
+    ensures taken { OnOk result (table.new ≡ table_with since contract.now table.old) }
     ensures acceptable { OnOk result (IsAcceptable table.new) }
-    ensures unrefused { OnOk result (refusal_of (table_with since contract.now table.old) ≡ None) }
     ensures unchanged { OnErr result (table.new ≡ table.old) }
-    ensures refused { IfErr result (λ refusal. (refusal ≡ BrokerRefusal.NoMemory)
-        ⊎ (option_map BrokerRefusal.Checker (refusal_of (table_with since contract.now table.old)) ≡ Some refusal)) }
 {
-    let Ok(begun) = begun(alloc, contract, since) else {
-        return Err(BrokerRefusal::NoMemory);
-    };
-    match table.admit_least(alloc, begun) {
-        Ok(()) => Ok(()),
-        Err((_contract, refusal)) => Err(BrokerRefusal::from(refusal)),
-    }
+    let begun = begun(alloc, contract, since)?;
+    table.take_least(alloc, begun)
 }

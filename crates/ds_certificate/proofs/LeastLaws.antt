@@ -115,6 +115,16 @@ pub least_behind-ended : (done : List Bound) (s : Source) (d : Domain) (from : L
 unfolding least_behind jitters_along
 least_behind-ended done s d from last = search rules
 
+-- the bound behind one link, and those behind the others
+pub least_behind-next : (s : Source) (d : Domain) (from to : List ℕ) (xs rest : List (List ℕ)) (jitter : ℕ) (last next : Bound)
+    → xs ≡ to ∷ rest → jitter ≡ jitter_of (link_of d from to) → next ≡ delayed s jitter last
+    → least_behind s (jitters_along d from xs) last ≡ next ∷ least_behind s (jitters_along d to rest) next
+unfolding least_behind jitters_along
+least_behind-next s d from to xs rest jitter last next is_path is_jitter is_next =
+    let is_delayed : next ≡ delayed s (jitter_of (link_of d from to)) last = is_next ∙ ap (λ j. delayed s j last) is_jitter in
+    ap (λ p. least_behind s (jitters_along d from p) last) is_path
+    ∙ sym (ap (λ b. b ∷ least_behind s (jitters_along d to rest) b) is_delayed)
+
 pub link_kept : (done more : List Bound) (s : Source) (d : Domain) (from to : List ℕ) (path : List (List ℕ)) (i jitter : ℕ) (last next : Bound) (whole : List Bound)
     → i < length path → to ≡ get_or path i to → jitter ≡ jitter_of (link_of d from to) → next ≡ delayed s jitter last → more ≡ done ++ next ∷ []
     → done ++ least_behind s (jitters_along d from (drop i path)) last ≡ whole → more ++ least_behind s (jitters_along d to (drop (i + 1) path)) next ≡ whole

@@ -22,7 +22,7 @@ use std::alloc::{AllocError, Global};
 /// gives over the jitter of the link between, a begun byte counted whole (Cruz 1991, section II). No bound leaves its
 /// range.
 ///
-/// Refused: `Shape` where a contract does not fit the domain, `NoMemory` where memory runs out.
+/// Refused: `Shape` where a contract does not fit the domain, and else `NoMemory` where memory runs out.
 pub fn make(
     alloc: Global,
     domain: &Domain,
@@ -32,12 +32,35 @@ pub fn make(
     ensures meets { IfOk result (λ certificate. IsCertificate domain.now contracts.now certificate) }
     ensures least { IfOk result (λ certificate. (other : List (List columns.Bound)) →
         IsCertificate domain.now contracts.now other → AreAtMost certificate other) }
-    ensures refused { IfErr result (λ fault. (fault ≡ CertificateFault.NoMemory)
+    ensures refused { IfErr result (λ fault.
+        ((fault ≡ CertificateFault.NoMemory) × (list_all (fits domain.now) contracts.now ≡ true))
         ⊎ ((fault ≡ CertificateFault.Shape) × (list_all (fits domain.now) contracts.now ≡ false))) }
+{
+    if !are_fit(domain, contracts) {
+        return Err(CertificateFault::Shape);
+    }
+    Ok(least_rows(alloc, domain, contracts)?)
+}
+
+/// Whether each of some contracts fits a domain.
+fn are_fit(domain: &Domain, contracts: &[Contract]) -> bool
+    ensures { result ≡ list_all (fits domain.now) contracts.now }
+{
+    contracts.iter().all(|contract| is_fit(domain, contract))
+}
+
+/// The least certificate of contracts that fit a domain; `AllocError` where memory runs out.
+fn least_rows(
+    alloc: Global,
+    domain: &Domain,
+    contracts: &[Contract],
+) -> Result<Certificate, AllocError>
+    requires { list_all (fits domain.now) contracts.now ≡ true }
+    ensures { IfOk result (λ certificate. certificate ≡ least domain.now contracts.now) }
 {
     let mut bounds = Vec::with_capacity(alloc, contracts.len())?;
     for contract in contracts {
-        let hops = bounds_of(alloc, domain, contract)?;
+        let hops = least_bounds(alloc, domain, contract)?;
         bounds.push(Bounds::new(alloc, hops)?)?;
     }
     Ok(Certificate::new(bounds))
@@ -101,8 +124,8 @@ pub fn least_bounds(
     Ok(hops)
 }
 
-/// The least first bound of traffic: the bursts that it enters with.
-fn entering(source: &Source) -> Bound
+/// The least first bound of traffic: the bursts that it enters with, each at most 5 * 10^13 bytes.
+pub fn entering(source: &Source) -> Bound
     requires { IsModerate source.now }
     ensures value { result ≡ entering source.now }
     ensures range { IsWithin (5 * 10 ^ 13) result }
@@ -115,8 +138,9 @@ fn entering(source: &Source) -> Bound
     .unwrap()
 }
 
-/// The least bound behind a link of a jitter.
-fn delayed(source: &Source, jitter: Gap, before: Bound) -> Bound
+/// The least bound behind a link of a jitter of at most 10^10 nanoseconds, of the bound before it: larger in each column by
+/// what the rate gives over the jitter, a begun byte counted whole (Cruz 1991, section II).
+pub fn delayed(source: &Source, jitter: Gap, before: Bound) -> Bound
     requires moderate { IsModerate source.now }
     requires jitter { jitter ≤ 10 ^ 10 }
     requires before { IsWithin (9 * 10 ^ 14) before }

@@ -16,6 +16,7 @@ use Rattle.ds_domain_base.specs.Parameters.TheVariants.{SrTcm, TrTcm, Rfc4115}
 use Rattle.moment_core.specs.declared.column.Column.TheVariants.{Green, Excess}
 use Rattle.moment_core.specs.declared.column.Column.TheVariants as columns
 use Rattle.ds_domain_base.specs.Domains.{Domain}
+use Rattle.ds_domain_base.specs.Lifetimes.{Span}
 use Rattle.ds_domain_base.specs.declared.contract.Contract.{Contract}
 use Rattle.ds_domain_base.specs.declared.parts.Meter.{Meter}
 use Rattle.ds_certificate.specs.Bounds.{HasShape, IsCertificate, Meets, MeetsIn, fits, least_of}
@@ -25,7 +26,7 @@ use Rattle.ds_certificate.specs.Columns.{Bound}
 use Rattle.ds_certificate.specs.Sources.{jitters_of, source_of}
 use Rattle.ds_checker.specs.Acceptance.{Carries, IsAcceptable, IsWithin, Table, refusal_behind, refusal_of}
 use Rattle.ds_checker.specs.BoundTests.{bound_tests, misfit, tests_along}
-use Rattle.ds_checker.specs.Changes.{is_on, own_refusal, with_contract, without_contract}
+use Rattle.ds_checker.specs.Changes.{is_on, lasting, own_refusal, with_contract, without_contract}
 use Rattle.ds_domain_base.specs.Sent.{has_peak}
 use Rattle.ds_checker.specs.Loads.{Share, bound_into, kept, share_of, shares_at}
 use Rattle.ds_checker.specs.Sums.{AreBelow, AreSmall, IsBefore, IsKept, IsPart, IsSmall, IsSound, counted_load, loads_of, no_loads, nothing, plus, sums_of, sums_tests, with_brought, with_share}
@@ -459,6 +460,17 @@ refused-least d contracts rows sums own self c bounds found sound is_self is_own
     let none : first_failed (tests_along (length contracts) (source_of d c) (jitters_of d c) bounds) ≡ None =
     met_by (length contracts) (source_of d c) (jitters_of d c) bounds (in_column (λ k. MeetsIn k (source_of d c) (jitters_of d c) bounds) met) in
     refused-shaped d contracts rows sums own self c bounds bounds (length contracts) true None found sound is_self refl is_own refl (sym (has_shape d c bounds shape)) refl (sym none) is_found
+
+-- whenever it begins and ends
+pub refused-lasting : (d : Domain) (contracts : List Contract) (rows : List (List Bound)) (sums own : List Loads) (self : Table) (c : Contract) (lifetime : Span) (found : Option Refusal)
+    → IsSound (table d contracts rows) sums → table d contracts rows ≡ self → own ≡ sums → IsTrue (fits d c)
+    → found ≡ first_failed (sums_tests d.meters (with_brought (λ name. share_of d name c (least_of d c)) (keys_of d.meters) own))
+    → found ≡ refusal_of (with_contract self (lasting lifetime c) (least_of self.domain (lasting lifetime c)))
+unfolding source_of
+refused-lasting d contracts rows sums own self c lifetime found sound is_self is_own fit is_found =
+    let other = lasting lifetime c in
+    refused-least d contracts rows sums own self other (least_of d other) found sound is_self is_own fit refl is_found
+    ∙ ap (λ (t : Table). refusal_of (with_contract self other (least_of t.domain other))) is_self
 
 pub found_by_bounds : (d : Domain) (contracts : List Contract) (rows : List (List Bound)) (sums : List Loads) (self : Table) (c : Contract) (bounds : List Bound) (number : ℕ) (answer : Bool)
     (refusal : Option Refusal) → IsSound (table d contracts rows) sums → table d contracts rows ≡ self → number ≡ length contracts

@@ -5,7 +5,7 @@ use Rattle.std.specs.Option.{option_or}
 use Rattle.std.specs.Str.{bytes_eq}
 use Rattle.std.proofs.lemmas.Bool.Decides.{nat_tests}
 use Rattle.std.proofs.lemmas.Slice.Eq.{bytes_eq-Decides}
-use Rattle.std.proofs.lemmas.List.{get_or-set_same, length-set, set-get_or, set-set}
+use Rattle.std.proofs.lemmas.List.{drop_more, get_or-set_same, length-set, set-get_or, set-set}
 use Rattle.std.proofs.lemmas.List.Quantifiers.{position-Some}
 use Rattle.std.proofs.lemmas.Map.Entries.{length-keys_of}
 use Rattle.std.specs.Map.{keys_of}
@@ -319,6 +319,10 @@ zero_plus n = omega arith
 entry_of : (meters : List (List ℕ × Meter)) → 0 < length meters → List ℕ × Meter
 entry_of [] some = absurd (omega (arith, some))
 entry_of (entry ∷ meters) some = entry
+
+-- what is left of a path begins with the name at its place
+pub path_on : (path : List (List ℕ)) (i : ℕ) (to : List ℕ) → i < length path → to ≡ get_or path i to → drop i path ≡ to ∷ drop (i + 1) path
+path_on path i to inside is_to = drop_more path i to inside ∙ ap (λ name. name ∷ drop (i + 1) path) (sym is_to)
 
 pub found-hop : (source : Source) (has_peak : Bool) (xs path : List (List ℕ)) (to : List ℕ) (ys bounds : List Bound) (b : Bound) (meters : List (List ℕ × Meter)) (loads : List Loads)
     (i : ℕ) (l new : Loads) (refusal : Option Refusal) (first next whole : Option (ℕ × Refusal))

@@ -50,10 +50,10 @@ greatest (n ∷ numbers) = max n (greatest numbers)
 abbrev pub hold_of : Domain → Contract → List Bound → ℕ
 hold_of d c bounds = greatest (holds_of d c bounds)
 
--- the hold of the contract at a place
-abbrev pub hold_by : Domain → Option Contract → Option (List Bound) → ℕ
-hold_by d (Some c) (Some bounds) = hold_of d c bounds
-hold_by d c bounds = 0
+-- the hold of the contract at a place, if one stands there
+abbrev pub hold_by : Domain → Option Contract → Option (List Bound) → Option ℕ
+hold_by d (Some c) (Some bounds) = Some (hold_of d c bounds)
+hold_by d c bounds = None
 
-abbrev pub hold_at : Table → ℕ → ℕ
+abbrev pub hold_at : Table → ℕ → Option ℕ
 hold_at t index = hold_by t.domain (slice_get t.contracts index) (slice_get t.certificate index)

@@ -1,11 +1,12 @@
 ghost use Rattle.std.specs.Prelude.{◌≡◌, ◌<◌, ◌⊎◌, None, Some, IfOk, IfErr, IsTrue, OnErr, OnOk, length, slice_get};
 ghost use Rattle.ds_certificate.specs.Bounds.{fits, least_of};
 ghost use Rattle.ds_checker.specs.Acceptance.{IsAcceptable, refusal_of, table_of};
-ghost use Rattle.ds_checker.specs.Changes.{with_contract, with_lifetime, without_contract};
+ghost use Rattle.ds_domain_base.specs.Lifetimes.{Span};
+ghost use Rattle.ds_checker.specs.Changes.{lasting, with_contract, with_lifetime, without_contract};
 ghost use Rattle.ds_checker.specs.Holds.{hold_at};
 ghost use Rattle.ds_checker.specs.Sums.{IsKept};
 
-use crate::admission::contract_refusal_at_meters;
+use crate::admission::{contract_refusal_at_meters, least_refusal_at_meters};
 use crate::bounds::{contract_refusal, has_shape};
 use crate::hold::hold_of;
 use crate::load::Loads;
@@ -121,18 +122,14 @@ impl Accepted {
 
     /// How long the share of the contract at a place is to be held once the contract has ended, in nanoseconds: the
     /// greatest, over the hops of its path and the columns, of what delays can be up to that hop, the meter's skew, and
-    /// the time in which the column's rate gives the bound there, widened by that skew (Cruz 1991, section II). It is 0
+    /// the time in which the column's rate gives the bound there, widened by that skew (Cruz 1991, section II). None
     /// where no contract stands at that place.
-    pub fn hold(&self, index: usize) -> u128
+    pub fn hold(&self, index: usize) -> Option<u128>
         ensures { result ≡ hold_at self.now index }
     {
-        let Some(contract) = self.contracts.as_slice().get(index) else {
-            return 0;
-        };
-        let Some(bounds) = self.certificate.bounds().get(index) else {
-            return 0;
-        };
-        hold_of(&self.domain, contract, bounds.hops())
+        let contract = self.contracts.as_slice().get(index)?;
+        let bounds = self.certificate.bounds().get(index)?;
+        Some(hold_of(&self.domain, contract, bounds.hops()))
     }
 
     /// The same table again; `AllocError` where memory runs out.
@@ -147,65 +144,29 @@ impl Accepted {
         })
     }
 
-    /// Takes up one contract more, behind the others, with its bounds, where the table is acceptable with it.
-    ///
-    /// Else it hands both back, is as it was, and tells what `check` of the table with that contract would: the first
-    /// test that fails; or `NoMemory` where none does and memory runs out. It looks at the contract, at its bounds and
-    /// at the meters of its path alone.
-    pub fn admit(
-        &mut self,
-        contract: Contract,
-        bounds: Vec<Bound>,
-    ) -> Result<(), (Contract, Vec<Bound>, Refusal)>
-        ensures admitted { OnOk result (self.new ≡ with_contract self.old contract bounds.items) }
-        ensures acceptable { IsAcceptable self.new }
-        ensures unchanged { OnErr result (self.new ≡ self.old) }
-        ensures back { IfErr result (λ refused. (refused.0 ≡ contract) × (refused.1.items ≡ bounds.items)) }
-        ensures refused { IfErr result (λ refused.
-            ((refused.2 ≡ Refusal.NoMemory) × (refusal_of (with_contract self.old contract bounds.items) ≡ None))
-            ⊎ (refusal_of (with_contract self.old contract bounds.items) ≡ Some refused.2)) }
-    {
-        if let Some(refusal) = self.refusal_with(&contract, bounds.as_slice()) {
-            return Err((contract, bounds, refusal));
-        }
-        match self.take_up(contract, bounds) {
-            Ok(()) => Ok(()),
-            Err((contract, bounds)) => Err((contract, bounds, Refusal::NoMemory)),
-        }
-    }
-
-    /// Takes up one contract more that fits the domain, behind the others, with its least bounds, where the table is
-    /// acceptable with it. Nothing can stand against such bounds, so it looks at the meters of the contract's path alone.
-    ///
-    /// Else it hands the contract back, is as it was, and tells the first test that fails; or `NoMemory` where memory
-    /// runs out.
-    pub fn admit_least(
-        &mut self,
-        alloc: Global,
-        contract: Contract,
-    ) -> Result<(), (Contract, Refusal)>
-        requires { IsTrue (fits self.old.domain contract) }
-        ensures admitted { OnOk result
+    /// Takes up one contract more that fits the domain, behind the others, with its least bounds, where nothing stands
+    /// against the table with it, as `refusal_with_least` tells; `AllocError` where memory runs out, and then it is as
+    /// it was.
+    pub fn take_least(&mut self, alloc: Global, contract: Contract) -> Result<(), AllocError>
+        requires fit { IsTrue (fits self.old.domain contract) }
+        requires unrefused { refusal_of (with_contract self.old contract (least_of self.old.domain contract)) ≡ None }
+        ensures taken { OnOk result
             (self.new ≡ with_contract self.old contract (least_of self.old.domain contract)) }
         ensures acceptable { IsAcceptable self.new }
         ensures unchanged { OnErr result (self.new ≡ self.old) }
-        ensures back { IfErr result (λ refused. refused.0 ≡ contract) }
-        ensures refused { IfErr result (λ refused. (refused.1 ≡ Refusal.NoMemory)
-            ⊎ (refusal_of (with_contract self.old contract (least_of self.old.domain contract)) ≡ Some refused.1)) }
     {
-        let Ok(bounds) = least_bounds(alloc, self.domain(), &contract) else {
-            return Err((contract, Refusal::NoMemory));
-        };
-        if let Some(refusal) = self.refusal_at_meters(&contract, bounds.as_slice()) {
-            return Err((contract, refusal));
-        }
+        let bounds = least_bounds(alloc, self.domain(), &contract)?;
         match self.take_up(contract, bounds) {
             Ok(()) => Ok(()),
-            Err((contract, _)) => Err((contract, Refusal::NoMemory)),
+            Err(_back) => Err(AllocError),
         }
     }
 
-    /// The table with one contract more, as `admit` makes it of a copy.
+    /// The table with one contract more, behind the others, with its bounds, where it is acceptable with it.
+    ///
+    /// Else it hands both back, and tells what `check` of the table with that contract would: the first test that fails;
+    /// or `NoMemory` where none does and memory runs out. It looks at the contract, at its bounds and at the meters of
+    /// its path alone.
     pub fn with(
         &self,
         alloc: Global,
@@ -284,15 +245,17 @@ impl Accepted {
         contract_refusal_at_meters(domain, self.sums.as_slice(), contract, bounds)
     }
 
-    /// The first test that fails of the table with one contract more that fits the domain and has its least bounds.
-    fn refusal_at_meters(&self, contract: &Contract, bounds: &[Bound]) -> Option<Refusal>
-        requires fit { IsTrue (fits self.now.domain contract.now) }
-        requires least { bounds.now ≡ least_of self.now.domain contract.now }
-        ensures value { result ≡ refusal_of (with_contract self.now contract.now bounds.now) }
+    /// The first test that fails of the table with one contract more that fits the domain and has its least bounds, if
+    /// one does; when the contract begins and ends makes no difference. It takes no memory, and looks at the meters of
+    /// the contract's path alone.
+    pub fn refusal_with_least(&self, contract: &Contract) -> Option<Refusal>
+        requires { IsTrue (fits self.now.domain contract.now) }
+        ensures value { (lifetime : Span) → let other = lasting lifetime contract.now in
+            result ≡ refusal_of (with_contract self.now other (least_of self.now.domain other)) }
         ensures acceptable { IsAcceptable self.now }
     {
         let domain: &Domain = &self.domain;
-        contract_refusal_at_meters(domain, self.sums.as_slice(), contract, bounds)
+        least_refusal_at_meters(domain, self.sums.as_slice(), contract)
     }
 
     /// Takes up a contract against which nothing stands; where memory runs out it hands it back, and is as it was.

@@ -7,7 +7,7 @@ use Rattle.ds_broker.specs.declared.command.Command.{Command}
 use Rattle.ds_desk.specs.declared.log.Act.{Act}
 use Rattle.ds_desk.specs.declared.log.Act.TheVariants.{Tried, Kept}
 use Rattle.ds_desk.specs.Acts.{Course, course_after, course_of, opening_course, history_in, story_in}
-use Rattle.ds_desk.proofs.Fronts.{fronts_begin, prefix_self, prefix_trans}
+use Rattle.ds_desk.proofs.Fronts.{prefix_self, prefix_trans, prefixes_begin, take_begins}
 
 fold_last : (acts : List Act) (act : Act) (c : Course) → fold course_after c (acts ++ act ∷ []) ≡ course_after (fold course_after c acts) act
 fold_last [] act c = refl
@@ -43,12 +43,17 @@ history_grows xs ys p = unfold course_of in
     (subst (λ (c : Course). IsPrefix (fold course_after opening_course xs).accepted c.accepted) (sym (fold_parts xs p.0 opening_course))
     (fold_grows p.0 (fold course_after opening_course xs)))
 
--- of two fronts of one log, each with the history that far, the one that goes further has the longer history
-pub covers_by : (xs ys zs : List Act) (n m : ℕ) → IsPrefix xs zs → IsPrefix ys zs → n ≤ length xs → m ≤ length ys → (b : Bool) → nat_le m n ≡ b
+-- so many acts of a log that begins another have a beginning of its history
+front_grows : (xs zs : List Act) (n : ℕ) → IsPrefix xs zs → IsPrefix (history_in (take n xs)) (history_in zs)
+front_grows xs zs n p = history_grows (take n xs) zs (prefix_trans (take n xs) xs zs (take_begins xs n) p)
+
+-- of two fronts of one log, each with the history that far, the one with the shorter history begins the other
+pub covers_by : (xs ys zs : List Act) (n m : ℕ) → IsPrefix xs zs → IsPrefix ys zs
+    → (b : Bool) → nat_le (length (history_in (take m ys))) (length (history_in (take n xs))) ≡ b
     → MatchBool b (IsPrefix (history_in (take m ys)) (history_in (take n xs))) (IsPrefix (history_in (take n xs)) (history_in (take m ys)))
-covers_by xs ys zs n m p q in_xs in_ys true is =
-    let le : m ≤ n = grind (arith, nat_tests) in
-    history_grows (take m ys) (take n xs) (fronts_begin ys xs zs m n q p in_ys in_xs le)
-covers_by xs ys zs n m p q in_xs in_ys false is =
-    let le : n ≤ m = grind (arith, nat_tests) in
-    history_grows (take n xs) (take m ys) (fronts_begin xs ys zs n m p q in_xs in_ys le)
+covers_by xs ys zs n m p q true is =
+    let le : length (history_in (take m ys)) ≤ length (history_in (take n xs)) = grind (arith, nat_tests) in
+    prefixes_begin (history_in (take n xs)) (history_in (take m ys)) (history_in zs) (front_grows xs zs n p) (front_grows ys zs m q) le
+covers_by xs ys zs n m p q false is =
+    let le : length (history_in (take n xs)) ≤ length (history_in (take m ys)) = grind (arith, nat_tests) in
+    prefixes_begin (history_in (take m ys)) (history_in (take n xs)) (history_in zs) (front_grows ys zs m q) (front_grows xs zs n p) le

@@ -1,4 +1,5 @@
 pub mod Acts
+pub mod Faults
 pub mod Histories
 pub mod Pages
 pub mod Rules

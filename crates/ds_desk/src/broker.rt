@@ -1,33 +1,25 @@
-//! A desk that many threads call at once.
-ghost use Rattle.std.specs.Prelude.{◌≡◌, ◌⊎◌, ◌∷◌, ◌++◌, [], List, None, Some, IfErr, IfOk};
-ghost use Rattle.ds_broker.specs.Entries.{grant_of, next_serial};
-ghost use Rattle.ds_broker.specs.Refusals.{release_refusal, reserve_refusal, retire_refusal};
-ghost use Rattle.ds_broker.specs.Timelines.{timeline_behind};
-ghost use Rattle.ds_broker.specs.declared.command.Command as commands;
+//! A desk that many threads call.
+ghost use Rattle.std.specs.Prelude.{◌≡◌};
+ghost use Rattle.std.specs.Sync.Mutex.{mutex_guard_value};
 ghost use Rattle.ds_desk.specs.Histories.{book_behind};
 
-use crate::answer::{Done, Granted, Refused, Told};
 use crate::desk::Desk;
 use crate::log::Naming;
-use ds_domain_base::Contract;
-use moment_core::Moment;
-use std::alloc::{AllocError, Global};
-use std::sync::{Mutex, Wait};
+use std::sync::{Mutex, MutexGuard, Wait};
 
-/// A broker: a desk under a lock. Its feeds take no lock.
+/// A broker: a desk under a lock, which callers in any threads take in turn. Its feeds take no lock.
 ///
-/// All its answers are of one history, that of its desk: an accepted command is the last of the history that stands
-/// beside its answer, and answered as the book behind those before it answers; and a refused one was refused by the
-/// book behind the history that stands beside the refusal.
+/// All that the desk answers, to whichever callers, is of one history: what one caller is told begins what another is
+/// told later, or the other way round (`Front::longer`).
+///
+/// A command waits for the feeds that look at an older table, and so do, meanwhile, all callers. Thus a caller who keeps
+/// a look of its own and sells waits for himself, and for ever: a look is ended before a command.
 #[derive(Drop)]
 pub struct Broker<J: Naming, R: Wait + Drop> {
     desk: Mutex<Desk<J, R>>,
 }
 
 impl<J: Naming, R: Wait + Drop> Broker<J, R> {
-    ghost use Rattle.ds_broker.specs.declared.command.Command.TheVariants.{Reserve, Release, Retire};
-    ghost use Rattle.ds_broker.specs.declared.refusal.BrokerRefusal.TheVariants.{NoMemory};
-
     /// A desk under a lock. It takes no memory.
     pub fn new(desk: Desk<J, R>) -> Self {
         Broker {
@@ -35,52 +27,25 @@ impl<J: Naming, R: Wait + Drop> Broker<J, R> {
         }
     }
 
-    /// Grants a contract, or hands it back with the refusal.
-    pub fn reserve<W: Wait>(
-        &self,
-        rt: &W,
-        contract: Contract,
-    ) -> Result<Granted<J>, (Contract, Refused<J>)>
-        ensures granted { IfOk result (λ granted. (before : List commands.Command)
-            × (granted.front ≡ before ++ Reserve contract ∷ [])
-            × (granted.grant ≡ grant_of (book_behind J.opening before) contract)
-            × (reserve_refusal (book_behind J.opening before) contract ≡ None)) }
-        ensures back { IfErr result (λ refused. refused.0 ≡ contract) }
-        ensures refused { IfErr result (λ refused. (refused.1.refusal ≡ NoMemory)
-            ⊎ (reserve_refusal (book_behind J.opening refused.1.front) contract ≡ Some refused.1.refusal)) }
+    /// Waits for the desk, which is the caller's alone until the guard is let go: its calls answer there as they do
+    /// of any desk, and nobody else's command comes between two of them.
+    ///
+    /// A guard in the head of a `match` or of an `if let` lives to its end: bind the answer first.
+    pub fn desk<W: Wait>(&self, rt: &W) -> MutexGuard<'_, Desk<J, R>>
+        ensures { mutex_guard_value result ≡ book_behind J.opening (mutex_guard_value result).history }
     {
-        self.desk.lock(rt).reserve(contract)
+        let desk = self.desk.lock(rt);
+        let _book = desk.book();
+        desk
     }
 
-    /// Ends the contract of an id.
-    pub fn release<W: Wait>(&self, rt: &W, id: u32, at: Moment) -> Result<Done<J>, Refused<J>>
-        ensures released { IfOk result (λ done. (before : List commands.Command)
-            × (done.front ≡ before ++ Release id at ∷ [])
-            × (done.serial ≡ next_serial (book_behind J.opening before))
-            × (release_refusal (book_behind J.opening before) id ≡ None)) }
-        ensures refused { IfErr result (λ refused. (refused.refusal ≡ NoMemory)
-            ⊎ (release_refusal (book_behind J.opening refused.front) id ≡ Some refused.refusal)) }
+    /// The desk, where no thread calls any more. It takes no memory, and waits for nobody.
+    pub fn into_desk(self) -> Desk<J, R>
+        ensures { result ≡ book_behind J.opening result.history }
     {
-        self.desk.lock(rt).release(id, at)
-    }
-
-    /// Gives the share of a released contract back, once its hold has passed.
-    pub fn retire<W: Wait>(&self, rt: &W, id: u32, moment: Moment) -> Result<Done<J>, Refused<J>>
-        ensures retired { IfOk result (λ done. (before : List commands.Command)
-            × (done.front ≡ before ++ Retire id moment ∷ [])
-            × (done.serial ≡ next_serial (book_behind J.opening before))
-            × (retire_refusal (book_behind J.opening before) id moment ≡ None)) }
-        ensures refused { IfErr result (λ refused. (refused.refusal ≡ NoMemory)
-            ⊎ (retire_refusal (book_behind J.opening refused.front) id moment ≡ Some refused.refusal)) }
-    {
-        self.desk.lock(rt).retire(id, moment)
-    }
-
-    /// Every contract that it ever granted, beside the history that this is told of; `AllocError` where memory runs
-    /// out. Commands wait meanwhile.
-    pub fn timeline<W: Wait>(&self, rt: &W, alloc: Global) -> Result<Told<J>, AllocError>
-        ensures { IfOk result (λ told. told.timeline ≡ timeline_behind J.opening.domain told.front) }
-    {
-        self.desk.lock(rt).told(alloc)
+        let Broker { desk } = self;
+        let desk = desk.into_inner();
+        let _book = desk.book();
+        desk
     }
 }

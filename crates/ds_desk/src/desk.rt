@@ -1,9 +1,9 @@
 //! A desk: a book, and the writer of its feeds' tables.
-ghost use Rattle.std.specs.Prelude.{◌≡◌, ◌⊎◌, ◌<◌, ◌≤◌, [], None, Some, IfErr, IfOk, OnErr, OnOk, vec_len};
+ghost use Rattle.std.specs.Prelude.{◌≡◌, ◌<◌, ◌≤◌, [], None, IfErr, IfOk, IfSome, OnErr, OnOk, vec_len};
 ghost use Rattle.ds_checker.specs.Acceptance.{IsAcceptable};
 ghost use Rattle.ds_broker.specs.Books.{table_of, with_command};
 ghost use Rattle.ds_broker.specs.Entries.{grant_of, next_serial};
-ghost use Rattle.ds_broker.specs.Refusals.{release_refusal, reserve_refusal, retire_refusal};
+ghost use Rattle.ds_broker.specs.Refusals.{IsRefusal, release_refusal, reserve_refusal, retire_refusal};
 ghost use Rattle.ds_broker.specs.Timelines.{timeline_behind, timeline_of};
 ghost use Rattle.ds_desk.specs.Histories.{book_behind};
 
@@ -125,8 +125,7 @@ impl<J: Naming, R: Wait + Drop> Desk<J, R> {
         ensures unrefused { OnOk result (reserve_refusal self.old contract ≡ None) }
         ensures stands { IfOk result (λ granted. granted.front ≡ self.new.history) }
         ensures back { IfErr result (λ refused. refused.0 ≡ contract) }
-        ensures refused { IfErr result (λ refused. (refused.1.refusal ≡ NoMemory)
-            ⊎ (reserve_refusal self.old contract ≡ Some refused.1.refusal)) }
+        ensures refused { IfErr result (λ refused. IsRefusal (reserve_refusal self.old contract) refused.1.refusal) }
         ensures front { IfErr result (λ refused. refused.1.front ≡ self.old.history) }
         ensures unchanged { OnErr result (self.new ≡ self.old) }
         ensures named { self.old ≡ book_behind J.opening self.old.history }
@@ -159,8 +158,7 @@ impl<J: Naming, R: Wait + Drop> Desk<J, R> {
         ensures accepted { OnOk result (self.new ≡ with_command self.old (Release id at)) }
         ensures unrefused { OnOk result (release_refusal self.old id ≡ None) }
         ensures stands { IfOk result (λ done. done.front ≡ self.new.history) }
-        ensures refused { IfErr result (λ refused. (refused.refusal ≡ NoMemory)
-            ⊎ (release_refusal self.old id ≡ Some refused.refusal)) }
+        ensures refused { IfErr result (λ refused. IsRefusal (release_refusal self.old id) refused.refusal) }
         ensures front { IfErr result (λ refused. refused.front ≡ self.old.history) }
         ensures unchanged { OnErr result (self.new ≡ self.old) }
         ensures named { self.old ≡ book_behind J.opening self.old.history }
@@ -189,8 +187,7 @@ impl<J: Naming, R: Wait + Drop> Desk<J, R> {
         ensures accepted { OnOk result (self.new ≡ with_command self.old (Retire id moment)) }
         ensures unrefused { OnOk result (retire_refusal self.old id moment ≡ None) }
         ensures stands { IfOk result (λ done. done.front ≡ self.new.history) }
-        ensures refused { IfErr result (λ refused. (refused.refusal ≡ NoMemory)
-            ⊎ (retire_refusal self.old id moment ≡ Some refused.refusal)) }
+        ensures refused { IfErr result (λ refused. IsRefusal (retire_refusal self.old id moment) refused.refusal) }
         ensures front { IfErr result (λ refused. refused.front ≡ self.old.history) }
         ensures unchanged { OnErr result (self.new ≡ self.old) }
         ensures named { self.old ≡ book_behind J.opening self.old.history }
@@ -214,7 +211,8 @@ impl<J: Naming, R: Wait + Drop> Desk<J, R> {
 
     /// Its book.
     pub fn book(&self) -> &Book
-        ensures { result.now ≡ self.now }
+        ensures value { result.now ≡ self.now }
+        ensures named { self.now ≡ book_behind J.opening self.now.history }
     {
         &self.book
     }
@@ -245,15 +243,27 @@ impl<J: Naming, R: Wait + Drop> Desk<J, R> {
         Front::at(&self.press.end, self.book.serial())
     }
 
-    /// Every contract that its book ever granted, beside the history up to now.
-    pub(crate) fn told(&self, alloc: Global) -> Result<Told<J>, AllocError>
-        ensures { IfOk result (λ told. told.timeline ≡ timeline_behind J.opening.domain told.front) }
+    /// The same beside the history up to now.
+    pub fn told(&self, alloc: Global) -> Result<Told<J>, AllocError>
+        ensures timeline { IfOk result (λ told. told.timeline ≡ timeline_behind J.opening.domain told.front) }
+        ensures front { IfOk result (λ told. told.front ≡ self.now.history) }
     {
         let timeline = self.timeline(alloc)?;
         Ok(Told {
             timeline,
             front: self.front(),
         })
+    }
+
+    /// One feed more, which knows of its history up to now. It takes no memory.
+    ///
+    /// A desk has as many places for feeds as it was opened with feeds; a feed that is dropped gives its place back.
+    /// None where no place is free, as it may also be for the time in which another thread takes one.
+    pub fn feed(&self) -> Option<Feed<J>>
+        ensures { IfSome result (λ feed. feed ≡ self.now.history) }
+    {
+        let reader = self.press.tables.factory().reader().ok()?;
+        Some(Feed::new(reader, self.front()))
     }
 
     /// A refusal, beside the history up to now.
@@ -272,8 +282,10 @@ impl<J: Naming, R: Wait + Drop> Desk<J, R> {
     {
         let mut feeds = Vec::with_capacity(self.alloc, count)?;
         for _ in 0..count {
-            let reader = self.press.tables.factory().reader()?;
-            feeds.push(Feed::new(reader, self.front()))?;
+            let Some(feed) = self.feed() else {
+                return Err(AllocError);
+            };
+            feeds.push(feed)?;
         }
         Ok(feeds)
     }

@@ -4,6 +4,7 @@ ghost use mathlib.Core.List.{IsPrefix};
 ghost use Rattle.ds_checker.specs.Acceptance.{IsAcceptable};
 ghost use Rattle.ds_desk.specs.Histories.{flows_behind, table_behind};
 
+use crate::fault::LookFault;
 use crate::log::{Front, Naming};
 use crate::page::{OneDesk, Sees, Shown};
 use ds_broker::Serial;
@@ -75,14 +76,17 @@ impl<J: Naming> Feed<J> {
         Feed { reader, known }
     }
 
-    /// Looks at the newest table. The feed comes back, as it was, where the desk is gone.
-    pub fn look(self) -> Result<Seen<J>, Self>
-        ensures { MatchResult result (λ seen. IsPrefix self seen) (λ feed. feed ≡ self) }
+    /// Looks at the newest table. Its history has all that the feed knows of.
+    ///
+    /// Else the feed comes back, as it was: with `DeskGone` where the desk is gone; with `PageBehind` where the page that
+    /// is shown does not go as far as what the feed knows of.
+    pub fn look(self) -> Result<Seen<J>, (Self, LookFault)>
+        ensures { MatchResult result (λ seen. IsPrefix self seen) (λ unseen. unseen.0 ≡ self) }
     {
         let Feed { reader, known } = self;
         let reading = match reader.enter_as::<Sees<J>>() {
             Ok(reading) => reading,
-            Err(reader) => return Err(Feed { reader, known }),
+            Err(reader) => return Err((Feed { reader, known }, LookFault::DeskGone)),
         };
         let front: Option<Front<J>> = reading.get().page.front();
         if let Some(front) = front {
@@ -90,10 +94,8 @@ impl<J: Naming> Feed<J> {
                 return Ok(Seen { reading, front });
             }
         }
-        Err(Feed {
-            reader: reading.leave(),
-            known,
-        })
+        let reader = reading.leave();
+        Err((Feed { reader, known }, LookFault::PageBehind))
     }
 }
 

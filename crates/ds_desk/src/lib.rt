@@ -5,6 +5,7 @@
 mod answer;
 mod broker;
 mod desk;
+mod fault;
 mod feed;
 mod log;
 mod page;
@@ -13,5 +14,6 @@ mod press;
 pub use answer::{Done, Granted, Refused, Told};
 pub use broker::Broker;
 pub use desk::Desk;
+pub use fault::LookFault;
 pub use feed::{Feed, Seen};
 pub use log::{Front, Naming, Opened};

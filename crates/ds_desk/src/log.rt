@@ -1,6 +1,6 @@
 //! The log of a desk: the commands that it tried and kept. The log exists in the proofs alone; what stands here is its
 //! length, and tokens of beginnings that were seen.
-ghost use Rattle.std.specs.Prelude.{◌≡◌, ◌+◌, ◌≤◌, ◌⊎◌, ◌++◌, ◌∷◌, [], None, IfSome, MatchBool, length};
+ghost use Rattle.std.specs.Prelude.{◌≡◌, ◌+◌, ◌≤◌, ◌⊎◌, ◌++◌, ◌∷◌, [], None, IfSome, MatchBool, length, nat_le};
 ghost use mathlib.Core.List.{IsPrefix};
 ghost use Rattle.ds_desk.specs.Acts.{history_in};
 ghost use Rattle.ds_desk.specs.Rules.{head_of};
@@ -266,13 +266,15 @@ impl<J: Naming> Front<J> {
         }
     }
 
-    /// Whether it goes at least as far as another.
+    /// Whether it goes at least as far as another: whether it has as many accepted commands. Acts do not count: of two
+    /// fronts with one history the one may have a tried command more, which was not kept.
     pub(crate) fn covers(&self, other: &Front<J>) -> bool
-        ensures { MatchBool result (IsPrefix other.now self.now) (IsPrefix self.now other.now) }
+        ensures far { result ≡ nat_le (length other.now) (length self.now) }
+        ensures begins { MatchBool result (IsPrefix other.now self.now) (IsPrefix self.now other.now) }
     {
         let mut both = self.seen.again();
         both.learn(&other.seen);
-        other.acts <= self.acts
+        other.serial.get() <= self.serial.get()
     }
 
     /// The longer of two, which the other begins.

@@ -1,9 +1,8 @@
 //! What brings a desk's tables to its feeds.
-ghost use Rattle.std.specs.Prelude.{◌≡◌, ◌⊎◌, ◌<◌, ◌≤◌, ◌++◌, ◌∷◌, [], None, Some, IfErr, IfOk, OnOk, drop};
+ghost use Rattle.std.specs.Prelude.{◌≡◌, ◌<◌, ◌≤◌, ◌++◌, ◌∷◌, [], None, IfErr, IfOk, OnOk, drop};
 ghost use Rattle.std.specs.Arc.{arc_value};
 ghost use Rattle.ds_broker.specs.Books.{table_of, with_command};
-ghost use Rattle.ds_broker.specs.Refusals.{refusal_in};
-ghost use Rattle.ds_broker.specs.declared.refusal.BrokerRefusal.TheVariants.{NoMemory};
+ghost use Rattle.ds_broker.specs.Refusals.{IsRefusal, refusal_in};
 ghost use Rattle.ds_desk.specs.Acts.{history_in, story_in};
 ghost use Rattle.ds_desk.specs.Pages.{last_page};
 ghost use Rattle.ds_desk.specs.declared.log.Act.TheVariants.{Kept};
@@ -87,8 +86,7 @@ impl<J: Naming> Press<J> {
         ensures laid { IfOk result (λ page. last_page (arc_value self.new.tables.desk.shown.value.page)
             (drop self.new.tables.behind self.new.tables.log.items) ≡ arc_value page) }
         ensures unrefused { OnOk result (refusal_in book.now command.now ≡ None) }
-        ensures refused { IfErr result
-            (λ refusal. (refusal ≡ NoMemory) ⊎ (refusal_in book.now command.now ≡ Some refusal)) }
+        ensures refused { IfErr result (λ refusal. IsRefusal (refusal_in book.now command.now) refusal) }
     {
         let next = match book.next(alloc, command) {
             Ok(next) => next,

@@ -1,4 +1,4 @@
-ghost use Rattle.std.specs.Prelude.{◌≡◌, ◌++◌, IfOk, OnOk, option_and_then, option_map, slice_get};
+ghost use Rattle.std.specs.Prelude.{◌≡◌, ◌++◌, [], IfOk, OnOk, option_and_then, option_map, slice_get};
 ghost use Rattle.ds_broker.specs.Entries.{entries_of};
 ghost use Rattle.dsedge_drive.specs.Driven.{drive_from, opening_book, released, reserved, retired, said, sold};
 ghost use Rattle.dsedge_drive.specs.Sold.{list_text, look_line};
@@ -57,7 +57,26 @@ impl<'a, J: Naming, R: Wait + Drop> DriveCommand<'a, J, R> {
         ensures { IfOk result (λ command.
             command ≡ record { offered = contracts.entry.now; book = opening_book domain }) }
     {
-        let shop = Shop::open(alloc, rt, opened, domain, limits())?;
+        DriveCommand::with_limits(alloc, rt, opened, domain, limits(), contracts)
+    }
+
+    /// The same over a book that takes as much as these limits say.
+    pub fn with_limits(
+        alloc: Global,
+        rt: R,
+        opened: Opened,
+        domain: Domain,
+        limits: Limits,
+        contracts: &'a [Contract],
+    ) -> Result<Self, AllocError>
+        requires log { opened ≡ J.log }
+        requires opening { J.opening ≡ record { domain = domain; limits = limits; history = [] } }
+        ensures { IfOk result (λ command. command ≡ record {
+          offered = contracts.entry.now;
+          book = record { domain = domain; limits = limits; history = [] };
+        }) }
+    {
+        let shop = Shop::open(alloc, rt, opened, domain, limits)?;
         let offers = Offers::new(alloc, contracts)?;
         Ok(DriveCommand {
             alloc,

@@ -1,8 +1,8 @@
 //! A desk with one feed, which has learned each command that the desk accepted.
-ghost use Rattle.std.specs.Prelude.{◌≡◌, ◌⊎◌, [], None, Some, IfErr, IfOk, IfSome, MatchOption, OnErr, OnOk, length};
+ghost use Rattle.std.specs.Prelude.{◌≡◌, [], None, IfErr, IfOk, IfSome, MatchOption, OnErr, OnOk, length};
 ghost use Rattle.ds_broker.specs.Books.{held_of, holding_of, with_command};
 ghost use Rattle.ds_broker.specs.Entries.{grant_of, next_serial};
-ghost use Rattle.ds_broker.specs.Refusals.{release_refusal, reserve_refusal, retire_refusal};
+ghost use Rattle.ds_broker.specs.Refusals.{IsRefusal, release_refusal, reserve_refusal, retire_refusal};
 
 use crate::sight::{Sight, learn, look};
 use ds_broker::{Book, BrokerRefusal, Grant, Limits, Serial};
@@ -45,7 +45,6 @@ fn given_id(book: &Book, id: u64) -> Option<u32>
 
 impl<J: Naming, R: Wait + Drop> Shop<J, R> {
     ghost use Rattle.ds_broker.specs.declared.command.Command.TheVariants.{Reserve, Release, Retire};
-    ghost use Rattle.ds_broker.specs.declared.refusal.BrokerRefusal.TheVariants.{NoMemory};
 
     /// The shop of a domain, with no contract in its book; `AllocError` where memory runs out.
     pub(crate) fn open(
@@ -78,8 +77,7 @@ impl<J: Naming, R: Wait + Drop> Shop<J, R> {
         ensures granted { IfOk result (λ grant. grant ≡ grant_of self.old contract) }
         ensures accepted { OnOk result (self.new ≡ with_command self.old (Reserve contract)) }
         ensures unrefused { OnOk result (reserve_refusal self.old contract ≡ None) }
-        ensures refused { IfErr result
-            (λ refusal. (refusal ≡ NoMemory) ⊎ (reserve_refusal self.old contract ≡ Some refusal)) }
+        ensures refused { IfErr result (λ refusal. IsRefusal (reserve_refusal self.old contract) refusal) }
         ensures unchanged { OnErr result (self.new ≡ self.old) }
     {
         match self.desk.reserve(contract) {
@@ -96,8 +94,7 @@ impl<J: Naming, R: Wait + Drop> Shop<J, R> {
         ensures released { IfOk result (λ serial. serial ≡ next_serial self.old) }
         ensures accepted { OnOk result (self.new ≡ with_command self.old (Release id at)) }
         ensures unrefused { OnOk result (release_refusal self.old id ≡ None) }
-        ensures refused { IfErr result
-            (λ refusal. (refusal ≡ NoMemory) ⊎ (release_refusal self.old id ≡ Some refusal)) }
+        ensures refused { IfErr result (λ refusal. IsRefusal (release_refusal self.old id) refusal) }
         ensures unchanged { OnErr result (self.new ≡ self.old) }
     {
         let Some(given) = given_id(self.desk.book(), id) else {
@@ -118,8 +115,7 @@ impl<J: Naming, R: Wait + Drop> Shop<J, R> {
         ensures retired { IfOk result (λ serial. serial ≡ next_serial self.old) }
         ensures accepted { OnOk result (self.new ≡ with_command self.old (Retire id moment)) }
         ensures unrefused { OnOk result (retire_refusal self.old id moment ≡ None) }
-        ensures refused { IfErr result
-            (λ refusal. (refusal ≡ NoMemory) ⊎ (retire_refusal self.old id moment ≡ Some refusal)) }
+        ensures refused { IfErr result (λ refusal. IsRefusal (retire_refusal self.old id moment) refusal) }
         ensures unchanged { OnErr result (self.new ≡ self.old) }
     {
         let Some(given) = given_id(self.desk.book(), id) else {

@@ -29,7 +29,7 @@ fn looked<J: Naming>(feed: Feed<J>) -> (Feed<J>, Option<Sight>)
             };
             (seen.end(), Some(sight))
         }
-        Err(feed) => (feed, None),
+        Err((feed, _fault)) => (feed, None),
     }
 }
 

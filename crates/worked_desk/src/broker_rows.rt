@@ -1,9 +1,9 @@
 ghost use Rattle.std.specs.Prelude.{◌≡◌, []};
 
-use crate::desks::{Plan, contract, full, opened, released, reserved, retired, tight};
+use crate::desks::{Plan, contract, full, looked, opened, released, reserved, retired, tight};
 use af_marker::Dscp;
 use ds_broker::{BrokerRefusal, Limits};
-use ds_desk::{Broker, Feed, Front, Granted, Naming, Opened, Seen};
+use ds_desk::{Broker, Feed, Front, Granted, LookFault, Naming, Opened};
 use ds_domain_base::{Contract, Domain};
 use ds_timeline::Timeline;
 use meter_fabric_base::{Numbered, Traveller};
@@ -12,22 +12,6 @@ use std::alloc::Global;
 use std::marker::Brand;
 use std::process::Abort;
 use std::sync::Wait;
-
-/// What is seen: the serial, how many contracts, and their flows' sum.
-fn told_of<J: Naming>(seen: &Seen<J>) -> (u32, usize, u32) {
-    let mut flows = 0u32;
-    for flow in seen.flows() {
-        flows = flows.wrapping_add(*flow);
-    }
-    (seen.serial().get(), seen.table().contracts().len(), flows)
-}
-
-/// What a feed sees: the serial, how many contracts, and their flows' sum; and the feed.
-fn looked<J: Naming>(rt: &impl Abort, feed: Feed<J>) -> ((u32, usize, u32), Feed<J>) {
-    let seen = feed.look().ok().expect(rt, "a table is seen");
-    let told = told_of(&seen);
-    (told, seen.end())
-}
 
 /// Whether a packet of a flow can begin over a table.
 fn begins(rt: &impl Abort, alloc: Global, numbered: &Numbered<'_>, flow: u32) -> bool {
@@ -62,7 +46,8 @@ fn first_grant<J: Naming, R: Wait + Drop, W: Wait + Abort>(
     broker: &Broker<J, R>,
     a: Contract,
 ) -> Front<J> {
-    let Granted { grant, front } = broker.reserve(rt, a).ok().expect(rt, "a grant");
+    let sold = broker.desk(rt).reserve(a);
+    let Granted { grant, front } = sold.ok().expect(rt, "a grant");
     assert_eq!(rt; (grant.id, grant.serial.get()), (1, 1));
     front
 }
@@ -132,7 +117,7 @@ fn told_of_both<J: Naming, R: Wait + Drop, W: Wait + Abort>(
     alloc: Global,
     broker: &Broker<J, R>,
 ) {
-    let told = broker.timeline(rt, alloc).expect(rt, "memory");
+    let told = broker.desk(rt).told(alloc).expect(rt, "memory");
     assert_eq!(rt; told.front.serial().get(), 4);
     expect_both(rt, &told.timeline);
     drop(told);
@@ -194,14 +179,17 @@ fn refusals_stand_beside_the_newest_front(rt: HostRuntime) {
     drop(contracts);
 }
 
-/// A feed sees nothing, and hands itself back.
+/// A feed sees nothing, and hands itself back, since its desk is gone.
 fn expect_unseen<J: Naming>(rt: &impl Abort, feed: Feed<J>) {
     match feed.look() {
         Ok(seen) => {
             drop(seen.end());
             panic!(rt; "a table is seen");
         }
-        Err(feed) => drop(feed),
+        Err((feed, fault)) => {
+            drop(feed);
+            assert!(rt; (fault, fault.code()) == (LookFault::DeskGone, 1));
+        }
     }
 }
 
@@ -232,5 +220,56 @@ fn a_feed_sees_nothing_once_its_desk_is_gone(rt: HostRuntime) {
         contracts,
     } = tight(&rt, alloc);
     outlived::<Brand, _>(rt, alloc, Opened::new(), domain, limits);
+    drop(contracts);
+}
+
+/// A feed that is taken once a place is free, which knows of the first contract from the beginning.
+fn expect_another<J: Naming, R: Wait + Drop, W: Wait + Abort>(
+    rt: &W,
+    broker: &Broker<J, R>,
+    feed: Feed<J>,
+) -> Feed<J> {
+    assert!(rt; broker.desk(rt).feed().is_none());
+    drop(feed);
+    let feed = broker.desk(rt).feed().expect(rt, "a place");
+    assert_eq!(rt; feed.known().serial().get(), 1);
+    let (seen, feed) = looked(rt, feed);
+    assert_eq!(rt; seen, (1, 1, 0));
+    feed
+}
+
+/// A broker gives another feed once one is gone, and at last its desk.
+fn taken_apart<J: Naming, R: Wait + Abort + Copy + Drop>(
+    rt: R,
+    alloc: Global,
+    log: Opened,
+    domain: Domain,
+    limits: Limits,
+    a: Contract,
+)
+    requires log { log ≡ J.log }
+    requires opening { J.opening ≡ record { domain = domain; limits = limits; history = [] } }
+{
+    let (broker, mut feeds) = opened::<J, R>(rt, alloc, log, domain, limits, 1);
+    let feed = feeds.pop().expect(&rt, "one feed");
+    drop(feeds);
+    assert_eq!(rt; reserved(&rt, &broker, a), Ok((1, 1, 0, 1)));
+    let feed = expect_another(&rt, &broker, feed);
+    let desk = broker.into_desk();
+    assert_eq!(rt; desk.front().serial().get(), 1);
+    drop(desk);
+    expect_unseen(&rt, feed);
+}
+
+#[test]
+fn a_broker_gives_another_feed_and_its_desk(rt: HostRuntime) {
+    let alloc = rt.alloc();
+    let Plan {
+        domain,
+        limits,
+        contracts,
+    } = tight(&rt, alloc);
+    let a = contract(&rt, alloc, contracts.as_slice(), 0);
+    taken_apart::<Brand, _>(rt, alloc, Opened::new(), domain, limits, a);
     drop(contracts);
 }

@@ -2,7 +2,7 @@ ghost use Rattle.std.specs.Prelude.{◌≡◌, ◌<◌, ◌≤◌, []};
 
 use ds_broker::{BrokerRefusal, Limits};
 use ds_checker::Refusal;
-use ds_desk::{Broker, Desk, Done, Feed, Granted, Naming, Opened, Refused};
+use ds_desk::{Broker, Desk, Done, Feed, Granted, Naming, Opened, Refused, Seen};
 use ds_domain::parse;
 use ds_domain_base::{Contract, Domain, Name};
 use moment_core::Moment;
@@ -35,6 +35,15 @@ pub fn tight(rt: &impl Abort, alloc: Global) -> Plan {
     let text = worked_texts::tight(alloc).expect(rt, "memory");
     let plan = plan_of(rt, alloc, text.as_str());
     drop(text);
+    plan
+}
+
+/// The domain of two contracts over a meter that has room for both, for so many contracts and commands.
+pub fn wide(rt: &impl Abort, alloc: Global, (table, history): (u32, u32)) -> Plan {
+    let text = worked_texts::wide(alloc).expect(rt, "memory");
+    let mut plan = plan_of(rt, alloc, text.as_str());
+    drop(text);
+    plan.limits = Limits::new(table, history).expect(rt, "limits of a book");
     plan
 }
 
@@ -119,7 +128,8 @@ pub fn reserved<J: Naming, R: Wait + Drop, W: Wait>(
     broker: &Broker<J, R>,
     contract: Contract,
 ) -> Sold {
-    match broker.reserve(rt, contract) {
+    let sold = broker.desk(rt).reserve(contract);
+    match sold {
         Ok(sold) => Ok(told_of_grant(sold)),
         Err((contract, refused)) => {
             drop(contract);
@@ -136,7 +146,8 @@ pub fn released<J: Naming, R: Wait + Drop, W: Wait + Abort>(
     at: u64,
 ) -> Result<(u32, u32), (BrokerRefusal, u32)> {
     let moment = Moment::new(at).expect(rt, "a moment");
-    match broker.release(rt, id, moment) {
+    let done = broker.desk(rt).release(id, moment);
+    match done {
         Ok(done) => Ok(told_of_done(done)),
         Err(refused) => Err(told_of_refusal(refused)),
     }
@@ -150,8 +161,25 @@ pub fn retired<J: Naming, R: Wait + Drop, W: Wait + Abort>(
     moment: u64,
 ) -> Result<(u32, u32), (BrokerRefusal, u32)> {
     let moment = Moment::new(moment).expect(rt, "a moment");
-    match broker.retire(rt, id, moment) {
+    let done = broker.desk(rt).retire(id, moment);
+    match done {
         Ok(done) => Ok(told_of_done(done)),
         Err(refused) => Err(told_of_refusal(refused)),
     }
+}
+
+/// What is seen: the serial, how many contracts, and their flows' sum.
+fn told_of<J: Naming>(seen: &Seen<J>) -> (u32, usize, u32) {
+    let mut flows = 0u32;
+    for flow in seen.flows() {
+        flows = flows.wrapping_add(*flow);
+    }
+    (seen.serial().get(), seen.table().contracts().len(), flows)
+}
+
+/// What a feed sees: the serial, how many contracts, and their flows' sum; and the feed.
+pub fn looked<J: Naming>(rt: &impl Abort, feed: Feed<J>) -> ((u32, usize, u32), Feed<J>) {
+    let seen = feed.look().ok().expect(rt, "a table is seen");
+    let told = told_of(&seen);
+    (told, seen.end())
 }

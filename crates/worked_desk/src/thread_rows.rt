@@ -27,7 +27,8 @@ fn sell<J: Naming, R: Wait + Drop, W: Wait>(
     broker: &Broker<J, R>,
     contract: Contract,
 ) -> Told<J> {
-    match broker.reserve(rt, contract) {
+    let sold = broker.desk(rt).reserve(contract);
+    match sold {
         Ok(granted) => Ok(granted.front),
         Err((contract, refused)) => {
             drop(contract);
@@ -151,7 +152,8 @@ fn granted<J: Naming, R: Wait + Drop, W: Wait + Abort>(
     broker: &Broker<J, R>,
     contract: Contract,
 ) -> Grant {
-    let granted = broker.reserve(rt, contract).ok().expect(rt, "a grant");
+    let sold = broker.desk(rt).reserve(contract);
+    let granted = sold.ok().expect(rt, "a grant");
     let grant = granted.grant;
     drop(granted);
     grant
@@ -164,7 +166,8 @@ fn given_back<J: Naming, R: Wait + Drop, W: Wait>(
     id: u32,
     moment: Moment,
 ) -> Option<Front<J>> {
-    match broker.retire(rt, id, moment) {
+    let done = broker.desk(rt).retire(id, moment);
+    match done {
         Ok(done) => Some(done.front),
         Err(refused) => {
             drop(refused);
@@ -198,7 +201,7 @@ fn sell_once<J: Naming, R: Wait + Drop, W: Wait + Abort>(
     sold: &Contract,
 ) -> (u32, Front<J>) {
     let grant = granted(rt, broker, sold.copy(alloc).expect(rt, "memory"));
-    let done = broker.release(rt, grant.id, grant.since);
+    let done = broker.desk(rt).release(grant.id, grant.since);
     drop(done.ok().expect(rt, "a release"));
     (grant.id, give_back(rt, broker, grant.id, grant.since.get()))
 }

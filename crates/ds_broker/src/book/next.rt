@@ -2,9 +2,9 @@
 ghost use Rattle.std.specs.Prelude.{◌≡◌, ◌⊎◌, ◌-◌, None, Some, IfErr, IfOk, OnOk, map};
 ghost use Rattle.ds_broker.specs.Books.{table_of, with_command};
 ghost use Rattle.ds_broker.specs.Entries.{flows_of, next_serial};
-ghost use Rattle.ds_broker.specs.Refusals.{refusal_in};
+ghost use Rattle.ds_broker.specs.Refusals.{IsRefusal, refusal_in};
 
-use super::{Book, admit};
+use super::{Book, take};
 use crate::command::Command;
 use crate::entry::Serial;
 use crate::refusal::BrokerRefusal;
@@ -30,14 +30,14 @@ impl Book {
 
     /// What the book would hold with a command more. It costs a copy of the table.
     ///
-    /// Refused as the command itself: for the first that stands against it; `NoMemory` where memory runs out.
+    /// Refused as the command itself: for the first that stands against it; `NoMemory` where nothing does and memory runs
+    /// out.
     pub fn next(&self, alloc: Global, command: &Command) -> Result<Next, BrokerRefusal>
         ensures table { IfOk result (λ next. next.table ≡ table_of (with_command self.now command.now)) }
         ensures flows { IfOk result (λ next. next.flows.items ≡ flows_of (with_command self.now command.now)) }
         ensures serial { IfOk result (λ next. next.serial ≡ next_serial self.now) }
         ensures unrefused { OnOk result (refusal_in self.now command.now ≡ None) }
-        ensures refused { IfErr result
-            (λ refusal. (refusal ≡ NoMemory) ⊎ (refusal_in self.now command.now ≡ Some refusal)) }
+        ensures refused { IfErr result (λ refusal. IsRefusal (refusal_in self.now command.now) refusal) }
     {
         match command {
             Command::Reserve(contract) => self.with_reserved(alloc, contract),
@@ -53,10 +53,9 @@ impl Book {
             (λ next. next.flows.items ≡ flows_of (with_command self.now (Reserve contract.now))) }
         ensures serial { IfOk result (λ next. next.serial ≡ next_serial self.now) }
         ensures unrefused { OnOk result (refusal_in self.now (Reserve contract.now) ≡ None) }
-        ensures refused { IfErr result
-            (λ refusal. (refusal ≡ NoMemory) ⊎ (refusal_in self.now (Reserve contract.now) ≡ Some refusal)) }
+        ensures refused { IfErr result (λ refusal. IsRefusal (refusal_in self.now (Reserve contract.now)) refusal) }
     {
-        if let Some(refusal) = self.room_refusal(contract) {
+        if let Some(refusal) = self.refusal_against(contract) {
             return Err(refusal);
         }
         let serial = self.next_serial();
@@ -64,9 +63,9 @@ impl Book {
         let Ok(mut table) = self.table.copy(alloc) else {
             return Err(BrokerRefusal::NoMemory);
         };
-        if let Err(refusal) = admit(alloc, &mut table, contract, since) {
-            return Err(refusal);
-        }
+        let Ok(()) = take(alloc, &mut table, contract, since) else {
+            return Err(BrokerRefusal::NoMemory);
+        };
         let Ok(mut flows) = flows(alloc, self.ids.as_slice()) else {
             return Err(BrokerRefusal::NoMemory);
         };
@@ -86,8 +85,7 @@ impl Book {
         ensures flows { IfOk result (λ next. next.flows.items ≡ flows_of (with_command self.now (Release id at))) }
         ensures serial { IfOk result (λ next. next.serial ≡ next_serial self.now) }
         ensures unrefused { OnOk result (refusal_in self.now (Release id at) ≡ None) }
-        ensures refused { IfErr result
-            (λ refusal. (refusal ≡ NoMemory) ⊎ (refusal_in self.now (Release id at) ≡ Some refusal)) }
+        ensures refused { IfErr result (λ refusal. IsRefusal (refusal_in self.now (Release id at)) refusal) }
     {
         let place = self.releasable(id)?;
         let serial = self.next_serial();
@@ -112,8 +110,7 @@ impl Book {
         ensures flows { IfOk result (λ next. next.flows.items ≡ flows_of (with_command self.now (Retire id moment))) }
         ensures serial { IfOk result (λ next. next.serial ≡ next_serial self.now) }
         ensures unrefused { OnOk result (refusal_in self.now (Retire id moment) ≡ None) }
-        ensures refused { IfErr result
-            (λ refusal. (refusal ≡ NoMemory) ⊎ (refusal_in self.now (Retire id moment) ≡ Some refusal)) }
+        ensures refused { IfErr result (λ refusal. IsRefusal (refusal_in self.now (Retire id moment)) refusal) }
     {
         let place = self.retirable(id, moment)?;
         let serial = self.next_serial();

@@ -188,7 +188,7 @@ fn life<J: Naming, L: FabricLedger + Send + Sync, R: Threads + Wait + Abort + Co
         &mut trails,
     )?;
     let journals = closed(&rt, alloc, fabric, passes)?;
-    let timeline = broker.timeline(&rt, alloc)?.timeline;
+    let timeline = broker.desk(&rt).timeline(alloc)?;
     Ok(Left {
         timeline,
         journals,

@@ -40,7 +40,7 @@ fn granted<J: Naming, R: Wait + Drop, W: Wait>(
     feed: Feed<J>,
     contract: Contract,
 ) -> Result<(u32, Feed<J>), Fail> {
-    let Ok(granted) = broker.reserve(rt, contract) else {
+    let Ok(granted) = broker.desk(rt).reserve(contract) else {
         return Err(Fail::from("no grant"));
     };
     let flow = granted.grant.id.checked_sub(1).ok_or("no id")?;
@@ -163,7 +163,8 @@ pub fn released<J: Naming, R: Wait + Drop, L: FabricLedger, W: Wait>(
     until: u64,
 ) -> Result<(), Fail> {
     let until = Moment::new(until)?;
-    if broker.release(rt, flow.wrapping_add(1), until).is_err() {
+    let done = broker.desk(rt).release(flow.wrapping_add(1), until);
+    if done.is_err() {
         return Err(Fail::from("no release"));
     }
     match fabric.shut(rt, flow, until) {
@@ -181,7 +182,8 @@ pub fn retired<J: Naming, R: Wait + Drop, W: Wait>(
     moment: u64,
 ) -> Result<(), Fail> {
     let moment = Moment::new(moment)?;
-    match broker.retire(rt, flow.wrapping_add(1), moment) {
+    let done = broker.desk(rt).retire(flow.wrapping_add(1), moment);
+    match done {
         Ok(_) => Ok(()),
         Err(_) => Err(Fail::from("no retirement")),
     }

@@ -59,7 +59,7 @@ fn expect_room(rt: &impl Abort, alloc: Global, table: &Accepted, contract: &Cont
 /// Expects of a table with `a` alone how long it is held, that `b` has no room beside it, and that it can be taken out.
 fn expect_room_for_one(rt: &impl Abort, alloc: Global, one: &Accepted, other: &Contract) {
     assert_eq!(rt; one.contracts().len(), 1);
-    assert_eq!(rt; one.hold(0), 6_000_000);
+    assert_eq!(rt; (one.hold(0), one.hold(1)), (Some(6_000_000), None));
     expect_no_room(rt, alloc, one, other);
     expect_room(
         rt,

@@ -1,4 +1,5 @@
-use Rattle.std.proofs.Common.{arith, ap, ◌∙◌}
+use Rattle.std.proofs.Common.{arith, ap, sym, ◌∙◌}
+use Rattle.std.proofs.lemmas.Option.{same_Some}
 use Rattle.std.specs.Prelude.{unwrap_or}
 use Rattle.ds_broker.proofs.BookLaws.{contract-placed, hold-placed}
 use Rattle.ds_broker.proofs.HoldingLaws.{holding-at}
@@ -14,7 +15,7 @@ overflow_sub-get c =
 pub returns : goal.returns
 returns c h at =
     let is = contract-placed c.self.inside c.args.self.now c.self.view_is c.self.invariant c.contracts.result.now c.contracts.ensures.value c.args.place h c.index-contracts-place.result at in
-    let hold = c.hold.ensures ∙ hold-placed c.self.inside c.args.self.now c.self.view_is c.self.invariant c.args.place h at in
+    let hold = same_Some c.unwrap-hold.result _ (sym c.unwrap-hold.ensures ∙ c.hold.ensures ∙ hold-placed c.self.inside c.args.self.now c.self.view_is c.self.invariant c.args.place h at) in
     let a = c.end_of-end.ensures in let b = c.get.ensures in let d = ap (λ x. unwrap_or x.lifetime.until 0) is in let e = c.requires.over h at in
     let f = c.from-passed.ensures in let k = c.saturating_sub.ensures in
     omega (arith, a, b.value, d, e, f, k, hold)

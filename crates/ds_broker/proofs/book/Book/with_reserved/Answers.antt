@@ -1,40 +1,29 @@
-use Rattle.std.proofs.Common.{◌≡◌, None, inl, inr, sym, ap, subst, ◌∙◌}
-use Rattle.std.specs.Prelude.{option_map}
+use Rattle.std.proofs.Common.{◌≡◌, sym, ap, subst, ◌∙◌}
 use Rattle.ds_domain_base.specs.Lifetimes.{IsInOrder}
 use Rattle.ds_broker.specs.Books.{moment_in, standing, table_of}
-use Rattle.ds_broker.specs.Refusals.{room_refusal}
-use Rattle.ds_broker.specs.declared.refusal.BrokerRefusal.TheVariants.{Checker}
 use Rattle.ds_broker.proofs.NextLaws.{flows-after-reserve, flows-kept, table-after-reserve}
 use Rattle.ds_broker.proofs.RefusalLaws.{fitting, ordered, passed}
-use Rattle.ds_broker.proofs.TableLaws.{checked-refusal}
+use Rattle.ds_broker.proofs.TableLaws.{unrefused-checked}
 use Rattle.ds_broker.proofs.book.Book.with_reserved.Goals as goal
 
-pub admit-requires-clause-fit : goal.admit-requires-clause-fit
-admit-requires-clause-fit c =
-    let b = c.args.self.now in
-    let k = c.args.contract.now in
-    let none : room_refusal b k ≡ None = sym c.room_refusal.ensures.value ∙ c.in_default.is in
-    fitting b k c.in-Ok.table none (c.in-Ok.ensures ∙ c.self.invariant.table ∙ ap table_of c.self.view_is)
+pub take-requires-clause-fit : goal.take-requires-clause-fit
+take-requires-clause-fit c =
+    fitting c.args.self.now c.args.contract.now c.in-Ok.table c.in_default.ensures.unrefused (c.in-Ok.ensures ∙ c.self.invariant.table ∙ ap table_of c.self.view_is)
 
-pub admit-requires-clause-order : goal.admit-requires-clause-order
-admit-requires-clause-order c =
+pub take-requires-clause-order : goal.take-requires-clause-order
+take-requires-clause-order c =
     let b = c.args.self.now in
     let k = c.args.contract.now in
-    let none : room_refusal b k ≡ None = sym c.room_refusal.ensures.value ∙ c.in_default.is in
     let moment : c.moment_of-since.result ≡ moment_in b k.lifetime.since = c.moment_of-since.ensures ∙ ap (moment_in b) c.since.ensures in
-    subst (λ m. IsInOrder m k.lifetime.until) (sym moment) (ordered (moment_in b k.lifetime.since) k.lifetime.until (passed b k none).ordered)
+    subst (λ m. IsInOrder m k.lifetime.until) (sym moment) (ordered (moment_in b k.lifetime.since) k.lifetime.until (passed b k c.in_default.ensures.unrefused).ordered)
 
-pub returns-in-Err-clause-refused : goal.returns-in-Err-clause-refused
-returns-in-Err-clause-refused c =
+pub take-requires-clause-unrefused : goal.take-requires-clause-unrefused
+take-requires-clause-unrefused c =
     let b = c.args.self.now in
     let k = c.args.contract.now in
-    let none : room_refusal b k ≡ None = sym c.room_refusal.ensures.value ∙ c.in_default.is in
     let table : c.in-Ok.table ≡ table_of b = c.in-Ok.ensures ∙ c.self.invariant.table ∙ ap table_of c.self.view_is in
     let moment : c.moment_of-since.result ≡ moment_in b k.lifetime.since = c.moment_of-since.ensures ∙ ap (moment_in b) c.since.ensures in
-    elim c.in-Err.ensures.refused [
-      | inl memory ↦ inl memory
-      | inr refused ↦ inr (checked-refusal b k c.in-Ok.table c.moment_of-since.result none table moment ∙ refused)
-    ]
+    unrefused-checked b k c.in-Ok.table c.moment_of-since.result c.in_default.ensures.unrefused table moment (sym c.refusal_against.ensures.value ∙ c.in_default.is)
 
 pub returns-in-Ok-push-clause-table : goal.returns-in-Ok-push-clause-table
 returns-in-Ok-push-clause-table c =
@@ -42,7 +31,7 @@ returns-in-Ok-push-clause-table c =
     let k = c.args.contract.now in
     let table : c.in-Ok.table ≡ table_of b = c.in-Ok.ensures ∙ c.self.invariant.table ∙ ap table_of c.self.view_is in
     let moment : c.moment_of-since.result ≡ moment_in b k.lifetime.since = c.moment_of-since.ensures ∙ ap (moment_in b) c.since.ensures in
-    table-after-reserve b k c.in-Ok.table c.admit.new.table c.moment_of-since.result table moment c.in_default-admit.ensures.admitted
+    table-after-reserve b k c.in-Ok.table c.take.new.table c.moment_of-since.result table moment c.in-Ok-take.ensures.taken
 
 pub returns-in-Ok-push-clause-flows : goal.returns-in-Ok-push-clause-flows
 returns-in-Ok-push-clause-flows c =
@@ -50,12 +39,3 @@ returns-in-Ok-push-clause-flows c =
     let own = flows-kept c.self.inside b c.self.view_is c.self.invariant c.in-Ok-flows.flows.items (rw c.as_slice.ensures.value at c.in-Ok-flows.ensures) in
     let granted = c.self.invariant.granted ∙ ap (λ x. (standing x).granted) c.self.view_is in
     flows-after-reserve b c.args.contract.now c.in-Ok-flows.flows.items c.push.new.self.items c.self.inside.granted own granted c.in-Ok-push.ensures.items
-
-pub returns-in-Ok-push-clause-unrefused : goal.returns-in-Ok-push-clause-unrefused
-returns-in-Ok-push-clause-unrefused c =
-    let b = c.args.self.now in
-    let k = c.args.contract.now in
-    let none : room_refusal b k ≡ None = sym c.room_refusal.ensures.value ∙ c.in_default.is in
-    let table : c.in-Ok.table ≡ table_of b = c.in-Ok.ensures ∙ c.self.invariant.table ∙ ap table_of c.self.view_is in
-    let moment : c.moment_of-since.result ≡ moment_in b k.lifetime.since = c.moment_of-since.ensures ∙ ap (moment_in b) c.since.ensures in
-    checked-refusal b k c.in-Ok.table c.moment_of-since.result none table moment ∙ ap (λ o. option_map Checker o) c.in_default-admit.ensures.unrefused
