@@ -4,11 +4,11 @@ use meter_fabric::{Fabric, FabricLedger, Pass, Trail, Traveller, VisitFault};
 use meter_fabric_base::Numbered;
 use moment_core::{Moment, PacketSize};
 use std::alloc::Global;
+use std::process::Abort;
 use std::sync::Wait;
-use std::test::Fail;
 
 /// A packet in numbers.
-#[derive(Clone, Copy, Debug)]
+#[derive(Clone, Copy)]
 pub struct Packet {
     /// Its number.
     pub number: u64,
@@ -31,39 +31,35 @@ pub struct OnWay {
 
 /// A packet of a flow at its beginning, over a table that a feed sees.
 fn begun(
+    rt: &impl Abort,
     alloc: Global,
     numbered: &Numbered<'_>,
     flow: u32,
     packet: &Packet,
-) -> Result<OnWay, Fail> {
-    let size = PacketSize::new(packet.size)?;
-    let dscp = Dscp::new(packet.dscp)?;
-    let begun = Moment::new(packet.begun)?;
-    let traveller = Traveller::begin_numbered(
-        alloc,
-        numbered,
-        flow,
-        packet.number,
-        size,
-        dscp,
-        begun,
-    )?;
-    let comes = Moment::new(packet.comes)?;
-    Ok(OnWay { traveller, comes })
+) -> OnWay {
+    let size = PacketSize::new(packet.size).expect(rt, "a size");
+    let dscp = Dscp::new(packet.dscp).expect(rt, "a code point");
+    let begun = Moment::new(packet.begun).expect(rt, "a moment");
+    let comes = Moment::new(packet.comes).expect(rt, "a moment");
+    let made = Traveller::begin_numbered(alloc, numbered, flow, packet.number, size, dscp, begun);
+    let traveller = made.expect(rt, "a packet");
+    OnWay { traveller, comes }
 }
 
 /// Packets of a flow at their beginning.
 pub fn all_begun(
+    rt: &impl Abort,
     alloc: Global,
     numbered: &Numbered<'_>,
     flow: u32,
     packets: &[Packet],
-) -> Result<Vec<OnWay>, Fail> {
-    let mut ways = Vec::with_capacity(alloc, packets.len())?;
+) -> Vec<OnWay> {
+    let mut ways = Vec::new(alloc);
     for packet in packets {
-        ways.push(begun(alloc, numbered, flow, packet)?)?;
+        let way = begun(rt, alloc, numbered, flow, packet);
+        ways.push(way).expect(rt, "memory");
     }
-    Ok(ways)
+    ways
 }
 
 /// Takes a packet through the meters until its way has ended, or its edge is shut: what it carried away.

@@ -6,12 +6,11 @@ use run_audit::Verdict;
 use std::alloc::Global;
 use std::process::Abort;
 use std::sync::Wait;
-use std::test::Fail;
 use std::thread::Threads;
 use worked_texts::tight;
 
 /// The burst of `a`: sent in its last nanosecond, it comes to the meter with all the jitter of the link.
-const LAST: [Packet; 1] = [Packet {
+static LAST: [Packet; 1] = [Packet {
     number: 1,
     size: 3000,
     dscp: 10,
@@ -19,20 +18,27 @@ const LAST: [Packet; 1] = [Packet {
     comes: 1_000_999_999,
 }];
 
-/// The burst of `b` at a moment: sent and at the meter.
-fn burst(at: u64) -> [Packet; 1] {
-    [Packet {
-        number: 2,
-        size: 3000,
-        dscp: 18,
-        begun: at,
-        comes: at,
-    }]
-}
+/// The burst of `b`, sent and at the meter as soon as its contract begins.
+static NEXT: [Packet; 1] = [Packet {
+    number: 2,
+    size: 3000,
+    dscp: 18,
+    begun: 1_006_000_000,
+    comes: 1_006_000_000,
+}];
+
+/// The same a nanosecond earlier.
+static EARLY: [Packet; 1] = [Packet {
+    number: 2,
+    size: 3000,
+    dscp: 18,
+    begun: 1_005_999_999,
+    comes: 1_005_999_999,
+}];
 
 /// `a` is released at 1 s and retired once 6 ms have passed since; then `b` is granted its share. The one thread takes
 /// the packet of `a`, the other that of `b`.
-fn story(second: &[Packet]) -> Story<'_> {
+fn story(second: &'static [Packet]) -> Story {
     Story {
         first: Shares {
             one: &LAST,
@@ -67,29 +73,28 @@ fn told(left: &Left) -> (usize, usize, usize) {
     (left.journals.len(), rows, green)
 }
 
-/// The burst of `b`, sent at a moment, stays green behind that of `a`, and the verdict is as told.
+/// The burst of `b` stays green behind that of `a`, and the verdict is as told.
 fn expect<R: Threads + Wait + Abort + Copy + Drop + Sync>(
     rt: R,
     alloc: Global,
-    at: u64,
+    second: &'static [Packet],
     verdict: Verdict,
-) -> Result<(), Fail> {
-    let second = burst(at);
-    let text = tight(alloc)?;
-    let left = left_behind(rt, alloc, text.as_str(), &story(&second))?;
+) {
+    let text = tight(alloc).expect(&rt, "memory");
+    let left = left_behind(rt, alloc, text.as_str(), &story(second));
+    drop(text);
     let rt = &rt;
-    assert_eq!(rt; told(&left), (1, 2, 2));
-    assert_eq!(rt; judged(alloc, left)?, verdict);
-    Ok(())
+    assert!(rt; told(&left) == (1, 2, 2));
+    assert_eq!(rt; judged(rt, alloc, left), verdict);
 }
 
 #[test]
-fn a_share_that_is_sold_twice_is_kept_twice(rt: HostRuntime) -> Result<(), Fail> {
-    expect(rt, rt.alloc(), 1_006_000_000, Verdict::Kept)
+fn a_share_that_is_sold_twice_is_kept_twice(rt: HostRuntime) {
+    expect(rt, rt.alloc(), &NEXT, Verdict::Kept);
 }
 
 #[test]
-fn what_is_sent_before_its_contract_begins_is_told(rt: HostRuntime) -> Result<(), Fail> {
+fn what_is_sent_before_its_contract_begins_is_told(rt: HostRuntime) {
     let early = Verdict::OutsideContract { packet: 2 };
-    expect(rt, rt.alloc(), 1_005_999_999, early)
+    expect(rt, rt.alloc(), &EARLY, early);
 }
