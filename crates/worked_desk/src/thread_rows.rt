@@ -11,12 +11,14 @@ use std::process::Abort;
 use std::sync::Wait;
 use std::thread::{Threads, join, map_vec};
 
-/// How often each caller sells, and each feed looks.
-const EACH: u32 = 1000;
+/// How often each caller sells, and each feed looks: four callers fill the history of their broker with it, but for four
+/// commands of 65,536, since a sale is three.
+const EACH: u32 = 5_461;
 
-/// More seconds than four callers can take the moments of their broker on by: each of 4,000 retirements takes them on by
-/// at most a second and a hold, which is 6 ms. So a contract ends by then, however long its caller waits for its turn.
-const SECONDS: u64 = 5000;
+/// More seconds than four callers can take the moments of their broker on by: each of their 21,844 retirements takes them
+/// on by at most a second and a hold, which is 6 ms. So a contract ends by then, however long its caller waits for its
+/// turn.
+const SECONDS: u64 = 25_000;
 
 /// What a caller is told of a reserve: its front, or why it is refused.
 type Told<J> = Result<Front<J>, BrokerRefusal>;
@@ -213,7 +215,7 @@ fn sell_each<J: Naming, R: Wait + Drop, W: Wait + Abort>(
     broker: &Broker<J, R>,
     sold: &Contract,
 ) -> Left<J> {
-    let mut ids = Vec::with_capacity(alloc, 1000).expect(rt, "memory");
+    let mut ids = Vec::with_capacity(alloc, 5_461).expect(rt, "memory");
     let mut last = None;
     for _ in 0..EACH {
         let (id, front) = sell_once(rt, alloc, broker, sold);
@@ -341,9 +343,9 @@ where
     gather(rt, alloc, all.expect(rt, "memory"))
 }
 
-/// The ids that were granted are the first 4,000.
+/// The ids that were granted are the first 21,844.
 fn expect_ids(rt: &impl Abort, ids: &mut [u32]) {
-    assert_eq!(rt; ids.len(), 4000);
+    assert_eq!(rt; ids.len(), 21_844);
     ids.sort_unstable();
     for (place, id) in ids.iter().enumerate() {
         assert_eq!(rt; *id as usize, place + 1);
@@ -354,7 +356,7 @@ fn expect_ids(rt: &impl Abort, ids: &mut [u32]) {
 fn expect_feeds<J: Naming>(rt: &impl Abort, feeds: Vec<Feed<J>>, fronts: &[Front<J>]) {
     assert_eq!(rt; feeds.len(), 4);
     for feed in feeds {
-        assert_eq!(rt; serial_behind(rt, feed, fronts), 12_000);
+        assert_eq!(rt; serial_behind(rt, feed, fronts), 65_532);
     }
 }
 
