@@ -30,8 +30,8 @@ unfoldable pub newest_after : ℕ → List FrameValue → ℕ
 newest_after newest [] = newest
 newest_after newest (f ∷ frames) = newest_after (max newest f.moment) frames
 
--- frames as they are seen at a link and held, of which the first has this number, and before which the greatest stamp is
--- this
+-- frames as they are seen at a link and held, of which the first has this number, and before which this is the greatest
+-- stamp
 unfoldable pub held_from : LinkType → (List ℕ → Sight) → ℕ → ℕ → List FrameValue → List Held
 held_from link see number newest [] = []
 held_from link see number newest (f ∷ frames) =

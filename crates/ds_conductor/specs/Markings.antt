@@ -73,8 +73,8 @@ marking_in t port red bytes = marking_behind t port red (heading_of bytes) (capt
 abbrev pub judged : Verdict → Marking → Marking
 judged verdict m = record m { report = with_verdict verdict m.report }
 
--- A verdict is that of the audit on a run behind packets that are sent: their visits made it, and in it each packet left
--- its last meter with the colour that it is marked with. Where it is Kept, that is the colour that it was sent with.
+-- A verdict is that of the audit on a run behind packets that are sent: their visits made it, and each packet left its
+-- last meter there with the colour that it is marked with. Where it is Kept, that is the colour that it was sent with.
 pub record IsVerdictOn (t : Table) (sent : List Sent) (verdict : Verdict) : Type 0 where
   pub run : Run
   pub behind : IsBehind t sent run
@@ -93,8 +93,8 @@ pub record IsCutOff (marked : List ℕ → Marking) (bytes more before after : L
   pub written : IsFrontOf before (marked read).text after
   pub told : report ≡ (marked read).report
 
--- Memory ran out: a front of the marking of what was read is written, and told is the report of those of its frames that
--- memory was there for. What is written is a front of the marking of these alone, so the report covers all of it.
+-- Memory ran out: a front of the marking of what was read is written, and told is the report of those of its frames
+-- that memory was there for. What is written is a front of the marking of these alone, so the report covers all of it.
 pub record IsStarved (t : Table) (port : List ℕ) (red : RedRule) (bytes more before after : List ℕ) (report : Report)
     : Type 0 where
   pub read : List ℕ

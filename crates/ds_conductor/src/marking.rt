@@ -46,10 +46,10 @@ const TURNS: u64 = 1 << 32;
 ///
 /// Refused, with the report of what was read: `UnknownPort` exactly where the domain has no port of that name (nothing
 /// is read); `NoMemory` (a front is written, and the report is that of the frames that memory was there for, of whose
-/// marking that is a front too); `Capture` with the first fault that stands in the capture, or a read fault, where every
-/// record before it is written, or with a write fault, where a front is written. Where a device fails to give bytes, and
-/// what it gave before cannot be written whole, that is what is answered: a read fault says that all of it stands there.
-/// The device's own count tells that it failed. It never answers `JournalFull`: no journal is kept.
+/// marking that is a front too); `Capture` with the first fault that stands in the capture, or a read fault, where
+/// every record before it is written, or with a write fault, where a front is written. Where a device fails to give
+/// bytes, and what it gave before cannot be written whole, that is what is answered: a read fault says that all of it
+/// stands there. The device's own count tells that it failed. It never answers `JournalFull`: no journal is kept.
 pub fn mark<I: Intake, O: Outlet, G: Gate>(
     alloc: Global,
     accepted: &Accepted,

@@ -63,8 +63,8 @@ fn finish(progress: &mut Progress) -> Result<bool, PcapFault>
     }
 }
 
-/// Takes a piece of a device, which has no byte behind the heading as long as that is to come, and reads it. Answers how
-/// many bytes were taken: none only where no byte is left.
+/// Takes a piece of a device, which has no byte behind the heading as long as that is to come, and reads it. Answers
+/// how many bytes were taken: none only where no byte is left.
 fn take_piece<I: Intake>(
     alloc: Global,
     intake: &mut I,
