@@ -12,8 +12,8 @@ use std::sync::{Mutex, MutexGuard, Wait};
 /// All that the desk answers, to whichever callers, is of one history: what one caller is told begins what another is
 /// told later, or the other way round (`Front::longer`).
 ///
-/// A command waits for the feeds that look at an older table, and so do, meanwhile, all callers. Thus a caller who keeps
-/// a look of its own and sells waits for himself, and for ever: a look is ended before a command.
+/// A command waits for the feeds that look at an older table, and so do, meanwhile, all callers. Thus who keeps a look
+/// and sells waits for himself, and for ever: a look is ended before a command.
 #[derive(Drop)]
 pub struct Broker<J: Naming, R: Wait + Drop> {
     desk: Mutex<Desk<J, R>>,

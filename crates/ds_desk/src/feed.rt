@@ -78,8 +78,8 @@ impl<J: Naming> Feed<J> {
 
     /// Looks at the newest table. Its history has all that the feed knows of.
     ///
-    /// Else the feed comes back, as it was: with `DeskGone` where the desk is gone; with `PageBehind` where the page that
-    /// is shown does not go as far as what the feed knows of.
+    /// Else the feed comes back, as it was: with `DeskGone` where the desk is gone; with `PageBehind` where the page
+    /// that is shown does not go as far as what the feed knows of.
     pub fn look(self) -> Result<Seen<J>, (Self, LookFault)>
         ensures { MatchResult result (λ seen. IsPrefix self seen) (λ unseen. unseen.0 ≡ self) }
     {
