@@ -1,6 +1,7 @@
 #!/bin/sh
 # Checks the man page and the completion for bash against the program: man has no warning of the page, and each command and each
-# option that `--help` tells stands in both. Checks too that `--version` names the logic of the kit that is installed.
+# option that `--help` tells stands in both. Checks too that `--version` names the logic of the kit that is installed, and that
+# the layers in ARCHITECTURE.md are those that layers.sh draws.
 #
 #     docs/check.sh
 set -eu
@@ -48,5 +49,11 @@ done
 logic=$(rt version | sed -n 's/.* logic //p')
 [ "$("$program" --version | sed -n 's/^logic //p')" = "$logic" ] || lacks "--version" "the logic of rt version: $logic"
 
-[ "$missing" -eq 0 ] && echo "the man page and the completion name all commands and options, and --version the logic"
+layers=$("$docs/layers.sh")
+case $(cat "$docs/ARCHITECTURE.md") in
+    *"$layers"*) ;;
+    *) lacks ARCHITECTURE.md "the layers as layers.sh draws them" ;;
+esac
+
+[ "$missing" -eq 0 ] && echo "the man page and the completion name all commands and options, --version the logic, and ARCHITECTURE.md the layers"
 exit "$missing"
