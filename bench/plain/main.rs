@@ -13,7 +13,7 @@ use std::process::ExitCode;
 const TOKEN: u64 = 8_000_000_000;
 
 /// The most arrivals that one run answers.
-const MOST_ARRIVALS: u64 = 1 << 20;
+const MOST_ARRIVALS: u64 = 1 << 44;
 
 /// The bytes that are read at once.
 const PIECE: usize = 1 << 16;

@@ -46,9 +46,9 @@ abbrev pub closing : Ending → Accounts → List ℕ
 closing Whole accounts = accounts_text_of accounts
 closing _ accounts = []
 
--- a meter before any arrival, which takes 2^20 arrivals
+-- a meter before any arrival, which takes 2^44 arrivals
 abbrev pub fresh_meter : AnyMeter → Running
-fresh_meter meter = record { standing = fresh meter 0; most = 2 ^ 20 }
+fresh_meter meter = record { standing = fresh meter 0; most = 2 ^ 44 }
 
 -- how many arrivals a meter still takes
 abbrev pub room_of : Running → ℕ

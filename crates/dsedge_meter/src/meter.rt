@@ -68,7 +68,7 @@ impl MeterCommand {
     ghost use Rattle.dsedge_meter.specs.Metered.{fresh_meter};
 
     /// The most arrivals that it answers.
-    const MOST_ARRIVALS: u64 = 1 << 20;
+    const MOST_ARRIVALS: u64 = 1 << 44;
 
     /// The command over a meter before any arrival.
     pub fn new(alloc: Global, meter: AnyMeter) -> Self

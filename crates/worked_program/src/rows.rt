@@ -105,6 +105,27 @@ fn colours_and_accounts(rt: HostRuntime) -> Result<(), Fail> {
     Ok(())
 }
 
+/// Arrivals of a byte, one more than a book has room for.
+fn many_arrivals(rt: &impl Abort, alloc: Global) -> String {
+    let mut text = String::new(alloc);
+    for _ in 0..1_048_577 {
+        text.push_str("0 1 g\n").expect(rt, "room for a line");
+    }
+    text
+}
+
+#[test]
+fn a_meter_keeps_no_row_and_has_no_end(rt: HostRuntime) -> Result<(), Fail> {
+    let text = many_arrivals(&rt, rt.alloc());
+    let intake = SliceIntake::new(text.as_bytes());
+    let output = VecOutlet::new(Vec::new(rt.alloc()));
+    let done = run(&rt, rt.alloc(), BLIND, NO_FILES, intake, output)?;
+    let accounts = b"red\ngreen 1500 1500\nyellow 1500 1500\nred 1045577 1045577\n";
+    assert!(rt; done.output.ends_with(accounts));
+    assert_eq!(rt; done.status, 0);
+    Ok(())
+}
+
 /// Lines that are no arrival, the empty one first.
 const NO_ARRIVALS: &str =
     "\n0 0 g\n0 1 g\r\n0  1 g\n\x200 1 g\n0 1 g\x20\n0 1\n0 1 g 2\n0 1 b\n0 1 green\n\
