@@ -28,7 +28,7 @@ certificate=$folder/certificate
 #     words_of NAME RED
 words_of() {
     case $1 in
-        proved) words=("$proved" mark "$domain" "$certificate" --port port --workers 1 --red "$2") ;;
+        proved) words=("$proved" mark "$domain" "$certificate" --port port --red "$2") ;;
         plain) words=("$folder/plain" "$domain" port "$2") ;;
         rewriting) words=(tcprewrite --tos=40 "--infile=$folder/in.pcap" "--outfile=$folder/rewriting.pcap") ;;
     esac

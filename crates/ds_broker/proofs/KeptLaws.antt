@@ -43,7 +43,7 @@ held-length : (held : List Holding) (h : Holding) → length (held ++ h ∷ []) 
 held-length held h = length-append held (h ∷ [])
 
 -- nothing stood against one command more
-AreUnrefused-push : (b : Book) (commands : List Command) (command : Command) → AreUnrefused b commands → refusal_in (record b { history = b.history ++ commands }) command ≡ None
+pub AreUnrefused-push : (b : Book) (commands : List Command) (command : Command) → AreUnrefused b commands → refusal_in (record b { history = b.history ++ commands }) command ≡ None
     → AreUnrefused b (commands ++ command ∷ [])
 unfolding AreUnrefused
 AreUnrefused-push b [] command unrefused none = (subst (λ history. refusal_in (record b { history = history }) command ≡ None) (append-nil b.history) none, tt)

@@ -17,6 +17,7 @@ ghost use Rattle.ds_broker.specs.Found.{IsFound};
 ghost use Rattle.ds_broker.specs.Histories.{Holding, beginning, end_by, ended};
 ghost use Rattle.ds_broker.specs.Refusals.{IsRefusal, contract_fault, ends_early, free_from, release_refusal};
 ghost use Rattle.ds_broker.specs.Refusals.{reserve_refusal, retire_refusal, room_refusal};
+ghost use Rattle.ds_broker.specs.Requests.{AreUnrefused};
 
 use crate::command::Command;
 use crate::entry::{Entry, Grant, Room, Serial};
@@ -247,9 +248,10 @@ impl Book {
         self.limits
     }
 
-    /// The commands that it accepted, in their order.
+    /// The commands that it accepted, in their order. Nothing stood against any of them when its turn came.
     pub fn history(&self) -> &[Command]
-        ensures { result.now ≡ self.now.history }
+        ensures commands { result.now ≡ self.now.history }
+        ensures unrefused { AreUnrefused (record self.now { history = [] }) self.now.history }
     {
         self.history.as_slice()
     }

@@ -1,14 +1,21 @@
 -- What a page stands for, as the log of its desk grows.
-use Rattle.std.proofs.Common.{◌≡◌, ℕ, suc, ◌-◌, ◌<◌, ◌≤◌, List, [], ◌∷◌, ◌++◌, length, take, slice_get, Some, refl, ap, sym, ◌∙◌, arith}
+use Rattle.std.proofs.Common.{◌≡◌, ℕ, suc, ◌-◌, ◌<◌, ◌≤◌, List, [], ◌∷◌, ◌++◌, length, take, slice_get, None, Some, refl, ap, subst, sym, ◌∙◌, arith}
 use mathlib.Core.List.{IsPrefix}
 use Rattle.ds_checker.specs.Acceptance.{Table}
-use Rattle.ds_broker.specs.Books.{Book, table_of}
+use Rattle.ds_broker.specs.Books.{Book, table_of, with_command}
+use Rattle.ds_broker.specs.Refusals.{refusal_in}
+use Rattle.ds_broker.specs.Requests.{AreUnrefused}
 use Rattle.ds_broker.specs.declared.command.Command.{Command}
 use Rattle.ds_desk.specs.declared.log.Act.{Act}
 use Rattle.ds_desk.specs.declared.log.Act.TheVariants.{Tried, Kept}
+use Rattle.ds_desk.specs.declared.log.End.{End}
+use Rattle.ds_desk.specs.declared.page.Page.{Page}
 use Rattle.ds_desk.specs.Acts.{course_of, history_in, story_in}
-use Rattle.ds_desk.specs.Histories.{table_behind}
+use Rattle.ds_desk.specs.Histories.{book_behind, table_behind}
+use Rattle.ds_desk.specs.Pages.{IsOfDesk}
 use Rattle.ds_desk.specs.Rules.{IsKeptAt}
+use Rattle.logbook.specs.Pages as pages
+use Rattle.ds_broker.proofs.KeptLaws.{AreUnrefused-push}
 use Rattle.ds_desk.proofs.Courses.{history_kept, history_tried, story_tried}
 use Rattle.ds_desk.proofs.Fronts.{get_within, take_next}
 
@@ -46,3 +53,27 @@ front_kept tried log acts begins kept some last =
       omega arith,
       ap (λ n. history_in (take n log)) many ∙ ap history_in (take_next tried log Kept begins at) ∙ history_kept tried,
     )
+
+-- the page of a command that was tried, and against which nothing stands, is of the desk of its book
+pub of_desk : (page : Page) (end : End) (b opening : Book) (log : pages.Book) (command : Command) → page.tried ≡ end → end.seen.book ≡ log
+    → page.table ≡ table_of (with_command b command) → b ≡ book_behind opening b.history → story_in end.seen.log ≡ b.history ++ command ∷ []
+    → AreUnrefused (record b { history = [] }) b.history → refusal_in b command ≡ None → IsOfDesk log opening page
+of_desk page end b opening log command tried logged table named story unrefused none =
+    let more : AreUnrefused (record b { history = [] }) (b.history ++ command ∷ []) = AreUnrefused-push (record b { history = [] }) b.history command unrefused none in
+    let told : AreUnrefused (record b { history = [] }) (story_in page.tried.seen.log) =
+    subst (AreUnrefused (record b { history = [] })) (sym (ap (λ e. story_in e.seen.log) tried ∙ story)) more in
+    let same : record b { history = [] } ≡ book_behind opening [] = ap (λ (x : Book). record x { history = [] }) named in record {
+      logged = ap (λ e. e.seen.book) tried ∙ logged;
+      domain = ap (λ t. t.domain) table ∙ ap (λ x. x.domain) named;
+      unrefused = subst (λ (x : Book). AreUnrefused x (story_in page.tried.seen.log)) same told;
+    }
+
+-- the first page is of the desk that it opens
+pub of_opening : (page : Page) (opening : Book) (log : pages.Book) → page.tried.seen.log ≡ [] → page.tried.seen.book ≡ log
+    → page.table.domain ≡ opening.domain → IsOfDesk log opening page
+unfolding AreUnrefused
+of_opening page opening log none logged domain = record {
+  logged = logged;
+  domain = domain;
+  unrefused = subst (AreUnrefused (book_behind opening [])) (sym (story_opening page.tried.seen.log none)) tt;
+}

@@ -240,6 +240,8 @@ impl<J: Naming, R: Wait + Drop> Desk<J, R> {
     pub fn front(&self) -> Front<J>
         ensures { result ≡ self.now.history }
     {
+        // nothing stood against what its book accepted
+        let _history = self.book.history();
         Front::at(&self.press.end, self.book.serial())
     }
 

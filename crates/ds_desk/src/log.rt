@@ -2,7 +2,9 @@
 //! length, and tokens of beginnings that were seen.
 ghost use Rattle.std.specs.Prelude.{◌≡◌, ◌+◌, ◌≤◌, ◌⊎◌, ◌++◌, ◌∷◌, [], None, IfSome, MatchBool, length, nat_le};
 ghost use mathlib.Core.List.{IsPrefix};
+ghost use Rattle.ds_broker.specs.Requests.{AreUnrefused};
 ghost use Rattle.ds_desk.specs.Acts.{history_in};
+ghost use Rattle.ds_desk.specs.Histories.{book_behind};
 ghost use Rattle.ds_desk.specs.Rules.{head_of};
 
 use ds_broker::{Command, Serial};
@@ -208,7 +210,7 @@ impl<J: Naming> Log<J> {
 }
 
 /// A beginning of a desk's history: what an answer rests on, or what a feed saw. Contracts see it as the commands in
-/// it.
+/// it. Nothing stood against any of them when its turn came.
 ///
 /// Of two fronts of a desk the one begins the other.
 #[derive(Drop)]
@@ -220,16 +222,19 @@ pub struct Front<J: Naming> {
 }
 
 impl<J: Naming> Model for Front<J> {
-    ghost use Rattle.std.specs.Prelude.{◌≡◌, ◌≤◌, List, length, take};
+    ghost use Rattle.std.specs.Prelude.{◌≡◌, ◌≤◌, List, [], length, take};
+    ghost use Rattle.ds_broker.specs.Requests.{AreUnrefused};
     ghost use Rattle.ds_broker.specs.declared.command.Command.{Command};
     ghost use Rattle.ds_desk.specs.Acts.{history_in};
+    ghost use Rattle.ds_desk.specs.Histories.{book_behind};
 
     ghost Value = { List Command };
 
     ghost view = { λ f. history_in (take f.acts f.seen.log) };
 
     ghost invariant = { λ f. (f.acts ≤ length f.seen.log) × (f.serial ≡ length (history_in (take f.acts f.seen.log)))
-        × (f.seen.book ≡ J.log) };
+        × (f.seen.book ≡ J.log)
+        × AreUnrefused (book_behind J.opening []) (history_in (take f.acts f.seen.log)) };
 }
 
 impl<J: Naming> Front<J> {
@@ -237,6 +242,7 @@ impl<J: Naming> Front<J> {
     pub(crate) fn at(end: &End, serial: Serial) -> Self
         requires log { end.now.seen.book ≡ J.log }
         requires serial { serial ≡ length (history_in end.now.seen.log) }
+        requires unrefused { AreUnrefused (book_behind J.opening []) (history_in end.now.seen.log) }
         ensures { result ≡ history_in end.now.seen.log }
     {
         Front {
@@ -247,9 +253,10 @@ impl<J: Naming> Front<J> {
         }
     }
 
-    /// How many commands were accepted up to there.
+    /// How many commands were accepted up to there: those against which nothing stood.
     pub fn serial(&self) -> Serial
-        ensures { result ≡ length self.now }
+        ensures count { result ≡ length self.now }
+        ensures unrefused { AreUnrefused (book_behind J.opening []) self.now }
     {
         self.serial
     }

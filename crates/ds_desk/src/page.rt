@@ -1,9 +1,10 @@
 //! The pages that feeds see, each with a whole table.
 ghost use Rattle.std.specs.Prelude.{◌≡◌, ◌∷◌, ◌++◌, [], IfSome, false, length};
 ghost use Rattle.std.specs.Arc.{arc_value};
+ghost use Rattle.ds_broker.specs.Requests.{AreUnrefused};
 ghost use Rattle.ds_desk.specs.declared.log.Act.TheVariants.{Kept};
 ghost use Rattle.ds_desk.specs.Acts.{story_in};
-ghost use Rattle.ds_desk.specs.Histories.{flows_behind, table_behind};
+ghost use Rattle.ds_desk.specs.Histories.{book_behind, flows_behind, table_behind};
 
 use crate::log::{Act, End, Front, Law, Naming};
 use crossbeam_utils::rule::{Outcome, Protocol};
@@ -58,7 +59,8 @@ impl Page {
 
     /// What it stands for, if it was kept.
     pub(crate) fn front<J: Naming>(&self) -> Option<Front<J>>
-        requires { self.now.tried.seen.book ≡ J.log }
+        requires book { self.now.tried.seen.book ≡ J.log }
+        requires unrefused { AreUnrefused (book_behind J.opening []) (story_in self.now.tried.seen.log) }
         ensures { IfSome result (λ front. front ≡ story_in self.now.tried.seen.log) }
     {
         let mut seen = self.tried.seen.again();
@@ -97,17 +99,16 @@ impl Absorb<Shown> for Shown {
     }
 }
 
-/// The rule of what is shown: each page is of one desk.
+/// The rule of what is shown: each page is of one desk, and stands for commands against which nothing stood.
 pub struct OneDesk<J: Naming> {
     of: PhantomData<J>,
 }
 
 impl<J: Naming> Protocol<Shown, ()> for OneDesk<J> {
-    ghost use Rattle.std.specs.Prelude.{◌≡◌};
     ghost use Rattle.std.specs.Arc.{arc_value};
+    ghost use Rattle.ds_desk.specs.Pages.{IsOfDesk};
 
-    ghost holds = { λ shown views. ((arc_value shown.page).tried.seen.book ≡ J.log)
-        × ((arc_value shown.page).table.domain ≡ J.opening.domain) };
+    ghost holds = { λ shown views. IsOfDesk J.log J.opening (arc_value shown.page) };
 
     ghost first = { tt };
 }
@@ -118,9 +119,8 @@ pub struct Sees<J: Naming> {
 }
 
 impl<J: Naming> Outcome<Shown, ()> for Sees<J> {
-    ghost use Rattle.std.specs.Prelude.{◌≡◌};
     ghost use Rattle.std.specs.Arc.{arc_value};
+    ghost use Rattle.ds_desk.specs.Pages.{IsOfDesk};
 
-    ghost then = { λ before shown next after. ((arc_value shown.page).tried.seen.book ≡ J.log)
-        × ((arc_value shown.page).table.domain ≡ J.opening.domain) };
+    ghost then = { λ before shown next after. IsOfDesk J.log J.opening (arc_value shown.page) };
 }

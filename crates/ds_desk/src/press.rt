@@ -4,7 +4,8 @@ ghost use Rattle.std.specs.Arc.{arc_value};
 ghost use Rattle.ds_broker.specs.Books.{table_of, with_command};
 ghost use Rattle.ds_broker.specs.Refusals.{IsRefusal, refusal_in};
 ghost use Rattle.ds_desk.specs.Acts.{history_in, story_in};
-ghost use Rattle.ds_desk.specs.Pages.{last_page};
+ghost use Rattle.ds_desk.specs.Histories.{book_behind};
+ghost use Rattle.ds_desk.specs.Pages.{IsOfDesk, last_page};
 ghost use Rattle.ds_desk.specs.declared.log.Act.TheVariants.{Kept};
 
 use crate::log::{End, Keeping, Log, Naming, Opened, Trying};
@@ -77,17 +78,21 @@ impl<J: Naming> Press<J> {
     ) -> Result<Arc<Page, Global>, BrokerRefusal>
         requires log { self.old.end.seen.book ≡ J.log }
         requires history { history_in self.old.end.seen.log ≡ book.now.history }
+        requires named { book.now ≡ book_behind J.opening book.now.history }
         ensures log { self.new.end.seen.book ≡ J.log }
         ensures history { history_in self.new.end.seen.log ≡ book.now.history }
         ensures shown { self.new.tables.desk.shown.value ≡ self.old.tables.desk.shown.value }
         ensures page { IfOk result (λ page. (arc_value page).table ≡ table_of (with_command book.now command.now)) }
         ensures tried { IfOk result (λ page. (arc_value page).tried ≡ self.new.end) }
+        ensures desk { IfOk result (λ page. IsOfDesk J.log J.opening (arc_value page)) }
         ensures story { OnOk result (story_in self.new.end.seen.log ≡ book.now.history ++ command.now ∷ []) }
         ensures laid { IfOk result (λ page. last_page (arc_value self.new.tables.desk.shown.value.page)
             (drop self.new.tables.behind self.new.tables.log.items) ≡ arc_value page) }
         ensures unrefused { OnOk result (refusal_in book.now command.now ≡ None) }
         ensures refused { IfErr result (λ refusal. IsRefusal (refusal_in book.now command.now) refusal) }
     {
+        // nothing stood against what it accepted
+        let _history = book.history();
         let next = match book.next(alloc, command) {
             Ok(next) => next,
             Err(refusal) => return Err(refusal),
@@ -118,7 +123,7 @@ impl<J: Naming> Press<J> {
     pub(crate) fn keep<R: Wait>(&mut self, rt: &R, page: &Page)
         requires log { self.old.end.seen.book ≡ J.log }
         requires tried { page.now.tried ≡ self.old.end }
-        requires domain { page.now.table.domain ≡ J.opening.domain }
+        requires desk { IsOfDesk J.log J.opening page.now }
         requires laid { last_page (arc_value self.old.tables.desk.shown.value.page)
             (drop self.old.tables.behind self.old.tables.log.items) ≡ page.now }
         ensures log { self.new.end.seen.book ≡ J.log }
@@ -131,10 +136,8 @@ impl<J: Naming> Press<J> {
             &mut self.tables,
             rt,
             |tables: Tables<J>, rt: &R| -> (Tables<J>, ())
-                requires { ((last_page (arc_value tables.desk.shown.value.page)
-                    (drop tables.behind tables.log.items)).tried.seen.book ≡ J.log)
-                    × ((last_page (arc_value tables.desk.shown.value.page)
-                    (drop tables.behind tables.log.items)).table.domain ≡ J.opening.domain) }
+                requires { IsOfDesk J.log J.opening
+                    (last_page (arc_value tables.desk.shown.value.page) (drop tables.behind tables.log.items)) }
             { (shown(rt, tables), ()) },
         );
     }
@@ -155,10 +158,8 @@ fn kept<J: Naming, R: Wait>(rt: &R, log: &Log<J>, end: &End) -> End
 
 /// Shows the page that was laid up last. It takes no memory: the first attempt does, unless a page has 2^63 owners.
 fn shown<J: Naming, R: Wait>(rt: &R, tables: Tables<J>) -> Tables<J>
-    requires log { (last_page (arc_value tables.desk.shown.value.page)
-        (drop tables.behind tables.log.items)).tried.seen.book ≡ J.log }
-    requires domain { (last_page (arc_value tables.desk.shown.value.page)
-        (drop tables.behind tables.log.items)).table.domain ≡ J.opening.domain }
+    requires { IsOfDesk J.log J.opening
+        (last_page (arc_value tables.desk.shown.value.page) (drop tables.behind tables.log.items)) }
     ensures { arc_value result.desk.shown.value.page
         ≡ last_page (arc_value tables.desk.shown.value.page) (drop tables.behind tables.log.items) }
 {

@@ -60,11 +60,11 @@ audit = on_table (codes "audit")
 abbrev pub drive : App
 drive = with_rule (new_app (codes "drive")) (positional (codes "domain"))
 
--- a capture is marked at a port, by workers, with a rule for red frames
+-- a capture is marked at a port, by workers where it is said by how many, with a rule for red frames
 abbrev pub mark : App
 mark = with_rule (with_rule (with_rule (on_table (codes "mark"))
     (required (codes "port")))
-    (required (codes "workers")))
+    (optional (codes "workers")))
     (required (codes "red"))
 
 abbrev pub dsedge : App

@@ -134,8 +134,13 @@ table_given given = do
 abbrev pub workers_said : List ℕ → Option ℕ
 workers_said = number_within 1 1
 
+-- and one where none are given
+abbrev pub workers_asked : Option (List ℕ) → Option ℕ
+workers_asked None = Some 1
+workers_asked (Some text) = workers_said text
+
 abbrev pub workers_given : Given → Option ℕ
-workers_given given = given (codes "workers") >>= workers_said
+workers_given given = workers_asked (given (codes "workers"))
 
 -- whether red frames are kept, or dropped
 abbrev pub red_said : List ℕ → Option Bool

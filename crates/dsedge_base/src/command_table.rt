@@ -168,10 +168,10 @@ const COMMANDS: &[CommandEntry] = &[
                 help: "the port that the frames come in at",
             },
             ArgumentEntry {
-                form: Form::Needed,
+                form: Form::Choice,
                 name: "workers",
                 value: "WORKERS",
-                help: "how many workers mark: 1",
+                help: "how many workers mark: 1 [default: 1]",
             },
             ArgumentEntry {
                 form: Form::Needed,

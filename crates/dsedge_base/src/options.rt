@@ -4,7 +4,7 @@ ghost use Rattle.dsedge_base.specs.Options.{burst_given, burst_said, envelope_bu
 ghost use Rattle.dsedge_base.specs.Options.{marking_given, meter_given, mode_said, moment_said, opened};
 ghost use Rattle.dsedge_base.specs.Options.{origin_said, parameters_given, rate_given, rate_said, red_said};
 ghost use Rattle.dsedge_base.specs.Options.{separate_rates_given, single_rate_given, table_given, two_rate_given};
-ghost use Rattle.dsedge_base.specs.Options.{workers_given, workers_said};
+ghost use Rattle.dsedge_base.specs.Options.{workers_asked, workers_given, workers_said};
 ghost use Rattle.dsedge_base.specs.Plans.{given_by};
 
 use clap::ArgMatches;
@@ -72,7 +72,7 @@ pub(crate) fn marking_in<'a>(options: &ArgMatches<'a>) -> Option<(GivenName<'a>,
 pub(crate) fn workers_in(options: &ArgMatches<'_>) -> Option<u64>
     ensures { result ≡ workers_given (given_by (rows_of (found_of options.now))) }
 {
-    workers_said_by(text_in(options, "workers")?)
+    workers_asked_by(text_in(options, "workers"))
 }
 
 /// The meter of parameters that are those of one.
@@ -178,6 +178,16 @@ fn mode_said_by(text: &str) -> Option<Mode>
         "blind" => Some(Mode::Blind),
         "aware" => Some(Mode::Aware),
         _ => None,
+    }
+}
+
+/// How many workers are asked for: 1 where none are given.
+fn workers_asked_by(text: Option<&str>) -> Option<u64>
+    ensures { result ≡ workers_asked (option_map (λ text. text.now) text.entry) }
+{
+    match text {
+        Some(text) => workers_said_by(text),
+        None => Some(1),
     }
 }
 

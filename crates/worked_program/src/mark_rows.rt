@@ -94,7 +94,7 @@ fn a_red_frame_is_left_out(rt: HostRuntime) -> Result<(), Fail> {
     let (green, yellow) = (marked(0x28, 0x39), marked(0x30, 0x31));
     let told = "records 3\nmarked 3\nunmatched 0\nskipped 0\nunverified 0\ndropped 1\n\
         green 1 115\nyellow 1 115\nred 1 115\n";
-    let words = (NARROW, "--port p --workers 1 --red drop");
+    let words = (NARROW, "--port p --red drop");
     let given: &[&[u8]] = &[&HEADING, &TAGGED, &TAGGED, &TAGGED];
     let captures: (&[&[u8]], &[&[u8]]) = (given, &[&HEADING, &green, &yellow]);
     expect_of_mark(&rt, rt.alloc(), words, captures, (told, 0))

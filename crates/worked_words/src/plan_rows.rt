@@ -199,6 +199,7 @@ fn a_mark_names_two_files_a_port_and_a_rule(rt: HostRuntime) -> Result<(), Fail>
             "mark --red drop --workers 01 --port p domain.toml domain.cert",
             false,
         ),
+        ("mark domain.toml domain.cert --port p --red keep", true),
     ] {
         expect_plan(&rt, alloc, line, &mark_over_two(keeps_red))?;
     }
@@ -248,6 +249,8 @@ certify --domain one.toml
 check domain.toml
 check domain.toml domain.cert more
 mark domain.toml domain.cert --port p --workers 2 --red keep
+mark domain.toml domain.cert --port p --workers 0 --red keep
+mark domain.toml domain.cert --workers 1 --red keep
 mark domain.toml domain.cert --port p --workers 1 --red leave
 drive domain.toml domain.cert
 audit domain.toml

@@ -1,5 +1,7 @@
-use Rattle.std.proofs.Common.{◌≡◌, ◌-◌, ◌<◌, List, length, rules, ap, subst, sym, ◌∙◌}
+use Rattle.std.proofs.Common.{◌≡◌, ◌-◌, ◌<◌, List, [], length, rules, ap, subst, sym, ◌∙◌}
 use mathlib.Core.List.{IsPrefix}
+use Rattle.ds_broker.specs.Requests.{AreUnrefused}
+use Rattle.ds_desk.specs.Histories.{book_behind}
 use Rattle.ds_desk.specs.declared.log.Act.{Act}
 use Rattle.ds_desk.proofs.PageLaws.{front_kept}
 use Rattle.ds_desk.proofs.page.Page.front.Goals as goal
@@ -14,7 +16,8 @@ invariant_of-result g c =
     let front = front_kept page.tried.seen.log log c.load_hint-acts.result begins c.load_hint-acts.ensures.3 some last in (
       front.0,
       page.counted ∙ ap length (sym front.1),
-      c.load_hint-acts.ensures.0 ∙ ap (λ s. s.book) c.again-seen.ensures ∙ c.requires,
+      c.load_hint-acts.ensures.0 ∙ ap (λ s. s.book) c.again-seen.ensures ∙ c.requires.book,
+      subst (AreUnrefused (book_behind g.J.Naming.opening [])) (sym front.1) c.requires.unrefused,
     )
 
 pub returns-then-acts-self : goal.returns-then-acts-self

@@ -1,8 +1,11 @@
-use Rattle.std.proofs.Common.{◌≡◌, ◌++◌, ◌∷◌, [], length, arith, length-append, ap, sym, ◌∙◌}
+use Rattle.std.proofs.Common.{◌≡◌, ◌++◌, ◌∷◌, [], length, arith, rules, length-append, ap, subst, sym, ◌∙◌}
+use Rattle.std.specs.Arc.{arc_value}
 use Rattle.ds_broker.specs.Books.{with_command}
 use Rattle.ds_desk.specs.Acts.{story_in}
 use Rattle.ds_desk.specs.Histories.{flows_behind}
-use Rattle.ds_desk.proofs.PageLaws.{history_announced, story_announced, table_told}
+use Rattle.ds_desk.specs.Pages.{IsOfDesk}
+use Rattle.ds_desk.specs.declared.page.Page.{Page}
+use Rattle.ds_desk.proofs.PageLaws.{history_announced, of_desk, story_announced, table_told}
 use Rattle.ds_desk.proofs.press.Press.announce.Goals as goal
 
 pub new-page-requires-clause-table : goal.new-page-requires-clause-table
@@ -43,3 +46,12 @@ returns-in-Ok-append-clause-story g c =
 pub returns-in-Err-append-clause-history : goal.returns-in-Err-append-clause-history
 returns-in-Err-append-clause-history g c =
     history_announced c.args.self.now.end.seen.log c.in-Some.end.seen.log c.args.command.now c.args.book.now.history c.requires.history c.in-Some.ensures.0
+
+pub returns-in-Ok-append-clause-desk : goal.returns-in-Ok-append-clause-desk
+returns-in-Ok-append-clause-desk g c =
+    let story = story_announced c.args.self.now.end.seen.log c.in-Some.end.seen.log c.args.command.now c.args.book.now.history c.requires.history c.in-Some.ensures.0 in
+    let made = of_desk c.new-page.result c.in-Some.end c.args.book.now g.J.Naming.opening g.J.Naming.log c.args.command.now
+    (c.new-page.ensures.1 ∙ c.again.ensures) c.in-Some.ensures.1 (c.new-page.ensures.0 ∙ c.in-Ok.ensures.table) c.requires.named story
+    c.history-history.ensures.unrefused c.in-Ok.ensures.unrefused in
+    let is : arc_value c.in-Ok-new.page ≡ c.new-page.result = search rules in
+    subst (λ (p : Page). IsOfDesk g.J.Naming.log g.J.Naming.opening p) (sym is) made

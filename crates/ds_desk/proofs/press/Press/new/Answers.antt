@@ -1,9 +1,14 @@
-use Rattle.std.proofs.Common.{ap, sym, ◌∙◌}
+use Rattle.std.proofs.Common.{◌≡◌, ap, rules, subst, sym, ◌∙◌}
 use Rattle.std.specs.Prelude.{length}
+use Rattle.std.specs.Arc.{arc_value}
+use Rattle.ds_checker.specs.Acceptance.{Table}
 use Rattle.ds_desk.specs.Acts.{story_in}
 use Rattle.ds_desk.specs.Histories.{flows_behind}
 use Rattle.ds_broker.specs.Histories.{standing_of}
-use Rattle.ds_desk.proofs.PageLaws.{history_opening, story_opening, table_told}
+use Rattle.ds_desk.specs.Pages.{IsOfDesk}
+use Rattle.ds_desk.specs.declared.log.End.{End}
+use Rattle.ds_desk.specs.declared.page.Page.{Page}
+use Rattle.ds_desk.proofs.PageLaws.{history_opening, of_opening, story_opening, table_told}
 use Rattle.ds_desk.proofs.press.Press.new.Goals as goal
 
 pub new-page-requires-clause-table : goal.new-page-requires-clause-table
@@ -21,3 +26,12 @@ new-page-requires-clause-serial g c =
 
 pub returns-clause-history : goal.returns-clause-history
 returns-clause-history g c = history_opening c.named-log.result.1.seen.log c.in-Some.end.seen.log c.named-log.ensures.0 c.in-Some.ensures.0
+
+pub new-requires-3-clause-rule : goal.new-requires-3-clause-rule
+new-requires-3-clause-rule g c =
+    let first = of_opening c.new-page.result g.J.Naming.opening g.J.Naming.log
+    (ap (λ (e : End). e.seen.log) c.new-page.ensures.1 ∙ c.named-log.ensures.0)
+    (ap (λ (e : End). e.seen.book) c.new-page.ensures.1 ∙ c.named-log.ensures.1)
+    (ap (λ (t : Table). t.domain) (c.new-page.ensures.0 ∙ c.in_ok-table.ensures ∙ c.table.ensures.value) ∙ c.requires.domain) in
+    let is : arc_value c.in_ok-try_clone.field-0 ≡ c.new-page.result = search rules in
+    subst (λ (p : Page). IsOfDesk g.J.Naming.log g.J.Naming.opening p) (sym is) first
