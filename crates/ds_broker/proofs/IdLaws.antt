@@ -1,9 +1,11 @@
 -- Ids that are held count up: where one stands among them, or that it does not.
-use Rattle.std.proofs.Common.{◌≡◌, ◌≤◌, ◌<◌, ◌+◌, ℕ, zero, suc, false, List, [], ◌∷◌, ◌++◌, None, refl, arith, inl, inr}
+use Rattle.std.proofs.Common.{◌≡◌, ◌≤◌, ◌<◌, ◌+◌, ◌-◌, ℕ, zero, suc, false, List, [], ◌∷◌, ◌++◌, None, refl, ap, arith, inl, inr}
 use Rattle.std.proofs.Common.{get_or}
-use Rattle.std.specs.Prelude.{⊤, fold, length, nat_eq}
+use Rattle.std.specs.Prelude.{⊤, fold, length, map, nat_eq}
 use Rattle.std.specs.List.{AllByRecursion}
+use Rattle.std.specs.List.Sorted.{IsStrictlyIncreasing}
 use Rattle.std.proofs.lemmas.Bool.{cases_Bool}
+use Rattle.std.proofs.lemmas.List.{length-map}
 use Rattle.ds_broker.specs.Books.{holding_of}
 use Rattle.ds_broker.specs.Found.{IsFirst}
 use Rattle.ds_broker.specs.Histories.{Holding, Standing, after, begun, opening, standing_of, with_released, with_retired}
@@ -107,3 +109,49 @@ missing-apart id (h ∷ held) none = elim (cases_Bool (nat_eq id h.id)) [
   | inl same ↦ absurd (none 0 (omega arith) (grind (arith, same)))
   | inr other ↦ rw other (missing-apart id held (λ k within here. none (suc k) (omega (arith, within)) here))
 ]
+
+-- ---- the flows of what is held, each the id less 1
+
+-- no id is 0
+abbrev AreGiven : List Holding → Type 0
+AreGiven held = AllByRecursion (λ h. 0 < h.id) held
+
+given-push : (held : List Holding) (h : Holding) → AreGiven held → 0 < h.id → AreGiven (held ++ h ∷ [])
+given-push [] h all one = (one, tt)
+given-push (g ∷ held) h all one = (all.0, given-push held h all.1 one)
+
+given-after : (s : Standing) (command : Command) → AreGiven s.held → AreGiven (after s command).held
+given-after s (Reserve c) all = given-push s.held (record { id = s.granted + 1; contract = begun s.newest c; released = false }) all (omega arith)
+given-after s (Release id at) all = above-released 0 id _ s.held all
+given-after s (Retire id moment) all = above-retired 0 id s.held all
+
+given-fold : (s : Standing) (commands : List Command) → AreGiven s.held → AreGiven (fold after s commands).held
+given-fold s [] all = all
+given-fold s (command ∷ commands) all = given-fold (after s command) commands (given-after s command all)
+
+standing-given : (history : List Command) → AreGiven (standing_of history).held
+unfolding standing_of
+standing-given history = given-fold opening history tt
+
+id-next : (held : List Holding) (k : ℕ) → IsRising held → suc k < length (ids_in held) → get_or (ids_in held) k 0 < get_or (ids_in held) (suc k) 0
+unfolding IsRising
+id-next [] k rising within = absurd (let none : ⊥ = omega (arith, within) in none)
+id-next (h ∷ held) zero rising within = above-at h.id held 0 rising.0 (omega (arith, within))
+id-next (h ∷ held) (suc k) rising within = id-next held k rising.1 (omega (arith, within))
+
+flow-at : (held : List Holding) (k : ℕ) → get_or (map (λ h. h.id - 1) held) k 0 ≡ get_or (ids_in held) k 0 - 1
+flow-at [] k = refl
+flow-at (h ∷ held) zero = refl
+flow-at (h ∷ held) (suc k) = flow-at held k
+
+-- the flows of what is held behind any history rise
+pub flows-rising : (history : List Command) → IsStrictlyIncreasing (map (λ h. h.id - 1) (standing_of history).held)
+flows-rising history k within =
+    let held = (standing_of history).held in
+    let next : suc k ≡ k + 1 = omega arith in
+    let long : length (map (λ h. h.id - 1) held) ≡ length held = length-map held (λ h. h.id - 1) in
+    let many : length (ids_in held) ≡ length held = length-map held (λ h. h.id) in
+    let given : 0 < get_or (ids_in held) k 0 = above-at 0 held k (standing-given history) (omega (arith, within, long, many)) in
+    let more : get_or (ids_in held) k 0 < get_or (ids_in held) (suc k) 0 = id-next held k (standing-rising history) (omega (arith, within, long, many)) in
+    let there = ap (λ i. get_or (ids_in held) i 0) next in
+    omega (arith, given, more, there, flow-at held k, flow-at held (k + 1))

@@ -1,20 +1,25 @@
 -- The way of a packet as sites one behind the other.
-use Rattle.std.proofs.Common.{◌≡◌, ◌⊎◌, inl, inr, ◌≤◌, ◌<◌, ◌+◌, ℕ, zero, suc, List, [], ◌∷◌, ◌++◌, length, map, take, drop, set, get_or, Option, None, Some, refl, sym, ap, ◌∙◌, arith, append_assoc, append-nil}
-use Rattle.std.specs.Prelude.{option_map, slice_get, unwrap_or}
+use Rattle.std.proofs.Common.{◌≡◌, ◌≤◌, ◌<◌, ◌+◌, ℕ, zero, suc, Bool, true, false, List, [], ◌∷◌, ◌++◌, length, map, take, drop, set, get_or, Option, None, Some, refl, sym, ap, ◌∙◌, arith, append_assoc, append-nil}
+use Rattle.std.specs.Prelude.{nat_lt, option_map, slice_get, unwrap_or}
 use Rattle.std.specs.List.{range_with_len}
-use Rattle.std.proofs.lemmas.List.{drop_all, drop_more, get_or-take, length-take, take_more_set}
-use Rattle.std.proofs.lemmas.Option.{slice_get-get_or, slice_get_past}
+use Rattle.std.specs.List.Sorted.{IsStrictlyIncreasing}
+use Rattle.std.proofs.lemmas.Bool.Decides.{nat_tests}
+use Rattle.std.proofs.lemmas.List.FromFn.{length-map-range_with_len}
+use Rattle.std.proofs.lemmas.List.{drop_all, drop_more, get_or-take, length-take, map-append, take_more, take_more_set}
+use Rattle.std.proofs.lemmas.Option.{get_or_from_slice_get, slice_get-get_or, slice_get-map, slice_get_past}
 use Rattle.ds_domain_base.specs.Domains.{Domain}
 use Rattle.ds_domain_base.specs.declared.contract.Contract.{Contract}
 use Rattle.ds_domain_base.specs.declared.terms.Terms.{Terms}
 use Rattle.ds_domain_base.specs.declared.terms.Terms.TheVariants.{Trusted, Policed}
 use Rattle.ds_checker.specs.Acceptance.{Table}
-use Rattle.meter_fabric_base.specs.Grounds.{flow_count, ground_of}
+use Rattle.meter_fabric_base.specs.Grounds.{Ground, contract_of, flow_count, ground_of, most_flows}
+use Rattle.meter_fabric_base.specs.Numbered.{IsPlaceOf, numbered_ground}
 use Rattle.meter_fabric_base.specs.Sites.{edge_hops, hops_along, hops_of, site_of}
-use Rattle.meter_fabric_base.specs.Ways.{hops_from, way_at, ways_of}
+use Rattle.meter_fabric_base.specs.Ways.{hops_from, way_at}
 use Rattle.meter_fabric_base.specs.declared.hop.Hop.{Hop}
 use Rattle.meter_fabric_base.proofs.GroundLaws.{contract_past}
-use Rattle.meter_fabric_base.proofs.RangeLaws.{range_past, range_within}
+use Rattle.meter_fabric_base.proofs.NumberedLaws.{contract_placed, numbered_past}
+use Rattle.meter_fabric_base.proofs.RangeLaws.{range_within}
 
 abbrev hop : ℕ → ℕ → Hop
 hop number site = record { number = number; site = site }
@@ -112,20 +117,66 @@ policed_way d flow c edge path sites same is_edge placed =
 
 -- ---- the ways of all contracts
 
-way_by : (t : Table) (count flow : ℕ) → count ≡ flow_count t → (flow < count) ⊎ (count ≤ flow)
-    → unwrap_or (slice_get (map (way_at (ground_of t)) (range_with_len 0 count)) flow) [] ≡ way_at (ground_of t) flow
-way_by t count flow all (inl short) = ap (λ (found : Option (List Hop)). unwrap_or found []) (range_within (way_at (ground_of t)) count flow short)
-way_by t count flow all (inr past) =
-    ap (λ (found : Option (List Hop)). unwrap_or found []) (range_past (way_at (ground_of t)) count flow past)
-    ∙ sym (ap (λ (found : Option Contract). unwrap_or (option_map (hops_of t.domain flow) found) []) (contract_past t flow (omega (arith, past, all))))
+way_known : (g : Ground) (flow : ℕ) (c : Contract) → contract_of g flow ≡ Some c → way_at g flow ≡ hops_of g.domain flow c
+way_known g flow c is = ap (λ (found : Option Contract). unwrap_or (option_map (hops_of g.domain flow) found) []) is
 
-inside_or_past : (flow count : ℕ) → (flow < count) ⊎ (count ≤ flow)
-inside_or_past flow count = grind arith
+-- what was kept at a place
+kept_at : (kept : List (List Hop)) (place : ℕ) (way own : List Hop) → slice_get kept place ≡ Some own → way ≡ get_or kept place way → way ≡ own
+kept_at kept place way own is read = read ∙ get_or_from_slice_get kept place own way is
 
--- what is found at a flow
-pub way_found : (t : Table) (ways shown : List (List Hop)) (flow : ℕ) (found : Option (List Hop)) → ways ≡ ways_of t → shown ≡ ways → found ≡ slice_get shown flow
-    → unwrap_or found [] ≡ way_at (ground_of t) flow
-way_found t ways shown flow found own same is =
-    ap (λ (f : Option (List Hop)). unwrap_or f []) is
-    ∙ ap (λ (all : List (List Hop)). unwrap_or (slice_get all flow) []) (same ∙ own)
-    ∙ way_by t (flow_count t) flow refl (inside_or_past flow (flow_count t))
+-- a flow of a table is below their number
+flow_within : (t : Table) (flow : ℕ) (c : Contract) → contract_of (ground_of t) flow ≡ Some c → flow < flow_count t
+flow_within t flow c is = by_test (nat_lt flow (flow_count t)) refl
+  where
+    none_some : None ≡ Some c → ⊥
+    none_some e = cc
+
+    by_test : (b : Bool) → nat_lt flow (flow_count t) ≡ b → flow < flow_count t
+    by_test true low = grind (arith, nat_tests, low)
+    by_test false high =
+        let past : flow_count t ≤ flow = grind (arith, nat_tests, high) in
+        absurd (none_some (sym (contract_past t flow past) ∙ is))
+
+-- as many ways were kept as there are such flows
+pub kept_within : (t : Table) (flow : ℕ) (c : Contract) (kept : List (List Hop)) → kept ≡ map (way_at (ground_of t)) (range_with_len 0 (flow_count t))
+    → contract_of (ground_of t) flow ≡ Some c → flow < length kept
+kept_within t flow c kept own is =
+    omega (arith, flow_within t flow c is, ap length own, length-map-range_with_len (way_at (ground_of t)) 0 (flow_count t))
+
+-- the way that was kept of a flow of a table
+pub way_placed : (t : Table) (flow : ℕ) (c : Contract) (kept : List (List Hop)) (way : List Hop) → kept ≡ map (way_at (ground_of t)) (range_with_len 0 (flow_count t))
+    → contract_of (ground_of t) flow ≡ Some c → way ≡ get_or kept flow way → way ≡ hops_of t.domain flow c
+way_placed t flow c kept way own is read =
+    let here = ap (λ (all : List (List Hop)). slice_get all flow) own ∙ range_within (way_at (ground_of t)) (flow_count t) flow (flow_within t flow c is) in
+    kept_at kept flow way (way_at (ground_of t) flow) here read ∙ way_known (ground_of t) flow c is
+
+-- the way that was kept of a flow at its place
+pub way_numbered : (t : Table) (flows : List ℕ) (flow place : ℕ) (c : Contract) (kept : List (List Hop)) (way : List Hop) → kept ≡ map (way_at (numbered_ground t flows)) flows
+    → IsPlaceOf flow flows place → contract_of (numbered_ground t flows) flow ≡ Some c → way ≡ get_or kept place way → way ≡ hops_of t.domain flow c
+way_numbered t flows flow place c kept way own at is read =
+    let g = numbered_ground t flows in
+    let there : slice_get flows place ≡ Some flow = slice_get-get_or flows place 0 at.within ∙ ap Some at.here in
+    let here : slice_get kept place ≡ Some (way_at g flow) =
+    ap (λ (all : List (List Hop)). slice_get all place) own ∙ slice_get-map (way_at g) flows place ∙ ap (option_map (way_at g)) there in
+    kept_at kept place way (way_at g flow) here read ∙ way_known g flow c is
+
+-- one way more
+pub ways_more : (g : Ground) (flows : List ℕ) (kept next : List (List Hop)) (way : List Hop) (place : ℕ) → place < length flows → kept ≡ map (way_at g) (take place flows)
+    → next ≡ kept ++ way ∷ [] → way ≡ way_at g (get_or flows place 0) → next ≡ map (way_at g) (take (place + 1) flows)
+ways_more g flows kept next way place within so_far is own =
+    is
+    ∙ ap (λ (all : List (List Hop)). all ++ way ∷ []) so_far
+    ∙ ap (λ (w : List Hop). map (way_at g) (take place flows) ++ w ∷ []) own
+    ∙ sym (map-append (way_at g) (take place flows) (get_or flows place 0 ∷ []))
+    ∙ sym (ap (map (way_at g)) (take_more flows place 0 within))
+
+-- the way of the contract at a place
+pub way_there : (t : Table) (flows : List ℕ) (flow place : ℕ) (c : Contract) (way : List Hop) → IsStrictlyIncreasing flows → flow < most_flows
+    → place < length flows → get_or flows place 0 ≡ flow → slice_get t.contracts place ≡ Some c → way ≡ hops_of t.domain flow c → way ≡ way_at (numbered_ground t flows) flow
+way_there t flows flow place c way rising low within here is own =
+    let at : IsPlaceOf flow flows place = record { low = low; within = within; here = here } in
+    own ∙ sym (way_known (numbered_ground t flows) flow c (contract_placed t flows flow place c rising at is))
+
+-- no packet is of a flow past them
+pub no_way : (t : Table) (flows : List ℕ) (flow : ℕ) → most_flows ≤ flow → [] ≡ way_at (numbered_ground t flows) flow
+no_way t flows flow past = ap (λ (found : Option Contract). unwrap_or (option_map (hops_of t.domain flow) found) []) (numbered_past t flows flow past)

@@ -1,5 +1,5 @@
 -- What runs stand on where contracts have flows of their own.
-use Rattle.std.specs.Prelude.{ℕ, nat_lt, List}
+use Rattle.std.specs.Prelude.{◌≡◌, ◌<◌, ℕ, nat_lt, List, length, slice_index}
 use Rattle.std.specs.List.{filter, zip}
 use Rattle.ds_checker.specs.Acceptance.{Table}
 use Rattle.meter_fabric_base.specs.Grounds.{Ground, most_flows}
@@ -8,3 +8,9 @@ use Rattle.meter_fabric_base.specs.Grounds.{Ground, most_flows}
 abbrev pub numbered_ground : Table → List ℕ → Ground
 numbered_ground t flows =
     record { domain = t.domain; contracts = filter (λ entry. nat_lt entry.0 most_flows) (zip flows t.contracts) }
+
+-- a flow that packets can be of stands at a place among the flows
+pub record IsPlaceOf (flow : ℕ) (flows : List ℕ) (place : ℕ) : Type 0 where
+  pub low : flow < most_flows
+  pub within : place < length flows
+  pub here : slice_index flows place ≡ flow

@@ -87,14 +87,13 @@ impl Traveller {
         dscp: Dscp,
         moment: Moment,
     ) -> Result<Traveller, BeginFault>
-        ensures begun { IfOk result (λ traveller. begun_of (ground_of ways.now)
+        ensures begun { IfOk result (λ traveller. begun_of ways.now
             (record { flow = flow; number = packet; size = size; dscp = dscp; begun = moment }) ≡ Some traveller) }
-        ensures unknown { IsErrOf result BeginFault.UnknownFlow ↔ (contract_of (ground_of ways.now) flow ≡ None) }
+        ensures unknown { IsErrOf result BeginFault.UnknownFlow ↔ (contract_of ways.now flow ≡ None) }
     {
-        let Some(contract) = contract_of(ways.accepted(), flow) else {
+        let Some((contract, way)) = ways.find(flow) else {
             return Err(BeginFault::UnknownFlow);
         };
-        let way = ways.way(flow);
         let trail = Trail {
             receipts: Vec::with_capacity(alloc, way.len())?,
             packet,

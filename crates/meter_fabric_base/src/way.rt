@@ -1,10 +1,13 @@
-ghost use Rattle.std.specs.Prelude.{◌≡◌, ◌+◌, ◌<◌, ◌≤◌, ℕ, List, [], ◌++◌, IfOk, length, map, slice_get, take};
-ghost use Rattle.meter_fabric_base.specs.Grounds.{ground_of};
+ghost use Rattle.std.specs.Prelude.{◌≡◌, ◌+◌, ◌<◌, ◌≤◌, ℕ, List, [], ◌++◌, IfOk, IfSome, length, map, option_map};
+ghost use Rattle.std.specs.Prelude.{slice_get, slice_index, take};
+ghost use Rattle.meter_fabric_base.specs.Grounds.{contract_of, ground_of};
+ghost use Rattle.meter_fabric_base.specs.Numbered.{numbered_ground};
 ghost use Rattle.meter_fabric_base.specs.Sites.{hops_of, site_of};
 ghost use Rattle.meter_fabric_base.specs.Ways.{way_at};
 
 use crate::hop::{Hop, edge_hop};
-use crate::site::{contract_of, flow_count, site_of};
+use crate::numbered::Numbered;
+use crate::site::{MOST_FLOWS, contract_of, flow_count, site_of};
 use ds_checker::Accepted;
 use ds_domain_base::{Contract, Domain, Name};
 use std::alloc::{AllocError, Global};
@@ -115,53 +118,81 @@ fn with_path(domain: &Domain, path: &[Name], sites: [u32; 17], from: usize) -> [
     all
 }
 
-/// An accepted table and the ways of the packets of its contracts, made once: so the packets begin without a look at names.
-/// Its value is the table.
+/// What ways are over.
+#[derive(Clone, Copy, Debug)]
+enum Over<'a> {
+    /// A table, in which the flow of a contract is its place.
+    Placed(&'a Accepted),
+    /// A table whose contracts have flows of their own.
+    Numbered(Numbered<'a>),
+}
+
+/// The ways of the packets of all contracts of an accepted table, made once: so the packets begin without a look at
+/// names. Its value is the ground that runs of the table stand on.
 #[derive(Debug, Drop)]
 pub struct Ways<'a> {
-    accepted: &'a Accepted,
+    over: Over<'a>,
     ways: Vec<Way>,
 }
 
 impl<'a> Model for Ways<'a> {
     ghost use Rattle.std.specs.Prelude.{◌≡◌};
-    ghost use Rattle.ds_checker.specs.Acceptance.{Table};
-    ghost use Rattle.meter_fabric_base.specs.Ways.{ways_of};
+    ghost use Rattle.meter_fabric_base.specs.Grounds.{Ground};
 
-    ghost Value = { Table };
+    ghost Value = { Ground };
 
-    ghost view = { λ w. w.accepted.now };
+    ghost use Rattle.meter_fabric_base.specs.Ways.{ground_over, ways_over};
 
-    ghost invariant = { λ w. w.ways.items ≡ ways_of w.accepted.now };
+    ghost view = { λ w. ground_over w.over };
+
+    ghost invariant = { λ w. w.ways.items ≡ ways_over w.over };
 }
 
 impl<'a> Ways<'a> {
-    /// The ways of the packets of a table's contracts; `AllocError` where memory runs out.
+    /// The ways of the packets of a table's contracts, each behind its place; `AllocError` where memory runs out.
     pub fn of(alloc: Global, accepted: &'a Accepted) -> Result<Ways<'a>, AllocError>
-        ensures { IfOk result (λ ways. ways ≡ accepted.now) }
+        ensures { IfOk result (λ ways. ways ≡ ground_of accepted.now) }
     {
         let count = flow_count(accepted);
         let mut ways = Vec::with_capacity(alloc, count as usize)?;
         for flow in 0..count {
             ways.push(way_at(accepted, flow))?;
         }
-        Ok(Ways { accepted, ways })
+        Ok(Ways {
+            over: Over::Placed(accepted),
+            ways,
+        })
     }
 
-    /// The table.
-    pub fn accepted(&self) -> &'a Accepted
-        ensures { result.now ≡ self.now }
+    /// The same, each behind its contract's own flow.
+    pub fn of_numbered(alloc: Global, numbered: &Numbered<'a>) -> Result<Ways<'a>, AllocError>
+        ensures { IfOk result (λ ways. ways ≡ numbered_ground numbered.now.accepted.now numbered.now.flows.now) }
     {
-        self.accepted
+        let count = numbered.flows.len();
+        let mut ways = Vec::with_capacity(alloc, count)?;
+        for place in 0..count {
+            ways.push(way_beside(numbered, place))?;
+        }
+        Ok(Ways {
+            over: Over::Numbered(*numbered),
+            ways,
+        })
     }
 
-    /// The way of the packets of a flow; it has no hops where there is no such contract.
-    pub(crate) fn way(&self, flow: u32) -> Way
-        ensures { result ≡ way_at (ground_of self.now) flow }
+    /// The contract of a flow and the way of its packets, if there is one.
+    pub(crate) fn find(&self, flow: u32) -> Option<(&'a Contract, Way)>
+        ensures contract { option_map (λ found. found.0.now) result ≡ contract_of self.now flow }
+        ensures way { IfSome result (λ found. found.1 ≡ hops_of self.now.domain flow found.0.now) }
     {
-        match self.ways.get(flow as usize) {
-            Some(way) => way.copy(),
-            None => Way::none(),
+        match self.over {
+            Over::Placed(accepted) => {
+                let contract = contract_of(accepted, flow)?;
+                Some((contract, self.ways[flow as usize].copy()))
+            }
+            Over::Numbered(numbered) => {
+                let place = numbered.place_of(flow)?;
+                Some((numbered.contract_at(place), self.ways[place].copy()))
+            }
         }
     }
 }
@@ -174,4 +205,21 @@ fn way_at(accepted: &Accepted, flow: u32) -> Way
         Some(contract) => Way::of(accepted.domain(), flow, contract),
         None => Way::none(),
     }
+}
+
+/// The way of the packets of the flow at a place; it has no hops where packets cannot be of that flow.
+fn way_beside(numbered: &Numbered<'_>, place: usize) -> Way
+    requires { place < length numbered.now.flows.now }
+    ensures { result ≡ way_at (numbered_ground numbered.now.accepted.now numbered.now.flows.now)
+        (slice_index numbered.now.flows.now place) }
+{
+    let flow = numbered.flows[place];
+    if flow >= MOST_FLOWS {
+        return Way::none();
+    }
+    Way::of(
+        numbered.accepted.domain(),
+        flow,
+        numbered.contract_at(place),
+    )
 }

@@ -1,7 +1,6 @@
 //! Packets in numbers, and how a thread takes them on their way.
 use af_marker::Dscp;
-use meter_fabric::{Fabric, FabricLedger, Pass, Trail, Traveller, VisitFault};
-use meter_fabric_base::Numbered;
+use meter_fabric::{Fabric, FabricLedger, Pass, Trail, Traveller, VisitFault, Ways};
 use moment_core::{Moment, PacketSize};
 use std::alloc::Global;
 use std::process::Abort;
@@ -29,19 +28,13 @@ pub struct OnWay {
     comes: Moment,
 }
 
-/// A packet of a flow at its beginning, over a table that a feed sees.
-fn begun(
-    rt: &impl Abort,
-    alloc: Global,
-    numbered: &Numbered<'_>,
-    flow: u32,
-    packet: &Packet,
-) -> OnWay {
+/// A packet of a flow at its beginning, over the ways of a table that a feed sees.
+fn begun(rt: &impl Abort, alloc: Global, ways: &Ways<'_>, flow: u32, packet: &Packet) -> OnWay {
     let size = PacketSize::new(packet.size).expect(rt, "a size");
     let dscp = Dscp::new(packet.dscp).expect(rt, "a code point");
     let begun = Moment::new(packet.begun).expect(rt, "a moment");
     let comes = Moment::new(packet.comes).expect(rt, "a moment");
-    let made = Traveller::begin_numbered(alloc, numbered, flow, packet.number, size, dscp, begun);
+    let made = Traveller::begin_on(alloc, ways, flow, packet.number, size, dscp, begun);
     let traveller = made.expect(rt, "a packet");
     OnWay { traveller, comes }
 }
@@ -50,16 +43,16 @@ fn begun(
 pub fn all_begun(
     rt: &impl Abort,
     alloc: Global,
-    numbered: &Numbered<'_>,
+    ways: &Ways<'_>,
     flow: u32,
     packets: &[Packet],
 ) -> Vec<OnWay> {
-    let mut ways = Vec::new(alloc);
+    let mut all = Vec::new(alloc);
     for packet in packets {
-        let way = begun(rt, alloc, numbered, flow, packet);
-        ways.push(way).expect(rt, "memory");
+        let one = begun(rt, alloc, ways, flow, packet);
+        all.push(one).expect(rt, "memory");
     }
-    ways
+    all
 }
 
 /// Takes a packet through the meters until its way has ended, or its edge is shut: what it carried away.

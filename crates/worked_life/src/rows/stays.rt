@@ -2,8 +2,7 @@
 use crate::rows::packets::{OnWay, Packet, Taken, all_begun, take_all};
 use ds_desk::{Broker, Feed, Naming};
 use ds_domain_base::Contract;
-use meter_fabric::{Fabric, FabricLedger, Pass, Trail, edge_opening};
-use meter_fabric_base::Numbered;
+use meter_fabric::{Fabric, FabricLedger, Numbered, Pass, Trail, Ways, edge_opening};
 use moment_core::Moment;
 use std::alloc::Global;
 use std::process::Abort;
@@ -28,7 +27,7 @@ pub struct Passes<L: FabricLedger> {
 
 /// The packets of two threads at their beginning.
 #[derive(Drop)]
-struct Ways {
+struct Packets {
     one: Vec<OnWay>,
     other: Vec<OnWay>,
 }
@@ -78,17 +77,19 @@ pub fn settled<J: Naming, R: Wait + Drop, L: FabricLedger, W: Wait + Abort>(
     (flow, seen.end())
 }
 
-/// The packets of a flow at their beginning, over a table.
+/// The packets of a flow at their beginning, over the ways of a table, which are made once for all of them.
 fn begun(
     rt: &impl Abort,
     alloc: Global,
     numbered: &Numbered<'_>,
     flow: u32,
     shares: Shares,
-) -> Ways {
-    let one = all_begun(rt, alloc, numbered, flow, shares.one);
-    let other = all_begun(rt, alloc, numbered, flow, shares.other);
-    Ways { one, other }
+) -> Packets {
+    let ways = Ways::of_numbered(alloc, numbered).expect(rt, "memory");
+    let one = all_begun(rt, alloc, &ways, flow, shares.one);
+    let other = all_begun(rt, alloc, &ways, flow, shares.other);
+    drop(ways);
+    Packets { one, other }
 }
 
 /// The same over the table that a feed sees.
@@ -98,10 +99,10 @@ fn begun_as_seen<J: Naming>(
     feed: Feed<J>,
     flow: u32,
     shares: Shares,
-) -> (Ways, Feed<J>) {
+) -> (Packets, Feed<J>) {
     let seen = feed.look().ok().expect(rt, "a table is seen");
-    let ways = begun(rt, alloc, &seen.numbered(), flow, shares);
-    (ways, seen.end())
+    let packets = begun(rt, alloc, &seen.numbered(), flow, shares);
+    (packets, seen.end())
 }
 
 /// Two threads take packets through the meters: their passes, and what the packets carried away.
@@ -110,13 +111,13 @@ fn taken<L: FabricLedger + Send + Sync, W: Threads + Wait + Sync>(
     alloc: Global,
     fabric: &Fabric<'_, L>,
     passes: Passes<L>,
-    ways: Ways,
+    packets: Packets,
 ) -> (Taken<L>, Taken<L>) {
     let Passes { one, other } = passes;
-    let Ways {
+    let Packets {
         one: first,
         other: second,
-    } = ways;
+    } = packets;
     join(
         rt,
         move || take_all(rt, alloc, fabric, one, first),
@@ -142,8 +143,8 @@ pub fn packets_pass<J: Naming, L: FabricLedger + Send + Sync, W: Threads + Wait 
     shares: Shares,
     trails: &mut Vec<Trail>,
 ) -> (Feed<J>, Passes<L>) {
-    let (ways, feed) = begun_as_seen(rt, alloc, feed, flow, shares);
-    let ((one, first), (other, second)) = taken(rt, alloc, fabric, passes, ways);
+    let (packets, feed) = begun_as_seen(rt, alloc, feed, flow, shares);
+    let ((one, first), (other, second)) = taken(rt, alloc, fabric, passes, packets);
     put_behind(rt, trails, first);
     put_behind(rt, trails, second);
     (feed, Passes { one, other })
