@@ -3,7 +3,7 @@ use Rattle.std.proofs.Common.{◌≡◌, inl, inr, ℕ, suc, ◌+◌, ◌-◌, �
 use mathlib.Core.Path.{fun_ext}
 use Rattle.std.specs.Prelude.{max, option_to_list, is_some, IfNone, IsSome, MatchOption}
 use Rattle.std.proofs.lemmas.List.{nil_from_length}
-use Rattle.std.proofs.lemmas.List.Elements.{All-append, All-nil, All-push, All-weaker}
+use Rattle.std.proofs.lemmas.List.Elements.{All-nil, All-push}
 use Rattle.std.proofs.lemmas.List.Sums.{sum_by-append}
 use Rattle.moment_core.specs.Colours.{is_green, is_red, is_yellow}
 use Rattle.moment_core.specs.declared.colour.Colour.{Colour}
@@ -17,7 +17,8 @@ use Rattle.frame_marker.specs.declared.sight.Sight.TheVariants.{Matched, Skipped
 use Rattle.ds_conductor_base.proofs.ColouringLaws.{handed_out, sent_first}
 use Rattle.ds_conductor_base.proofs.StreamLaws.{one_colour_each}
 use Rattle.ds_conductor_base.specs.Passing.{colours_of}
-use Rattle.ds_conductor_base.specs.Streams.{AreSentFrom, begun, colours_left}
+use Rattle.ds_conductor_base.specs.Streams.{ComeFrom, Stream, begun, colours_left}
+use Rattle.ds_conductor_base.proofs.HeadStartLaws.{come_both, come_none, come_sooner}
 use Rattle.ds_conductor_base.specs.declared.sent.Sent.{Sent}
 use Rattle.ds_checker.specs.Acceptance.{IsAcceptable, Table}
 use Rattle.ds_conductor_base.specs.Ways.{AreInReach}
@@ -43,7 +44,7 @@ use Rattle.ds_conductor.specs.declared.port.Port.{Port}
 use Rattle.ds_conductor.specs.declared.sending.Counts.{Counts}
 use Rattle.ds_conductor.specs.declared.tally.Tallies.{Tallies}
 use Rattle.ds_conductor.specs.declared.tally.Tally.{Tally}
-use Rattle.ds_conductor.proofs.FrameLaws.{coloured_by, held_from-both, held_from-cons, held_from-none, newest_after-both, newest_after-none, newest_after-one, sent_by-from, sent_from-both, sent_from-cons, sent_from-none, sent_from-one, text_both, text_none, text_one, zip_both}
+use Rattle.ds_conductor.proofs.FrameLaws.{coloured_by, held_from-both, held_from-cons, held_from-none, newest_after-both, newest_after-none, newest_after-one, sent_from-both, sent_from-cons, sent_from-none, sent_from-one, text_both, text_none, text_one, zip_both}
 
 -- ---- a frame is seen
 
@@ -87,8 +88,9 @@ pub seen : (p : Port) (frames : List FrameValue) (text : List ℕ) (f : FrameVal
     → after.held.items ≡ before.held.items ++ record { frame = seen_at p.heading.link f; packet = packet } ∷ []
     → ((back : List Sent) → colours_left after.under_way back ≡ colours_left before.under_way (option_to_list packet ++ back))
     → f.moment < 2 ^ 63 - 2 ^ 40 → ((back : List Sent) → verdict_with after.judge back ≡ verdict_with before.judge (option_to_list packet ++ back))
+    → after.due ≤ moment + p.ahead → after.under_way.table ≡ before.under_way.table
     → IsConditioned p true (frames ++ f ∷ []) text after
-seen p frames text f sight moment packet before after was sighted late sent newest counts tallies held under early tells =
+seen p frames text f sight moment packet before after was sighted late sent newest counts tallies held under early tells due table =
     let see = see_at p in
     let now : moment ≡ max (newest_after 0 frames) f.moment = late ∙ ap (λ n. max n f.moment) was.newest in
     let number : before.counts.records ≡ length frames = was.counted.records in
@@ -114,13 +116,20 @@ seen p frames text f sight moment packet before after was sighted late sent newe
           (sym last ∙ ap (λ m. held_from p.heading.link see (length frames) m (f ∷ [])) (sym stamp))
           ∙ sym (held_from-both p.heading.link see (length was.gone) (newest_after 0 was.gone) (length frames) was.waiting (f ∷ []) place);
       newest = newest ∙ now ∙ sym (newest_after-both 0 frames (f ∷ []) ∙ newest_after-one (newest_after 0 frames) f);
+      due = omega (arith, due, newest);
+      table = table ∙ was.table;
       comes = λ back from.
           let up : before.newest ≤ moment = omega (arith, late) in
-          let later : AreSentFrom before.newest back = All-weaker (λ (s : Sent). after.newest ≤ s.moment) (λ (s : Sent). before.newest ≤ s.moment) (λ s m. omega (arith, up, newest, m)) back from in
-          let first : AreSentFrom before.newest (option_to_list packet) = subst (λ (q : Option Sent). AreSentFrom before.newest (option_to_list q)) (sym own) (sent_by-from sight (length frames) before.newest moment up) in
+          let end = before.newest + p.ahead in
+          let later : ComeFrom p.accepted.now end back = come_sooner p.accepted.now end (after.newest + p.ahead) back (omega (arith, up, newest)) from in
+          let here : ComeFrom p.accepted.now end (sent_by (see_at p f.bytes) (length frames) moment) =
+          come_sooner p.accepted.now end (moment + p.ahead) (sent_by (see_at p f.bytes) (length frames) moment) (omega (arith, up)) (p.holds f.bytes (length frames) moment) in
+          let first : ComeFrom p.accepted.now end (option_to_list packet) =
+          subst (λ (q : Option Sent). ComeFrom p.accepted.now end (option_to_list q)) (sym own)
+          (subst (λ (s : Sight). ComeFrom p.accepted.now end (sent_by s (length frames) moment)) (sym sighted) here) in
           ap (λ s. colours_of p.accepted.now (s ++ back)) (all ∙ ap (λ q. sent_of see frames ++ option_to_list q) (sym own))
           ∙ ap (colours_of p.accepted.now) (append_assoc (sent_of see frames) (option_to_list packet) back)
-          ∙ was.comes (option_to_list packet ++ back) (All-append (λ (s : Sent). before.newest ≤ s.moment) (option_to_list packet) back first later)
+          ∙ was.comes (option_to_list packet ++ back) (come_both p.accepted.now end (option_to_list packet) back first later)
           ∙ ap (λ cs. was.colours ++ cs) (sym (under back));
       counted = subst (AreCounted see (frames ++ f ∷ [])) (sym counts) (counted_one see frames f sight moment before.counts sighted now was.counted);
       tallied = subst (AreTallied (zip (sent_of see was.gone) was.colours)) (sym tallies) was.tallied;
@@ -141,10 +150,11 @@ seen p frames text f sight moment packet before after was sighted late sent newe
 
 -- Nothing but the packets under way changed.
 pub made : (p : Port) (more still : Bool) (frames : List FrameValue) (text : List ℕ) (before after : Conditioner) → IsConditioned p more frames text before
-    → after.newest ≡ before.newest → after.counts ≡ before.counts → after.tallies ≡ before.tallies → after.held.items ≡ before.held.items → after.judge ≡ before.judge
-    → ((back : List Sent) → MayCome still before.newest back → MayCome more before.newest back × (colours_left after.under_way back ≡ colours_left before.under_way back))
+    → after.newest ≡ before.newest → after.due ≡ before.due → after.counts ≡ before.counts → after.tallies ≡ before.tallies → after.held.items ≡ before.held.items → after.judge ≡ before.judge
+    → after.under_way.table ≡ before.under_way.table
+    → ((back : List Sent) → MayCome still p before.newest back → MayCome more p before.newest back × (colours_left after.under_way back ≡ colours_left before.under_way back))
     → IsConditioned p still frames text after
-made p more still frames text before after was newest counts tallies held judge under = record {
+made p more still frames text before after was newest due counts tallies held judge table under = record {
   gone = was.gone;
   waiting = was.waiting;
   colours = was.colours;
@@ -153,8 +163,10 @@ made p more still frames text before after was newest counts tallies held judge 
   written = was.written;
   held = held ∙ was.held;
   newest = newest ∙ was.newest;
+  due = omega (arith, was.due, newest, due);
+  table = table ∙ was.table;
   comes = λ back from.
-      let same = under back (subst (λ n. MayCome still n back) newest from) in
+      let same = under back (subst (λ n. MayCome still p n back) newest from) in
       was.comes back same.0 ∙ ap (λ cs. was.colours ++ cs) (sym same.1);
   counted = subst (AreCounted (see_at p) frames) (sym counts) was.counted;
   tallied = subst (AreTallied (zip (sent_of (see_at p) was.gone) was.colours)) (sym tallies) was.tallied;
@@ -164,9 +176,9 @@ made p more still frames text before after was newest counts tallies held judge 
 -- ---- at first
 
 -- Before the first frame nothing is handed out, and all colours come.
-pub begins : (p : Port) (c : Conditioner) → c.under_way ≡ begun p.accepted.now → c.held.items ≡ [] → c.newest ≡ 0 → c.counts ≡ nothing_counted → c.tallies ≡ nothing_tallied
+pub begins : (p : Port) (c : Conditioner) → c.under_way ≡ begun p.accepted.now → c.held.items ≡ [] → c.newest ≡ 0 → c.due ≡ 0 → c.counts ≡ nothing_counted → c.tallies ≡ nothing_tallied
     → c.judge ≡ unjudged p.accepted.now → IsAcceptable p.accepted.now → AreInReach p.accepted.now → IsSeeing p → IsConditioned p true [] [] c
-begins p c first none zero_ counts tallies judge acceptable reach seeing =
+begins p c first none zero_ due counts tallies judge acceptable reach seeing =
     let see = see_at p in
     let nobody : sent_of see [] ≡ [] = sent_from-none see 0 0 in
     let pairs : List (Sent × Colour) = [] in
@@ -179,6 +191,8 @@ begins p c first none zero_ counts tallies judge acceptable reach seeing =
       written = sym (text_none p.accepted.now p.red p.heading.link 0 (zip (sent_of see []) []));
       held = none ∙ sym (held_from-none p.heading.link see 0 (newest_after 0 []));
       newest = zero_ ∙ sym (newest_after-none 0);
+      due = omega (arith, due);
+      table = ap (λ (u : Stream). u.table) first;
       comes = λ back from.
           ap (λ s. colours_of p.accepted.now (s ++ back)) nobody ∙ sym (sent_first p.accepted.now back c.under_way first);
       counted = subst (AreCounted see []) (sym counts) (record { records = refl; matched = sym (ap length nobody); unmatched = refl; skipped = refl; unverified = refl });
@@ -229,15 +243,16 @@ HandsOut p more frames text first others own before after gone waiting colours =
     → IsSeenAt p.heading.link first.frame × IsConditioned p more frames (text ++ record_text p.accepted.now p.red p.heading.link first.frame.frame (coloured_by first.packet own)) after
 
 hands_out : (p : Port) (more : Bool) (frames : List FrameValue) (text : List ℕ) (first : Held) (others : List Held) (own : List Colour) (before after : Conditioner)
-    → after.held.items ≡ others → after.newest ≡ before.newest → after.counts ≡ before.counts → after.judge ≡ before.judge
+    → after.held.items ≡ others → after.newest ≡ before.newest → after.due ≡ before.due → after.counts ≡ before.counts → after.judge ≡ before.judge
+    → after.under_way.table ≡ before.under_way.table
     → length own ≡ length (option_to_list first.packet)
     → ((all : List (Sent × Colour)) → AreTallied all before.tallies → AreTallied (all ++ zip (option_to_list first.packet) own) after.tallies)
     → (gone waiting : List FrameValue) (colours : List Colour)
-    → ((back : List Sent) → MayCome more before.newest back → colours_of p.accepted.now (sent_of (see_at p) frames ++ back) ≡ colours ++ (own ++ colours_left after.under_way back))
+    → ((back : List Sent) → MayCome more p before.newest back → colours_of p.accepted.now (sent_of (see_at p) frames ++ back) ≡ colours ++ (own ++ colours_left after.under_way back))
     → HandsOut p more frames text first others own before after gone waiting colours
-hands_out p more frames text first others own before after held newest counts judge even tallies gone [] colours under parted paired written is tallied was =
+hands_out p more frames text first others own before after held newest due counts judge table even tallies gone [] colours under parted paired written is tallied was =
     absurd (no_held first others (is ∙ held_from-none p.heading.link (see_at p) (length gone) (newest_after 0 gone)))
-hands_out p more frames text first others own before after held newest counts judge even tallies gone (f ∷ waiting) colours under parted paired written is tallied was =
+hands_out p more frames text first others own before after held newest due counts judge table even tallies gone (f ∷ waiting) colours under parted paired written is tallied was =
     let see = see_at p in
     let stamp = newest_after 0 gone in
     let moment = max stamp f.moment in
@@ -266,8 +281,10 @@ hands_out p more frames text first others own before after held newest counts ju
           ∙ sym (text_both p.accepted.now p.red p.heading.link see 0 0 (length gone) gone (f ∷ []) colours own (omega arith) paired);
       held = held ∙ apart.1 ∙ ap₂ (λ n m. held_from p.heading.link see n m waiting) place late;
       newest = newest ∙ was.newest;
+      due = omega (arith, was.due, newest, due);
+      table = table ∙ was.table;
       comes = λ back from.
-          under back (subst (λ n. MayCome more n back) newest from) ∙ sym (append_assoc colours own (colours_left after.under_way back));
+          under back (subst (λ n. MayCome more p n back) newest from) ∙ sym (append_assoc colours own (colours_left after.under_way back));
       counted = subst (AreCounted see frames) (sym counts) was.counted;
       tallied = subst (λ (all : List (Sent × Colour)). AreTallied all after.tallies)
           (ap (λ (q : Option Sent). zip (sent_of see gone) colours ++ zip (option_to_list q) own) packet
@@ -280,14 +297,15 @@ hands_out p more frames text first others own before after held newest counts ju
 
 -- The first frame that is held is handed out with what its packet left with.
 pub popped : (p : Port) (more : Bool) (frames : List FrameValue) (text : List ℕ) (first : Held) (others : List Held) (own : List Colour) (before after : Conditioner)
-    → before.held.items ≡ first ∷ others → after.held.items ≡ others → after.newest ≡ before.newest → after.counts ≡ before.counts → after.judge ≡ before.judge
+    → before.held.items ≡ first ∷ others → after.held.items ≡ others → after.newest ≡ before.newest → after.due ≡ before.due → after.counts ≡ before.counts → after.judge ≡ before.judge
+    → after.under_way.table ≡ before.under_way.table
     → length own ≡ length (option_to_list first.packet)
     → ((all : List (Sent × Colour)) → AreTallied all before.tallies → AreTallied (all ++ zip (option_to_list first.packet) own) after.tallies)
     → ((back : List Sent) → colours_left before.under_way back ≡ own ++ colours_left after.under_way back)
     → IsConditioned p more frames text before
     → IsSeenAt p.heading.link first.frame × IsConditioned p more frames (text ++ record_text p.accepted.now p.red p.heading.link first.frame.frame (coloured_by first.packet own)) after
-popped p more frames text first others own before after items held newest counts judge even tallies under was =
-    hands_out p more frames text first others own before after held newest counts judge even tallies was.gone was.waiting was.colours
+popped p more frames text first others own before after items held newest due counts judge table even tallies under was =
+    hands_out p more frames text first others own before after held newest due counts judge table even tallies was.gone was.waiting was.colours
     (λ back from. was.comes back from ∙ ap (λ cs. was.colours ++ cs) (under back))
     was.parted was.paired was.written (sym items ∙ was.held) was.tallied was
 
@@ -297,36 +315,38 @@ first_same items rest front first is at = at ∙ ap (λ xs. get_or xs 0 front) i
 
 -- a frame that sent no packet
 pub popped_none : (p : Port) (more : Bool) (frames : List FrameValue) (text : List ℕ) (first : Held) (others : List Held) (before after : Conditioner)
-    → before.held.items ≡ first ∷ others → after.held.items ≡ others → after.newest ≡ before.newest → after.counts ≡ before.counts → after.judge ≡ before.judge → after.tallies ≡ before.tallies
+    → before.held.items ≡ first ∷ others → after.held.items ≡ others → after.newest ≡ before.newest → after.due ≡ before.due → after.counts ≡ before.counts → after.judge ≡ before.judge → after.tallies ≡ before.tallies
+    → after.under_way.table ≡ before.under_way.table
     → first.packet ≡ None → ((back : List Sent) → colours_left after.under_way back ≡ colours_left before.under_way back)
     → IsConditioned p more frames text before
     → IsSeenAt p.heading.link first.frame × IsConditioned p more frames (text ++ record_text p.accepted.now p.red p.heading.link first.frame.frame None) after
-popped_none p more frames text first others before after items held newest counts judge tallies none under was =
+popped_none p more frames text first others before after items held newest due counts judge tallies table none under was =
     subst (λ (q : Option Sent). IsSeenAt p.heading.link first.frame × IsConditioned p more frames (text ++ record_text p.accepted.now p.red p.heading.link first.frame.frame (coloured_by q [])) after) none
-    (popped p more frames text first others [] before after items held newest counts judge (sym (ap (λ (q : Option Sent). length (option_to_list q)) none))
+    (popped p more frames text first others [] before after items held newest due counts judge table (sym (ap (λ (q : Option Sent). length (option_to_list q)) none))
     (λ all so_far. subst (λ (q : Option Sent). AreTallied (all ++ zip (option_to_list q) []) after.tallies) (sym none)
     (subst (λ (xs : List (Sent × Colour)). AreTallied xs after.tallies) (sym (append-nil all)) (subst (AreTallied all) (sym tallies) so_far)))
     (λ back. sym (under back)) was)
 
 -- and one whose packet left with a colour
 pub popped_some : (p : Port) (more : Bool) (frames : List FrameValue) (text : List ℕ) (first : Held) (others : List Held) (s : Sent) (colour : Colour) (before after : Conditioner)
-    → before.held.items ≡ first ∷ others → after.held.items ≡ others → after.newest ≡ before.newest → after.counts ≡ before.counts → after.judge ≡ before.judge
+    → before.held.items ≡ first ∷ others → after.held.items ≡ others → after.newest ≡ before.newest → after.due ≡ before.due → after.counts ≡ before.counts → after.judge ≡ before.judge
+    → after.under_way.table ≡ before.under_way.table
     → first.packet ≡ Some s → after.tallies ≡ grown_all before.tallies colour s.size
     → ((back : List Sent) → colours_left before.under_way back ≡ colour ∷ colours_left after.under_way back)
     → IsConditioned p more frames text before
     → IsSeenAt p.heading.link first.frame × IsConditioned p more frames (text ++ record_text p.accepted.now p.red p.heading.link first.frame.frame (Some (s, colour))) after
-popped_some p more frames text first others s colour before after items held newest counts judge some tallies under was =
+popped_some p more frames text first others s colour before after items held newest due counts judge table some tallies under was =
     subst (λ (q : Option Sent). IsSeenAt p.heading.link first.frame × IsConditioned p more frames (text ++ record_text p.accepted.now p.red p.heading.link first.frame.frame (coloured_by q (colour ∷ []))) after) some
-    (popped p more frames text first others (colour ∷ []) before after items held newest counts judge (sym (ap (λ (q : Option Sent). length (option_to_list q)) some))
+    (popped p more frames text first others (colour ∷ []) before after items held newest due counts judge table (sym (ap (λ (q : Option Sent). length (option_to_list q)) some))
     (λ all so_far. subst (λ (q : Option Sent). AreTallied (all ++ zip (option_to_list q) (colour ∷ [])) after.tallies) (sym some) (tallied_one all s colour before.tallies after.tallies so_far tallies))
     under was)
 
 -- where memory runs out nothing is seen
 pub unseen : (p : Port) (frames : List FrameValue) (text : List ℕ) (before after : Conditioner) → IsConditioned p true frames text before
-    → after.newest ≡ before.newest → after.counts ≡ before.counts → after.tallies ≡ before.tallies → after.held.items ≡ before.held.items → after.judge ≡ before.judge → after.under_way ≡ before.under_way
-    → IsConditioned p true frames text after
-unseen p frames text before after was newest counts tallies held judge same =
-    made p true true frames text before after was newest counts tallies held judge (λ back from. (from, ap (λ u. colours_left u back) same))
+    → after.newest ≡ before.newest → after.due ≡ before.due → after.counts ≡ before.counts → after.tallies ≡ before.tallies → after.held.items ≡ before.held.items → after.judge ≡ before.judge
+    → after.under_way ≡ before.under_way → IsConditioned p true frames text after
+unseen p frames text before after was newest due counts tallies held judge same =
+    made p true true frames text before after was newest due counts tallies held judge (ap (λ (u : Stream). u.table) same) (λ back from. (from, ap (λ u. colours_left u back) same))
 
 -- ---- at the end
 
@@ -401,19 +421,20 @@ ended p frames text c was over undecided =
 
 -- ---- a front
 
-sent_from-from : (see : List ℕ → Sight) (number newest : ℕ) (frames : List FrameValue) → AreSentFrom newest (sent_from see number newest frames)
+sent_from-from : (p : Port) (number newest : ℕ) (frames : List FrameValue) → ComeFrom p.accepted.now (newest + p.ahead) (sent_from (see_at p) number newest frames)
 unfolding sent_from
-sent_from-from see number newest [] = All-nil (λ (s : Sent). newest ≤ s.moment)
-sent_from-from see number newest (f ∷ frames) =
-    let up : newest ≤ max newest f.moment = omega arith in
-    All-append (λ (s : Sent). newest ≤ s.moment) (sent_by (see f.bytes) number (max newest f.moment)) (sent_from see (suc number) (max newest f.moment) frames)
-    (sent_by-from (see f.bytes) number newest (max newest f.moment) up)
-    (All-weaker (λ (s : Sent). max newest f.moment ≤ s.moment) (λ (s : Sent). newest ≤ s.moment) (λ s m. omega (arith, up, m)) (sent_from see (suc number) (max newest f.moment) frames)
-    (sent_from-from see (suc number) (max newest f.moment) frames))
+sent_from-from p number newest [] = come_none p.accepted.now (newest + p.ahead)
+sent_from-from p number newest (f ∷ frames) =
+    let end = newest + p.ahead in
+    let moment = max newest f.moment in
+    let up : end ≤ moment + p.ahead = omega arith in
+    come_both p.accepted.now end (sent_by (see_at p f.bytes) number moment) (sent_from (see_at p) (suc number) moment frames)
+    (come_sooner p.accepted.now end (moment + p.ahead) (sent_by (see_at p f.bytes) number moment) up (p.holds f.bytes number moment))
+    (come_sooner p.accepted.now end (moment + p.ahead) (sent_from (see_at p) (suc number) moment frames) up (sent_from-from p (suc number) moment frames))
 
 -- What was handed out is a front of the marking, also where these frames come behind those that were seen.
 front_by : (p : Port) (more : Bool) (frames others : List FrameValue) (text : List ℕ) (c : Conditioner) → IsConditioned p more frames text c
-    → MayCome more c.newest (sent_from (see_at p) (length frames) (newest_after 0 frames) others)
+    → MayCome more p c.newest (sent_from (see_at p) (length frames) (newest_after 0 frames) others)
     → (rest : List ℕ) × ((marking_at p (frames ++ others)).text ≡ (p.heading.bytes ++ text) ++ rest)
 front_by p more frames others text c was may =
     let see = see_at p in
@@ -439,7 +460,7 @@ front_on before text all after rest is front = subst (λ it. IsFrontOf before it
 pub front : (p : Port) (frames others : List FrameValue) (text before after : List ℕ) (c : Conditioner) → IsConditioned p true frames text c
     → IsFrontOf before (p.heading.bytes ++ text) after → IsFrontOf before (marking_at p (frames ++ others)).text after
 front p frames others text before after c was written =
-    let from = subst (λ n. AreSentFrom n (sent_from (see_at p) (length frames) (newest_after 0 frames) others)) (sym was.newest) (sent_from-from (see_at p) (length frames) (newest_after 0 frames) others) in
+    let from = subst (λ n. MayCome true p n (sent_from (see_at p) (length frames) (newest_after 0 frames) others)) (sym was.newest) (sent_from-from p (length frames) (newest_after 0 frames) others) in
     let rest = front_by p true frames others text c was from in
     front_on before (p.heading.bytes ++ text) (marking_at p (frames ++ others)).text after rest.0 rest.1 written
 

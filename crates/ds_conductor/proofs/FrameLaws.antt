@@ -10,7 +10,6 @@ use Rattle.pcap_capture.specs.declared.heading.LinkType.{LinkType}
 use Rattle.ds_checker.specs.Acceptance.{Table}
 use Rattle.frame_marker.specs.declared.sight.Sight.{Sight}
 use Rattle.frame_marker.specs.declared.sight.Sight.TheVariants.{Matched, Skipped, Unmatched}
-use Rattle.ds_conductor_base.specs.Streams.{AreSentFrom}
 use Rattle.ds_conductor_base.specs.declared.sent.Sent.{Sent}
 use Rattle.ds_conductor.specs.Conditionings.{held_from, newest_after}
 use Rattle.ds_conductor.specs.Seens.{seen_at}
@@ -90,13 +89,6 @@ sent_from-numbered see number newest (f ∷ frames) =
     (packet_at_number (see f.bytes) number (max newest f.moment))
     (All-weaker (λ (s : Sent). suc number ≤ s.packet) (λ (s : Sent). number ≤ s.packet) (λ s up. omega (arith, up)) (sent_from see (suc number) (max newest f.moment) frames)
     (sent_from-numbered see (suc number) (max newest f.moment) frames))
-
-pub sent_by-from : (sight : Sight) (number newest moment : ℕ) → newest ≤ moment → AreSentFrom newest (sent_by sight number moment)
-sent_by-from Skipped number newest moment late = All-nil (λ (s : Sent). newest ≤ s.moment)
-sent_by-from Unmatched number newest moment late = All-nil (λ (s : Sent). newest ≤ s.moment)
-sent_by-from (Matched flow header) number newest moment late =
-    let s : Sent = record { flow = flow; packet = number; size = header.total; dscp = header.dscp; moment = moment } in
-    All-cons (λ (s : Sent). newest ≤ s.moment) s [] late (All-nil (λ (s : Sent). newest ≤ s.moment))
 
 -- no packets have no records, and those of later frames are not that of this one
 skipped : (t : Table) (red : RedRule) (link : LinkType) (number : ℕ) (f : FrameValue) (frames : List FrameValue) (sent : List Sent) (colours : List Colour)

@@ -1,4 +1,5 @@
 -- Lemmas for the proofs of this crate.
+pub mod AheadLaws
 pub mod AskedLaws
 pub mod BoundLaws
 pub mod ConditionLaws

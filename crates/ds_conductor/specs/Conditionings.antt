@@ -1,5 +1,5 @@
 -- Frames between their reading and their writing: seen, held until their colours are decided, and handed out.
-use Rattle.std.specs.Prelude.{◌≡◌, ◌⊎◌, ℕ, suc, ◌≤◌, ◌^◌, Bool, true, false, List, [], ◌∷◌, ◌++◌, length, max, zip, None}
+use Rattle.std.specs.Prelude.{◌≡◌, ◌⊎◌, ℕ, suc, ◌+◌, ◌≤◌, ◌^◌, Bool, true, false, List, [], ◌∷◌, ◌++◌, length, max, zip, None}
 use Rattle.std.specs.Prelude.{◌-◌, ◌<◌, All, IsSome}
 use Rattle.moment_core.specs.declared.colour.Colour.{Colour}
 use Rattle.pcap_capture.specs.Frames.{FrameValue}
@@ -7,7 +7,7 @@ use Rattle.pcap_capture.specs.declared.heading.LinkType.{LinkType}
 use Rattle.frame_marker.specs.Ports.{sight_at}
 use Rattle.frame_marker.specs.declared.sight.Sight.{Sight}
 use Rattle.ds_conductor_base.specs.Passing.{colours_of}
-use Rattle.ds_conductor_base.specs.Streams.{AreSentFrom, colours_left, decided, next_place}
+use Rattle.ds_conductor_base.specs.Streams.{ComeFrom, colours_left, decided, next_place}
 use Rattle.ds_checker.specs.Acceptance.{IsAcceptable}
 use Rattle.ds_conductor_base.specs.Ways.{AreInReach}
 use Rattle.ds_visits.specs.Judging.{Judging, unjudged, verdict_with}
@@ -38,10 +38,11 @@ held_from link see number newest (f ∷ frames) =
     record { frame = seen_at link f; packet = packet_of (see f.bytes) number (max newest f.moment) }
     ∷ held_from link see (suc number) (max newest f.moment) frames
 
--- the packets that may still be sent: those of later frames, or none
-abbrev pub MayCome : Bool → ℕ → List Sent → Type 0
-MayCome true newest back = AreSentFrom newest back
-MayCome false newest back = back ≡ []
+-- The packets that may still be sent: those of later frames at a port, which come to no stop before the greatest stamp so
+-- far and the port's head start; or none.
+abbrev pub MayCome : Bool → Port → ℕ → List Sent → Type 0
+MayCome true p newest back = ComeFrom p.accepted.now (newest + p.ahead) back
+MayCome false p newest back = back ≡ []
 
 -- frames are stamped before the last moments
 abbrev pub AreEarly : List FrameValue → Type 0
@@ -77,7 +78,9 @@ pub record IsConditioned (p : Port) (more : Bool) (frames : List FrameValue) (te
     pub written : text ≡ text_from p.accepted.now p.red p.heading.link 0 gone (zip (sent_of (see_at p) gone) colours)
     pub held : c.held.items ≡ held_from p.heading.link (see_at p) (length gone) (newest_after 0 gone) waiting
     pub newest : c.newest ≡ newest_after 0 frames
-    pub comes : (back : List Sent) → MayCome more c.newest back
+    pub due : c.due ≤ c.newest + p.ahead
+    pub table : c.under_way.table ≡ p.accepted.now
+    pub comes : (back : List Sent) → MayCome more p c.newest back
         → colours_of p.accepted.now (sent_of (see_at p) frames ++ back) ≡ colours ++ colours_left c.under_way back
     pub counted : AreCounted (see_at p) frames c.counts
     pub tallied : AreTallied (zip (sent_of (see_at p) gone) colours) c.tallies

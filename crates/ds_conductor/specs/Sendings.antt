@@ -4,6 +4,8 @@ use Rattle.std.specs.Prelude.{option_to_list, if◌then◌else◌}
 use Rattle.pcap_capture.specs.Frames.{FrameValue}
 use Rattle.frame_marker.specs.declared.sight.Sight.{Sight}
 use Rattle.frame_marker.specs.declared.sight.Sight.TheVariants.{Matched, Skipped, Unmatched}
+use Rattle.ds_checker.specs.Acceptance.{Table}
+use Rattle.ds_conductor_base.specs.Streams.{ComeFrom}
 use Rattle.ds_conductor_base.specs.declared.sent.Sent.{Sent}
 use Rattle.ds_conductor.specs.Reports.{is_skipped, is_unmatched, is_unverified, seen_as}
 use Rattle.ds_conductor.specs.declared.sending.Counts.{Counts}
@@ -28,6 +30,11 @@ sent_from see number newest (f ∷ frames) =
 -- the packets that the frames of a capture send
 abbrev pub sent_of : (List ℕ → Sight) → List FrameValue → List Sent
 sent_of see frames = sent_from see 0 0 frames
+
+-- what frames send comes to no stop before it is so long under way
+abbrev pub AreAhead : Table → (List ℕ → Sight) → ℕ → Type 0
+AreAhead t see delay = (bytes : List ℕ) (number moment : ℕ)
+    → ComeFrom t (moment + delay) (sent_by (see bytes) number moment)
 
 -- Frames are counted, by what they are at a port.
 pub record AreCounted (see : List ℕ → Sight) (frames : List FrameValue) (c : Counts) : Type 0 where

@@ -1,8 +1,9 @@
 ghost use Rattle.std.specs.Prelude.{◌≡◌, ℕ, ◌+◌, ◌-◌, ◌<◌, ◌≤◌, ◌^◌, Bool, true, false, List, [], ◌∷◌, ◌++◌, length};
-ghost use Rattle.std.specs.Prelude.{zip, option_to_list, IfNone, IfOk, IfSome, MatchOption, MatchResult, max, OnErr, OnOk, OnSome};
+ghost use Rattle.std.specs.Prelude.{All, zip, option_to_list, IfNone, IfOk, IfSome, MatchOption, MatchResult, max, OnErr, OnOk, OnSome};
 ghost use Rattle.pcap_capture.specs.Frames.{FrameValue};
 ghost use Rattle.ds_conductor_base.specs.Passing.{colours_of};
 ghost use Rattle.ds_conductor_base.specs.Streams.{colours_left, decided, next_place};
+ghost use Rattle.ds_conductor_base.specs.Visits.{later};
 ghost use Rattle.ds_conductor.specs.Conditionings.{IsBounded, IsConditioned, IsSeeing, IsUndecided, see_at};
 ghost use Rattle.ds_visits.specs.Judging.{verdict_with};
 ghost use Rattle.ds_conductor.specs.Reports.{report_of};
@@ -42,6 +43,8 @@ pub(crate) struct Conditioner<'a> {
     under_way: UnderWay<'a>,
     held: VecDeque<Held>,
     newest: Moment,
+    /// No later packet comes to a hop before this moment.
+    due: Moment,
     counts: Counts,
     tallies: Tallies,
     judge: Judge<'a>,
@@ -59,10 +62,12 @@ impl<'a> Conditioner<'a> {
         let _domain = accepted.domain();
         let under_way = UnderWay::new(alloc, accepted)?;
         let judge = Judge::new(alloc, accepted)?;
+        let origin = Moment::new(0).unwrap();
         Ok(Conditioner {
             under_way,
             held: VecDeque::new(alloc),
-            newest: Moment::new(0).unwrap(),
+            newest: origin,
+            due: origin,
             counts: Counts::nothing(),
             tallies: Tallies::nothing(),
             judge,
@@ -78,6 +83,7 @@ impl<'a> Conditioner<'a> {
         requires few { self.old.counts.records < 2 ^ 44 }
         ensures bounded { IsBounded self.new }
         ensures records { self.new.counts.records ≤ self.old.counts.records + 1 }
+        ensures due { OnOk result (self.new.due ≡ later self.new.newest port.now.ahead) }
         ensures seen { OnOk result ((frames : List FrameValue) (text : List ℕ)
             → IsConditioned port.now true frames text self.old
             → IsConditioned port.now true (frames ++ frame ∷ []) text self.new) }
@@ -94,6 +100,7 @@ impl<'a> Conditioner<'a> {
         self.held.push_back(Held { frame, packet }).unwrap();
         self.counts.add(seen.sight);
         self.newest = moment;
+        self.due = port.due(moment);
         note(&mut self.judge, &packet);
         Ok(())
     }
@@ -105,6 +112,7 @@ impl<'a> Conditioner<'a> {
         ensures placed { next_place self.new.under_way
             ≤ next_place self.old.under_way + length (option_to_list packet.now) }
         ensures first { self.new.under_way.traffic.first ≡ self.old.under_way.traffic.first }
+        ensures table { self.new.under_way.table ≡ self.old.under_way.table }
         ensures comes { OnOk result ((back : List Sent) → colours_left self.new.under_way back
             ≡ colours_left self.old.under_way (option_to_list packet.now ++ back)) }
         ensures unchanged { OnErr result (self.new.under_way ≡ self.old.under_way) }
@@ -137,14 +145,15 @@ impl<'a> Conditioner<'a> {
         Ok(())
     }
 
-    /// Makes the visits that no later frame can come before.
+    /// Makes the visits that no later packet can come before.
     pub(crate) fn make_due<G: Gate>(&mut self, gate: &G)
         ensures bounded { IsBounded self.old → IsBounded self.new }
         ensures records { self.new.counts.records ≡ self.old.counts.records }
+        ensures due { All (λ visit. self.old.due < visit.moment) self.new.under_way.waiting }
         ensures made { (p : Port) (frames : List FrameValue) (text : List ℕ) → IsConditioned p true frames text self.old
             → IsConditioned p true frames text self.new }
     {
-        self.under_way.make_due(self.newest, gate);
+        self.under_way.make_due(self.due, gate);
     }
 
     /// Makes all visits: no frame comes any more.
@@ -194,6 +203,7 @@ impl<'a> Conditioner<'a> {
             ≡ record self.old { under_way = self.new.under_way; tallies = self.new.tallies } }
         ensures answer { result ≡ decided self.old.under_way }
         ensures waiting { self.new.under_way.waiting ≡ self.old.under_way.waiting }
+        ensures table { self.new.under_way.table ≡ self.old.under_way.table }
         ensures comes { (back : List Sent) → colours_left self.old.under_way back
             ≡ option_to_list result ++ colours_left self.new.under_way back }
         ensures tallied { MatchOption result (self.new ≡ self.old)

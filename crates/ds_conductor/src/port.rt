@@ -1,11 +1,16 @@
-ghost use Rattle.std.specs.Prelude.{◌≡◌, ℕ, List, IfOk};
-ghost use Rattle.ds_conductor.specs.Conditionings.{see_at};
+ghost use Rattle.std.specs.Prelude.{◌≡◌, ◌*◌, ◌≤◌, ◌^◌, ℕ, List, IfOk};
+ghost use Rattle.frame_marker.specs.Ports.{sight_at};
 ghost use Rattle.ds_conductor.specs.Markings.{see};
+ghost use Rattle.ds_conductor.specs.Sendings.{AreAhead};
+ghost use Rattle.ds_conductor_base.specs.Visits.{later};
+ghost use Rattle.ds_conductor_base.specs.Ways.{IsHeadStart};
 
 use crate::rule::RedRule;
 use ds_checker::Accepted;
+use ds_conductor_base::{head_start, later};
 use ds_domain_base::Name;
 use frame_marker::PortClassifier;
+use moment_core::{Gap, Moment};
 use pcap_capture::Heading;
 use std::alloc::{AllocError, Global};
 
@@ -20,9 +25,14 @@ pub(crate) struct Port<'a> {
     pub heading: Heading,
     /// What becomes of red frames.
     pub red: RedRule,
+    /// How long after it was sent a packet comes to its first hop, at the least.
+    pub ahead: Gap,
+    ghost holds: { AreAhead accepted.now (sight_at classifier heading.link) ahead },
 }
 
 impl<'a> Port<'a> {
+    ghost use Rattle.ds_conductor.specs.Conditionings.{see_at};
+
     /// The port of a name; `AllocError` where memory runs out.
     pub(crate) fn new(
         alloc: Global,
@@ -36,13 +46,24 @@ impl<'a> Port<'a> {
         ensures red { IfOk result (λ port. port.red ≡ red) }
         ensures sees { IfOk result (λ port. (bytes : List ℕ)
             → see_at port bytes ≡ see accepted.now name heading.link bytes) }
+        ensures ahead { IfOk result (λ port. (delay : ℕ) → delay ≤ 16 * 10 ^ 10
+            → IsHeadStart accepted.now name delay → delay ≤ port.ahead) }
     {
         let classifier = PortClassifier::new(alloc, accepted.contracts(), name)?;
+        let ahead = head_start(accepted, name);
         Ok(Port {
             accepted,
             classifier,
             heading,
             red,
+            ahead,
         })
+    }
+
+    /// The moment before which no later packet comes to a hop, by the greatest stamp so far.
+    pub(crate) fn due(&self, newest: Moment) -> Moment
+        ensures { result ≡ later newest self.now.ahead }
+    {
+        later(newest, self.ahead)
     }
 }

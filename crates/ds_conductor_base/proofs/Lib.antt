@@ -7,6 +7,7 @@ pub mod ConductLaws
 pub mod ConductedLaws
 pub mod CountLaws
 pub mod GoingLaws
+pub mod HeadStartLaws
 pub mod InOrderLaws
 pub mod JoinLaws
 pub mod JournalLaws

@@ -15,7 +15,7 @@ use Rattle.ds_conductor_base.proofs.InOrderLaws.{visit_order}
 use Rattle.ds_conductor_base.proofs.JoinLaws.{ascends-filter, in_order-both, in_order-rises, in_order-same, in_order-told}
 use Rattle.ds_conductor_base.proofs.PassLaws.{passed-count, passed-first, passed_all-behind, passed_all-both, passed_all-count, passed_all-first, passed_all-with, with_first}
 use Rattle.ds_conductor_base.proofs.VisitLaws.{apart_across, later-timed, visits_from-before, visits_from-behind, visits_from-both, visits_from-from, visits_to-all}
-use Rattle.ds_conductor_base.specs.Streams.{AreSentFrom, IsAmong, IsStream, Stream, colours_left, due, late, made_due, next_place, with_packets, with_sent}
+use Rattle.ds_conductor_base.specs.Streams.{ComeFrom, IsAmong, IsStream, Stream, colours_left, due, late, made_due, next_place, with_packets, with_sent}
 use Rattle.ds_conductor_base.specs.Laws.{AllColoursCome, OneColourEach, VisitsUpToAMomentAreFinal}
 use Rattle.ds_conductor_base.specs.Passing.{Carried, Traffic, came_in, colours_in, colours_of, entered, passed, passed_all}
 use Rattle.ds_conductor_base.specs.Visits.{is_before, is_same, visit_to, visits_from, visits_of}
@@ -158,7 +158,7 @@ sent_comes u s back is =
     (append_assoc u.traffic.packets (came_in t s ∷ []) (map (came_in t) back))
 
 -- visits that are made
-pub made_comes : (moment : ℕ) (u : Stream) (back : List Sent) → moment < 2 ^ 63 → AreSentFrom moment back → IsStream u
+pub made_comes : (moment : ℕ) (u : Stream) (back : List Sent) → moment < 2 ^ 63 → ComeFrom u.table moment back → IsStream u
     → colours_left (made_due moment u) back ≡ colours_left u back
 unfolding colours_left
 made_comes moment u back short from is =

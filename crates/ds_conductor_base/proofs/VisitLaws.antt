@@ -3,9 +3,9 @@ use Rattle.std.proofs.Common.{◌≡◌, ◌<◌, ◌≤◌, ◌+◌, ◌^◌, �
 use Rattle.std.specs.Prelude.{◌&&◌, Bool, nat_eq, true, false}
 use Rattle.std.specs.List.{All, AllByRecursion}
 use Rattle.std.proofs.lemmas.Bool.Decides.{nat_tests}
-use Rattle.std.proofs.lemmas.List.Elements.{All-append, All-cons, All-head, All-nil, All-tail, All-weaker, recursion_from_All}
+use Rattle.std.proofs.lemmas.List.Elements.{All-append, All-cons, All-head, All-map, All-nil, All-tail, All-weaker, recursion_from_All}
 use Rattle.ds_checker.specs.Acceptance.{Table}
-use Rattle.ds_conductor_base.specs.Streams.{AreSentFrom}
+use Rattle.ds_conductor_base.specs.Streams.{ComeFrom}
 use Rattle.ds_conductor_base.specs.Visits.{is_same, later, visit_to, visits_from}
 use Rattle.ds_conductor_base.specs.Ways.{stops_at}
 use Rattle.ds_conductor_base.specs.declared.sent.Sent.{Sent}
@@ -46,19 +46,28 @@ visits_from-before t place end (s ∷ sent) short =
     (visits_to-all (λ v. v.place < end) place s (stops_at t s.flow) (λ r. omega (arith, short)))
     (visits_from-before t (suc place) end sent (omega (arith, short)))
 
-later-from : (moment sent delay : ℕ) → moment < 2 ^ 63 → moment ≤ sent → moment ≤ later sent delay
+later-from : (moment sent delay : ℕ) → moment < 2 ^ 63 → moment ≤ sent + delay → moment ≤ later sent delay
 later-from moment sent delay short from = grind arith
 
 pub later-timed : (sent delay : ℕ) → later sent delay < 2 ^ 63
 later-timed sent delay = grind arith
 
-pub visits_from-from : (t : Table) (moment place : ℕ) (sent : List Sent) → moment < 2 ^ 63 → AreSentFrom moment sent → All (λ v. moment ≤ v.moment) (visits_from t place sent)
+visits_to-from : (moment place : ℕ) (s : Sent) (stops : List Stop) → moment < 2 ^ 63 → All (λ r. moment ≤ s.moment + r.delay) stops
+    → All (λ v. moment ≤ v.moment) (map (visit_to place s) stops)
+visits_to-from moment place s stops short come =
+    All-map (λ v. moment ≤ v.moment) (visit_to place s) stops
+    (All-weaker (λ (r : Stop). moment ≤ s.moment + r.delay) (λ (r : Stop). moment ≤ later s.moment r.delay) (λ r there. later-from moment s.moment r.delay short there) stops come)
+
+abbrev ComesFrom : Table → ℕ → Sent → Type 0
+ComesFrom t moment s = All (λ r. moment ≤ s.moment + r.delay) (stops_at t s.flow)
+
+pub visits_from-from : (t : Table) (moment place : ℕ) (sent : List Sent) → moment < 2 ^ 63 → ComeFrom t moment sent → All (λ v. moment ≤ v.moment) (visits_from t place sent)
 unfolding visits_from
 visits_from-from t moment place [] short from = All-nil (λ v. moment ≤ v.moment)
 visits_from-from t moment place (s ∷ sent) short from =
     All-append (λ v. moment ≤ v.moment) (map (visit_to place s) (stops_at t s.flow)) (visits_from t (suc place) sent)
-    (visits_to-all (λ v. moment ≤ v.moment) place s (stops_at t s.flow) (λ r. later-from moment s.moment r.delay short (All-head (λ p. moment ≤ p.moment) s sent from)))
-    (visits_from-from t moment (suc place) sent short (All-tail (λ p. moment ≤ p.moment) s sent from))
+    (visits_to-from moment place s (stops_at t s.flow) short (All-head (ComesFrom t moment) s sent from))
+    (visits_from-from t moment (suc place) sent short (All-tail (ComesFrom t moment) s sent from))
 
 -- ---- visits of other packets
 

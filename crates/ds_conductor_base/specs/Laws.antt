@@ -1,5 +1,5 @@
 -- What steps keep, and what they make; and what visits keep.
-use Rattle.std.specs.Prelude.{◌≡◌, ℕ, ◌<◌, ◌^◌, nat_eq, List, [], ◌∷◌, ◌++◌, All, flat_map, length, map, position, slice_get}
+use Rattle.std.specs.Prelude.{◌≡◌, ℕ, ◌+◌, ◌<◌, ◌^◌, nat_eq, List, [], ◌∷◌, ◌++◌, All, flat_map, length, map, position, slice_get}
 use Rattle.std.specs.Prelude.{Option, None, Some, Result, Ok, Err, if◌then◌else◌}
 use Rattle.meter_book.specs.declared.row.Arrival.{Arrival}
 use Rattle.ds_checker.specs.Acceptance.{Table}
@@ -16,8 +16,9 @@ use Rattle.ds_conductor_base.specs.declared.step.Step.{Step}
 use Rattle.ds_conductor_base.specs.declared.step.Step.TheVariants.{Send, Visit}
 use Rattle.run_audit.specs.Orders.{in_order}
 use Rattle.ds_conductor_base.specs.Passing.{colours_of}
-use Rattle.ds_conductor_base.specs.Streams.{AreSentFrom, Stream, begun, colours_left, decided, due, late}
+use Rattle.ds_conductor_base.specs.Streams.{AreSentAt, ComeFrom, Stream, begun, colours_left, decided, due, late}
 use Rattle.ds_conductor_base.specs.Visits.{is_before, visits_from, visits_of}
+use Rattle.ds_conductor_base.specs.Ways.{IsHeadStart}
 use Rattle.ds_conductor_base.specs.declared.sent.Sent.{Sent}
 
 -- What opens is under way, however many rows books take, each step that is made keeps it so, and what is under way is a
@@ -86,13 +87,18 @@ JournalsAreTheVisits =
 abbrev pub OneColourEach : Type 0
 OneColourEach = (t : Table) (sent : List Sent) → length (colours_of t sent) ≡ length sent
 
--- What is sent at a moment or later changes none of the visits at or before it, and comes behind them.
+-- What comes to no stop before a moment changes none of the visits at or before it, and comes behind them.
 abbrev pub VisitsUpToAMomentAreFinal : Type 0
 VisitsUpToAMomentAreFinal =
-    (t : Table) (front back : List Sent) (moment : ℕ) → moment < 2 ^ 63 → AreSentFrom moment back
+    (t : Table) (front back : List Sent) (moment : ℕ) → moment < 2 ^ 63 → ComeFrom t moment back
     → visits_of t (front ++ back)
     ≡ due moment (visits_of t front)
     ++ in_order is_before (late moment (visits_of t front) ++ visits_from t (length front) back)
+
+-- What is sent at a port at a moment or later comes to no stop before that moment and a head start of the port.
+abbrev pub HeadStartsHold : Type 0
+HeadStartsHold = (t : Table) (port : List ℕ) (delay moment : ℕ) (sent : List Sent)
+    → IsHeadStart t port delay → AreSentAt t port moment sent → ComeFrom t (moment + delay) sent
 
 -- Before the first packet is sent, the colours of all are still to come.
 abbrev pub AllColoursCome : Type 0

@@ -1,11 +1,12 @@
 -- Packets under way: those that were sent and whose colours were not handed out, and the visits that they still make.
 use Rattle.std.specs.Prelude.{◌≡◌, ◌<◌, ◌^◌, Bool, true, ◌&&◌}
 use Rattle.std.specs.Prelude.{ℕ, suc, ◌+◌, ◌≤◌, nat_eq, nat_le, nat_lt, List, [], ◌∷◌, ◌++◌, length, map, Option}
-use Rattle.std.specs.Prelude.{None, Some, if◌then◌else◌}
+use Rattle.std.specs.Prelude.{None, Some, IfSome, if◌then◌else◌}
 use Rattle.std.specs.List.{All, IsDistinct, filter, list_any}
 use Rattle.moment_core.specs.declared.colour.Colour.{Colour}
 use Rattle.run_audit.specs.Orders.{in_order}
 use Rattle.ds_checker.specs.Acceptance.{Table}
+use Rattle.meter_fabric_base.specs.Grounds.{contract_of, ground_of}
 use Rattle.ds_conductor_base.specs.Passing.{Carried, Traffic, came_in, colours_in, entered, passed_all}
 use Rattle.ds_conductor_base.specs.Visits.{is_before, is_same, visit_to, visits_from}
 use Rattle.ds_conductor_base.specs.Ways.{stops_at}
@@ -77,9 +78,14 @@ handed_by (Some colour) u = record u {
 abbrev pub handed : Stream → Stream
 handed u = handed_by (decided u) u
 
--- packets that are sent at a moment or later
-abbrev pub AreSentFrom : ℕ → List Sent → Type 0
-AreSentFrom moment sent = All (λ s. moment ≤ s.moment) sent
+-- packets that come to no stop before a moment
+abbrev pub ComeFrom : Table → ℕ → List Sent → Type 0
+ComeFrom t moment sent = All (λ s. All (λ stop. moment ≤ s.moment + stop.delay) (stops_at t s.flow)) sent
+
+-- packets that are sent at a port at a moment or later: those of contracts there
+abbrev pub AreSentAt : Table → List ℕ → ℕ → List Sent → Type 0
+AreSentAt t port moment sent =
+    All (λ s. (moment ≤ s.moment) × IfSome (contract_of (ground_of t) s.flow) (λ c. c.port ≡ port)) sent
 
 -- whether packets are sent at moments that do not fall, and the first at this moment or later
 unfoldable pub rise_from : ℕ → List Sent → Bool

@@ -1,6 +1,6 @@
 -- The way of a contract's packets where each link takes its floor.
 use Rattle.std.specs.Prelude.{◌≡◌, ℕ, suc, ◌+◌, ◌*◌, ◌^◌, ◌≤◌, List, [], ◌∷◌, ◌++◌, All, map, slice_get, unwrap_or, Option}
-use Rattle.std.specs.Prelude.{None, Some}
+use Rattle.std.specs.Prelude.{None, Some, IfSome}
 use Rattle.ds_domain_base.specs.Domains.{Domain, floor_of, link_of}
 use Rattle.ds_domain_base.specs.declared.contract.Contract.{Contract}
 use Rattle.ds_domain_base.specs.declared.terms.Terms.{Terms}
@@ -46,3 +46,12 @@ AreNear stops = All (λ stop. stop.delay ≤ 16 * 10 ^ 10) stops
 
 abbrev pub AreInReach : Table → Type 0
 AreInReach t = (flow : ℕ) → AreNear (stops_at t flow)
+
+-- no stop is nearer than this
+abbrev pub NoneNearer : ℕ → List Stop → Type 0
+NoneNearer delay stops = All (λ stop. delay ≤ stop.delay) stops
+
+-- a head start that packets have at a port: no contract there has a stop that is nearer
+abbrev pub IsHeadStart : Table → List ℕ → ℕ → Type 0
+IsHeadStart t port delay = (flow : ℕ)
+    → IfSome (contract_of (ground_of t) flow) (λ c. c.port ≡ port → NoneNearer delay (stops_of t.domain flow c))

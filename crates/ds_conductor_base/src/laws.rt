@@ -1,6 +1,6 @@
 //! What steps and visits make, proved as the contracts of functions that do nothing.
-ghost use Rattle.ds_conductor_base.specs.Laws.{AllColoursCome, JournalsAreTheVisits, NoColourIsLeft, OneColourEach};
-ghost use Rattle.ds_conductor_base.specs.Laws.{PacketsAreThoseSent, StepsKeepOnTheWay, StepsMakeRuns};
+ghost use Rattle.ds_conductor_base.specs.Laws.{AllColoursCome, HeadStartsHold, JournalsAreTheVisits, NoColourIsLeft};
+ghost use Rattle.ds_conductor_base.specs.Laws.{OneColourEach, PacketsAreThoseSent, StepsKeepOnTheWay, StepsMakeRuns};
 ghost use Rattle.ds_conductor_base.specs.Laws.{VisitsUpToAMomentAreFinal};
 
 /// Before the first step, packets are on the ways of their contracts and the books of the sites have the rows that they
@@ -32,9 +32,14 @@ pub fn each_packet_leaves_with_one_colour()
     ensures { OneColourEach }
 {}
 
-/// Where packets are sent at a moment or later, the visits at or before it are those of the packets before them.
+/// Where packets come to no hop before a moment, the visits at or before it are those of the packets before them.
 pub fn visits_up_to_a_moment_are_final()
     ensures { VisitsUpToAMomentAreFinal }
+{}
+
+/// What is sent at a port at a moment or later comes to no hop before that moment and a head start of the port.
+pub fn head_starts_hold()
+    ensures { HeadStartsHold }
 {}
 
 /// Before the first packet is sent, the colours of all packets are still to come.

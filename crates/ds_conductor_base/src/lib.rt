@@ -42,4 +42,4 @@ pub use sent::Sent;
 pub use step::Step;
 pub use under_way::UnderWay;
 pub use visit::{Visit, later, visit_to};
-pub use way::{Stop, Way, all_ways, stops_at};
+pub use way::{Stop, Way, all_ways, head_start, stops_at};

@@ -1,6 +1,6 @@
 ghost use Rattle.std.specs.Prelude.{◌≡◌, ◌+◌, ◌-◌, ◌<◌, ◌^◌, ◌++◌, [], ◌∷◌, List, IfOk, OnErr, OnOk, option_to_list};
 ghost use Rattle.ds_conductor_base.specs.Passing.{came_of};
-ghost use Rattle.ds_conductor_base.specs.Streams.{AreSentFrom, begun, colours_left, decided, handed, made_due, next_place};
+ghost use Rattle.ds_conductor_base.specs.Streams.{ComeFrom, begun, colours_left, decided, handed, made_due, next_place};
 ghost use Rattle.ds_conductor_base.specs.Streams.{with_sent};
 ghost use Rattle.ds_conductor_base.specs.declared.sent.Sent.{Sent};
 
@@ -87,11 +87,11 @@ impl<'a> UnderWay<'a> {
     }
 
     /// Makes all visits at or before a moment, in their order, with the gate called round each. What is sent from then
-    /// on is to be sent at that moment or later: the visits that were made are then those that all packets make up to
+    /// on is to come to no hop before that moment: the visits that were made are then those that all packets make up to
     /// it.
     pub fn make_due<G: Gate>(&mut self, moment: Moment, gate: &G)
         ensures made { self.new ≡ made_due moment self.old }
-        ensures comes { (back : List Sent) → AreSentFrom moment back
+        ensures comes { (back : List Sent) → ComeFrom self.old.table moment back
             → colours_left self.new back ≡ colours_left self.old back }
     {
         let end = moment.get();

@@ -1,9 +1,11 @@
-ghost use Rattle.std.specs.Prelude.{◌≡◌, ◌+◌, ◌*◌, ◌<◌, ◌≤◌, ◌^◌, [], IfOk, length, slice_get, unwrap_or};
-ghost use Rattle.ds_conductor_base.specs.Ways.{AreInReach, AreNear, AreWays, stops_at, stops_of};
+ghost use Rattle.std.specs.Prelude.{◌≡◌, ℕ, ◌+◌, ◌*◌, ◌<◌, ◌≤◌, ◌^◌, [], IfOk, length, min, slice_get};
+ghost use Rattle.std.specs.Prelude.{unwrap_or};
+ghost use Rattle.ds_conductor_base.specs.Ways.{AreInReach, AreNear, AreWays, IsHeadStart, NoneNearer, stops_at};
+ghost use Rattle.ds_conductor_base.specs.Ways.{stops_of};
 
 use ds_checker::Accepted;
-use ds_domain_base::{Contract, Domain};
-use meter_fabric_base::{Hop, contract_of, edge_hop, flow_count, site_of};
+use ds_domain_base::{Contract, Domain, Name, Terms};
+use meter_fabric_base::{Hop, contract_of, edge_hop, flow_count, flows_of, site_of};
 use moment_core::Gap;
 use std::alloc::{AllocError, Global};
 use std::marker::Model;
@@ -108,6 +110,66 @@ fn stops_of(
         from = *to;
     }
     Ok(stops)
+}
+
+/// The greatest head start that packets have at a port: so long after it was sent, at the least, each comes to its first
+/// stop. No stop is further than 160 seconds, so that is what is told where the port has no contract.
+pub fn head_start(accepted: &Accepted, port: Name) -> Gap
+    ensures holds { IsHeadStart accepted.now port result }
+    ensures greatest { (delay : ℕ) → delay ≤ 16 * 10 ^ 10 → IsHeadStart accepted.now port delay → delay ≤ result }
+{
+    let domain = accepted.domain();
+    let contracts = flows_of(accepted);
+    let mut least = furthest();
+    for contract in contracts {
+        least = lesser(least, delay_at(domain, port, contract));
+    }
+    least
+}
+
+/// How long after it was sent a packet of a contract comes to its first stop, if the contract is of the port; the
+/// furthest that there is where it is not.
+fn delay_at(domain: &Domain, port: Name, contract: &Contract) -> Gap
+    ensures holds { (flow : ℕ) → contract.now.port ≡ port → NoneNearer result
+        (stops_of domain.now flow contract.now) }
+    ensures greatest { (flow delay : ℕ) → delay ≤ 16 * 10 ^ 10
+        → (contract.now.port ≡ port → NoneNearer delay (stops_of domain.now flow contract.now)) → delay ≤ result }
+{
+    if port == contract.port {
+        first_delay(domain, contract)
+    } else {
+        furthest()
+    }
+}
+
+/// How long after it was sent a packet of a contract comes to its first stop; the furthest that there is where it comes
+/// to none.
+fn first_delay(domain: &Domain, contract: &Contract) -> Gap
+    ensures holds { (flow : ℕ) → NoneNearer result (stops_of domain.now flow contract.now) }
+    ensures greatest { (flow delay : ℕ) → delay ≤ 16 * 10 ^ 10
+        → NoneNearer delay (stops_of domain.now flow contract.now) → delay ≤ result }
+{
+    if let Terms::Policed { .. } = contract.terms {
+        return Gap::NONE;
+    }
+    match contract.path.meters().first() {
+        Some(to) => domain.floor(contract.port, *to),
+        None => furthest(),
+    }
+}
+
+/// The lesser of two delays.
+fn lesser(delay: Gap, other: Gap) -> Gap
+    ensures { result ≡ min delay other }
+{
+    delay.min(other)
+}
+
+/// The furthest that a stop is: sixteen links of the greatest floor.
+fn furthest() -> Gap
+    ensures { result ≡ 16 * 10 ^ 10 }
+{
+    Gap::new(160_000_000_000).unwrap()
 }
 
 /// A delay and then that of a link.

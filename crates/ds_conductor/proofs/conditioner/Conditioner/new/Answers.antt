@@ -9,6 +9,7 @@ use Rattle.ds_conductor.proofs.conditioner.Conditioner.new.Goals as goal
 
 pub returns-clause-begun : goal.returns-clause-begun
 returns-clause-begun c p same seeing =
-    begins p _ (c.in_ok-under_way.ensures.begun ∙ ap begun (sym same)) c.new-3.ensures.items (OkIff-at_ok c.new-4.result _ _ c.unwrap.result c.new-4.ensures c.unwrap.ensures).1
+    let origin = (OkIff-at_ok c.new-3.result _ _ c.unwrap-origin.result c.new-3.ensures c.unwrap-origin.ensures).1 in
+    begins p _ (c.in_ok-under_way.ensures.begun ∙ ap begun (sym same)) c.new-4.ensures.items origin origin
     c.nothing.ensures c.nothing-2.ensures (c.in_ok-judge.ensures.unjudged ∙ ap unjudged (sym same)) (subst IsAcceptable (sym same) c.domain-domain.ensures.acceptable)
     (subst AreInReach (sym same) c.in_ok-judge.ensures.reach) seeing

@@ -1,5 +1,5 @@
 use Rattle.std.proofs.Common.{◌<◌, ◌-◌, ◌^◌, ℕ, arith, ◌≡◌, [], ◌∷◌, ◌++◌, if◌then◌else◌, is_ok, Option, ap, refl, ◌∙◌}
-use Rattle.std.specs.Prelude.{max, option_to_list}
+use Rattle.std.specs.Prelude.{max, option_to_list, OnErr, Result, Ok, Err}
 use Rattle.ds_visits.specs.Judging.{verdict_with}
 use Rattle.frame_marker.specs.Marks.{mark_in}
 use Rattle.frame_marker.specs.declared.mark.Mark.{Mark}
@@ -7,7 +7,7 @@ use Rattle.ds_conductor.specs.Conditionings.{see_at}
 use Rattle.ds_conductor.specs.Seens.{SeenValue}
 use Rattle.ds_conductor.specs.Sendings.{counted_on}
 use Rattle.ds_conductor.specs.declared.conditioner.Held.{Held}
-use Rattle.ds_conductor.proofs.ConditionLaws.{seen}
+use Rattle.ds_conductor.proofs.ConditionLaws.{seen, unseen}
 use Rattle.ds_conductor.proofs.conditioner.Conditioner.see.Goals as goal
 
 early_by : (told moment : ℕ) → told ≡ moment → told < 2 ^ 63 - 2 ^ 40 → moment < 2 ^ 63 - 2 ^ 40
@@ -30,6 +30,18 @@ returns-clause-seen c frames text was =
     (c.new-frame.ensures ∙ ap (λ (m : Option Mark). let s : SeenValue = record { frame = c.args.frame; mark = m } in s) (c.see-seen.ensures.mark ∙ ap (mark_in p.heading.link) c.bytes.ensures))) c.in_ok-send.ensures.comes
     (early_by c.moment.result c.args.frame.moment c.moment.ensures.value c.moment.ensures.early)
     (λ back. c.note.ensures back ∙ ap (λ d. verdict_with d.judge (option_to_list c.packet_of-packet.result ++ back)) rest)
+    (let due = c.due-self.ensures in omega (arith, due)) c.send.ensures.table
 
 pub new-frame-requires : goal.new-frame-requires
 new-frame-requires c = (c.args.port.now.heading.link, c.see-seen.ensures.mark ∙ ap (mark_in c.args.port.now.heading.link) c.bytes.ensures)
+
+on_err : {T E P : Type 0} (r : Result T E) → P → OnErr r P
+on_err (Ok x) p = tt
+on_err (Err e) p = p
+
+pub returns-in_err-send-clause-unseen : goal.returns-in_err-send-clause-unseen
+returns-in_err-send-clause-unseen c =
+    let rest = c.send.ensures.rest in
+    on_err c.from_residual-in_err-send.result (λ frames text was.
+    unseen c.args.port.now frames text c.args.self.now c.send.new.self was (ap (λ d. d.newest) rest) (ap (λ d. d.due) rest) (ap (λ d. d.counts) rest) (ap (λ d. d.tallies) rest)
+    (ap (λ d. d.held.items) rest ∙ c.in_ok-reserve.ensures.items) (ap (λ d. d.judge) rest) c.in_err-send.ensures.unchanged)
