@@ -1,5 +1,5 @@
 ghost use Rattle.std.specs.Prelude.{◌≡◌, ◌⊎◌, ◌<◌, ℕ, List, ◌++◌, [], length, None, Some, Ok, Err, IfErr, IfOk, OnOk};
-ghost use Rattle.std.specs.Prelude.{MatchResult, ◌≤◌};
+ghost use Rattle.std.specs.Prelude.{IsErr, MatchResult, ◌≤◌};
 ghost use Rattle.pcap_capture.specs.Counts.{IsOfReads};
 ghost use Rattle.pcap_capture.specs.Frames.{FrameValue};
 ghost use Rattle.pcap_capture.specs.Grammar.{CaptureState, IsSettled, IsSoFar, Reading, continued, Stops, broken};
@@ -116,7 +116,8 @@ impl Capture {
         ensures end { I.tells intake.old → result ≡ Ok 0 → 0 < most → I.left intake.new ≡ [] }
         ensures reads { IsOfReads (is_read_fault result) (I.failed intake.old) (I.failed intake.new)
             (I.calls intake.new) }
-        ensures fewer { OnOk result (I.calls intake.new < I.calls intake.old) }
+        ensures fewer { (I.calls intake.new < I.calls intake.old)
+            ⊎ (IsErr result × (out.new.items ≡ out.old.items)) }
         ensures no_more { I.calls intake.new ≤ I.calls intake.old }
         ensures broken { self.old.stage ≡ Stage.Broken
             → (result ≡ Err PcapFault.Failed) × (intake.new ≡ intake.old) }

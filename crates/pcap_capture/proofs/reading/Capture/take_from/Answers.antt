@@ -1,4 +1,4 @@
-use Rattle.std.proofs.Common.{◌≡◌, ℕ, false, None, Some, Err, subst, ap, ◌∙◌, inr}
+use Rattle.std.proofs.Common.{◌≡◌, ℕ, false, None, Some, Err, subst, ap, ◌∙◌, inl, inr}
 use Rattle.std.proofs.lemmas.Result.{err_from_is_err_and}
 use Rattle.pcap_capture.specs.Grammar.{CaptureState, broken}
 use Rattle.pcap_capture.specs.Takings.{IsTaken, is_read_fault}
@@ -33,7 +33,7 @@ returns-in_err-go_on g c =
       err = inr read;
       end = λ tells is. cc;
       reads = rw unread (rw c.in-Ok-answer.is at c.in-Ok.ensures.reads);
-      fewer = tt;
+      fewer = inl (rw c.in-Ok-answer.is at c.in-Ok.ensures.fewer);
       no_more = c.in-Ok.ensures.no_more;
       broken = λ is. absurd (c.in_default.not-Broken (ap (λ (s : CaptureState). s.stage) c.self.view_is ∙ is));
     })
@@ -51,7 +51,7 @@ returns g c =
       err = tt;
       end = λ tells is. c.in-Ok.ensures.end tells cc;
       reads = rw c.in-Ok-answer.is at c.in-Ok.ensures.reads;
-      fewer = rw c.in-Ok-answer.is at c.in-Ok.ensures.fewer;
+      fewer = inl (rw c.in-Ok-answer.is at c.in-Ok.ensures.fewer);
       no_more = c.in-Ok.ensures.no_more;
       broken = λ is. absurd (c.in_default.not-Broken (ap (λ (s : CaptureState). s.stage) c.self.view_is ∙ is));
     }
