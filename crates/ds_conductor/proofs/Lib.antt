@@ -1,11 +1,11 @@
 -- Lemmas for the proofs of this crate.
 pub mod AheadLaws
-pub mod AskedLaws
 pub mod BoundLaws
 pub mod ConditionLaws
 pub mod FrameLaws
 pub mod MarkingLaws
 pub mod PassingLaws
+pub mod ReadFaultLaws
 pub mod ReadingLaws
 pub mod ReportLaws
 pub mod SendableLaws

@@ -11,7 +11,7 @@ use Rattle.run_audit.specs.declared.verdict.Verdict.{Verdict}
 use Rattle.run_audit.specs.declared.verdict.Verdict.TheVariants.{Kept}
 use Rattle.ds_checker.specs.Acceptance.{Table}
 use Rattle.ds_conductor_base.specs.Passing.{colours_of}
-use Rattle.ds_conductor.specs.Markings.{IsMarked, IsMarkedAs, IsMarkedBut, IsVerdictOn, IsWhole, IsWholeSoFar, IsWholeWith, Marking, answer_of, is_read_whole, marking_behind, marking_in, marking_of, nothing_marked, see}
+use Rattle.ds_conductor.specs.Markings.{IsMarked, IsMarkedAs, IsMarkedBut, IsVerdictOn, IsWhole, IsWholeSoFar, IsWholeWith, Marking, answer_of, marking_behind, marking_in, marking_of, nothing_marked, see}
 use Rattle.pcap_capture.specs.Takings.{is_own}
 use Rattle.pcap_capture.proofs.OwnLaws.{fault_in_own}
 use Rattle.ds_conductor.specs.Readings.{IsHeadingTold, IsReading, IsReadTo, heading_in}
@@ -370,13 +370,6 @@ marked_by p t name red heading bytes more before after answer table rule head se
     let is : IsPortOf p name = λ look. sees look ∙ ap (λ u. see u name heading.link look) (sym table) ∙ ap (λ (h : Heading). see p.accepted.now name h.link look) (sym head) in
     subst (λ u. IsMarkedAs u name red bytes more before after answer) table
     (subst (λ r. IsMarkedAs p.accepted.now name r bytes more before after answer) rule (marked is))
-
--- the answer to a capture that was marked whole comes of no read fault
-pub read_whole_by : (verdict : Verdict) (report : Report) (fault : Option PcapFault) → is_read_whole (answer_of verdict report fault) ≡ true → ¬ (fault ≡ Some pcaps.ReadFault)
-read_whole_by verdict report None whole is = cc
-read_whole_by verdict report (Some fault) whole is =
-    let P : Option PcapFault → Type 0 = λ f. is_read_whole (answer_of verdict report f) ≡ true in
-    let no : false ≡ true = subst P is whole in cc
 
 -- a name that is found is the name of a port, and one that is not found is not
 pub port_found : (is : Bool) (text name : List ℕ) → Some name ≡ cond is (Some text) None → (is ≡ true) × (name ≡ text)

@@ -1,17 +1,16 @@
 -- What turns come to.
-use Rattle.std.proofs.Common.{◌≡◌, ◌⊎◌, inl, inr, ℕ, ◌-◌, ◌^◌, Bool, true, false, List, [], ◌++◌, Option, None, Some, Result, Ok, Err, MatchResult, if◌then◌else◌, refl, sym, ap, subst, ◌∙◌, append_assoc, append-nil, arith}
-use Rattle.pcap_capture.specs.Counts.{count_after}
+use Rattle.std.proofs.Common.{◌≡◌, ◌⊎◌, inl, inr, ℕ, Bool, true, false, List, [], ◌++◌, Option, None, Some, Result, Ok, Err, IfOk, MatchResult, if◌then◌else◌, refl, sym, ap, subst, ◌∙◌, append_assoc, append-nil}
+use Rattle.pcap_capture.specs.Counts.{IsOfReads}
 use Rattle.pcap_capture.specs.Fronts.{IsFrontOf}
 use Rattle.pcap_capture.specs.Frames.{FrameValue}
-use Rattle.pcap_capture.proofs.CountLaws.{count_after-none}
 use Rattle.pcap_capture.specs.declared.fault.PcapFault.{PcapFault}
 use Rattle.pcap_capture.specs.declared.fault.PcapFault.TheVariants as pcaps
 use Rattle.ds_conductor.specs.Conditionings.{IsConditioned}
 use Rattle.run_audit.specs.declared.verdict.Verdict.{Verdict}
-use Rattle.ds_conductor.specs.Markings.{IsOfReads, answer_of, is_read, is_read_whole, is_unread}
-use Rattle.ds_conductor.specs.Passings.{IsAskedIn, IsBrokenOff, IsTurned, is_unread_by, turned_by}
+use Rattle.ds_conductor.specs.Markings.{answer_of, is_broken_off, is_read, is_unread}
+use Rattle.ds_conductor.specs.Passings.{IsBrokenOff, IsTurned, is_unread_by, is_unread_in, turned_by}
 use Rattle.ds_conductor.specs.Faults.{fault_of}
-use Rattle.ds_conductor.specs.Readings.{IsAsked, IsAskedTo, IsReading, IsUnderway, is_starved}
+use Rattle.ds_conductor.specs.Readings.{IsReading, IsUnderway, is_starved}
 use Rattle.ds_conductor.specs.Writings.{IsWrittenTo, is_write_fault}
 use Rattle.ds_conductor.specs.declared.conditioner.Conditioner.{Conditioner}
 use Rattle.ds_conductor.specs.declared.fault.MarkFault.{MarkFault}
@@ -92,13 +91,13 @@ ended_turned p bytes more before now text frames fault progress c out at writabl
       written = written;
     }
 
-pub ended_asked : (fault : PcapFault) (left failed now asked_before asked : ℕ) → IsAskedTo (is_read fault) failed now asked_before asked
-    → IsAskedIn (turned_by fault) left failed now asked_before asked
-ended_asked fault left failed now asked_before asked on = by (is_starved fault)
+pub ended_reads : (fault : PcapFault) (failed now calls : ℕ) → IsOfReads (is_read fault) failed now calls
+    → IfOk (turned_by fault) (λ turn. IsOfReads (is_unread_in turn) failed now calls)
+ended_reads fault failed now calls reads = by (is_starved fault)
   where
-    by : (starved : Bool) → IsAskedIn (if starved then Err marks.NoMemory else Ok (Ended (Some fault))) left failed now asked_before asked
+    by : (starved : Bool) → IfOk (if starved then Err marks.NoMemory else Ok (Ended (Some fault))) (λ turn. IsOfReads (is_unread_in turn) failed now calls)
     by true = tt
-    by false = on
+    by false = reads
 
 -- it is no fault of the other device
 pub ended_well : (fault : PcapFault) → ¬ (told fault ≡ told pcaps.WriteFault) → MatchResult (turned_by fault)
@@ -131,46 +130,15 @@ pub answer_unread : (verdict : Verdict) (report : Report) (fault : Option PcapFa
 answer_unread verdict report None = refl
 answer_unread verdict report (Some fault) = refl
 
-pub answer_read : (verdict : Verdict) (report : Report) (fault : Option PcapFault) → is_read_whole (answer_of verdict report fault) ≡ true → is_unread_by fault ≡ false
-answer_read verdict report None is = refl
-answer_read verdict report (Some pcaps.NotPcap) is = refl
-answer_read verdict report (Some pcaps.IsPcapng) is = refl
-answer_read verdict report (Some pcaps.BadVersion) is = refl
-answer_read verdict report (Some (pcaps.LinkType number)) is = refl
-answer_read verdict report (Some (pcaps.RecordTooLong count)) is = refl
-answer_read verdict report (Some pcaps.Truncated) is = refl
-answer_read verdict report (Some pcaps.ReadFault) is = absurd cc
-answer_read verdict report (Some pcaps.WriteFault) is = refl
-answer_read verdict report (Some pcaps.NoMemory) is = refl
-answer_read verdict report (Some pcaps.Failed) is = refl
-
--- a fault of the writing tells nothing of the reading
-pub broken_unread : (report : Report) (fault : MarkFault) → (fault ≡ marks.Capture pcaps.WriteFault) ⊎ (fault ≡ marks.NoMemory) → is_unread (Err (report, fault)) ≡ false
-broken_unread report fault (inl e) = ap (λ f. is_unread (Err (report, f))) e
-broken_unread report fault (inr e) = ap (λ f. is_unread (Err (report, f))) e
-
-pub broken_read : (report : Report) (fault : MarkFault) → (fault ≡ marks.Capture pcaps.WriteFault) ⊎ (fault ≡ marks.NoMemory) → is_read_whole (Err (report, fault)) ≡ false
-broken_read report fault (inl e) = ap (λ f. is_read_whole (Err (report, f))) e
-broken_read report fault (inr e) = ap (λ f. is_read_whole (Err (report, f))) e
+-- a fault of the writing breaks the marking off
+pub broken_off : (report : Report) (fault : MarkFault) → (fault ≡ marks.Capture pcaps.WriteFault) ⊎ (fault ≡ marks.NoMemory) → is_broken_off (Err (report, fault)) ≡ true
+broken_off report fault (inl e) = ap (λ f. is_broken_off (Err (report, f))) e
+broken_off report fault (inr e) = ap (λ f. is_broken_off (Err (report, f))) e
 
 -- what is known of the device that gives bytes, by what is answered
-pub of_reads : (answer : Result Report (Report × MarkFault)) (unread : Bool) (failed now asked_before asked : ℕ) → (is_unread answer ≡ true → unread ≡ true)
-    → (is_read_whole answer ≡ true → unread ≡ false) → IsAskedTo unread failed now asked_before asked → IsOfReads answer failed now asked_before asked
-of_reads answer true failed now asked_before asked unread whole on = record {
-  failed_or_spent = λ is. on;
-  unfailed = λ is. let no = whole is in absurd cc;
-}
-of_reads answer false failed now asked_before asked unread whole on = record {
-  failed_or_spent = λ is. let no = unread is in absurd cc;
-  unfailed = λ is. on;
-}
-
-pub broken_reads : (report : Report) (fault : MarkFault) (failed now asked_before asked : ℕ) → (fault ≡ marks.Capture pcaps.WriteFault) ⊎ (fault ≡ marks.NoMemory)
-    → IsOfReads (Err (report, fault)) failed now asked_before asked
-broken_reads report fault failed now asked_before asked why = record {
-  failed_or_spent = λ is. let no = sym (broken_unread report fault why) ∙ is in absurd cc;
-  unfailed = λ is. let no = sym (broken_read report fault why) ∙ is in absurd cc;
-}
+pub of_reads : (answer : Result Report (Report × MarkFault)) (unread : Bool) (failed now calls : ℕ) → is_unread answer ≡ unread → IsOfReads unread failed now calls
+    → IsOfReads (is_unread answer) failed now calls
+of_reads answer unread failed now calls told reads = subst (λ u. IsOfReads u failed now calls) (sym told) reads
 
 -- a fault of the reading that came before the heading was there
 unheaded_unread : (report : Report) (fault : PcapFault) → is_unread (Err (report, fault_of fault)) ≡ is_read fault
@@ -185,29 +153,7 @@ unheaded_unread report pcaps.WriteFault = refl
 unheaded_unread report pcaps.NoMemory = refl
 unheaded_unread report pcaps.Failed = refl
 
-unheaded_read : (report : Report) (fault : PcapFault) → is_read_whole (Err (report, fault_of fault)) ≡ true → is_read fault ≡ false
-unheaded_read report pcaps.NotPcap is = refl
-unheaded_read report pcaps.IsPcapng is = refl
-unheaded_read report pcaps.BadVersion is = refl
-unheaded_read report (pcaps.LinkType number) is = refl
-unheaded_read report (pcaps.RecordTooLong count) is = refl
-unheaded_read report pcaps.Truncated is = refl
-unheaded_read report pcaps.ReadFault is = absurd cc
-unheaded_read report pcaps.WriteFault is = refl
-unheaded_read report pcaps.NoMemory is = refl
-unheaded_read report pcaps.Failed is = refl
-
-pub unheaded_reads : (report : Report) (fault : PcapFault) (told : MarkFault) (failed now asked_before asked : ℕ) → told ≡ fault_of fault
-    → IsAskedTo (is_read fault) failed now asked_before asked → IsOfReads (Err (report, told)) failed now asked_before asked
-unheaded_reads report fault told failed now asked_before asked is on =
-    subst (λ f. IsOfReads (Err (report, f)) failed now asked_before asked) (sym is)
-    (of_reads (Err (report, fault_of fault)) (is_read fault) failed now asked_before asked
-    (λ unread. sym (unheaded_unread report fault) ∙ unread) (unheaded_read report fault) on)
-
--- at first no call was made
-pub asked_first : (left failed asked : ℕ) → left ≡ 2 ^ 32 → IsAsked left failed failed asked asked
-asked_first left failed asked is = record {
-  some = omega (arith, is);
-  unfailed = refl;
-  spent = sym (count_after-none asked) ∙ ap (λ n. count_after n asked) (let none : 0 ≡ 2 ^ 32 - left = omega (arith, is) in none);
-}
+pub unheaded_reads : (report : Report) (fault : PcapFault) (told : MarkFault) (failed now calls : ℕ) → told ≡ fault_of fault → IsOfReads (is_read fault) failed now calls
+    → IsOfReads (is_unread (Err (report, told))) failed now calls
+unheaded_reads report fault told failed now calls is reads =
+    of_reads (Err (report, told)) (is_read fault) failed now calls (ap (λ f. is_unread (Err (report, f))) is ∙ unheaded_unread report fault) reads

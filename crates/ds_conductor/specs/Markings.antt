@@ -1,8 +1,7 @@
 -- The marked capture, as a function of the bytes of a capture.
-use Rattle.std.specs.Prelude.{◌≡◌, ◌⊎◌, ◌^◌, ℕ, List, [], ◌++◌, zip, Bool, true, false, Option, None, Some, Result, Ok}
+use Rattle.std.specs.Prelude.{◌≡◌, ◌⊎◌, ℕ, List, [], ◌++◌, zip, Bool, true, false, Option, None, Some, Result, Ok}
 use Rattle.std.specs.Prelude.{Err}
 use Rattle.moment_core.specs.declared.colour.Colour.{Colour}
-use Rattle.pcap_capture.specs.Counts.{count_after, next_count}
 use Rattle.pcap_capture.specs.Frames.{FrameValue}
 use Rattle.pcap_capture.specs.Grammar.{capture, fault_in, heading_of}
 use Rattle.pcap_capture.specs.declared.fault.PcapFault.{PcapFault}
@@ -175,21 +174,13 @@ abbrev pub is_unread : Result Report (Report × MarkFault) → Bool
 is_unread (Err (report, marks.Capture fault)) = is_read fault
 is_unread _ = false
 
--- whether the capture was read to its end, or to a fault that stands in it, and then marked whole
-abbrev pub is_read_whole : Result Report (Report × MarkFault) → Bool
-is_read_whole (Err (report, marks.Capture pcaps.ReadFault)) = false
-is_read_whole (Err (report, marks.Capture pcaps.WriteFault)) = false
-is_read_whole (Err (report, marks.Capture pcaps.NoMemory)) = false
-is_read_whole (Err (report, marks.JournalFull)) = false
-is_read_whole (Err (report, marks.NoMemory)) = false
-is_read_whole _ = true
-
--- A read fault is answered only where the device failed once, or was asked 2^32 times; a capture that was read whole
--- comes from a device that did not fail.
-pub record IsOfReads (answer : Result Report (Report × MarkFault)) (failed now asked_before asked : ℕ) : Type 0 where
-  pub failed_or_spent : is_unread answer ≡ true → (now ≡ next_count failed)
-      ⊎ ((now ≡ failed) × (asked ≡ count_after (2 ^ 32) asked_before))
-  pub unfailed : is_read_whole answer ≡ true → now ≡ failed
+-- whether the marking was broken off: the marked capture could not be written, or memory ran out
+abbrev pub is_broken_off : Result Report (Report × MarkFault) → Bool
+is_broken_off (Err (report, marks.Capture pcaps.WriteFault)) = true
+is_broken_off (Err (report, marks.Capture pcaps.NoMemory)) = true
+is_broken_off (Err (report, marks.JournalFull)) = true
+is_broken_off (Err (report, marks.NoMemory)) = true
+is_broken_off _ = false
 
 -- the answer to frames that were marked, by what ended the reading of their capture
 abbrev pub answer_of : Verdict → Report → Option PcapFault → Result Report (Report × MarkFault)

@@ -11,7 +11,7 @@ use Rattle.ds_checker.specs.Acceptance.{Table}
 use Rattle.ds_conductor_base.specs.Passing.{colours_of}
 use Rattle.ds_conductor.specs.Conditionings.{IsConditioned, see_at}
 use Rattle.ds_conductor.specs.Markings.{IsMarkedAs, IsVerdictOn, IsWhole, Marking, answer_of, is_read}
-use Rattle.ds_conductor.specs.Readings.{IsAsked, IsAskedTo, IsReading, IsUnderway, is_starved}
+use Rattle.ds_conductor.specs.Readings.{IsReading, IsUnderway, is_starved}
 use Rattle.ds_conductor.specs.Reports.{report_of}
 use Rattle.ds_conductor.specs.Sendings.{sent_of}
 use Rattle.ds_conductor.specs.Texts.{text_from}
@@ -74,22 +74,14 @@ abbrev pub IsTurnedOut : Port → List ℕ → List ℕ → List ℕ → List �
 IsTurnedOut p bytes more before now c out (Ok fault) = IsThrough p bytes more before now c out fault
 IsTurnedOut p bytes more before now c out (Err fault) = IsBrokenOff p bytes more before now c fault
 
--- whether the device that gives bytes was told to have failed
+-- whether it is told that the device that gives bytes could not be read
 abbrev pub is_unread_by : Option PcapFault → Bool
 is_unread_by None = false
 is_unread_by (Some fault) = is_read fault
 
--- How a device was asked: as after a call, where the reading goes on, or until it ended; of a marking that was broken off
--- nothing is told.
-abbrev pub IsAskedIn : Result Turn MarkFault → ℕ → ℕ → ℕ → ℕ → ℕ → Type 0
-IsAskedIn (Ok More) left failed now asked_before asked = IsAsked left failed now asked_before asked
-IsAskedIn (Ok (Ended fault)) left failed now asked_before asked =
-    IsAskedTo (is_unread_by fault) failed now asked_before asked
-IsAskedIn (Err fault) left failed now asked_before asked = Unit {0}
-
-abbrev pub IsAskedOut : Result (Option PcapFault) MarkFault → ℕ → ℕ → ℕ → ℕ → Type 0
-IsAskedOut (Ok fault) failed now asked_before asked = IsAskedTo (is_unread_by fault) failed now asked_before asked
-IsAskedOut (Err fault) failed now asked_before asked = Unit {0}
+abbrev pub is_unread_in : Turn → Bool
+is_unread_in More = false
+is_unread_in (Ended fault) = is_unread_by fault
 
 -- the marking of frames at a port
 abbrev pub marking_at : Port → List FrameValue → Marking

@@ -1,7 +1,6 @@
 -- What is read of a capture that a device gives.
-use Rattle.std.specs.Prelude.{◌≡◌, ◌≢◌, ◌⊎◌, ℕ, ◌+◌, ◌-◌, ◌*◌, ◌^◌, ◌≤◌, Bool, true, false, List, [], ◌++◌, length, Option, None, Some}
+use Rattle.std.specs.Prelude.{◌≡◌, ◌≢◌, ◌⊎◌, ℕ, ◌+◌, ◌-◌, ◌*◌, Bool, true, false, List, [], ◌++◌, length, Option, None, Some}
 use Rattle.std.specs.Prelude.{Result, Ok, Err}
-use Rattle.pcap_capture.specs.Counts.{count_after, next_count}
 use Rattle.pcap_capture.specs.Frames.{FrameValue}
 use Rattle.pcap_capture.specs.Grammar.{IsSoFar, capture, fault_in, heading_of}
 use Rattle.pcap_capture.specs.declared.fault.PcapFault.{PcapFault}
@@ -11,7 +10,6 @@ use Rattle.pcap_capture.specs.declared.fault.PcapFault.TheVariants.{NoMemory, Fa
 use Rattle.pcap_capture.specs.declared.heading.Heading.{Heading}
 use Rattle.pcap_capture.specs.declared.stage.Stage.{Stage}
 use Rattle.pcap_capture.specs.declared.stage.Stage.TheVariants.{Opening, Records, Broken}
-use Rattle.ds_conductor.specs.Markings.{is_read}
 use Rattle.ds_conductor.specs.declared.reading.Progress.{Progress}
 
 -- the heading at the front of the bytes of a capture, if it is there whole and one that is read
@@ -66,26 +64,13 @@ IsReadOn gone bytes more progress (Ok true) = IsUnderway gone bytes more progres
 IsReadOn gone bytes more progress (Ok false) = IsEnded gone bytes more progress None
 IsReadOn gone bytes more progress (Err fault) = IsEnded gone bytes more progress (Some fault)
 
--- how much was read and may be read: a frame has sixteen bytes of its own at least, and a call gives 65,536 at most
+-- of how many bytes the frames and the rest are made at least: a frame has sixteen bytes of its own
 abbrev pub bytes_of : Progress → ℕ
-bytes_of progress = 16 * length progress.frames.items + length progress.capture.rest + 65536 * progress.turns
+bytes_of progress = 16 * length progress.frames.items + length progress.capture.rest
 
--- The device that gives bytes did not fail, and was asked as often as calls are spent of 2^32.
-pub record IsAsked (left failed now asked_before asked : ℕ) : Type 0 where
-  pub some : left ≤ 2 ^ 32
-  pub unfailed : now ≡ failed
-  pub spent : asked ≡ count_after (2 ^ 32 - left) asked_before
-
--- Where it is told to have failed, it did, or all calls were spent; and else it did not.
-abbrev pub IsAskedTo : Bool → ℕ → ℕ → ℕ → ℕ → Type 0
-IsAskedTo false failed now asked_before asked = now ≡ failed
-IsAskedTo true failed now asked_before asked =
-    (now ≡ next_count failed) ⊎ ((now ≡ failed) × (asked ≡ count_after (2 ^ 32) asked_before))
-
--- what is known of it behind a call
-abbrev pub IsAskedOn : {T : Type 0} → Result T PcapFault → ℕ → ℕ → ℕ → ℕ → ℕ → Type 0
-IsAskedOn (Ok value) left failed now asked_before asked = IsAsked left failed now asked_before asked
-IsAskedOn (Err fault) left failed now asked_before asked = IsAskedTo (is_read fault) failed now asked_before asked
+-- and how many there may be, where a device answers so many calls more: each gives 65,536 bytes at most
+abbrev pub most_bytes : Progress → ℕ → ℕ
+most_bytes progress calls = bytes_of progress + 65536 * calls
 
 -- whether memory ran out
 abbrev pub is_starved : PcapFault → Bool

@@ -1,15 +1,15 @@
 ghost use Rattle.std.specs.Prelude.{◌≡◌, ◌⊎◌, ℕ, ◌+◌, ◌*◌, ◌<◌, ◌≤◌, ◌^◌, true, false, List, [], ◌++◌, Err, Some, IfErr};
 ghost use Rattle.std.specs.Prelude.{IfOk, MatchResult, Ok, OnErr, OnOk, if◌then◌else◌};
-ghost use Rattle.pcap_capture.specs.Counts.{next_count};
+ghost use Rattle.pcap_capture.specs.Counts.{IsOfReads, next_count};
 ghost use Rattle.pcap_capture.specs.Frames.{FrameValue};
 ghost use Rattle.ds_domain_base.specs.Domains.{is_port};
 ghost use Rattle.pcap_capture.specs.Fronts.{IsFrontOf};
 ghost use Rattle.ds_conductor.specs.Conditionings.{IsBounded, IsConditioned, IsPortOf};
-ghost use Rattle.ds_conductor.specs.Markings.{IsMarked, IsMarkedAs, IsOfReads, answer_of, is_read_whole};
+ghost use Rattle.ds_conductor.specs.Markings.{IsMarked, IsMarkedAs, answer_of, is_broken_off};
 ghost use Rattle.ds_conductor.specs.Markings.{is_unread, is_unwritten};
-ghost use Rattle.ds_conductor.specs.Passings.{IsAskedIn, IsAskedOut, IsFinished, IsOnTheWay, IsTurned, IsTurnedOut};
-ghost use Rattle.ds_conductor.specs.Passings.{IsMarkedAt, is_unread_by, marking_at, turned_by};
-ghost use Rattle.ds_conductor.specs.Readings.{IsAsked, IsUnderway, bytes_of};
+ghost use Rattle.ds_conductor.specs.Passings.{IsFinished, IsOnTheWay, IsTurned, IsTurnedOut};
+ghost use Rattle.ds_conductor.specs.Passings.{IsMarkedAt, is_unread_by, is_unread_in, marking_at, turned_by};
+ghost use Rattle.ds_conductor.specs.Readings.{IsUnderway, bytes_of, most_bytes};
 ghost use Rattle.ds_conductor.specs.Reports.{nothing_read};
 ghost use Rattle.ds_conductor.specs.Writings.{IsWrittenTo, is_write_fault};
 
@@ -26,9 +26,6 @@ use ds_domain_base::Name;
 use pcap_capture::{Heading, Intake, Outlet, PcapFault};
 use run_audit::Verdict;
 use std::alloc::{AllocError, Global};
-
-/// By how many calls of `take` a capture is read at most; the next is answered as a read fault.
-const TURNS: u64 = 1 << 32;
 
 /// Marks a capture: each IPv4 frame that a contract of the port takes passes the meters of its contract's path, and
 /// leaves with the code point of its contract's class and the colour of its last meter (RFC 2597 section 6), or under
@@ -49,7 +46,7 @@ const TURNS: u64 = 1 << 32;
 /// marking that is a front too); `Capture` with the first fault that stands in the capture, or a read fault, where
 /// every record before it is written, or with a write fault, where a front is written. Where a device fails to give
 /// bytes, and what it gave before cannot be written whole, that is what is answered: a read fault says that all of it
-/// stands there. The device's own count tells that it failed. It never answers `JournalFull`: no journal is kept.
+/// stands there. The device's own count tells that it failed. A device that is spent cannot be read either. It never answers `JournalFull`: no journal is kept.
 pub fn mark<I: Intake, O: Outlet, G: Gate>(
     alloc: Global,
     accepted: &Accepted,
@@ -72,14 +69,14 @@ pub fn mark<I: Intake, O: Outlet, G: Gate>(
         × (outlet.new ≡ outlet.old) }
     ensures writes { O.failed outlet.new
         ≡ (if is_unwritten result then next_count (O.failed outlet.old) else O.failed outlet.old) }
-    ensures reads { IsOfReads result (I.failed intake.old) (I.failed intake.new) (I.turns intake.old)
-        (I.turns intake.new) }
+    ensures reads { is_broken_off result ≡ false
+        → IsOfReads (is_unread result) (I.failed intake.old) (I.failed intake.new) (I.calls intake.new) }
     ensures few { IfOk result (λ report. report.records ≤ 2 ^ 44) }
 {
     let Some(port) = accepted.domain().port_named(port) else {
         return Err((Report::nothing(), MarkFault::UnknownPort));
     };
-    let mut progress = Progress::begin(alloc, TURNS);
+    let mut progress = Progress::begin(alloc);
     match read_heading(alloc, intake, &mut progress) {
         Ok(heading) => mark_behind(
             alloc,
@@ -109,7 +106,7 @@ fn mark_behind<I: Intake, O: Outlet, G: Gate>(
     gate: &G,
 ) -> Result<Report, (Report, MarkFault)>
     requires missing { progress.old.missing ≤ 24 }
-    requires few { bytes_of progress.old ≤ 2 ^ 48 }
+    requires few { most_bytes progress.old (I.calls intake.old) ≤ 2 ^ 48 }
     ensures marked { I.tells intake.old → O.tells outlet.old → (bytes : List ℕ)
         → IsUnderway [] bytes (I.left intake.old) progress.old → progress.old.heading ≡ Some heading
         → IsMarkedAs accepted.now name red bytes (I.left intake.new) (O.held outlet.old) (O.held outlet.new) result }
@@ -117,9 +114,8 @@ fn mark_behind<I: Intake, O: Outlet, G: Gate>(
         ≡ (if is_unwritten result then next_count (O.failed outlet.old) else O.failed outlet.old) }
     ensures known { IfErr result (λ refused. ¬ (refused.1 ≡ MarkFault.UnknownPort)) }
     ensures few { IfOk result (λ report. report.records ≤ 2 ^ 44) }
-    ensures reads { (failed asked : ℕ) → IsAsked progress.old.turns failed (I.failed intake.old) asked
-        (I.turns intake.old)
-        → IsOfReads result failed (I.failed intake.new) asked (I.turns intake.new) }
+    ensures reads { is_broken_off result ≡ false
+        → IsOfReads (is_unread result) (I.failed intake.old) (I.failed intake.new) (I.calls intake.new) }
 {
     let Ok(port) = Port::new(alloc, accepted, name, heading, red) else {
         return Err((Report::nothing(), MarkFault::NoMemory));
@@ -137,7 +133,7 @@ fn mark_at<I: Intake, O: Outlet, G: Gate>(
     gate: &G,
 ) -> Result<Report, (Report, MarkFault)>
     requires missing { progress.old.missing ≤ 24 }
-    requires few { bytes_of progress.old ≤ 2 ^ 48 }
+    requires few { most_bytes progress.old (I.calls intake.old) ≤ 2 ^ 48 }
     ensures marked { I.tells intake.old → O.tells outlet.old → (name bytes : List ℕ) → IsPortOf port.now name
         → IsUnderway [] bytes (I.left intake.old) progress.old → progress.old.heading ≡ Some port.now.heading
         → IsMarkedAt port.now name bytes (I.left intake.new) (O.held outlet.old) (O.held outlet.new) result }
@@ -145,9 +141,8 @@ fn mark_at<I: Intake, O: Outlet, G: Gate>(
         ≡ (if is_unwritten result then next_count (O.failed outlet.old) else O.failed outlet.old) }
     ensures known { IfErr result (λ refused. ¬ (refused.1 ≡ MarkFault.UnknownPort)) }
     ensures few { IfOk result (λ report. report.records ≤ 2 ^ 44) }
-    ensures reads { (failed asked : ℕ) → IsAsked progress.old.turns failed (I.failed intake.old) asked
-        (I.turns intake.old)
-        → IsOfReads result failed (I.failed intake.new) asked (I.turns intake.new) }
+    ensures reads { is_broken_off result ≡ false
+        → IsOfReads (is_unread result) (I.failed intake.old) (I.failed intake.new) (I.calls intake.new) }
 {
     let Ok(mut out) = Vec::from_array(alloc, port.heading.bytes) else {
         return Err((Report::nothing(), MarkFault::NoMemory));
@@ -180,7 +175,7 @@ fn mark_through<I: Intake, O: Outlet, G: Gate>(
 ) -> Result<Report, (Report, MarkFault)>
     requires missing { progress.old.missing ≤ 24 }
     requires bounded { IsBounded conditioner.old }
-    requires few { 16 * conditioner.old.counts.records + bytes_of progress.old ≤ 2 ^ 48 }
+    requires few { 16 * conditioner.old.counts.records + most_bytes progress.old (I.calls intake.old) ≤ 2 ^ 48 }
     ensures marked { I.tells intake.old → O.tells outlet.old → (name bytes before : List ℕ) → IsPortOf port.now name
         → IsOnTheWay port.now bytes (I.left intake.old) before (O.held outlet.old) progress.old conditioner.old
         out.old.items
@@ -189,9 +184,8 @@ fn mark_through<I: Intake, O: Outlet, G: Gate>(
         ≡ (if is_unwritten result then next_count (O.failed outlet.old) else O.failed outlet.old) }
     ensures known { IfErr result (λ refused. ¬ (refused.1 ≡ MarkFault.UnknownPort)) }
     ensures few { IfOk result (λ report. report.records ≤ 2 ^ 44) }
-    ensures reads { (failed asked : ℕ) → IsAsked progress.old.turns failed (I.failed intake.old) asked
-        (I.turns intake.old)
-        → IsOfReads result failed (I.failed intake.new) asked (I.turns intake.new) }
+    ensures reads { is_broken_off result ≡ false
+        → IsOfReads (is_unread result) (I.failed intake.old) (I.failed intake.new) (I.calls intake.new) }
 {
     let turned = turn_all(
         alloc,
@@ -230,8 +224,7 @@ fn finish<O: Outlet>(
     ensures writes { O.failed outlet.new
         ≡ (if is_unwritten result then next_count (O.failed outlet.old) else O.failed outlet.old) }
     ensures known { IfErr result (λ refused. ¬ (refused.1 ≡ MarkFault.UnknownPort)) }
-    ensures unread { is_unread result ≡ true → is_unread_by fault ≡ true }
-    ensures read { is_read_whole result ≡ true → is_unread_by fault ≡ false }
+    ensures told { is_broken_off result ≡ false → is_unread result ≡ is_unread_by fault }
     ensures few { IfOk result (λ report. report.records ≤ 2 ^ 44) }
 {
     let written = write_on(port, conditioner, out, outlet);
@@ -283,15 +276,14 @@ fn turn_all<I: Intake, O: Outlet, G: Gate>(
 ) -> Result<Option<PcapFault>, MarkFault>
     requires missing { progress.old.missing ≤ 24 }
     requires bounded { IsBounded conditioner.old }
-    requires few { 16 * conditioner.old.counts.records + bytes_of progress.old ≤ 2 ^ 48 }
+    requires few { 16 * conditioner.old.counts.records + most_bytes progress.old (I.calls intake.old) ≤ 2 ^ 48 }
     ensures bounded { IsBounded conditioner.new }
     ensures turned { I.tells intake.old → O.tells outlet.old → (bytes before : List ℕ)
         → IsOnTheWay port.now bytes (I.left intake.old) before (O.held outlet.old) progress.old conditioner.old
         out.old.items
         → IsTurnedOut port.now bytes (I.left intake.new) before (O.held outlet.new) conditioner.new out.new.items result }
-    ensures asked { (failed asked : ℕ) → IsAsked progress.old.turns failed (I.failed intake.old) asked
-        (I.turns intake.old)
-        → IsAskedOut result failed (I.failed intake.new) asked (I.turns intake.new) }
+    ensures reads { IfOk result (λ fault.
+        IsOfReads (is_unread_by fault) (I.failed intake.old) (I.failed intake.new) (I.calls intake.new)) }
     ensures fault { MatchResult result
         (λ fault. (¬ (fault ≡ Some PcapFault.WriteFault)) × (¬ (fault ≡ Some PcapFault.NoMemory)))
         (λ fault. (fault ≡ MarkFault.Capture PcapFault.WriteFault) ⊎ (fault ≡ MarkFault.NoMemory)) }
@@ -330,20 +322,19 @@ fn take_turn<I: Intake, O: Outlet, G: Gate>(
 ) -> Result<Turn, MarkFault>
     requires missing { progress.old.missing ≤ 24 }
     requires bounded { IsBounded conditioner.old }
-    requires few { 16 * conditioner.old.counts.records + bytes_of progress.old ≤ 2 ^ 48 }
+    requires few { 16 * conditioner.old.counts.records + most_bytes progress.old (I.calls intake.old) ≤ 2 ^ 48 }
     ensures missing { progress.new.missing ≤ progress.old.missing }
     ensures bounded { IsBounded conditioner.new }
-    ensures few { 16 * conditioner.new.counts.records + bytes_of progress.new
-        ≤ 16 * conditioner.old.counts.records + bytes_of progress.old }
-    ensures fewer { result ≡ Ok Turn.More → progress.new.turns < progress.old.turns }
+    ensures few { 16 * conditioner.new.counts.records + most_bytes progress.new (I.calls intake.new)
+        ≤ 16 * conditioner.old.counts.records + most_bytes progress.old (I.calls intake.old) }
+    ensures fewer { result ≡ Ok Turn.More → I.calls intake.new < I.calls intake.old }
     ensures turned { I.tells intake.old → O.tells outlet.old → (bytes before : List ℕ)
         → IsOnTheWay port.now bytes (I.left intake.old) before (O.held outlet.old) progress.old conditioner.old
         out.old.items
         → IsTurned port.now bytes (I.left intake.new) before (O.held outlet.new) progress.new conditioner.new
         out.new.items result }
-    ensures asked { (failed asked : ℕ) → IsAsked progress.old.turns failed (I.failed intake.old) asked
-        (I.turns intake.old)
-        → IsAskedIn result progress.new.turns failed (I.failed intake.new) asked (I.turns intake.new) }
+    ensures reads { IfOk result (λ turn.
+        IsOfReads (is_unread_in turn) (I.failed intake.old) (I.failed intake.new) (I.calls intake.new)) }
     ensures fault { MatchResult result
         (λ turn. (¬ (turn ≡ Turn.Ended (Some PcapFault.WriteFault)))
         × (¬ (turn ≡ Turn.Ended (Some PcapFault.NoMemory))))
@@ -381,7 +372,6 @@ fn see_read(
         ≤ 16 * conditioner.old.counts.records + bytes_of progress.old }
     ensures missing { progress.new.missing ≡ progress.old.missing }
     ensures heading { progress.new.heading ≡ progress.old.heading }
-    ensures turns { progress.new.turns ≡ progress.old.turns }
     ensures read { (gone : List FrameValue) (bytes more : List ℕ) → IsUnderway gone bytes more progress.old
         → IsUnderway (gone ++ progress.old.frames.items) bytes more progress.new }
     ensures seen { OnOk result ((gone : List FrameValue) (text : List ℕ)

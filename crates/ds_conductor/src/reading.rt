@@ -1,10 +1,11 @@
-ghost use Rattle.std.specs.Prelude.{◌≡◌, ℕ, ◌-◌, ◌≤◌, ◌<◌, List, [], ◌++◌, length, Ok};
+ghost use Rattle.std.specs.Prelude.{◌≡◌, ℕ, ◌≤◌, ◌<◌, List, [], ◌++◌, length, Ok};
 ghost use Rattle.std.specs.Prelude.{None, Some, Err, IfErr, MatchResult, Option, ◌+◌, ◌*◌, OnErr, OnOk, true};
 ghost use Rattle.pcap_capture.specs.Frames.{FrameValue};
-ghost use Rattle.ds_conductor.specs.Readings.{IsAsked, IsAskedOn, IsEnded, IsReadOn, IsReading, IsUnderway};
-ghost use Rattle.ds_conductor.specs.Readings.{bytes_of, heading_at};
+ghost use Rattle.ds_conductor.specs.Readings.{IsEnded, IsReadOn, IsReading, IsUnderway};
+ghost use Rattle.ds_conductor.specs.Readings.{bytes_of, heading_at, most_bytes};
 ghost use Rattle.ds_conductor.specs.Readings.{is_starved};
-ghost use Rattle.pcap_capture.specs.Takings.{is_own};
+ghost use Rattle.pcap_capture.specs.Counts.{IsOfReads};
+ghost use Rattle.pcap_capture.specs.Takings.{is_own, is_read_fault};
 ghost use Rattle.pcap_capture.specs.declared.fault.PcapFault.{PcapFault};
 ghost use Rattle.pcap_capture.specs.declared.heading.Heading.{Heading};
 
@@ -24,8 +25,6 @@ pub(crate) struct Progress {
     missing: usize,
     /// The frames that are there whole and were not taken out.
     frames: Vec<Frame>,
-    /// How many more calls of `take` there may be.
-    turns: u64,
 }
 
 /// The heading of a capture that was read so far, once it is there.
@@ -53,7 +52,6 @@ fn finish(progress: &mut Progress) -> Result<bool, PcapFault>
         → IsUnderway gone bytes [] progress.old → IsReadOn gone bytes [] progress.new result }
     ensures missing { progress.new.missing ≡ progress.old.missing }
     ensures heading { progress.new.heading ≡ progress.old.heading }
-    ensures turns { progress.new.turns ≡ progress.old.turns }
     ensures few { bytes_of progress.new ≤ bytes_of progress.old }
     ensures fault { IfErr result (λ fault. is_own fault ≡ true) }
 {
@@ -72,12 +70,11 @@ fn take_piece<I: Intake>(
 ) -> Result<usize, PcapFault>
     requires missing { progress.old.missing ≤ 24 }
     ensures missing { progress.new.missing ≤ progress.old.missing }
-    ensures turns { progress.new.turns ≡ progress.old.turns - 1 }
-    ensures going { OnOk result (0 < progress.old.turns) }
+    ensures fewer { OnOk result (I.calls intake.new < I.calls intake.old) }
     ensures heading { OnErr result (progress.new.heading ≡ progress.old.heading) }
     ensures stays { (heading : Heading) → progress.old.capture.stage ≡ Stage.Records heading
         → progress.old.heading ≡ Some heading → progress.new.heading ≡ Some heading }
-    ensures few { bytes_of progress.new ≤ bytes_of progress.old }
+    ensures few { most_bytes progress.new (I.calls intake.new) ≤ most_bytes progress.old (I.calls intake.old) }
     ensures told { I.tells intake.old → I.tells intake.new }
     ensures read { (gone : List FrameValue) (bytes : List ℕ) → I.tells intake.old
         → IsUnderway gone bytes (I.left intake.old) progress.old → MatchResult result
@@ -86,15 +83,9 @@ fn take_piece<I: Intake>(
     ensures end { I.tells intake.old → result ≡ Ok 0 → I.left intake.new ≡ [] }
     ensures still { result ≡ Ok 0 → (gone : List FrameValue) (bytes more : List ℕ)
         → IsUnderway gone bytes more progress.old → progress.new.heading ≡ progress.old.heading }
-    ensures asked { (failed asked : ℕ) → IsAsked progress.old.turns failed (I.failed intake.old) asked
-        (I.turns intake.old)
-        → IsAskedOn result progress.new.turns failed (I.failed intake.new) asked (I.turns intake.new) }
+    ensures reads { IsOfReads (is_read_fault result) (I.failed intake.old) (I.failed intake.new) (I.calls intake.new) }
     ensures no_write { ¬ (result ≡ Err PcapFault.WriteFault) }
 {
-    if progress.turns == 0 {
-        return Err(PcapFault::ReadFault);
-    }
-    progress.turns -= 1;
     let most = wanted(progress.missing);
     let taken = match progress
         .capture
@@ -117,18 +108,15 @@ pub(crate) fn read_piece<I: Intake>(
 ) -> Result<bool, PcapFault>
     requires missing { progress.old.missing ≤ 24 }
     ensures missing { progress.new.missing ≤ progress.old.missing }
-    ensures turns { progress.new.turns ≡ progress.old.turns - 1 }
-    ensures going { OnOk result (0 < progress.old.turns) }
+    ensures fewer { OnOk result (I.calls intake.new < I.calls intake.old) }
     ensures stays { (heading : Heading) → progress.old.capture.stage ≡ Stage.Records heading
         → progress.old.heading ≡ Some heading → progress.new.heading ≡ Some heading }
-    ensures few { bytes_of progress.new ≤ bytes_of progress.old }
+    ensures few { most_bytes progress.new (I.calls intake.new) ≤ most_bytes progress.old (I.calls intake.old) }
     ensures told { I.tells intake.old → I.tells intake.new }
     ensures read { (gone : List FrameValue) (bytes : List ℕ) → I.tells intake.old
         → IsUnderway gone bytes (I.left intake.old) progress.old
         → IsReadOn gone bytes (I.left intake.new) progress.new result }
-    ensures asked { (failed asked : ℕ) → IsAsked progress.old.turns failed (I.failed intake.old) asked
-        (I.turns intake.old)
-        → IsAskedOn result progress.new.turns failed (I.failed intake.new) asked (I.turns intake.new) }
+    ensures reads { IsOfReads (is_read_fault result) (I.failed intake.old) (I.failed intake.new) (I.calls intake.new) }
     ensures no_write { ¬ (result ≡ Err PcapFault.WriteFault) }
 {
     let taken = match take_piece(alloc, intake, progress) {
@@ -150,15 +138,13 @@ pub(crate) fn read_heading<I: Intake>(
 ) -> Result<Heading, PcapFault>
     requires missing { progress.old.missing ≤ 24 }
     ensures missing { progress.new.missing ≤ progress.old.missing }
-    ensures few { bytes_of progress.new ≤ bytes_of progress.old }
+    ensures few { most_bytes progress.new (I.calls intake.new) ≤ most_bytes progress.old (I.calls intake.old) }
     ensures told { I.tells intake.old → I.tells intake.new }
     ensures read { (bytes : List ℕ) → I.tells intake.old → IsUnderway [] bytes (I.left intake.old) progress.old
         → MatchResult result
         (λ heading. IsUnderway [] bytes (I.left intake.new) progress.new × (progress.new.heading ≡ Some heading))
         (λ fault. (frames : List FrameValue) × IsReading bytes (I.left intake.new) None frames (Some fault)) }
-    ensures asked { (failed asked : ℕ) → IsAsked progress.old.turns failed (I.failed intake.old) asked
-        (I.turns intake.old)
-        → IsAskedOn result progress.new.turns failed (I.failed intake.new) asked (I.turns intake.new) }
+    ensures reads { IsOfReads (is_read_fault result) (I.failed intake.old) (I.failed intake.new) (I.calls intake.new) }
     ensures no_write { ¬ (result ≡ Err PcapFault.WriteFault) }
 {
     loop {
@@ -183,11 +169,10 @@ pub(crate) fn is_starved(fault: PcapFault) -> bool
 }
 
 impl Progress {
-    /// Before the first byte, with so many calls of `take` to come at most.
-    pub(crate) fn begin(alloc: Global, turns: u64) -> Self
+    /// Before the first byte.
+    pub(crate) fn begin(alloc: Global) -> Self
         ensures missing { result.missing ≡ 24 }
-        ensures turns { result.turns ≡ turns }
-        ensures few { bytes_of result ≡ 65536 * turns }
+        ensures few { bytes_of result ≡ 0 }
         ensures begun { (bytes : List ℕ) → IsUnderway [] bytes bytes result }
     {
         Progress {
@@ -195,7 +180,6 @@ impl Progress {
             heading: None,
             missing: HEADING,
             frames: Vec::new(alloc),
-            turns,
         }
     }
 
@@ -204,7 +188,6 @@ impl Progress {
         ensures taken { result.items ≡ self.old.frames.items }
         ensures missing { self.new.missing ≡ self.old.missing }
         ensures heading { self.new.heading ≡ self.old.heading }
-        ensures turns { self.new.turns ≡ self.old.turns }
         ensures few { 16 * length result.items + bytes_of self.new ≡ bytes_of self.old }
         ensures read { (gone : List FrameValue) (bytes more : List ℕ) → IsUnderway gone bytes more self.old
             → IsUnderway (gone ++ result.items) bytes more self.new }

@@ -1,5 +1,5 @@
 -- An answer that is written a part at a time.
-use Rattle.std.proofs.Common.{◌≡◌, ℕ, ◌+◌, List, [], ◌++◌, take, drop, Bool, true, false, cond, ◌<◌, ◌≤◌, arith, Result, Ok, Err, MatchResult, OnErr, IfOk, ◌⊎◌, inl, inr, refl, subst, sym, ap, ◌∙◌, append_assoc, append-nil, take-append-drop}
+use Rattle.std.proofs.Common.{◌≡◌, ℕ, List, [], ◌++◌, take, drop, Bool, true, false, cond, Result, Ok, Err, MatchResult, OnErr, IfOk, ◌⊎◌, inl, inr, refl, subst, sym, ap, ◌∙◌, append_assoc, append-nil, take-append-drop}
 use Rattle.pcap_capture.specs.Counts.{next_count}
 use Rattle.dsedge_lines.specs.declared.command.Ending.{Ending}
 use Rattle.dsedge_lines.specs.declared.fault.PumpFault.{PumpFault}
@@ -73,18 +73,6 @@ settled-unread (Err NoMemory) found why unread = refl
 -- a count that a test may have moved, from what it was before
 pub settled-failures : (test : Bool) (new middle old : ℕ) → middle ≡ old → new ≡ cond test (next_count middle) middle → new ≡ cond test (next_count old) old
 settled-failures test new middle old same e = subst (λ n. new ≡ cond test (next_count n) n) same e
-
--- a turn before the last
-pub turn-le : (turn turns : ℕ) → turn < turns → turn + 1 ≤ turns
-turn-le turn turns h = omega arith
-
--- a count that one test moves, where the test passed
-pub next_count-true : {test : Bool} (new old : ℕ) → test ≡ true → new ≡ cond test (next_count old) old → new ≡ next_count old
-next_count-true {test} new old passed e = rw passed at e
-
--- and where it failed
-pub next_count-false : {test : Bool} (new old : ℕ) → test ≡ false → new ≡ cond test (next_count old) old → new ≡ old
-next_count-false {test} new old failed e = rw failed at e
 
 -- where a test failed, the count stayed
 pub stays-false : {test : Bool} (new old : ℕ) → test ≡ false → new ≡ old → new ≡ cond test (next_count old) old

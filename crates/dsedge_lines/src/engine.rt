@@ -1,7 +1,7 @@
 ghost use Rattle.std.specs.Prelude.{◌≡◌, ◌≢◌, ℕ, ◌+◌, ◌^◌, ◌<◌, ◌≤◌, ◌⊎◌, true, false, List, [], ◌++◌, take, vec_len};
-ghost use Rattle.std.specs.Prelude.{Err, MatchResult, IfOk, IfNone, OnErr, if◌then◌else◌};
+ghost use Rattle.std.specs.Prelude.{Err, MatchResult, IfOk, IfNone, OnErr, OnOk, if◌then◌else◌};
 ghost use Rattle.line_text.specs.Lines.{lines_of, has_byte};
-ghost use Rattle.pcap_capture.specs.Counts.{next_count, count_after};
+ghost use Rattle.pcap_capture.specs.Counts.{IsOfReads, next_count};
 ghost use Rattle.dsedge_lines.specs.Answers.{Answers, BeginsWith};
 ghost use Rattle.dsedge_lines.specs.Faults.{is_read_fault, is_write_fault};
 ghost use Rattle.dsedge_lines.specs.Underway.{answer_with};
@@ -30,9 +30,8 @@ fn answer_next<C: Command, I: Intake>(
     ensures answer { I.tells intake.old →
         Answers (answer_with (C.answer command.old) progress.old (I.left intake.old))
         (answer_with (C.answer command.new) progress.new (I.left intake.new)) progress.new.out.items result }
-    ensures asked { I.turns intake.new ≡ next_count (I.turns intake.old) }
-    ensures failures { I.failed intake.new
-        ≡ (if is_read_fault result then next_count (I.failed intake.old) else I.failed intake.old) }
+    ensures reads { IsOfReads (is_read_fault result) (I.failed intake.old) (I.failed intake.new) (I.calls intake.new) }
+    ensures fewer { OnOk result (I.calls intake.new < I.calls intake.old) }
     ensures input { is_write_fault result ≡ false }
 {
     let Ok(taken) = intake.take(piece.as_mut_slice()) else {
@@ -70,19 +69,17 @@ fn settle<O: Outlet>(
     }
 }
 
-/// Answers the whole input of a command: takes it by at most `turns` calls, a piece at a time, and
-/// hands over what is answered so far before each.
+/// Answers the whole input of a command: takes it a piece at a time, and hands over what is answered so far before each.
 ///
 /// The input is not read beyond the piece with the line that ends the answer. A fault leaves a front
-/// of the answer written, and where writing fails beside another fault, `Write` is the answer.
+/// of the answer written, and where writing fails beside another fault, `Write` is the answer. `Read` is the answer too
+/// where the input answers no more calls.
 pub fn pump<C: Command, I: Intake, O: Outlet>(
     alloc: Global,
     command: &mut C,
     intake: &mut I,
     outlet: &mut O,
-    turns: u64,
 ) -> Result<Ending, PumpFault>
-    requires { turns ≤ 2 ^ 32 }
     // What is written is the answer to the lines of all bytes that the intake still gives.
     ensures whole { I.tells intake.old → O.tells outlet.old → IfOk result (λ ending.
         let whole = C.answer command.old 1 (lines_of (I.left intake.old)) in
@@ -91,15 +88,10 @@ pub fn pump<C: Command, I: Intake, O: Outlet>(
     ensures front { I.tells intake.old → O.tells outlet.old → OnErr result (
         let whole = C.answer command.old 1 (lines_of (I.left intake.old)) in
         (front : List ℕ) × BeginsWith whole front × (O.held outlet.new ≡ O.held outlet.old ++ front)) }
-    // A fault of a device is answered only where it came, and then no other.
+    // A fault of a device is answered only where it came, and then no other; that of the input also where it was spent.
     ensures write { O.failed outlet.new
         ≡ (if is_write_fault result then next_count (O.failed outlet.old) else O.failed outlet.old) }
-    ensures read { is_read_fault result ≡ true → (I.failed intake.new ≡ next_count (I.failed intake.old))
-        ⊎ ((I.failed intake.new ≡ I.failed intake.old)
-        × (I.turns intake.new ≡ count_after turns (I.turns intake.old))) }
-    ensures no_read { is_read_fault result ≡ false → I.failed intake.new ≡ I.failed intake.old }
-    ensures asked { (asked : ℕ) × (asked ≤ turns)
-        × (I.turns intake.new ≡ count_after asked (I.turns intake.old)) }
+    ensures reads { IsOfReads (is_read_fault result) (I.failed intake.old) (I.failed intake.new) (I.calls intake.new) }
 {
     let Ok(mut piece) = room(alloc, PIECE) else {
         return Err(PumpFault::NoMemory);
@@ -109,7 +101,7 @@ pub fn pump<C: Command, I: Intake, O: Outlet>(
         number: 1,
         out: Vec::new(alloc),
     };
-    pump_through(command, &mut progress, intake, outlet, &mut piece, turns)
+    pump_through(command, &mut progress, intake, outlet, &mut piece)
 }
 
 /// The same, where nothing was answered so far, by way of a piece.
@@ -119,9 +111,7 @@ fn pump_through<C: Command, I: Intake, O: Outlet>(
     intake: &mut I,
     outlet: &mut O,
     piece: &mut Vec<u8>,
-    turns: u64,
 ) -> Result<Ending, PumpFault>
-    requires turns { turns ≤ 2 ^ 32 }
     requires room { vec_len piece.old ≡ 65536 }
     requires number { progress.old.number ≡ 1 }
     requires carry { progress.old.carry.items ≡ [] }
@@ -134,14 +124,9 @@ fn pump_through<C: Command, I: Intake, O: Outlet>(
         (front : List ℕ) × BeginsWith whole front × (O.held outlet.new ≡ O.held outlet.old ++ front)) }
     ensures write { O.failed outlet.new
         ≡ (if is_write_fault result then next_count (O.failed outlet.old) else O.failed outlet.old) }
-    ensures read { is_read_fault result ≡ true → (I.failed intake.new ≡ next_count (I.failed intake.old))
-        ⊎ ((I.failed intake.new ≡ I.failed intake.old)
-        × (I.turns intake.new ≡ count_after turns (I.turns intake.old))) }
-    ensures no_read { is_read_fault result ≡ false → I.failed intake.new ≡ I.failed intake.old }
-    ensures asked { (asked : ℕ) × (asked ≤ turns)
-        × (I.turns intake.new ≡ count_after asked (I.turns intake.old)) }
+    ensures reads { IsOfReads (is_read_fault result) (I.failed intake.old) (I.failed intake.new) (I.calls intake.new) }
 {
-    for _turn in 0..turns {
+    loop {
         let Ok(()) = hand_over(outlet, &mut progress.out) else {
             return Err(PumpFault::Write);
         };
@@ -156,5 +141,4 @@ fn pump_through<C: Command, I: Intake, O: Outlet>(
             Err(fault) => return Err(fault),
         }
     }
-    settle(outlet, &mut progress.out, Err(PumpFault::Read))
 }

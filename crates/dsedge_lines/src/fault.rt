@@ -6,7 +6,7 @@ use thiserror::Error;
 /// Why an input was not answered to its end.
 #[derive(Clone, Copy, Debug, PartialEq, Eq, Error)]
 pub enum PumpFault {
-    /// 1: the input could not be read, or not in so many turns.
+    /// 1: the input could not be read, or not in as many calls as it answers.
     #[error("the input could not be read")]
     Read,
     /// 2: the answer could not be written.

@@ -1,8 +1,8 @@
 ghost use Rattle.std.specs.Prelude.{◌≡◌, ℕ, ◌≤◌, ◌<◌, ◌⊎◌, false, [], ◌++◌, List, length, map, string_bytes, ◌∷◌, IfOk};
-ghost use Rattle.std.specs.Prelude.{MatchOption, is_ok, Err, if◌then◌else◌};
+ghost use Rattle.std.specs.Prelude.{MatchOption, is_err, Err};
 ghost use Rattle.std.specs.Str.{IsUtf8};
 ghost use Rattle.line_text.specs.Lines.{fields_of};
-ghost use Rattle.pcap_capture.specs.Counts.{next_count, count_after};
+ghost use Rattle.pcap_capture.specs.Counts.{IsOfReads};
 ghost use Rattle.dsedge_lines.specs.FirstLine.{first_line_of, after_first_line, is_read_fault, first_line_fault_code};
 
 use pcap_capture::{DeviceFault, Intake};
@@ -60,9 +60,7 @@ fn next_byte<I: Intake>(intake: &mut I) -> Result<Option<u8>, DeviceFault>
     ensures byte { I.tells intake.old → IfOk result (λ next. MatchOption next
         ((I.left intake.old ≡ []) × (I.left intake.new ≡ []))
         (λ byte. I.left intake.old ≡ byte ∷ I.left intake.new)) }
-    ensures failures { I.failed intake.new
-        ≡ (if is_ok result then I.failed intake.old else next_count (I.failed intake.old)) }
-    ensures asked { I.turns intake.new ≡ next_count (I.turns intake.old) }
+    ensures reads { IsOfReads (is_err result) (I.failed intake.old) (I.failed intake.new) (I.calls intake.new) }
 {
     let mut byte = [0u8; 1];
     let taken = intake.take(&mut byte)?;
@@ -81,10 +79,7 @@ fn read_line<I: Intake>(alloc: Global, intake: &mut I) -> Result<Vec<u8>, FirstL
         × (length line.items ≤ 65536)) }
     ensures long { I.tells intake.old → result ≡ Err FirstLineFault.Usage →
         65536 < length (first_line_of (I.left intake.old)) }
-    ensures failures { I.failed intake.new
-        ≡ (if is_read_fault result then next_count (I.failed intake.old) else I.failed intake.old) }
-    ensures asked { (asked : ℕ) × (asked ≤ 65537)
-        × (I.turns intake.new ≡ count_after asked (I.turns intake.old)) }
+    ensures reads { IsOfReads (is_read_fault result) (I.failed intake.old) (I.failed intake.new) (I.calls intake.new) }
 {
     let mut line = Vec::new(alloc);
     for _turn in 0..LONGEST + 1 {
@@ -115,10 +110,7 @@ pub fn first_line<I: Intake>(alloc: Global, intake: &mut I) -> Result<Words, Fir
         I.left intake.new ≡ after_first_line (I.left intake.old)) }
     ensures usage { I.tells intake.old → result ≡ Err FirstLineFault.Usage →
         let line = first_line_of (I.left intake.old) in (65536 < length line) ⊎ (¬ IsUtf8 line) }
-    ensures failures { I.failed intake.new
-        ≡ (if is_read_fault result then next_count (I.failed intake.old) else I.failed intake.old) }
-    ensures asked { (asked : ℕ) × (asked ≤ 65537)
-        × (I.turns intake.new ≡ count_after asked (I.turns intake.old)) }
+    ensures reads { IsOfReads (is_read_fault result) (I.failed intake.old) (I.failed intake.new) (I.calls intake.new) }
 {
     let line = read_line(alloc, intake)?;
     let Ok(text) = from_utf8(line.as_slice()) else {

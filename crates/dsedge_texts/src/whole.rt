@@ -1,5 +1,5 @@
-ghost use Rattle.std.specs.Prelude.{◌≡◌, ◌⊎◌, ◌^◌, ◌<◌, ◌≤◌, length, Err, IfErr, IfOk};
-ghost use Rattle.pcap_capture.specs.Counts.{next_count};
+ghost use Rattle.std.specs.Prelude.{◌≡◌, ◌⊎◌, ◌^◌, ◌<◌, ◌≤◌, length, true, Err, IfErr, IfOk};
+ghost use Rattle.pcap_capture.specs.Counts.{IsOfReads};
 
 use crate::fault::{FileFault, Reason};
 use pcap_capture::{Intake, PIECE, room};
@@ -10,14 +10,14 @@ pub const MOST_BYTES: usize = 1 << 24;
 
 /// All bytes that an intake still gives, at most 16 MiB.
 ///
-/// Refused: `Unreadable` where the intake fails, for the reason `Failed`, or gives more, for the reason `TooLong`;
-/// `NoMemory` where memory runs out.
+/// Refused: `Unreadable` where the intake fails or is spent, for the reason `Failed`, or gives more, for the reason
+/// `TooLong`; `NoMemory` where memory runs out.
 pub fn read_whole<I: Intake>(alloc: Global, intake: &mut I) -> Result<Vec<u8>, FileFault>
     ensures within { IfOk result (λ bytes. length bytes.items ≤ 2 ^ 24) }
     ensures bytes { I.tells intake.old → IfOk result (λ bytes. bytes.items ≡ I.left intake.old) }
     ensures unfailed { IfOk result (λ _. I.failed intake.new ≡ I.failed intake.old) }
-    ensures failed { result ≡ Err (FileFault.Unreadable Reason.Failed) →
-        I.failed intake.new ≡ next_count (I.failed intake.old) }
+    ensures unread { result ≡ Err (FileFault.Unreadable Reason.Failed) →
+        IsOfReads true (I.failed intake.old) (I.failed intake.new) (I.calls intake.new) }
     ensures long { I.tells intake.old → result ≡ Err (FileFault.Unreadable Reason.TooLong) →
         2 ^ 24 < length (I.left intake.old) }
     ensures reasons { IfErr result (λ fault. (fault ≡ FileFault.NoMemory)

@@ -1,9 +1,15 @@
 -- The numbers of the faults.
 use Rattle.std.specs.Prelude.{ℕ}
+use Rattle.pcap_capture.specs.declared.device.DeviceFault.{DeviceFault}
+use Rattle.pcap_capture.specs.declared.device.DeviceFault.TheVariants as device_faults
 use Rattle.pcap_capture.specs.declared.fault.PcapFault.{PcapFault}
 use Rattle.pcap_capture.specs.declared.fault.PcapFault.TheVariants.{NotPcap, IsPcapng, BadVersion, LinkType}
 use Rattle.pcap_capture.specs.declared.fault.PcapFault.TheVariants.{RecordTooLong, Truncated, ReadFault, WriteFault}
 use Rattle.pcap_capture.specs.declared.fault.PcapFault.TheVariants.{NoMemory, Failed}
+
+abbrev pub device_code_of : DeviceFault → ℕ
+device_code_of device_faults.Failed = 1
+device_code_of device_faults.Spent = 2
 
 abbrev pub code_of : PcapFault → ℕ
 code_of NotPcap = 1

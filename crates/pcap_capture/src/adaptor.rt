@@ -1,6 +1,7 @@
-ghost use Rattle.std.specs.Prelude.{◌≡◌, [], IsSome, unwrap_or};
+ghost use Rattle.std.specs.Prelude.{◌≡◌, ◌^◌, [], IsSome, min, unwrap_or};
+ghost use Rattle.std.proofs.Math.Nat.{min-le_right};
 
-use super::device::{DeviceFault, Intake, Outlet};
+use super::device::{DeviceFault, Intake, MOST_CALLS, Outlet};
 use std::io::{Read, Write};
 
 /// An intake over a reader of std. Each `Err` of the reader is a failure, `Interrupted` too.
@@ -10,19 +11,19 @@ pub struct ReadIntake<R> {
     pub reader: R,
     /// How often it failed, modulo 2^64.
     pub failures: u64,
-    /// How often it was asked, modulo 2^64.
-    pub turns: u64,
+    /// How many more calls it answers, of which more than 2^32 count as 2^32.
+    pub calls: u64,
 }
 
 impl<R> ReadIntake<R> {
-    /// An intake over a reader, with no failure so far.
+    /// An intake over a reader, with no failure so far, that answers 2^32 calls.
     pub fn new(reader: R) -> Self
-        ensures { result ≡ record { reader = reader; failures = 0; turns = 0 } }
+        ensures { result ≡ record { reader = reader; failures = 0; calls = 2 ^ 32 } }
     {
         ReadIntake {
             reader,
             failures: 0,
-            turns: 0,
+            calls: MOST_CALLS,
         }
     }
 }
@@ -34,10 +35,15 @@ impl<R: Read> Intake for ReadIntake<R> {
 
     ghost failed = { λ intake. intake.failures };
 
-    ghost turns = { λ intake. intake.turns };
+    ghost calls = { λ intake. min intake.calls (2 ^ 32) };
+
+    ghost few = { λ intake. min-le_right intake.calls (2 ^ 32) };
 
     fn take(&mut self, buffer: &mut [u8]) -> Result<usize, DeviceFault> {
-        self.turns = self.turns.wrapping_add(1);
+        if self.calls == 0 {
+            return Err(DeviceFault::Spent);
+        }
+        self.calls = self.calls.min(MOST_CALLS) - 1;
         match self.reader.read(buffer) {
             Ok(taken) => Ok(taken),
             Err(_) => {

@@ -1,27 +1,37 @@
-ghost use Rattle.std.specs.Prelude.{◌≡◌, ℕ, ◌<◌, ◌≤◌, List, [], ◌++◌, length, take, IfOk, MatchResult, is_ok};
-ghost use Rattle.std.specs.Prelude.{if◌then◌else◌};
-ghost use Rattle.pcap_capture.specs.Counts.{next_count};
+ghost use Rattle.std.specs.Prelude.{◌≡◌, ℕ, ◌<◌, ◌≤◌, ◌^◌, ◌↔◌, List, [], ◌++◌, length, take, Err, IfOk, MatchResult, OnOk};
+ghost use Rattle.std.specs.Prelude.{is_ok, if◌then◌else◌};
+ghost use Rattle.pcap_capture.specs.Codes.{device_code_of};
+ghost use Rattle.pcap_capture.specs.Counts.{is_failed, next_count};
 
 use thiserror::Error;
 
-/// A device failed.
+/// How often a device that gives bytes answers at most.
+pub const MOST_CALLS: u64 = 1 << 32;
+
+/// Why a device gives or takes no bytes.
 #[derive(Clone, Copy, Debug, PartialEq, Eq, Error)]
 pub enum DeviceFault {
     /// 1: the device could not give or take bytes.
     #[error("the device failed")]
     Failed,
+    /// 2: the device was asked as often as it answers.
+    #[error("the device answers no more")]
+    Spent,
 }
 
 impl DeviceFault {
-    /// The number of the fault, 1.
+    /// The number of the fault, 1 or 2.
     pub fn code(&self) -> u8
-        ensures { result ≡ 1 }
+        ensures { result ≡ device_code_of self.now }
     {
-        1
+        match self {
+            DeviceFault::Failed => 1,
+            DeviceFault::Spent => 2,
+        }
     }
 }
 
-/// A device that gives bytes.
+/// A device that gives bytes, by 2^32 calls at most.
 pub trait Intake {
     // Whether the device tells which bytes it gives: memory does, a terminal does not. What is
     // said of bytes holds where it does.
@@ -33,13 +43,14 @@ pub trait Intake {
     // How often it failed, modulo 2^64.
     ghost failed: { Self → ℕ };
 
-    // How often it was asked, modulo 2^64.
-    ghost turns: { Self → ℕ };
+    // How many more calls it answers at most.
+    ghost calls: { Self → ℕ };
 
     /// Fills the front of the buffer with the next bytes, and says how many they are: 0 only where
     /// no byte is left, or where the buffer is empty.
     ///
-    /// A fault takes no byte.
+    /// Faults: `Spent` exactly where no call is left that it answers, and then at each later call; else `Failed`, which
+    /// alone is counted as a failure. A fault takes no byte.
     fn take(&mut self, buffer: &mut [u8]) -> Result<usize, DeviceFault>
         ensures within { IfOk result (λ taken. taken ≤ length buffer.new) }
         ensures told { tells self.old → tells self.new }
@@ -49,12 +60,17 @@ pub trait Intake {
         ensures end { tells self.old → IfOk result (λ taken.
             taken ≡ 0 → 0 < length buffer.new → left self.new ≡ []) }
         ensures failures { failed self.new
-            ≡ (if is_ok result then failed self.old else next_count (failed self.old)) }
-        ensures asked { turns self.new ≡ next_count (turns self.old) };
+            ≡ (if is_failed result then next_count (failed self.old) else failed self.old) }
+        ensures spent { (result ≡ Err DeviceFault.Spent) ↔ (calls self.old ≡ 0) }
+        ensures fewer { OnOk result (calls self.new < calls self.old) }
+        ensures no_more { calls self.new ≤ calls self.old };
 
     /// How often the device failed, modulo 2^64.
     fn failures(&self) -> u64
         ensures { result ≡ failed self.now };
+
+    // So whoever asks a device until it answers no more comes to an end.
+    ghost few: { (device : Self) → calls device ≤ 2 ^ 32 };
 }
 
 /// A device that takes bytes.

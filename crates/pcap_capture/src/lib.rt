@@ -14,7 +14,7 @@ mod record;
 mod stage;
 
 pub use adaptor::{ReadIntake, WriteOutlet};
-pub use device::{DeviceFault, Intake, Outlet};
+pub use device::{DeviceFault, Intake, MOST_CALLS, Outlet};
 pub use fault::PcapFault;
 pub use frame::Frame;
 pub use heading::{Endianness, Heading, LinkType, TimeUnit};

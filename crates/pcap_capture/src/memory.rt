@@ -1,10 +1,11 @@
 ghost use Rattle.std.specs.Prelude.{◌≡◌, ◌+◌, ◌-◌, ◌^◌, ◌↔◌, ◌⊎◌, ◌++◌, ◌<◌, ◌≤◌, [], length, vec_len, vec_capacity};
-ghost use Rattle.std.specs.Prelude.{take, min, max, is_ok, if◌then◌else◌, IfOk, IsErr, OnErr, MatchResult};
-ghost use Rattle.pcap_capture.specs.Counts.{next_count};
+ghost use Rattle.std.specs.Prelude.{take, min, max, is_ok, if◌then◌else◌, Err, IfOk, IsErr, OnErr, OnOk, MatchResult};
+ghost use Rattle.std.proofs.Math.Nat.{min-le_right};
+ghost use Rattle.pcap_capture.specs.Counts.{is_failed, next_count};
 
-use super::device::{DeviceFault, Intake, Outlet};
+use super::device::{DeviceFault, Intake, MOST_CALLS, Outlet};
 
-/// An intake over bytes in memory, which may give few bytes a call and fail at a call.
+/// An intake over bytes in memory, which may give few bytes a call, fail at a call and answer few calls.
 #[derive(Clone, Copy, Debug)]
 pub struct SliceIntake<'a> {
     /// The bytes that it still gives.
@@ -17,14 +18,17 @@ pub struct SliceIntake<'a> {
     pub failures: u64,
     /// How often it was asked, modulo 2^64.
     pub turns: u64,
+    /// How many more calls it answers, of which more than 2^32 count as 2^32.
+    pub calls: u64,
 }
 
 impl<'a> SliceIntake<'a> {
-    /// An intake over these bytes that gives as many as there is room for, and never fails.
+    /// An intake over these bytes that gives as many as there is room for, never fails, and answers 2^32 calls.
     pub fn new(bytes: &'a [u8]) -> Self
         ensures bytes { result.bytes.now ≡ bytes.now }
         ensures whole { (result.most ≡ 2 ^ 64 - 1) × (result.fails_at ≡ None) }
         ensures counts { (result.failures ≡ 0) × (result.turns ≡ 0) }
+        ensures calls { result.calls ≡ 2 ^ 32 }
     {
         SliceIntake {
             bytes,
@@ -32,6 +36,7 @@ impl<'a> SliceIntake<'a> {
             fails_at: None,
             failures: 0,
             turns: 0,
+            calls: MOST_CALLS,
         }
     }
 }
@@ -43,25 +48,36 @@ impl Intake for SliceIntake<'_> {
 
     ghost failed = { λ intake. intake.failures };
 
-    ghost turns = { λ intake. intake.turns };
+    ghost calls = { λ intake. min intake.calls (2 ^ 32) };
 
-    /// The call `fails_at` fails, and no other. Every other call gives as many bytes as there are, as there is room
-    /// for, and as one may give.
+    ghost few = { λ intake. min-le_right intake.calls (2 ^ 32) };
+
+    /// As long as it answers, the call `fails_at` fails, and no other. Every other call gives as many bytes as there
+    /// are, as there is room for, and as one may give.
     fn take(&mut self, buffer: &mut [u8]) -> Result<usize, DeviceFault>
         ensures within { IfOk result (λ taken. taken ≤ length buffer.new) }
         ensures end { IfOk result (λ taken. taken ≡ 0 → 0 < length buffer.new → self.new.bytes.now ≡ []) }
         ensures asked { self.new.turns ≡ next_count self.old.turns }
-        ensures fails { IsErr result ↔ (self.old.fails_at ≡ Some self.new.turns) }
+        ensures spent { (result ≡ Err DeviceFault.Spent) ↔ (min self.old.calls (2 ^ 32) ≡ 0) }
+        ensures fails { (result ≡ Err DeviceFault.Failed)
+            ↔ ((0 < self.old.calls) × (self.old.fails_at ≡ Some self.new.turns)) }
+        ensures calls { self.new.calls ≡ min self.old.calls (2 ^ 32) - 1 }
+        ensures fewer { OnOk result (min self.new.calls (2 ^ 32) < min self.old.calls (2 ^ 32)) }
+        ensures no_more { min self.new.calls (2 ^ 32) ≤ min self.old.calls (2 ^ 32) }
         ensures taken { IfOk result
             (λ taken. taken ≡ min (max self.old.most 1) (min (length self.old.bytes.now) (length buffer.old))) }
         ensures bytes { MatchResult result
             (λ taken. self.old.bytes.now ≡ take taken buffer.new ++ self.new.bytes.now)
             (λ _. self.new.bytes.now ≡ self.old.bytes.now) }
         ensures failures { self.new.failures
-            ≡ (if is_ok result then self.old.failures else next_count self.old.failures) }
+            ≡ (if is_failed result then next_count self.old.failures else self.old.failures) }
         ensures settings { (self.new.most ≡ self.old.most) × (self.new.fails_at ≡ self.old.fails_at) }
     {
         self.turns = self.turns.wrapping_add(1);
+        if self.calls == 0 {
+            return Err(DeviceFault::Spent);
+        }
+        self.calls = self.calls.min(MOST_CALLS) - 1;
         if self.fails_at == Some(self.turns) {
             self.failures = self.failures.wrapping_add(1);
             return Err(DeviceFault::Failed);

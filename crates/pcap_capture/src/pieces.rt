@@ -1,6 +1,6 @@
 ghost use Rattle.std.specs.Prelude.{◌≡◌, ℕ, ◌≤◌, [], ◌++◌, length, take, vec_len, MatchResult, is_ok, if◌then◌else◌};
-ghost use Rattle.std.specs.Prelude.{◌<◌, List, Ok, IfOk, OnErr, OnOk};
-ghost use Rattle.pcap_capture.specs.Counts.{next_count};
+ghost use Rattle.std.specs.Prelude.{◌<◌, List, Ok, IfOk, OnErr, OnOk, is_err};
+ghost use Rattle.pcap_capture.specs.Counts.{IsOfReads, next_count};
 
 use crate::device::{DeviceFault, Intake, Outlet};
 use std::alloc::{AllocError, Global};
@@ -16,7 +16,7 @@ pub fn room(alloc: Global, size: usize) -> Result<Vec<u8>, AllocError>
 }
 
 /// Takes the next piece of a device, of at most so many bytes, straight behind a text, and says how many they are: 0 only
-/// at the device's end, or where none are asked for. Where the device fails the text stays as it was.
+/// at the device's end, or where none are asked for. Where the device cannot be read the text stays as it was.
 ///
 /// `AllocError` where memory runs out, before the device is asked.
 pub(crate) fn take_behind<I: Intake>(
@@ -31,9 +31,10 @@ pub(crate) fn take_behind<I: Intake>(
         × (I.tells intake.old → I.left intake.old ≡ piece ++ I.left intake.new))
         (λ _. (text.new.items ≡ text.old.items) × (I.tells intake.old → I.left intake.new ≡ I.left intake.old))) }
     ensures end { I.tells intake.old → result ≡ Ok (Ok 0) → 0 < most → I.left intake.new ≡ [] }
-    ensures failures { IfOk result (λ answer. I.failed intake.new
-        ≡ (if is_ok answer then I.failed intake.old else next_count (I.failed intake.old))) }
-    ensures asked { OnOk result (I.turns intake.new ≡ next_count (I.turns intake.old)) }
+    ensures reads { IfOk result (λ answer.
+        IsOfReads (is_err answer) (I.failed intake.old) (I.failed intake.new) (I.calls intake.new)) }
+    ensures fewer { IfOk result (λ answer. OnOk answer (I.calls intake.new < I.calls intake.old)) }
+    ensures no_more { I.calls intake.new ≤ I.calls intake.old }
     ensures starved { OnErr result (intake.new ≡ intake.old) }
 {
     let front = text.len();
@@ -41,9 +42,12 @@ pub(crate) fn take_behind<I: Intake>(
         return Err(AllocError);
     };
     text.resize(size, 0)?;
-    let Ok(taken) = intake.take(&mut text.as_mut_slice()[front..]) else {
-        text.truncate(front);
-        return Ok(Err(DeviceFault::Failed));
+    let taken = match intake.take(&mut text.as_mut_slice()[front..]) {
+        Ok(taken) => taken,
+        Err(fault) => {
+            text.truncate(front);
+            return Ok(Err(fault));
+        }
     };
     text.truncate(front + taken);
     Ok(Ok(taken))

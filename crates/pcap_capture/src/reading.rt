@@ -1,6 +1,6 @@
 ghost use Rattle.std.specs.Prelude.{◌≡◌, ◌⊎◌, ◌<◌, ℕ, List, ◌++◌, [], length, None, Some, Ok, Err, IfErr, IfOk, OnOk};
-ghost use Rattle.std.specs.Prelude.{MatchResult, if◌then◌else◌};
-ghost use Rattle.pcap_capture.specs.Counts.{next_count};
+ghost use Rattle.std.specs.Prelude.{IsErr, MatchResult, ◌≤◌};
+ghost use Rattle.pcap_capture.specs.Counts.{IsOfReads};
 ghost use Rattle.pcap_capture.specs.Frames.{FrameValue};
 ghost use Rattle.pcap_capture.specs.Grammar.{CaptureState, IsSettled, IsSoFar, Reading, continued, Stops, broken};
 ghost use Rattle.pcap_capture.specs.Grammar.{capture, ending, fault_in, prepend, read_on, reading};
@@ -96,7 +96,7 @@ impl Capture {
     /// device's end, or where none were asked for.
     ///
     /// Faults: those of `feed`, where `NoMemory` may come before the device is asked; `ReadFault` where the device
-    /// fails, and then nothing changes. After any other fault each later call answers `Failed`, without asking.
+    /// fails or is spent, and then nothing changes. After any other fault each later call answers `Failed`, without asking.
     pub fn take_from<I: Intake>(
         &mut self,
         alloc: Global,
@@ -114,10 +114,11 @@ impl Capture {
             ⊎ IsTaken (I.tells intake.old) most (I.left intake.old) (I.left intake.new) self.old self.new
             out.old.items out.new.items (Some fault)) }
         ensures end { I.tells intake.old → result ≡ Ok 0 → 0 < most → I.left intake.new ≡ [] }
-        ensures failures { I.failed intake.new
-            ≡ (if is_read_fault result then next_count (I.failed intake.old) else I.failed intake.old) }
-        ensures asked { (I.turns intake.new ≡ next_count (I.turns intake.old))
-            ⊎ ((intake.new ≡ intake.old) × ((result ≡ Err PcapFault.NoMemory) ⊎ (result ≡ Err PcapFault.Failed))) }
+        ensures reads { IsOfReads (is_read_fault result) (I.failed intake.old) (I.failed intake.new)
+            (I.calls intake.new) }
+        ensures fewer { (I.calls intake.new < I.calls intake.old)
+            ⊎ (IsErr result × (out.new.items ≡ out.old.items)) }
+        ensures no_more { I.calls intake.new ≤ I.calls intake.old }
         ensures broken { self.old.stage ≡ Stage.Broken
             → (result ≡ Err PcapFault.Failed) × (intake.new ≡ intake.old) }
     {

@@ -1,7 +1,7 @@
 use crate::expecting::expect_same;
 use dsedge_lines::{Command, Ending, FirstLineFault, PumpFault, Words, first_line, pump};
 use line_text::push_number;
-use pcap_capture::{SliceIntake, VecOutlet};
+use pcap_capture::{Intake, SliceIntake, VecOutlet};
 use std::alloc::{AllocError, Global};
 use std::process::Abort;
 
@@ -36,26 +36,29 @@ impl Command for Sample {
 /// An input, how many bytes it gives a call, which of its calls fails, and which of the calls of the output.
 type Devices = (&'static [u8], usize, Option<u64>, Option<u64>);
 
-/// What a row is about, its devices, for how many turns they are asked, and what is answered and written.
+/// What a row is about, its devices, how many calls the input answers, what is answered and written, and how often the
+/// input failed then.
 type Answered = (
     &'static str,
     Devices,
-    u32,
+    u64,
     Result<Ending, PumpFault>,
     &'static [u8],
+    u64,
 );
 
 const CUT: &[u8] = b"a\nbcd\nef";
 
 const THREE: &[u8] = b"a\nb\nc\n";
 
-static ANSWERS: [Answered; 9] = [
+static ANSWERS: [Answered; 10] = [
     (
         "one byte a call",
         (CUT, 1, None, None),
         100,
         Ok(Ending::Whole),
         b"ok ok ok 4",
+        0,
     ),
     (
         "two bytes a call",
@@ -63,6 +66,7 @@ static ANSWERS: [Answered; 9] = [
         100,
         Ok(Ending::Whole),
         b"ok ok ok 4",
+        0,
     ),
     (
         "three bytes a call",
@@ -70,6 +74,7 @@ static ANSWERS: [Answered; 9] = [
         100,
         Ok(Ending::Whole),
         b"ok ok ok 4",
+        0,
     ),
     (
         "all bytes at once",
@@ -77,6 +82,7 @@ static ANSWERS: [Answered; 9] = [
         100,
         Ok(Ending::Whole),
         b"ok ok ok 4",
+        0,
     ),
     (
         "a_bad_line_ends_the_answer",
@@ -84,6 +90,7 @@ static ANSWERS: [Answered; 9] = [
         100,
         Ok(Ending::BadLine(2)),
         b"ok ",
+        0,
     ),
     (
         "no_input_is_no_line",
@@ -91,6 +98,7 @@ static ANSWERS: [Answered; 9] = [
         1,
         Ok(Ending::Whole),
         b"1",
+        0,
     ),
     (
         "a read that fails",
@@ -98,13 +106,23 @@ static ANSWERS: [Answered; 9] = [
         100,
         Err(PumpFault::Read),
         b"ok ok ",
+        1,
     ),
     (
-        "only two turns",
+        "only two calls",
         (THREE, 2, None, None),
         2,
         Err(PumpFault::Read),
         b"ok ok ",
+        0,
+    ),
+    (
+        "only three calls of one byte",
+        (THREE, 1, None, None),
+        3,
+        Err(PumpFault::Read),
+        b"ok ",
+        0,
     ),
     (
         "a write that fails",
@@ -112,14 +130,16 @@ static ANSWERS: [Answered; 9] = [
         100,
         Err(PumpFault::Write),
         b"ok",
+        0,
     ),
 ];
 
-/// An input that gives so many bytes a call, and fails at a call.
-fn input(bytes: &[u8], most: usize, fails_at: Option<u64>) -> SliceIntake<'_> {
+/// An input that gives so many bytes a call, fails at a call, and answers so many calls.
+fn input(bytes: &[u8], most: usize, fails_at: Option<u64>, calls: u64) -> SliceIntake<'_> {
     SliceIntake {
         most,
         fails_at,
+        calls,
         ..SliceIntake::new(bytes)
     }
 }
@@ -133,19 +153,18 @@ fn output(alloc: Global, fails_at: Option<u64>) -> VecOutlet {
     }
 }
 
-/// Expects what is answered to an input, and what is written.
-fn expect(rt: &impl Abort, alloc: Global, (name, devices, turns, ending, written): &Answered) {
+/// Expects what is answered to an input, what is written, and how often the input failed.
+fn expect(
+    rt: &impl Abort,
+    alloc: Global,
+    (name, devices, calls, ending, written, failures): &Answered,
+) {
     let (bytes, most, reading, writing) = devices;
-    let mut intake = input(bytes, *most, *reading);
+    let mut intake = input(bytes, *most, *reading, *calls);
     let mut outlet = output(alloc, *writing);
-    let found = pump(
-        alloc,
-        &mut Sample,
-        &mut intake,
-        &mut outlet,
-        u64::from(*turns),
-    );
+    let found = pump(alloc, &mut Sample, &mut intake, &mut outlet);
     expect_same(rt, name, found, *ending);
+    expect_same(rt, name, intake.failures(), *failures);
     expect_same(rt, name, outlet.bytes.as_slice(), written);
     drop(outlet);
 }
@@ -177,6 +196,14 @@ fn expect_usage(rt: &impl Abort, alloc: Global, bytes: &[u8]) {
     assert!(rt; matches!(&found, Some(FirstLineFault::Usage)));
 }
 
+/// Expects of an input that answers fewer calls than its first line has bytes that it cannot be read.
+fn expect_unread(rt: &impl Abort, alloc: Global) {
+    let mut intake = input(b"meter\n", usize::MAX, None, 5);
+    let found = first_line(alloc, &mut intake).err();
+    assert!(rt; matches!(&found, Some(FirstLineFault::Read)));
+    assert!(rt; intake.failures() == 0);
+}
+
 /// Expects the words of a first line, and what is left behind it.
 fn expect_first_line(rt: &impl Abort, alloc: Global) {
     let mut intake = SliceIntake::new(b"meter --kind  trtcm\n0 1 g\n");
@@ -190,6 +217,7 @@ fn expect_first_line(rt: &impl Abort, alloc: Global) {
 fn words_of_the_first_line(rt: HostRuntime) {
     expect_first_line(&rt, rt.alloc());
     expect_usage(&rt, rt.alloc(), b"a \xff\n");
+    expect_unread(&rt, rt.alloc());
 }
 
 /// A line of so many bytes.

@@ -1,4 +1,6 @@
-use pcap_capture::{DeviceFault, Intake, Outlet, ReadIntake, SliceIntake, VecOutlet, WriteOutlet};
+use pcap_capture::{
+    DeviceFault, Intake, MOST_CALLS, Outlet, ReadIntake, SliceIntake, VecOutlet, WriteOutlet,
+};
 use std::io;
 use std::io::{Read, Write};
 use std::process::Abort;
@@ -57,7 +59,7 @@ fn a_reader_gives_its_bytes(rt: HostRuntime) {
     expect_taken(&rt, &mut intake, Ok(b"ab"), 0);
     expect_taken(&rt, &mut intake, Ok(b"c"), 0);
     expect_taken(&rt, &mut intake, Ok(b""), 0);
-    assert_eq!(rt; intake.turns, 3);
+    assert_eq!(rt; intake.calls, MOST_CALLS - 3);
 }
 
 #[test]
@@ -91,6 +93,43 @@ fn memory_gives_few_bytes_a_call(rt: HostRuntime) {
     expect_taken(&rt, &mut intake, Ok(b"a"), 0);
     expect_taken(&rt, &mut intake, Err(DeviceFault::Failed), 1);
     expect_taken(&rt, &mut intake, Ok(b"b"), 1);
+}
+
+#[test]
+fn a_reader_that_is_spent_stays_so(rt: HostRuntime) {
+    let mut intake = ReadIntake {
+        calls: 1,
+        ..ReadIntake::new(b"abc".as_slice())
+    };
+    expect_taken(&rt, &mut intake, Ok(b"ab"), 0);
+    expect_taken(&rt, &mut intake, Err(DeviceFault::Spent), 0);
+    expect_taken(&rt, &mut intake, Err(DeviceFault::Spent), 0);
+}
+
+#[test]
+fn memory_answers_few_calls(rt: HostRuntime) {
+    let mut intake = SliceIntake {
+        most: 1,
+        fails_at: Some(2),
+        calls: 3,
+        ..SliceIntake::new(b"abcd")
+    };
+    expect_taken(&rt, &mut intake, Ok(b"a"), 0);
+    expect_taken(&rt, &mut intake, Err(DeviceFault::Failed), 1);
+    expect_taken(&rt, &mut intake, Ok(b"b"), 1);
+    expect_taken(&rt, &mut intake, Err(DeviceFault::Spent), 1);
+    expect_taken(&rt, &mut intake, Err(DeviceFault::Spent), 1);
+    assert_eq!(rt; DeviceFault::Spent.code(), 2);
+}
+
+#[test]
+fn no_intake_answers_more_calls_than_may_be(rt: HostRuntime) {
+    let mut intake = SliceIntake {
+        calls: u64::MAX,
+        ..SliceIntake::new(b"ab")
+    };
+    expect_taken(&rt, &mut intake, Ok(b"ab"), 0);
+    assert_eq!(rt; intake.calls, MOST_CALLS - 1);
 }
 
 #[test]

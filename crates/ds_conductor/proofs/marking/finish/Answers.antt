@@ -1,10 +1,10 @@
 use Rattle.std.proofs.Common.{◌≤◌, ◌^◌, length, arith, ◌++◌, ap, subst, sym, inl, inr, refl, Err, ◌∙◌}
 use Rattle.ds_conductor.specs.Conditionings.{see_at}
-use Rattle.ds_conductor.specs.Markings.{IsVerdictOn, answer_of, is_read_whole, is_unread}
+use Rattle.ds_conductor.specs.Markings.{IsVerdictOn, answer_of, is_unread}
 use Rattle.ds_conductor.specs.Sendings.{sent_of}
 use Rattle.ds_conductor.specs.Texts.{text_from}
 use Rattle.ds_conductor.proofs.ConditionLaws.{ended, front_last, judged_by}
-use Rattle.ds_conductor.proofs.PassingLaws.{answer_read, answer_unread, broken_read, broken_unread}
+use Rattle.ds_conductor.proofs.PassingLaws.{answer_unread, broken_off}
 use Rattle.ds_conductor.proofs.WritingLaws.{written_whole}
 use Rattle.ds_conductor.proofs.marking.finish.Goals as goal
 
@@ -33,14 +33,8 @@ returns-in-Err-clause-marked g c = λ tells frames text before at written.
     let told = c.report-report.ensures.told frames last.0 last.1 in
     inr (c.in-Err.unwritten, c.in-Err.ensures.fault, front_last p frames last.0 before _ c.write_on-written.new.conditioner last.1 last.2, ap (λ r. Err (r, c.in-Err.unwritten)) told)
 
-pub returns-in-Ok-clause-unread : goal.returns-in-Ok-clause-unread
-returns-in-Ok-clause-unread g c = λ is. sym (ap is_unread c.answer.ensures ∙ answer_unread c.verdict-verdict.result c.report-report.result c.args.fault) ∙ is
+pub returns-in-Ok-clause-told : goal.returns-in-Ok-clause-told
+returns-in-Ok-clause-told g c = λ whole. ap is_unread c.answer.ensures ∙ answer_unread c.verdict-verdict.result c.report-report.result c.args.fault
 
-pub returns-in-Ok-clause-read : goal.returns-in-Ok-clause-read
-returns-in-Ok-clause-read g c = λ is. answer_read c.verdict-verdict.result c.report-report.result c.args.fault (sym (ap is_read_whole c.answer.ensures) ∙ is)
-
-pub returns-in-Err-clause-unread : goal.returns-in-Err-clause-unread
-returns-in-Err-clause-unread g c = λ is. let no = sym (broken_unread c.report-report.result c.in-Err.unwritten c.in-Err.ensures.fault) ∙ is in absurd cc
-
-pub returns-in-Err-clause-read : goal.returns-in-Err-clause-read
-returns-in-Err-clause-read g c = λ is. let no = sym (broken_read c.report-report.result c.in-Err.unwritten c.in-Err.ensures.fault) ∙ is in absurd cc
+pub returns-in-Err-clause-told : goal.returns-in-Err-clause-told
+returns-in-Err-clause-told g c = λ whole. let no = sym (broken_off c.report-report.result c.in-Err.unwritten c.in-Err.ensures.fault) ∙ whole in absurd cc

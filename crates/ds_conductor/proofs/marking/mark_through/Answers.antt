@@ -1,6 +1,6 @@
-use Rattle.std.proofs.Common.{refl}
+use Rattle.std.proofs.Common.{refl, sym, ◌∙◌}
 use Rattle.ds_conductor.proofs.MarkingLaws.{broken_marked, finished_marked}
-use Rattle.ds_conductor.proofs.PassingLaws.{of_reads}
+use Rattle.ds_conductor.proofs.PassingLaws.{broken_off, of_reads}
 use Rattle.ds_conductor.proofs.marking.mark_through.Goals as goal
 
 pub returns-in-Ok-clause-marked : goal.returns-in-Ok-clause-marked
@@ -11,8 +11,10 @@ returns-in-Ok-clause-marked g c = λ given tells name bytes before is at.
     finished_marked p p.accepted.now name p.red p.heading bytes _ before _ turned.frames c.in-Ok.fault c.finish.result refl refl refl is turned.well turned.writable turned.ended done
 
 pub returns-in-Ok-clause-reads : goal.returns-in-Ok-clause-reads
-returns-in-Ok-clause-reads g c = λ failed asked at.
-    of_reads c.finish.result _ failed _ asked _ c.finish.ensures.unread c.finish.ensures.read (c.in-Ok.ensures.asked failed asked at)
+returns-in-Ok-clause-reads g c = λ whole. of_reads c.finish.result _ _ _ _ (c.finish.ensures.told whole) c.in-Ok.ensures.reads
+
+pub returns-in-Err-clause-reads : goal.returns-in-Err-clause-reads
+returns-in-Err-clause-reads g c = λ whole. let no = sym (broken_off c.report.result c.in-Err.fault c.in-Err.ensures.fault) ∙ whole in absurd cc
 
 pub returns-in-Err-clause-marked : goal.returns-in-Err-clause-marked
 returns-in-Err-clause-marked g c = λ given tells name bytes before is at.

@@ -2,7 +2,7 @@ use Rattle.std.proofs.Common.{◌++◌, Option, None, Some, arith, inr, refl, sy
 use Rattle.std.proofs.lemmas.Result.{err_from_is_err_and}
 use Rattle.pcap_capture.specs.declared.heading.Heading.{Heading}
 use Rattle.ds_conductor.specs.Readings.{IsReading}
-use Rattle.ds_conductor.proofs.PassingLaws.{ended_asked, ended_last, ended_turned, ended_unwritten, ended_well, front_written, starved_off, unwritten_off}
+use Rattle.ds_conductor.proofs.PassingLaws.{ended_last, ended_reads, ended_turned, ended_unwritten, ended_well, front_written, starved_off, unwritten_off}
 use Rattle.ds_conductor.proofs.ReadingLaws.{front_read, stage_of}
 use Rattle.ds_conductor.proofs.marking.take_turn.Goals as goal
 
@@ -40,9 +40,8 @@ returns-in_ok-write_due-in-Ok-true-clause-turned g c = λ given tells bytes befo
       written = last.2;
     }
 
-pub returns-in_ok-write_due-in-Ok-true-clause-asked : goal.returns-in_ok-write_due-in-Ok-true-clause-asked
-returns-in_ok-write_due-in-Ok-true-clause-asked g c = λ failed asked at.
-    rw c.see_read.ensures.turns (c.in-Ok-true.ensures.asked failed asked at)
+pub returns-in_ok-write_due-in-Ok-true-clause-reads : goal.returns-in_ok-write_due-in-Ok-true-clause-reads
+returns-in_ok-write_due-in-Ok-true-clause-reads g c = c.in-Ok-true.ensures.reads
 
 pub returns-in-Ok-false-clause-turned : goal.returns-in-Ok-false-clause-turned
 returns-in-Ok-false-clause-turned g c = λ given tells bytes before at.
@@ -59,8 +58,8 @@ returns-in-Ok-false-clause-turned g c = λ given tells bytes before at.
       written = at.written;
     }
 
-pub returns-in-Ok-false-clause-asked : goal.returns-in-Ok-false-clause-asked
-returns-in-Ok-false-clause-asked g c = λ failed asked at. (c.in-Ok-false.ensures.asked failed asked at).unfailed
+pub returns-in-Ok-false-clause-reads : goal.returns-in-Ok-false-clause-reads
+returns-in-Ok-false-clause-reads g c = c.in-Ok-false.ensures.reads
 
 pub returns-in-Err-clause-fewer : goal.returns-in-Err-clause-fewer
 returns-in-Err-clause-fewer g c = λ more. absurd (ended_last c.in-Err.fault (sym c.ended_by.ensures ∙ more))
@@ -77,9 +76,8 @@ returns-in-Err-clause-turned g c = λ given tells bytes before at.
     (subst (λ (h : Option Heading). IsReading bytes (g.I.Intake.left c.read_piece-read.new.intake) h frames (Some fault)) head over)
     (c.in-Ok.ensures.seen at.frames at.text at.conditioned) at.written)
 
-pub returns-in-Err-clause-asked : goal.returns-in-Err-clause-asked
-returns-in-Err-clause-asked g c = λ failed asked at.
-    rw c.ended_by.ensures (ended_asked c.in-Err.fault _ failed _ asked _ (c.in-Err.ensures.asked failed asked at))
+pub returns-in-Err-clause-reads : goal.returns-in-Err-clause-reads
+returns-in-Err-clause-reads g c = rw c.ended_by.ensures (ended_reads c.in-Err.fault _ _ _ c.in-Err.ensures.reads)
 
 pub returns-in-Err-clause-fault : goal.returns-in-Err-clause-fault
 returns-in-Err-clause-fault g c = rw c.ended_by.ensures (ended_well c.in-Err.fault c.in-Err.ensures.no_write)
@@ -93,8 +91,8 @@ returns-in_default-clause-few g c = omega (arith, c.read_piece-read.ensures.few,
 pub returns-in_default-clause-fewer : goal.returns-in_default-clause-fewer
 returns-in_default-clause-fewer g c = λ is. absurd cc
 
-pub returns-in_default-clause-asked : goal.returns-in_default-clause-asked
-returns-in_default-clause-asked g c = λ failed asked at. tt
+pub returns-in_default-clause-reads : goal.returns-in_default-clause-reads
+returns-in_default-clause-reads g c = tt
 
 pub returns-in_default-clause-fault : goal.returns-in_default-clause-fault
 returns-in_default-clause-fault g c = inr refl
@@ -106,8 +104,8 @@ pub returns-in_err-write_due-in-Ok-true-clause-fewer : goal.returns-in_err-write
 returns-in_err-write_due-in-Ok-true-clause-fewer g c = λ is.
     let q = err_from_is_err_and c.from_residual.result c.from_residual.ensures.1 in let no = sym q.1 ∙ is in absurd cc
 
-pub returns-in_err-write_due-in-Ok-true-clause-asked : goal.returns-in_err-write_due-in-Ok-true-clause-asked
-returns-in_err-write_due-in-Ok-true-clause-asked g c = λ failed asked at.
+pub returns-in_err-write_due-in-Ok-true-clause-reads : goal.returns-in_err-write_due-in-Ok-true-clause-reads
+returns-in_err-write_due-in-Ok-true-clause-reads g c =
     let q = err_from_is_err_and c.from_residual.result c.from_residual.ensures.1 in rw q.1 tt
 
 pub returns-in_err-write_due-in-Ok-true-clause-fault : goal.returns-in_err-write_due-in-Ok-true-clause-fault
@@ -122,8 +120,7 @@ pub returns-in_ok-write_due-in-Ok-true-clause-few : goal.returns-in_ok-write_due
 returns-in_ok-write_due-in-Ok-true-clause-few g c = omega (arith, c.read_piece-read.ensures.few, c.see_read.ensures.few, c.write_due.ensures.records)
 
 pub returns-in_ok-write_due-in-Ok-true-clause-fewer : goal.returns-in_ok-write_due-in-Ok-true-clause-fewer
-returns-in_ok-write_due-in-Ok-true-clause-fewer g c = λ is.
-    let some = c.in-Ok-true.ensures.going in omega (arith, some, c.read_piece-read.ensures.turns, c.see_read.ensures.turns)
+returns-in_ok-write_due-in-Ok-true-clause-fewer g c = λ is. c.in-Ok-true.ensures.fewer
 
 pub returns-in_ok-write_due-in-Ok-true-clause-fault : goal.returns-in_ok-write_due-in-Ok-true-clause-fault
 returns-in_ok-write_due-in-Ok-true-clause-fault g c = (λ e. cc, λ e. cc)

@@ -1,4 +1,6 @@
 use Rattle.std.proofs.Common.{arith, ◌∙◌}
+use Rattle.pcap_capture.proofs.CountLaws.{reads_from}
+use Rattle.ds_conductor.specs.Passings.{is_unread_by}
 use Rattle.ds_conductor.proofs.marking.turn_all.Goals as goal
 
 pub loop-turn-preserved : goal.loop-turn-preserved
@@ -12,7 +14,7 @@ loop-turn-preserved g c =
       given = λ given. next.taken (was.given given);
       told = λ tells. next.told (was.told tells);
       failures = next.failures ∙ was.failures;
-      asked = λ failed asked at. rw c.in-More.is at (next.asked failed asked (was.asked failed asked at));
+      unfailed = rw c.in-More.is at next.reads ∙ was.unfailed;
       turned = λ given tells bytes before at. rw c.in-More.is at (next.turned (was.given given) (was.told tells) bytes before (was.turned given tells bytes before at));
     }
 
@@ -21,6 +23,6 @@ returns-in-Ended-clause-turned g c = λ given tells bytes before at.
     let was = c.loop-turn.invariant in
     rw c.in-Ended.is at (c.in_ok-turn.ensures.turned (was.given given) (was.told tells) bytes before (was.turned given tells bytes before at))
 
-pub returns-in-Ended-clause-asked : goal.returns-in-Ended-clause-asked
-returns-in-Ended-clause-asked g c = λ failed asked at.
-    rw c.in-Ended.is at (c.in_ok-turn.ensures.asked failed asked (c.loop-turn.invariant.asked failed asked at))
+pub returns-in-Ended-clause-reads : goal.returns-in-Ended-clause-reads
+returns-in-Ended-clause-reads g c =
+    reads_from (is_unread_by c.in-Ended.fault) _ _ _ _ c.loop-turn.invariant.unfailed (rw c.in-Ended.is at c.in_ok-turn.ensures.reads)

@@ -1,4 +1,6 @@
 use Rattle.std.proofs.Common.{[], Ok, ap, arith, ◌∙◌}
+use Rattle.pcap_capture.proofs.CountLaws.{reads_from}
+use Rattle.ds_conductor.specs.Markings.{is_read}
 use Rattle.ds_conductor.proofs.ReadingLaws.{cut_short, unheaded}
 use Rattle.ds_conductor.proofs.reading.read_heading.Goals as goal
 
@@ -10,7 +12,7 @@ loop-progress-preserved g c =
       missing = omega (arith, next.missing, was.missing);
       few = omega (arith, next.few, was.few);
       told = λ tells. next.told (was.told tells);
-      asked = λ failed asked so_far. next.asked failed asked (was.asked failed asked so_far);
+      unfailed = next.reads ∙ was.unfailed;
       read = λ bytes tells at. next.read [] bytes (was.told tells) (was.read bytes tells at);
     }
 
@@ -27,6 +29,8 @@ returns-then-taken-eq0-clause-read g c = λ bytes tells at.
     cut_short bytes _ c.take_piece.new.progress (c.in-Ok.ensures.end given (ap Ok c.if-taken-eq0.true))
     (c.in-Ok.ensures.still (ap Ok c.if-taken-eq0.true) [] bytes _ was ∙ c.in_default.is) (c.in-Ok.ensures.read [] bytes given was)
 
-pub returns-then-taken-eq0-clause-asked : goal.returns-then-taken-eq0-clause-asked
-returns-then-taken-eq0-clause-asked g c = λ failed asked so_far.
-    (c.in-Ok.ensures.asked failed asked (c.loop-progress.invariant.asked failed asked so_far)).unfailed
+pub returns-then-taken-eq0-clause-reads : goal.returns-then-taken-eq0-clause-reads
+returns-then-taken-eq0-clause-reads g c = c.in-Ok.ensures.reads ∙ c.loop-progress.invariant.unfailed
+
+pub returns-in-Err-clause-reads : goal.returns-in-Err-clause-reads
+returns-in-Err-clause-reads g c = reads_from (is_read c.in-Err.fault) _ _ _ _ c.loop-progress.invariant.unfailed c.in-Err.ensures.reads

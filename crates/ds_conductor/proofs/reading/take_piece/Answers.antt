@@ -1,27 +1,26 @@
-use Rattle.std.proofs.Common.{◌≡◌, ◌<◌, ◌-◌, List, ◌++◌, length, length-append, append_assoc, None, Some, Ok, refl, sym, subst, ap, ◌∙◌, inl, inr, arith}
+use Rattle.std.proofs.Common.{◌≡◌, List, ◌++◌, length, length-append, append_assoc, None, Some, Ok, sym, subst, ap, ◌∙◌, inl, inr, arith}
 use Rattle.pcap_capture.specs.Frames.{FrameValue}
 use Rattle.pcap_capture.specs.Grammar.{CaptureState}
-use Rattle.pcap_capture.specs.declared.fault.PcapFault.TheVariants.{ReadFault, WriteFault}
+use Rattle.pcap_capture.specs.declared.fault.PcapFault.TheVariants.{WriteFault}
 use Rattle.pcap_capture.proofs.TakingLaws.{taken_unread}
 use Rattle.ds_conductor.specs.Readings.{IsReading, IsUnderway, heading_at}
-use Rattle.ds_conductor.proofs.AskedLaws.{asked_on, asked_once, own_written}
+use Rattle.ds_conductor.proofs.ReadFaultLaws.{asked_once, own_written}
 use Rattle.ds_conductor.proofs.ReadingLaws.{failed, fed, stays_records, still, stopped}
 use Rattle.ds_conductor.proofs.SizeLaws.{taken_size}
 use Rattle.ds_conductor.proofs.reading.take_piece.Goals as goal
 
-pub returns-then-progress-eq0-clause-read : goal.returns-then-progress-eq0-clause-read
-returns-then-progress-eq0-clause-read g c = λ gone bytes tells at.
-    failed gone bytes _ _ c.args.progress.now ReadFault at refl refl
-
 pub returns-in-Err-clause-few : goal.returns-in-Err-clause-few
 returns-in-Err-clause-few g c =
-    let some : 0 < c.args.progress.now.turns = let apart = c.if-progress-eq0.false in omega arith in
     elim c.in-Err.ensures.err [
-      | inl unread ↦ omega (arith, some, ap (λ (s : CaptureState). length s.rest) unread.1, ap length unread.2)
+      | inl unread ↦ omega (arith, c.take_from.ensures.no_more, ap (λ (s : CaptureState). length s.rest) unread.1, ap length unread.2)
       | inr it ↦
-          let size = taken_size _ _ _ _ c.args.progress.now.capture c.take_from.new.self c.args.progress.now.frames.items c.take_from.new.out.items (Some c.in-Err.fault) it in
-          let most = c.wanted-most.ensures.most c.requires.missing in
-          omega (arith, some, size, most)
+          elim c.in-Err.ensures.fewer [
+            | inl fewer ↦
+                let size = taken_size _ _ _ _ c.args.progress.now.capture c.take_from.new.self c.args.progress.now.frames.items c.take_from.new.out.items (Some c.in-Err.fault) it in
+                let most = c.wanted-most.ensures.most c.requires.missing in
+                omega (arith, fewer, size, most)
+            | inr unasked ↦ omega (arith, c.take_from.ensures.no_more, ap (λ (s : CaptureState). length s.rest) it.read.0, ap length unasked.1)
+          ]
     ]
 
 pub returns-in-Err-clause-read : goal.returns-in-Err-clause-read
@@ -55,10 +54,13 @@ returns-clause-stays g c = λ heading records known.
 
 pub returns-clause-few : goal.returns-clause-few
 returns-clause-few g c =
-    let some : 0 < c.args.progress.now.turns = let apart = c.if-progress-eq0.false in omega arith in
+    let fewer = asked_once _ _ c.in-Ok.taken c.in-Ok.ensures.fewer in
     let size = taken_size _ _ _ _ c.args.progress.now.capture c.take_from.new.self c.args.progress.now.frames.items c.take_from.new.out.items None c.in-Ok.ensures.ok.0 in
     let most = c.wanted-most.ensures.most c.requires.missing in
-    omega (arith, some, size, most)
+    omega (arith, fewer, size, most)
+
+pub returns-clause-fewer : goal.returns-clause-fewer
+returns-clause-fewer g c = asked_once _ _ c.in-Ok.taken c.in-Ok.ensures.fewer
 
 pub returns-clause-read : goal.returns-clause-read
 returns-clause-read g c = λ gone bytes tells at.
@@ -69,11 +71,6 @@ returns-clause-read g c = λ gone bytes tells at.
       known = c.heading_by-progress.ensures ∙ ap heading_at c.stage.ensures;
       to_come = omega (arith, c.saturating_sub-progress.ensures, at.to_come, length-append at.read it.piece, c.in-Ok.ensures.ok.1);
     }
-
-pub returns-clause-asked : goal.returns-clause-asked
-returns-clause-asked g c = λ failed asked was.
-    asked_on c.args.progress.now.turns (c.args.progress.now.turns - 1) failed _ _ asked _ _ was (let apart = c.if-progress-eq0.false in omega arith) refl c.in-Ok.ensures.failures
-    (asked_once _ _ c.in-Ok.taken c.in-Ok.ensures.asked)
 
 pub returns-clause-end : goal.returns-clause-end
 returns-clause-end g c = λ tells is. c.in-Ok.ensures.end tells (ap Ok (let none : c.in-Ok.taken ≡ 0 = cc in none)) c.wanted-most.ensures.some

@@ -1,14 +1,13 @@
-use Rattle.std.proofs.Common.{refl}
+use Rattle.std.proofs.Common.{ℕ, Err, refl}
+use Rattle.pcap_capture.proofs.CountLaws.{answer_reads}
 use Rattle.dsedge_lines.proofs.engine.answer_next.Goals as goal
 
 pub returns-in_default-clause-told : goal.returns-in_default-clause-told
 returns-in_default-clause-told g c = c.take.ensures.told
 
-pub returns-in_default-clause-asked : goal.returns-in_default-clause-asked
-returns-in_default-clause-asked g c = c.take.ensures.asked
-
-pub returns-in_default-clause-failures : goal.returns-in_default-clause-failures
-returns-in_default-clause-failures g c = c.in_default.ensures.failures
+pub returns-in_default-clause-reads : goal.returns-in_default-clause-reads
+returns-in_default-clause-reads g c =
+    answer_reads {T = ℕ} (Err c.in_default.field-0) _ _ _ _ c.in_default.ensures.failures c.in_default.ensures.spent c.in_default.ensures.no_more
 
 pub returns-in_default-clause-input : goal.returns-in_default-clause-input
 returns-in_default-clause-input g c = refl
@@ -22,11 +21,8 @@ returns-in_default-clause-carried g c = tt
 pub returns-in-Ok-answer_end-clause-told : goal.returns-in-Ok-answer_end-clause-told
 returns-in-Ok-answer_end-clause-told g c = c.take.ensures.told
 
-pub returns-in-Ok-answer_end-clause-asked : goal.returns-in-Ok-answer_end-clause-asked
-returns-in-Ok-answer_end-clause-asked g c = c.take.ensures.asked
-
-pub returns-in-Ok-answer_end-clause-failures : goal.returns-in-Ok-answer_end-clause-failures
-returns-in-Ok-answer_end-clause-failures g c = c.in-Ok.ensures.failures
+pub returns-in-Ok-answer_end-clause-reads : goal.returns-in-Ok-answer_end-clause-reads
+returns-in-Ok-answer_end-clause-reads g c = c.in-Ok.ensures.failures
 
 pub returns-in-Ok-answer_end-clause-input : goal.returns-in-Ok-answer_end-clause-input
 returns-in-Ok-answer_end-clause-input g c = refl
@@ -40,11 +36,8 @@ returns-in-Ok-answer_end-clause-carried g c = tt
 pub returns-in-Err-clause-told : goal.returns-in-Err-clause-told
 returns-in-Err-clause-told g c = c.take.ensures.told
 
-pub returns-in-Err-clause-asked : goal.returns-in-Err-clause-asked
-returns-in-Err-clause-asked g c = c.take.ensures.asked
-
-pub returns-in-Err-clause-failures : goal.returns-in-Err-clause-failures
-returns-in-Err-clause-failures g c = c.in-Ok.ensures.failures
+pub returns-in-Err-clause-reads : goal.returns-in-Err-clause-reads
+returns-in-Err-clause-reads g c = c.in-Ok.ensures.failures
 
 pub returns-in-Err-clause-input : goal.returns-in-Err-clause-input
 returns-in-Err-clause-input g c = refl
@@ -58,11 +51,8 @@ returns-in-Err-clause-carried g c = tt
 pub returns-in-Ok-answer_piece-clause-told : goal.returns-in-Ok-answer_piece-clause-told
 returns-in-Ok-answer_piece-clause-told g c = c.take.ensures.told
 
-pub returns-in-Ok-answer_piece-clause-asked : goal.returns-in-Ok-answer_piece-clause-asked
-returns-in-Ok-answer_piece-clause-asked g c = c.take.ensures.asked
-
-pub returns-in-Ok-answer_piece-clause-failures : goal.returns-in-Ok-answer_piece-clause-failures
-returns-in-Ok-answer_piece-clause-failures g c = c.in-Ok.ensures.failures
+pub returns-in-Ok-answer_piece-clause-reads : goal.returns-in-Ok-answer_piece-clause-reads
+returns-in-Ok-answer_piece-clause-reads g c = c.in-Ok.ensures.failures
 
 pub returns-in-Ok-answer_piece-clause-input : goal.returns-in-Ok-answer_piece-clause-input
 returns-in-Ok-answer_piece-clause-input g c = refl
@@ -70,11 +60,8 @@ returns-in-Ok-answer_piece-clause-input g c = refl
 pub returns-in-Err-answer_piece-clause-told : goal.returns-in-Err-answer_piece-clause-told
 returns-in-Err-answer_piece-clause-told g c = c.take.ensures.told
 
-pub returns-in-Err-answer_piece-clause-asked : goal.returns-in-Err-answer_piece-clause-asked
-returns-in-Err-answer_piece-clause-asked g c = c.take.ensures.asked
-
-pub returns-in-Err-answer_piece-clause-failures : goal.returns-in-Err-answer_piece-clause-failures
-returns-in-Err-answer_piece-clause-failures g c = c.in-Ok.ensures.failures
+pub returns-in-Err-answer_piece-clause-reads : goal.returns-in-Err-answer_piece-clause-reads
+returns-in-Err-answer_piece-clause-reads g c = c.in-Ok.ensures.failures
 
 pub returns-in-Err-answer_piece-clause-input : goal.returns-in-Err-answer_piece-clause-input
 returns-in-Err-answer_piece-clause-input g c = refl

@@ -1,10 +1,8 @@
-use Rattle.std.proofs.Common.{◌≡◌, ◌+◌, ◌≤◌, [], ◌∷◌, ◌++◌, length, refl, sym, ap, ◌∙◌, append-nil, append_assoc}
+use Rattle.std.proofs.Common.{◌≡◌, ◌+◌, ◌≤◌, true, [], ◌∷◌, ◌++◌, length, refl, sym, ap, ◌∙◌, append-nil, append_assoc}
 use Rattle.std.proofs.lemmas.List.{length_push}
 use Rattle.line_text.proofs.LineLemmas.{has_byte-nil}
-use Rattle.pcap_capture.specs.Counts.{next_count}
-use Rattle.pcap_capture.proofs.CountLaws.{count_after-none, count_after-more}
+use Rattle.pcap_capture.proofs.CountLaws.{reads_from}
 use Rattle.dsedge_lines.specs.FirstLine.{first_line_of, after_first_line}
-use Rattle.dsedge_lines.proofs.AnswerLemmas.{turn-le}
 use Rattle.dsedge_lines.proofs.FirstLineLemmas.{first_line_of-cut, after_first_line-cut, first_line_of-uncut, after_first_line-uncut, first_line_of-long, has_byte-push, most_bytes, too_many_bytes}
 use Rattle.dsedge_lines.proofs.words.read_line.Goals as goal
 
@@ -12,7 +10,6 @@ pub loop-turn-init : goal.loop-turn-init
 loop-turn-init g c = record {
   told = λ tells. tells;
   failed = refl;
-  asked = sym (count_after-none _);
   unbroken = rw c.new-line.ensures.items (has_byte-nil 10);
   size = rw c.new-line.ensures.items refl;
   left = λ tells. rw c.new-line.ensures.items refl;
@@ -27,10 +24,6 @@ returns-in-Ok-None-clause-line g c = λ tells.
     let size : length line ≤ 65536 = most_bytes _ _ was.size c.loop-turn-test.true in
     (sym (ap first_line_of whole ∙ first_line_of-uncut line was.unbroken), ends.1 ∙ sym (ap after_first_line whole ∙ after_first_line-uncut line was.unbroken), size)
 
-pub returns-in-Ok-None-clause-asked : goal.returns-in-Ok-None-clause-asked
-returns-in-Ok-None-clause-asked g c =
-    (c.loop-turn._turn + 1, turn-le _ _ c.loop-turn-test.true, c.in-Ok-None.ensures.asked ∙ ap next_count c.loop-turn.invariant.asked ∙ sym (count_after-more c.loop-turn._turn _))
-
 pub returns-then-byte-eq10-clause-line : goal.returns-then-byte-eq10-clause-line
 returns-then-byte-eq10-clause-line g c = λ tells.
     let was = c.loop-turn.invariant in
@@ -41,18 +34,6 @@ returns-then-byte-eq10-clause-line g c = λ tells.
     let size : length line ≤ 65536 = most_bytes _ _ was.size c.loop-turn-test.true in
     (sym (ap first_line_of whole ∙ first_line_of-cut line rest was.unbroken), sym (ap after_first_line whole ∙ after_first_line-cut line rest was.unbroken), size)
 
-pub returns-then-byte-eq10-clause-asked : goal.returns-then-byte-eq10-clause-asked
-returns-then-byte-eq10-clause-asked g c =
-    (c.loop-turn._turn + 1, turn-le _ _ c.loop-turn-test.true, c.next_byte.ensures.asked ∙ ap next_count c.loop-turn.invariant.asked ∙ sym (count_after-more c.loop-turn._turn _))
-
-pub returns-in_default-clause-asked : goal.returns-in_default-clause-asked
-returns-in_default-clause-asked g c =
-    (c.loop-turn._turn + 1, turn-le _ _ c.loop-turn-test.true, c.next_byte.ensures.asked ∙ ap next_count c.loop-turn.invariant.asked ∙ sym (count_after-more c.loop-turn._turn _))
-
-pub returns-in-Err-clause-asked : goal.returns-in-Err-clause-asked
-returns-in-Err-clause-asked g c =
-    (c.loop-turn._turn + 1, turn-le _ _ c.loop-turn-test.true, c.next_byte.ensures.asked ∙ ap next_count c.loop-turn.invariant.asked ∙ sym (count_after-more c.loop-turn._turn _))
-
 pub loop-turn-preserved : goal.loop-turn-preserved
 loop-turn-preserved g c =
     let was = c.loop-turn.invariant in
@@ -62,8 +43,7 @@ loop-turn-preserved g c =
     let next = c.in-Ok-Some.ensures in
     record {
       told = λ tells. next.told (was.told tells);
-      failed = next.failures ∙ was.failed;
-      asked = next.asked ∙ ap next_count was.asked ∙ sym (count_after-more c.loop-turn._turn _);
+      failed = next.reads ∙ was.failed;
       unbroken = rw c.in-Ok.ensures.items (has_byte-push line byte was.unbroken c.if-byte-eq10.false);
       size = ap length c.in-Ok.ensures.items ∙ length_push line byte ∙ ap (λ size. size + 1) was.size;
       left = λ tells.
@@ -84,8 +64,8 @@ returns-in-Ok-None-clause-told g c = λ tells. c.next_byte.ensures.told (c.loop-
 pub returns-in-Ok-None-clause-long : goal.returns-in-Ok-None-clause-long
 returns-in-Ok-None-clause-long g c = λ tells is. absurd cc
 
-pub returns-in-Ok-None-clause-failures : goal.returns-in-Ok-None-clause-failures
-returns-in-Ok-None-clause-failures g c = c.in-Ok-None.ensures.failures ∙ c.loop-turn.invariant.failed
+pub returns-in-Ok-None-clause-reads : goal.returns-in-Ok-None-clause-reads
+returns-in-Ok-None-clause-reads g c = c.in-Ok-None.ensures.reads ∙ c.loop-turn.invariant.failed
 
 pub returns-then-byte-eq10-clause-told : goal.returns-then-byte-eq10-clause-told
 returns-then-byte-eq10-clause-told g c = λ tells. c.next_byte.ensures.told (c.loop-turn.invariant.told tells)
@@ -93,8 +73,8 @@ returns-then-byte-eq10-clause-told g c = λ tells. c.next_byte.ensures.told (c.l
 pub returns-then-byte-eq10-clause-long : goal.returns-then-byte-eq10-clause-long
 returns-then-byte-eq10-clause-long g c = λ tells is. absurd cc
 
-pub returns-then-byte-eq10-clause-failures : goal.returns-then-byte-eq10-clause-failures
-returns-then-byte-eq10-clause-failures g c = c.in-Ok-Some.ensures.failures ∙ c.loop-turn.invariant.failed
+pub returns-then-byte-eq10-clause-reads : goal.returns-then-byte-eq10-clause-reads
+returns-then-byte-eq10-clause-reads g c = c.in-Ok-Some.ensures.reads ∙ c.loop-turn.invariant.failed
 
 pub returns-in_default-clause-told : goal.returns-in_default-clause-told
 returns-in_default-clause-told g c = λ tells. c.next_byte.ensures.told (c.loop-turn.invariant.told tells)
@@ -102,8 +82,8 @@ returns-in_default-clause-told g c = λ tells. c.next_byte.ensures.told (c.loop-
 pub returns-in_default-clause-long : goal.returns-in_default-clause-long
 returns-in_default-clause-long g c = λ tells is. absurd cc
 
-pub returns-in_default-clause-failures : goal.returns-in_default-clause-failures
-returns-in_default-clause-failures g c = c.in-Ok-Some.ensures.failures ∙ c.loop-turn.invariant.failed
+pub returns-in_default-clause-reads : goal.returns-in_default-clause-reads
+returns-in_default-clause-reads g c = c.in-Ok-Some.ensures.reads ∙ c.loop-turn.invariant.failed
 
 pub returns-in_default-clause-line : goal.returns-in_default-clause-line
 returns-in_default-clause-line g c = λ tells. tt
@@ -114,8 +94,8 @@ returns-in-Err-clause-told g c = λ tells. c.next_byte.ensures.told (c.loop-turn
 pub returns-in-Err-clause-long : goal.returns-in-Err-clause-long
 returns-in-Err-clause-long g c = λ tells is. absurd cc
 
-pub returns-in-Err-clause-failures : goal.returns-in-Err-clause-failures
-returns-in-Err-clause-failures g c = c.in-Err.ensures.failures ∙ ap next_count c.loop-turn.invariant.failed
+pub returns-in-Err-clause-reads : goal.returns-in-Err-clause-reads
+returns-in-Err-clause-reads g c = reads_from true _ _ _ _ c.loop-turn.invariant.failed c.in-Err.ensures.reads
 
 pub returns-in-Err-clause-line : goal.returns-in-Err-clause-line
 returns-in-Err-clause-line g c = λ tells. tt

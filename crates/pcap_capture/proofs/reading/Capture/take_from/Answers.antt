@@ -32,8 +32,9 @@ returns-in_err-go_on g c =
       ok = tt;
       err = inr read;
       end = λ tells is. cc;
-      failures = rw unread (rw c.in-Ok-answer.is at c.in-Ok.ensures.failures);
-      asked = inl c.in-Ok.ensures.asked;
+      reads = rw unread (rw c.in-Ok-answer.is at c.in-Ok.ensures.reads);
+      fewer = inl (rw c.in-Ok-answer.is at c.in-Ok.ensures.fewer);
+      no_more = c.in-Ok.ensures.no_more;
       broken = λ is. absurd (c.in_default.not-Broken (ap (λ (s : CaptureState). s.stage) c.self.view_is ∙ is));
     })
 
@@ -49,7 +50,8 @@ returns g c =
       ok = gone_on_by tells c.args.most c.in-Ok-answer.taken left more it.0 _ _ _ c.args.self.now c.go_on.new.self c.args.out.now.items c.go_on.new.out.items None was it.3 it.1 it.2 it.4 c.in_ok-go_on.ensures.ok;
       err = tt;
       end = λ tells is. c.in-Ok.ensures.end tells cc;
-      failures = rw c.in-Ok-answer.is at c.in-Ok.ensures.failures;
-      asked = inl c.in-Ok.ensures.asked;
+      reads = rw c.in-Ok-answer.is at c.in-Ok.ensures.reads;
+      fewer = inl (rw c.in-Ok-answer.is at c.in-Ok.ensures.fewer);
+      no_more = c.in-Ok.ensures.no_more;
       broken = λ is. absurd (c.in_default.not-Broken (ap (λ (s : CaptureState). s.stage) c.self.view_is ∙ is));
     }
