@@ -9,7 +9,7 @@ use moment_core::Moment;
 use std::alloc::Global;
 use std::process::Abort;
 use std::sync::Wait;
-use worked_texts::{A, B, C, D, LINK, PORT, SHARE, TRUSTED, joined, push_all};
+use worked_texts::{A, B, C, D, LINK, POLICED, PORT, SHARE, TRUSTED, TWO_RATES, joined, push_all};
 
 /// What a desk is opened with.
 #[derive(Drop)]
@@ -58,6 +58,23 @@ pub fn four(rt: &impl Abort, alloc: Global) -> Plan {
     for name in [A, B, C, D] {
         push_all(&mut text, &[TRUSTED, name, SHARE]).expect(rt, "memory");
     }
+    let plan = plan_of(rt, alloc, text.as_str());
+    drop(text);
+    plan
+}
+
+/// A meter that carries more than those.
+const WIDE_METER: &str = r#"
+meter = [{ name = "m", kind = "trtcm", cir = 64000000, cbs = 36000, pir = 64000000, pbs = 36000, skew = 500000 }]
+"#;
+
+/// The domain of four contracts over that meter, of which the last is policed and the others are trusted.
+pub fn mixed(rt: &impl Abort, alloc: Global) -> Plan {
+    let mut text = joined(alloc, &[WIDE_METER, PORT, LINK]).expect(rt, "memory");
+    for name in [A, B, C] {
+        push_all(&mut text, &[TRUSTED, name, SHARE]).expect(rt, "memory");
+    }
+    push_all(&mut text, &[POLICED, D, TWO_RATES]).expect(rt, "memory");
     let plan = plan_of(rt, alloc, text.as_str());
     drop(text);
     plan

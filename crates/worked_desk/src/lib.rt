@@ -7,6 +7,8 @@ mod broker_rows;
 #[cfg(test)]
 mod desks;
 #[cfg(test)]
+mod flow_rows;
+#[cfg(test)]
 mod limit_rows;
 #[cfg(test)]
 mod memory_rows;
