@@ -1,6 +1,7 @@
 -- What becomes of a start.
-use Rattle.std.proofs.Common.{◌≡◌, ◌≢◌, ◌≤◌, ℕ, List, [], ◌∷◌, None, Some, Ok, Err, refl, arith, inr, subst, sym, cond, true, false, map, length, ◌==◌}
-use Rattle.pcap_capture.specs.Counts.{count_after, next_count}
+use Rattle.std.proofs.Common.{◌≡◌, ◌≢◌, ℕ, List, [], ◌∷◌, None, Some, Ok, Err, refl, arith, inr, subst, sym, true, false, map, length, ◌==◌}
+use Rattle.pcap_capture.specs.Counts.{IsOfReads}
+use Rattle.pcap_capture.proofs.CountLaws.{reads_from}
 use Rattle.pcap_capture.specs.declared.fault.PcapFault.TheVariants as pcaps
 use Rattle.dsedge_base.specs.declared.fault.UsageFault.{UsageFault}
 use Rattle.dsedge_base.specs.declared.fault.UsageFault.TheVariants as usage_faults
@@ -17,8 +18,8 @@ use Rattle.dsedge_serve.specs.declared.conclusion.Conclusion.TheVariants.{Ended,
 use Rattle.dsedge_serve.specs.declared.outcome.Outcome.{Outcome}
 use Rattle.dsedge_serve.specs.declared.outcome.Outcome.TheVariants.{Answered, Marked}
 use Rattle.dsedge_serve.specs.Served.{IsAnswered, status_after}
-use Rattle.dsedge_serve.specs.Started.{Course, HasWords, IsCourseFrom, IsCourseOn, IsCourseWith, IsFromInput, IsRefused, IsWordless, IsWritten, LacksWords}
-use Rattle.dsedge_serve.specs.Started.{failures_with, fault_of_line, fault_of_words, input_from, status_in, words_from}
+use Rattle.dsedge_serve.specs.Started.{Course, HasWords, IsCourseFrom, IsCourseOn, IsCourseWith, IsRefused, IsWordless, IsWritten, LacksWords}
+use Rattle.dsedge_serve.specs.Started.{fault_of_line, fault_of_words, input_from, is_broken_off, is_read, is_unread, status_in, words_from}
 use Rattle.dsedge_serve.specs.Started.Course.{Refused, Served, Unread}
 
 -- words that are given are some
@@ -31,20 +32,15 @@ pub none_mapped : {X Y : Type 0} (f : X → Y) (xs : List X) → (length xs == 0
 none_mapped f [] none = refl
 none_mapped f (x ∷ xs) none = let e : length (x ∷ xs) ≡ 0 = grind (arith, none) in absurd (omega (arith, e))
 
--- nothing is asked
-pub unasked : (most turns : ℕ) → (asked : ℕ) × (asked ≤ most) × (turns ≡ count_after asked turns)
-unfolding count_after
-unasked most turns = (0, omega arith, refl)
-
 -- words that are refused ask for nothing
 pub is_refused : (words : List (List ℕ)) (fault : UsageFault) → IsRefusalOf words fault → IsRefused words (fault_of_words fault)
 is_refused words usage_faults.Usage is = is
 is_refused words usage_faults.NoMemory is = tt
 
--- their fault is no failure of the input
-pub refused_unread : (fault : UsageFault) (failed : ℕ) → failed ≡ failures_with (fault_of_words fault) failed
-refused_unread usage_faults.Usage failed = refl
-refused_unread usage_faults.NoMemory failed = refl
+-- their fault is none of the input
+pub refused_unread : (fault : UsageFault) (failed calls : ℕ) → IsOfReads (is_read (fault_of_words fault)) failed failed calls
+refused_unread usage_faults.Usage failed calls = refl
+refused_unread usage_faults.NoMemory failed calls = refl
 
 -- a first line that is refused gives no words
 pub is_wordless : (bytes : List ℕ) (fault : FirstLineFault) → (fault ≡ first_line_faults.Usage → LacksWords [] bytes)
@@ -53,12 +49,12 @@ is_wordless bytes first_line_faults.Usage lacks = lacks refl
 is_wordless bytes first_line_faults.Read lacks = refl
 is_wordless bytes first_line_faults.NoMemory lacks = tt
 
--- its failure is the input's
-pub unread_failures : (fault : FirstLineFault) (failed now : ℕ)
-    → now ≡ cond (is_read_fault {T = Unit {0}} (Err fault)) (next_count failed) failed → now ≡ failures_with (fault_of_line fault) failed
-unread_failures first_line_faults.Usage failed now e = e
-unread_failures first_line_faults.Read failed now e = e
-unread_failures first_line_faults.NoMemory failed now e = e
+-- its fault is the input's
+pub unread_line : (fault : FirstLineFault) (failed now calls : ℕ) → IsOfReads (is_read_fault {T = Unit {0}} (Err fault)) failed now calls
+    → IsOfReads (is_read (fault_of_line fault)) failed now calls
+unread_line first_line_faults.Usage failed now calls reads = reads
+unread_line first_line_faults.Read failed now calls reads = reads
+unread_line first_line_faults.NoMemory failed now calls reads = reads
 
 -- no plan that was served ends as usage does
 served_is_no_usage : (port : List ℕ) (outcome : Outcome) → status_after port outcome ≡ 2 → ⊥
@@ -127,7 +123,7 @@ written_behind (Served plan texts outcome) T U left input more before after tell
     let P : List ℕ → Type 0 = λ bytes. IsAnswered plan texts bytes more outcome before after in
     λ told. subst P (behind told) (is (tells told))
 
--- the counts that stand before a course are those that the words left
-pub reads_behind : (course : Course) (failed first now before behind asked : ℕ) → first ≡ failed → behind ≡ before
-    → IsFromInput course first now behind asked → IsFromInput course failed now before asked
-reads_behind course failed first now before behind asked e f h = rw (← e, ← f) h
+-- the count that stands before a course is that which the words left
+pub reads_behind : (course : Course) (failed first now calls : ℕ) → first ≡ failed → (is_broken_off course ≡ false → IsOfReads (is_unread course) first now calls)
+    → is_broken_off course ≡ false → IsOfReads (is_unread course) failed now calls
+reads_behind course failed first now calls same reads whole = reads_from (is_unread course) first failed now calls same (reads whole)

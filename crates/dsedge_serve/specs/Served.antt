@@ -3,14 +3,14 @@ use Rattle.std.specs.Prelude.{◌≡◌, ◌⊎◌, ◌^◌, ℕ, Bool, true, fa
 use Rattle.std.specs.Prelude.{⊤, Some, Result, Ok, Err, IfErr, IfOk, OnErr, codes, string_bytes}
 use Rattle.std.specs.Option.{option_map_or}
 use Rattle.line_text.specs.Lines.{lines_of}
-use Rattle.pcap_capture.specs.Counts.{count_after, next_count}
+use Rattle.pcap_capture.specs.Counts.{next_count}
 use Rattle.dsedge_base.specs.declared.work.Plan.{Plan}
 use Rattle.dsedge_base.specs.declared.work.Plan.TheVariants.{Audit, Certify, Check, Drive, Envelope, Mark, Meter, Show}
 use Rattle.ds_domain.specs.DomainTexts.{parse_of}
 use Rattle.ds_domain_base.specs.Domains.{Domain, is_port}
 use Rattle.ds_domain_base.specs.declared.contract.Contract.{Contract}
 use Rattle.ds_domain_base.specs.declared.fault.DomainFault.{DomainFault}
-use Rattle.ds_conductor.specs.Markings.{IsOfReads as IsOfCaptureReads, is_unwritten}
+use Rattle.ds_conductor.specs.Markings.{is_broken_off as is_marking_broken_off, is_unread, is_unwritten}
 use Rattle.ds_conductor.specs.Reports.{nothing_read}
 use Rattle.ds_conductor.specs.declared.fault.MarkFault.TheVariants as marks
 use Rattle.ds_conductor.specs.declared.rule.RedRule.{RedRule}
@@ -199,24 +199,20 @@ IsTold text before after failed now =
 abbrev pub IsOfWrites : Bool → ℕ → ℕ → Type 0
 IsOfWrites fault failed now = now ≡ (if fault then next_count failed else failed)
 
--- a read fault is an outcome only where the input failed once, or was asked 2^32 times; no other outcome is one where
--- it failed
-pub record IsOfReads (fault : Bool) (failed now asked_before asked : ℕ) : Type 0 where
-  pub failed_or_spent : fault ≡ true → (now ≡ next_count failed)
-      ⊎ ((now ≡ failed) × (asked ≡ count_after (2 ^ 32) asked_before))
-  pub else_unfailed : fault ≡ false → now ≡ failed
-
 -- whether the output could not be written
 abbrev pub is_output_fault : Outcome → Bool
 is_output_fault (Answered outcome) = is_write_fault outcome
 is_output_fault (Marked report fault) = is_unwritten (marking_answer report fault)
 
--- a read fault comes only where the input failed once, or was asked 2^32 times
-abbrev pub IsOfInput : Outcome → ℕ → ℕ → ℕ → ℕ → Type 0
-IsOfInput (Answered outcome) failed now asked_before asked =
-    IsOfReads (is_read_fault outcome) failed now asked_before asked
-IsOfInput (Marked report fault) failed now asked_before asked =
-    IsOfCaptureReads (marking_answer report fault) failed now asked_before asked
+-- whether the input could not be read
+abbrev pub is_input_fault : Outcome → Bool
+is_input_fault (Answered outcome) = is_read_fault outcome
+is_input_fault (Marked report fault) = is_unread (marking_answer report fault)
+
+-- whether the outcome is that of a marking that was broken off, which tells nothing of the input
+abbrev pub is_broken_off : Outcome → Bool
+is_broken_off (Answered outcome) = false
+is_broken_off (Marked report fault) = is_marking_broken_off (marking_answer report fault)
 
 -- the exit status of a plan that went so at a port
 abbrev pub status_after : List ℕ → Outcome → ℕ

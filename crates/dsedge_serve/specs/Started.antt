@@ -1,12 +1,10 @@
 -- How the program starts: the words of its command, its input, and what becomes of them.
 use Rattle.std.specs.Prelude.{◌≡◌, ℕ, ◌<◌, ◌≤◌, ◌⊎◌, Bool, true, false, List, [], ◌∷◌, length, Option, Ok, Err}
-use Rattle.std.specs.Prelude.{if◌then◌else◌}
 use Rattle.std.specs.List.{Contains}
 use Rattle.std.specs.Str.{IsUtf8}
 use Rattle.std.specs.declared.io.ErrorKind.{ErrorKind}
 use Rattle.std.specs.declared.io.ErrorKind.TheVariants.{OutOfMemory}
 use Rattle.line_text.specs.Lines.{fields_of}
-use Rattle.pcap_capture.specs.Counts.{next_count}
 use Rattle.dsedge_base.specs.Files.{files_of, port_of}
 use Rattle.dsedge_base.specs.Plans.{IsPlanOf, IsRefusalOf}
 use Rattle.dsedge_base.specs.declared.fault.UsageFault.{UsageFault}
@@ -22,7 +20,8 @@ use Rattle.dsedge_serve.specs.declared.fault.Fault.TheVariants.{File, Memory, Re
 use Rattle.dsedge_serve.specs.declared.outcome.Outcome.{Outcome}
 use Rattle.dsedge_serve.specs.Advised.{advice_after, advice_on}
 use Rattle.dsedge_serve.specs.Faults.{fault_text, status_of}
-use Rattle.dsedge_serve.specs.Served.{IsAnswered, IsForeseen, IsOfInput, is_output_fault, status_after, told_after}
+use Rattle.dsedge_serve.specs.Served.{IsAnswered, IsForeseen, is_broken_off as is_outcome_broken_off, is_input_fault}
+use Rattle.dsedge_serve.specs.Served.{is_output_fault, status_after, told_after}
 
 -- the words of a command: those given, or where there are none, those of the first line of the input
 abbrev pub words_from : List (List ℕ) → List ℕ → List (List ℕ)
@@ -33,11 +32,6 @@ words_from (word ∷ words) bytes = word ∷ words
 abbrev pub input_from : List (List ℕ) → List ℕ → List ℕ
 input_from [] bytes = after_first_line bytes
 input_from (word ∷ words) bytes = bytes
-
--- how often the input is asked for words at most: once for each byte of the longest first line and its LF
-abbrev pub most_asked : List (List ℕ) → ℕ
-most_asked [] = 65537
-most_asked (word ∷ words) = 0
 
 -- Which words a command has is known where they are given, or where the device tells its bytes.
 abbrev pub AreKnown : List (List ℕ) → Type 0 → Type 0
@@ -101,10 +95,6 @@ IsRefusalFrom given bytes fault =
 abbrev pub is_read : Fault → Bool
 is_read Read = true
 is_read _ = false
-
--- the failures of an input behind a fault
-abbrev pub failures_with : Fault → ℕ → ℕ
-failures_with fault failed = if is_read fault then next_count failed else failed
 
 -- Why not all files of a plan were read: the first of them that cannot be, which is known where they tell what they
 -- hold; memory may run out.
@@ -179,8 +169,13 @@ abbrev pub is_unwritten : Course → Bool
 is_unwritten (Served plan texts outcome) = is_output_fault outcome
 is_unwritten _ = false
 
--- A read fault comes only where the input failed once, or behind the words was asked 2^32 times.
-abbrev pub IsFromInput : Course → ℕ → ℕ → ℕ → ℕ → Type 0
-IsFromInput (Refused fault) failed now asked_before asked = (now ≡ failures_with fault failed) × (asked ≡ asked_before)
-IsFromInput (Unread plan fault) failed now asked_before asked = (now ≡ failed) × (asked ≡ asked_before)
-IsFromInput (Served plan texts outcome) failed now asked_before asked = IsOfInput outcome failed now asked_before asked
+-- whether it went so that the input could not be read
+abbrev pub is_unread : Course → Bool
+is_unread (Refused fault) = is_read fault
+is_unread (Unread plan fault) = false
+is_unread (Served plan texts outcome) = is_input_fault outcome
+
+-- whether it went so that a marking was broken off, which tells nothing of the input
+abbrev pub is_broken_off : Course → Bool
+is_broken_off (Served plan texts outcome) = is_outcome_broken_off outcome
+is_broken_off _ = false

@@ -5,10 +5,10 @@ ghost use Rattle.pcap_capture.specs.Fronts.{IsFrontOf};
 ghost use Rattle.dsedge_serve.specs.Advised.{marking_advice};
 ghost use Rattle.dsedge_serve.specs.Marked.{capture_fault, marking_fault, marking_fault_text, marking_status};
 ghost use Rattle.dsedge_serve.specs.Marked.{marking_told, refusal_outcome};
-ghost use Rattle.dsedge_serve.specs.Served.{IsMarkedAt, IsOfInput, IsOfWrites, IsPortlessBefore, IsRefusedBefore};
-ghost use Rattle.dsedge_serve.specs.Served.{is_output_fault};
+ghost use Rattle.dsedge_serve.specs.Served.{IsMarkedAt, IsOfWrites, IsPortlessBefore, IsRefusedBefore};
+ghost use Rattle.dsedge_serve.specs.Served.{is_broken_off, is_input_fault, is_output_fault};
 ghost use Rattle.dsedge_texts.specs.Accepted.{accepted_in};
-ghost use Rattle.pcap_capture.specs.Counts.{next_count};
+ghost use Rattle.pcap_capture.specs.Counts.{IsOfReads, next_count};
 
 use crate::advice::Advice;
 use crate::conclusion::Conclusion;
@@ -39,8 +39,8 @@ pub(crate) fn answer_mark<I: Intake, O: Outlet>(
     ensures refused { IsRefusedBefore (accepted_in domain.now certificate.now) result }
     ensures unknown { IsPortlessBefore (accepted_in domain.now certificate.now) port.now result }
     ensures writes { IsOfWrites (is_output_fault result) (O.failed output.old) (O.failed output.new) }
-    ensures reads { IsOfInput result (I.failed intake.old) (I.failed intake.new) (I.turns intake.old)
-        (I.turns intake.new) }
+    ensures reads { is_broken_off result ≡ false
+        → IsOfReads (is_input_fault result) (I.failed intake.old) (I.failed intake.new) (I.calls intake.new) }
 {
     match accept(alloc, domain, certificate) {
         Ok(accepted) => mark_over(alloc, &accepted, port, red, intake, output),
@@ -63,8 +63,8 @@ fn mark_over<I: Intake, O: Outlet>(
     ensures unknown { is_port accepted.now.domain port.now ≡ false
         → result ≡ Outcome.Marked nothing_read (Some MarkFault.UnknownPort) }
     ensures writes { IsOfWrites (is_output_fault result) (O.failed output.old) (O.failed output.new) }
-    ensures reads { IsOfInput result (I.failed intake.old) (I.failed intake.new) (I.turns intake.old)
-        (I.turns intake.new) }
+    ensures reads { is_broken_off result ≡ false
+        → IsOfReads (is_input_fault result) (I.failed intake.old) (I.failed intake.new) (I.calls intake.new) }
 {
     match mark(alloc, accepted, port, 1, red, intake, output, &OpenGate) {
         Ok(report) => Outcome::Marked(report, None),

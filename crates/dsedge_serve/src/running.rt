@@ -1,13 +1,13 @@
-ghost use Rattle.std.specs.Prelude.{◌≡◌, ℕ, ◌≤◌, IfErr, IfOk, map, string_bytes};
+ghost use Rattle.std.specs.Prelude.{◌≡◌, IfErr, IfOk, false, map, string_bytes};
 ghost use Rattle.std.specs.IoError.{error_kind};
 ghost use Rattle.dsedge_base.specs.Files.{files_of};
-ghost use Rattle.pcap_capture.specs.Counts.{count_after};
+ghost use Rattle.pcap_capture.specs.Counts.{IsOfReads};
 ghost use Rattle.dsedge_serve.specs.Advised.{IsToldAt};
 ghost use Rattle.dsedge_serve.specs.Faults.{fault_text, status_of};
 ghost use Rattle.dsedge_serve.specs.Served.{IsOfWrites, IsTold};
-ghost use Rattle.dsedge_serve.specs.Started.{AreKnown, Course, IsCourseFrom, IsCourseOf, IsFromInput, IsWritten};
-ghost use Rattle.dsedge_serve.specs.Started.{advice_in, behind_name, input_from, is_unwritten, most_asked, status_in};
-ghost use Rattle.dsedge_serve.specs.Started.{told_in, wordless};
+ghost use Rattle.dsedge_serve.specs.Started.{AreKnown, Course, IsCourseFrom, IsCourseOf, IsWritten};
+ghost use Rattle.dsedge_serve.specs.Started.{advice_in, behind_name, input_from, is_broken_off, is_unread, is_unwritten};
+ghost use Rattle.dsedge_serve.specs.Started.{status_in, told_in, wordless};
 
 use crate::advising::advise;
 use crate::fault::Fault;
@@ -52,8 +52,8 @@ pub fn run<R: Wait, D: Folder, I: Intake, O: Outlet, F: Outlet>(
         IsToldAt at_terminal words (advice_in course) (told_in course) (F.held faults.old) (F.held faults.new)
         (F.failed faults.old) (F.failed faults.new))
         × IsOfWrites (is_unwritten course) (O.failed output.old) (O.failed output.new)
-        × ((asked : ℕ) × (asked ≤ most_asked words) × IsFromInput course (I.failed intake.old) (I.failed intake.new)
-        (count_after asked (I.turns intake.old)) (I.turns intake.new))) }
+        × (is_broken_off course ≡ false
+        → IsOfReads (is_unread course) (I.failed intake.old) (I.failed intake.new) (I.calls intake.new))) }
 {
     match line {
         Ok(line) => {
@@ -115,8 +115,8 @@ fn run_on<R: Wait, D: Folder, I: Intake, O: Outlet, F: Outlet>(
         IsToldAt at_terminal texts (advice_in course) (told_in course) (F.held faults.old) (F.held faults.new)
         (F.failed faults.old) (F.failed faults.new))
         × IsOfWrites (is_unwritten course) (O.failed output.old) (O.failed output.new)
-        × ((asked : ℕ) × (asked ≤ most_asked texts) × IsFromInput course (I.failed intake.old) (I.failed intake.new)
-        (count_after asked (I.turns intake.old)) (I.turns intake.new)) }
+        × (is_broken_off course ≡ false
+        → IsOfReads (is_unread course) (I.failed intake.old) (I.failed intake.new) (I.calls intake.new)) }
 {
     let ended = start(alloc, rt, words, folder, intake, output, faults);
     advise(alloc, words, at_terminal, ended.advice, faults);

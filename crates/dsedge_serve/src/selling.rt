@@ -2,8 +2,9 @@ ghost use Rattle.std.specs.Prelude.{◌≡◌};
 ghost use Rattle.line_text.specs.Lines.{lines_of};
 ghost use Rattle.ds_domain.specs.DomainTexts.{parse_of};
 ghost use Rattle.dsedge_drive.specs.Driven.{driven, opening_book};
+ghost use Rattle.pcap_capture.specs.Counts.{IsOfReads};
 ghost use Rattle.dsedge_lines.specs.Faults.{is_read_fault, is_write_fault};
-ghost use Rattle.dsedge_serve.specs.Served.{IsOfReads, IsOfWrites, IsServed, IsUnsoundBefore, reply_of, reply_sold};
+ghost use Rattle.dsedge_serve.specs.Served.{IsOfWrites, IsServed, IsUnsoundBefore, reply_of, reply_sold};
 ghost use Rattle.dsedge_serve.specs.declared.outcome.Outcome.{Outcome};
 
 use crate::conclusion::Conclusion;
@@ -29,8 +30,7 @@ pub(crate) fn answer_drive<R: Wait, I: Intake, O: Outlet>(
         (O.held output.new) }
     ensures unsound { IsUnsoundBefore (parse_of text.now) (Outcome.Answered result) }
     ensures writes { IsOfWrites (is_write_fault result) (O.failed output.old) (O.failed output.new) }
-    ensures reads { IsOfReads (is_read_fault result) (I.failed intake.old) (I.failed intake.new)
-        (I.turns intake.old) (I.turns intake.new) }
+    ensures reads { IsOfReads (is_read_fault result) (I.failed intake.old) (I.failed intake.new) (I.calls intake.new) }
 {
     match parse(alloc, text) {
         Ok((domain, contracts)) => sell::<Brand, R, I, O>(
@@ -68,8 +68,7 @@ fn sell<J: Naming, R: Wait, I: Intake, O: Outlet>(
         IsServed (reply_of (driven domain contracts.now (lines_of (I.left intake.old)))) result (O.held output.old)
         (O.held output.new) }
     ensures writes { IsOfWrites (is_write_fault result) (O.failed output.old) (O.failed output.new) }
-    ensures reads { IsOfReads (is_read_fault result) (I.failed intake.old) (I.failed intake.new)
-        (I.turns intake.old) (I.turns intake.new) }
+    ensures reads { IsOfReads (is_read_fault result) (I.failed intake.old) (I.failed intake.new) (I.calls intake.new) }
 {
     match DriveCommand::<J, &R>::new(alloc, rt, opened, domain, contracts) {
         Ok(command) => answer_lines(alloc, command, intake, output),

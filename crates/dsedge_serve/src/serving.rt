@@ -2,8 +2,9 @@ ghost use Rattle.std.specs.Prelude.{◌≡◌, false, length, map};
 ghost use Rattle.dsedge_base.specs.Files.{files_of, port_of};
 ghost use Rattle.dsedge_lines.specs.Faults.{is_read_fault, is_write_fault};
 ghost use Rattle.dsedge_serve.specs.Served.{IsForeseen, IsRefusedBefore};
-ghost use Rattle.dsedge_serve.specs.Served.{IsAnswered, IsOfInput, IsOfReads, IsOfWrites, IsServed, IsTold, Reply};
-ghost use Rattle.dsedge_serve.specs.Served.{is_output_fault, notice_of, reply_by, reply_of, reply_on, reply_over};
+ghost use Rattle.dsedge_serve.specs.Served.{IsAnswered, IsOfWrites, IsServed, IsTold, Reply};
+ghost use Rattle.dsedge_serve.specs.Served.{is_broken_off, is_input_fault, is_output_fault, notice_of};
+ghost use Rattle.dsedge_serve.specs.Served.{reply_by, reply_of, reply_on, reply_over};
 ghost use Rattle.dsedge_serve.specs.Served.{status_after, status_for, told_after, told_of};
 ghost use Rattle.dsedge_serve.specs.Advised.{advice_after, advice_for};
 ghost use Rattle.dsedge_serve.specs.Marked.{rule_said};
@@ -13,6 +14,7 @@ ghost use Rattle.dsedge_audit.specs.Audited.{audit_from};
 ghost use Rattle.dsedge_texts.specs.Accepted.{accepted_in};
 ghost use Rattle.dsedge_texts.specs.Certified.{certified};
 ghost use Rattle.line_text.specs.Lines.{lines_of};
+ghost use Rattle.pcap_capture.specs.Counts.{IsOfReads};
 
 use crate::advice::{Advice, Ended};
 use crate::conclusion::Conclusion;
@@ -33,9 +35,6 @@ use pcap_capture::{Intake, Outlet, give_all};
 use std::alloc::Global;
 use std::sync::Wait;
 
-/// By how many calls of `take` an input is read at most; the next is answered as a read fault.
-const TURNS: u64 = 1 << 32;
-
 /// Answers the lines of the input by a command.
 pub(crate) fn answer_lines<C: Command + Drop, I: Intake, O: Outlet>(
     alloc: Global,
@@ -47,11 +46,10 @@ pub(crate) fn answer_lines<C: Command + Drop, I: Intake, O: Outlet>(
         IsServed (reply_of (C.answer command 1 (lines_of (I.left intake.old)))) result (O.held output.old)
         (O.held output.new) }
     ensures writes { IsOfWrites (is_write_fault result) (O.failed output.old) (O.failed output.new) }
-    ensures reads { IsOfReads (is_read_fault result) (I.failed intake.old) (I.failed intake.new)
-        (I.turns intake.old) (I.turns intake.new) }
+    ensures reads { IsOfReads (is_read_fault result) (I.failed intake.old) (I.failed intake.new) (I.calls intake.new) }
 {
     let mut command = command;
-    let answered = pump(alloc, &mut command, intake, output, TURNS);
+    let answered = pump(alloc, &mut command, intake, output);
     drop(command);
     match answered {
         Ok(ending) => Ok(Conclusion::Ended(ending)),
@@ -134,8 +132,7 @@ fn answer_audit<I: Intake, O: Outlet>(
         (O.held output.old) (O.held output.new) }
     ensures refused { IsRefusedBefore (accepted_in domain.now certificate.now) (Outcome.Answered result) }
     ensures writes { IsOfWrites (is_write_fault result) (O.failed output.old) (O.failed output.new) }
-    ensures reads { IsOfReads (is_read_fault result) (I.failed intake.old) (I.failed intake.new)
-        (I.turns intake.old) (I.turns intake.new) }
+    ensures reads { IsOfReads (is_read_fault result) (I.failed intake.old) (I.failed intake.new) (I.calls intake.new) }
 {
     match accept(alloc, domain, certificate) {
         Ok(accepted) => judge_run(alloc, &accepted, intake, output),
@@ -154,8 +151,7 @@ fn judge_run<I: Intake, O: Outlet>(
         IsServed (reply_of (audit_from accepted.now (opened accepted.now) 1 (lines_of (I.left intake.old)))) result
         (O.held output.old) (O.held output.new) }
     ensures writes { IsOfWrites (is_write_fault result) (O.failed output.old) (O.failed output.new) }
-    ensures reads { IsOfReads (is_read_fault result) (I.failed intake.old) (I.failed intake.new)
-        (I.turns intake.old) (I.turns intake.new) }
+    ensures reads { IsOfReads (is_read_fault result) (I.failed intake.old) (I.failed intake.new) (I.calls intake.new) }
 {
     match AuditCommand::new(alloc, accepted) {
         Ok(command) => answer_lines(alloc, command, intake, output),
@@ -178,8 +174,8 @@ fn answer<R: Wait, I: Intake, O: Outlet>(
         (O.held output.old) (O.held output.new) }
     ensures foreseen { IsForeseen plan.now (map (λ text. text.items) texts.now) result }
     ensures writes { IsOfWrites (is_output_fault result) (O.failed output.old) (O.failed output.new) }
-    ensures reads { IsOfInput result (I.failed intake.old) (I.failed intake.new) (I.turns intake.old)
-        (I.turns intake.new) }
+    ensures reads { is_broken_off result ≡ false
+        → IsOfReads (is_input_fault result) (I.failed intake.old) (I.failed intake.new) (I.calls intake.new) }
 {
     match plan {
         Plan::Show(text) => {
@@ -340,7 +336,8 @@ pub fn serve<R: Wait, I: Intake, O: Outlet, F: Outlet>(
         IsTold (told_after port outcome) (F.held faults.old) (F.held faults.new) (F.failed faults.old)
         (F.failed faults.new))
         × IsOfWrites (is_output_fault outcome) (O.failed output.old) (O.failed output.new)
-        × IsOfInput outcome (I.failed intake.old) (I.failed intake.new) (I.turns intake.old) (I.turns intake.new)
+        × (is_broken_off outcome ≡ false
+        → IsOfReads (is_input_fault outcome) (I.failed intake.old) (I.failed intake.new) (I.calls intake.new))
         × IsForeseen plan.now (map (λ text. text.items) texts.now) outcome
         × (result.advice ≡ advice_after port outcome) }
 {

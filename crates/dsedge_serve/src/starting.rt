@@ -1,11 +1,11 @@
-ghost use Rattle.std.specs.Prelude.{◌≡◌, ℕ, ◌≤◌, IfErr, IfOk, Ok, length, map, string_bytes};
-ghost use Rattle.pcap_capture.specs.Counts.{count_after};
+ghost use Rattle.std.specs.Prelude.{◌≡◌, IfErr, IfOk, Ok, false, length, map, string_bytes};
+ghost use Rattle.pcap_capture.specs.Counts.{IsOfReads};
 ghost use Rattle.dsedge_serve.specs.Advised.{advice_on};
 ghost use Rattle.dsedge_serve.specs.Faults.{fault_text, status_of};
 ghost use Rattle.dsedge_serve.specs.Served.{IsOfWrites, IsTold};
-ghost use Rattle.dsedge_serve.specs.Started.{AreKnown, Course, IsCourseFrom, IsCourseOn, IsCourseWith, IsFromInput};
+ghost use Rattle.dsedge_serve.specs.Started.{AreKnown, Course, IsCourseFrom, IsCourseOn, IsCourseWith};
 ghost use Rattle.dsedge_serve.specs.Started.{IsWritten, fault_of_line, fault_of_words};
-ghost use Rattle.dsedge_serve.specs.Started.{IsCourseOf, IsUnreadable, input_from, is_unwritten, most_asked};
+ghost use Rattle.dsedge_serve.specs.Started.{IsCourseOf, IsUnreadable, input_from, is_broken_off, is_unread, is_unwritten};
 ghost use Rattle.dsedge_serve.specs.Started.{advice_in, status_in, told_in};
 ghost use Rattle.dsedge_base.specs.Files.{files_of};
 ghost use Rattle.dsedge_texts.specs.Readable.{texts_of};
@@ -97,7 +97,8 @@ fn start_with<R: Wait, D: Folder, I: Intake, O: Outlet, F: Outlet>(
         × (F.tells faults.old →
         IsTold (told_in course) (F.held faults.old) (F.held faults.new) (F.failed faults.old) (F.failed faults.new))
         × IsOfWrites (is_unwritten course) (O.failed output.old) (O.failed output.new)
-        × IsFromInput course (I.failed intake.old) (I.failed intake.new) (I.turns intake.old) (I.turns intake.new)
+        × (is_broken_off course ≡ false
+        → IsOfReads (is_unread course) (I.failed intake.old) (I.failed intake.new) (I.calls intake.new))
         × (result.advice ≡ advice_in course) }
 {
     match texts_for(alloc, folder, plan) {
@@ -125,7 +126,8 @@ fn start_on<R: Wait, D: Folder, I: Intake, O: Outlet, F: Outlet>(
         × (F.tells faults.old →
         IsTold (told_in course) (F.held faults.old) (F.held faults.new) (F.failed faults.old) (F.failed faults.new))
         × IsOfWrites (is_unwritten course) (O.failed output.old) (O.failed output.new)
-        × IsFromInput course (I.failed intake.old) (I.failed intake.new) (I.turns intake.old) (I.turns intake.new)
+        × (is_broken_off course ≡ false
+        → IsOfReads (is_unread course) (I.failed intake.old) (I.failed intake.new) (I.calls intake.new))
         × (result.advice ≡ advice_in course) }
 {
     match plan(alloc, words) {
@@ -163,8 +165,8 @@ pub fn start<R: Wait, D: Folder, I: Intake, O: Outlet, F: Outlet>(
         × (F.tells faults.old →
         IsTold (told_in course) (F.held faults.old) (F.held faults.new) (F.failed faults.old) (F.failed faults.new))
         × IsOfWrites (is_unwritten course) (O.failed output.old) (O.failed output.new)
-        × ((asked : ℕ) × (asked ≤ most_asked texts) × IsFromInput course (I.failed intake.old) (I.failed intake.new)
-        (count_after asked (I.turns intake.old)) (I.turns intake.new))
+        × (is_broken_off course ≡ false
+        → IsOfReads (is_unread course) (I.failed intake.old) (I.failed intake.new) (I.calls intake.new))
         × (result.advice ≡ advice_in course) }
 {
     if !given.is_empty() {

@@ -1,7 +1,7 @@
 use Rattle.std.proofs.Common.{Err, List, ℕ, ap, inl, map, refl, string_bytes, subst, sym, ◌∙◌, []}
-use Rattle.dsedge_serve.specs.Started.{IsCourseOn, most_asked}
+use Rattle.dsedge_serve.specs.Started.{IsCourseOn}
 use Rattle.dsedge_serve.specs.Started.Course.{Refused}
-use Rattle.dsedge_serve.proofs.StartLemmas.{from_given, from_words, input_given, is_wordless, none_mapped, reads_behind, some_mapped, unasked, unread_failures, usage_unwritten, written_behind}
+use Rattle.dsedge_serve.proofs.StartLemmas.{from_given, from_words, input_given, is_wordless, none_mapped, reads_behind, some_mapped, unread_line, usage_unwritten, written_behind}
 use Rattle.dsedge_serve.proofs.starting.start.Goals as goal
 
 -- a course on the words that are given
@@ -10,8 +10,7 @@ returns-then-not-is_empty-clause-course g c =
     let texts = map string_bytes c.args.given.now in
     let left = g.I.Intake.left c.args.intake.now in
     let some = some_mapped string_bytes c.args.given.now (sym c.is_empty.ensures ∙ c.if-not-is_empty.true) in
-    let started = c.start_on.ensures.course in
-    let none = unasked (most_asked texts) (g.I.Intake.turns c.args.intake.now) in (
+    let started = c.start_on.ensures.course in (
       started.0,
       started.1,
       λ known. from_given texts left started.0 some started.2,
@@ -19,7 +18,7 @@ returns-then-not-is_empty-clause-course g c =
       written_behind started.0 _ _ left _ _ _ _ (λ told. told) (λ told. input_given texts left some) started.4,
       started.5,
       started.6,
-      (none.0, none.1, reads_behind started.0 _ _ _ _ _ _ refl none.2 started.7),
+      started.7,
       started.8,
     )
 
@@ -38,7 +37,7 @@ returns-in-Ok-clause-course g c =
       written_behind started.0 _ _ _ _ _ _ _ (λ tells. (first.told tells.0, tells.1)) (λ tells. first.taken tells.0) started.4,
       started.5,
       started.6,
-      (first.asked.0, first.asked.1, reads_behind started.0 _ _ _ _ _ _ first.failures first.asked.2 started.7),
+      reads_behind started.0 _ _ _ _ first.reads started.7,
       started.8,
     )
 
@@ -56,7 +55,7 @@ returns-in-Err-clause-course g c =
       refl,
       c.refuse.ensures.told,
       refl,
-      (first.asked.0, first.asked.1, (rw c.fault_of_line.ensures (unread_failures fault _ _ first.failures), first.asked.2)),
+      λ whole. rw c.fault_of_line.ensures (unread_line fault _ _ _ first.reads),
       c.refuse.ensures.advice,
     )
 

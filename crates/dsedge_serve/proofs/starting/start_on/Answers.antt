@@ -18,6 +18,6 @@ returns-in-Err-clause-course g c =
       refl,
       c.refuse.ensures.told,
       refl,
-      (rw (c.fault_of_words.ensures) (refused_unread fault (g.I.Intake.failed c.args.intake.now)), refl),
+      λ whole. rw (c.fault_of_words.ensures) (refused_unread fault (g.I.Intake.failed c.args.intake.now) (g.I.Intake.calls c.args.intake.now)),
       c.refuse.ensures.advice,
     )

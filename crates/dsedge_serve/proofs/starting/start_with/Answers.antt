@@ -33,6 +33,6 @@ returns-in-Err-clause-course g c = (
   refl,
   c.refuse.ensures.told,
   refl,
-  (refl, refl),
+  λ whole. refl,
   c.refuse.ensures.advice,
 )
