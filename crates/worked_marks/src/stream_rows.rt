@@ -1,13 +1,15 @@
 ghost use Rattle.std.specs.Prelude.{[]};
 
-use crate::captures::{HEADING, TAGGED, capture};
+use crate::captures::{GREEN, HEADING, TAGGED, capture};
 use crate::mark_rows::narrow;
+use crate::tables::table_of;
 use ds_checker::Accepted;
 use ds_conductor::{OpenGate, RedRule, mark};
 use pcap_capture::{DeviceFault, Intake, Outlet, SliceIntake};
 use std::alloc::Global;
 use std::process::Abort;
 use std::sync::atomic::{AtomicU64, Ordering};
+use worked_texts::joined;
 
 /// An intake that notes, at each call, how many bytes were written so far.
 #[derive(Debug, Drop)]
@@ -97,11 +99,11 @@ fn noted(
     intake.noted
 }
 
-/// Expects of a capture of three records how many bytes were written before its last were taken, and at its end.
-fn expect_noted(rt: &impl Abort, alloc: Global, accepted: &Accepted, given: &[u8]) {
+/// Expects of a capture of three records how many bytes were written before its last were taken, and of all at its end.
+fn expect_noted(rt: &impl Abort, alloc: Global, accepted: &Accepted, given: &[u8], before: u64) {
     let written = AtomicU64::new(0);
     let noted = noted(rt, alloc, accepted, given, &written);
-    assert_eq!(rt; noted, 24 + 108);
+    assert_eq!(rt; noted, before);
     assert_eq!(rt; written.load(Ordering::SeqCst), 24 + 162);
     drop(written);
 }
@@ -110,7 +112,7 @@ fn expect_noted(rt: &impl Abort, alloc: Global, accepted: &Accepted, given: &[u8
 fn expect_head_first(rt: &impl Abort, alloc: Global) {
     let accepted = narrow(rt, alloc);
     let given = capture(rt, alloc, &[HEADING, TAGGED, TAGGED, TAGGED]);
-    expect_noted(rt, alloc, &accepted, given.as_slice());
+    expect_noted(rt, alloc, &accepted, given.as_slice(), 24 + 108);
     drop(given);
     drop(accepted);
 }
@@ -118,4 +120,118 @@ fn expect_head_first(rt: &impl Abort, alloc: Global) {
 #[test]
 fn the_head_of_a_capture_is_written_before_the_rest_is_taken(rt: HostRuntime) {
     expect_head_first(&rt, rt.alloc());
+}
+
+/// Meters `m` and `n`, ports `p` and `q`, links of 1 ms from `p` to `m` and of 2 ms from there to `n`, and one without
+/// delay from `q`.
+const FLOORS: &str = r#"
+meter = [
+    { name = "m", kind = "trtcm", cir = 24000000, cbs = 13500, pir = 24000000, pbs = 13500, skew = 0 },
+    { name = "n", kind = "trtcm", cir = 24000000, cbs = 13500, pir = 24000000, pbs = 13500, skew = 0 },
+]
+port = [{ name = "p", skew = 0 }, { name = "q", skew = 0 }]
+link = [
+    { from = "p", to = "m", floor = 1000000, jitter = 0 },
+    { from = "q", to = "m", floor = 0, jitter = 0 },
+    { from = "m", to = "n", floor = 2000000, jitter = 0 },
+]
+"#;
+
+/// A trusted contract at `p` over one meter.
+const ONE_HOP: &str = r#"
+[[contract]]
+name = "a"
+kind = "trusted"
+port = "p"
+path = ["m"]
+class = 1
+cir = 8000000
+cbs = 3000
+"#;
+
+/// One over both meters.
+const TWO_HOPS: &str = r#"
+[[contract]]
+name = "b"
+kind = "trusted"
+port = "p"
+path = ["m", "n"]
+class = 1
+cir = 8000000
+cbs = 3000
+"#;
+
+/// One at `q`.
+const OTHER_PORT: &str = r#"
+[[contract]]
+name = "c"
+kind = "trusted"
+port = "q"
+path = ["m"]
+class = 2
+cir = 8000000
+cbs = 3000
+"#;
+
+/// A policed one at `p`.
+const EDGE: &str = r#"
+[[contract]]
+name = "d"
+kind = "trtcm"
+port = "p"
+path = ["m"]
+mode = "blind"
+class = 2
+cir = 8000000
+cbs = 150
+pir = 8000000
+pbs = 150
+"#;
+
+/// Expects of contracts with their least certificate, and three records of the first of them that are stamped alike, how
+/// many bytes were written before the last record was taken.
+fn expect_alike(
+    rt: &impl Abort,
+    alloc: Global,
+    contracts: &[&str],
+    certificate: &str,
+    before: u64,
+) {
+    let domain = joined(alloc, contracts).expect(rt, "memory");
+    let accepted = table_of(rt, alloc, domain.as_str(), certificate);
+    let given = capture(rt, alloc, &[HEADING, GREEN, GREEN, GREEN]);
+    expect_noted(rt, alloc, &accepted, given.as_slice(), before);
+    drop(given);
+    drop(accepted);
+    drop(domain);
+}
+
+#[test]
+fn frames_that_are_stamped_alike_are_written_piece_by_piece_over_one_hop(rt: HostRuntime) {
+    let least = "dscert 1\na 0 3000 3000\na 1 3000 3000\n";
+    expect_alike(&rt, rt.alloc(), &[FLOORS, ONE_HOP], least, 24 + 108);
+}
+
+#[test]
+fn frames_that_are_stamped_alike_are_held_over_two_hops(rt: HostRuntime) {
+    let least = "dscert 1\nb 0 3000 3000\nb 1 3000 3000\nb 2 3000 3000\n";
+    expect_alike(&rt, rt.alloc(), &[FLOORS, TWO_HOPS], least, 24);
+}
+
+#[test]
+fn a_contract_at_another_port_holds_no_frame(rt: HostRuntime) {
+    let least = "dscert 1\na 0 3000 3000\na 1 3000 3000\nc 0 3000 3000\nc 1 3000 3000\n";
+    expect_alike(
+        &rt,
+        rt.alloc(),
+        &[FLOORS, ONE_HOP, OTHER_PORT],
+        least,
+        24 + 108,
+    );
+}
+
+#[test]
+fn a_policed_contract_at_the_port_holds_the_frames_of_others(rt: HostRuntime) {
+    let least = "dscert 1\na 0 3000 3000\na 1 3000 3000\nd 0 151 151\nd 1 151 151\n";
+    expect_alike(&rt, rt.alloc(), &[FLOORS, ONE_HOP, EDGE], least, 24);
 }
