@@ -27,7 +27,9 @@ impl<I: Intake, W: Watch> Intake for WatchedIntake<'_, I, W> {
 
     ghost failed = { λ watched. I.failed watched.intake };
 
-    ghost turns = { λ watched. I.turns watched.intake };
+    ghost calls = { λ watched. I.calls watched.intake };
+
+    ghost few = { λ watched. I.few watched.intake };
 
     fn take(&mut self, buffer: &mut [u8]) -> Result<usize, DeviceFault> {
         let taken = self.intake.take(buffer);
