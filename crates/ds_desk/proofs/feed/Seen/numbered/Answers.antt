@@ -14,7 +14,7 @@ pub invariant_of-result : goal.invariant_of-result
 invariant_of-result g c = record {
   rising = subst IsStrictlyIncreasing (sym c.flows.ensures) (flows-rising c.args.self.now);
   beside =
-    ap length c.flows.ensures
-    ∙ beside (standing_of c.args.self.now).held
-    ∙ sym (ap (λ t. length t.contracts) c.table.ensures.value);
+      ap length c.flows.ensures
+      ∙ beside (standing_of c.args.self.now).held
+      ∙ sym (ap (λ t. length t.contracts) c.table.ensures.value);
 }
