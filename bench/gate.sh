@@ -1,5 +1,5 @@
 #!/bin/sh
-# Runs the whole gate from nothing, `rt ci --anew` in a fresh clone of what is committed, and prints what it took: wall
+# Runs the whole gate from nothing, `rt ci` in a fresh clone of what is committed, and prints what it took: wall
 # and processor minutes, these also by kind and by crate.
 #
 #     bench/gate.sh [FOLDER]        the clone stands in a new folder below FOLDER, /tmp where none is given
@@ -40,7 +40,7 @@ sample() {
 }
 
 begin=$(date +%s)
-(cd "$room/clone" && rt ci --anew) > "$room/log" 2>&1 &
+(cd "$room/clone" && rt ci) > "$room/log" 2>&1 &
 gate=$!
 while kill -0 "$gate" 2> /dev/null; do
     for process in $(pgrep -x rattle); do
@@ -53,7 +53,7 @@ wait "$gate" || status=$?
 end=$(date +%s)
 
 tail -n 3 "$room/log"
-echo "$(nproc) cores, $(((end - begin + 30) / 60)) minutes of wall time, rt ci --anew ended with status $status"
+echo "$(nproc) cores, $(((end - begin + 30) / 60)) minutes of wall time, rt ci ended with status $status"
 # the system's count of the time of all that this script has waited for
 times | awk -F '[ms ]+' 'NR == 2 { printf "%.0f processor minutes in all\n", $1 + $3 + ($2 + $4) / 60 }'
 awk -F '\t' -v ticks="$(getconf CLK_TCK)" '
