@@ -4,7 +4,7 @@ use crate::captures::{
 use crate::tables::accepted;
 use ds_checker::Accepted;
 use ds_conductor::{MarkFault, OpenGate, RedRule, Report, mark};
-use pcap_capture::{PcapFault, SliceIntake, VecOutlet};
+use pcap_capture::{Intake, MOST_CALLS, PcapFault, SliceIntake, VecOutlet};
 use run_audit::Verdict;
 use std::alloc::Global;
 use std::process::Abort;
@@ -266,34 +266,77 @@ fn no_such_port(rt: HostRuntime) {
     expect_no_port_of_wide(&rt, rt.alloc());
 }
 
-/// Expects of two records, of which the second cannot be read on at the fourth call, that the first is marked.
-fn expect_first(rt: &impl Abort, alloc: Global, accepted: &Accepted) {
+/// Expects of two records, of which the second cannot be read on at the fourth call, since the device fails there or
+/// answers no more calls, that the first is marked, and how often the device failed.
+fn expect_first(
+    rt: &impl Abort,
+    alloc: Global,
+    accepted: &Accepted,
+    (fails_at, calls): (Option<u64>, u64),
+    failures: u64,
+) {
     let given = capture(rt, alloc, &[HEADING, TAGGED, TAGGED]);
     let written = capture(rt, alloc, &[HEADING, GREEN]);
     let mut intake = SliceIntake {
         most: 40,
-        fails_at: Some(4),
+        fails_at,
+        calls,
         ..SliceIntake::new(given.as_slice())
     };
     let marked = leavings(alloc, accepted, "p", RedRule::Keep, &mut intake);
     let fault = Some(MarkFault::Capture(PcapFault::ReadFault));
     let report = report(1, 0, 0, [1, 0, 0]);
     expect(rt, &marked, written.as_slice(), report, fault);
+    assert_eq!(rt; intake.failures(), failures);
     drop(marked);
     drop(written);
     drop(given);
 }
 
 /// Expects the same over the wide table.
-fn expect_first_of_wide(rt: &impl Abort, alloc: Global) {
+fn expect_first_of_wide(rt: &impl Abort, alloc: Global, limits: (Option<u64>, u64), failures: u64) {
     let accepted = wide(rt, alloc);
-    expect_first(rt, alloc, &accepted);
+    expect_first(rt, alloc, &accepted, limits, failures);
     drop(accepted);
 }
 
 #[test]
 fn a_capture_that_cannot_be_read_on(rt: HostRuntime) {
-    expect_first_of_wide(&rt, rt.alloc());
+    expect_first_of_wide(&rt, rt.alloc(), (Some(4), MOST_CALLS), 1);
+}
+
+#[test]
+fn a_capture_whose_device_is_spent(rt: HostRuntime) {
+    expect_first_of_wide(&rt, rt.alloc(), (None, 3), 0);
+}
+
+/// Expects of a device that gives one byte a call, and answers three calls, that nothing is marked, and that it did not
+/// fail.
+fn expect_spent(rt: &impl Abort, alloc: Global, accepted: &Accepted) {
+    let given = capture(rt, alloc, &[HEADING, TAGGED]);
+    let mut intake = SliceIntake {
+        most: 1,
+        calls: 3,
+        ..SliceIntake::new(given.as_slice())
+    };
+    let marked = leavings(alloc, accepted, "p", RedRule::Keep, &mut intake);
+    let fault = Some(MarkFault::Capture(PcapFault::ReadFault));
+    expect(rt, &marked, &[], Report::nothing(), fault);
+    assert_eq!(rt; intake.failures(), 0);
+    drop(marked);
+    drop(given);
+}
+
+/// Expects the same over the wide table.
+fn expect_spent_of_wide(rt: &impl Abort, alloc: Global) {
+    let accepted = wide(rt, alloc);
+    expect_spent(rt, alloc, &accepted);
+    drop(accepted);
+}
+
+#[test]
+fn a_capture_whose_device_is_spent_in_its_heading(rt: HostRuntime) {
+    expect_spent_of_wide(&rt, rt.alloc());
 }
 
 /// A capture of so many tagged frames.

@@ -1,4 +1,5 @@
-ghost use Rattle.std.specs.Prelude.{[]};
+ghost use Rattle.std.specs.Prelude.{[], ◌^◌, min};
+ghost use Rattle.std.proofs.Math.Nat.{min-le_right};
 
 use crate::captures::{GREEN, HEADING, TAGGED, capture};
 use crate::mark_rows::narrow;
@@ -26,7 +27,9 @@ impl Intake for Watching<'_> {
 
     ghost failed = { λ watching. watching.intake.failures };
 
-    ghost turns = { λ watching. watching.intake.turns };
+    ghost calls = { λ watching. min watching.intake.calls (2 ^ 32) };
+
+    ghost few = { λ watching. min-le_right watching.intake.calls (2 ^ 32) };
 
     fn take(&mut self, buffer: &mut [u8]) -> Result<usize, DeviceFault> {
         if !self.intake.bytes.is_empty() {

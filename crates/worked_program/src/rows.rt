@@ -275,6 +275,27 @@ fn a_read_that_fails(rt: HostRuntime) -> Result<(), Fail> {
 }
 
 #[test]
+fn an_input_that_is_spent(rt: HostRuntime) -> Result<(), Fail> {
+    let intake = SliceIntake {
+        most: 9,
+        calls: 2,
+        ..SliceIntake::new(b"0 1500 g\n0 1500 g\n0 1500 g\n")
+    };
+    let done = run(
+        &rt,
+        rt.alloc(),
+        BLIND,
+        NO_FILES,
+        intake,
+        VecOutlet::new(Vec::new(rt.alloc())),
+    )?;
+    assert_eq!(rt; done.output.as_slice(), b"green\nyellow\n".as_slice());
+    assert_eq!(rt; done.told.as_slice(), b"dsedge: read\n".as_slice());
+    assert_eq!(rt; done.status, 4);
+    Ok(())
+}
+
+#[test]
 fn a_write_that_fails(rt: HostRuntime) -> Result<(), Fail> {
     for (words, input, front) in [
         (BLIND, "0 1500 g\n", "gr"),

@@ -73,6 +73,18 @@ fn all_bytes_of_an_intake_that_gives_few_at_a_time(rt: HostRuntime) -> Result<()
 }
 
 #[test]
+fn an_intake_that_is_spent_is_no_file(rt: HostRuntime) {
+    let mut intake = SliceIntake {
+        most: 2,
+        calls: 3,
+        ..SliceIntake::new(b"first")
+    };
+    let fault = read_whole(rt.alloc(), &mut intake).err();
+    assert_eq!(rt; fault, Some(FileFault::Unreadable(Reason::Failed)));
+    assert_eq!(rt; intake.failures, 0);
+}
+
+#[test]
 fn a_file_of_the_system(rt: HostRuntime) -> Result<(), Fail> {
     let folder = SystemFolder::new(&rt);
     let text = folder.read(rt.alloc(), "/proc/version")?;
