@@ -46,7 +46,8 @@ use std::alloc::{AllocError, Global};
 /// marking that is a front too); `Capture` with the first fault that stands in the capture, or a read fault, where
 /// every record before it is written, or with a write fault, where a front is written. Where a device fails to give
 /// bytes, and what it gave before cannot be written whole, that is what is answered: a read fault says that all of it
-/// stands there. The device's own count tells that it failed. A device that is spent cannot be read either. It never answers `JournalFull`: no journal is kept.
+/// stands there. The device's own count tells that it failed. A device that is spent cannot be read either. It never
+/// answers `JournalFull`: no journal is kept.
 pub fn mark<I: Intake, O: Outlet, G: Gate>(
     alloc: Global,
     accepted: &Accepted,

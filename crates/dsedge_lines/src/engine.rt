@@ -69,7 +69,8 @@ fn settle<O: Outlet>(
     }
 }
 
-/// Answers the whole input of a command: takes it a piece at a time, and hands over what is answered so far before each.
+/// Answers the whole input of a command: takes it a piece at a time, and hands over what is answered so far before
+/// each.
 ///
 /// The input is not read beyond the piece with the line that ends the answer. A fault leaves a front
 /// of the answer written, and where writing fails beside another fault, `Write` is the answer. `Read` is the answer too

@@ -1,5 +1,5 @@
-ghost use Rattle.std.specs.Prelude.{◌≡◌, ℕ, ◌<◌, ◌≤◌, ◌^◌, ◌↔◌, List, [], ◌++◌, length, take, Err, IfOk, MatchResult, OnOk};
-ghost use Rattle.std.specs.Prelude.{is_ok, if◌then◌else◌};
+ghost use Rattle.std.specs.Prelude.{◌≡◌, ℕ, ◌<◌, ◌≤◌, ◌^◌, ◌↔◌, List, [], ◌++◌, length, take, Err, IfOk};
+ghost use Rattle.std.specs.Prelude.{MatchResult, OnOk, is_ok, if◌then◌else◌};
 ghost use Rattle.pcap_capture.specs.Codes.{device_code_of};
 ghost use Rattle.pcap_capture.specs.Counts.{is_failed, next_count};
 
