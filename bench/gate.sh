@@ -55,7 +55,8 @@ end=$(date +%s)
 tail -n 3 "$room/log"
 echo "$(nproc) cores, $(((end - begin + 30) / 60)) minutes of wall time, rt ci ended with status $status"
 # the system's count of the time of all that this script has waited for
-times | awk -F '[ms ]+' 'NR == 2 { printf "%.0f processor minutes in all\n", $1 + $3 + ($2 + $4) / 60 }'
+times > "$room/times"
+awk -F '[ms ]+' 'NR == 2 { printf "%.0f processor minutes in all\n", $1 + $3 + ($2 + $4) / 60 }' "$room/times"
 awk -F '\t' -v ticks="$(getconf CLK_TCK)" '
     { split($1, process, "-"); parent[$1] = $2; isprover[process[1]] = 1; kind[$1] = $3; crate[$1] = $4; taken[$1] = $5 }
     END {
