@@ -1,6 +1,6 @@
 #!/bin/sh
-# Runs the whole gate from nothing, `rt ci` in a fresh clone of what is committed, and prints what it took: wall
-# and processor minutes, these also by kind and by crate.
+# Runs the whole gate from nothing, `rt ci` in a fresh clone of what is committed (`rt ci --anew` where the kit keeps what
+# earlier runs proved), and prints what it took: wall and processor minutes, these also by kind and by crate.
 #
 #     bench/gate.sh [FOLDER]        the clone stands in a new folder below FOLDER, /tmp where none is given
 #
@@ -39,8 +39,10 @@ sample() {
     '
 }
 
+anew=$(rt help 2>&1 | grep -q -e '--anew proves' && echo --anew || true)
 begin=$(date +%s)
-(cd "$room/clone" && rt ci) > "$room/log" 2>&1 &
+# shellcheck disable=SC2086 # no word where the kit has none
+(cd "$room/clone" && rt ci $anew) > "$room/log" 2>&1 &
 gate=$!
 while kill -0 "$gate" 2> /dev/null; do
     for process in $(pgrep -x rattle); do
