@@ -12,7 +12,7 @@ use af_marker::Dscp;
 use ds_checker::Accepted;
 use indexmap::IndexMap;
 use meter_book::MeterBook;
-use meter_fabric_base::Traveller;
+use meter_fabric_base::{Traveller, Ways};
 use moment_core::{Moment, PacketSize};
 use run_audit::{Ground, Run};
 use std::alloc::{AllocError, Global};
@@ -22,6 +22,7 @@ use std::marker::Model;
 #[derive(Debug, Drop)]
 pub struct Conductor<'a> {
     accepted: &'a Accepted,
+    ways: Ways<'a>,
     travellers: IndexMap<u64, Traveller>,
     books: Vec<Option<MeterBook>>,
 }
@@ -37,14 +38,16 @@ impl<'a> Model for Conductor<'a> {
 }
 
 impl<'a> Conductor<'a> {
-    /// Before the first step: an empty book for each meter, and for the edge of each policed contract. `AllocError`
-    /// where memory runs out.
+    /// Before the first step: an empty book for each meter, and for the edge of each policed contract; the ways of the
+    /// contracts' packets are found once. `AllocError` where memory runs out.
     pub fn new(alloc: Global, accepted: &'a Accepted) -> Result<Self, AllocError>
         ensures { IfOk result (λ conductor. conductor ≡ record { table = accepted.now; stage = opened accepted.now }) }
     {
+        let ways = Ways::of(alloc, accepted)?;
         let books = opened_books(alloc, accepted)?;
         Ok(Conductor {
             accepted,
+            ways,
             travellers: IndexMap::new(alloc),
             books,
         })
@@ -94,7 +97,7 @@ impl<'a> Conductor<'a> {
             return Err(StepFault::BadStep);
         }
         let alloc = *self.travellers.allocator();
-        let traveller = Traveller::begin(alloc, self.accepted, flow, packet, size, dscp, moment)?;
+        let traveller = Traveller::begin(alloc, &self.ways, flow, packet, size, dscp, moment)?;
         self.travellers.insert(packet, traveller)?;
         Ok(())
     }
@@ -122,6 +125,7 @@ impl<'a> Conductor<'a> {
     {
         let Conductor {
             accepted,
+            ways: _,
             travellers,
             books,
         } = self;

@@ -9,10 +9,9 @@ use Rattle.std.proofs.lemmas.Bool.Decides.{nat_tests}
 use Rattle.std.proofs.lemmas.List.Kept.{AllPairs-from_increasing}
 use Rattle.std.proofs.lemmas.List.Sorted.{searched}
 use Rattle.ds_domain_base.specs.declared.contract.Contract.{Contract}
-use Rattle.ds_checker.specs.Acceptance.{IsAcceptable, Table}
+use Rattle.ds_checker.specs.Acceptance.{Table}
 use Rattle.meter_fabric_base.specs.Grounds.{contract_of, most_flows}
 use Rattle.meter_fabric_base.specs.Numbered.{IsPlaceOf, numbered_ground}
-use Rattle.meter_fabric_base.proofs.PathLaws.{certified_short}
 
 -- no contract of a flow that packets can be of is left out
 find_kept : (pairs : List (ℕ × Contract)) (flow : ℕ)
@@ -85,13 +84,6 @@ numbered_inside t flows flow c is = by_test (nat_lt flow most_flows) refl
       where
         none_some : None ≡ Some c → ⊥
         none_some e = cc
-
--- what is known of a contract that is accepted, by its own flow
-pub known_numbered : (t : Table) (flows : List ℕ) (flow : ℕ) (c : Contract) → IsAcceptable t
-    → contract_of (numbered_ground t flows) flow ≡ Some c → (flow < most_flows) × (length c.path ≤ 16)
-known_numbered t flows flow c good is =
-    let inside = numbered_inside t flows flow c is in
-    (inside.0, certified_short t.domain t.contracts t.certificate inside.1.0 c good.0 inside.1.1)
 
 -- ---- flows that rise
 

@@ -1,19 +1,15 @@
 ghost use Rattle.std.specs.Prelude.{◌≡◌, ◌<◌, ◌≤◌, ◌↔◌, [], None, Some, Ok, IfOk, IfErr, OnOk, OnErr, IsErrOf};
 ghost use Rattle.std.specs.Prelude.{length, vec_capacity};
-ghost use Rattle.meter_fabric_base.specs.Grounds.{contract_of, ground_of};
-ghost use Rattle.meter_fabric_base.specs.Numbered.{numbered_ground};
+ghost use Rattle.meter_fabric_base.specs.Grounds.{contract_of};
 ghost use Rattle.meter_fabric_base.specs.Trails.{IsReceipt, IsTrail, arrival_at, packet_of};
 ghost use Rattle.meter_fabric_base.specs.Travels.{begun_of, comes_as, last_moment, next_hop, next_site, received};
 ghost use Rattle.meter_fabric_base.specs.Travels.{refusal_of, visit};
 
 use crate::fault::{BeginFault, VisitFault};
 use crate::hop::Hop;
-use crate::numbered::Numbered;
-use crate::site::contract_of;
 use crate::trail::{Receipt, Trail};
 use crate::way::{Way, Ways};
 use af_marker::Dscp;
-use ds_checker::Accepted;
 use meter_book::{Arrival, MeterBook, Row};
 use moment_core::{Colour, Moment, PacketSize};
 use std::alloc::Global;
@@ -43,42 +39,12 @@ impl Model for Traveller {
 }
 
 impl Traveller {
-    /// A packet of a contract at its beginning, with room for a receipt of each hop of its way.
+    /// A packet of the contract of a flow at its beginning, over ways that were made before, with room for a receipt of
+    /// each hop of its way.
     ///
-    /// Refused: `UnknownFlow` exactly where there is no contract of that number (none has one from `MOST_FLOWS` on),
-    /// else `NoMemory` where memory runs out.
+    /// Refused: `UnknownFlow` exactly where there is no contract of that flow (none has one from `MOST_FLOWS` on), else
+    /// `NoMemory` where memory runs out.
     pub fn begin(
-        alloc: Global,
-        accepted: &Accepted,
-        flow: u32,
-        packet: u64,
-        size: PacketSize,
-        dscp: Dscp,
-        moment: Moment,
-    ) -> Result<Traveller, BeginFault>
-        ensures begun { IfOk result (λ traveller. begun_of (ground_of accepted.now)
-            (record { flow = flow; number = packet; size = size; dscp = dscp; begun = moment }) ≡ Some traveller) }
-        ensures unknown { IsErrOf result BeginFault.UnknownFlow ↔ (contract_of (ground_of accepted.now) flow ≡ None) }
-    {
-        let Some(contract) = contract_of(accepted, flow) else {
-            return Err(BeginFault::UnknownFlow);
-        };
-        let way = Way::of(accepted.domain(), flow, contract);
-        let trail = Trail {
-            receipts: Vec::with_capacity(alloc, way.len())?,
-            packet,
-            begun: moment,
-            flow,
-            size,
-            dscp,
-        };
-        Ok(Traveller::on_way(way, contract.came(dscp), trail))
-    }
-
-    /// The same, of a contract whose way was made before: no name is looked up.
-    ///
-    /// Refused as `begin` is.
-    pub fn begin_on(
         alloc: Global,
         ways: &Ways<'_>,
         flow: u32,
@@ -94,39 +60,6 @@ impl Traveller {
         let Some((contract, way)) = ways.find(flow) else {
             return Err(BeginFault::UnknownFlow);
         };
-        let trail = Trail {
-            receipts: Vec::with_capacity(alloc, way.len())?,
-            packet,
-            begun: moment,
-            flow,
-            size,
-            dscp,
-        };
-        Ok(Traveller::on_way(way, contract.came(dscp), trail))
-    }
-
-    /// The same, of a contract by its own flow, in a table in which its place may be another.
-    ///
-    /// Refused as `begin` is.
-    pub fn begin_numbered(
-        alloc: Global,
-        numbered: &Numbered<'_>,
-        flow: u32,
-        packet: u64,
-        size: PacketSize,
-        dscp: Dscp,
-        moment: Moment,
-    ) -> Result<Traveller, BeginFault>
-        ensures begun { IfOk result (λ traveller.
-            begun_of (numbered_ground numbered.now.accepted.now numbered.now.flows.now)
-            (record { flow = flow; number = packet; size = size; dscp = dscp; begun = moment }) ≡ Some traveller) }
-        ensures unknown { IsErrOf result BeginFault.UnknownFlow
-            ↔ (contract_of (numbered_ground numbered.now.accepted.now numbered.now.flows.now) flow ≡ None) }
-    {
-        let Some(contract) = numbered.contract_of(flow) else {
-            return Err(BeginFault::UnknownFlow);
-        };
-        let way = Way::of(numbered.accepted.domain(), flow, contract);
         let trail = Trail {
             receipts: Vec::with_capacity(alloc, way.len())?,
             packet,

@@ -6,19 +6,19 @@ use ds_broker::{BrokerRefusal, Limits};
 use ds_desk::{Broker, Feed, Front, Granted, LookFault, Naming, Opened};
 use ds_domain_base::{Contract, Domain};
 use ds_timeline::Timeline;
-use meter_fabric_base::{Numbered, Traveller};
+use meter_fabric_base::{Numbered, Traveller, Ways};
 use moment_core::{Moment, PacketSize};
 use std::alloc::Global;
 use std::marker::Brand;
 use std::process::Abort;
 use std::sync::Wait;
 
-/// Whether a packet of a flow can begin over a table.
-fn begins(rt: &impl Abort, alloc: Global, numbered: &Numbered<'_>, flow: u32) -> bool {
+/// Whether a packet of a flow can begin over the ways of a table.
+fn begins(rt: &impl Abort, alloc: Global, ways: &Ways<'_>, flow: u32) -> bool {
     let size = PacketSize::new(100).expect(rt, "a size");
     let dscp = Dscp::new(10).expect(rt, "a code point");
     let at = Moment::new(2_000_000_000).expect(rt, "a moment");
-    let begun = Traveller::begin_numbered(alloc, numbered, flow, 1, size, dscp, at);
+    let begun = Traveller::begin(alloc, ways, flow, 1, size, dscp, at);
     let begins = begun.is_ok();
     drop(begun);
     begins
@@ -26,9 +26,10 @@ fn begins(rt: &impl Abort, alloc: Global, numbered: &Numbered<'_>, flow: u32) ->
 
 /// Of which of the first two flows packets can begin over a table.
 fn begun_over(rt: &impl Abort, alloc: Global, numbered: &Numbered<'_>) -> (bool, bool) {
+    let ways = Ways::of_numbered(alloc, numbered).expect(rt, "memory");
     (
-        begins(rt, alloc, numbered, 0),
-        begins(rt, alloc, numbered, 1),
+        begins(rt, alloc, &ways, 0),
+        begins(rt, alloc, &ways, 1),
     )
 }
 

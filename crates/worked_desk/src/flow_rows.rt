@@ -39,23 +39,14 @@ fn first_site(rt: &impl Abort, begun: Result<Traveller, BeginFault>) -> Option<u
     }
 }
 
-/// Where a packet of a flow comes to first, by its flow.
-fn site_by_flow(rt: &impl Abort, alloc: Global, numbered: &Numbered<'_>, flow: u32) -> Option<u32> {
-    let size = PacketSize::new(100).expect(rt, "a size");
-    let dscp = Dscp::new(10).expect(rt, "a code point");
-    let at = Moment::new(2_000_000_000).expect(rt, "a moment");
-    let begun = Traveller::begin_numbered(alloc, numbered, flow, 1, size, dscp, at);
-    first_site(rt, begun)
-}
-
-/// The same, over ways that were made before.
-fn site_on_ways(rt: &impl Abort, alloc: Global, ways: &Ways<'_>, flow: u32) -> Option<u32> {
+/// Where a packet of a flow comes to first.
+fn site_of_flow(rt: &impl Abort, alloc: Global, ways: &Ways<'_>, flow: u32) -> Option<u32> {
     let size = PacketSize::new(100).expect(rt, "a size");
     let dscp = Dscp::new(10).expect(rt, "a code point");
     let at = Moment::new(2_000_000_000).expect(rt, "a moment");
     first_site(
         rt,
-        Traveller::begin_on(alloc, ways, flow, 1, size, dscp, at),
+        Traveller::begin(alloc, ways, flow, 1, size, dscp, at),
     )
 }
 
@@ -75,8 +66,7 @@ fn expect_flows(rt: &impl Abort, alloc: Global, numbered: &Numbered<'_>) {
     for (flow, wanted) in FLOWS {
         let site = wanted.map(|(_, site)| site);
         assert!(rt; is_named(numbered, flow, wanted.map(|(name, _)| name)));
-        assert_eq!(rt; site_by_flow(rt, alloc, numbered, flow), site);
-        assert_eq!(rt; site_on_ways(rt, alloc, &ways, flow), site);
+        assert_eq!(rt; site_of_flow(rt, alloc, &ways, flow), site);
     }
     drop(ways);
 }

@@ -2,7 +2,7 @@ use crate::tables::{accepted, two_rates};
 use af_marker::Dscp;
 use ds_checker::Accepted;
 use meter_book::{Journal, MeterBook};
-use meter_fabric_base::{Trail, Traveller};
+use meter_fabric_base::{Trail, Traveller, Ways};
 use moment_core::{Gap, Mode, Moment, PacketSize};
 use run_audit::{AssembleFault, Ground, Run};
 use std::alloc::Global;
@@ -33,7 +33,8 @@ fn begun(alloc: Global, accepted: &Accepted, number: u64) -> Result<Traveller, F
     let size = PacketSize::new(1000)?;
     let dscp = Dscp::new(10)?;
     let moment = Moment::new(10)?;
-    Ok(Traveller::begin(alloc, accepted, 0, number, size, dscp, moment)?)
+    let ways = Ways::of(alloc, accepted)?;
+    Ok(Traveller::begin(alloc, &ways, 0, number, size, dscp, moment)?)
 }
 
 /// Lets a packet visit a book at moment 10.

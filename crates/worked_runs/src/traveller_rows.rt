@@ -3,7 +3,7 @@ ghost use Rattle.std.specs.Prelude.{◌≤◌};
 use crate::tables::{accepted, two_rates};
 use af_marker::Dscp;
 use meter_book::MeterBook;
-use meter_fabric_base::{BeginFault, Receipt, Traveller};
+use meter_fabric_base::{BeginFault, Receipt, Traveller, Ways};
 use moment_core::{Colour, Gap, Mode, Moment, PacketSize};
 use std::alloc::Global;
 use std::process::Abort;
@@ -17,7 +17,8 @@ fn begin(alloc: Global, flow: u32, number: u64) -> Result<Result<Traveller, Begi
     let dscp = Dscp::new(10)?;
     let begun = Moment::new(10)?;
     let accepted = accepted(alloc, &[POLICED, U, TWO_RATES], LEAST_OF_POLICED)?;
-    Ok(Traveller::begin(alloc, &accepted, flow, number, size, dscp, begun))
+    let ways = Ways::of(alloc, &accepted)?;
+    Ok(Traveller::begin(alloc, &ways, flow, number, size, dscp, begun))
 }
 
 /// Such a packet of contract 0.

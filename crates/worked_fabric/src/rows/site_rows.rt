@@ -5,8 +5,8 @@ use ds_checker::Accepted;
 use dsedge_texts::{accept, certify};
 use meter_book::{Chapter, Journal};
 use meter_fabric::{
-    Fabric, FabricLedger, FabricWork, Fitted, Opening, Pass, Trail, Traveller, Visit, contract_of,
-    edge_opening, opening_at, with_fabric,
+    Fabric, FabricLedger, FabricWork, Fitted, Opening, Pass, Trail, Traveller, Visit, Ways,
+    contract_of, edge_opening, opening_at, with_fabric,
 };
 use moment_core::PacketSize;
 use run_audit::{Ground, Run, Verdict, audit};
@@ -133,7 +133,8 @@ fn packet(
     let size = PacketSize::new(100).expect(rt, "a size");
     let code = [10, 18, 26];
     let dscp = Dscp::new(code[flow as usize % 3]).expect(rt, "a code point");
-    Traveller::begin(alloc, accepted, flow, number, size, dscp, moment(rt, 10))
+    let ways = Ways::of(alloc, accepted).expect(rt, "memory");
+    Traveller::begin(alloc, &ways, flow, number, size, dscp, moment(rt, 10))
         .ok()
         .expect(rt, "a packet")
 }

@@ -6,7 +6,7 @@ use af_marker::Dscp;
 use ds_checker::Accepted;
 use dsedge_texts::accept;
 use meter_book::{Chapter, Journal};
-use meter_fabric::{Fabric, FabricLedger, Pass, Traveller, Visit, contract_of};
+use meter_fabric::{Fabric, FabricLedger, Pass, Traveller, Visit, Ways, contract_of};
 use moment_core::{Moment, PacketSize};
 use std::alloc::Global;
 use std::process::Abort;
@@ -69,7 +69,8 @@ pub fn sent(alloc: Global, accepted: &Accepted, number: u64) -> Option<Traveller
     let size = PacketSize::new(100).ok()?;
     let dscp = Dscp::new(10).ok()?;
     let moment = Moment::new(10).ok()?;
-    Traveller::begin(alloc, accepted, 0, number, size, dscp, moment).ok()
+    let ways = Ways::of(alloc, accepted).ok()?;
+    Traveller::begin(alloc, &ways, 0, number, size, dscp, moment).ok()
 }
 
 /// The same, or a failed row.

@@ -34,7 +34,7 @@ fn begun(rt: &impl Abort, alloc: Global, ways: &Ways<'_>, flow: u32, packet: &Pa
     let dscp = Dscp::new(packet.dscp).expect(rt, "a code point");
     let begun = Moment::new(packet.begun).expect(rt, "a moment");
     let comes = Moment::new(packet.comes).expect(rt, "a moment");
-    let made = Traveller::begin_on(alloc, ways, flow, packet.number, size, dscp, begun);
+    let made = Traveller::begin(alloc, ways, flow, packet.number, size, dscp, begun);
     let traveller = made.expect(rt, "a packet");
     OnWay { traveller, comes }
 }

@@ -6,6 +6,7 @@ use Rattle.ds_conductor_base.proofs.conductor.Conductor.new.Goals as goal
 
 pub invariant_of-result : goal.invariant_of-result
 invariant_of-result c = record {
+  ways = c.in_ok-ways.ensures;
   under_way = rw (c.new.ensures.empty, c.in_ok-books.ensures.books) (opened_under_way (2 ^ 20) c.args.accepted.now);
   numbers = ap keys_of c.new.ensures.empty ∙ ap (λ es. numbers_of (values_of es)) (sym c.new.ensures.empty);
   numbered = c.in_ok-books.ensures.numbered;

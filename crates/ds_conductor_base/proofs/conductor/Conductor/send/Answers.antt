@@ -15,7 +15,7 @@ pub returns-in_err-traveller-clause-refused : goal.returns-in_err-traveller-clau
 returns-in_err-traveller-clause-refused c =
     let fresh = sent_before c.self.inside.travellers c.args.packet c.self.invariant.numbers ∙ sym c.contains_key.ensures ∙ c.if-contains_key.false in
     let refused = send_refused c.self.inside.accepted.now (stage_of c.self.inside) c.args.flow c.args.packet c.args.size c.args.dscp c.args.moment c.in_err-traveller.field-0.0 fresh
-    (λ unknown. c.in_err-traveller.ensures.unknown.0 (ap (λ e. Err e) unknown)) in
+    (λ unknown. (rw c.self.invariant.ways at c.in_err-traveller.ensures.unknown).0 (ap (λ e. Err e) unknown)) in
     rw (← c.self.view_is) (search (rules, refused, c.from_residual.ensures))
 
 pub invariant_of-self-2 : goal.invariant_of-self-2
@@ -24,14 +24,16 @@ invariant_of-self-2 c =
     let new = c.insert.new.self in
     let p = c.in_ok-traveller.traveller in
     let absent = sym c.contains_key.ensures ∙ c.if-contains_key.false in
+    let begun = rw c.self.invariant.ways at c.in_ok-traveller.ensures.begun in
     let pushed = values_sent old c.args.packet c.self.invariant.numbers new p absent c.in_ok-insert.ensures.entries in
     let done = send_begun c.self.inside.accepted.now (stage_of c.self.inside) c.args.flow c.args.packet c.args.size c.args.dscp c.args.moment p (values new)
-    (sent_before old c.args.packet c.self.invariant.numbers ∙ absent) c.in_ok-traveller.ensures.begun pushed in
+    (sent_before old c.args.packet c.self.invariant.numbers ∙ absent) begun pushed in
     record {
+      ways = c.self.invariant.ways;
       under_way = stepped_under_way c.self.inside.accepted.now (stage_of c.self.inside) (record { travellers = values new; books = c.self.inside.books.items })
           (Send c.args.flow c.args.packet c.args.size c.args.dscp c.args.moment) c.self.invariant.under_way done;
       numbers = keys_sent old c.args.packet c.self.invariant.numbers new p absent c.in_ok-insert.ensures.entries
-          (begun_number c.self.inside.accepted.now (stage_of c.self.inside) c.args.flow c.args.packet c.args.size c.args.dscp c.args.moment p c.in_ok-traveller.ensures.begun);
+          (begun_number c.self.inside.accepted.now (stage_of c.self.inside) c.args.flow c.args.packet c.args.size c.args.dscp c.args.moment p begun);
       numbered = c.self.invariant.numbered;
     }
 
@@ -41,4 +43,5 @@ returns-clause-done c =
     let absent = sym c.contains_key.ensures ∙ c.if-contains_key.false in
     let pushed = values_sent old c.args.packet c.self.invariant.numbers c.insert.new.self c.in_ok-traveller.traveller absent c.in_ok-insert.ensures.entries in
     rw (← c.self.view_is) (send_begun c.self.inside.accepted.now (stage_of c.self.inside) c.args.flow c.args.packet c.args.size c.args.dscp c.args.moment
-    c.in_ok-traveller.traveller _ (sent_before old c.args.packet c.self.invariant.numbers ∙ absent) c.in_ok-traveller.ensures.begun pushed)
+    c.in_ok-traveller.traveller _ (sent_before old c.args.packet c.self.invariant.numbers ∙ absent)
+    (rw c.self.invariant.ways at c.in_ok-traveller.ensures.begun) pushed)

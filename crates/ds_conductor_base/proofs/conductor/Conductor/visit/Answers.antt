@@ -15,6 +15,7 @@ invariant_of-self c =
     c.self.invariant.numbers found c.index_mut.ensures.value
     c.visit_next.new.traveller c.visit_next.new.books.items c.visit_next.result c.self.invariant.under_way c.visit_next.ensures.done c.visit_next.ensures.unchanged in
     record {
+      ways = c.self.invariant.ways;
       under_way = kept.0;
       numbers = kept.1;
       numbered = c.self.invariant.numbered;
