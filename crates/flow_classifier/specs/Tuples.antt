@@ -1,6 +1,6 @@
 -- Rules by the bits of addresses for which they ask: a source's and a target's.
-use Rattle.std.specs.Prelude.{◌≡◌, ℕ, ◌+◌, ◌*◌, ◌^◌, ◌<◌, if◌then◌else◌, Bool, true, false, nat_eq, ◌&&◌, List, [], ◌∷◌, length}
-use Rattle.std.specs.Prelude.{All, bit_and, slice_get, Some}
+use Rattle.std.specs.Prelude.{◌≡◌, ℕ, ◌+◌, ◌*◌, ◌^◌, ◌<◌, if◌then◌else◌, Bool, true, false, nat_eq, ◌&&◌, List, []}
+use Rattle.std.specs.Prelude.{◌∷◌, All, bit_and, length, slice_get, Some}
 use Rattle.std.specs.List.{list_any}
 use Rattle.std.specs.List.Sorted.{IsSorted}
 use Rattle.std.specs.Ordering.{nat_cmp, ordering_then}
@@ -56,11 +56,13 @@ IsHeldAt rules key place = (row : FlowRule) → slice_get rules place ≡ Some r
 abbrev pub IsNotHeldAt : List FlowRule → Key → ℕ → Type 0
 IsNotHeldAt rules key place = (row : FlowRule) → slice_get rules place ≡ Some row → holds row.rule key ≡ false
 
--- the rows of a tuple are in order, each is that of the rule at its place, and each rule that asks for the tuple's bits has one
+-- The rows of a tuple are in order, each is that of the rule at its place, and each rule that asks for the tuple's bits
+-- has one.
 pub record IsTupleOf (rules : List FlowRule) (t : Tuple) : Type 0 where
   pub sorted : IsSorted row_cmp t.rows.items
   pub within : All (λ r. r.place < length rules) t.rows.items
-  pub asked : All (λ r. (row : FlowRule) → slice_get rules r.place ≡ Some row → r.addresses ≡ addresses_of row.rule) t.rows.items
+  pub asked : All (λ r. (row : FlowRule) → slice_get rules r.place ≡ Some row → r.addresses ≡ addresses_of row.rule)
+      t.rows.items
   pub placed : (k : ℕ) (row : FlowRule) → slice_get rules k ≡ Some row → same_masks (masks_of row.rule) t.masks ≡ true
       → list_any (λ r. nat_eq r.place k) t.rows.items ≡ true
 

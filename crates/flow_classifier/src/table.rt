@@ -228,9 +228,9 @@ impl RuleTable {
         }
     }
 
-    /// Settles the rules that were added so far: where there are many, and they ask for few different lengths of prefixes,
-    /// the first that holds is found by a search by halves for each two lengths. The rules, and what is found, stay the
-    /// same. It takes time for all rules, so it is called once the last one was added. `AllocError` where memory runs out.
+    /// Settles the rules that were added so far: where they are many, and ask for prefixes of few different lengths, the
+    /// first that holds is found by a search by halves for each two lengths. The rules and what is found stay the same,
+    /// also where memory runs out (`AllocError`). It takes time for all rules, so it is called once the last was added.
     pub fn settle(&mut self) -> Result<(), AllocError>
         ensures { self.new ≡ self.old }
     {
@@ -258,11 +258,9 @@ impl RuleTable {
     pub fn first_flow(&self, key: &Key) -> Option<u32>
         ensures { result ≡ first_flow_of self.now key.now }
     {
-        let found = self.tuples.first_flow(key);
-        if found.is_some() {
-            found
-        } else {
-            first_in(&self.groups, key)
+        match self.tuples.first_flow(key) {
+            Some(flow) => Some(flow),
+            None => first_in(&self.groups, key),
         }
     }
 }

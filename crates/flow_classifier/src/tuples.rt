@@ -15,9 +15,9 @@ use crate::table::{FlowRule, mask_asked, network_asked};
 use std::alloc::{AllocError, Global};
 use std::marker::Model;
 
-/// How many rules there have to be for each tuple that is looked into: that many are tested in groups of sixteen in about the time
-/// of one search by halves.
-const RULES_TO_A_TUPLE: usize = 128;
+/// How many rules there are to be for each tuple that is looked into: to find one by halves takes about the time in
+/// which that many are tested in groups of sixteen.
+const RULES_TO_A_TUPLE: usize = 256;
 
 /// The bits of addresses for which a rule asks: of a source, and of a target.
 #[derive(Clone, Copy, PartialEq, Eq)]
@@ -125,8 +125,8 @@ fn rows_of(alloc: Global, masks: Masks, rules: &[FlowRule]) -> Result<Vec<Row>, 
     Ok(rows)
 }
 
-/// The place of the first of some neighbouring rows that asks for addresses, stands before a place, and whose rule holds of
-/// a packet; that place where none does. None of them asks for smaller addresses.
+/// The place of the first of some neighbouring rows that asks for addresses, stands before a place, and whose rule holds
+/// of a packet; that place where none does. None of them asks for smaller addresses.
 fn first_of_run(run: &[Row], addresses: u64, rules: &[FlowRule], key: &Key, most: usize) -> usize
     requires { All (λ r. r.place < length rules.now) run.now }
     ensures at_most { result ≤ most }
