@@ -95,6 +95,19 @@ beside() {
     }'
 }
 
+# What a run took beyond what it takes for a capture without records, in ms.
+frames_of() {
+    awk -v none="$(least "$1" 2)" '{ print $1 - none }' "$folder/$1.whole"
+}
+
+# Tells the processor time that frames took in a run beside that in another.
+beyond() {
+    awk -v names="$1 beside $2" -v a="$(frames_of "$1")" -v b="$(frames_of "$2")" -v count="$count" 'BEGIN {
+        printf "%s, without what stands before the frames: %.0f ns a record beside %.0f, processor %.2f\n",
+            names, a * 1e6 / count, b * 1e6 / count, b ? a / b : 0
+    }'
+}
+
 rustc -O --edition 2021 -o "$folder/generate" "$bench/generate_capture/main.rs"
 rustc -O --edition 2021 -o "$folder/plain" "$bench/plain_marks/main.rs"
 for domain in mixed single many; do
@@ -134,10 +147,14 @@ for taker in first last stray; do
     echo "many, frames of the contract: $taker"
     for run in "${runs[@]}"; do
         tells "$run"
+        least "$run" 2 > "$folder/$run.whole"
     done
-    beside "${runs[1]}" "${runs[0]}"
-    beside "${runs[3]}" "${runs[2]}"
-    beside "${runs[1]}" "${runs[3]}"
+    # of a capture without records, so that the time that the domain and its certificate take is left out
+    "$folder/generate" capture "$taker" 0 > "$folder/in.pcap"
+    in_turns "${runs[@]}"
+    beyond "${runs[1]}" "${runs[0]}"
+    beyond "${runs[3]}" "${runs[2]}"
+    beyond "${runs[1]}" "${runs[3]}"
 done
 
 "$folder/generate" capture mixed "$count" > "$folder/in.pcap"
