@@ -1,10 +1,14 @@
-//! Writes a domain of 100 contracts over 10 meters, or a capture of so many frames for its port, the same ones each time:
-//! `generate_capture domain`, `generate_capture capture COUNT`.
+//! Writes a domain, or a capture of so many frames for its port, the same ones each time: `generate_capture domain KIND`,
+//! `generate_capture capture KIND COUNT`.
 //!
-//! Of ten contracts two are policed, and each passes two meters. To each meter 20 contracts bring at most 160 Mbit/s of green
-//! packets in bursts of 120,328 bytes, and 224 Mbit/s of green and yellow ones in bursts of 222,465 bytes; it has that and a
-//! little more, so that the least certificate is accepted. The frames bring more than was sold: packets lose their colours at the
-//! edges and at the meters.
+//! A `mixed` domain has 100 contracts over 10 meters. Of ten contracts two are policed, and each passes two meters. To each meter
+//! 20 contracts bring at most 160 Mbit/s of green packets in bursts of 120,328 bytes, and 224 Mbit/s of green and yellow ones in
+//! bursts of 222,465 bytes; it has that and a little more, so that the least certificate is accepted. The frames bring more than
+//! was sold: packets lose their colours at the edges and at the meters.
+//!
+//! A `single` domain has one contract, whose sources are 10.0.0.0/24, over one meter; a `many` domain has 4,096 contracts over one
+//! such meter, each with one source, 10.x.y.1. The frames of a `single` capture have sources of the one contract, but for one in
+//! 64; those of a `first`, a `last` or a `stray` one have the source of the first of many contracts, of the last, or of none.
 
 use std::env;
 use std::io::{self, BufWriter, Write};
@@ -12,6 +16,9 @@ use std::process::ExitCode;
 
 const CONTRACTS: u16 = 100;
 const METERS: u16 = 10;
+
+/// How many contracts there are, each with a source of its own.
+const MANY: u16 = 4_096;
 
 /// The captured bytes of each frame.
 const CAPTURED: usize = 100;
@@ -129,6 +136,97 @@ fn write_domain(out: &mut impl Write) -> io::Result<()> {
     Ok(())
 }
 
+/// A meter, a port and a link to it: 820 Mbit/s of green packets.
+const ONE_METER: &str = "[[meter]]
+name = \"meter-0\"
+kind = \"trtcm\"
+cir = 820000000
+cbs = 10000000
+pir = 1230000000
+pbs = 15000000
+skew = 1000
+
+[[port]]
+name = \"port\"
+skew = 1000
+
+[[link]]
+from = \"port\"
+to = \"meter-0\"
+floor = 100000
+jitter = 10000
+";
+
+/// A trusted contract over the one meter, with sources and what it may send.
+fn write_trusted(out: &mut impl Write, contract: u16, source: &str, terms: &str) -> io::Result<()> {
+    let way = format!("port = \"port\"\npath = [\"meter-0\"]\nclass = {}", class(contract));
+    writeln!(out, "\n[[contract]]\nname = \"contract-{contract}\"\n{way}\nkind = \"trusted\"\n{terms}\nsrc = \"{source}\"")
+}
+
+fn write_single_domain(out: &mut impl Write) -> io::Result<()> {
+    write!(out, "{ONE_METER}")?;
+    write_trusted(out, 0, "10.0.0.0/24", "cir = 800000000\ncbs = 9000000\npir = 1200000000\npbs = 14000000")
+}
+
+/// The source of one of many contracts.
+fn source(contract: u16) -> [u8; 4] {
+    let [high, low] = contract.to_be_bytes();
+    [10, high, low, 1]
+}
+
+fn write_many_domain(out: &mut impl Write) -> io::Result<()> {
+    write!(out, "{ONE_METER}")?;
+    for contract in 0..MANY {
+        let [a, b, c, d] = source(contract);
+        write_trusted(out, contract, &format!("{a}.{b}.{c}.{d}/32"), "cir = 200000\ncbs = 2000\npir = 300000\npbs = 3000")?;
+    }
+    Ok(())
+}
+
+/// Whose frames a capture has.
+#[derive(Clone, Copy, PartialEq, Eq)]
+enum Traffic {
+    /// Those of a hundred contracts.
+    Mixed,
+    /// Those of one contract.
+    Single,
+    /// Those from the source of the contract of this number, of many.
+    From(u16),
+}
+
+impl Traffic {
+    fn of(kind: &str) -> Option<Self> {
+        match kind {
+            "mixed" => Some(Traffic::Mixed),
+            "single" => Some(Traffic::Single),
+            "first" => Some(Traffic::From(0)),
+            "last" => Some(Traffic::From(MANY - 1)),
+            "stray" => Some(Traffic::From(MANY)),
+            _ => None,
+        }
+    }
+
+    /// The contract of the next frame.
+    fn contract(self, numbers: &mut Numbers) -> u16 {
+        match self {
+            Traffic::Mixed => numbers.below(CONTRACTS),
+            Traffic::Single => 0,
+            Traffic::From(contract) => contract,
+        }
+    }
+
+    /// The source and the target of a packet.
+    fn addresses(self, numbers: &mut Numbers, contract: u16) -> [[u8; 4]; 2] {
+        match self {
+            Traffic::Mixed | Traffic::Single => addresses(numbers, contract),
+            Traffic::From(contract) => {
+                let [c, d] = numbers.next().to_be_bytes();
+                [source(contract), [10, 200, c, d]]
+            }
+        }
+    }
+}
+
 /// A code point: mostly one of the contract's class, green ones above all, and now and then another.
 fn code_point(numbers: &mut Numbers, contract: u16) -> u8 {
     let class = class(contract) as u8;
@@ -169,11 +267,11 @@ fn checksum(header: &[u8]) -> u16 {
 }
 
 /// Writes an IPv4 header and ports into the front of a packet; the total length is answered.
-fn fill_packet(numbers: &mut Numbers, contract: u16, packet: &mut [u8]) -> u16 {
+fn fill_packet(numbers: &mut Numbers, traffic: Traffic, contract: u16, packet: &mut [u8]) -> u16 {
     let length: usize = if numbers.one_in(32) { 24 } else { 20 };
     let total = 86 + numbers.below(1_415);
     let (protocol, ports) = transport(numbers, contract);
-    let [source, target] = addresses(numbers, contract);
+    let [source, target] = traffic.addresses(numbers, contract);
     packet[0] = 0x40 + length as u8 / 4;
     packet[1] = 4 * code_point(numbers, contract) + if numbers.one_in(8) { 2 } else { 0 };
     packet[2..4].copy_from_slice(&total.to_be_bytes());
@@ -214,8 +312,8 @@ fn fill_types(numbers: &mut Numbers, kind: u16, frame: &mut [u8]) -> usize {
 
 /// Writes a frame; its length on the wire is answered. One in 64 is none of IPv4, and one in 512 has a header length that is too
 /// short.
-fn fill_frame(numbers: &mut Numbers, frame: &mut [u8; CAPTURED]) -> u32 {
-    let contract = numbers.below(CONTRACTS);
+fn fill_frame(numbers: &mut Numbers, traffic: Traffic, frame: &mut [u8; CAPTURED]) -> u32 {
+    let contract = traffic.contract(numbers);
     let pick = numbers.below(512);
     let kind = match pick {
         0..=3 => 0x0806,
@@ -231,7 +329,7 @@ fn fill_frame(numbers: &mut Numbers, frame: &mut [u8; CAPTURED]) -> u32 {
     if kind != 0x0800 {
         return CAPTURED as u32;
     }
-    let total = fill_packet(numbers, contract, &mut frame[start..]);
+    let total = fill_packet(numbers, traffic, contract, &mut frame[start..]);
     if pick == 8 {
         frame[start] = 0x44;
     }
@@ -250,7 +348,7 @@ fn record_head(behind: u64, length: u32) -> [u8; 16] {
 }
 
 /// Frames come 0 to 8 microseconds apart; one in 64 has a stamp up to 50 microseconds before the greatest.
-fn write_capture(out: &mut impl Write, count: u64) -> io::Result<()> {
+fn write_capture(out: &mut impl Write, traffic: Traffic, count: u64) -> io::Result<()> {
     let mut numbers = Numbers { state: 20_240_607 };
     let mut newest = 100;
     let mut frame = [0; CAPTURED];
@@ -258,7 +356,7 @@ fn write_capture(out: &mut impl Write, count: u64) -> io::Result<()> {
     for _ in 0..count {
         newest += u64::from(numbers.below(9));
         let back = if numbers.one_in(64) { u64::from(numbers.below(51)) } else { 0 };
-        let length = fill_frame(&mut numbers, &mut frame);
+        let length = fill_frame(&mut numbers, traffic, &mut frame);
         out.write_all(&record_head(newest - back, length))?;
         out.write_all(&frame)?;
     }
@@ -267,8 +365,10 @@ fn write_capture(out: &mut impl Write, count: u64) -> io::Result<()> {
 
 fn run(words: &[&str], out: &mut impl Write) -> Option<io::Result<()>> {
     match words {
-        ["domain"] => Some(write_domain(out)),
-        ["capture", count] => Some(write_capture(out, count.parse().ok()?)),
+        ["domain", "mixed"] => Some(write_domain(out)),
+        ["domain", "single"] => Some(write_single_domain(out)),
+        ["domain", "many"] => Some(write_many_domain(out)),
+        ["capture", kind, count] => Some(write_capture(out, Traffic::of(kind)?, count.parse().ok()?)),
         _ => None,
     }
 }
@@ -278,7 +378,7 @@ fn main() -> ExitCode {
     let words: Vec<&str> = words.iter().map(String::as_str).collect();
     let mut out = BufWriter::with_capacity(1 << 16, io::stdout().lock());
     let Some(written) = run(&words, &mut out) else {
-        eprintln!("generate_capture: domain, or capture COUNT");
+        eprintln!("generate_capture: domain KIND, or capture KIND COUNT");
         return ExitCode::from(2);
     };
     match written.and_then(|()| out.flush()) {

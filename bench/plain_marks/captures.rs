@@ -7,6 +7,7 @@ use std::ops::Range;
 const MOST_CAPTURED: usize = 262_144;
 
 /// What a capture's heading says of its records.
+#[derive(Clone, Copy)]
 pub struct Heading {
     is_big: bool,
     scale: u64,

@@ -2,7 +2,7 @@
 
 use crate::meters::{Colour, Kind, Meter};
 use crate::packets::Header;
-use std::collections::HashMap;
+use std::collections::{HashMap, HashSet};
 use std::ops::RangeInclusive;
 
 /// An entry of a text: its keys, each with what stands behind it.
@@ -75,8 +75,14 @@ impl Contract {
 pub struct Domain {
     pub sites: Vec<Meter>,
     pub contracts: Vec<Contract>,
-    // rules stand apart from their contracts, and sources apart from the rest, since each frame looks at most of them
+    pub rules: Rules,
+}
+
+/// The rules of the contracts of one port, in their order. Sources stand apart from the rest, since each frame looks at most of
+/// them; many rules that ask for few kinds of prefixes stand in tuples in their place.
+pub struct Rules {
     sources: Vec<Sources>,
+    tuples: Vec<Tuple>,
     rests: Vec<Rest>,
 }
 
@@ -110,9 +116,62 @@ impl Sources {
     }
 }
 
-impl Domain {
-    /// The first contract whose rule holds of a packet.
+/// How many rules there are for each tuple, at least, where rules stand in tuples.
+const RULES_TO_A_TUPLE: usize = 128;
+
+/// The rules that ask for the same bits of a source and of a target, sorted by what they ask for and then by their places.
+struct Tuple {
+    masks: (u32, u32),
+    rows: Vec<(u64, usize)>,
+}
+
+/// Two addresses under masks as one number.
+fn under(source: u32, target: u32, masks: (u32, u32)) -> u64 {
+    u64::from(source & masks.0) << 32 | u64::from(target & masks.1)
+}
+
+impl Tuple {
+    fn of(masks: (u32, u32), sources: &[Prefix], rests: &[Rest]) -> Self {
+        let asked = sources.iter().zip(rests).map(|(source, rest)| (*source, rest.target)).enumerate();
+        let own = asked.filter(|(_, (source, target))| (source.mask, target.mask) == masks);
+        let mut rows: Vec<_> = own.map(|(place, (source, target))| (under(source.bits, target.bits, masks), place)).collect();
+        rows.sort_unstable();
+        Tuple { masks, rows }
+    }
+
+    /// The first rule before a place that holds, or that place.
+    fn first_before(&self, header: &Header, rests: &[Rest], most: usize) -> usize {
+        let addresses = under(header.source, header.target, self.masks);
+        let start = self.rows.partition_point(|row| row.0 < addresses);
+        let run = self.rows[start..].iter().take_while(|row| row.0 == addresses && row.1 < most);
+        run.map(|row| row.1).find(|place| rests[*place].holds(header)).unwrap_or(most)
+    }
+}
+
+impl Rules {
+    fn new(sources: &[Prefix], rests: Vec<Rest>) -> Self {
+        let asked = sources.iter().zip(&rests).map(|(source, rest)| (source.mask, rest.target.mask));
+        let kinds: HashSet<_> = asked.collect();
+        let tuples = if kinds.len() * RULES_TO_A_TUPLE <= rests.len() {
+            kinds.into_iter().map(|masks| Tuple::of(masks, sources, &rests)).collect()
+        } else {
+            Vec::new()
+        };
+        Rules { sources: sources.chunks(TOGETHER).map(Sources::of).collect(), tuples, rests }
+    }
+
+    /// The first rule that holds of a packet.
     pub fn first_match(&self, header: &Header) -> Option<usize> {
+        if self.tuples.is_empty() { self.first_by_sources(header) } else { self.first_by_tuples(header) }
+    }
+
+    fn first_by_tuples(&self, header: &Header) -> Option<usize> {
+        let count = self.rests.len();
+        let first = self.tuples.iter().fold(count, |most, tuple| tuple.first_before(header, &self.rests, most));
+        (first < count).then_some(first)
+    }
+
+    fn first_by_sources(&self, header: &Header) -> Option<usize> {
         for (group, sources) in self.sources.iter().enumerate() {
             let mut holding = sources.holding(header.source);
             while holding != 0 {
@@ -231,21 +290,19 @@ pub fn domain(text: &str, port: &str) -> Option<Domain> {
     let sections = sections(text);
     let entries = |section| sections.get(section).map_or(&[][..], Vec::as_slice);
     let ways = Ways::new(entries("meter"), entries("link"))?;
-    let sites = entries("meter").iter().map(|entry| meter(entry, "origin")).collect::<Option<_>>()?;
-    let mut sources = Vec::new();
-    let mut domain = Domain { sites, contracts: Vec::new(), sources: Vec::new(), rests: Vec::new() };
+    let mut sites: Vec<Meter> = entries("meter").iter().map(|entry| meter(entry, "origin")).collect::<Option<_>>()?;
+    let (mut contracts, mut sources, mut rests) = (Vec::new(), Vec::new(), Vec::new());
     for entry in entries("contract").iter().filter(|entry| name(entry, "port") == Some(port)) {
         let mut stops = ways.stops(entry)?;
         let is_trusted = name(entry, "kind") == Some("trusted");
         if !is_trusted {
-            stops.insert(0, Stop { site: domain.sites.len(), delay: 0 });
-            domain.sites.push(meter(entry, "since")?);
+            stops.insert(0, Stop { site: sites.len(), delay: 0 });
+            sites.push(meter(entry, "since")?);
         }
         let has_peak = !is_trusted || entry.contains_key("pir");
-        domain.contracts.push(Contract { class: number(entry, "class")?, has_peak, stops });
+        contracts.push(Contract { class: number(entry, "class")?, has_peak, stops });
         sources.push(prefix(entry, "src")?);
-        domain.rests.push(rest(entry)?);
+        rests.push(rest(entry)?);
     }
-    domain.sources = sources.chunks(TOGETHER).map(Sources::of).collect();
-    Some(domain)
+    Some(Domain { sites, contracts, rules: Rules::new(&sources, rests) })
 }

@@ -1,11 +1,13 @@
 //! Plain Rust over std alone, for comparison: what `dsedge mark` does, with nothing proved. It writes the same marked capture and
-//! tells the same report: `plain DOMAIN PORT RED < in.pcap > out.pcap`, where red frames are `keep` or `drop`.
+//! tells the same report: `plain DOMAIN PORT RED [WORKERS] < in.pcap > out.pcap`, where red frames are `keep` or `drop`, by one
+//! thread or by so many.
 //!
 //! The domain has to be good, with a key on each line; no certificate is read. It reads pieces of 64 KiB, puts the visits of a
 //! piece in order together, marks frames where they stand, and writes them once no later record can change them.
 
 mod captures;
 mod domains;
+mod lanes;
 mod meters;
 mod packets;
 mod traffic;
@@ -41,7 +43,7 @@ impl Fault {
 
     fn text(&self) -> String {
         match self {
-            Fault::Usage => "plain: DOMAIN PORT keep|drop".to_string(),
+            Fault::Usage => "plain: DOMAIN PORT keep|drop [WORKERS]".to_string(),
             Fault::Domain => "plain: the domain".to_string(),
             Fault::Capture => "plain: the capture".to_string(),
             Fault::Device(fault) => format!("plain: {fault}"),
@@ -79,9 +81,12 @@ fn mark(mut traffic: Traffic, mut input: impl Read, mut out: impl Write) -> Resu
 }
 
 fn serve(words: &[String]) -> Result<(), Fault> {
-    let [domain, port, red] = words else {
-        return Err(Fault::Usage);
+    let (domain, port, red, workers) = match words {
+        [domain, port, red] => (domain, port, red, Some(1)),
+        [domain, port, red, workers] => (domain, port, red, workers.parse().ok()),
+        _ => return Err(Fault::Usage),
     };
+    let workers = workers.filter(|workers| (1..=64).contains(workers)).ok_or(Fault::Usage)?;
     let drops = drops(red).ok_or(Fault::Usage)?;
     let text = fs::read_to_string(domain)?;
     let domain = domains::domain(&text, port).ok_or(Fault::Domain)?;
@@ -91,7 +96,11 @@ fn serve(words: &[String]) -> Result<(), Fault> {
     input.read_exact(&mut head).map_err(|_| Fault::Capture)?;
     let heading = Heading::of(&head).ok_or(Fault::Capture)?;
     out.write_all(&head)?;
-    let (is_whole, report) = mark(Traffic::new(domain, heading, drops), input, out)?;
+    let (is_whole, report) = if workers == 1 {
+        mark(Traffic::new(domain, heading, drops), input, out)?
+    } else {
+        lanes::mark(domain, heading, drops, workers, input, out)?
+    };
     eprint!("{}", report.text());
     if is_whole { Ok(()) } else { Err(Fault::Capture) }
 }

@@ -1,9 +1,9 @@
 //! Packets under way: what was sent, the visits that wait, and the marks that are decided.
 
 use crate::captures::{Heading, Record, TooLong};
-use crate::domains::Domain;
-use crate::meters::Colour;
-use crate::packets;
+use crate::domains::{Contract, Domain};
+use crate::meters::{Colour, Meter};
+use crate::packets::{self, Header};
 use std::io::{self, Write};
 
 const MOST_MOMENT: u64 = (1 << 63) - 1;
@@ -11,16 +11,24 @@ const MOST_MOMENT: u64 = (1 << 63) - 1;
 /// What is told of a marked capture; packets and bytes by colour.
 #[derive(Default)]
 pub struct Report {
-    records: u64,
-    unmatched: u64,
-    skipped: u64,
-    unverified: u64,
-    dropped: u64,
+    pub records: u64,
+    pub unmatched: u64,
+    pub skipped: u64,
+    pub unverified: u64,
+    pub dropped: u64,
     packets: [u64; 3],
     bytes: [u64; 3],
 }
 
 impl Report {
+    /// Counts what was seen of other frames.
+    pub fn add(&mut self, other: &Report) {
+        self.records += other.records;
+        self.unmatched += other.unmatched;
+        self.skipped += other.skipped;
+        self.unverified += other.unverified;
+    }
+
     pub fn text(&self) -> String {
         let Report { records, unmatched, skipped, unverified, dropped, packets, bytes } = self;
         let marked: u64 = packets.iter().sum();
@@ -33,26 +41,65 @@ impl Report {
 }
 
 /// A packet of a frame that a contract takes.
-struct Packet {
+pub struct Packet {
     /// Where its record stands among the bytes that are held, and how far behind that its header.
-    record: usize,
+    pub record: usize,
     behind: u8,
     verified: bool,
     decided: bool,
-    colour: Colour,
+    pub colour: Colour,
     size: u16,
     flow: u16,
 }
 
-/// A visit in one number, in the order in which visits are made: by moment, then by the packet's number, then by the hop.
-type Visit = u128;
+impl Packet {
+    pub fn new(record: usize, behind: usize, header: &Header, contract: &Contract, flow: usize) -> Self {
+        Packet {
+            record,
+            behind: 16 + behind as u8,
+            verified: header.verified,
+            decided: false,
+            colour: contract.came(header.dscp),
+            size: header.total,
+            flow: flow as u16,
+        }
+    }
 
-fn visit(moment: u64, packet: u64, hop: usize) -> Visit {
-    u128::from(moment) << 64 | u128::from(packet << 8) | hop as u128
+    pub fn flow(&self) -> usize {
+        usize::from(self.flow)
+    }
+
+    /// Is metered at a site.
+    pub fn meet(&mut self, meter: &mut Meter, moment: u64) {
+        self.colour = meter.admit(moment, self.size, self.colour);
+    }
+
+    /// Is marked among the bytes that are held, once it is decided.
+    pub fn mark(&mut self, bytes: &mut [u8], contract: &Contract, report: &mut Report) {
+        let colour = self.colour as usize;
+        report.packets[colour] += 1;
+        report.bytes[colour] += u64::from(self.size);
+        self.decided = true;
+        let header = &mut bytes[self.record + usize::from(self.behind)..];
+        packets::mark(header, 8 * contract.class + 2 * (colour as u8 + 1), self.verified);
+    }
 }
 
-fn moment_of(visit: Visit) -> u64 {
+/// A visit in one number, in the order in which visits are made: by moment, then by the packet's number, then by the hop.
+pub type Visit = u128;
+
+/// The visit of a packet that was sent at a moment, so long after that.
+pub fn visit(sent: u64, delay: u64, packet: u64, hop: usize) -> Visit {
+    u128::from((sent + delay).min(MOST_MOMENT)) << 64 | u128::from(packet << 8) | hop as u128
+}
+
+pub fn moment_of(visit: Visit) -> u64 {
     (visit >> 64) as u64
+}
+
+/// The visits up to a moment, of some that are in order, and those behind it.
+pub fn due_and_later(visits: &[Visit], until: u64) -> (&[Visit], &[Visit]) {
+    visits.split_at(visits.partition_point(|visit| moment_of(*visit) <= until))
 }
 
 /// A capture on its way through: the bytes that are held, the packets among them, and the visits that are still to be made.
@@ -160,7 +207,7 @@ impl Traffic {
             self.report.skipped += 1;
             return;
         };
-        let Some(flow) = self.domain.first_match(&header) else {
+        let Some(flow) = self.domain.rules.first_match(&header) else {
             self.report.unmatched += 1;
             return;
         };
@@ -169,16 +216,8 @@ impl Traffic {
         let number = self.first + self.packets.len() as u64;
         let newest = self.newest;
         let visits = contract.stops.iter().enumerate();
-        self.joined.extend(visits.map(|(hop, stop)| visit((newest + stop.delay).min(MOST_MOMENT), number, hop)));
-        self.packets.push(Packet {
-            record: start - 16,
-            behind: 16 + behind as u8,
-            verified: header.verified,
-            decided: false,
-            colour: contract.came(header.dscp),
-            size: header.total,
-            flow: flow as u16,
-        });
+        self.joined.extend(visits.map(|(hop, stop)| visit(newest, stop.delay, number, hop)));
+        self.packets.push(Packet::new(start - 16, behind, &header, contract, flow));
     }
 
     /// Makes the visits up to a moment, in their order.
@@ -187,9 +226,8 @@ impl Traffic {
         let joined = std::mem::take(&mut self.joined);
         let waiting = std::mem::take(&mut self.waiting);
         let mut merged = std::mem::take(&mut self.merged);
-        let due = |visit: &Visit| moment_of(*visit) <= until;
-        let (now, later) = joined.split_at(joined.partition_point(due));
-        let (first, last) = waiting.split_at(waiting.partition_point(due));
+        let (now, later) = due_and_later(&joined, until);
+        let (first, last) = due_and_later(&waiting, until);
         merge(first, now, |visit| self.make(visit));
         merge(last, later, |visit| merged.push(visit));
         self.waiting = merged;
@@ -204,16 +242,10 @@ impl Traffic {
         let number = (visit as u64) >> 8;
         let hop = usize::from(visit as u8);
         let packet = &mut self.packets[(number - self.first) as usize];
-        let contract = &self.domain.contracts[usize::from(packet.flow)];
-        let meter = &mut self.domain.sites[contract.stops[hop].site];
-        packet.colour = meter.admit(moment_of(visit), packet.size, packet.colour);
+        let contract = &self.domain.contracts[packet.flow()];
+        packet.meet(&mut self.domain.sites[contract.stops[hop].site], moment_of(visit));
         if hop + 1 == contract.stops.len() {
-            let colour = packet.colour as usize;
-            self.report.packets[colour] += 1;
-            self.report.bytes[colour] += u64::from(packet.size);
-            packet.decided = true;
-            let header = &mut self.bytes[packet.record + usize::from(packet.behind)..];
-            packets::mark(header, 8 * contract.class + 2 * (packet.colour as u8 + 1), packet.verified);
+            packet.mark(&mut self.bytes, contract, &mut self.report);
         }
     }
 
@@ -239,7 +271,7 @@ impl Traffic {
 }
 
 /// Hands out the visits of two lists that are in order, in order.
-fn merge(mut left: &[Visit], mut right: &[Visit], mut each: impl FnMut(Visit)) {
+pub fn merge(mut left: &[Visit], mut right: &[Visit], mut each: impl FnMut(Visit)) {
     while let (Some((one, more)), Some((other, others))) = (left.split_first(), right.split_first()) {
         if one < other {
             each(*one);

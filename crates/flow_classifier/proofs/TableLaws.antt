@@ -70,7 +70,7 @@ told_is address masks networks wide too =
     ∙ first_set_mask_l (λ same. same) (sames address masks networks) 16 (wide_all address masks networks wide too) (omega arith)
 
 -- an address that a source holds of has what is asked in the bits that count
-held : (source : Option PrefixValue) (address : ℕ) → address < 2 ^ 32 → holds_where_given is_in_prefix source address ≡ true → bit_and address (mask_asked source) ≡ network_asked source
+pub held : (source : Option PrefixValue) (address : ℕ) → address < 2 ^ 32 → holds_where_given is_in_prefix source address ≡ true → bit_and address (mask_asked source) ≡ network_asked source
 held None address fits holds = and_zero_r address
 held (Some p) address fits holds =
     masked address (mask_of p.length) p.length fits refl
@@ -167,6 +167,16 @@ flow_append (row ∷ rules) others key = by (holds row.rule key) (flow_append ru
         → cond here (Some row.flow) (first_flow_of (rules ++ others) key) ≡ option_or (cond here (Some row.flow) (first_flow_of rules key)) (first_flow_of others key)
     by true rest = refl
     by false rest = rest
+
+-- the first of them is found, or else the first of the others
+pub found_first : (rules others : List FlowRule) (key : Key) (found : Option ℕ) → found ≡ first_flow_of rules key → is_some found ≡ true → found ≡ first_flow_of (rules ++ others) key
+found_first rules others key None here some = absurd cc
+found_first rules others key (Some flow) here some = sym (flow_append rules others key ∙ ap (λ o. option_or o (first_flow_of others key)) (sym here))
+
+pub found_next : (rules others : List FlowRule) (key : Key) (found : Option ℕ) → found ≡ first_flow_of rules key → is_some found ≡ false
+    → first_flow_of others key ≡ first_flow_of (rules ++ others) key
+found_next rules others key None here none = sym (flow_append rules others key ∙ ap (λ o. option_or o (first_flow_of others key)) (sym here))
+found_next rules others key (Some flow) here none = absurd cc
 
 -- the same, group by group
 pub next_group : (groups : List (List FlowRule)) (index : ℕ) (group : List FlowRule) (key : Key) → index < length groups → group ≡ get_or groups index group

@@ -1,12 +1,13 @@
 ghost use Rattle.std.specs.Prelude.{◌≡◌, ℕ, ◌<◌, false, [], ◌∷◌, ◌++◌, length, replicate, slice_set, Option};
 ghost use Rattle.std.specs.Prelude.{IfOk, OnErr, OnOk};
-ghost use Rattle.flow_classifier.specs.Kept.{IsAskedAt};
+ghost use Rattle.flow_classifier.specs.Kept.{IsAskedAt, rules_in};
 ghost use Rattle.flow_classifier.specs.Matching.{holds_where_given, is_in_prefix};
 ghost use Rattle.flow_classifier.specs.Parts.{PrefixValue};
 ghost use Rattle.flow_classifier.specs.Tables.{first_flow_of, mask_asked, network_asked};
 
 use crate::key::Key;
 use crate::rule::{Prefix, Rule};
+use crate::tuples::TupleTable;
 use std::alloc::{AllocError, Global};
 use std::marker::Model;
 use std::simd::prelude::*;
@@ -32,21 +33,21 @@ struct Sources {
     networks: [u32; TOGETHER],
 }
 
-/// The bits of a source that count for a rule: none where it asks for no source.
-fn mask_asked(source: &Option<Prefix>) -> u32
-    ensures { result ≡ mask_asked source.now }
+/// The bits of an address that count for a rule: none where it asks for no address.
+pub(crate) fn mask_asked(prefix: &Option<Prefix>) -> u32
+    ensures { result ≡ mask_asked prefix.now }
 {
-    match source {
+    match prefix {
         None => 0,
         Some(prefix) => prefix.mask(),
     }
 }
 
-/// What a source that is asked for has in the bits that count.
-fn network_asked(source: &Option<Prefix>) -> u32
-    ensures { result ≡ network_asked source.now }
+/// What an address that is asked for has in the bits that count.
+pub(crate) fn network_asked(prefix: &Option<Prefix>) -> u32
+    ensures { result ≡ network_asked prefix.now }
 {
-    match source {
+    match prefix {
         None => 0,
         Some(prefix) => prefix.network(),
     }
@@ -144,6 +145,13 @@ impl Group {
         Ok(())
     }
 
+    /// Puts these rules behind others; `AllocError` where memory runs out.
+    fn add_to(&self, rules: &mut Vec<FlowRule>) -> Result<(), AllocError>
+        ensures { OnOk result (rules.new.items ≡ rules.old.items ++ self.now) }
+    {
+        rules.extend_from_slice(&self.rules)
+    }
+
     /// The flow of the first rule that holds of a packet.
     fn first_flow(&self, key: &Key) -> Option<u32>
         ensures { result ≡ first_flow_of self.now key.now }
@@ -158,22 +166,38 @@ impl Group {
     }
 }
 
+/// The flow of the first rule of some groups that holds of a packet.
+fn first_in(groups: &[Group], key: &Key) -> Option<u32>
+    ensures { result ≡ first_flow_of (rules_in groups.now) key.now }
+{
+    for group in groups {
+        let found = group.first_flow(key);
+        if found.is_some() {
+            return found;
+        }
+    }
+    None
+}
+
 /// Rules in the order in which they are asked, each with the number of the flow whose packets it picks. The sources of
-/// sixteen rules are tested at once.
+/// sixteen rules are tested at once; many rules that were settled are found by tables.
 #[derive(Drop)]
 pub struct RuleTable {
     alloc: Global,
+    /// The rules at the front: those that were settled.
+    tuples: TupleTable,
+    /// The rules behind them.
     groups: Vec<Group>,
 }
 
 impl Model for RuleTable {
-    ghost use Rattle.std.specs.Prelude.{List};
+    ghost use Rattle.std.specs.Prelude.{List, ◌++◌};
     ghost use Rattle.flow_classifier.specs.declared.table.FlowRule.{FlowRule};
     ghost use Rattle.flow_classifier.specs.Kept.{rules_in};
 
     ghost Value = { List FlowRule };
 
-    ghost view = { λ t. rules_in t.groups.items };
+    ghost view = { λ t. t.tuples ++ rules_in t.groups.items };
 }
 
 impl RuleTable {
@@ -183,6 +207,7 @@ impl RuleTable {
     {
         RuleTable {
             alloc,
+            tuples: TupleTable::new(alloc),
             groups: Vec::new(alloc),
         }
     }
@@ -203,16 +228,39 @@ impl RuleTable {
         }
     }
 
+    /// Settles the rules that were added so far: where they are many, and ask for prefixes of few different lengths, the
+    /// first that holds is found by a search by halves for each two lengths. The rules and what is found stay the same,
+    /// also where memory runs out (`AllocError`). It takes time for all rules, so it is called once the last was added.
+    pub fn settle(&mut self) -> Result<(), AllocError>
+        ensures { self.new ≡ self.old }
+    {
+        let rules = self.to_vec()?;
+        if let Some(tuples) = TupleTable::of(self.alloc, rules)? {
+            self.tuples = tuples;
+            self.groups.clear();
+        }
+        Ok(())
+    }
+
+    /// The rules; `AllocError` where memory runs out.
+    fn to_vec(&self) -> Result<Vec<FlowRule>, AllocError>
+        ensures { IfOk result (λ rules. rules.items ≡ self.now) }
+    {
+        let mut rules = Vec::new(self.alloc);
+        self.tuples.add_to(&mut rules)?;
+        for group in &self.groups {
+            group.add_to(&mut rules)?;
+        }
+        Ok(rules)
+    }
+
     /// The flow of the first rule that holds of a packet.
     pub fn first_flow(&self, key: &Key) -> Option<u32>
         ensures { result ≡ first_flow_of self.now key.now }
     {
-        for group in &self.groups {
-            let found = group.first_flow(key);
-            if found.is_some() {
-                return found;
-            }
+        match self.tuples.first_flow(key) {
+            Some(flow) => Some(flow),
+            None => first_in(&self.groups, key),
         }
-        None
     }
 }

@@ -49,6 +49,7 @@ impl PortClassifier {
                 })?;
             }
         }
+        rules.settle()?;
         Ok(PortClassifier { rules })
     }
 

@@ -8,3 +8,5 @@ mod expecting;
 mod header_rows;
 #[cfg(test)]
 mod rule_rows;
+#[cfg(test)]
+mod table_rows;

@@ -6,7 +6,7 @@ use std::alloc::Global;
 use std::process::Abort;
 
 /// A rule that holds of every packet.
-const ANY: Rule = Rule {
+pub(crate) const ANY: Rule = Rule {
     source: None,
     target: None,
     protocol: None,
@@ -17,7 +17,7 @@ const ANY: Rule = Rule {
 
 /// The key of a UDP packet with code point 0, from 192.168.0.1 port 53 to 192.168.0.199 port 1,024; the byte says which
 /// fragment it is.
-fn key_of_fragment(rt: &impl Abort, offset: u8) -> Key {
+pub(crate) fn key_of_fragment(rt: &impl Abort, offset: u8) -> Key {
     let header = header(&changed(&[(7, offset)])).expect(rt, "a header");
     Key::of(&header)
 }
@@ -31,7 +31,7 @@ fn parts_out_of_range_are_refused(rt: HostRuntime) {
 }
 
 /// A range of ports.
-fn ports(rt: &impl Abort, low: u16, high: u16) -> Option<PortRange> {
+pub(crate) fn ports(rt: &impl Abort, low: u16, high: u16) -> Option<PortRange> {
     Some(PortRange::new(low, high).expect(rt, "a range of ports"))
 }
 
@@ -80,7 +80,7 @@ enum Part {
 }
 
 /// A prefix of an address.
-fn prefix(rt: &impl Abort, address: u32, length: u8) -> Option<Prefix> {
+pub(crate) fn prefix(rt: &impl Abort, address: u32, length: u8) -> Option<Prefix> {
     Some(Prefix::new(address, length).expect(rt, "a prefix"))
 }
 
@@ -153,7 +153,7 @@ fn each_part_that_is_given_has_to_hold(rt: HostRuntime) {
 }
 
 /// The rule for packets from a host.
-fn from_host(rt: &impl Abort, host: u32) -> Rule {
+pub(crate) fn from_host(rt: &impl Abort, host: u32) -> Rule {
     let source = prefix(rt, host, 32);
     Rule { source, ..ANY }
 }

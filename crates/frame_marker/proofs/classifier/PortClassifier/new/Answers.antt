@@ -20,6 +20,6 @@ loop-place-preserved c =
 
 pub returns : goal.returns
 returns c =
-    sees_all c.loop-place.rules (take c.min.result c.args.contracts.now) c.args.contracts.now c.args.port c.loop-place.place
+    rw c.settle.ensures (sees_all c.loop-place.rules (take c.min.result c.args.contracts.now) c.args.contracts.now c.args.port c.loop-place.place
     (ap (λ n. take n c.args.contracts.now) c.min.ensures ∙ take_min 4294966272 c.args.contracts.now)
-    c.loop-place-test.false c.loop-place.invariant
+    c.loop-place-test.false c.loop-place.invariant)

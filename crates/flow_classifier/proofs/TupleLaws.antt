@@ -1,0 +1,395 @@
+-- Rules by the bits of addresses for which they ask: rows in order, a run of rows, tuples, and the first rule that holds.
+use Rattle.std.proofs.Common.{◌≡◌, ◌⊎◌, inl, inr, ◌<◌, ◌≤◌, ◌+◌, ◌-◌, ◌^◌, ℕ, zero, suc, nat_eq, Bool, true, false, ◌&&◌, cond, bit_and, ltb, List, [], ◌∷◌, ◌++◌, length, length-drop, map, drop, take, get_or, Option, None, Some, refl, subst, sym, ap, ◌∙◌, arith}
+use Rattle.std.specs.Prelude.{◌||◌, All, IfSome, slice_get, IsPermutation, ⊤}
+use Rattle.std.specs.Cmp.{IsTotalOrder, IsStrictWeakOrder}
+use Rattle.std.specs.List.{list_any}
+use Rattle.std.specs.List.Sorted.{IsNonDecreasingBy, IsPartitionPoint, IsSorted}
+use Rattle.std.specs.Ordering.{is_lt, nat_cmp, ordering_then}
+use Rattle.std.proofs.lemmas.Bool.{cases_lt}
+use Rattle.std.proofs.lemmas.Bool.Decides.{nat_tests}
+use Rattle.std.proofs.lemmas.Cmp.{nat_cmp_total, on_total, then_total}
+use Rattle.std.proofs.lemmas.List.{drop_all, drop_more, get_or-drop, get_or_default, get_or_read, map_push, take_more}
+use Rattle.std.proofs.lemmas.List.Elements.{All-cons, All-nil, All-push, All-weaker}
+use Rattle.std.proofs.lemmas.List.Sorted.{All-permutation, list_any-IsPermutation, ranks_by, sorted_far}
+use Rattle.std.proofs.lemmas.Option.{MatchOption-at_some, get_or_from_slice_get, none-some, same_Some, slice_get_within}
+use Rattle.flow_classifier.specs.Matching.{holds, holds_where_given, is_in_prefix, numbers_hold, ports_hold}
+use Rattle.flow_classifier.specs.Tables.{first_flow_of, network_asked}
+use Rattle.flow_classifier.specs.Tuples.{AreTuplesOf, IsHeldAt, IsNotHeldAt, IsTupleOf, addresses_of, addresses_under, as_one, masks_of, row_at, row_cmp, rows_from, same_masks}
+use Rattle.flow_classifier.specs.declared.key.Key.{Key}
+use Rattle.flow_classifier.specs.declared.rule.Rule.{Rule}
+use Rattle.flow_classifier.specs.declared.table.FlowRule.{FlowRule}
+use Rattle.flow_classifier.specs.declared.tuples.Masks.{Masks}
+use Rattle.flow_classifier.specs.declared.tuples.Row.{Row}
+use Rattle.flow_classifier.specs.declared.tuples.Tuple.{Tuple}
+use Rattle.flow_classifier.proofs.TableLaws.{held}
+
+-- ---- lists
+
+-- a test that an element passes
+pub passed_at : {X : Type 0} (test : X → Bool) (xs : List X) → list_any test xs ≡ true
+    → (k : ℕ) × ((k < length xs) × ((d : X) → test (get_or xs k d) ≡ true))
+passed_at test [] none = absurd cc
+passed_at {X} test (x ∷ xs) some = by (test x) refl (λ not_here. passed_at test xs (sym (ap (λ b. b || list_any test xs) not_here) ∙ some))
+  where
+    by : (b : Bool) → test x ≡ b → (test x ≡ false → (k : ℕ) × ((k < length xs) × ((d : X) → test (get_or xs k d) ≡ true)))
+        → (k : ℕ) × ((k < length (x ∷ xs)) × ((d : X) → test (get_or (x ∷ xs) k d) ≡ true))
+    by true here rest = (0, (omega arith, λ d. here))
+    by false not_here rest = let later = rest not_here in (suc later.0, (omega (arith, later.1.0), later.1.1))
+
+-- ---- rows in order
+
+row_total : IsTotalOrder row_cmp
+row_total = then_total (on_total (λ (r : Row). r.addresses) nat_cmp_total) (on_total (λ (r : Row). r.place) nat_cmp_total)
+
+abbrev is_before : Row → Row → Bool
+is_before r s = is_lt (row_cmp r s)
+
+row_strict : IsStrictWeakOrder is_before
+row_strict = ranks_by row_total (λ (r : Row). r)
+
+-- a row asks for no greater addresses than another, and where for the same ones, it has no greater place
+abbrev pub Precedes : Row → Row → Type 0
+Precedes r s = (r.addresses ≤ s.addresses) × (r.addresses ≡ s.addresses → r.place ≤ s.place)
+
+not_behind : (a p b q : ℕ) → is_lt (ordering_then (nat_cmp b a) (nat_cmp q p)) ≡ false → (a ≤ b) × (a ≡ b → p ≤ q)
+not_behind a p b q last = (first a p b q last, next a p b q last)
+  where
+    first : (a p b q : ℕ) → is_lt (ordering_then (nat_cmp b a) (nat_cmp q p)) ≡ false → a ≤ b
+    first a p b q last = grind (arith, nat_tests)
+
+    next : (a p b q : ℕ) → is_lt (ordering_then (nat_cmp b a) (nat_cmp q p)) ≡ false → a ≡ b → p ≤ q
+    next a p b q last same = grind (arith, nat_tests)
+
+pub preceding : (rows : List Row) → IsSorted row_cmp rows → (i j : ℕ) (d : Row) → i ≤ j → j < length rows → Precedes (get_or rows i d) (get_or rows j d)
+preceding rows up i j d order within =
+    let r = get_or rows i d in
+    let s = get_or rows j d in
+    not_behind r.addresses r.place s.addresses s.place (sorted_far is_before row_strict rows up i j d order within)
+
+pub rise : (rows : List Row) → IsSorted row_cmp rows → IsNonDecreasingBy (λ r. r.addresses) rows
+rise rows up i j d order within = (preceding rows up i j d order within).0
+
+pub sorted_rest : (rows : List Row) (count : ℕ) → IsSorted row_cmp rows → IsSorted row_cmp (drop count rows)
+sorted_rest rows count up k d low within =
+    let here = get_or-drop count rows k d in
+    let next = get_or-drop count rows (k + 1) d ∙ ap (λ i. get_or rows i d) (let e : count + (k + 1) ≡ count + k + 1 = omega arith in e) in
+    let there : count + k + 1 < length rows = omega (arith, within, length-drop count rows) in
+    ap (λ (r : Row). is_before (get_or (drop count rows) (k + 1) d) r) here ∙ ap (λ (r : Row). is_before r (get_or rows (count + k) d)) next
+    ∙ up (count + k) d (omega arith) there
+
+-- where the rows begin that do not ask for smaller addresses
+pub smaller_before : (rows : List Row) (addresses start : ℕ) → IsPartitionPoint (λ r. ltb r.addresses addresses ≡ true) (λ r. ltb r.addresses addresses ≡ false) rows start
+    → (k : ℕ) (d : Row) → k < start → (get_or rows k d).addresses < addresses
+smaller_before rows addresses start point k d before = below (get_or rows k d).addresses addresses (point.0 k d (omega arith) before)
+  where
+    below : (a b : ℕ) → ltb a b ≡ true → a < b
+    below a b less = grind (arith, nat_tests)
+
+pub none_smaller : (rows : List Row) (addresses start : ℕ) → IsPartitionPoint (λ r. ltb r.addresses addresses ≡ true) (λ r. ltb r.addresses addresses ≡ false) rows start
+    → All (λ r. addresses ≤ r.addresses) (drop start rows)
+none_smaller rows addresses start point k d within =
+    rw (get_or-drop start rows k d) (above (get_or rows (start + k) d).addresses addresses (point.1 (start + k) d (omega arith) (omega (arith, within, length-drop start rows))))
+  where
+    above : (a b : ℕ) → ltb a b ≡ false → b ≤ a
+    above a b more = grind (arith, nat_tests)
+
+-- ---- a run of rows
+
+-- the rules of the first rows do not hold
+abbrev pub NoneSoFar : List Row → List FlowRule → Key → ℕ → Type 0
+NoneSoFar run rules key count = (k : ℕ) (d : Row) → k < count → IsNotHeldAt rules key (get_or run k d).place
+
+-- what a run is searched for: no rule of it that asks for these addresses and stands before a place holds
+abbrev pub NoneOf : List Row → ℕ → List FlowRule → Key → ℕ → Type 0
+NoneOf run addresses rules key place = All (λ r. r.addresses ≡ addresses → r.place < place → IsNotHeldAt rules key r.place) run
+
+-- one row more
+pub none_more : (run : List Row) (rules : List FlowRule) (key : Key) (count : ℕ) (e : Row) → count < length run → IsNotHeldAt rules key (get_or run count e).place
+    → NoneSoFar run rules key count → NoneSoFar run rules key (count + 1)
+none_more run rules key count e inside here before k d within = by (cases_lt k count)
+  where
+    by : (k < count) ⊎ (count ≤ k) → IsNotHeldAt rules key (get_or run k d).place
+    by (inl first) = before k d first
+    by (inr last) =
+        let at : get_or run count e ≡ get_or run k d = get_or_default run count e d inside ∙ ap (λ i. get_or run i d) (let n : count ≡ k = omega (arith, last, within) in n) in
+        subst (λ (r : Row). IsNotHeldAt rules key r.place) at here
+
+-- where a row asks for other addresses, or stands no earlier than the place, so do those behind it
+pub none_behind : (run : List Row) (addresses : ℕ) (rules : List FlowRule) (key : Key) (count place : ℕ) (e : Row) → count < length run
+    → ((get_or run count e).addresses ≡ addresses → place ≤ (get_or run count e).place) → NoneSoFar run rules key count
+    → IsSorted row_cmp run → All (λ r. addresses ≤ r.addresses) run → NoneOf run addresses rules key place
+none_behind run addresses rules key count place e inside late before up above k d within asked early = by (cases_lt k count)
+  where
+    contradict : (a p b q n m : ℕ) → a ≤ b → (a ≡ b → p ≤ q) → n ≤ a → b ≡ n → q < m → (a ≡ n → m ≤ p) → ⊥
+    contradict a p b q n m order ties least asked early late =
+        let same : a ≡ b = omega (arith, order, least, asked) in
+        let tie : p ≤ q = ties same in
+        let first : m ≤ p = late (same ∙ asked) in
+        omega (arith, tie, first, early)
+
+    by : (k < count) ⊎ (count ≤ k) → IsNotHeldAt rules key (get_or run k d).place
+    by (inl first) = before k d first
+    by (inr last) =
+        let row = get_or run count e in
+        let at : row ≡ get_or run count d = get_or_default run count e d inside in
+        let order : Precedes row (get_or run k d) = subst (λ (r : Row). Precedes r (get_or run k d)) (sym at) (preceding run up count k d last within) in
+        absurd (contradict row.addresses row.place (get_or run k d).addresses (get_or run k d).place addresses place order.0 order.1 (above count e inside) asked early late)
+
+-- at the end of the run
+pub none_all : (run : List Row) (addresses : ℕ) (rules : List FlowRule) (key : Key) (count place : ℕ) → length run ≤ count → NoneSoFar run rules key count → NoneOf run addresses rules key place
+none_all run addresses rules key count place ended before k d within asked early = before k d (omega (arith, ended, within))
+
+-- ---- a tuple
+
+same_test : (m n : Masks) → same_masks m n ≡ true → (m.source ≡ n.source) × (m.target ≡ n.target)
+same_test m n same = (first m.source n.source m.target n.target same, second m.source n.source m.target n.target same)
+  where
+    first : (a b c d : ℕ) → (nat_eq a b && nat_eq c d) ≡ true → a ≡ b
+    first a b c d same = grind (arith, nat_tests)
+
+    second : (a b c d : ℕ) → (nat_eq a b && nat_eq c d) ≡ true → c ≡ d
+    second a b c d same = grind (arith, nat_tests)
+
+-- a packet of which a rule holds has what the rule asks for
+asked_of : (rule : Rule) (key : Key) (masks : Masks) → key.source < 2 ^ 32 → key.target < 2 ^ 32 → same_masks (masks_of rule) masks ≡ true → holds rule key ≡ true
+    → addresses_of rule ≡ addresses_under masks key
+asked_of rule key masks source target same here =
+    let masked = same_test (masks_of rule) masks same in
+    let both = parts (holds_where_given is_in_prefix rule.source key.source) (holds_where_given is_in_prefix rule.target key.target) (ports_hold rule key && numbers_hold rule key) here in
+    let first : network_asked rule.source ≡ bit_and key.source masks.source = sym (held rule.source key.source source both.0) ∙ ap (bit_and key.source) masked.0 in
+    let second : network_asked rule.target ≡ bit_and key.target masks.target = sym (held rule.target key.target target both.1) ∙ ap (bit_and key.target) masked.1 in
+    ap (λ a. as_one a (network_asked rule.target)) first ∙ ap (λ b. as_one (bit_and key.source masks.source) b) second
+  where
+    parts : (a b c : Bool) → (a && b && c) ≡ true → (a ≡ true) × (b ≡ true)
+    parts true true c all = (refl, refl)
+    parts true false c all = absurd cc
+    parts false b c all = absurd cc
+
+-- the rows from where they do not ask for smaller addresses tell of all rules of the tuple
+pub none_of_tuple : (t : Tuple) (rules : List FlowRule) (key : Key) (start place : ℕ) → key.source < 2 ^ 32 → key.target < 2 ^ 32 → IsTupleOf rules t
+    → ((k : ℕ) (d : Row) → k < start → (get_or t.rows.items k d).addresses < addresses_under t.masks key)
+    → NoneOf (drop start t.rows.items) (addresses_under t.masks key) rules key place
+    → (k : ℕ) (row : FlowRule) → slice_get rules k ≡ Some row → same_masks (masks_of row.rule) t.masks ≡ true → k < place → holds row.rule key ≡ false
+none_of_tuple t rules key start place source target kept before none k row at same early = by (holds row.rule key) refl
+  where
+    by : (b : Bool) → holds row.rule key ≡ b → b ≡ false
+    by false not_here = refl
+    by true here = absurd (found (passed_at (λ r. nat_eq r.place k) t.rows.items (kept.placed k row at same)))
+      where
+        found : (p : ℕ) × ((p < length t.rows.items) × ((d : Row) → nat_eq (get_or t.rows.items p d).place k ≡ true)) → ⊥
+        found (p, (inside, passed)) =
+            let d = row_at k row in
+            let r = get_or t.rows.items p d in
+            let its : r.place ≡ k = same_number r.place k (passed d) in
+            let there : slice_get rules r.place ≡ Some row = ap (slice_get rules) its ∙ at in
+            let asks : r.addresses ≡ addresses_under t.masks key = kept.asked p d inside row there ∙ asked_of row.rule key t.masks source target same here in
+            by_start p inside d its asks (cases_lt p start)
+          where
+            same_number : (a b : ℕ) → nat_eq a b ≡ true → a ≡ b
+            same_number a b same = grind (arith, nat_tests)
+
+            by_start : (p : ℕ) → p < length t.rows.items → (d : Row) → (get_or t.rows.items p d).place ≡ k → (get_or t.rows.items p d).addresses ≡ addresses_under t.masks key
+                → (p < start) ⊎ (start ≤ p) → ⊥
+            by_start p inside d its asks (inl first) = omega (arith, before p d first, asks)
+            by_start p inside d its asks (inr later) =
+                let q = p - start in
+                let moved : get_or (drop start t.rows.items) q d ≡ get_or t.rows.items p d =
+                get_or-drop start t.rows.items q d ∙ ap (λ i. get_or t.rows.items i d) (let e : start + (p - start) ≡ p = omega (arith, later) in e) in
+                let within : q < length (drop start t.rows.items) = omega (arith, later, inside, length-drop start t.rows.items) in
+                let held_not = none q d within (ap (λ (r : Row). r.addresses) moved ∙ asks) (omega (arith, ap (λ (r : Row). r.place) moved, its, early)) in
+                false_true (sym (held_not row (ap (slice_get rules) (ap (λ (r : Row). r.place) moved ∙ its) ∙ at)) ∙ here)
+              where
+                false_true : false ≡ true → ⊥
+                false_true e = absurd cc
+
+-- ---- all tuples
+
+pub tuple_at : (rules seen_rules : List FlowRule) (tuples seen : List Tuple) (i : ℕ) (t : Tuple) → All (λ u. IsTupleOf rules u) tuples → seen_rules ≡ rules → seen ≡ tuples
+    → i < length seen → t ≡ get_or seen i t → IsTupleOf seen_rules t
+tuple_at rules seen_rules tuples seen i t each same_rules same within is =
+    let at : t ≡ get_or tuples i t = is ∙ ap (λ (ts : List Tuple). get_or ts i t) same in
+    let inside : i < length tuples = subst (λ (ts : List Tuple). i < length ts) same within in
+    subst (λ (rs : List FlowRule). IsTupleOf rs t) (sym same_rules) (subst (λ (u : Tuple). IsTupleOf rules u) (sym at) (each i t inside))
+
+-- a place that is found before another is one at which a rule holds; else it is that other
+pub still_held : (rules : List FlowRule) (key : Key) (before place : ℕ) → place ≤ before → (place < before → IsHeldAt rules key place)
+    → (before < length rules → IsHeldAt rules key before) → place < length rules → IsHeldAt rules key place
+still_held rules key before place most found held within = by (cases_lt place before)
+  where
+    by : (place < before) ⊎ (before ≤ place) → IsHeldAt rules key place
+    by (inl less) = found less
+    by (inr last) =
+        let same : before ≡ place = omega (arith, last, most) in
+        subst (λ n. IsHeldAt rules key n) same (held (subst (λ n. n < length rules) (sym same) within))
+
+-- no rule of the first tuples that stands before a place holds
+abbrev pub NoneIn : List Tuple → List FlowRule → Key → ℕ → ℕ → Type 0
+NoneIn tuples rules key count place =
+    (j : ℕ) (d : Tuple) → j < count → (k : ℕ) (row : FlowRule) → slice_get rules k ≡ Some row
+    → same_masks (masks_of row.rule) (get_or tuples j d).masks ≡ true → k < place → holds row.rule key ≡ false
+
+pub none_in_more : (tuples : List Tuple) (rules : List FlowRule) (key : Key) (count before place : ℕ) (t : Tuple) → count < length tuples → t ≡ get_or tuples count t → place ≤ before
+    → ((k : ℕ) (row : FlowRule) → slice_get rules k ≡ Some row → same_masks (masks_of row.rule) t.masks ≡ true → k < place → holds row.rule key ≡ false)
+    → NoneIn tuples rules key count before → NoneIn tuples rules key (count + 1) place
+none_in_more tuples rules key count before place t inside is less here so_far j d within k row at same early = by (cases_lt j count)
+  where
+    by : (j < count) ⊎ (count ≤ j) → holds row.rule key ≡ false
+    by (inl first) = so_far j d first k row at same (omega (arith, early, less))
+    by (inr last) =
+        let it : t ≡ get_or tuples j d = get_or_read tuples count t inside is d ∙ ap (λ i. get_or tuples i d) (let e : count ≡ j = omega (arith, last, within) in e) in
+        here k row at (ap (λ (u : Tuple). same_masks (masks_of row.rule) u.masks) it ∙ same) early
+
+pub none_in_all : (tuples : List Tuple) (rules : List FlowRule) (key : Key) (count place : ℕ) → length tuples ≤ count → AreTuplesOf rules tuples → NoneIn tuples rules key count place
+    → (k : ℕ) (row : FlowRule) → slice_get rules k ≡ Some row → k < place → holds row.rule key ≡ false
+none_in_all tuples rules key count place ended kept none k row at early =
+    found (passed_at (λ t. same_masks (masks_of row.rule) t.masks) tuples covered)
+  where
+    covered : list_any (λ t. same_masks (masks_of row.rule) t.masks) tuples ≡ true
+    covered =
+        subst (λ (r : FlowRule). list_any (λ t. same_masks (masks_of r.rule) t.masks) tuples ≡ true) (get_or_from_slice_get rules k row row at)
+        (kept.covered k row (slice_get_within rules k row at))
+
+    found : (j : ℕ) × ((j < length tuples) × ((d : Tuple) → same_masks (masks_of row.rule) (get_or tuples j d).masks ≡ true)) → holds row.rule key ≡ false
+    found (j, (inside, passed)) = with_one tuples inside
+      where
+        with_one : (ts : List Tuple) → j < length ts → holds row.rule key ≡ false
+        with_one [] none_there = absurd (omega (arith, none_there))
+        with_one (t ∷ ts) there = none j t (omega (arith, inside, ended)) k row at (passed t) early
+
+pub inside_some : {X : Type 0} (found : Option X) (m : X) (Q : X → Type 0) → found ≡ Some m → IfSome found Q → Q m
+inside_some found m Q is got = MatchOption-at_some ⊤ Q m is got
+
+-- the flow of the first rule that holds, by its place
+pub found_at : (rules : List FlowRule) (key : Key) (place : ℕ) → IsHeldAt rules key place
+    → ((k : ℕ) (row : FlowRule) → slice_get rules k ≡ Some row → k < place → holds row.rule key ≡ false)
+    → (row : FlowRule) → slice_get rules place ≡ Some row → Some row.flow ≡ first_flow_of rules key
+found_at [] key place here before row at = absurd (none-some row at)
+found_at (r ∷ rules) key zero here before row at =
+    let e : r ≡ row = same_Some r row at in
+    ap (λ (x : FlowRule). Some x.flow) (sym e) ∙ ap (λ b. cond b (Some r.flow) (first_flow_of rules key)) (sym (here r refl))
+found_at (r ∷ rules) key (suc place) here before row at =
+    found_at rules key place (λ other there. here other there) (λ k other there less. before (suc k) other there (omega (arith, less))) row at
+    ∙ ap (λ b. cond b (Some r.flow) (first_flow_of rules key)) (sym (before 0 r refl (omega arith)))
+
+pub found_none : (rules : List FlowRule) (key : Key) (place : ℕ) → length rules ≤ place
+    → ((k : ℕ) (row : FlowRule) → slice_get rules k ≡ Some row → k < place → holds row.rule key ≡ false) → None ≡ first_flow_of rules key
+found_none [] key place ended before = refl
+found_none (r ∷ rules) key zero ended before = absurd (omega (arith, ended))
+found_none (r ∷ rules) key (suc place) ended before =
+    found_none rules key place (omega (arith, ended)) (λ k other there less. before (suc k) other there (omega (arith, less)))
+    ∙ ap (λ b. cond b (Some r.flow) (first_flow_of rules key)) (sym (before 0 r refl (omega arith)))
+
+-- ---- tuples are made
+
+pub rows_next : (masks : Masks) (rules : List FlowRule) (place : ℕ) (row : FlowRule) → place < length rules → row ≡ get_or rules place row
+    → rows_from masks place (drop place rules)
+    ≡ cond (same_masks (masks_of row.rule) masks) (row_at place row ∷ rows_from masks (place + 1) (drop (place + 1) rules)) (rows_from masks (place + 1) (drop (place + 1) rules))
+rows_next masks rules place row inside is =
+    ap (rows_from masks place) (drop_more rules place row inside ∙ ap (λ (r : FlowRule). r ∷ drop (place + 1) rules) (sym is))
+
+pub rows_end : (masks : Masks) (rules : List FlowRule) (place : ℕ) → length rules ≤ place → rows_from masks place (drop place rules) ≡ []
+rows_end masks rules place ended = ap (rows_from masks place) (drop_all place rules ended)
+
+-- the row of one of some rules, the first of which stands at a place
+abbrev IsRowOf : ℕ → List FlowRule → Row → Type 0
+IsRowOf place rules r =
+    (place ≤ r.place) × ((r.place < place + length rules) × ((row : FlowRule) → slice_get rules (r.place - place) ≡ Some row → r.addresses ≡ addresses_of row.rule))
+
+rows_are : (masks : Masks) (place : ℕ) (rules : List FlowRule) → All (IsRowOf place rules) (rows_from masks place rules)
+rows_are masks place [] = All-nil (IsRowOf place [])
+rows_are masks place (row ∷ rules) =
+    by (same_masks (masks_of row.rule) masks)
+    (All-weaker (IsRowOf (place + 1) rules) (IsRowOf place (row ∷ rules)) one_on (rows_from masks (place + 1) rules) (rows_are masks (place + 1) rules))
+  where
+    one_on : (r : Row) → IsRowOf (place + 1) rules r → IsRowOf place (row ∷ rules) r
+    one_on r its = (
+      omega (arith, its.0),
+      (
+        omega (arith, its.1.0),
+        λ other at. its.1.1 other (sym (ap (slice_get (row ∷ rules)) (let e : r.place - place ≡ suc (r.place - (place + 1)) = omega (arith, its.0) in e)) ∙ at),
+      ),
+    )
+
+    own : IsRowOf place (row ∷ rules) (row_at place row)
+    own = (
+      omega arith,
+      (
+        omega arith,
+        λ other at. ap (λ (r : FlowRule). addresses_of r.rule) (same_Some row other (sym (ap (slice_get (row ∷ rules)) (let e : place - place ≡ 0 = omega arith in e)) ∙ at)),
+      ),
+    )
+
+    by : (here : Bool) → All (IsRowOf place (row ∷ rules)) (rows_from masks (place + 1) rules)
+        → All (IsRowOf place (row ∷ rules)) (cond here (row_at place row ∷ rows_from masks (place + 1) rules) (rows_from masks (place + 1) rules))
+    by true later = All-cons (IsRowOf place (row ∷ rules)) (row_at place row) (rows_from masks (place + 1) rules) own later
+    by false later = later
+
+-- each rule that asks for the bits has its row
+rows_have : (masks : Masks) (place : ℕ) (rules : List FlowRule) (k : ℕ) (row : FlowRule) → slice_get rules k ≡ Some row → same_masks (masks_of row.rule) masks ≡ true
+    → list_any (λ r. nat_eq r.place (place + k)) (rows_from masks place rules) ≡ true
+rows_have masks place [] k row at same = absurd (none-some row at)
+rows_have masks place (r ∷ rules) zero row at same =
+    ap (λ here. list_any (λ (s : Row). nat_eq s.place (place + 0)) (cond here (row_at place r ∷ rows_from masks (place + 1) rules) (rows_from masks (place + 1) rules)))
+    (ap (λ (x : FlowRule). same_masks (masks_of x.rule) masks) (same_Some r row at) ∙ same)
+    ∙ ap (λ b. b || list_any (λ (s : Row). nat_eq s.place (place + 0)) (rows_from masks (place + 1) rules)) (itself place)
+  where
+    itself : (n : ℕ) → nat_eq n (n + 0) ≡ true
+    itself n = grind (arith, nat_tests)
+rows_have masks place (r ∷ rules) (suc k) row at same =
+    by (same_masks (masks_of r.rule) masks)
+    (ap (λ n. list_any (λ (s : Row). nat_eq s.place n) (rows_from masks (place + 1) rules)) (let e : place + suc k ≡ place + 1 + k = omega arith in e)
+    ∙ rows_have masks (place + 1) rules k row at same)
+  where
+    or_true : (b : Bool) → (b || true) ≡ true
+    or_true true = refl
+    or_true false = refl
+
+    by : (here : Bool) → list_any (λ (s : Row). nat_eq s.place (place + suc k)) (rows_from masks (place + 1) rules) ≡ true
+        → list_any (λ (s : Row). nat_eq s.place (place + suc k)) (cond here (row_at place r ∷ rows_from masks (place + 1) rules) (rows_from masks (place + 1) rules)) ≡ true
+    by true later = ap (λ b. nat_eq place (place + suc k) || b) later ∙ or_true (nat_eq place (place + suc k))
+    by false later = later
+
+-- rows that are sorted are a tuple
+pub made_tuple : (rules : List FlowRule) (t : Tuple) (rows : List Row) → rows ≡ rows_from t.masks 0 rules → IsPermutation rows t.rows.items → IsSorted row_cmp t.rows.items → IsTupleOf rules t
+made_tuple rules t rows is moved up = record {
+  sorted = up;
+  within = All-weaker (IsRowOf 0 rules) (λ r. r.place < length rules) (λ r its. omega (arith, its.1.0)) t.rows.items all;
+  asked = All-weaker (IsRowOf 0 rules) (λ r. (row : FlowRule) → slice_get rules r.place ≡ Some row → r.addresses ≡ addresses_of row.rule)
+      (λ r its row at. its.1.1 row (ap (slice_get rules) (let e : r.place - 0 ≡ r.place = omega arith in e) ∙ at)) t.rows.items all;
+  placed = λ k row at same.
+      sym (list_any-IsPermutation (λ r. nat_eq r.place k) rows t.rows.items moved)
+      ∙ ap (list_any (λ r. nat_eq r.place k)) is
+      ∙ ap (λ n. list_any (λ (r : Row). nat_eq r.place n) (rows_from t.masks 0 rules)) (let e : k ≡ 0 + k = omega arith in e)
+      ∙ rows_have t.masks 0 rules k row at same;
+}
+  where
+    all : All (IsRowOf 0 rules) t.rows.items
+    all = All-permutation (IsRowOf 0 rules) rows t.rows.items moved (subst (λ (rs : List Row). All (IsRowOf 0 rules) rs) (sym is) (rows_are t.masks 0 rules))
+
+-- one tuple more
+pub tuples_more : (rules : List FlowRule) (tuples : List Tuple) (masks : List Masks) (count : ℕ) (t : Tuple) (e : Masks) → count < length masks → All (λ u. IsTupleOf rules u) tuples
+    → map (λ u. u.masks) tuples ≡ take count masks → IsTupleOf rules t → t.masks ≡ get_or masks count e
+    → All (λ u. IsTupleOf rules u) (tuples ++ t ∷ []) × (map (λ u. u.masks) (tuples ++ t ∷ []) ≡ take (count + 1) masks)
+tuples_more rules tuples masks count t e within each same one its = (
+  All-push (λ u. IsTupleOf rules u) tuples t each one,
+  map_push (λ (u : Tuple). u.masks) tuples t ∙ ap (λ (ms : List Masks). ms ++ t.masks ∷ []) same ∙ ap (λ m. take count masks ++ m ∷ []) its ∙ sym (take_more masks count e within),
+)
+
+-- ---- each rule is in a tuple
+
+-- these are the bits for which the first rules ask
+abbrev pub AreMasksOf : List Masks → List FlowRule → ℕ → Type 0
+AreMasksOf found rules count = (k : ℕ) (d : FlowRule) → k < count → list_any (same_masks (masks_of (get_or rules k d).rule)) found ≡ true
+
+list_any-map : {X Y : Type 0} (test : Y → Bool) (f : X → Y) (xs : List X) → list_any test (map f xs) ≡ list_any (λ x. test (f x)) xs
+list_any-map test f [] = refl
+list_any-map test f (x ∷ xs) = ap (λ b. test (f x) || b) (list_any-map test f xs)
+
+pub made_tuples : (rules : List FlowRule) (masks : List Masks) (tuples : List Tuple) → All (λ row. list_any (λ m. same_masks (masks_of row.rule) m) masks ≡ true) rules
+    → map (λ t. t.masks) tuples ≡ masks → All (λ t. IsTupleOf rules t) tuples → AreTuplesOf rules tuples
+made_tuples rules masks tuples covered same each = record {
+  each = each;
+  covered = λ k d within.
+      sym (list_any-map (λ m. same_masks (masks_of (get_or rules k d).rule) m) (λ (t : Tuple). t.masks) tuples)
+      ∙ ap (list_any (λ m. same_masks (masks_of (get_or rules k d).rule) m)) same ∙ covered k d within;
+}

@@ -1,0 +1,7 @@
+use Rattle.flow_classifier.proofs.TupleLaws.{made_tuple}
+use Rattle.flow_classifier.proofs.tuples.Tuple.of.Goals as goal
+
+pub returns-clause-tuple : goal.returns-clause-tuple
+returns-clause-tuple c =
+    made_tuple c.args.rules.now (record { masks = c.args.masks; rows = c.sort_unstable.new.self }) c.in_ok-rows.rows.items c.in_ok-rows.ensures
+    c.sort_unstable.ensures.permutation c.sort_unstable.ensures.sorted
