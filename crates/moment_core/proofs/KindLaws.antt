@@ -2,7 +2,6 @@
 use Rattle.std.proofs.Common.{◌≡◌, refl, sym, ◌∙◌, ap}
 use Rattle.moment_core.specs.Fillings.{state_at}
 use Rattle.moment_core.specs.Metering.{State}
-use Rattle.moment_core.specs.declared.colour.Mode.{Mode}
 use Rattle.moment_core.specs.declared.filling.Clock.{Clock}
 
 module _ {P L K : Type 0} (buckets_of : State P L → K) (parameters_of : K → P) (levels_of : K → L)

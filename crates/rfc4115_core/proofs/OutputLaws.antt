@@ -1,5 +1,5 @@
 -- What leaves a meter with two separate rates: colours that are no better than those that came, and envelopes that are kept.
-use Rattle.std.proofs.Common.{◌≡◌, ℕ, ◌+◌, ◌-◌, ◌≤◌, List, arith}
+use Rattle.std.proofs.Common.{ℕ, ◌+◌, ◌-◌, ◌≤◌, List, arith}
 use Rattle.moment_core.specs.Colours.{IsNoBetter, is_green, is_in_profile, is_yellow, output}
 use Rattle.moment_core.specs.Conformance.{Keeps}
 use Rattle.moment_core.specs.declared.bucket.Levels.{Levels}

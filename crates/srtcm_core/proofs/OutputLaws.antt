@@ -1,10 +1,10 @@
 -- What leaves a single-rate meter: colours that are no better than those that came, and envelopes that are kept.
-use Rattle.std.proofs.Common.{◌≡◌, ℕ, ◌+◌, ◌-◌, ◌≤◌, List, arith}
+use Rattle.std.proofs.Common.{ℕ, ◌+◌, ◌-◌, ◌≤◌, List, arith}
 use Rattle.moment_core.specs.Colours.{IsNoBetter, is_green, is_in_profile, is_yellow, output}
 use Rattle.moment_core.specs.Conformance.{Keeps}
 use Rattle.moment_core.specs.declared.bucket.Levels.{Levels}
 use Rattle.moment_core.specs.Metering.{Offer, State, after, departures, how, levels_at, opening, used}
-use Rattle.moment_core.specs.Tokens.{given, with_tokens}
+use Rattle.moment_core.specs.Tokens.{with_tokens}
 use Rattle.moment_core.specs.declared.colour.Colour.{Colour}
 use Rattle.moment_core.specs.declared.colour.Mode.{Mode}
 use Rattle.moment_core.proofs.ExcessLaws.{both_pay, committed_falls, excess_falls, green_pays, yellow_pays}

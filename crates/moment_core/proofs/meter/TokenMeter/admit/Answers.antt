@@ -1,4 +1,4 @@
-use Rattle.std.proofs.Common.{◌≡◌, refl, sym, ◌∙◌}
+use Rattle.std.proofs.Common.{refl, sym, ◌∙◌}
 use Rattle.moment_core.proofs.KindLaws.{gives-back, stands-for}
 use Rattle.moment_core.proofs.MeteringLaws.{admitted-after, admitted-colour}
 use Rattle.moment_core.specs.Fillings.{state_at}

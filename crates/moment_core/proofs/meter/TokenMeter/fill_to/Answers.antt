@@ -1,8 +1,8 @@
-use Rattle.std.proofs.Common.{◌≡◌, refl, sym, ◌∙◌, ap, arith}
+use Rattle.std.proofs.Common.{◌≡◌, refl, sym, ◌∙◌, arith}
 use Rattle.moment_core.proofs.KindLaws.{gives-back, stands-for}
 use Rattle.moment_core.proofs.MeteringLaws.{newest_le-used}
 use Rattle.moment_core.specs.Fillings.{moved_on, state_at}
-use Rattle.moment_core.specs.Metering.{State, filled, used}
+use Rattle.moment_core.specs.Metering.{filled}
 use Rattle.moment_core.proofs.meter.TokenMeter.fill_to.Given.{Over}
 use Rattle.moment_core.proofs.meter.TokenMeter.fill_to.Goals as goal
 

@@ -1,6 +1,6 @@
-use Rattle.std.proofs.Common.{◌≡◌, refl, sym, ◌∙◌, arith}
+use Rattle.std.proofs.Common.{refl, arith}
 use Rattle.moment_core.proofs.KindLaws.{gives-back, stands-for}
-use Rattle.moment_core.specs.Metering.{State, opening}
+use Rattle.moment_core.specs.Metering.{opening}
 use Rattle.moment_core.proofs.meter.TokenMeter.open.Goals as goal
 
 pub invariant_of-result : goal.invariant_of-result
