@@ -3,8 +3,7 @@ ghost use Rattle.moment_core.specs.declared.colour.Mode.TheVariants.{Aware};
 ghost use Rattle.meter_book_base.specs.AnyMeter.{opening_of};
 
 use crate::quantity::Delay;
-use crate::terms::SoundParameters;
-use meter_book_base::AnyMeter;
+use meter_book_base::{AnyMeter, SoundParameters};
 use moment_core::{Mode, Moment};
 
 /// The version of a domain's text.
@@ -33,7 +32,7 @@ impl Meter {
     pub fn opened(&self) -> AnyMeter
         ensures { result ≡ opening_of self.now.parameters Aware self.now.origin }
     {
-        self.parameters.opened(Mode::Aware, self.origin)
+        AnyMeter::open(self.parameters, Mode::Aware, self.origin)
     }
 }
 

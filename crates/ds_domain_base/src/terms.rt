@@ -1,59 +1,8 @@
-ghost use Rattle.std.specs.Prelude.{◌≡◌, None, Some, MatchResult};
-ghost use Rattle.meter_book_base.specs.AnyMeter.{fault_of, opening_of};
+ghost use Rattle.std.specs.Prelude.{◌≡◌};
 ghost use Rattle.ds_domain_base.specs.Sent.{edge_of, has_peak};
 
-use meter_book_base::{AnyMeter, MeterFault, Parameters};
+use meter_book_base::{AnyMeter, SoundParameters};
 use moment_core::{Mode, Moment, Rate};
-use std::marker::Model;
-
-/// The parameters of a meter of any kind, with nothing wrong with them.
-#[derive(Clone, Copy, Debug, PartialEq, Eq)]
-pub struct SoundParameters {
-    parameters: Parameters,
-}
-
-impl Model for SoundParameters {
-    ghost use Rattle.std.specs.Prelude.{◌≡◌, None};
-    ghost use Rattle.meter_book_base.specs.declared.any_meter.Parameters.{Parameters};
-    ghost use Rattle.meter_book_base.specs.AnyMeter.{fault_of};
-
-    ghost Value = { Parameters };
-
-    ghost view = { λ s. s.parameters };
-
-    ghost invariant = { λ s. fault_of s.parameters ≡ None };
-
-    ghost inverse = { λ p. record { parameters = p } };
-}
-
-impl SoundParameters {
-    /// Parameters, if nothing is wrong with them; else what their meter's standard refuses.
-    pub fn new(parameters: Parameters) -> Result<Self, MeterFault>
-        ensures { MatchResult result
-            (λ sound. (fault_of parameters ≡ None) × (sound ≡ parameters))
-            (λ fault. fault_of parameters ≡ Some fault) }
-    {
-        match parameters.fault() {
-            None => Ok(SoundParameters { parameters }),
-            Some(fault) => Err(fault),
-        }
-    }
-
-    /// The parameters.
-    pub fn get(self) -> Parameters
-        ensures value { result ≡ self }
-        ensures sound { fault_of result ≡ None }
-    {
-        self.parameters
-    }
-
-    /// A meter with these parameters and full buckets at its origin.
-    pub fn opened(self, mode: Mode, origin: Moment) -> AnyMeter
-        ensures { result ≡ opening_of self mode origin }
-    {
-        AnyMeter::new(self.parameters, mode, origin).unwrap()
-    }
-}
 
 /// A rate and a burst that a contract's traffic keeps: any window of time has at most the burst and what the rate gives
 /// over the window (Cruz 1991, section II).
@@ -111,7 +60,7 @@ impl Terms {
     {
         match self {
             Terms::Trusted { .. } => None,
-            Terms::Policed { parameters, mode } => Some(parameters.opened(*mode, since)),
+            Terms::Policed { parameters, mode } => Some(AnyMeter::open(*parameters, *mode, since)),
         }
     }
 }

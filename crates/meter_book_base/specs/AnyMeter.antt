@@ -1,5 +1,5 @@
 -- Meters of any kind: each follows the rules of its own standard.
-use Rattle.std.specs.Prelude.{ℕ, Option, None, Some}
+use Rattle.std.specs.Prelude.{ℕ, Option, option_map}
 use Rattle.moment_core.specs.declared.colour.Colour.{Colour}
 use Rattle.moment_core.specs.declared.colour.Mode.{Mode}
 use Rattle.moment_core.specs.Metering.{How, Offer, after, colour_of, opening}
@@ -23,24 +23,21 @@ use Rattle.meter_book_base.specs.declared.any_meter.MeterFault.{MeterFault}
 use Rattle.meter_book_base.specs.declared.any_meter.MeterFault.TheVariants.{SizeZero, PeakBelowCommitted}
 
 -- the fault of a kind, among the faults of all kinds
-abbrev pub fault_of_single_rate : Option SrTcmFault → Option MeterFault
-fault_of_single_rate None = None
-fault_of_single_rate (Some single_rate_faults.SizeZero) = Some SizeZero
+abbrev pub single_rate_fault : SrTcmFault → MeterFault
+single_rate_fault single_rate_faults.SizeZero = SizeZero
 
-abbrev pub fault_of_two_rate : Option TrTcmFault → Option MeterFault
-fault_of_two_rate None = None
-fault_of_two_rate (Some two_rate_faults.SizeZero) = Some SizeZero
-fault_of_two_rate (Some two_rate_faults.PeakBelowCommitted) = Some PeakBelowCommitted
+abbrev pub two_rate_fault : TrTcmFault → MeterFault
+two_rate_fault two_rate_faults.SizeZero = SizeZero
+two_rate_fault two_rate_faults.PeakBelowCommitted = PeakBelowCommitted
 
-abbrev pub fault_of_separate_rates : Option Rfc4115Fault → Option MeterFault
-fault_of_separate_rates None = None
-fault_of_separate_rates (Some separate_rates_faults.SizeZero) = Some SizeZero
+abbrev pub separate_rates_fault : Rfc4115Fault → MeterFault
+separate_rates_fault separate_rates_faults.SizeZero = SizeZero
 
 -- what the standard of its kind finds wrong with parameters
 abbrev pub fault_of : Parameters → Option MeterFault
-fault_of (parameters.SrTcm p) = fault_of_single_rate (single_rates.fault_of p)
-fault_of (parameters.TrTcm p) = fault_of_two_rate (two_rates.fault_of p)
-fault_of (parameters.Rfc4115 p) = fault_of_separate_rates (excess_rates.fault_of p)
+fault_of (parameters.SrTcm p) = option_map single_rate_fault (single_rates.fault_of p)
+fault_of (parameters.TrTcm p) = option_map two_rate_fault (two_rates.fault_of p)
+fault_of (parameters.Rfc4115 p) = option_map separate_rates_fault (excess_rates.fault_of p)
 
 -- a meter with full buckets at its origin
 abbrev pub opening_of : Parameters → Mode → ℕ → AnyMeter

@@ -6,16 +6,16 @@ use Rattle.moment_core.specs.declared.column.Column.{Column}
 use Rattle.moment_core.specs.declared.column.Column.TheVariants as columns
 use Rattle.moment_core.specs.Colours.{IsNoBetter, output}
 use Rattle.moment_core.specs.Columns.{counts}
-use Rattle.moment_core.specs.Excess.{Levels}
+use Rattle.moment_core.specs.declared.bucket.Levels.{Levels}
 use Rattle.moment_core.specs.Metering.{Offer, Rules, State, after, departures, how, used}
-use Rattle.moment_core.proofs.OutputLaws.{departures-same, newest-after}
+use Rattle.moment_core.proofs.OutputLaws.{departures-same, never_improves, newest-after}
 use Rattle.envelope_core.specs.Curve.{KeepsCurve}
 use Rattle.srtcm_core.specs.SingleRate.{single_rate}
 use Rattle.srtcm_core.specs.Sizes as single_rate_sizes
 use Rattle.srtcm_core.specs.declared.parameters.SrTcmParameters.{SrTcmParameters}
 use Rattle.srtcm_core.proofs.OutputLaws as single_rates
 use Rattle.trtcm_core.specs.TwoRate.{two_rate}
-use Rattle.trtcm_core.specs.TwoRate as two_rate_levels
+use Rattle.trtcm_core.specs.declared.meter.Levels as two_rate_levels
 use Rattle.trtcm_core.specs.Sizes as two_rate_sizes
 use Rattle.trtcm_core.specs.declared.parameters.TrTcmParameters.{TrTcmParameters}
 use Rattle.trtcm_core.proofs.OutputLaws as two_rates
@@ -49,9 +49,9 @@ departures_of_separate_rates m offers =
 
 -- an aware meter never improves a colour
 pub never_improves-any : (m : AnyMeter) (o : Offer) → mode_of m ≡ Aware → IsNoBetter o.came (left_of m o)
-never_improves-any (meters.SrTcm m) o aware = single_rates.never_improves m o aware
-never_improves-any (meters.TrTcm m) o aware = two_rates.never_improves m o aware
-never_improves-any (meters.Rfc4115 m) o aware = excess_rates.never_improves m o aware
+never_improves-any (meters.SrTcm m) o aware = never_improves single_rate single_rates.no_better m o aware
+never_improves-any (meters.TrTcm m) o aware = never_improves two_rate two_rates.no_better m o aware
+never_improves-any (meters.Rfc4115 m) o aware = never_improves separate_rates excess_rates.no_better m o aware
 
 -- what leaves a meter of a kind with a colour of a column keeps the envelope of that column
 pub single_rate_keeps : (m : State SrTcmParameters Levels) → single_rate_sizes.IsWithinSizes m

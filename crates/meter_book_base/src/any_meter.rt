@@ -1,7 +1,7 @@
 ghost use Rattle.std.specs.Prelude.{◌≡◌, MatchResult, Option, None, Some};
 ghost use Rattle.moment_core.specs.Metering.{How};
 
-use moment_core::{Colour, Mode, Moment, PacketSize};
+use moment_core::{Colour, MeterParameters, MeterProfile, Mode, Moment, PacketSize};
 use rfc4115_core::{Rfc4115, Rfc4115Fault, Rfc4115Parameters};
 use srtcm_core::{SrTcm, SrTcmFault, SrTcmParameters};
 use thiserror::Error;
@@ -54,9 +54,10 @@ pub enum AnyMeter {
 }
 
 impl From<SrTcmFault> for MeterFault {
-    ghost use Rattle.meter_book_base.specs.AnyMeter.{fault_of_single_rate};
+    ghost use Rattle.std.specs.Prelude.{◌≡◌};
+    ghost use Rattle.meter_book_base.specs.AnyMeter.{single_rate_fault};
 
-    ghost from_gives = { λ fault own. fault_of_single_rate (Some fault) ≡ Some own };
+    ghost from_gives = { λ fault own. own ≡ single_rate_fault fault };
 
     fn from(fault: SrTcmFault) -> Self {
         match fault {
@@ -66,9 +67,10 @@ impl From<SrTcmFault> for MeterFault {
 }
 
 impl From<TrTcmFault> for MeterFault {
-    ghost use Rattle.meter_book_base.specs.AnyMeter.{fault_of_two_rate};
+    ghost use Rattle.std.specs.Prelude.{◌≡◌};
+    ghost use Rattle.meter_book_base.specs.AnyMeter.{two_rate_fault};
 
-    ghost from_gives = { λ fault own. fault_of_two_rate (Some fault) ≡ Some own };
+    ghost from_gives = { λ fault own. own ≡ two_rate_fault fault };
 
     fn from(fault: TrTcmFault) -> Self {
         match fault {
@@ -79,9 +81,10 @@ impl From<TrTcmFault> for MeterFault {
 }
 
 impl From<Rfc4115Fault> for MeterFault {
-    ghost use Rattle.meter_book_base.specs.AnyMeter.{fault_of_separate_rates};
+    ghost use Rattle.std.specs.Prelude.{◌≡◌};
+    ghost use Rattle.meter_book_base.specs.AnyMeter.{separate_rates_fault};
 
-    ghost from_gives = { λ fault own. fault_of_separate_rates (Some fault) ≡ Some own };
+    ghost from_gives = { λ fault own. own ≡ separate_rates_fault fault };
 
     fn from(fault: Rfc4115Fault) -> Self {
         match fault {
@@ -90,13 +93,17 @@ impl From<Rfc4115Fault> for MeterFault {
     }
 }
 
-impl Parameters {
-    ghost use Rattle.meter_book_base.specs.AnyMeter.{fault_of};
+/// Parameters of a meter of any kind with nothing wrong with them, from which it is opened.
+pub type SoundParameters = MeterProfile<Parameters>;
 
-    /// What is wrong with the parameters, if anything.
-    pub fn fault(&self) -> Option<MeterFault>
-        ensures { result ≡ fault_of self.now }
-    {
+impl MeterParameters for Parameters {
+    ghost use Rattle.meter_book_base.specs.AnyMeter as any;
+
+    type Fault = MeterFault;
+
+    ghost fault_of = { any.fault_of };
+
+    fn fault(&self) -> Option<MeterFault> {
         match self {
             Parameters::SrTcm(parameters) => parameters.fault().map(MeterFault::from),
             Parameters::TrTcm(parameters) => parameters.fault().map(MeterFault::from),
@@ -108,17 +115,32 @@ impl Parameters {
 impl AnyMeter {
     ghost use Rattle.meter_book_base.specs.AnyMeter.{after_any, fault_of, left_of, newest_of, opening_of};
 
-    /// A meter with full buckets at its origin; refused where the parameters are not those of a meter.
+    /// A meter with full buckets at its origin.
+    #[tactic(auto, using(crate::proofs::FaultLaws::none_of_map))]
+    pub fn open(profile: SoundParameters, mode: Mode, origin: Moment) -> Self
+        ensures { result ≡ opening_of profile mode origin }
+    {
+        match profile.get() {
+            Parameters::SrTcm(own) => {
+                AnyMeter::SrTcm(SrTcm::open(MeterProfile::of(own), mode, origin))
+            }
+            Parameters::TrTcm(own) => {
+                AnyMeter::TrTcm(TrTcm::open(MeterProfile::of(own), mode, origin))
+            }
+            Parameters::Rfc4115(own) => {
+                AnyMeter::Rfc4115(Rfc4115::open(MeterProfile::of(own), mode, origin))
+            }
+        }
+    }
+
+    /// The same of parameters that are not checked yet; refused where they are not those of a meter.
     pub fn new(parameters: Parameters, mode: Mode, origin: Moment) -> Result<Self, MeterFault>
         ensures { MatchResult result
             (λ meter. (fault_of parameters ≡ None) × (meter ≡ opening_of parameters mode origin))
             (λ fault. fault_of parameters ≡ Some fault) }
     {
-        Ok(match parameters {
-            Parameters::SrTcm(own) => AnyMeter::SrTcm(SrTcm::new(own, mode, origin)?),
-            Parameters::TrTcm(own) => AnyMeter::TrTcm(TrTcm::new(own, mode, origin)?),
-            Parameters::Rfc4115(own) => AnyMeter::Rfc4115(Rfc4115::new(own, mode, origin)?),
-        })
+        let profile = SoundParameters::new(parameters)?;
+        Ok(AnyMeter::open(profile, mode, origin))
     }
 
     /// The newest moment that it metered at: its origin at first.

@@ -11,8 +11,10 @@
 #![tactic(auto)]
 
 pub mod any_meter;
+pub mod kind;
 pub mod limits;
 pub mod meter;
 
-pub use any_meter::{AnyMeter, MeterFault, Parameters};
+pub use any_meter::{AnyMeter, MeterFault, Parameters, SoundParameters};
+pub use kind::MeterKind;
 pub use meter::Meter;

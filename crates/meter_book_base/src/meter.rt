@@ -8,11 +8,9 @@ ghost use Rattle.meter_book_base.specs.Envelopes.{all_output, excess_output, gre
 ghost use Rattle.meter_book_base.specs.declared.any_meter.Parameters.{Parameters};
 
 use crate::any_meter::{AnyMeter, Parameters};
+use crate::kind::MeterKind;
 use envelope_core::Envelope;
-use moment_core::{Colour, Mode, Moment, PacketSize};
-use rfc4115_core::Rfc4115;
-use srtcm_core::SrTcm;
-use trtcm_core::TrTcm;
+use moment_core::{Colour, Mode, Moment, PacketSize, TokenMeter};
 
 /// A three-colour meter: how it meters, and what its output keeps.
 ///
@@ -86,133 +84,44 @@ pub trait Meter {
         → (mode_of (how.after m o) ≡ mode_of m) × (parameters_of (how.after m o) ≡ parameters_of m) };
 }
 
-impl Meter for SrTcm {
+impl<K: MeterKind> Meter for TokenMeter<K> {
     ghost use Rattle.moment_core.specs.Metering as metering;
-    ghost use Rattle.srtcm_core.specs.SingleRate.{single_rate};
-    ghost use Rattle.srtcm_core.specs.Sizes.{IsWithinSizes};
-    ghost use Rattle.srtcm_core.proofs.OutputLaws as laws;
-    ghost use Rattle.meter_book_base.specs.declared.any_meter.Parameters.TheVariants as kinds;
-    ghost use Rattle.meter_book_base.specs.OutputLaws.{goes_on_by, single_rate_keeps, stays_itself_by};
+    ghost use Rattle.moment_core.proofs.OutputLaws as laws;
+    ghost use Rattle.meter_book_base.specs.OutputLaws.{goes_on_by, stays_itself_by};
 
-    ghost how = { metering.how single_rate };
+    ghost how = { metering.how K.rules };
 
     ghost mode_of = { λ m. m.mode };
 
-    ghost parameters_of = { λ m. kinds.SrTcm m.parameters };
+    ghost parameters_of = { λ m. K.any_of m.parameters };
 
-    ghost fits = { IsWithinSizes };
+    ghost fits = { λ m. K.fits m };
 
     fn admit(&mut self, moment: Moment, size: PacketSize, colour: Colour) -> Colour {
-        SrTcm::admit(self, moment, size, colour)
+        TokenMeter::admit(self, moment, size, colour)
     }
 
     fn newest(&self) -> Moment {
-        SrTcm::newest(self)
+        TokenMeter::newest(self)
     }
 
     fn mode(&self) -> Mode {
-        SrTcm::mode(self)
+        TokenMeter::mode(self)
     }
 
     fn parameters(&self) -> Parameters {
-        Parameters::SrTcm(SrTcm::parameters(self))
+        K::any(TokenMeter::parameters(self))
     }
 
-    ghost never_improves = { laws.never_improves };
+    ghost never_improves = { λ m o aware. laws.never_improves K.rules K.no_better m o aware };
 
-    ghost output_keeps = { single_rate_keeps };
+    ghost output_keeps = { K.output_keeps };
 
-    ghost stays_fit = { laws.IsWithinSizes-after };
+    ghost stays_fit = { K.stays_fit };
 
-    ghost goes_on = { goes_on_by single_rate };
+    ghost goes_on = { goes_on_by K.rules };
 
-    ghost stays_itself = { stays_itself_by single_rate (λ p. kinds.SrTcm p) };
-}
-
-impl Meter for TrTcm {
-    ghost use Rattle.moment_core.specs.Metering as metering;
-    ghost use Rattle.trtcm_core.specs.TwoRate.{two_rate};
-    ghost use Rattle.trtcm_core.specs.Sizes.{IsWithinSizes};
-    ghost use Rattle.trtcm_core.proofs.OutputLaws as laws;
-    ghost use Rattle.meter_book_base.specs.declared.any_meter.Parameters.TheVariants as kinds;
-    ghost use Rattle.meter_book_base.specs.OutputLaws.{goes_on_by, stays_itself_by, two_rate_keeps};
-
-    ghost how = { metering.how two_rate };
-
-    ghost mode_of = { λ m. m.mode };
-
-    ghost parameters_of = { λ m. kinds.TrTcm m.parameters };
-
-    ghost fits = { IsWithinSizes };
-
-    fn admit(&mut self, moment: Moment, size: PacketSize, colour: Colour) -> Colour {
-        TrTcm::admit(self, moment, size, colour)
-    }
-
-    fn newest(&self) -> Moment {
-        TrTcm::newest(self)
-    }
-
-    fn mode(&self) -> Mode {
-        TrTcm::mode(self)
-    }
-
-    fn parameters(&self) -> Parameters {
-        Parameters::TrTcm(TrTcm::parameters(self))
-    }
-
-    ghost never_improves = { laws.never_improves };
-
-    ghost output_keeps = { two_rate_keeps };
-
-    ghost stays_fit = { laws.IsWithinSizes-after };
-
-    ghost goes_on = { goes_on_by two_rate };
-
-    ghost stays_itself = { stays_itself_by two_rate (λ p. kinds.TrTcm p) };
-}
-
-impl Meter for Rfc4115 {
-    ghost use Rattle.moment_core.specs.Metering as metering;
-    ghost use Rattle.rfc4115_core.specs.SeparateRates.{separate_rates};
-    ghost use Rattle.rfc4115_core.specs.Sizes.{IsWithinSizes};
-    ghost use Rattle.rfc4115_core.proofs.OutputLaws as laws;
-    ghost use Rattle.meter_book_base.specs.declared.any_meter.Parameters.TheVariants as kinds;
-    ghost use Rattle.meter_book_base.specs.OutputLaws.{goes_on_by, separate_rates_keep, stays_itself_by};
-
-    ghost how = { metering.how separate_rates };
-
-    ghost mode_of = { λ m. m.mode };
-
-    ghost parameters_of = { λ m. kinds.Rfc4115 m.parameters };
-
-    ghost fits = { IsWithinSizes };
-
-    fn admit(&mut self, moment: Moment, size: PacketSize, colour: Colour) -> Colour {
-        Rfc4115::admit(self, moment, size, colour)
-    }
-
-    fn newest(&self) -> Moment {
-        Rfc4115::newest(self)
-    }
-
-    fn mode(&self) -> Mode {
-        Rfc4115::mode(self)
-    }
-
-    fn parameters(&self) -> Parameters {
-        Parameters::Rfc4115(Rfc4115::parameters(self))
-    }
-
-    ghost never_improves = { laws.never_improves };
-
-    ghost output_keeps = { separate_rates_keep };
-
-    ghost stays_fit = { laws.IsWithinSizes-after };
-
-    ghost goes_on = { goes_on_by separate_rates };
-
-    ghost stays_itself = { stays_itself_by separate_rates (λ p. kinds.Rfc4115 p) };
+    ghost stays_itself = { stays_itself_by K.rules K.any_of };
 }
 
 impl Meter for AnyMeter {

@@ -1,8 +1,9 @@
 -- What a packet does to a committed and an excess bucket.
-use Rattle.std.proofs.Common.{◌≡◌, ℕ, ◌+◌, ◌≤◌, true, false, cond, ltb, refl, arith}
+use Rattle.std.proofs.Common.{ℕ, ◌+◌, ◌≤◌, true, false, cond, ltb, arith}
 use Rattle.std.proofs.lemmas.Bool.Decides.{nat_tests}
 use Rattle.moment_core.specs.Colours.{IsNoBetter, is_green, is_in_profile, is_yellow}
-use Rattle.moment_core.specs.Excess.{Levels, coloured, without}
+use Rattle.moment_core.specs.Excess.{coloured, without}
+use Rattle.moment_core.specs.declared.bucket.Levels.{Levels}
 use Rattle.moment_core.specs.declared.colour.Colour.{Colour}
 use Rattle.moment_core.specs.declared.colour.Colour.TheVariants.{Green, Yellow, Red}
 
@@ -50,7 +51,3 @@ unfolding without
 excess_falls l size Green = omega arith
 excess_falls l size Yellow = omega arith
 excess_falls l size Red = omega arith
-
--- levels are their two numbers
-pub same_levels : (l : Levels) (committed excess : ℕ) → l.committed ≡ committed → l.excess ≡ excess → l ≡ record { committed = committed; excess = excess }
-same_levels l committed excess c e = rw (← c, ← e) refl

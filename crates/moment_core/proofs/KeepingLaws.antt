@@ -3,7 +3,8 @@ use Rattle.std.proofs.Common.{◌≡◌, ℕ, ◌+◌, ◌≤◌, false, cond, l
 use Rattle.std.proofs.lemmas.Bool.Decides.{nat_tests}
 use Rattle.moment_core.specs.Colours.{is_green, is_in_profile, is_yellow}
 use Rattle.moment_core.specs.Conformance.{KeepsUpTo}
-use Rattle.moment_core.specs.Excess.{Levels, coloured, committed_or_excess, without}
+use Rattle.moment_core.specs.Excess.{coloured, committed_or_excess, without}
+use Rattle.moment_core.specs.declared.bucket.Levels.{Levels}
 use Rattle.moment_core.specs.Metering.{Departure, Offer, departures, how, levels_at, opening, used}
 use Rattle.moment_core.specs.declared.colour.Colour.{Colour}
 use Rattle.moment_core.specs.declared.colour.Colour.TheVariants.{Green, Yellow, Red}

@@ -1,11 +1,10 @@
 -- How the parts of a metering step compute, over any rules.
 use Rattle.std.proofs.Common.{◌≡◌, ℕ, ◌+◌, ◌-◌, ◌*◌, ◌/◌, ◌<◌, ◌≤◌, zero, suc, refl, ◌∙◌, ap, arith}
 use Rattle.std.proofs.lemmas.Bool.Decides.{nat_tests}
-use Rattle.moment_core.specs.Tokens.{each_nanosecond, given, tokens_at, with_tokens}
-use Rattle.moment_core.specs.Fillings.{IsCounted, filled_over, moved_on}
+use Rattle.moment_core.specs.Tokens.{Content, each_nanosecond, given, tokens_at, with_tokens}
+use Rattle.moment_core.specs.Fillings.{filled_over, filling_of}
 use Rattle.moment_core.specs.Metering.{Offer, Rules, State, after, colour_of, filled, levels_at, seen, used}
 use Rattle.moment_core.specs.declared.colour.Colour.{Colour}
-use Rattle.moment_core.specs.declared.filling.Clock.{Clock}
 use Rattle.moment_core.specs.declared.filling.Filling.{Filling}
 use Rattle.moment_core.proofs.TokenLaws.{begun_token-since, each_nanosecond-with_tokens, given-since}
 
@@ -84,31 +83,30 @@ unfolding after filled
 admitted-after rules m before o left now fill colour taken =
     rw (taken, admitted-colour rules m before o left fill colour, fill) refl
 
--- a clock that moved on to an arrival over a gap
-pub record IsMoved (clock now : Clock) (arrival gap : ℕ) : Type 0 where
-  pub begun : clock.origin ≤ clock.newest
-  pub moved : now ≡ moved_on clock arrival
-  pub span : gap ≡ now.newest - clock.newest
+-- The tokens that a bucket takes in over the gap to the moment that is metered at, with the part of a token that was
+-- begun, are those that the token law gives up to it.
+pub drawn : {P L : Type 0} (m : State P L) (rate size level arrival gap : ℕ) (f : Filling) → m.origin ≤ m.newest
+    → f ≡ filling_of m rate size level → gap ≡ used m.newest arrival - m.newest
+    → (f.rate * gap + f.begun) / 8000000000 ≡ given rate m.origin (used m.newest arrival) - given rate m.origin m.newest
+drawn m rate size level arrival gap f begun same span =
+    rw (same, span) (given-since rate m.origin m.newest (used m.newest arrival) begun (newest_le-used m.newest arrival))
 
--- the origin is not after the moment that is metered at
-pub origin_le-moved : (clock now : Clock) (arrival gap : ℕ) → IsMoved clock now arrival gap → now.origin ≤ now.newest
-origin_le-moved clock now arrival gap m = rw m.moved (omega (arith, m.begun, newest_le-used clock.newest arrival))
+-- so it is then as in the meter that is filled up to that moment
+pub fills : {P L : Type 0} (rules : Rules P L) (level : L → ℕ) (size rate : P → ℕ) → IsFilledAt rules level size rate
+    → (m : State P L) (arrival gap : ℕ) (f next : Filling) → m.origin ≤ m.newest
+    → f ≡ filling_of m (rate m.parameters) (size m.parameters) (level m.levels) → gap ≡ used m.newest arrival - m.newest → next ≡ filled_over f gap
+    → next ≡ filling_of (filled rules m arrival) (rate m.parameters) (size m.parameters) (level (levels_at rules m (used m.newest arrival)))
+unfolding filled
+fills rules level size rate fill m arrival gap f next begun same span is_filled =
+    let r = rate m.parameters in
+    let later = newest_le-used m.newest arrival in
+    let tokens = given-since r m.origin m.newest (used m.newest arrival) begun later in
+    let part = begun_token-since r m.origin m.newest (used m.newest arrival) begun later in
+    rw (is_filled, same, span, fill m arrival, tokens, part) refl
 
--- The tokens that a bucket takes in over that gap, with the part of a token that was begun, are those that the token law
--- gives from the newest moment to the one that is metered at.
-pub drawn-filled : (clock now : Clock) (f : Filling) (arrival gap : ℕ) → IsMoved clock now arrival gap → IsCounted clock f
-    → (f.rate * gap + f.begun) / 8000000000 ≡ given f.rate clock.origin (used clock.newest arrival) - given f.rate clock.origin clock.newest
-drawn-filled clock now f arrival gap m counted =
-    rw (counted, m.span, m.moved) (given-since f.rate clock.origin clock.newest (used clock.newest arrival) m.begun (newest_le-used clock.newest arrival))
-
--- so its level is filled with those
-pub level-filled : (clock now : Clock) (f next : Filling) (arrival gap : ℕ) → IsMoved clock now arrival gap → IsCounted clock f → next ≡ filled_over f gap
-    → next.bucket.level ≡ with_tokens f.bucket.size (given f.rate clock.origin (used clock.newest arrival) - given f.rate clock.origin clock.newest) f.bucket.level
-level-filled clock now f next arrival gap m counted filled =
-    rw (filled, drawn-filled clock now f arrival gap m counted) refl
-
--- and what it keeps then is the part that is begun at that moment
-pub IsCounted-filled : (clock now : Clock) (f next : Filling) (arrival gap : ℕ) → IsMoved clock now arrival gap → IsCounted clock f → next ≡ filled_over f gap
-    → IsCounted now next
-IsCounted-filled clock now f next arrival gap m counted filled =
-    rw (filled, counted, m.span, m.moved) (begun_token-since f.rate clock.origin clock.newest (used clock.newest arrival) m.begun (newest_le-used clock.newest arrival))
+-- and where bytes are taken out of it, it has that level
+pub drained : {P L : Type 0} (m : State P L) (rate size level : ℕ) (f : Filling) (bucket : Content) → f ≡ filling_of m rate size level
+    → bucket.size ≡ f.bucket.size → record f { bucket = bucket } ≡ filling_of m rate size bucket.level
+drained m rate size level f bucket same kept =
+    let sized : bucket.size ≡ size = kept ∙ ap (λ (g : Filling). g.bucket.size) same in
+    rw (same, ← sized) refl

@@ -2,12 +2,8 @@
 use Rattle.std.specs.Prelude.{ℕ, ◌-◌, nat_lt, if◌then◌else◌}
 use Rattle.moment_core.specs.declared.colour.Colour.{Colour}
 use Rattle.moment_core.specs.declared.colour.Colour.TheVariants.{Green, Yellow, Red}
+use Rattle.moment_core.specs.declared.bucket.Levels.{Levels}
 use Rattle.moment_core.specs.Metering.{Rules}
-
--- the levels of the two buckets, Tc and Te
-pub record Levels : Type 0 where
-  pub committed : ℕ
-  pub excess : ℕ
 
 -- A packet of this size that comes in with this colour is green if it comes in green and the committed bucket has
 -- enough, else yellow if it does not come in red and the excess bucket has enough, else red

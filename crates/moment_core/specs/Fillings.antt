@@ -1,8 +1,9 @@
 -- What a meter keeps between packets: its clock, and buckets with the rates that fill them.
-use Rattle.std.specs.Prelude.{◌≡◌, ℕ, ◌+◌, ◌*◌, ◌/◌, ◌%◌, refl}
+use Rattle.std.specs.Prelude.{ℕ, ◌+◌, ◌*◌, ◌/◌, ◌%◌}
+use Rattle.moment_core.specs.declared.colour.Mode.{Mode}
 use Rattle.moment_core.specs.declared.filling.Clock.{Clock}
 use Rattle.moment_core.specs.declared.filling.Filling.{Filling}
-use Rattle.moment_core.specs.Metering.{used}
+use Rattle.moment_core.specs.Metering.{State, used}
 use Rattle.moment_core.specs.Tokens.{begun_token, with_tokens}
 
 -- a clock after an arrival
@@ -20,19 +21,13 @@ filled_over f gap = record {
   begun = (f.rate * gap + f.begun) % 8000000000;
 }
 
--- the part of a token that is begun is counted from the origin
-abbrev pub IsCounted : Clock → Filling → Type 0
-IsCounted clock f = f.begun ≡ begun_token f.rate clock.origin clock.newest
+-- A bucket of a meter, filled at a rate, with a size and a level: the part of a token that is begun is counted from the
+-- origin.
+abbrev pub filling_of : {P L : Type 0} → State P L → ℕ → ℕ → ℕ → Filling
+filling_of m rate size level =
+    record { bucket = record { level = level; size = size }; rate = rate; begun = begun_token rate m.origin m.newest }
 
--- so a rate, a size and a level say all of a bucket that is filled
-abbrev pub filling_of : Clock → ℕ → ℕ → ℕ → Filling
-filling_of clock rate size level =
-    record {
-      bucket = record { level = level; size = size };
-      rate = rate;
-      begun = begun_token rate clock.origin clock.newest;
-    }
-
-pub filling_of-same : (clock : Clock) (f : Filling) → IsCounted clock f
-    → filling_of clock f.rate f.bucket.size f.bucket.level ≡ f
-filling_of-same clock f counted = rw (← counted) refl
+-- the state of a meter with this mode, clock, parameters and levels
+abbrev pub state_at : {P L : Type 0} → Mode → Clock → P → L → State P L
+state_at mode clock p l =
+    record { parameters = p; mode = mode; origin = clock.origin; newest = clock.newest; levels = l }

@@ -79,6 +79,15 @@ impl Bucket {
     }
 }
 
+/// The levels of a committed and an excess bucket, in bytes (RFC 2697 section 3, RFC 4115).
+#[derive(Clone, Copy, Debug, PartialEq, Eq)]
+pub struct Levels {
+    /// Tc: the level of the committed bucket.
+    pub committed: u32,
+    /// Te: the level of the excess bucket.
+    pub excess: u32,
+}
+
 /// Takes a packet's bytes out of the bucket that its colour names, and answers that colour: green where it is seen
 /// green and the committed bucket has enough, else yellow where it is not seen red and the excess bucket has enough,
 /// else red (RFC 2697 section 3, RFC 4115).

@@ -2,7 +2,8 @@
 use Rattle.std.proofs.Common.{◌≡◌, ℕ, List, ap, refl, sym, ◌∙◌, arith}
 use Rattle.moment_core.specs.Colours.{is_green, is_yellow}
 use Rattle.moment_core.specs.Conformance.{KeepsUpTo}
-use Rattle.moment_core.specs.Excess.{Levels, coloured}
+use Rattle.moment_core.specs.Excess.{coloured}
+use Rattle.moment_core.specs.declared.bucket.Levels.{Levels}
 use Rattle.moment_core.specs.Metering.{Departure, Offer, State, colour_of, departures, how, levels_at, opening, seen, used}
 use Rattle.moment_core.specs.declared.colour.Colour.TheVariants.{Green, Yellow}
 use Rattle.moment_core.specs.declared.colour.Mode.TheVariants.{Aware}

@@ -1,13 +1,14 @@
 -- What leaves a meter with two separate rates: colours that are no better than those that came, and envelopes that are kept.
-use Rattle.std.proofs.Common.{◌≡◌, ℕ, ◌+◌, ◌-◌, ◌≤◌, List, arith}
+use Rattle.std.proofs.Common.{ℕ, ◌+◌, ◌-◌, ◌≤◌, List, arith}
 use Rattle.moment_core.specs.Colours.{IsNoBetter, is_green, is_in_profile, is_yellow, output}
 use Rattle.moment_core.specs.Conformance.{Keeps}
-use Rattle.moment_core.specs.Excess.{Levels}
-use Rattle.moment_core.specs.Metering.{Offer, State, after, colour_of, departures, how, levels_at, opening, used}
+use Rattle.moment_core.specs.declared.bucket.Levels.{Levels}
+use Rattle.moment_core.specs.Metering.{Offer, State, after, departures, how, levels_at, opening, used}
 use Rattle.moment_core.specs.Tokens.{given}
+use Rattle.moment_core.specs.declared.colour.Colour.{Colour}
 use Rattle.moment_core.specs.declared.colour.Mode.{Mode}
-use Rattle.moment_core.specs.declared.colour.Mode.TheVariants.{Aware}
-use Rattle.moment_core.proofs.ExcessLaws.{both_pay, committed_falls, excess_falls, green_pays, no_better, yellow_pays}
+use Rattle.moment_core.proofs.ExcessLaws.{both_pay, committed_falls, excess_falls, green_pays, yellow_pays}
+use Rattle.moment_core.proofs.ExcessLaws as excess_laws
 use Rattle.moment_core.proofs.MeteringLaws.{newest_le-used}
 use Rattle.moment_core.proofs.OutputLaws as output_laws
 use Rattle.moment_core.proofs.TokenLaws.{given-mono}
@@ -16,10 +17,10 @@ use Rattle.rfc4115_core.specs.SeparateRates.{full, separate_rates}
 use Rattle.rfc4115_core.specs.Sizes.{IsWithinSizes}
 use Rattle.rfc4115_core.proofs.SeparateRatesLaws.{committed_filled, excess_filled}
 
--- an aware meter never improves a colour
-pub never_improves : (m : State Rfc4115Parameters Levels) (o : Offer) → m.mode ≡ Aware → IsNoBetter o.came (colour_of separate_rates m o)
+-- a packet never leaves with a better colour than it came in with
+pub no_better : (l : Levels) (size : ℕ) (came : Colour) → IsNoBetter came (separate_rates.coloured l size came)
 unfolding separate_rates
-never_improves m o aware = output_laws.never_improves separate_rates no_better m o aware
+no_better = excess_laws.no_better
 
 -- what the buckets hold before a packet
 both_gain : (m : State Rfc4115Parameters Levels) (moment : ℕ)

@@ -1,3 +1,3 @@
+pub mod Buckets
 pub mod SeparateRates
-pub mod Kept
 pub mod Sizes

@@ -1,6 +1,7 @@
 -- The two-rate three-colour marker whose buckets are filled each at its own rate (RFC 4115).
 use Rattle.std.specs.Prelude.{ℕ, nat_eq, ◌&&◌, if◌then◌else◌, Option, None, Some}
-use Rattle.moment_core.specs.Excess.{Levels, committed_or_excess}
+use Rattle.moment_core.specs.Excess.{committed_or_excess}
+use Rattle.moment_core.specs.declared.bucket.Levels.{Levels}
 use Rattle.moment_core.specs.Metering.{Rules}
 use Rattle.moment_core.specs.Tokens.{tokens_at, with_tokens}
 use Rattle.rfc4115_core.specs.declared.parameters.Rfc4115Parameters.{Rfc4115Parameters}

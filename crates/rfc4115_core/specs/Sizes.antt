@@ -1,6 +1,6 @@
 -- The levels that a meter with two separate rates can have.
 use Rattle.std.specs.Prelude.{◌≤◌}
-use Rattle.moment_core.specs.Excess.{Levels}
+use Rattle.moment_core.specs.declared.bucket.Levels.{Levels}
 use Rattle.moment_core.specs.Metering.{State}
 use Rattle.rfc4115_core.specs.declared.parameters.Rfc4115Parameters.{Rfc4115Parameters}
 

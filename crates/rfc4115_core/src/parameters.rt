@@ -1,6 +1,6 @@
 ghost use Rattle.std.specs.Prelude.{◌≡◌};
 
-use moment_core::Rate;
+use moment_core::{MeterParameters, Rate};
 use thiserror::Error;
 
 /// The parameters of a two-rate three-colour meter (RFC 4115).
@@ -35,13 +35,15 @@ impl Rfc4115Fault {
     }
 }
 
-impl Rfc4115Parameters {
-    ghost use Rattle.rfc4115_core.specs.SeparateRates.{fault_of};
+impl MeterParameters for Rfc4115Parameters {
+    ghost use Rattle.rfc4115_core.specs.SeparateRates as kind;
+
+    type Fault = Rfc4115Fault;
+
+    ghost fault_of = { kind.fault_of };
 
     /// What is wrong with the parameters, if anything: that both burst sizes are 0.
-    pub fn fault(&self) -> Option<Rfc4115Fault>
-        ensures { result ≡ fault_of self.now }
-    {
+    fn fault(&self) -> Option<Rfc4115Fault> {
         if self.committed_burst == 0 && self.excess_burst == 0 {
             Some(Rfc4115Fault::SizeZero)
         } else {

@@ -2,7 +2,7 @@
 use Rattle.std.proofs.Common.{◌≡◌, ℕ, ◌+◌, ◌-◌, ◌≤◌, ◌⊎◌, cond, List, refl, arith, inl, inr}
 use Rattle.moment_core.specs.Colours.{is_green, is_in_profile, is_yellow}
 use Rattle.moment_core.specs.Conformance.{KeepsUpTo}
-use Rattle.moment_core.specs.Excess.{Levels}
+use Rattle.moment_core.specs.declared.bucket.Levels.{Levels}
 use Rattle.moment_core.specs.Metering.{Departure, Offer, State, after, colour_of, departures, how, levels_at, opening, used}
 use Rattle.moment_core.specs.Tokens.{given, with_tokens}
 use Rattle.moment_core.specs.declared.colour.Colour.{Colour}
@@ -16,7 +16,8 @@ use Rattle.moment_core.proofs.TokenLaws.{given-mono}
 use Rattle.srtcm_core.specs.declared.parameters.SrTcmParameters.{SrTcmParameters}
 use Rattle.srtcm_core.specs.SingleRate.{full, gain, single_rate}
 use Rattle.srtcm_core.specs.Sizes.{IsWithinSizes}
-use Rattle.srtcm_core.proofs.OutputLaws.{IsWithinSizes-after, IsWithinSizes-opening, committed_filled, committed_fits, excess_level, gained}
+use Rattle.srtcm_core.proofs.OutputLaws.{IsWithinSizes-after, IsWithinSizes-opening, committed_fits}
+use Rattle.srtcm_core.proofs.SingleRateLaws.{committed_filled, excess_level, gained}
 
 -- a green packet leaves green where, in the windows that end with it, green ones keep the committed rate and burst
 pub green_stays_green : (end : ℕ) (p : SrTcmParameters) (origin : ℕ) (offers : List Offer)

@@ -1,40 +1,26 @@
 -- What leaves a single-rate meter: colours that are no better than those that came, and envelopes that are kept.
-use Rattle.std.proofs.Common.{◌≡◌, ℕ, ◌+◌, ◌-◌, ◌≤◌, List, ap, arith}
+use Rattle.std.proofs.Common.{ℕ, ◌+◌, ◌-◌, ◌≤◌, List, arith}
 use Rattle.moment_core.specs.Colours.{IsNoBetter, is_green, is_in_profile, is_yellow, output}
 use Rattle.moment_core.specs.Conformance.{Keeps}
-use Rattle.moment_core.specs.Excess.{Levels}
-use Rattle.moment_core.specs.Metering.{Offer, State, after, colour_of, departures, how, levels_at, opening, used}
-use Rattle.moment_core.specs.Tokens.{given, with_tokens}
+use Rattle.moment_core.specs.declared.bucket.Levels.{Levels}
+use Rattle.moment_core.specs.Metering.{Offer, State, after, departures, how, levels_at, opening, used}
+use Rattle.moment_core.specs.Tokens.{with_tokens}
+use Rattle.moment_core.specs.declared.colour.Colour.{Colour}
 use Rattle.moment_core.specs.declared.colour.Mode.{Mode}
-use Rattle.moment_core.specs.declared.colour.Mode.TheVariants.{Aware}
-use Rattle.moment_core.proofs.ExcessLaws.{both_pay, committed_falls, excess_falls, green_pays, no_better, yellow_pays}
+use Rattle.moment_core.proofs.ExcessLaws.{both_pay, committed_falls, excess_falls, green_pays, yellow_pays}
+use Rattle.moment_core.proofs.ExcessLaws as excess_laws
 use Rattle.moment_core.proofs.FillingLaws.{with_tokens_le, with_tokens_within}
-use Rattle.moment_core.proofs.MeteringLaws.{IsFilledAt}
 use Rattle.moment_core.proofs.OutputLaws as output_laws
 use Rattle.moment_core.proofs.RoomLaws.{with_tokens-grows}
 use Rattle.srtcm_core.specs.declared.parameters.SrTcmParameters.{SrTcmParameters}
 use Rattle.srtcm_core.specs.SingleRate.{full, single_rate}
 use Rattle.srtcm_core.specs.Sizes.{IsWithinSizes}
-use Rattle.srtcm_core.proofs.SingleRateLaws.{closed, levels_at-single_rate}
+use Rattle.srtcm_core.proofs.SingleRateLaws.{committed_filled, excess_level, gained}
 
--- an aware meter never improves a colour
-pub never_improves : (m : State SrTcmParameters Levels) (o : Offer) → m.mode ≡ Aware → IsNoBetter o.came (colour_of single_rate m o)
+-- a packet never leaves with a better colour than it came in with
+pub no_better : (l : Levels) (size : ℕ) (came : Colour) → IsNoBetter came (single_rate.coloured l size came)
 unfolding single_rate
-never_improves m o aware = output_laws.never_improves single_rate no_better m o aware
-
--- the tokens that the meter is given up to the moment that it meters at
-abbrev pub gained : State SrTcmParameters Levels → ℕ → ℕ
-gained m moment = given m.parameters.committed_rate m.origin (used m.newest moment) - given m.parameters.committed_rate m.origin m.newest
-
-pub committed_filled : IsFilledAt single_rate (λ l. l.committed) (λ p. p.committed_burst) (λ p. p.committed_rate)
-unfolding closed
-committed_filled m moment = ap (λ (l : Levels). l.committed) (levels_at-single_rate m moment)
-
-pub excess_level : (m : State SrTcmParameters Levels) (moment : ℕ)
-    → (levels_at single_rate m (used m.newest moment)).excess
-    ≡ with_tokens m.parameters.excess_burst (m.levels.committed + gained m moment - with_tokens m.parameters.committed_burst (gained m moment) m.levels.committed) m.levels.excess
-unfolding closed
-excess_level m moment = ap (λ (l : Levels). l.excess) (levels_at-single_rate m moment)
+no_better = excess_laws.no_better
 
 -- the excess bucket gains no more than the tokens, of which it is given those that the committed one has no room for
 excess_gains : (m : State SrTcmParameters Levels) (moment : ℕ) → (levels_at single_rate m (used m.newest moment)).excess ≤ m.levels.excess + gained m moment

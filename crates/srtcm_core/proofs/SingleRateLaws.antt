@@ -1,14 +1,14 @@
 -- The levels of a single-rate meter in closed form.
-use Rattle.std.proofs.Common.{◌≡◌, ℕ, ◌+◌, ◌-◌, ◌<◌, ◌≤◌, zero, suc, true, false, ltb, refl, ◌∙◌, arith, inl, inr}
+use Rattle.std.proofs.Common.{◌≡◌, ℕ, ◌+◌, ◌-◌, ◌<◌, ◌≤◌, zero, suc, true, false, ltb, refl, ◌∙◌, ap, arith, inl, inr}
 use Rattle.std.specs.Fn.{iterate}
 use Rattle.std.proofs.lemmas.Bool.{cases_lt}
 use Rattle.std.proofs.lemmas.Bool.Decides.{nat_tests}
-use Rattle.moment_core.specs.Excess.{Levels}
+use Rattle.moment_core.specs.declared.bucket.Levels.{Levels}
 use Rattle.moment_core.specs.Metering.{State, levels_at, used}
 use Rattle.moment_core.specs.Tokens as tokens
 use Rattle.moment_core.specs.Tokens.{given, with_tokens}
 use Rattle.moment_core.proofs.FillingLaws.{iterated_to, with_tokens_over}
-use Rattle.moment_core.proofs.MeteringLaws.{newest_le-used}
+use Rattle.moment_core.proofs.MeteringLaws.{IsFilledAt, newest_le-used}
 use Rattle.moment_core.proofs.TokenLaws.{with_token-at, with_token-below, with_tokens-none}
 use Rattle.srtcm_core.specs.declared.parameters.SrTcmParameters.{SrTcmParameters}
 use Rattle.srtcm_core.specs.SingleRate.{gain, single_rate, with_token}
@@ -72,23 +72,27 @@ with_token-closed p (suc count) committed excess =
           ]
     ]
 
+-- the tokens that the meter is given up to the moment that it meters at
+abbrev pub gained : State SrTcmParameters Levels → ℕ → ℕ
+gained m moment = given m.parameters.committed_rate m.origin (used m.newest moment) - given m.parameters.committed_rate m.origin m.newest
+
 -- both levels before a packet
 pub levels_at-single_rate : (m : State SrTcmParameters Levels) (moment : ℕ)
-    → levels_at single_rate m (used m.newest moment)
-    ≡ closed m.parameters (given m.parameters.committed_rate m.origin (used m.newest moment) - given m.parameters.committed_rate m.origin m.newest) m.levels.committed m.levels.excess
+    → levels_at single_rate m (used m.newest moment) ≡ closed m.parameters (gained m moment) m.levels.committed m.levels.excess
 unfolding levels_at single_rate gain
 levels_at-single_rate m moment =
     let l = m.levels in
     iterated_to (with_token m.parameters) m.parameters.committed_rate m.origin m.newest (used m.newest moment) l (newest_le-used m.newest moment)
-    ∙ with_token-closed m.parameters (given m.parameters.committed_rate m.origin (used m.newest moment) - given m.parameters.committed_rate m.origin m.newest) l.committed l.excess
+    ∙ with_token-closed m.parameters (gained m moment) l.committed l.excess
 
--- and as a committed bucket that was filled and an excess bucket that was given its surplus
-pub levels_at-filled : (m : State SrTcmParameters Levels) (moment committed surplus excess : ℕ)
-    → committed ≡ with_tokens m.parameters.committed_burst (given m.parameters.committed_rate m.origin (used m.newest moment) - given m.parameters.committed_rate m.origin m.newest) m.levels.committed
-    → committed + surplus ≡ m.levels.committed + (given m.parameters.committed_rate m.origin (used m.newest moment) - given m.parameters.committed_rate m.origin m.newest)
-    → excess ≡ with_tokens m.parameters.excess_burst surplus m.levels.excess
-    → levels_at single_rate m (used m.newest moment) ≡ record { committed = committed; excess = excess }
+-- so the committed bucket has the tokens of its rate
+pub committed_filled : IsFilledAt single_rate (λ l. l.committed) (λ p. p.committed_burst) (λ p. p.committed_rate)
 unfolding closed
-levels_at-filled m moment committed surplus excess c s e =
-    let rest : m.levels.committed + (given m.parameters.committed_rate m.origin (used m.newest moment) - given m.parameters.committed_rate m.origin m.newest) - committed ≡ surplus = omega arith in
-    levels_at-single_rate m moment ∙ rw (← c, rest, ← e) refl
+committed_filled m moment = ap (λ (l : Levels). l.committed) (levels_at-single_rate m moment)
+
+-- and the excess bucket those that the committed one had no room for
+pub excess_level : (m : State SrTcmParameters Levels) (moment : ℕ)
+    → (levels_at single_rate m (used m.newest moment)).excess
+    ≡ with_tokens m.parameters.excess_burst (m.levels.committed + gained m moment - with_tokens m.parameters.committed_burst (gained m moment) m.levels.committed) m.levels.excess
+unfolding closed
+excess_level m moment = ap (λ (l : Levels). l.excess) (levels_at-single_rate m moment)

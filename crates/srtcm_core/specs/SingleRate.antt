@@ -1,7 +1,8 @@
 -- The single-rate three-colour marker (RFC 2697).
 use Rattle.std.specs.Prelude.{ℕ, ◌+◌, nat_lt, nat_eq, ◌&&◌, if◌then◌else◌, Option, None, Some}
 use Rattle.std.specs.Fn.{iterate}
-use Rattle.moment_core.specs.Excess.{Levels, committed_or_excess}
+use Rattle.moment_core.specs.Excess.{committed_or_excess}
+use Rattle.moment_core.specs.declared.bucket.Levels.{Levels}
 use Rattle.moment_core.specs.Metering.{Rules}
 use Rattle.moment_core.specs.Tokens.{tokens_at}
 use Rattle.srtcm_core.specs.declared.parameters.SrTcmParameters.{SrTcmParameters}

@@ -1,6 +1,6 @@
 -- The levels that a single-rate meter can have.
 use Rattle.std.specs.Prelude.{◌≤◌}
-use Rattle.moment_core.specs.Excess.{Levels}
+use Rattle.moment_core.specs.declared.bucket.Levels.{Levels}
 use Rattle.moment_core.specs.Metering.{State}
 use Rattle.srtcm_core.specs.declared.parameters.SrTcmParameters.{SrTcmParameters}
 

@@ -3,10 +3,10 @@
 //! Each rule, its definition in `specs/` here or in `moment_core/specs/`, and the function that keeps it:
 //!
 //! - CIR, CBS and EBS, of which not both bursts are 0 (RFC 2697 section 2) → `SingleRate.fault_of` →
-//!   `SrTcmParameters::fault`
-//! - Tc and Te begin full (section 3) → `SingleRate.full` → `SrTcm::new`
+//!   `fault` of `SrTcmParameters`
+//! - Tc and Te begin full (section 3) → `SingleRate.full` → `full` of `SingleRate`, with which `SrTcm::open` begins
 //! - a token goes to Tc, else to Te, else it is lost (section 3) → `SingleRate.with_token`, `SingleRate.gain` →
-//!   `SrTcm::fill_to`
+//!   `fill_over` of `SingleRate`
 //! - the colour-blind mode (section 3) → `Metering.seen` → `Mode::seen`
 //! - a packet's colour, and what it takes from Tc or Te (section 3) → `Excess.coloured`, `Excess.without` →
 //!   `take_committed_or_excess`
@@ -16,5 +16,5 @@
 pub mod meter;
 pub mod parameters;
 
-pub use meter::SrTcm;
+pub use meter::{SingleRate, SrTcm};
 pub use parameters::{SrTcmFault, SrTcmParameters};

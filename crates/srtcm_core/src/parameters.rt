@@ -1,6 +1,6 @@
 ghost use Rattle.std.specs.Prelude.{◌≡◌};
 
-use moment_core::Rate;
+use moment_core::{MeterParameters, Rate};
 use thiserror::Error;
 
 /// The parameters of a single-rate three-colour meter (RFC 2697 section 2).
@@ -33,13 +33,15 @@ impl SrTcmFault {
     }
 }
 
-impl SrTcmParameters {
-    ghost use Rattle.srtcm_core.specs.SingleRate.{fault_of};
+impl MeterParameters for SrTcmParameters {
+    ghost use Rattle.srtcm_core.specs.SingleRate as kind;
+
+    type Fault = SrTcmFault;
+
+    ghost fault_of = { kind.fault_of };
 
     /// What is wrong with the parameters, if anything: that both burst sizes are 0 (RFC 2697 section 2).
-    pub fn fault(&self) -> Option<SrTcmFault>
-        ensures { result ≡ fault_of self.now }
-    {
+    fn fault(&self) -> Option<SrTcmFault> {
         if self.committed_burst == 0 && self.excess_burst == 0 {
             Some(SrTcmFault::SizeZero)
         } else {

@@ -10,7 +10,8 @@ use Rattle.moment_core.specs.declared.colour.Mode.TheVariants.{Aware}
 use Rattle.moment_core.proofs.KeepingLaws.{not_short}
 use Rattle.moment_core.proofs.RoomLaws.{Along, Along-any, Holds, IsAware, IsAware-after, KeepingAt, bucket_holds, departures-along, input, left_aware}
 use Rattle.trtcm_core.specs.declared.parameters.TrTcmParameters.{TrTcmParameters}
-use Rattle.trtcm_core.specs.TwoRate.{Levels, coloured, full, two_rate, without}
+use Rattle.trtcm_core.specs.declared.meter.Levels.{Levels}
+use Rattle.trtcm_core.specs.TwoRate.{coloured, full, two_rate, without}
 use Rattle.trtcm_core.proofs.TwoRateLaws.{committed_filled, peak_filled}
 
 -- ---- buckets that have enough, and what packets take from them

@@ -1,29 +1,25 @@
 -- What leaves a two-rate meter: colours that are no better than those that came, and envelopes that are kept.
-use Rattle.std.proofs.Common.{◌≡◌, ℕ, ◌+◌, ◌≤◌, true, false, cond, ltb, List, arith}
+use Rattle.std.proofs.Common.{ℕ, ◌+◌, ◌≤◌, true, false, cond, ltb, List, arith}
 use Rattle.std.proofs.lemmas.Bool.Decides.{nat_tests}
 use Rattle.moment_core.specs.Colours.{IsNoBetter, is_green, is_in_profile, is_yellow, output}
 use Rattle.moment_core.specs.Conformance.{Keeps}
-use Rattle.moment_core.specs.Metering.{Offer, State, after, colour_of, departures, how, opening}
+use Rattle.moment_core.specs.Metering.{Offer, State, after, departures, how, opening}
 use Rattle.moment_core.specs.declared.colour.Colour.{Colour}
 use Rattle.moment_core.specs.declared.colour.Colour.TheVariants.{Green, Yellow, Red}
 use Rattle.moment_core.specs.declared.colour.Mode.{Mode}
-use Rattle.moment_core.specs.declared.colour.Mode.TheVariants.{Aware}
 use Rattle.moment_core.proofs.OutputLaws as output_laws
 use Rattle.trtcm_core.specs.declared.parameters.TrTcmParameters.{TrTcmParameters}
 use Rattle.trtcm_core.specs.Sizes.{IsWithinSizes}
-use Rattle.trtcm_core.specs.TwoRate.{Levels, coloured, full, two_rate, without}
+use Rattle.trtcm_core.specs.declared.meter.Levels.{Levels}
+use Rattle.trtcm_core.specs.TwoRate.{coloured, full, two_rate, without}
 use Rattle.trtcm_core.proofs.TwoRateLaws.{committed_filled, peak_filled}
 
-pub no_better : (l : Levels) (size : ℕ) (came : Colour) → IsNoBetter came (coloured l size came)
-unfolding coloured
+-- a packet never leaves with a better colour than it came in with
+pub no_better : (l : Levels) (size : ℕ) (came : Colour) → IsNoBetter came (two_rate.coloured l size came)
+unfolding coloured two_rate
 no_better l size Green = tt
 no_better l size Yellow = elim (ltb l.peak size) as (λ b. IsNoBetter Yellow (cond b Red Yellow)) [ true ↦ tt | false ↦ tt ]
 no_better l size Red = tt
-
--- an aware meter never improves a colour
-pub never_improves : (m : State TrTcmParameters Levels) (o : Offer) → m.mode ≡ Aware → IsNoBetter o.came (colour_of two_rate m o)
-unfolding two_rate
-never_improves m o aware = output_laws.never_improves two_rate no_better m o aware
 
 green_pays : (l : Levels) (size : ℕ) (came : Colour) → (without l size (coloured l size came)).committed + cond (is_green (coloured l size came)) size 0 ≤ l.committed
 unfolding coloured without

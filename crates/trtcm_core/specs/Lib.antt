@@ -1,3 +1,3 @@
+pub mod Buckets
 pub mod TwoRate
-pub mod Kept
 pub mod Sizes

@@ -4,6 +4,7 @@ use Rattle.moment_core.specs.declared.colour.Colour.{Colour}
 use Rattle.moment_core.specs.declared.colour.Colour.TheVariants.{Green, Yellow, Red}
 use Rattle.moment_core.specs.Tokens.{tokens_at, with_tokens}
 use Rattle.moment_core.specs.Metering.{Rules}
+use Rattle.trtcm_core.specs.declared.meter.Levels.{Levels}
 use Rattle.trtcm_core.specs.declared.parameters.TrTcmParameters.{TrTcmParameters}
 use Rattle.trtcm_core.specs.declared.parameters.TrTcmFault.{TrTcmFault}
 use Rattle.trtcm_core.specs.declared.parameters.TrTcmFault.TheVariants.{SizeZero, PeakBelowCommitted}
@@ -18,11 +19,6 @@ fault_of p =
     Some PeakBelowCommitted
     else
     None
-
--- the levels of the two buckets, Tc and Tp
-pub record Levels : Type 0 where
-  pub committed : ℕ
-  pub peak : ℕ
 
 -- both buckets begin full (RFC 2698 section 3)
 unfoldable pub full : TrTcmParameters → Levels

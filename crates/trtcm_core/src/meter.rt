@@ -1,68 +1,58 @@
-ghost use Rattle.std.specs.Prelude.{◌≡◌, ◌<◌, ◌^◌, Option, None, Some, IfOk, IfErr, MatchResult};
-ghost use Rattle.moment_core.specs.Metering.{after, colour_of, filled, opening};
-ghost use Rattle.trtcm_core.specs.TwoRate.{coloured, fault_of, two_rate, without};
+ghost use Rattle.std.specs.Prelude.{◌≡◌};
+ghost use Rattle.trtcm_core.specs.TwoRate.{coloured, without};
 
-use crate::parameters::{TrTcmFault, TrTcmParameters};
-use moment_core::{Bucket, Clock, Colour, Filling, Mode, Moment, PacketSize};
-use std::marker::Model;
+use crate::parameters::TrTcmParameters;
+use moment_core::{Bucket, Colour, Filling, Gap, Kind, PacketSize, TokenMeter};
 
-/// A two-rate three-colour meter at work (RFC 2698): a committed and a peak bucket, full at the meter's origin.
+/// A two-rate three-colour meter at work (RFC 2698).
+pub type TrTcm = TokenMeter<TwoRate>;
+
+/// The levels of a committed and a peak bucket, in bytes (RFC 2698 section 3).
 #[derive(Clone, Copy, Debug, PartialEq, Eq)]
-pub struct TrTcm {
-    mode: Mode,
-    clock: Clock,
+pub struct Levels {
+    /// Tc: the level of the committed bucket.
+    pub committed: u32,
+    /// Tp: the level of the peak bucket.
+    pub peak: u32,
+}
+
+/// The buckets of a two-rate three-colour meter (RFC 2698), each with its rate.
+#[derive(Clone, Copy, Debug, PartialEq, Eq)]
+pub struct TwoRate {
     /// CIR, CBS and Tc: the committed bucket and its rate (RFC 2698 section 3).
     committed: Filling,
     /// PIR, PBS and Tp: the peak bucket and its rate (RFC 2698 section 3).
     peak: Filling,
 }
 
-impl Model for TrTcm {
-    ghost use Rattle.moment_core.specs.Metering.{State};
-    ghost use Rattle.trtcm_core.specs.declared.parameters.TrTcmParameters.{TrTcmParameters};
-    ghost use Rattle.trtcm_core.specs.TwoRate.{Levels};
-
-    ghost Value = { State TrTcmParameters Levels };
-
-    ghost use Rattle.trtcm_core.specs.Kept.{state_of, IsKept, fields_of, fields_of-state_of};
-
-    ghost view = { state_of };
-
-    ghost invariant = { IsKept };
-
-    ghost inverse = { fields_of };
-
-    ghost inverse_ok = { fields_of-state_of };
-}
-
-impl TrTcm {
+impl Kind for TwoRate {
+    ghost use Rattle.std.specs.Prelude.{refl};
+    ghost use Rattle.trtcm_core.specs.Buckets as buckets;
     ghost use Rattle.trtcm_core.specs.Sizes.{IsWithinSizes};
+    ghost use Rattle.trtcm_core.specs.TwoRate.{two_rate};
 
-    /// A meter with full buckets at its origin.
-    ///
-    /// Refused: `SizeZero` where a burst size is 0, else `PeakBelowCommitted` where the peak rate is below the
-    /// committed rate (RFC 2698 section 2).
-    pub fn new(parameters: TrTcmParameters, mode: Mode, origin: Moment) -> Result<Self, TrTcmFault>
-        ensures { MatchResult result
-            (λ meter. (fault_of parameters ≡ None) × (meter ≡ opening two_rate parameters mode origin))
-            (λ fault. fault_of parameters ≡ Some fault) }
-    {
-        match parameters.fault() {
-            Some(fault) => Err(fault),
-            None => Ok(TrTcm {
-                mode,
-                clock: Clock::new(origin),
-                committed: Filling::full(parameters.committed_rate, parameters.committed_burst),
-                peak: Filling::full(parameters.peak_rate, parameters.peak_burst),
-            }),
+    type Parameters = TrTcmParameters;
+
+    type Levels = Levels;
+
+    ghost rules = { two_rate };
+
+    ghost buckets_of = { buckets.buckets_of };
+
+    ghost parameters_of = { buckets.parameters_of };
+
+    ghost levels_of = { buckets.levels_of };
+
+    ghost fits = { IsWithinSizes };
+
+    fn full(parameters: TrTcmParameters) -> Self {
+        TwoRate {
+            committed: Filling::full(parameters.committed_rate, parameters.committed_burst),
+            peak: Filling::full(parameters.peak_rate, parameters.peak_burst),
         }
     }
 
-    /// The parameters that it was made with. Its buckets are within their sizes at all times.
-    pub fn parameters(&self) -> TrTcmParameters
-        ensures value { result ≡ self.now.parameters }
-        ensures within { IsWithinSizes self.now }
-    {
+    fn parameters(&self) -> TrTcmParameters {
         TrTcmParameters {
             committed_rate: self.committed.rate,
             committed_burst: self.committed.bucket.size(),
@@ -71,28 +61,12 @@ impl TrTcm {
         }
     }
 
-    /// Whether it heeds the colour that a packet comes in with.
-    pub fn mode(&self) -> Mode
-        ensures { result ≡ self.now.mode }
-    {
-        self.mode
+    fn fill_over(&mut self, gap: Gap) {
+        self.committed.fill_over(gap);
+        self.peak.fill_over(gap);
     }
 
-    /// The newest moment that it metered at: its origin at first.
-    pub fn newest(&self) -> Moment
-        ensures { result ≡ self.now.newest }
-    {
-        self.clock.newest
-    }
-
-    /// Meters a packet of a moment and a size that comes in with a colour, and answers the colour that it leaves
-    /// with (RFC 2698 section 3). A moment before the newest one counts as the newest.
-    pub fn admit(&mut self, moment: Moment, size: PacketSize, colour: Colour) -> Colour
-        ensures colour { result ≡ colour_of two_rate self.old (record { moment = moment; size = size; came = colour }) }
-        ensures after { self.new ≡ after two_rate self.old (record { moment = moment; size = size; came = colour }) }
-    {
-        self.fill_to(moment);
-        let seen = self.mode.seen(colour);
+    fn take(&mut self, size: PacketSize, seen: Colour) -> Colour {
         take(
             &mut self.committed.bucket,
             &mut self.peak.bucket,
@@ -101,14 +75,9 @@ impl TrTcm {
         )
     }
 
-    /// Gives each bucket the tokens of its own rate up to an arrival.
-    fn fill_to(&mut self, arrival: Moment)
-        ensures { self.new ≡ filled two_rate self.old arrival }
-    {
-        let gap = self.clock.move_on(arrival);
-        self.committed.fill_over(gap);
-        self.peak.fill_over(gap);
-    }
+    ghost gives_parameters = { λ _. refl };
+
+    ghost gives_levels = { λ _. refl };
 }
 
 /// Takes a packet's bytes out of the buckets that its colour names, and answers that colour (RFC 2698 section 3).

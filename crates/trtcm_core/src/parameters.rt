@@ -1,6 +1,6 @@
 ghost use Rattle.std.specs.Prelude.{◌≡◌};
 
-use moment_core::Rate;
+use moment_core::{MeterParameters, Rate};
 use thiserror::Error;
 
 /// The parameters of a two-rate three-colour meter (RFC 2698 section 2).
@@ -40,14 +40,16 @@ impl TrTcmFault {
     }
 }
 
-impl TrTcmParameters {
-    ghost use Rattle.trtcm_core.specs.TwoRate.{fault_of};
+impl MeterParameters for TrTcmParameters {
+    ghost use Rattle.trtcm_core.specs.TwoRate as kind;
+
+    type Fault = TrTcmFault;
+
+    ghost fault_of = { kind.fault_of };
 
     /// What is wrong with the parameters, if anything: a burst size of 0, else a peak rate below the committed rate
     /// (RFC 2698 section 2).
-    pub fn fault(&self) -> Option<TrTcmFault>
-        ensures { result ≡ fault_of self.now }
-    {
+    fn fault(&self) -> Option<TrTcmFault> {
         if self.committed_burst == 0 || self.peak_burst == 0 {
             Some(TrTcmFault::SizeZero)
         } else if self.peak_rate < self.committed_rate {

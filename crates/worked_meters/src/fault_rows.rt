@@ -1,7 +1,7 @@
 use crate::expecting::expect_same;
 use crate::meters::{Figures, moment, parameters, separate_rates, single_rate, two_rates};
 use meter_book::{AnyMeter, Meter};
-use moment_core::{Colour, Mode, PacketSize};
+use moment_core::{Colour, MeterParameters, Mode, PacketSize};
 use rfc4115_core::Rfc4115;
 use srtcm_core::SrTcm;
 use std::process::Abort;
