@@ -183,7 +183,11 @@ fn read_one<I: Intake>(alloc: Global, intake: &mut I, progress: &mut Progress) -
     if taken == 0 {
         return ended(finish(progress));
     }
-    if taken < PIECE { Pieces::Short } else { Pieces::Full }
+    if taken < PIECE {
+        Pieces::Short
+    } else {
+        Pieces::Full
+    }
 }
 
 /// What reading comes to where it ended so.

@@ -1,4 +1,5 @@
-ghost use Rattle.std.specs.Prelude.{◌≡◌, ◌⊎◌, ℕ, ◌+◌, ◌*◌, ◌<◌, ◌≤◌, ◌^◌, true, List, [], ◌++◌, Err, IfErr, IfOk, MatchResult};
+ghost use Rattle.std.specs.Prelude.{◌≡◌, ◌⊎◌, ℕ, ◌+◌, ◌*◌, ◌<◌, ◌≤◌, ◌^◌, true, List, [], ◌++◌, Err, IfErr};
+ghost use Rattle.std.specs.Prelude.{IfOk, MatchResult};
 ghost use Rattle.std.specs.Prelude.{Ok, OnErr, OnOk, Some, if◌then◌else◌, is_ok, length};
 ghost use Rattle.pcap_capture.specs.Counts.{IsOfReads, next_count};
 ghost use Rattle.pcap_capture.specs.Frames.{FrameValue};
@@ -106,15 +107,18 @@ fn make_and_read<R: Threads, I: Intake, O: Outlet, G: Gate>(
             ensures fault { IfErr result (λ fault. fault ≡ MarkFault.Capture PcapFault.WriteFault) }
             ensures failures { O.failed outlet.exit.now
                 ≡ (if is_ok result then O.failed outlet.entry.now else next_count (O.failed outlet.entry.now)) }
-            ensures unread { OnErr result ((intake.exit.now ≡ intake.entry.now) × (progress.exit.now ≡ progress.entry.now)) }
+            ensures unread { OnErr result
+                ((intake.exit.now ≡ intake.entry.now) × (progress.exit.now ≡ progress.entry.now)) }
             ensures missing { progress.exit.now.missing ≤ progress.entry.now.missing }
-            ensures fewer { IfOk result (λ pieces. OnOk (read_by pieces) (I.calls intake.exit.now < I.calls intake.entry.now)) }
-            ensures few { most_bytes progress.exit.now (I.calls intake.exit.now) ≤ most_bytes progress.entry.now (I.calls intake.entry.now) }
+            ensures fewer { IfOk result
+                (λ pieces. OnOk (read_by pieces) (I.calls intake.exit.now < I.calls intake.entry.now)) }
+            ensures few { most_bytes progress.exit.now (I.calls intake.exit.now)
+                ≤ most_bytes progress.entry.now (I.calls intake.entry.now) }
             ensures taken { I.tells intake.entry.now → I.tells intake.exit.now }
             ensures read { IfOk result (λ pieces. IsReadFrom (I.tells intake.entry.now) (I.left intake.entry.now)
                 (I.left intake.exit.now) progress.entry.now progress.exit.now (read_by pieces)) }
-            ensures reads { IfOk result (λ pieces. IsOfReads (is_read_fault (read_by pieces)) (I.failed intake.entry.now)
-                (I.failed intake.exit.now) (I.calls intake.exit.now)) }
+            ensures reads { IfOk result (λ pieces. IsOfReads (is_read_fault (read_by pieces))
+                (I.failed intake.entry.now) (I.failed intake.exit.now) (I.calls intake.exit.now)) }
             ensures no_write { IfOk result (λ pieces. ¬ (read_by pieces ≡ Err PcapFault.WriteFault)) }
         { write_and_read(alloc, out, progress, intake, outlet) },
     )

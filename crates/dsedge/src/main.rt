@@ -87,7 +87,11 @@ fn run_to_output<W: Wait + Threads + Sync, F: Outlet>(
 }
 
 /// Runs the program on the devices of the system, likewise.
-fn run_watched<W: Wait + Threads + Sync>(rt: &HostRuntime, waiting: &W, watch: Option<&Screen<'_>>) -> u8 {
+fn run_watched<W: Wait + Threads + Sync>(
+    rt: &HostRuntime,
+    waiting: &W,
+    watch: Option<&Screen<'_>>,
+) -> u8 {
     let mut faults = WatchedOutlet::new(WriteOutlet::new(rt.stderr()), watch);
     run_to_output(rt, waiting, watch, &mut faults)
 }

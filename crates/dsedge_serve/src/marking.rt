@@ -71,7 +71,9 @@ fn mark_over<R: Threads + Sync, I: Intake, O: Outlet>(
     ensures reads { is_broken_off result ≡ false
         → IsOfReads (is_input_fault result) (I.failed intake.old) (I.failed intake.new) (I.calls intake.new) }
 {
-    match mark(rt, alloc, accepted, port, workers, red, intake, output, &OpenGate) {
+    match mark(
+        rt, alloc, accepted, port, workers, red, intake, output, &OpenGate,
+    ) {
         Ok(report) => Outcome::Marked(report, None),
         Err((report, fault)) => Outcome::Marked(report, Some(fault)),
     }

@@ -213,7 +213,17 @@ fn answer<R: Wait + Threads + Sync, I: Intake, O: Outlet>(
         } => {
             let (domain, certificate) = (texts[0].as_slice(), texts[1].as_slice());
             let (port, red) = (port.text(), rule_said(*keeps_red));
-            answer_mark(rt, alloc, domain, certificate, port, *workers, red, intake, output)
+            answer_mark(
+                rt,
+                alloc,
+                domain,
+                certificate,
+                port,
+                *workers,
+                red,
+                intake,
+                output,
+            )
         }
     }
 }

@@ -5,8 +5,8 @@ use ds_conductor::{Gate, RedRule, mark};
 use pcap_capture::{SliceIntake, VecOutlet};
 use std::alloc::Global;
 use std::process::Abort;
-use std::thread::Threads;
 use std::sync::atomic::{AtomicU64, Ordering};
+use std::thread::Threads;
 
 /// A gate that counts its calls, and those among them that are not by worker 0 or not round the next visit.
 #[derive(Drop)]

@@ -295,7 +295,14 @@ fn expect_first(
         calls,
         ..SliceIntake::new(given.as_slice())
     };
-    let marked = leavings(rt, alloc, accepted, ("p", workers), RedRule::Keep, &mut intake);
+    let marked = leavings(
+        rt,
+        alloc,
+        accepted,
+        ("p", workers),
+        RedRule::Keep,
+        &mut intake,
+    );
     let fault = Some(MarkFault::Capture(PcapFault::ReadFault));
     let report = report(1, 0, 0, [1, 0, 0]);
     expect(rt, &marked, written.as_slice(), report, fault);
@@ -306,7 +313,12 @@ fn expect_first(
 }
 
 /// Expects the same over the wide table.
-fn expect_first_of_wide(rt: &(impl Abort + Threads + Sync), alloc: Global, limits: (Option<u64>, u64), failures: u64) {
+fn expect_first_of_wide(
+    rt: &(impl Abort + Threads + Sync),
+    alloc: Global,
+    limits: (Option<u64>, u64),
+    failures: u64,
+) {
     let accepted = wide(rt, alloc);
     for workers in [1, 2, 64] {
         expect_first(rt, alloc, &accepted, limits, failures, workers);
@@ -338,7 +350,14 @@ fn expect_spent(
         calls: 3,
         ..SliceIntake::new(given.as_slice())
     };
-    let marked = leavings(rt, alloc, accepted, ("p", workers), RedRule::Keep, &mut intake);
+    let marked = leavings(
+        rt,
+        alloc,
+        accepted,
+        ("p", workers),
+        RedRule::Keep,
+        &mut intake,
+    );
     let fault = Some(MarkFault::Capture(PcapFault::ReadFault));
     expect(rt, &marked, &[], Report::nothing(), fault);
     assert_eq!(rt; intake.failures(), 0);
@@ -384,7 +403,14 @@ fn expect_all(
 ) {
     let given = frames(rt, alloc, records);
     let mut intake = SliceIntake::new(given.as_slice());
-    let marked = leavings(rt, alloc, accepted, ("p", workers), RedRule::Keep, &mut intake);
+    let marked = leavings(
+        rt,
+        alloc,
+        accepted,
+        ("p", workers),
+        RedRule::Keep,
+        &mut intake,
+    );
     assert_eq!(rt; marked.fault, None);
     assert_eq!(rt; marked.report.marked, records);
     assert_eq!(rt; marked.written.len(), given.len());

@@ -9,8 +9,8 @@ use ds_conductor::{OpenGate, RedRule, mark};
 use pcap_capture::{DeviceFault, Intake, Outlet, SliceIntake};
 use std::alloc::Global;
 use std::process::Abort;
-use std::thread::Threads;
 use std::sync::atomic::{AtomicU64, Ordering};
+use std::thread::Threads;
 use worked_texts::joined;
 
 /// An intake that notes, at each call, how many bytes were written so far.
@@ -106,7 +106,13 @@ fn noted(
 }
 
 /// Expects of a capture of three records how many bytes were written before its last were taken, and of all at its end.
-fn expect_noted(rt: &(impl Abort + Threads + Sync), alloc: Global, accepted: &Accepted, given: &[u8], before: u64) {
+fn expect_noted(
+    rt: &(impl Abort + Threads + Sync),
+    alloc: Global,
+    accepted: &Accepted,
+    given: &[u8],
+    before: u64,
+) {
     for workers in [1, 4] {
         let written = AtomicU64::new(0);
         let noted = noted(rt, alloc, accepted, workers, given, &written);

@@ -18,12 +18,16 @@ fn seconds(rt: &impl Abort, alloc: Global, records: u32) -> Vec<u8> {
     let other = capture(rt, alloc, &[OTHER]);
     for record in 0..records {
         if record % 5 == 3 {
-            bytes.extend_from_slice(other.as_slice()).expect(rt, "memory");
+            bytes
+                .extend_from_slice(other.as_slice())
+                .expect(rt, "memory");
         } else {
             let second = record / 5;
             let stamp = [(second % 256) as u8, (second / 256 % 256) as u8, 0, 0];
             bytes.extend_from_slice(&stamp).expect(rt, "memory");
-            bytes.extend_from_slice(behind.as_slice()).expect(rt, "memory");
+            bytes
+                .extend_from_slice(behind.as_slice())
+                .expect(rt, "memory");
         }
     }
     drop(other);

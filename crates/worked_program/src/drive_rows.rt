@@ -4,8 +4,8 @@ use pcap_capture::{SliceIntake, VecOutlet};
 use std::alloc::{AllocError, Global};
 use std::process::Abort;
 use std::sync::Wait;
-use std::thread::Threads;
 use std::test::Fail;
+use std::thread::Threads;
 use worked_texts::{MOST_CONTRACTS, most_contracts, tight, wide};
 
 /// `drive` on lines, over a domain.

@@ -2,8 +2,8 @@ use crate::rows::{expect_of_audit, expect_of_check, run_on_domain};
 use std::alloc::{AllocError, Global};
 use std::process::Abort;
 use std::sync::Wait;
-use std::thread::Threads;
 use std::test::Fail;
+use std::thread::Threads;
 use worked_texts::{
     A, EXCESS, ONE, PEAK, POLICED, SEPARATE_RATES, SHARE, TOO_MUCH, TRUSTED, TWO, U, over_excess,
 };

@@ -2,8 +2,8 @@ use crate::rows::{Done, domain_text, run_on_domain, run_on_table};
 use std::alloc::{AllocError, Global};
 use std::process::Abort;
 use std::sync::Wait;
-use std::thread::Threads;
 use std::test::Fail;
+use std::thread::Threads;
 use worked_texts::{NARROW, POLICED, TWO_RATES, U, UDP};
 
 /// The heading of a capture: low bytes first, microseconds, Ethernet.

@@ -4,8 +4,8 @@ use pcap_capture::{SliceIntake, VecOutlet};
 use std::alloc::{AllocError, Global};
 use std::process::Abort;
 use std::sync::Wait;
-use std::thread::Threads;
 use std::test::Fail;
+use std::thread::Threads;
 use worked_texts::{
     A, B, C, LEAST_OF_POLICED, LEAST_OF_TRUSTED, LINK, POLICED, PORT, SHARE, TRUSTED, TWO_RATES, U,
     UDP, joined, push_all,
@@ -132,7 +132,11 @@ const NO_ARRIVALS: &str =
     "\n0 0 g\n0 1 g\r\n0  1 g\n\x200 1 g\n0 1 g\x20\n0 1\n0 1 g 2\n0 1 b\n0 1 green\n\
     0 65536 g\n9223372036854775808 1 g\n000000000000000000000 1 g\n-1 1 g\n+1 1 g\nx 1 g";
 
-fn expect_no_arrival(rt: &(impl Abort + Wait + Threads + Sync), alloc: Global, line: &str) -> Result<(), Fail> {
+fn expect_no_arrival(
+    rt: &(impl Abort + Wait + Threads + Sync),
+    alloc: Global,
+    line: &str,
+) -> Result<(), Fail> {
     let first = format!(in alloc; "{line}\n0 1 g\n")?;
     expect(
         rt,

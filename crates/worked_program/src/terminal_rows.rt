@@ -6,8 +6,8 @@ use std::alloc::Global;
 use std::io::{Error, ErrorKind};
 use std::process::Abort;
 use std::sync::Wait;
-use std::thread::Threads;
 use std::test::Fail;
+use std::thread::Threads;
 use worked_texts::LEAST_OF_TRUSTED;
 
 /// What the program left behind.
