@@ -6,7 +6,7 @@ _dsedge() {
         --kind) COMPREPLY=($(compgen -W 'srtcm trtcm rfc4115' -- "$word")); return ;;
         --mode) COMPREPLY=($(compgen -W 'blind aware' -- "$word")); return ;;
         --red) COMPREPLY=($(compgen -W 'keep drop' -- "$word")); return ;;
-        --workers) COMPREPLY=($(compgen -W '1' -- "$word")); return ;;
+        --workers) COMPREPLY=($(compgen -W '1 2 3 4 8 16 32 64' -- "$word")); return ;;
         --cir | --cbs | --ebs | --pir | --pbs | --eir | --origin | --rate | --burst | --port) return ;;
     esac
     if [ "$COMP_CWORD" -eq 1 ]; then

@@ -1,8 +1,13 @@
 -- How many packets are under way.
-use Rattle.std.proofs.Common.{◌≡◌, ℕ, sym, ap, subst, ◌∙◌, arith}
+use Rattle.std.proofs.Common.{◌≡◌, ◌<◌, ℕ, true, List, sym, ap, subst, ◌∙◌, arith}
+use Rattle.std.specs.Prelude.{nat_lt}
+use Rattle.std.specs.List.{All}
+use Rattle.std.proofs.lemmas.Bool.Decides.{nat_tests}
+use Rattle.std.proofs.lemmas.List.Elements.{All-weaker, filter_passes}
 use Rattle.ds_conductor_base.proofs.ColouringLaws.{made-place}
 use Rattle.ds_conductor_base.proofs.PassLaws.{passed_all-first}
-use Rattle.ds_conductor_base.specs.Streams.{Stream, due, made_due}
+use Rattle.ds_conductor_base.specs.Streams.{Stream, due, late, made_due}
+use Rattle.ds_conductor_base.specs.declared.visit.Visit.{Visit}
 use Rattle.ds_conductor.specs.Conditionings.{IsBounded}
 use Rattle.ds_conductor.specs.Tallies.{AreWithin}
 use Rattle.ds_conductor.specs.declared.conditioner.Conditioner.{Conditioner}
@@ -23,3 +28,12 @@ made_bounded moment before after counts tallies made was =
       placed = omega (arith, was.placed, place, ap (λ c. c.records) counts);
       within = subst (λ n. AreWithin n after.tallies) (sym first) (subst (AreWithin before.under_way.traffic.first) (sym tallies) was.within);
     }
+
+passed : (moment m : ℕ) → nat_lt moment m ≡ true → moment < m
+passed moment m test = grind (arith, nat_tests)
+
+-- the visits that are late come behind the moment
+pub late_all : (moment : ℕ) (visits : List Visit) → All (λ v. moment < v.moment) (late moment visits)
+late_all moment visits =
+    All-weaker (λ (v : Visit). nat_lt moment v.moment ≡ true) (λ (v : Visit). moment < v.moment) (λ v test. passed moment v.moment test) (late moment visits)
+    (filter_passes (λ v. nat_lt moment v.moment) visits)

@@ -8,6 +8,7 @@ pub mod PassingLaws
 pub mod ReadFaultLaws
 pub mod ReadingLaws
 pub mod ReportLaws
+pub mod SeenLaws
 pub mod SendableLaws
 pub mod SizeLaws
 pub mod StampLaws

@@ -1,5 +1,6 @@
 -- What turns come to.
 use Rattle.std.proofs.Common.{◌≡◌, ◌⊎◌, inl, inr, ℕ, Bool, true, false, List, [], ◌++◌, Option, None, Some, Result, Ok, Err, IfOk, MatchResult, if◌then◌else◌, refl, sym, ap, subst, ◌∙◌, append_assoc, append-nil}
+use Rattle.std.specs.Prelude.{OnErr, OnOk}
 use Rattle.pcap_capture.specs.Counts.{IsOfReads}
 use Rattle.pcap_capture.specs.Fronts.{IsFrontOf}
 use Rattle.pcap_capture.specs.Frames.{FrameValue}
@@ -157,3 +158,18 @@ pub unheaded_reads : (report : Report) (fault : PcapFault) (told : MarkFault) (f
     → IsOfReads (is_unread (Err (report, told))) failed now calls
 unheaded_reads report fault told failed now calls is reads =
     of_reads (Err (report, told)) (is_read fault) failed now calls (ap (λ f. is_unread (Err (report, f))) is ∙ unheaded_unread report fault) reads
+
+-- frames that were taken in behind others, or a front of them, where what was decided before is collected
+pub taken_in : {T E : Type 0} (result : Result T E) (p : Port) (gone frames : List FrameValue) (text before now out : List ℕ) (old new : Conditioner)
+    → IsConditioned p true gone text old → IsWrittenTo out before (p.heading.bytes ++ text) now
+    → OnOk result ((seen : List FrameValue) (shown : List ℕ) → IsConditioned p true seen shown old → IsConditioned p true (seen ++ frames) shown new)
+    → OnErr result ((seen : List FrameValue) (shown : List ℕ) → IsConditioned p true seen shown old
+    → (front : List FrameValue) × (others : List FrameValue) × (frames ≡ front ++ others) × IsConditioned p true (seen ++ front) shown new)
+    → MatchResult result
+    (λ _. (after : List ℕ) × IsConditioned p true (gone ++ frames) after new × IsWrittenTo out before (p.heading.bytes ++ after) now)
+    (λ _. (after : List ℕ) × (front : List FrameValue) × (others : List FrameValue) × (frames ≡ front ++ others) × IsConditioned p true (gone ++ front) after new
+    × IsFrontOf before (p.heading.bytes ++ after) now)
+taken_in (Ok value) p gone frames text before now out old new at written all part = (text, all gone text at, written)
+taken_in (Err fault) p gone frames text before now out old new at written all part =
+    let parts = part gone text at in
+    (text, parts.0, parts.1, parts.2, parts.3, front_written (p.heading.bytes ++ text) out before now written)

@@ -1,5 +1,6 @@
 -- How a reading ended, and what the device that gave the bytes counted.
 use Rattle.std.proofs.Common.{◌≡◌, ◌⊎◌, ℕ, true, false, Result, Ok, Err, IfErr, IsErr, inl, inr, sym, ap, subst, ◌∙◌}
+use Rattle.std.specs.Prelude.{OnOk}
 use Rattle.pcap_capture.specs.Counts.{IsOfReads}
 use Rattle.pcap_capture.specs.declared.fault.PcapFault.{PcapFault}
 use Rattle.pcap_capture.specs.declared.fault.PcapFault.TheVariants.{WriteFault}
@@ -27,3 +28,8 @@ ended_reads (Err fault) failed now calls own is = subst (λ unread. IsOfReads un
 pub own_unwritten : {T : Type 0} (result : Result T PcapFault) → IfErr result (λ fault. is_own fault ≡ true) → ¬ (result ≡ Err WriteFault)
 own_unwritten (Ok value) own is = cc
 own_unwritten (Err fault) own is = own_written fault own cc
+
+-- what is known of a reading that came to something, where more follows from it
+pub on_ok : {T E : Type 0} (result : Result T E) (P Q : Type 0) → (P → Q) → OnOk result P → OnOk result Q
+on_ok (Ok value) P Q from p = from p
+on_ok (Err fault) P Q from p = tt

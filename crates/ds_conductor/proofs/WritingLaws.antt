@@ -1,7 +1,8 @@
 -- What is written of a text that grows.
-use Rattle.std.proofs.Common.{◌≡◌, ℕ, List, [], ◌++◌, Result, Ok, Err, MatchResult, sym, ap, ◌∙◌, append_assoc, append-nil, arith, drop, length, length-append, take, ◌+◌}
+use Rattle.std.proofs.Common.{◌≡◌, ℕ, List, [], ◌++◌, Result, Ok, Err, MatchResult, sym, ap, ◌∙◌, append_assoc, append-nil, arith, drop, length, length-append, take, ◌+◌, subst}
 use Rattle.std.proofs.lemmas.List.{drop_at, take_at}
 use Rattle.std.specs.Prelude.{OnOk}
+use Rattle.pcap_capture.proofs.FrontLaws.{IsFrontOf-first}
 use Rattle.pcap_capture.specs.Fronts.{IsFrontOf}
 use Rattle.ds_conductor.specs.Writings.{IsWrittenTo}
 
@@ -71,3 +72,16 @@ behind_own out own bytes text start same count =
       ap (take start) whole ∙ take_at (out ++ own) bytes start front,
       ap (drop start) whole ∙ drop_at (out ++ own) bytes start front,
     )
+
+-- a text of which a front is written, and what comes behind it is collected
+pub collected_on : (head text more out left before now : List ℕ) → IsWrittenTo out before (head ++ text) now → left ≡ out ++ more → IsWrittenTo left before (head ++ (text ++ more)) now
+collected_on head text more out left before now so is = record {
+  front = so.front;
+  whole = grown head text more so.front out so.whole ∙ ap (λ it. so.front ++ it) (sym is);
+  written = so.written;
+}
+
+-- a front of a text is one of a longer text
+pub longer_front : (head text more before now : List ℕ) → IsFrontOf before (head ++ text) now → IsFrontOf before (head ++ (text ++ more)) now
+longer_front head text more before now front =
+    subst (λ it. IsFrontOf before it now) (append_assoc head text more) (IsFrontOf-first before now (head ++ text) more front)

@@ -1,10 +1,13 @@
 -- Frames between their reading and their writing: seen, held until their colours are decided, and handed out.
 use Rattle.std.specs.Prelude.{◌≡◌, ◌⊎◌, ℕ, suc, ◌+◌, ◌≤◌, ◌^◌, Bool, true, false, List, [], ◌∷◌, ◌++◌, length, max, zip, None}
 use Rattle.std.specs.Prelude.{◌-◌, ◌<◌, All, IsSome}
+use Rattle.std.specs.List.{AllZip}
 use Rattle.moment_core.specs.declared.colour.Colour.{Colour}
 use Rattle.pcap_capture.specs.Frames.{FrameValue}
 use Rattle.pcap_capture.specs.declared.heading.LinkType.{LinkType}
+use Rattle.frame_marker.specs.Marks.{mark_in}
 use Rattle.frame_marker.specs.Ports.{sight_at}
+use Rattle.frame_marker.specs.declared.sight.Seen.{Seen}
 use Rattle.frame_marker.specs.declared.sight.Sight.{Sight}
 use Rattle.ds_conductor_base.specs.Passing.{colours_of}
 use Rattle.ds_conductor_base.specs.Streams.{ComeFrom, colours_left, decided, next_place}
@@ -24,6 +27,14 @@ use Rattle.ds_conductor.specs.declared.port.Port.{Port}
 -- what a frame is at a port, by its rules
 abbrev pub see_at : Port → List ℕ → Sight
 see_at p bytes = sight_at p.classifier p.heading.link bytes
+
+-- this was seen of a frame of these bytes at a port: what it is there, and what marking it needs
+abbrev pub IsSeenOf : Port → List ℕ → Seen → Type 0
+IsSeenOf p bytes seen = (seen.sight ≡ see_at p bytes) × (seen.mark ≡ mark_in p.heading.link bytes)
+
+-- and of each of these frames, in their order
+abbrev pub AreSeenOf : Port → List FrameValue → List Seen → Type 0
+AreSeenOf p frames seen = AllZip (λ f s. IsSeenOf p f.bytes s) frames seen
 
 -- the greatest stamp of frames, or this moment, where that is later
 unfoldable pub newest_after : ℕ → List FrameValue → ℕ

@@ -10,6 +10,7 @@ pub mod Seens
 pub mod Sendings
 pub mod Tallies
 pub mod Texts
+pub mod Turnings
 pub mod Writings
 -- what the clauses here cite of the crates below
 pub use Rattle.ds_conductor_base.specs.Steps

@@ -10,6 +10,8 @@ use Rattle.pcap_capture.specs.declared.fault.PcapFault.TheVariants.{NoMemory, Fa
 use Rattle.pcap_capture.specs.declared.heading.Heading.{Heading}
 use Rattle.pcap_capture.specs.declared.stage.Stage.{Stage}
 use Rattle.pcap_capture.specs.declared.stage.Stage.TheVariants.{Opening, Records, Broken}
+use Rattle.ds_conductor.specs.declared.reading.Pieces.{Pieces}
+use Rattle.ds_conductor.specs.declared.reading.Pieces.TheVariants.{Full, Last, Short, Failed as PiecesFailed}
 use Rattle.ds_conductor.specs.declared.reading.Progress.{Progress}
 
 -- the heading at the front of the bytes of a capture, if it is there whole and one that is read
@@ -63,6 +65,13 @@ abbrev pub IsReadOn : List FrameValue → List ℕ → List ℕ → Progress →
 IsReadOn gone bytes more progress (Ok true) = IsUnderway gone bytes more progress
 IsReadOn gone bytes more progress (Ok false) = IsEnded gone bytes more progress None
 IsReadOn gone bytes more progress (Err fault) = IsEnded gone bytes more progress (Some fault)
+
+-- and one that reads several: whether there was one
+abbrev pub read_by : Pieces → Result Bool PcapFault
+read_by Full = Ok true
+read_by Short = Ok true
+read_by Last = Ok false
+read_by (PiecesFailed fault) = Err fault
 
 -- of how many bytes the frames and the rest are made at least: a frame has sixteen bytes of its own
 abbrev pub bytes_of : Progress → ℕ

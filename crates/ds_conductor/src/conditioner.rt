@@ -2,9 +2,10 @@ ghost use Rattle.std.specs.Prelude.{◌≡◌, ℕ, ◌+◌, ◌-◌, ◌<◌, �
 ghost use Rattle.std.specs.Prelude.{All, zip, option_to_list, IfNone, IfOk, IfSome, MatchOption, MatchResult, max, OnErr, OnOk, OnSome};
 ghost use Rattle.pcap_capture.specs.Frames.{FrameValue};
 ghost use Rattle.ds_conductor_base.specs.Passing.{colours_of};
-ghost use Rattle.ds_conductor_base.specs.Streams.{colours_left, decided, next_place};
+ghost use Rattle.ds_conductor_base.specs.Streams.{ComeFrom, colours_left, decided, made_due, next_place};
 ghost use Rattle.ds_conductor_base.specs.Visits.{later};
-ghost use Rattle.ds_conductor.specs.Conditionings.{IsBounded, IsConditioned, IsSeeing, IsUndecided, see_at};
+ghost use Rattle.ds_conductor.specs.Conditionings.{AreSeenOf, IsBounded, IsConditioned, IsSeeing, IsSeenOf};
+ghost use Rattle.ds_conductor.specs.Conditionings.{IsUndecided, see_at};
 ghost use Rattle.ds_visits.specs.Judging.{verdict_with};
 ghost use Rattle.ds_conductor.specs.Reports.{report_of};
 ghost use Rattle.ds_conductor.specs.Seens.{IsSeenAt};
@@ -23,11 +24,13 @@ use crate::tally::Tallies;
 use ds_checker::Accepted;
 use ds_conductor_base::{Gate, Sent, UnderWay};
 use ds_visits::Judge;
+use frame_marker::Seen;
 use moment_core::{Colour, Moment};
 use pcap_capture::Frame;
 use run_audit::Verdict;
 use std::alloc::{AllocError, Global};
 use std::collections::VecDeque;
+use std::thread::{Threads, join_mut};
 
 /// A frame that is held until its colour is decided, with the packet that it sent, if a contract took it.
 #[derive(Drop)]
@@ -91,8 +94,29 @@ impl<'a> Conditioner<'a> {
             → IsConditioned port.now true frames text self.old
             → IsConditioned port.now true frames text self.new) }
     {
-        let moment = later(self.newest, frame.moment());
         let seen = port.classifier.see(port.heading.link, frame.bytes());
+        self.take_in(port, frame, seen)
+    }
+
+    /// Takes in the next frame, of which this was seen at the port.
+    ///
+    /// `AllocError` where memory runs out; the frame then counts as not seen.
+    #[inline(always)]
+    fn take_in(&mut self, port: &Port<'_>, frame: Frame, seen: Seen) -> Result<(), AllocError>
+        requires bounded { IsBounded self.old }
+        requires few { self.old.counts.records < 2 ^ 44 }
+        requires told { IsSeenOf port.now frame.bytes seen }
+        ensures bounded { IsBounded self.new }
+        ensures records { self.new.counts.records ≤ self.old.counts.records + 1 }
+        ensures due { OnOk result (self.new.due ≡ later self.new.newest port.now.ahead) }
+        ensures seen { OnOk result ((frames : List FrameValue) (text : List ℕ)
+            → IsConditioned port.now true frames text self.old
+            → IsConditioned port.now true (frames ++ frame ∷ []) text self.new) }
+        ensures unseen { OnErr result ((frames : List FrameValue) (text : List ℕ)
+            → IsConditioned port.now true frames text self.old
+            → IsConditioned port.now true frames text self.new) }
+    {
+        let moment = later(self.newest, frame.moment());
         let packet = packet_of(&seen.sight, self.counts.records, moment);
         let frame = SeenFrame::new(frame, seen.mark);
         self.held.reserve(1)?;
@@ -145,6 +169,36 @@ impl<'a> Conditioner<'a> {
         Ok(())
     }
 
+    /// Takes in frames, one after the other, of which this was seen at the port.
+    ///
+    /// `AllocError` where memory runs out; a front of them then counts as seen.
+    pub(crate) fn take_all(
+        &mut self,
+        port: &Port<'_>,
+        frames: Vec<Frame>,
+        seen: &[Seen],
+    ) -> Result<(), AllocError>
+        requires bounded { IsBounded self.old }
+        requires few { self.old.counts.records + length frames.items ≤ 2 ^ 44 }
+        requires told { AreSeenOf port.now frames.items seen.now }
+        ensures bounded { IsBounded self.new }
+        ensures records { self.new.counts.records ≤ self.old.counts.records + length frames.items }
+        ensures seen { OnOk result ((before : List FrameValue) (text : List ℕ)
+            → IsConditioned port.now true before text self.old
+            → IsConditioned port.now true (before ++ frames.items) text self.new) }
+        ensures unseen { OnErr result ((before : List FrameValue) (text : List ℕ)
+            → IsConditioned port.now true before text self.old
+            → (front : List FrameValue) × (others : List FrameValue) × (frames.items ≡ front ++ others)
+            × IsConditioned port.now true (before ++ front) text self.new) }
+    {
+        let mut place = 0;
+        for frame in frames {
+            self.take_in(port, frame, seen[place])?;
+            place += 1;
+        }
+        Ok(())
+    }
+
     /// Makes the visits that no later packet can come before.
     pub(crate) fn make_due<G: Gate>(&mut self, gate: &G)
         ensures bounded { IsBounded self.old → IsBounded self.new }
@@ -154,6 +208,25 @@ impl<'a> Conditioner<'a> {
             → IsConditioned p true frames text self.new }
     {
         self.under_way.make_due(self.due, gate);
+    }
+
+    /// Makes the visits that no later packet can come before, in another thread where one can be started, while
+    /// something else is done in this one.
+    pub(crate) fn make_due_beside<R: Threads, G: Gate, B, F: FnMut() -> B>(
+        &mut self,
+        rt: &R,
+        gate: &G,
+        beside: &mut F,
+    ) -> B
+        requires { F.pre beside.old }
+        ensures bounded { IsBounded self.old → IsBounded self.new }
+        ensures records { self.new.counts.records ≡ self.old.counts.records }
+        ensures due { All (λ visit. self.old.due < visit.moment) self.new.under_way.waiting }
+        ensures made { (p : Port) (frames : List FrameValue) (text : List ℕ) → IsConditioned p true frames text self.old
+            → IsConditioned p true frames text self.new }
+        ensures done { F.step beside.old result beside.new }
+    {
+        make_beside(rt, &mut self.under_way, self.due, gate, beside)
     }
 
     /// Makes all visits: no frame comes any more.
@@ -243,4 +316,31 @@ fn note(judge: &mut Judge<'_>, packet: &Option<Sent>)
     if let Some(packet) = packet {
         judge.note(packet);
     }
+}
+
+/// Makes all visits at or before a moment, in another thread where one can be started, while something else is done in
+/// this one.
+fn make_beside<R: Threads, G: Gate, B, F: FnMut() -> B>(
+    rt: &R,
+    under_way: &mut UnderWay<'_>,
+    due: Moment,
+    gate: &G,
+    beside: &mut F,
+) -> B
+    requires { F.pre beside.old }
+    ensures made { under_way.new ≡ made_due due under_way.old }
+    ensures comes { (back : List Sent) → ComeFrom under_way.old.table due back
+        → colours_left under_way.new back ≡ colours_left under_way.old back }
+    ensures done { F.step beside.old result beside.new }
+{
+    let ((), done) = join_mut(
+        rt,
+        &mut ||
+            ensures made { under_way.exit.now ≡ made_due due under_way.entry.now }
+            ensures comes { (back : List Sent) → ComeFrom under_way.entry.now.table due back
+                → colours_left under_way.exit.now back ≡ colours_left under_way.entry.now back }
+        { under_way.make_due(due, gate) },
+        beside,
+    );
+    done
 }

@@ -12,9 +12,11 @@ mod port;
 pub mod reading;
 pub mod report;
 pub mod rule;
+mod seeing;
 mod seen;
 pub mod sending;
 mod tally;
+pub mod turning;
 pub mod writing;
 
 pub use ds_conductor_base::{ConductFault, Conductor, Gate, OpenGate, Step, StepFault, conduct};

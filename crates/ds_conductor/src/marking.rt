@@ -9,7 +9,8 @@ ghost use Rattle.ds_conductor.specs.Markings.{IsMarked, IsMarkedAs, answer_of, i
 ghost use Rattle.ds_conductor.specs.Markings.{is_unread, is_unwritten};
 ghost use Rattle.ds_conductor.specs.Passings.{IsFinished, IsOnTheWay, IsTurned, IsTurnedOut};
 ghost use Rattle.ds_conductor.specs.Passings.{IsMarkedAt, is_unread_by, is_unread_in, marking_at, turned_by};
-ghost use Rattle.ds_conductor.specs.Readings.{IsUnderway, bytes_of, most_bytes};
+ghost use Rattle.pcap_capture.specs.Takings.{is_read_fault};
+ghost use Rattle.ds_conductor.specs.Readings.{IsReadOn, IsUnderway, bytes_of, most_bytes};
 ghost use Rattle.ds_conductor.specs.Reports.{nothing_read};
 ghost use Rattle.ds_conductor.specs.Writings.{IsWrittenTo, is_write_fault};
 
@@ -19,6 +20,7 @@ use crate::port::Port;
 use crate::reading::{Progress, is_starved, read_heading, read_piece};
 use crate::report::Report;
 use crate::rule::RedRule;
+use crate::turning::take_turn_beside;
 use crate::writing::write_on;
 use ds_checker::Accepted;
 use ds_conductor_base::Gate;
@@ -26,6 +28,7 @@ use ds_domain_base::Name;
 use pcap_capture::{Heading, Intake, Outlet, PcapFault};
 use run_audit::Verdict;
 use std::alloc::{AllocError, Global};
+use std::thread::{Threads, available_parallelism};
 
 /// Marks a capture: each IPv4 frame that a contract of the port takes passes the meters of its contract's path, and
 /// leaves with the code point of its contract's class and the colour of its last meter (RFC 2597 section 6), or under
@@ -36,6 +39,12 @@ use std::alloc::{AllocError, Global};
 /// round each with worker 0, as soon as no later record can come before them. A frame is written as soon as its colour
 /// is decided, before more is read: the heading and each record stand as they came but for the marks. What is held are
 /// the frames whose last visit is still to come, and one piece.
+///
+/// Several workers, of which there are at most as many as the machine has processors, do the same, and what is written
+/// and told is the same for every number of them: they read 16 pieces at once, make the visits that are due while the
+/// next pieces are read, and see frames while others are marked. Behind a piece that is not full, as a pipe gives them,
+/// all that is decided is written before more is read. Where no thread can be started, the work is done by the one that
+/// is there. 0 workers are one.
 ///
 /// At its end the report has the verdict of the audit on the run behind the capture: the visits of what was sent make
 /// it, and each packet left its last meter there with the colour that its frame is marked with. Where that is `Kept`,
@@ -48,7 +57,8 @@ use std::alloc::{AllocError, Global};
 /// bytes, and what it gave before cannot be written whole, that is what is answered: a read fault says that all of it
 /// stands there. The device's own count tells that it failed. A device that is spent cannot be read either. It never
 /// answers `JournalFull`: no journal is kept.
-pub fn mark<I: Intake, O: Outlet, G: Gate>(
+pub fn mark<R: Threads + Sync, I: Intake, O: Outlet, G: Gate>(
+    rt: &R,
     alloc: Global,
     accepted: &Accepted,
     port: &str,
@@ -58,7 +68,6 @@ pub fn mark<I: Intake, O: Outlet, G: Gate>(
     outlet: &mut O,
     gate: &G,
 ) -> Result<Report, (Report, MarkFault)>
-    requires one { workers ≡ 1 }
     ensures marked { I.tells intake.old → O.tells outlet.old →
         IsMarked accepted.now port.now red (I.left intake.old) (I.left intake.new) (O.held outlet.old)
         (O.held outlet.new) result }
@@ -80,7 +89,9 @@ pub fn mark<I: Intake, O: Outlet, G: Gate>(
     let mut progress = Progress::begin(alloc);
     match read_heading(alloc, intake, &mut progress) {
         Ok(heading) => mark_behind(
+            rt,
             alloc,
+            workers_here(rt, workers),
             accepted,
             port,
             heading,
@@ -95,8 +106,10 @@ pub fn mark<I: Intake, O: Outlet, G: Gate>(
 }
 
 /// Marks the records behind a heading.
-fn mark_behind<I: Intake, O: Outlet, G: Gate>(
+fn mark_behind<R: Threads + Sync, I: Intake, O: Outlet, G: Gate>(
+    rt: &R,
     alloc: Global,
+    workers: u32,
     accepted: &Accepted,
     name: Name,
     heading: Heading,
@@ -121,12 +134,14 @@ fn mark_behind<I: Intake, O: Outlet, G: Gate>(
     let Ok(port) = Port::new(alloc, accepted, name, heading, red) else {
         return Err((Report::nothing(), MarkFault::NoMemory));
     };
-    mark_at(alloc, &port, progress, intake, outlet, gate)
+    mark_at(rt, alloc, workers, &port, progress, intake, outlet, gate)
 }
 
 /// Marks the records behind the heading of a port.
-fn mark_at<I: Intake, O: Outlet, G: Gate>(
+fn mark_at<R: Threads + Sync, I: Intake, O: Outlet, G: Gate>(
+    rt: &R,
     alloc: Global,
+    workers: u32,
     port: &Port<'_>,
     progress: &mut Progress,
     intake: &mut I,
@@ -152,7 +167,9 @@ fn mark_at<I: Intake, O: Outlet, G: Gate>(
         return Err((Report::nothing(), MarkFault::NoMemory));
     };
     mark_through(
+        rt,
         alloc,
+        workers,
         port,
         &mut conditioner,
         &mut out,
@@ -164,8 +181,10 @@ fn mark_at<I: Intake, O: Outlet, G: Gate>(
 }
 
 /// Marks the records that are still to come, and tells the report of all.
-fn mark_through<I: Intake, O: Outlet, G: Gate>(
+fn mark_through<R: Threads + Sync, I: Intake, O: Outlet, G: Gate>(
+    rt: &R,
     alloc: Global,
+    workers: u32,
     port: &Port<'_>,
     conditioner: &mut Conditioner<'_>,
     out: &mut Vec<u8>,
@@ -189,7 +208,9 @@ fn mark_through<I: Intake, O: Outlet, G: Gate>(
         → IsOfReads (is_unread result) (I.failed intake.old) (I.failed intake.new) (I.calls intake.new) }
 {
     let turned = turn_all(
+        rt,
         alloc,
+        workers,
         port,
         conditioner,
         out,
@@ -256,7 +277,7 @@ fn answer(
 
 /// What a turn comes to.
 #[derive(Clone, Copy)]
-enum Turn {
+pub(crate) enum Turn {
     /// More may come.
     More,
     /// The capture ended, or its reading did by this fault.
@@ -265,8 +286,10 @@ enum Turn {
 
 /// Takes turns until the capture ends, or its reading does by a fault, which is answered; a fault of the other device,
 /// and want of memory, break it off.
-fn turn_all<I: Intake, O: Outlet, G: Gate>(
+fn turn_all<R: Threads + Sync, I: Intake, O: Outlet, G: Gate>(
+    rt: &R,
     alloc: Global,
+    workers: u32,
     port: &Port<'_>,
     conditioner: &mut Conditioner<'_>,
     out: &mut Vec<u8>,
@@ -293,8 +316,10 @@ fn turn_all<I: Intake, O: Outlet, G: Gate>(
         ≡ (if is_write_fault result then next_count (O.failed outlet.old) else O.failed outlet.old) }
 {
     loop {
-        let turn = take_turn(
+        let turn = take_turn_by(
+            rt,
             alloc,
+            workers,
             port,
             conditioner,
             out,
@@ -307,6 +332,71 @@ fn turn_all<I: Intake, O: Outlet, G: Gate>(
             Turn::More => {}
             Turn::Ended(fault) => return Ok(fault),
         }
+    }
+}
+
+/// Takes a turn by so many workers. Frames that are read whole already are seen by one.
+fn take_turn_by<R: Threads + Sync, I: Intake, O: Outlet, G: Gate>(
+    rt: &R,
+    alloc: Global,
+    workers: u32,
+    port: &Port<'_>,
+    conditioner: &mut Conditioner<'_>,
+    out: &mut Vec<u8>,
+    progress: &mut Progress,
+    intake: &mut I,
+    outlet: &mut O,
+    gate: &G,
+) -> Result<Turn, MarkFault>
+    requires missing { progress.old.missing ≤ 24 }
+    requires bounded { IsBounded conditioner.old }
+    requires few { 16 * conditioner.old.counts.records + most_bytes progress.old (I.calls intake.old) ≤ 2 ^ 48 }
+    ensures missing { progress.new.missing ≤ progress.old.missing }
+    ensures bounded { IsBounded conditioner.new }
+    ensures few { 16 * conditioner.new.counts.records + most_bytes progress.new (I.calls intake.new)
+        ≤ 16 * conditioner.old.counts.records + most_bytes progress.old (I.calls intake.old) }
+    ensures fewer { result ≡ Ok Turn.More → I.calls intake.new < I.calls intake.old }
+    ensures turned { I.tells intake.old → O.tells outlet.old → (bytes before : List ℕ)
+        → IsOnTheWay port.now bytes (I.left intake.old) before (O.held outlet.old) progress.old conditioner.old
+        out.old.items
+        → IsTurned port.now bytes (I.left intake.new) before (O.held outlet.new) progress.new conditioner.new
+        out.new.items result }
+    ensures reads { IfOk result (λ turn.
+        IsOfReads (is_unread_in turn) (I.failed intake.old) (I.failed intake.new) (I.calls intake.new)) }
+    ensures fault { MatchResult result
+        (λ turn. (¬ (turn ≡ Turn.Ended (Some PcapFault.WriteFault)))
+        × (¬ (turn ≡ Turn.Ended (Some PcapFault.NoMemory))))
+        (λ fault. (fault ≡ MarkFault.Capture PcapFault.WriteFault) ⊎ (fault ≡ MarkFault.NoMemory)) }
+    ensures taken { I.tells intake.old → I.tells intake.new }
+    ensures told { O.tells outlet.old → O.tells outlet.new }
+    ensures failures { O.failed outlet.new
+        ≡ (if is_write_fault result then next_count (O.failed outlet.old) else O.failed outlet.old) }
+{
+    if workers > 1 && progress.is_empty() {
+        let seers = workers as usize - 1;
+        take_turn_beside(
+            rt,
+            alloc,
+            seers,
+            port,
+            conditioner,
+            out,
+            progress,
+            intake,
+            outlet,
+            gate,
+        )
+    } else {
+        take_turn(
+            alloc,
+            port,
+            conditioner,
+            out,
+            progress,
+            intake,
+            outlet,
+            gate,
+        )
     }
 }
 
@@ -346,6 +436,44 @@ fn take_turn<I: Intake, O: Outlet, G: Gate>(
         ≡ (if is_write_fault result then next_count (O.failed outlet.old) else O.failed outlet.old) }
 {
     let read = read_piece(alloc, intake, progress);
+    pass_on(alloc, port, conditioner, out, progress, outlet, gate, read)
+}
+
+/// Passes on what reading came to: sees the frames that are read whole, and as long as more may come, makes the visits
+/// that are due, and writes the frames that are decided.
+pub(crate) fn pass_on<O: Outlet, G: Gate>(
+    alloc: Global,
+    port: &Port<'_>,
+    conditioner: &mut Conditioner<'_>,
+    out: &mut Vec<u8>,
+    progress: &mut Progress,
+    outlet: &mut O,
+    gate: &G,
+    read: Result<bool, PcapFault>,
+) -> Result<Turn, MarkFault>
+    requires bounded { IsBounded conditioner.old }
+    requires few { 16 * conditioner.old.counts.records + bytes_of progress.old ≤ 2 ^ 48 }
+    requires no_write { ¬ (read ≡ Err PcapFault.WriteFault) }
+    ensures missing { progress.new.missing ≡ progress.old.missing }
+    ensures bounded { IsBounded conditioner.new }
+    ensures few { 16 * conditioner.new.counts.records + bytes_of progress.new
+        ≤ 16 * conditioner.old.counts.records + bytes_of progress.old }
+    ensures read { result ≡ Ok Turn.More → read ≡ Ok true }
+    ensures turned { O.tells outlet.old → (bytes more before text : List ℕ) (gone : List FrameValue)
+        → progress.old.heading ≡ Some port.now.heading → IsReadOn gone bytes more progress.old read
+        → IsConditioned port.now true gone text conditioner.old
+        → IsWrittenTo out.old.items before (port.now.heading.bytes ++ text) (O.held outlet.old)
+        → IsTurned port.now bytes more before (O.held outlet.new) progress.new conditioner.new out.new.items result }
+    ensures reads { (failed now calls : ℕ) → IsOfReads (is_read_fault read) failed now calls
+        → IfOk result (λ turn. IsOfReads (is_unread_in turn) failed now calls) }
+    ensures fault { MatchResult result
+        (λ turn. (¬ (turn ≡ Turn.Ended (Some PcapFault.WriteFault)))
+        × (¬ (turn ≡ Turn.Ended (Some PcapFault.NoMemory))))
+        (λ fault. (fault ≡ MarkFault.Capture PcapFault.WriteFault) ⊎ (fault ≡ MarkFault.NoMemory)) }
+    ensures told { O.tells outlet.old → O.tells outlet.new }
+    ensures failures { O.failed outlet.new
+        ≡ (if is_write_fault result then next_count (O.failed outlet.old) else O.failed outlet.old) }
+{
     let Ok(()) = see_read(alloc, port, conditioner, progress) else {
         return Err(MarkFault::NoMemory);
     };
@@ -423,4 +551,12 @@ fn ended_by(fault: PcapFault) -> Result<Turn, MarkFault>
         return Err(MarkFault::NoMemory);
     }
     Ok(Turn::Ended(Some(fault)))
+}
+
+/// How many of so many workers the machine has processors for; all of them where that is not known.
+fn workers_here<R: Threads>(rt: &R, workers: u32) -> u32 {
+    match available_parallelism(rt) {
+        Ok(processors) => workers.min(u32::try_from(processors.get()).unwrap_or(u32::MAX)),
+        Err(_) => workers,
+    }
 }

@@ -1,9 +1,10 @@
 ghost use Rattle.std.specs.Prelude.{◌≡◌, ℕ, ◌≤◌, ◌<◌, List, [], ◌++◌, length, Ok};
-ghost use Rattle.std.specs.Prelude.{None, Some, Err, IfErr, MatchResult, Option, ◌+◌, ◌*◌, OnErr, OnOk, true};
+ghost use Rattle.std.specs.Prelude.{None, Some, Err, IfErr, MatchResult, Option, ◌+◌, ◌*◌, OnErr, OnOk, true, IsTrue};
 ghost use Rattle.pcap_capture.specs.Frames.{FrameValue};
 ghost use Rattle.ds_conductor.specs.Readings.{IsEnded, IsReadOn, IsReading, IsUnderway};
-ghost use Rattle.ds_conductor.specs.Readings.{bytes_of, heading_at, most_bytes};
+ghost use Rattle.ds_conductor.specs.Readings.{bytes_of, heading_at, most_bytes, read_by};
 ghost use Rattle.ds_conductor.specs.Readings.{is_starved};
+ghost use Rattle.ds_conductor.specs.Turnings.{IsReadFrom};
 ghost use Rattle.pcap_capture.specs.Counts.{IsOfReads};
 ghost use Rattle.pcap_capture.specs.Takings.{is_own, is_read_fault};
 ghost use Rattle.pcap_capture.specs.declared.fault.PcapFault.{PcapFault};
@@ -54,6 +55,7 @@ fn finish(progress: &mut Progress) -> Result<bool, PcapFault>
     ensures heading { progress.new.heading ≡ progress.old.heading }
     ensures few { bytes_of progress.new ≤ bytes_of progress.old }
     ensures fault { IfErr result (λ fault. is_own fault ≡ true) }
+    ensures over { ¬ (result ≡ Ok true) }
 {
     match progress.capture.finish() {
         Ok(()) => Ok(false),
@@ -129,6 +131,102 @@ pub(crate) fn read_piece<I: Intake>(
     Ok(true)
 }
 
+/// How many pieces are read at once at the most, before their frames are seen by several workers.
+const PIECES: u32 = 16;
+
+/// What reading several pieces comes to.
+#[derive(Clone, Copy)]
+pub(crate) enum Pieces {
+    /// All of them were read, each as large as may be.
+    Full,
+    /// The last of them is short: the device has no more bytes for now.
+    Short,
+    /// The capture ended.
+    Last,
+    /// The reading ended by this fault.
+    Failed(PcapFault),
+}
+
+impl Pieces {
+    /// What reading them comes to, as it does for one piece: whether there was one.
+    pub(crate) fn read(self) -> Result<bool, PcapFault>
+        ensures { result ≡ read_by self }
+    {
+        match self {
+            Pieces::Full | Pieces::Short => Ok(true),
+            Pieces::Last => Ok(false),
+            Pieces::Failed(fault) => Err(fault),
+        }
+    }
+}
+
+/// Takes a piece of a device, and reads it, or ends the capture where no byte is left.
+fn read_one<I: Intake>(alloc: Global, intake: &mut I, progress: &mut Progress) -> Pieces
+    requires missing { progress.old.missing ≤ 24 }
+    ensures missing { progress.new.missing ≤ progress.old.missing }
+    ensures fewer { OnOk (read_by result) (I.calls intake.new < I.calls intake.old) }
+    ensures stays { (heading : Heading) → progress.old.capture.stage ≡ Stage.Records heading
+        → progress.old.heading ≡ Some heading → progress.new.heading ≡ Some heading }
+    ensures few { most_bytes progress.new (I.calls intake.new) ≤ most_bytes progress.old (I.calls intake.old) }
+    ensures told { I.tells intake.old → I.tells intake.new }
+    ensures read { (gone : List FrameValue) (bytes : List ℕ) → I.tells intake.old
+        → IsUnderway gone bytes (I.left intake.old) progress.old
+        → IsReadOn gone bytes (I.left intake.new) progress.new (read_by result) }
+    ensures reads { IsOfReads (is_read_fault (read_by result)) (I.failed intake.old) (I.failed intake.new)
+        (I.calls intake.new) }
+    ensures no_write { ¬ (read_by result ≡ Err PcapFault.WriteFault) }
+{
+    let taken = match take_piece(alloc, intake, progress) {
+        Ok(taken) => taken,
+        Err(fault) => return Pieces::Failed(fault),
+    };
+    if taken == 0 {
+        return ended(finish(progress));
+    }
+    if taken < PIECE {
+        Pieces::Short
+    } else {
+        Pieces::Full
+    }
+}
+
+/// What reading comes to where it ended so.
+fn ended(end: Result<bool, PcapFault>) -> Pieces
+    requires { ¬ (end ≡ Ok true) }
+    ensures { read_by result ≡ end }
+{
+    match end {
+        Ok(_) => Pieces::Last,
+        Err(fault) => Pieces::Failed(fault),
+    }
+}
+
+/// Takes pieces of a device and reads them, as many as are read at once, and no more behind a short one.
+pub(crate) fn read_pieces<I: Intake>(
+    alloc: Global,
+    intake: &mut I,
+    progress: &mut Progress,
+) -> Pieces
+    requires missing { progress.old.missing ≤ 24 }
+    ensures missing { progress.new.missing ≤ progress.old.missing }
+    ensures fewer { OnOk (read_by result) (I.calls intake.new < I.calls intake.old) }
+    ensures few { most_bytes progress.new (I.calls intake.new) ≤ most_bytes progress.old (I.calls intake.old) }
+    ensures told { I.tells intake.old → I.tells intake.new }
+    ensures read { IsReadFrom (I.tells intake.old) (I.left intake.old) (I.left intake.new) progress.old progress.new
+        (read_by result) }
+    ensures reads { IsOfReads (is_read_fault (read_by result)) (I.failed intake.old) (I.failed intake.new)
+        (I.calls intake.new) }
+    ensures no_write { ¬ (read_by result ≡ Err PcapFault.WriteFault) }
+{
+    for _ in 1..PIECES {
+        match read_one(alloc, intake, progress) {
+            Pieces::Full => {}
+            last => return last,
+        }
+    }
+    read_one(alloc, intake, progress)
+}
+
 /// Reads the heading of a capture, by calls of `take` of its own, so that it is known when a record behind it is at
 /// fault.
 pub(crate) fn read_heading<I: Intake>(
@@ -181,6 +279,13 @@ impl Progress {
             missing: HEADING,
             frames: Vec::new(alloc),
         }
+    }
+
+    /// Whether no frame is there whole that was not taken out.
+    pub(crate) fn is_empty(&self) -> bool
+        ensures { IsTrue result → self.now.frames.items ≡ [] }
+    {
+        self.frames.is_empty()
     }
 
     /// Takes the frames out that are there whole. There is room for as many at once, as far as memory goes.

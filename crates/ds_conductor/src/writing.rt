@@ -9,6 +9,7 @@ ghost use Rattle.pcap_capture.specs.declared.heading.LinkType.{LinkType};
 ghost use Rattle.ds_conductor.specs.Conditionings.{IsBounded, IsConditioned, IsUndecided};
 ghost use Rattle.ds_conductor.specs.Seens.{IsSeenAt};
 ghost use Rattle.ds_conductor.specs.Texts.{is_dropped, record_text, text_in_class};
+ghost use Rattle.ds_conductor.specs.Turnings.{IsCollected};
 ghost use Rattle.ds_conductor.specs.Writings.{IsWrittenTo, is_write_fault};
 
 use crate::conditioner::Conditioner;
@@ -27,7 +28,7 @@ use std::alloc::AllocError;
 const FULL: usize = 65536;
 
 /// Hands over what is collected, and empties the collection. A fault leaves a front of it written.
-fn write_out<O: Outlet>(outlet: &mut O, out: &mut Vec<u8>) -> Result<(), MarkFault>
+pub(crate) fn write_out<O: Outlet>(outlet: &mut O, out: &mut Vec<u8>) -> Result<(), MarkFault>
     ensures told { O.tells outlet.old → O.tells outlet.new }
     ensures bytes { O.tells outlet.old → MatchResult result
         (λ _. O.held outlet.new ≡ O.held outlet.old ++ out.old.items)
@@ -173,6 +174,23 @@ fn write_decided<O: Outlet>(
 {
     while let Some((frame, packet)) = conditioner.pop() {
         write_frame(outlet, out, port, frame, packet)?;
+    }
+    Ok(())
+}
+
+/// Collects the frames that are decided, one after the other, whatever was written of what came before them.
+pub(crate) fn collect_decided(
+    port: &Port<'_>,
+    conditioner: &mut Conditioner<'_>,
+    out: &mut Vec<u8>,
+) -> Result<(), AllocError>
+    requires { IsBounded conditioner.old }
+    ensures bounded { IsBounded conditioner.new }
+    ensures records { conditioner.new.counts.records ≡ conditioner.old.counts.records }
+    ensures bytes { IsCollected port.now conditioner.old conditioner.new out.old.items out.new.items result }
+{
+    while let Some((frame, packet)) = conditioner.pop() {
+        add_record(out, port, &frame, packet)?;
     }
     Ok(())
 }

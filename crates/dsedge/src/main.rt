@@ -17,6 +17,7 @@ use std::io::{self, IsTerminal};
 use std::process::ExitCode;
 use std::rt::Env;
 use std::sync::Wait;
+use std::thread::Threads;
 
 /// The words of the command line, the first of which is the program's name.
 fn command_line<R: Env + AllocGlobal>(rt: &R) -> io::Result<Words> {
@@ -25,7 +26,7 @@ fn command_line<R: Env + AllocGlobal>(rt: &R) -> io::Result<Words> {
 
 /// Runs the program with this folder and these devices, and gives its exit status. It names no type of theirs, since a
 /// call of `run` is dear to prove at one that has a lifetime.
-fn run_in<W: Wait, D: Folder, I: Intake, O: Outlet, F: Outlet>(
+fn run_in<W: Wait + Threads + Sync, D: Folder, I: Intake, O: Outlet, F: Outlet>(
     rt: &HostRuntime,
     waiting: &W,
     folder: &D,
@@ -47,7 +48,7 @@ fn run_in<W: Wait, D: Folder, I: Intake, O: Outlet, F: Outlet>(
 }
 
 /// Runs the program with the files of the system and these devices.
-fn run_with<W: Wait, I: Intake, O: Outlet, F: Outlet>(
+fn run_with<W: Wait + Threads + Sync, I: Intake, O: Outlet, F: Outlet>(
     rt: &HostRuntime,
     waiting: &W,
     intake: &mut I,
@@ -58,7 +59,7 @@ fn run_with<W: Wait, I: Intake, O: Outlet, F: Outlet>(
 }
 
 /// Runs the program on standard input, under the eye of a watch, if there is one.
-fn run_on_input<W: Wait, O: Outlet, F: Outlet>(
+fn run_on_input<W: Wait + Threads + Sync, O: Outlet, F: Outlet>(
     rt: &HostRuntime,
     waiting: &W,
     watch: Option<&Screen<'_>>,
@@ -70,7 +71,7 @@ fn run_on_input<W: Wait, O: Outlet, F: Outlet>(
 }
 
 /// Runs the program on standard input and standard output, likewise.
-fn run_to_output<W: Wait, F: Outlet>(
+fn run_to_output<W: Wait + Threads + Sync, F: Outlet>(
     rt: &HostRuntime,
     waiting: &W,
     watch: Option<&Screen<'_>>,
@@ -86,7 +87,11 @@ fn run_to_output<W: Wait, F: Outlet>(
 }
 
 /// Runs the program on the devices of the system, likewise.
-fn run_watched<W: Wait>(rt: &HostRuntime, waiting: &W, watch: Option<&Screen<'_>>) -> u8 {
+fn run_watched<W: Wait + Threads + Sync>(
+    rt: &HostRuntime,
+    waiting: &W,
+    watch: Option<&Screen<'_>>,
+) -> u8 {
     let mut faults = WatchedOutlet::new(WriteOutlet::new(rt.stderr()), watch);
     run_to_output(rt, waiting, watch, &mut faults)
 }

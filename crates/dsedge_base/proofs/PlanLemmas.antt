@@ -54,8 +54,8 @@ audit-no_text : (files : Option (List ℕ × List ℕ)) (text : String Global) �
 audit-no_text None text e = cc
 audit-no_text (Some f) text e = cc
 
-mark_with-no_text : (files : Option (List ℕ × List ℕ)) (marking : Option (List ℕ × Bool)) (text : String Global)
-    → (files >>= (λ f. marking >>= (λ m. Some (Mark f.0 f.1 m.0 m.1)))) ≡ Some (Show text) → ⊥
+mark_with-no_text : (files : Option (List ℕ × List ℕ)) (marking : Option (List ℕ × ℕ × Bool)) (text : String Global)
+    → (files >>= (λ f. marking >>= (λ m. Some (Mark f.0 f.1 m.0 m.1 m.2)))) ≡ Some (Show text) → ⊥
 mark_with-no_text None marking text e = cc
 mark_with-no_text (Some f) None text e = cc
 mark_with-no_text (Some f) (Some m) text e = cc
@@ -97,7 +97,7 @@ asked_by-answers words (Some (Certify domain)) formed e = ((formed, sym e), tt)
 asked_by-answers words (Some (Check domain certificate)) formed e = ((formed, sym e), tt)
 asked_by-answers words (Some (Audit domain certificate)) formed e = ((formed, sym e), tt)
 asked_by-answers words (Some (Drive domain)) formed e = ((formed, sym e), tt)
-asked_by-answers words (Some (Mark domain certificate port keeps_red)) formed e = ((formed, sym e), tt)
+asked_by-answers words (Some (Mark domain certificate port workers keeps_red)) formed e = ((formed, sym e), tt)
 asked_by-answers words (Some (Show text)) formed e = absurd (plan_of-no_text (subcommand_of dsedge words) text (sym e))
 
 -- the program's command line that was parsed is well formed, and asks for what its words do
@@ -117,7 +117,7 @@ parsed-answers app words matches asked is_dsedge formed has is_asked =
     let asks = parsed-asks app words matches is_dsedge formed has in
     asked_by-answers words asked asks.0 (is_asked ∙ ap (option_and_then plan_of) asks.1)
 
--- which value is none is told of words that are well formed and ask for nothing, whether for other workers than one or not
+-- which value is none is told of words that are well formed and ask for nothing, whether for other workers than 1 to 64 or not
 value-explains-by : (words : List Text) (command : Option (Text × List Row)) (explanation : Explanation) → IsWellFormed words
     → command ≡ subcommand_of dsedge words → option_and_then plan_of command ≡ None → (others : Bool) → asks_other_workers command ≡ others
     → explanation ≡ (if others then Workers else Value) → IsExplanationOf words explanation
@@ -158,7 +158,7 @@ wish-answers words kind (Certify domain) fails help = absurd help.1
 wish-answers words kind (Check domain certificate) fails help = absurd help.1
 wish-answers words kind (Audit domain certificate) fails help = absurd help.1
 wish-answers words kind (Drive domain) fails help = absurd help.1
-wish-answers words kind (Mark domain certificate port keeps_red) fails help = absurd help.1
+wish-answers words kind (Mark domain certificate port workers keeps_red) fails help = absurd help.1
 wish-answers words kind (Show text) (inl memory) help = absurd (no_memory kind help.0 memory)
 wish-answers words kind (Show text) (inr among) help = (kind, among, help.0)
 

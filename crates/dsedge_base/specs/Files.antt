@@ -12,9 +12,9 @@ files_of (Certify domain) = domain ∷ []
 files_of (Check domain certificate) = domain ∷ certificate ∷ []
 files_of (Audit domain certificate) = domain ∷ certificate ∷ []
 files_of (Drive domain) = domain ∷ []
-files_of (Mark domain certificate port keeps_red) = domain ∷ certificate ∷ []
+files_of (Mark domain certificate port workers keeps_red) = domain ∷ certificate ∷ []
 
 -- the name of the port at which a capture is to be marked
 abbrev pub port_of : Plan → List ℕ
-port_of (Mark domain certificate port keeps_red) = port
+port_of (Mark domain certificate port workers keeps_red) = port
 port_of _ = []

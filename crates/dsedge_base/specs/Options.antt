@@ -130,9 +130,9 @@ table_given given = do
   certificate ← given (codes "certificate")
   Some (domain, certificate)
 
--- workers, for now one
+-- workers, 1 to 64
 abbrev pub workers_said : List ℕ → Option ℕ
-workers_said = number_within 1 1
+workers_said = number_within 1 64
 
 -- and one where none are given
 abbrev pub workers_asked : Option (List ℕ) → Option ℕ
@@ -149,10 +149,10 @@ red_said text =
     else if bytes_eq text (codes "drop") then Some false
     else None
 
--- the port of a marking, and whether it keeps red frames
-unfoldable pub marking_given : Given → Option (List ℕ × Bool)
+-- the port of a marking, how many workers mark, and whether it keeps red frames
+unfoldable pub marking_given : Given → Option (List ℕ × ℕ × Bool)
 marking_given given = do
   port ← given (codes "port")
   workers ← workers_given given
   keeps_red ← given (codes "red") >>= red_said
-  Some (port, keeps_red)
+  Some (port, workers, keeps_red)

@@ -31,7 +31,7 @@ unfoldable pub mark_given : Given → Option Plan
 mark_given given = do
   files ← table_given given
   marking ← marking_given given
-  Some (Mark files.0 files.1 marking.0 marking.1)
+  Some (Mark files.0 files.1 marking.0 marking.1 marking.2)
 
 -- what a command and its options ask for
 abbrev pub plan_of : Text × List Row → Option Plan
@@ -67,8 +67,8 @@ IsPlanOf words (Certify domain) = IsWellFormed words × (asked_by words ≡ Some
 IsPlanOf words (Check domain certificate) = IsWellFormed words × (asked_by words ≡ Some (Check domain certificate))
 IsPlanOf words (Audit domain certificate) = IsWellFormed words × (asked_by words ≡ Some (Audit domain certificate))
 IsPlanOf words (Drive domain) = IsWellFormed words × (asked_by words ≡ Some (Drive domain))
-IsPlanOf words (Mark domain certificate port keeps_red) =
-    IsWellFormed words × (asked_by words ≡ Some (Mark domain certificate port keeps_red))
+IsPlanOf words (Mark domain certificate port workers keeps_red) =
+    IsWellFormed words × (asked_by words ≡ Some (Mark domain certificate port workers keeps_red))
 
 -- something other than a wish for a text stands against the form of the words
 abbrev pub IsMalformed : List Text → Type 0
@@ -80,7 +80,7 @@ abbrev pub IsRefusalOf : List Text → UsageFault → Type 0
 IsRefusalOf words Usage = IsMalformed words ⊎ (IsWellFormed words × (asked_by words ≡ None))
 IsRefusalOf words NoMemory = Unit {0}
 
--- whether a command is `mark`, and asks for other workers than one
+-- whether a command is `mark`, and asks for other workers than 1 to 64
 abbrev pub has_other_workers : Text × List Row → Bool
 has_other_workers c = bytes_eq c.0 (codes "mark") && is_none (workers_given (given_by c.1))
 
@@ -88,7 +88,8 @@ has_other_workers c = bytes_eq c.0 (codes "mark") && is_none (workers_given (giv
 abbrev pub asks_other_workers : Option (Text × List Row) → Bool
 asks_other_workers command = option_map_or has_other_workers command false
 
--- Why words give no plan: their form is wrong, or `mark` is asked for other workers than one, or another value is none.
+-- Why words give no plan: their form is wrong, or `mark` is asked for other workers than 1 to 64, or another value is
+-- none.
 abbrev pub IsExplanationOf : List Text → Explanation → Type 0
 IsExplanationOf words (Form text) = IsMalformed words
 IsExplanationOf words Workers =
@@ -110,4 +111,4 @@ IsShown (Certify domain) = ⊥
 IsShown (Check domain certificate) = ⊥
 IsShown (Audit domain certificate) = ⊥
 IsShown (Drive domain) = ⊥
-IsShown (Mark domain certificate port keeps_red) = ⊥
+IsShown (Mark domain certificate port workers keeps_red) = ⊥

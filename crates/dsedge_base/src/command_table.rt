@@ -171,7 +171,7 @@ const COMMANDS: &[CommandEntry] = &[
                 form: Form::Choice,
                 name: "workers",
                 value: "WORKERS",
-                help: "how many workers mark: 1 [default: 1]",
+                help: "how many workers mark, 1 to 64 [default: 1]",
             },
             ArgumentEntry {
                 form: Form::Needed,

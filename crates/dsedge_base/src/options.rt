@@ -19,6 +19,9 @@ use trtcm_core::TrTcmParameters;
 /// The greatest burst of an envelope, in bytes.
 const MOST_ENVELOPE_BURST: u64 = 1_000_000_000_000_000;
 
+/// The most workers that mark a capture.
+const MOST_WORKERS: u64 = 64;
+
 /// The meter that the options of `meter` ask for, if they ask for one.
 #[tactic(auto, unfolding(crate::specs::Options::meter_given))]
 pub(crate) fn meter_in(options: &ArgMatches<'_>) -> Option<AnyMeter>
@@ -57,19 +60,19 @@ pub(crate) fn table_in<'a>(options: &ArgMatches<'a>) -> Option<(GivenName<'a>, G
     Some((domain, certificate))
 }
 
-/// The port, and whether red frames are kept, that the options of `mark` ask for, if they ask for one worker.
+/// The port, how many workers, and whether red frames are kept, that the options of `mark` ask for.
 #[tactic(auto, unfolding(crate::specs::Options::marking_given))]
-pub(crate) fn marking_in<'a>(options: &ArgMatches<'a>) -> Option<(GivenName<'a>, bool)>
+pub(crate) fn marking_in<'a>(options: &ArgMatches<'a>) -> Option<(GivenName<'a>, u32, bool)>
     ensures { result ≡ marking_given (given_by (rows_of (found_of options.now))) }
 {
     let port = name_in(options, "port")?;
-    workers_in(options)?;
+    let workers = workers_in(options)?;
     let keeps_red = red_said_by(text_in(options, "red")?)?;
-    Some((port, keeps_red))
+    Some((port, workers, keeps_red))
 }
 
-/// How many workers the options of `mark` ask for, if that is one.
-pub(crate) fn workers_in(options: &ArgMatches<'_>) -> Option<u64>
+/// How many workers the options of `mark` ask for, if that is 1 to 64.
+pub(crate) fn workers_in(options: &ArgMatches<'_>) -> Option<u32>
     ensures { result ≡ workers_given (given_by (rows_of (found_of options.now))) }
 {
     workers_asked_by(text_in(options, "workers"))
@@ -182,7 +185,7 @@ fn mode_said_by(text: &str) -> Option<Mode>
 }
 
 /// How many workers are asked for: 1 where none are given.
-fn workers_asked_by(text: Option<&str>) -> Option<u64>
+fn workers_asked_by(text: Option<&str>) -> Option<u32>
     ensures { result ≡ workers_asked (option_map (λ text. text.now) text.entry) }
 {
     match text {
@@ -191,14 +194,16 @@ fn workers_asked_by(text: Option<&str>) -> Option<u64>
     }
 }
 
-/// How many workers a text says: 1.
+/// How many workers a text says: 1 to 64.
 #[tactic(auto, unfolding(crate::specs::Options::number_within))]
-fn workers_said_by(text: &str) -> Option<u64>
+fn workers_said_by(text: &str) -> Option<u32>
     ensures { result ≡ workers_said text.now }
 {
-    match number(text.as_bytes(), u64::MAX)? {
-        1 => Some(1),
-        _ => None,
+    let workers = number(text.as_bytes(), u64::MAX)?;
+    if 1 <= workers && workers <= MOST_WORKERS {
+        Some(workers as u32)
+    } else {
+        None
     }
 }
 

@@ -59,7 +59,7 @@ fn value_explanation(matches: &ArgMatches<'_>) -> Option<Explanation>
     }
 }
 
-/// Whether a command line that is well formed asks `mark` to mark by other workers than one.
+/// Whether a command line that is well formed asks `mark` to mark by other workers than 1 to 64.
 fn asks_other_workers(matches: &ArgMatches<'_>) -> bool
     ensures { result ≡ asks_other_workers (subcommand_rows_of matches.now) }
 {
@@ -144,11 +144,12 @@ fn mark_asked<'a>(options: &ArgMatches<'a>) -> Option<Plan<'a>>
     ensures { result ≡ mark_given (given_by (rows_of (found_of options.now))) }
 {
     let (domain, certificate) = table_in(options)?;
-    let (port, keeps_red) = marking_in(options)?;
+    let (port, workers, keeps_red) = marking_in(options)?;
     Some(Plan::Mark {
         domain,
         certificate,
         port,
+        workers,
         keeps_red,
     })
 }

@@ -64,7 +64,7 @@ value_text fault command =
 -- why the words of a command give no plan: what the parser of command lines says of their form, or what of a value
 abbrev pub explanation_text : Explanation → List ℕ → List ℕ
 explanation_text (Form text) command = string_bytes text
-explanation_text Workers command = value_text (codes "a capture is marked by one worker as yet, --workers 1") command
+explanation_text Workers command = value_text (codes "a capture is marked by 1 to 64 workers, as --workers 4") command
 explanation_text Value command =
     value_text (codes "a value is none that its option takes, or an option goes with another kind of meter") command
 

@@ -125,7 +125,7 @@ IsAnswered (Audit domain certificate) texts bytes more outcome before after =
     IsReplied (reply_over (accepted_in (first_text texts) (second_text texts)) (lines_of bytes)) outcome before after
 IsAnswered (Drive domain) texts bytes more outcome before after =
     IsReplied (reply_sold (parse_of (first_text texts)) (lines_of bytes)) outcome before after
-IsAnswered (Mark domain certificate port keeps_red) texts bytes more outcome before after =
+IsAnswered (Mark domain certificate port workers keeps_red) texts bytes more outcome before after =
     IsMarkedAt (accepted_in (first_text texts) (second_text texts)) port (rule_said keeps_red) bytes more outcome before
     after
 
@@ -156,7 +156,7 @@ IsForeseen (Check domain certificate) texts outcome = ⊤
 IsForeseen (Audit domain certificate) texts outcome =
     IsRefusedBefore (accepted_in (first_text texts) (second_text texts)) outcome
 IsForeseen (Drive domain) texts outcome = IsUnsoundBefore (parse_of (first_text texts)) outcome
-IsForeseen (Mark domain certificate port keeps_red) texts outcome =
+IsForeseen (Mark domain certificate port workers keeps_red) texts outcome =
     IsRefusedBefore (accepted_in (first_text texts) (second_text texts)) outcome
     × IsPortlessBefore (accepted_in (first_text texts) (second_text texts)) port outcome
 

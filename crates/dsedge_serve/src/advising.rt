@@ -105,7 +105,7 @@ fn tell_explained<F: Outlet>(
     match explanation {
         Explanation::Form(text) => give_all(faults, text.as_bytes()),
         Explanation::Workers => tell_value(
-            "a capture is marked by one worker as yet, --workers 1",
+            "a capture is marked by 1 to 64 workers, as --workers 4",
             command,
             faults,
         ),

@@ -21,13 +21,16 @@ use dsedge_lines::{GivenName, PumpFault};
 use dsedge_texts::{TableFault, accept};
 use pcap_capture::{DeviceFault, Intake, Outlet, PcapFault, VecOutlet, give_all};
 use std::alloc::Global;
+use std::thread::Threads;
 
 /// Answers with the capture of the input, marked at a port of the table that two texts say.
-pub(crate) fn answer_mark<I: Intake, O: Outlet>(
+pub(crate) fn answer_mark<R: Threads + Sync, I: Intake, O: Outlet>(
+    rt: &R,
     alloc: Global,
     domain: &[u8],
     certificate: &[u8],
     port: &str,
+    workers: u32,
     red: RedRule,
     intake: &mut I,
     output: &mut O,
@@ -43,16 +46,18 @@ pub(crate) fn answer_mark<I: Intake, O: Outlet>(
         → IsOfReads (is_input_fault result) (I.failed intake.old) (I.failed intake.new) (I.calls intake.new) }
 {
     match accept(alloc, domain, certificate) {
-        Ok(accepted) => mark_over(alloc, &accepted, port, red, intake, output),
+        Ok(accepted) => mark_over(rt, alloc, &accepted, port, workers, red, intake, output),
         Err(fault) => Outcome::Answered(refusal_outcome(fault)),
     }
 }
 
 /// Answers with the capture of the input, marked at a port of an accepted table.
-fn mark_over<I: Intake, O: Outlet>(
+fn mark_over<R: Threads + Sync, I: Intake, O: Outlet>(
+    rt: &R,
     alloc: Global,
     accepted: &Accepted,
     port: &str,
+    workers: u32,
     red: RedRule,
     intake: &mut I,
     output: &mut O,
@@ -66,7 +71,9 @@ fn mark_over<I: Intake, O: Outlet>(
     ensures reads { is_broken_off result ≡ false
         → IsOfReads (is_input_fault result) (I.failed intake.old) (I.failed intake.new) (I.calls intake.new) }
 {
-    match mark(alloc, accepted, port, 1, red, intake, output, &OpenGate) {
+    match mark(
+        rt, alloc, accepted, port, workers, red, intake, output, &OpenGate,
+    ) {
         Ok(report) => Outcome::Marked(report, None),
         Err((report, fault)) => Outcome::Marked(report, Some(fault)),
     }

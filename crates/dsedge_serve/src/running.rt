@@ -18,6 +18,7 @@ use pcap_capture::{Intake, Outlet};
 use std::alloc::Global;
 use std::io::{self, ErrorKind};
 use std::sync::Wait;
+use std::thread::Threads;
 
 /// Runs the program on the words of its command line, the first of which is its own name, and gives its exit status.
 /// Where there are no others, the first line of the input gives them, and the rest is the input. Files that the words
@@ -25,7 +26,7 @@ use std::sync::Wait;
 /// nowhere else.
 ///
 /// Words that could not be had are refused: for want of memory, or since one of them is not UTF-8.
-pub fn run<R: Wait, D: Folder, I: Intake, O: Outlet, F: Outlet>(
+pub fn run<R: Wait + Threads + Sync, D: Folder, I: Intake, O: Outlet, F: Outlet>(
     alloc: Global,
     rt: &R,
     line: io::Result<Words>,
@@ -94,7 +95,7 @@ fn wordless(kind: ErrorKind) -> Fault<'static>
 }
 
 /// Runs the program on its words.
-fn run_on<R: Wait, D: Folder, I: Intake, O: Outlet, F: Outlet>(
+fn run_on<R: Wait + Threads + Sync, D: Folder, I: Intake, O: Outlet, F: Outlet>(
     alloc: Global,
     rt: &R,
     words: &[String],

@@ -34,6 +34,7 @@ use dsedge_texts::{TableFault, accept, certify};
 use pcap_capture::{Intake, Outlet, give_all};
 use std::alloc::Global;
 use std::sync::Wait;
+use std::thread::Threads;
 
 /// Answers the lines of the input by a command.
 pub(crate) fn answer_lines<C: Command + Drop, I: Intake, O: Outlet>(
@@ -160,7 +161,7 @@ fn judge_run<I: Intake, O: Outlet>(
 }
 
 /// Answers what a plan asks for, on the output, from the texts of its files.
-fn answer<R: Wait, I: Intake, O: Outlet>(
+fn answer<R: Wait + Threads + Sync, I: Intake, O: Outlet>(
     alloc: Global,
     rt: &R,
     plan: &Plan<'_>,
@@ -206,12 +207,23 @@ fn answer<R: Wait, I: Intake, O: Outlet>(
         }
         Plan::Mark {
             port,
+            workers,
             keeps_red,
             ..
         } => {
             let (domain, certificate) = (texts[0].as_slice(), texts[1].as_slice());
             let (port, red) = (port.text(), rule_said(*keeps_red));
-            answer_mark(alloc, domain, certificate, port, red, intake, output)
+            answer_mark(
+                rt,
+                alloc,
+                domain,
+                certificate,
+                port,
+                *workers,
+                red,
+                intake,
+                output,
+            )
         }
     }
 }
@@ -314,8 +326,8 @@ fn tell_after<F: Outlet>(
 /// there is to say behind the fault.
 ///
 /// `texts` are the contents of the files that the plan names, in the order of its words. `drive` keeps `rt`: its broker
-/// waits for feeds that look.
-pub fn serve<R: Wait, I: Intake, O: Outlet, F: Outlet>(
+/// waits for feeds that look. `mark` starts threads with it.
+pub fn serve<R: Wait + Threads + Sync, I: Intake, O: Outlet, F: Outlet>(
     alloc: Global,
     rt: &R,
     plan: &Plan<'_>,

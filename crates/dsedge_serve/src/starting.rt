@@ -19,6 +19,7 @@ use dsedge_texts::{Folder, TextFault, read_texts};
 use pcap_capture::{Intake, Outlet};
 use std::alloc::Global;
 use std::sync::Wait;
+use std::thread::Threads;
 
 /// Tells a fault, and gives its exit status, with what there is to say behind it. A failure to write it is passed over.
 pub fn refuse<F: Outlet>(fault: &Fault<'_>, faults: &mut F) -> Ended
@@ -79,7 +80,7 @@ fn texts_for<'a, D: Folder>(
 }
 
 /// Serves a plan with the texts of its files.
-fn start_with<R: Wait, D: Folder, I: Intake, O: Outlet, F: Outlet>(
+fn start_with<R: Wait + Threads + Sync, D: Folder, I: Intake, O: Outlet, F: Outlet>(
     alloc: Global,
     rt: &R,
     plan: &Plan<'_>,
@@ -108,7 +109,7 @@ fn start_with<R: Wait, D: Folder, I: Intake, O: Outlet, F: Outlet>(
 }
 
 /// Serves the plan that words ask for.
-fn start_on<R: Wait, D: Folder, I: Intake, O: Outlet, F: Outlet>(
+fn start_on<R: Wait + Threads + Sync, D: Folder, I: Intake, O: Outlet, F: Outlet>(
     alloc: Global,
     rt: &R,
     words: &[String],
@@ -142,7 +143,7 @@ fn start_on<R: Wait, D: Folder, I: Intake, O: Outlet, F: Outlet>(
 ///
 /// Refused: `Usage` for a first line of more than 65,536 bytes or one that is not UTF-8, and for words that ask for
 /// nothing; `Read` where the first line could not be read, `File` where a file could not, `Memory` where memory ran out.
-pub fn start<R: Wait, D: Folder, I: Intake, O: Outlet, F: Outlet>(
+pub fn start<R: Wait + Threads + Sync, D: Folder, I: Intake, O: Outlet, F: Outlet>(
     alloc: Global,
     rt: &R,
     given: &[String],

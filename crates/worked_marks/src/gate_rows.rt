@@ -6,6 +6,7 @@ use pcap_capture::{SliceIntake, VecOutlet};
 use std::alloc::Global;
 use std::process::Abort;
 use std::sync::atomic::{AtomicU64, Ordering};
+use std::thread::Threads;
 
 /// A gate that counts its calls, and those among them that are not by worker 0 or not round the next visit.
 #[derive(Drop)]
@@ -38,14 +39,22 @@ impl Gate for Counter {
     }
 }
 
-/// Marks a capture with a gate.
-fn mark_through(rt: &impl Abort, alloc: Global, accepted: &Accepted, given: &[u8], gate: &Counter) {
+/// Marks a capture by so many workers with a gate.
+fn mark_through(
+    rt: &(impl Abort + Threads + Sync),
+    alloc: Global,
+    accepted: &Accepted,
+    workers: u32,
+    given: &[u8],
+    gate: &Counter,
+) {
     let mut outlet = VecOutlet::new(Vec::new(alloc));
     let marked = mark(
+        rt,
         alloc,
         accepted,
         "p",
-        1,
+        workers,
         RedRule::Keep,
         &mut SliceIntake::new(given),
         &mut outlet,
@@ -55,22 +64,29 @@ fn mark_through(rt: &impl Abort, alloc: Global, accepted: &Accepted, given: &[u8
     drop(outlet);
 }
 
-/// Expects that a gate is called before and after each of the four visits of a capture.
-fn expect_calls(rt: &impl Abort, alloc: Global, accepted: &Accepted, given: &[u8]) {
-    let gate = Counter {
-        before: AtomicU64::new(0),
-        after: AtomicU64::new(0),
-        wrong: AtomicU64::new(0),
-    };
-    mark_through(rt, alloc, accepted, given, &gate);
-    assert_eq!(rt; gate.before.load(Ordering::SeqCst), 4);
-    assert_eq!(rt; gate.after.load(Ordering::SeqCst), 4);
-    assert_eq!(rt; gate.wrong.load(Ordering::SeqCst), 0);
-    drop(gate);
+/// Expects that a gate is called before and after each of the four visits of a capture, whatever the number of workers.
+fn expect_calls(
+    rt: &(impl Abort + Threads + Sync),
+    alloc: Global,
+    accepted: &Accepted,
+    given: &[u8],
+) {
+    for workers in [1, 2, 64] {
+        let gate = Counter {
+            before: AtomicU64::new(0),
+            after: AtomicU64::new(0),
+            wrong: AtomicU64::new(0),
+        };
+        mark_through(rt, alloc, accepted, workers, given, &gate);
+        assert_eq!(rt; gate.before.load(Ordering::SeqCst), 4);
+        assert_eq!(rt; gate.after.load(Ordering::SeqCst), 4);
+        assert_eq!(rt; gate.wrong.load(Ordering::SeqCst), 0);
+        drop(gate);
+    }
 }
 
 /// Expects those calls of a capture of three records, of which two are sent.
-fn expect_calls_of_two(rt: &impl Abort, alloc: Global) {
+fn expect_calls_of_two(rt: &(impl Abort + Threads + Sync), alloc: Global) {
     let accepted = narrow(rt, alloc);
     let given = capture(rt, alloc, &[HEADING, TAGGED, OTHER, TAGGED]);
     expect_calls(rt, alloc, &accepted, given.as_slice());

@@ -18,3 +18,5 @@ mod tables;
 mod verdict_rows;
 #[cfg(test)]
 mod visit_rows;
+#[cfg(test)]
+mod worker_rows;

@@ -8,6 +8,7 @@ use pcap_capture::{Intake, MOST_CALLS, PcapFault, SliceIntake, VecOutlet};
 use run_audit::Verdict;
 use std::alloc::Global;
 use std::process::Abort;
+use std::thread::Threads;
 use worked_texts::{LEAST_OF_POLICED, NARROW, POLICED, TWO_RATES, U, UDP};
 
 /// The least certificate of a policed contract of UDP packets with bursts of 150 and 300 bytes.
@@ -60,20 +61,22 @@ struct Marked {
     fault: Option<MarkFault>,
 }
 
-/// What `mark` leaves behind of a capture at a port.
+/// What `mark` by so many workers leaves behind of a capture at a port.
 fn leavings(
+    rt: &(impl Threads + Sync),
     alloc: Global,
     accepted: &Accepted,
-    port: &str,
+    (port, workers): (&str, u32),
     red: RedRule,
     intake: &mut SliceIntake<'_>,
 ) -> Marked {
     let mut outlet = VecOutlet::new(Vec::new(alloc));
     let answer = mark(
+        rt,
         alloc,
         accepted,
         port,
-        1,
+        workers,
         red,
         intake,
         &mut outlet,
@@ -112,13 +115,13 @@ struct Row<'a> {
     fault: Option<MarkFault>,
 }
 
-/// Expects what a row says of a capture at port `p`, by at most so many bytes a call.
+/// Expects what a row says of a capture at port `p`, by so many workers and at most so many bytes a call.
 fn expect_pieces(
-    rt: &impl Abort,
+    rt: &(impl Abort + Threads + Sync),
     alloc: Global,
     (accepted, red): (&Accepted, RedRule),
     row: &Row<'_>,
-    most: usize,
+    (workers, most): (u32, usize),
 ) {
     let given = capture(rt, alloc, row.given);
     let written = capture(rt, alloc, row.written);
@@ -126,29 +129,37 @@ fn expect_pieces(
         most,
         ..SliceIntake::new(given.as_slice())
     };
-    let marked = leavings(alloc, accepted, "p", red, &mut intake);
+    let marked = leavings(rt, alloc, accepted, ("p", workers), red, &mut intake);
     expect(rt, &marked, written.as_slice(), row.report, row.fault);
     drop(marked);
     drop(written);
     drop(given);
 }
 
-/// Expects the same by one byte a call, by seven, and by all that there is room for.
-fn expect_row(rt: &impl Abort, alloc: Global, accepted: &Accepted, red: RedRule, row: &Row<'_>) {
-    for most in [1, 7, usize::MAX] {
-        expect_pieces(rt, alloc, (accepted, red), row, most);
+/// Expects the same by one byte a call, by seven, and by all that there is room for, for each number of workers.
+fn expect_row(
+    rt: &(impl Abort + Threads + Sync),
+    alloc: Global,
+    accepted: &Accepted,
+    red: RedRule,
+    row: &Row<'_>,
+) {
+    for workers in [1, 2, 3, 8, 64] {
+        for most in [1, 7, usize::MAX] {
+            expect_pieces(rt, alloc, (accepted, red), row, (workers, most));
+        }
     }
 }
 
 /// Expects of the wide contract what a row says.
-fn expect_wide(rt: &impl Abort, alloc: Global, row: &Row<'_>) {
+fn expect_wide(rt: &(impl Abort + Threads + Sync), alloc: Global, row: &Row<'_>) {
     let accepted = wide(rt, alloc);
     expect_row(rt, alloc, &accepted, RedRule::Keep, row);
     drop(accepted);
 }
 
 /// Expects the same of the narrow one.
-fn expect_narrow(rt: &impl Abort, alloc: Global, red: RedRule, row: &Row<'_>) {
+fn expect_narrow(rt: &(impl Abort + Threads + Sync), alloc: Global, red: RedRule, row: &Row<'_>) {
     let accepted = narrow(rt, alloc);
     expect_row(rt, alloc, &accepted, red, row);
     drop(accepted);
@@ -243,10 +254,10 @@ fn a_capture_of_another_link(rt: HostRuntime) {
 }
 
 /// Expects of a port that is not there that nothing is read or written.
-fn expect_no_port(rt: &impl Abort, alloc: Global, accepted: &Accepted) {
+fn expect_no_port(rt: &(impl Abort + Threads + Sync), alloc: Global, accepted: &Accepted) {
     let given = capture(rt, alloc, &[HEADING]);
     let mut intake = SliceIntake::new(given.as_slice());
-    let marked = leavings(alloc, accepted, "q", RedRule::Keep, &mut intake);
+    let marked = leavings(rt, alloc, accepted, ("q", 1), RedRule::Keep, &mut intake);
     let fault = Some(MarkFault::UnknownPort);
     expect(rt, &marked, &[], Report::nothing(), fault);
     assert_eq!(rt; intake.turns, 0);
@@ -255,7 +266,7 @@ fn expect_no_port(rt: &impl Abort, alloc: Global, accepted: &Accepted) {
 }
 
 /// Expects the same over the wide table.
-fn expect_no_port_of_wide(rt: &impl Abort, alloc: Global) {
+fn expect_no_port_of_wide(rt: &(impl Abort + Threads + Sync), alloc: Global) {
     let accepted = wide(rt, alloc);
     expect_no_port(rt, alloc, &accepted);
     drop(accepted);
@@ -269,11 +280,12 @@ fn no_such_port(rt: HostRuntime) {
 /// Expects of two records, of which the second cannot be read on at the fourth call, since the device fails there or
 /// answers no more calls, that the first is marked, and how often the device failed.
 fn expect_first(
-    rt: &impl Abort,
+    rt: &(impl Abort + Threads + Sync),
     alloc: Global,
     accepted: &Accepted,
     (fails_at, calls): (Option<u64>, u64),
     failures: u64,
+    workers: u32,
 ) {
     let given = capture(rt, alloc, &[HEADING, TAGGED, TAGGED]);
     let written = capture(rt, alloc, &[HEADING, GREEN]);
@@ -283,7 +295,14 @@ fn expect_first(
         calls,
         ..SliceIntake::new(given.as_slice())
     };
-    let marked = leavings(alloc, accepted, "p", RedRule::Keep, &mut intake);
+    let marked = leavings(
+        rt,
+        alloc,
+        accepted,
+        ("p", workers),
+        RedRule::Keep,
+        &mut intake,
+    );
     let fault = Some(MarkFault::Capture(PcapFault::ReadFault));
     let report = report(1, 0, 0, [1, 0, 0]);
     expect(rt, &marked, written.as_slice(), report, fault);
@@ -294,9 +313,16 @@ fn expect_first(
 }
 
 /// Expects the same over the wide table.
-fn expect_first_of_wide(rt: &impl Abort, alloc: Global, limits: (Option<u64>, u64), failures: u64) {
+fn expect_first_of_wide(
+    rt: &(impl Abort + Threads + Sync),
+    alloc: Global,
+    limits: (Option<u64>, u64),
+    failures: u64,
+) {
     let accepted = wide(rt, alloc);
-    expect_first(rt, alloc, &accepted, limits, failures);
+    for workers in [1, 2, 64] {
+        expect_first(rt, alloc, &accepted, limits, failures, workers);
+    }
     drop(accepted);
 }
 
@@ -312,14 +338,26 @@ fn a_capture_whose_device_is_spent(rt: HostRuntime) {
 
 /// Expects of a device that gives one byte a call, and answers three calls, that nothing is marked, and that it did not
 /// fail.
-fn expect_spent(rt: &impl Abort, alloc: Global, accepted: &Accepted) {
+fn expect_spent(
+    rt: &(impl Abort + Threads + Sync),
+    alloc: Global,
+    accepted: &Accepted,
+    workers: u32,
+) {
     let given = capture(rt, alloc, &[HEADING, TAGGED]);
     let mut intake = SliceIntake {
         most: 1,
         calls: 3,
         ..SliceIntake::new(given.as_slice())
     };
-    let marked = leavings(alloc, accepted, "p", RedRule::Keep, &mut intake);
+    let marked = leavings(
+        rt,
+        alloc,
+        accepted,
+        ("p", workers),
+        RedRule::Keep,
+        &mut intake,
+    );
     let fault = Some(MarkFault::Capture(PcapFault::ReadFault));
     expect(rt, &marked, &[], Report::nothing(), fault);
     assert_eq!(rt; intake.failures(), 0);
@@ -328,9 +366,11 @@ fn expect_spent(rt: &impl Abort, alloc: Global, accepted: &Accepted) {
 }
 
 /// Expects the same over the wide table.
-fn expect_spent_of_wide(rt: &impl Abort, alloc: Global) {
+fn expect_spent_of_wide(rt: &(impl Abort + Threads + Sync), alloc: Global) {
     let accepted = wide(rt, alloc);
-    expect_spent(rt, alloc, &accepted);
+    for workers in [1, 2, 64] {
+        expect_spent(rt, alloc, &accepted, workers);
+    }
     drop(accepted);
 }
 
@@ -354,10 +394,23 @@ fn frames(rt: &impl Abort, alloc: Global, records: u64) -> Vec<u8> {
 
 /// Expects of so many frames that each is marked and written, however often its meter was visited, and that they are
 /// taken by so many calls: one for the heading, one for each piece of 65,536 bytes behind it, and one at the end.
-fn expect_all(rt: &impl Abort, alloc: Global, accepted: &Accepted, records: u64, turns: u64) {
+fn expect_all(
+    rt: &(impl Abort + Threads + Sync),
+    alloc: Global,
+    accepted: &Accepted,
+    workers: u32,
+    (records, turns): (u64, u64),
+) {
     let given = frames(rt, alloc, records);
     let mut intake = SliceIntake::new(given.as_slice());
-    let marked = leavings(alloc, accepted, "p", RedRule::Keep, &mut intake);
+    let marked = leavings(
+        rt,
+        alloc,
+        accepted,
+        ("p", workers),
+        RedRule::Keep,
+        &mut intake,
+    );
     assert_eq!(rt; marked.fault, None);
     assert_eq!(rt; marked.report.marked, records);
     assert_eq!(rt; marked.written.len(), given.len());
@@ -367,18 +420,30 @@ fn expect_all(rt: &impl Abort, alloc: Global, accepted: &Accepted, records: u64,
 }
 
 /// Expects the same over the narrow table.
-fn expect_all_of_narrow(rt: &impl Abort, alloc: Global, records: u64, turns: u64) {
+fn expect_all_of_narrow(
+    rt: &(impl Abort + Threads + Sync),
+    alloc: Global,
+    workers: u32,
+    counts: (u64, u64),
+) {
     let accepted = narrow(rt, alloc);
-    expect_all(rt, alloc, &accepted, records, turns);
+    expect_all(rt, alloc, &accepted, workers, counts);
     drop(accepted);
 }
 
 #[test]
 fn a_meter_that_is_visited_more_often_than_a_journal_has_rows(rt: HostRuntime) {
-    expect_all_of_narrow(&rt, rt.alloc(), 1_048_577, 867);
+    expect_all_of_narrow(&rt, rt.alloc(), 1, (1_048_577, 867));
+}
+
+#[test]
+fn two_workers_take_as_many_records(rt: HostRuntime) {
+    expect_all_of_narrow(&rt, rt.alloc(), 2, (1_048_577, 867));
 }
 
 #[test]
 fn a_capture_is_taken_in_pieces_as_large_as_may_be(rt: HostRuntime) {
-    expect_all_of_narrow(&rt, rt.alloc(), 1_214, 4);
+    for workers in [1, 2, 3, 8, 64] {
+        expect_all_of_narrow(&rt, rt.alloc(), workers, (1_214, 4));
+    }
 }

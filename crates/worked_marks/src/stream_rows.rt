@@ -10,6 +10,7 @@ use pcap_capture::{DeviceFault, Intake, Outlet, SliceIntake};
 use std::alloc::Global;
 use std::process::Abort;
 use std::sync::atomic::{AtomicU64, Ordering};
+use std::thread::Threads;
 use worked_texts::joined;
 
 /// An intake that notes, at each call, how many bytes were written so far.
@@ -67,12 +68,13 @@ impl Outlet for Counting<'_> {
     }
 }
 
-/// Marks a capture, of which at most 108 bytes are taken at a time, and gives how many bytes were written at the last
-/// call that took some.
+/// Marks a capture by so many workers, of which at most 108 bytes are taken at a time, and gives how many bytes were
+/// written at the last call that took some.
 fn noted(
-    rt: &impl Abort,
+    rt: &(impl Abort + Threads + Sync),
     alloc: Global,
     accepted: &Accepted,
+    workers: u32,
     given: &[u8],
     written: &AtomicU64,
 ) -> u64 {
@@ -89,10 +91,11 @@ fn noted(
         written,
     };
     let marked = mark(
+        rt,
         alloc,
         accepted,
         "p",
-        1,
+        workers,
         RedRule::Keep,
         &mut intake,
         &mut outlet,
@@ -103,16 +106,24 @@ fn noted(
 }
 
 /// Expects of a capture of three records how many bytes were written before its last were taken, and of all at its end.
-fn expect_noted(rt: &impl Abort, alloc: Global, accepted: &Accepted, given: &[u8], before: u64) {
-    let written = AtomicU64::new(0);
-    let noted = noted(rt, alloc, accepted, given, &written);
-    assert_eq!(rt; noted, before);
-    assert_eq!(rt; written.load(Ordering::SeqCst), 24 + 162);
-    drop(written);
+fn expect_noted(
+    rt: &(impl Abort + Threads + Sync),
+    alloc: Global,
+    accepted: &Accepted,
+    given: &[u8],
+    before: u64,
+) {
+    for workers in [1, 4] {
+        let written = AtomicU64::new(0);
+        let noted = noted(rt, alloc, accepted, workers, given, &written);
+        assert_eq!(rt; noted, before);
+        assert_eq!(rt; written.load(Ordering::SeqCst), 24 + 162);
+        drop(written);
+    }
 }
 
 /// Expects the same over the narrow table.
-fn expect_head_first(rt: &impl Abort, alloc: Global) {
+fn expect_head_first(rt: &(impl Abort + Threads + Sync), alloc: Global) {
     let accepted = narrow(rt, alloc);
     let given = capture(rt, alloc, &[HEADING, TAGGED, TAGGED, TAGGED]);
     expect_noted(rt, alloc, &accepted, given.as_slice(), 24 + 108);
@@ -194,7 +205,7 @@ pbs = 150
 /// Expects of contracts with their least certificate, and three records of the first of them that are stamped alike, how
 /// many bytes were written before the last record was taken.
 fn expect_alike(
-    rt: &impl Abort,
+    rt: &(impl Abort + Threads + Sync),
     alloc: Global,
     contracts: &[&str],
     certificate: &str,

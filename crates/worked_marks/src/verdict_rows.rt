@@ -10,6 +10,7 @@ use pcap_capture::{SliceIntake, VecOutlet};
 use run_audit::Verdict;
 use std::alloc::Global;
 use std::process::Abort;
+use std::thread::Threads;
 
 /// A meter `m` whose buckets are full from 1 s on, with a skew of 500 µs; a port `p`; a link between them of 1 ms to
 /// 2 ms; and a contract that is trusted until 5 s with 3,000 bytes green, 4,000 green and yellow, and 1,000 yellow.
@@ -209,15 +210,22 @@ const OF_A: &str =
 const OF_B: &str =
     "00000000 00000000 14000000 14000000 4548 0014 0000 0000 4011 0000 0a00 0101 0a00 0001";
 
-/// What `mark` writes of a capture at port `p`, and its report, where it has no fault.
-fn passed(alloc: Global, accepted: &Accepted, given: &[u8]) -> (Vec<u8>, Option<Report>) {
+/// What `mark` by so many workers writes of a capture at port `p`, and its report, where it has no fault.
+fn passed(
+    rt: &(impl Threads + Sync),
+    alloc: Global,
+    accepted: &Accepted,
+    workers: u32,
+    given: &[u8],
+) -> (Vec<u8>, Option<Report>) {
     let mut outlet = VecOutlet::new(Vec::new(alloc));
     let mut intake = SliceIntake::new(given);
     let answer = mark(
+        rt,
         alloc,
         accepted,
         "p",
-        1,
+        workers,
         RedRule::Keep,
         &mut intake,
         &mut outlet,
@@ -227,8 +235,14 @@ fn passed(alloc: Global, accepted: &Accepted, given: &[u8]) -> (Vec<u8>, Option<
 }
 
 /// Expects of a capture of two packets that it is written as it is, and its report.
-fn expect_two(rt: &impl Abort, alloc: Global, accepted: &Accepted, given: &[u8]) {
-    let (written, report) = passed(alloc, accepted, given);
+fn expect_two(
+    rt: &(impl Abort + Threads + Sync),
+    alloc: Global,
+    accepted: &Accepted,
+    workers: u32,
+    given: &[u8],
+) {
+    let (written, report) = passed(rt, alloc, accepted, workers, given);
     assert_eq!(rt; written.as_slice(), given);
     drop(written);
     let expected = Report {
@@ -244,10 +258,12 @@ fn expect_two(rt: &impl Abort, alloc: Global, accepted: &Accepted, given: &[u8])
 }
 
 /// Expects the same of a packet to each of two meters.
-fn expect_two_meters(rt: &impl Abort, alloc: Global) {
+fn expect_two_meters(rt: &(impl Abort + Threads + Sync), alloc: Global) {
     let accepted = table_of(rt, alloc, TWO_METERS, TWO_METERS_LEAST);
     let given = capture(rt, alloc, &[RAW, OF_A, OF_B]);
-    expect_two(rt, alloc, &accepted, given.as_slice());
+    for workers in [1, 2, 3, 8, 64] {
+        expect_two(rt, alloc, &accepted, workers, given.as_slice());
+    }
     drop(given);
     drop(accepted);
 }
@@ -288,14 +304,14 @@ cbs = 200
 
 /// Expects the verdict that `mark` tells of so many packets of 115 bytes, all green and at 1.5 s.
 fn expect_told(
-    rt: &impl Abort,
+    rt: &(impl Abort + Threads + Sync),
     alloc: Global,
     accepted: &Accepted,
     records: &[&str],
     verdict: Verdict,
 ) {
     let given = capture(rt, alloc, records);
-    let (written, report) = passed(alloc, accepted, given.as_slice());
+    let (written, report) = passed(rt, alloc, accepted, 1, given.as_slice());
     let told = report.map_or(None, |report| report.verdict);
     assert_eq!(rt; told, Some(verdict));
     drop(written);
@@ -304,7 +320,7 @@ fn expect_told(
 
 /// Expects the same over the table of a contract with 200 bytes.
 fn expect_of_small(
-    rt: &impl Abort,
+    rt: &(impl Abort + Threads + Sync),
     alloc: Global,
     contract: &str,
     records: &[&str],
@@ -351,7 +367,7 @@ cbs = 3000
 const FROM_TWO_LEAST: &str = "dscert 1\nt 0 3000 3000\nt 1 3000 3000\n";
 
 /// Expects of a packet that comes before its meter that it is late.
-fn expect_early(rt: &impl Abort, alloc: Global) {
+fn expect_early(rt: &(impl Abort + Threads + Sync), alloc: Global) {
     let early = table_of(rt, alloc, FROM_TWO, FROM_TWO_LEAST);
     let late = late(rt, 499_000_000);
     expect_told(rt, alloc, &early, &[HEADING, GREEN], late);

@@ -5,11 +5,12 @@ use std::alloc::{AllocError, Global};
 use std::process::Abort;
 use std::sync::Wait;
 use std::test::Fail;
+use std::thread::Threads;
 use worked_texts::{MOST_CONTRACTS, most_contracts, tight, wide};
 
 /// `drive` on lines, over a domain.
 fn run_drive(
-    rt: &impl Wait,
+    rt: &(impl Wait + Threads + Sync),
     alloc: Global,
     domain: &str,
     intake: SliceIntake,
@@ -22,7 +23,7 @@ fn run_drive(
 
 /// Expects of `drive` on lines, over a domain, an output, what is told, and a status.
 fn expect_of_drive(
-    rt: &(impl Abort + Wait),
+    rt: &(impl Abort + Wait + Threads + Sync),
     alloc: Global,
     (domain, lines): (&str, &str),
     (output, told, status): (&str, &str, u8),

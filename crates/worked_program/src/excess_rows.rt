@@ -3,6 +3,7 @@ use std::alloc::{AllocError, Global};
 use std::process::Abort;
 use std::sync::Wait;
 use std::test::Fail;
+use std::thread::Threads;
 use worked_texts::{
     A, EXCESS, ONE, PEAK, POLICED, SEPARATE_RATES, SHARE, TOO_MUCH, TRUSTED, TWO, U, over_excess,
 };
@@ -20,7 +21,7 @@ fn enough(alloc: Global) -> Result<String, AllocError> {
 
 /// Expects of `certify` on a domain a certificate, and of `check` on both an output and a status.
 fn expect_least(
-    rt: &(impl Abort + Wait),
+    rt: &(impl Abort + Wait + Threads + Sync),
     alloc: Global,
     domain: &str,
     certificate: &str,

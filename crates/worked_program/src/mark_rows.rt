@@ -3,6 +3,7 @@ use std::alloc::{AllocError, Global};
 use std::process::Abort;
 use std::sync::Wait;
 use std::test::Fail;
+use std::thread::Threads;
 use worked_texts::{NARROW, POLICED, TWO_RATES, U, UDP};
 
 /// The heading of a capture: low bytes first, microseconds, Ethernet.
@@ -45,7 +46,7 @@ fn capture(alloc: Global, parts: &[&[u8]]) -> Result<Vec<u8>, AllocError> {
 /// `mark` with words behind its files on a capture, over the domain of a contract of UDP packets that a meter
 /// polices, and its least certificate.
 pub(crate) fn run_mark(
-    rt: &impl Wait,
+    rt: &(impl Wait + Threads + Sync),
     alloc: Global,
     rates: &str,
     words: &str,
@@ -61,7 +62,7 @@ pub(crate) fn run_mark(
 
 /// Expects of `mark` on parts of a capture parts of another one, what is told, and a status.
 fn expect_of_mark(
-    rt: &(impl Abort + Wait),
+    rt: &(impl Abort + Wait + Threads + Sync),
     alloc: Global,
     (rates, words): (&str, &str),
     (given, wanted): (&[&[u8]], &[&[u8]]),
@@ -141,7 +142,8 @@ fn captures_that_are_not_marked(rt: HostRuntime) -> Result<(), Fail> {
 #[test]
 fn words_of_mark_that_are_refused(rt: HostRuntime) -> Result<(), Fail> {
     for words in [
-        "--port p --workers 2 --red keep",
+        "--port p --workers 65 --red keep",
+        "--port p --workers 0 --red keep",
         "--port p --workers 1 --red leave",
         "--port p --workers 1",
         "--workers 1 --red keep",

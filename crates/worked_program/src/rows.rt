@@ -5,6 +5,7 @@ use std::alloc::{AllocError, Global};
 use std::process::Abort;
 use std::sync::Wait;
 use std::test::Fail;
+use std::thread::Threads;
 use worked_texts::{
     A, B, C, LEAST_OF_POLICED, LEAST_OF_TRUSTED, LINK, POLICED, PORT, SHARE, TRUSTED, TWO_RATES, U,
     UDP, joined, push_all,
@@ -25,7 +26,7 @@ const NO_FILES: MemoryFolder<'static> = MemoryFolder { files: &[] };
 
 /// The program on words that stand one space apart, with its files, its input and its output.
 pub(crate) fn run(
-    rt: &impl Wait,
+    rt: &(impl Wait + Threads + Sync),
     alloc: Global,
     words: &str,
     files: MemoryFolder<'_>,
@@ -57,7 +58,7 @@ pub(crate) fn run(
 
 /// Expects of the program on words and an input an output, what is told, and a status.
 fn expect(
-    rt: &(impl Abort + Wait),
+    rt: &(impl Abort + Wait + Threads + Sync),
     alloc: Global,
     (words, input): (&str, &str),
     (output, told, status): (&str, &str, u8),
@@ -131,7 +132,11 @@ const NO_ARRIVALS: &str =
     "\n0 0 g\n0 1 g\r\n0  1 g\n\x200 1 g\n0 1 g\x20\n0 1\n0 1 g 2\n0 1 b\n0 1 green\n\
     0 65536 g\n9223372036854775808 1 g\n000000000000000000000 1 g\n-1 1 g\n+1 1 g\nx 1 g";
 
-fn expect_no_arrival(rt: &(impl Abort + Wait), alloc: Global, line: &str) -> Result<(), Fail> {
+fn expect_no_arrival(
+    rt: &(impl Abort + Wait + Threads + Sync),
+    alloc: Global,
+    line: &str,
+) -> Result<(), Fail> {
     let first = format!(in alloc; "{line}\n0 1 g\n")?;
     expect(
         rt,
@@ -350,7 +355,7 @@ link = [{{ from = "p", to = "m", floor = 0, jitter = {jitter} }}]
 
 /// The program on words, with one file `domain.toml`.
 pub(crate) fn run_on_domain(
-    rt: &impl Wait,
+    rt: &(impl Wait + Threads + Sync),
     alloc: Global,
     words: &str,
     domain: &str,
@@ -437,7 +442,7 @@ const LEAST_OF_THREE: &str =
 
 /// Expects of `check` on a domain and a certificate an output, what is told, and a status.
 pub(crate) fn expect_of_check(
-    rt: &(impl Abort + Wait),
+    rt: &(impl Abort + Wait + Threads + Sync),
     alloc: Global,
     (domain, certificate): (&str, &str),
     (output, told, status): (&str, &str, u8),
@@ -539,7 +544,7 @@ fn faults_of_tables(rt: HostRuntime) -> Result<(), Fail> {
 
 /// The program on words, with a domain and a certificate in files `domain.toml` and `domain.cert`, and an input.
 pub(crate) fn run_on_table(
-    rt: &impl Wait,
+    rt: &(impl Wait + Threads + Sync),
     alloc: Global,
     words: &str,
     domain: &str,
@@ -558,7 +563,7 @@ pub(crate) fn run_on_table(
 
 /// `audit` on steps, over a domain with a certificate.
 fn run_audit(
-    rt: &impl Wait,
+    rt: &(impl Wait + Threads + Sync),
     alloc: Global,
     domain: &str,
     certificate: &[u8],
@@ -571,7 +576,7 @@ fn run_audit(
 /// Expects of `audit` on steps, over a domain with its least certificate, how the output begins, what is told, and a
 /// status.
 pub(crate) fn expect_of_audit(
-    rt: &(impl Abort + Wait),
+    rt: &(impl Abort + Wait + Threads + Sync),
     alloc: Global,
     (domain, steps): (&str, &str),
     (beginning, told, status): (&str, &str, u8),

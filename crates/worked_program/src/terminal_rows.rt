@@ -7,6 +7,7 @@ use std::io::{Error, ErrorKind};
 use std::process::Abort;
 use std::sync::Wait;
 use std::test::Fail;
+use std::thread::Threads;
 use worked_texts::LEAST_OF_TRUSTED;
 
 /// What the program left behind.
@@ -20,7 +21,7 @@ struct Left {
 /// The program on a command line, whose words stand one space apart, with the files of a trusted contract's domain and
 /// an input, where faults are read at a terminal, or not.
 fn run_line(
-    rt: &(impl Abort + Wait),
+    rt: &(impl Abort + Wait + Threads + Sync),
     alloc: Global,
     line: &str,
     at_terminal: bool,
@@ -59,7 +60,7 @@ fn run_line(
 /// Expects of the program on a command line an output and a status, what is told in a pipe, and what stands behind that
 /// at a terminal.
 fn expect_line(
-    rt: &(impl Abort + Wait),
+    rt: &(impl Abort + Wait + Threads + Sync),
     alloc: Global,
     (line, input): (&str, &[u8]),
     (output, status): (&[u8], u8),
@@ -97,7 +98,7 @@ const NOTHING: &str = "records 0\nmarked 0\nunmatched 0\nskipped 0\nunverified 0
 /// Expects of `mark` at a port on a capture what it writes, what is told behind the report, and what stands behind that
 /// at a terminal.
 fn expect_capture(
-    rt: &(impl Abort + Wait),
+    rt: &(impl Abort + Wait + Threads + Sync),
     alloc: Global,
     (port, input): (&str, &[u8]),
     output: &[u8],
@@ -177,12 +178,12 @@ static LINES: [(&str, &[u8], &str, u8, &str, &str); 9] = [
         For more information, try 'dsedge envelope --help'.\n",
     ),
     (
-        "dsedge mark domain.toml domain.cert --port p --workers 2 --red keep",
+        "dsedge mark domain.toml domain.cert --port p --workers 65 --red keep",
         b"",
         "",
         2,
         "dsedge: usage\n",
-        "error: a capture is marked by one worker as yet, --workers 1\n\n\
+        "error: a capture is marked by 1 to 64 workers, as --workers 4\n\n\
         For more information, try 'dsedge mark --help'.\n",
     ),
     (

@@ -177,12 +177,13 @@ fn audit_of_two() -> Plan<'static> {
     }
 }
 
-/// The plan of a mark over the same files.
-fn mark_over_two(keeps_red: bool) -> Plan<'static> {
+/// The plan of a mark over the same files by so many workers.
+fn mark_over_two(workers: u32, keeps_red: bool) -> Plan<'static> {
     Plan::Mark {
         domain: GivenName::new("domain.toml"),
         certificate: GivenName::new("domain.cert"),
         port: GivenName::new("p"),
+        workers,
         keeps_red,
     }
 }
@@ -190,18 +191,25 @@ fn mark_over_two(keeps_red: bool) -> Plan<'static> {
 #[test]
 fn a_mark_names_two_files_a_port_and_a_rule(rt: HostRuntime) -> Result<(), Fail> {
     let alloc = rt.alloc();
-    for (line, keeps_red) in [
+    for (line, workers, keeps_red) in [
         (
             "mark domain.toml domain.cert --port p --workers 1 --red keep",
+            1,
             true,
         ),
         (
-            "mark --red drop --workers 01 --port p domain.toml domain.cert",
+            "mark domain.toml domain.cert --port p --workers 64 --red keep",
+            64,
+            true,
+        ),
+        (
+            "mark --red drop --workers 02 --port p domain.toml domain.cert",
+            2,
             false,
         ),
-        ("mark domain.toml domain.cert --port p --red keep", true),
+        ("mark domain.toml domain.cert --port p --red keep", 1, true),
     ] {
-        expect_plan(&rt, alloc, line, &mark_over_two(keeps_red))?;
+        expect_plan(&rt, alloc, line, &mark_over_two(workers, keeps_red))?;
     }
     Ok(())
 }
@@ -248,7 +256,7 @@ certify one.toml two.toml
 certify --domain one.toml
 check domain.toml
 check domain.toml domain.cert more
-mark domain.toml domain.cert --port p --workers 2 --red keep
+mark domain.toml domain.cert --port p --workers 65 --red keep
 mark domain.toml domain.cert --port p --workers 0 --red keep
 mark domain.toml domain.cert --workers 1 --red keep
 mark domain.toml domain.cert --port p --workers 1 --red leave

@@ -1,25 +1,14 @@
 use Rattle.std.proofs.Common.{◌≡◌, ◌+◌, ◌<◌, ℕ, List, true, ap, refl, sym, subst, arith}
-use Rattle.std.specs.Prelude.{nat_lt}
 use Rattle.std.specs.List.{All}
-use Rattle.std.proofs.lemmas.Bool.Decides.{nat_tests}
-use Rattle.std.proofs.lemmas.List.Elements.{All-weaker, filter_passes}
 use Rattle.ds_conductor_base.proofs.HeadStartLaws.{come_sooner}
-use Rattle.ds_conductor_base.specs.Streams.{ComeFrom, late}
+use Rattle.ds_conductor_base.specs.Streams.{ComeFrom}
 use Rattle.ds_conductor_base.specs.declared.visit.Visit.{Visit}
-use Rattle.ds_conductor.proofs.BoundLaws.{made_bounded}
+use Rattle.ds_conductor.proofs.BoundLaws.{late_all, made_bounded}
 use Rattle.ds_conductor.proofs.ConditionLaws.{made}
 use Rattle.ds_conductor.proofs.conditioner.Conditioner.make_due.Goals as goal
 
 pub returns-clause-bounded : goal.returns-clause-bounded
 returns-clause-bounded g c = λ was. made_bounded _ c.args.self.now _ refl refl c.make_due.ensures.made was
-
-passed : (moment m : ℕ) → nat_lt moment m ≡ true → moment < m
-passed moment m test = grind (arith, nat_tests)
-
-late_all : (moment : ℕ) (visits : List Visit) → All (λ v. moment < v.moment) (late moment visits)
-late_all moment visits =
-    All-weaker (λ (v : Visit). nat_lt moment v.moment ≡ true) (λ (v : Visit). moment < v.moment) (λ v test. passed moment v.moment test) (late moment visits)
-    (filter_passes (λ v. nat_lt moment v.moment) visits)
 
 pub returns-clause-due : goal.returns-clause-due
 returns-clause-due g c =
