@@ -135,6 +135,7 @@ above_by t c field least most count other those found met = by (cases_≤ other 
   where
     within : (least ≤ other) × (other ≤ most)
     within = those.outside other (allowed t c field other met)
+
     by : (other < least + count) ⊎ (least + count ≤ other) → other < least + count
     by (inl below) = below
     by (inr above) =

@@ -107,12 +107,7 @@ fn with_burst(value: u64, profile: Profile) -> Option<Profile>
 }
 
 /// What a trusted contract keeps, with another value of a field that it has.
-fn trusted_with(
-    field: Field,
-    value: u64,
-    committed: Profile,
-    peak: Option<Peak>,
-) -> Option<Terms>
+fn trusted_with(field: Field, value: u64, committed: Profile, peak: Option<Peak>) -> Option<Terms>
     ensures { result ≡ trusted_with field value committed peak }
 {
     match field {
@@ -160,12 +155,7 @@ fn peak_with(field: Field, value: u64, peak: Peak) -> Option<Peak>
 }
 
 /// The terms of a contract that a meter polices, with another value of a field that its parameters have.
-fn policed_with(
-    field: Field,
-    value: u64,
-    parameters: SoundParameters,
-    mode: Mode,
-) -> Option<Terms>
+fn policed_with(field: Field, value: u64, parameters: SoundParameters, mode: Mode) -> Option<Terms>
     ensures { result ≡ policed_with field value parameters mode }
 {
     let changed = parameters_with(field, value, parameters.get())?;

@@ -80,8 +80,24 @@ fn trusted_values(field: Field, peak: Option<Peak>) -> Option<Values>
         (Field::CommittedBurst, _) => Some(Values::BURSTS),
         (Field::PeakRate, Some(_)) => Some(Values::RATES),
         (Field::PeakBurst, Some(_)) => Some(Values::BURSTS),
-        (Field::ExcessRate, Some(Peak { excess: Some(_), .. })) => Some(Values::RATES),
-        (Field::ExcessBurst, Some(Peak { excess: Some(_), .. })) => Some(Values::BURSTS),
+        (
+            Field::ExcessRate,
+            Some(
+                Peak {
+                    excess: Some(_),
+                    ..
+                },
+            ),
+        ) => Some(Values::RATES),
+        (
+            Field::ExcessBurst,
+            Some(
+                Peak {
+                    excess: Some(_),
+                    ..
+                },
+            ),
+        ) => Some(Values::BURSTS),
         _ => None,
     }
 }

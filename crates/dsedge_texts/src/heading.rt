@@ -102,11 +102,7 @@ fn push_lines_at(text: &mut Vec<u8>, accepted: &Accepted, meter: Name) -> Result
 }
 
 /// Appends the lines of a meter.
-fn push_meter_lines(
-    text: &mut Vec<u8>,
-    meter: Name,
-    headroom: Headroom,
-) -> Result<(), AllocError>
+fn push_meter_lines(text: &mut Vec<u8>, meter: Name, headroom: Headroom) -> Result<(), AllocError>
     ensures { OnOk result (text.new.items ≡ text.old.items ++ meter_lines meter headroom) }
 {
     push_test_line(text, meter, b" GreenRate", headroom.green_rate)?;

@@ -43,12 +43,7 @@ pub enum QuoteFault {
 ///
 /// Refused: `Domain` with the first fault of the text, `Unnamed`, `NoField`, in this order; `NoMemory` where memory runs
 /// out.
-pub fn quote(
-    alloc: Global,
-    text: &[u8],
-    name: &[u8],
-    field: Field,
-) -> Result<Quoted, QuoteFault>
+pub fn quote(alloc: Global, text: &[u8], name: &[u8], field: Field) -> Result<Quoted, QuoteFault>
     ensures ok { IfOk result (λ quoted. quote_in text.now name.now field ≡ Ok (quoted.text.items, quoted.is_found)) }
     ensures refused { IfErr result (λ fault. (fault ≡ QuoteFault.NoMemory)
         ⊎ (quote_in text.now name.now field ≡ Err fault)) }
@@ -260,11 +255,7 @@ fn none_of(
 }
 
 /// `none`, and what the checker says of contracts that fit a domain with their least certificate.
-fn none_with(
-    alloc: Global,
-    domain: Domain,
-    contracts: Vec<Contract>,
-) -> Result<Quoted, QuoteFault>
+fn none_with(alloc: Global, domain: Domain, contracts: Vec<Contract>) -> Result<Quoted, QuoteFault>
     requires { list_all (fits domain) contracts.items ≡ true }
     ensures told { IfOk result (λ quoted.
         (quoted.text.items ≡ none_lines contracts.items (refusal_of (with_least domain contracts.items)))

@@ -5,8 +5,8 @@ use dsedge_texts::{QuoteFault, Quoted, TableFault, headroom, quote};
 use std::alloc::Global;
 use std::process::Abort;
 use worked_texts::{
-    A, B, C, EXCESS, EXCESS_WAY, LINK, METER, PEAK, PORT, POLICED, SHARE, TIGHT_METER, TRUSTED, TWO,
-    TWO_RATES, U,
+    A, B, C, EXCESS, EXCESS_WAY, LINK, METER, PEAK, POLICED, PORT, SHARE, TIGHT_METER, TRUSTED,
+    TWO, TWO_RATES, U,
 };
 
 /// A meter of a single rate, and a link to it without jitter.
@@ -70,7 +70,15 @@ static WHAT_IS_TAKEN_AND_WHAT_THERE_IS: [Headed; 8] = [
     ),
     (
         &[
-            TIGHT_METER, PORT, LINK, TRUSTED, A, SHARE, TRUSTED, B, SHARE,
+            TIGHT_METER,
+            PORT,
+            LINK,
+            TRUSTED,
+            A,
+            SHARE,
+            TRUSTED,
+            B,
+            SHARE,
         ],
         "refused 5 GreenBurst m 9000 4500\n",
     ),
@@ -106,11 +114,30 @@ const ONE_RATE: &str = "kind = \"srtcm\"\ncir = 8000000\ncbs = 1500\nebs = 0\n";
 const TIGHT_ONE: &[&str] = &[TIGHT_METER, PORT, LINK, TRUSTED, A, SHARE];
 
 const TIGHT_TWO: &[&str] = &[
-    TIGHT_METER, PORT, LINK, TRUSTED, A, SHARE, TRUSTED, B, SHARE,
+    TIGHT_METER,
+    PORT,
+    LINK,
+    TRUSTED,
+    A,
+    SHARE,
+    TRUSTED,
+    B,
+    SHARE,
 ];
 
 const TIGHT_THREE: &[&str] = &[
-    TIGHT_METER, PORT, LINK, TRUSTED, A, SHARE, TRUSTED, B, SHARE, TRUSTED, C, SHARE,
+    TIGHT_METER,
+    PORT,
+    LINK,
+    TRUSTED,
+    A,
+    SHARE,
+    TRUSTED,
+    B,
+    SHARE,
+    TRUSTED,
+    C,
+    SHARE,
 ];
 
 /// A contract that a meter of two rates polices, alone.
