@@ -7,10 +7,11 @@ _dsedge() {
         --mode) COMPREPLY=($(compgen -W 'blind aware' -- "$word")); return ;;
         --red) COMPREPLY=($(compgen -W 'keep drop' -- "$word")); return ;;
         --workers) COMPREPLY=($(compgen -W '1 2 3 4 8 16 32 64' -- "$word")); return ;;
-        --cir | --cbs | --ebs | --pir | --pbs | --eir | --origin | --rate | --burst | --port) return ;;
+        --cir | --cbs | --ebs | --pir | --pbs | --eir | --origin | --rate | --burst | --port | --contract) return ;;
+        --most) COMPREPLY=($(compgen -W 'cir cbs pir pbs eir ebs' -- "$word")); return ;;
     esac
     if [ "$COMP_CWORD" -eq 1 ]; then
-        COMPREPLY=($(compgen -W 'meter envelope certify check audit drive mark --help --version' -- "$word"))
+        COMPREPLY=($(compgen -W 'meter envelope certify check headroom quote audit drive mark --help --version' -- "$word"))
         return
     fi
     case $command in
@@ -22,7 +23,13 @@ _dsedge() {
                 *) COMPREPLY=($(compgen -f -- "$word")) ;;
             esac
             ;;
-        certify | check | audit | drive)
+        quote)
+            case $word in
+                -*) COMPREPLY=($(compgen -W '--contract --most --help' -- "$word")) ;;
+                *) COMPREPLY=($(compgen -f -- "$word")) ;;
+            esac
+            ;;
+        certify | check | headroom | audit | drive)
             case $word in
                 -*) COMPREPLY=($(compgen -W '--help' -- "$word")) ;;
                 *) COMPREPLY=($(compgen -f -- "$word")) ;;

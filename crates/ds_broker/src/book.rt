@@ -9,6 +9,7 @@ ghost use Rattle.ds_domain_base.specs.Faults.{fault_at};
 ghost use Rattle.ds_domain_base.specs.Lifetimes.{IsInOrder};
 ghost use Rattle.std.specs.HashSet.{spare};
 ghost use Rattle.std.specs.Str.{bytes_eq};
+ghost use Rattle.ds_quotes.specs.Quotes.{others_of, quote_of};
 ghost use Rattle.ds_broker.specs.Books as books;
 ghost use Rattle.ds_broker.specs.Books.{held_of, holding_of, is_history_full, moment_in, newest_of};
 ghost use Rattle.ds_broker.specs.Books.{table_of, table_with, with_command};
@@ -26,6 +27,7 @@ use crate::refusal::BrokerRefusal;
 use ds_certificate::Certificate;
 use ds_checker::{Accepted, Candidate, check};
 use ds_domain_base::{Contract, Domain, DomainFault, Field, Kind, Lifetime, Name, Section, fits};
+use ds_quotes::greatest_beside;
 use moment_core::Moment;
 use std::alloc::{AllocError, Global};
 use std::collections::HashSet;
@@ -232,6 +234,21 @@ impl Book {
         ensures acceptable { IsAcceptable result.now }
     {
         &self.table
+    }
+
+    /// The greatest value of a field with which a contract is valid and would be carried beside all that the book holds
+    /// but the contract of its name; None where no value is. It changes nothing, and takes no memory where no contract
+    /// of that name is held; `AllocError` where memory runs out.
+    pub fn greatest(
+        &self,
+        alloc: Global,
+        contract: &Contract,
+        field: ds_quotes::Field,
+    ) -> Result<Option<u64>, AllocError>
+        ensures { IfOk result (λ value. value
+            ≡ quote_of (others_of (table_of self.now) contract.now.name) contract.now field) }
+    {
+        greatest_beside(alloc, self.table(), contract, field)
     }
 
     /// The domain.

@@ -1,5 +1,6 @@
 pub mod ColumnLaws
 pub mod LeastLaws
+pub mod LesserLaws
 pub mod PlaceLaws
 pub mod ReadingLaws
 pub mod ShapeLaws

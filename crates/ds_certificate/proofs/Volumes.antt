@@ -10,3 +10,12 @@ bytes_over_most rate gap slow short =
     let product : rate * gap ≤ 2 * 10 ^ 13 * 10 ^ 10 = mul-le-mul slow short in
     let times = div_ceil_times (rate * gap) 8000000000 (omega arith) in
     omega (arith, times)
+
+-- a higher rate gives no less
+pub bytes_over-rate : (rate more gap : ℕ) → rate ≤ more → bytes_over rate gap ≤ bytes_over more gap
+bytes_over-rate rate more gap low =
+    let same : gap ≤ gap = omega arith in
+    let product : rate * gap ≤ more * gap = mul-le-mul low same in
+    let times = div_ceil_times (rate * gap) 8000000000 (omega arith) in
+    let others = div_ceil_times (more * gap) 8000000000 (omega arith) in
+    omega (arith, times, others)

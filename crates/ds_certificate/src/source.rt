@@ -6,7 +6,7 @@ ghost use Rattle.ds_certificate.specs.Columns.{InEach, envelope_in};
 ghost use Rattle.ds_certificate.specs.Ranges.{IsModerate, IsModest};
 ghost use Rattle.ds_certificate.specs.Sources.{curve_of, edge_column, source_by, source_of};
 
-use ds_domain_base::{Contract, Domain, Parameters, Profile, Terms, Version};
+use ds_domain_base::{Contract, Domain, Name, Parameters, Profile, Terms, Version};
 use envelope_core::{Envelope, widen};
 use moment_core::{Column, Gap};
 
@@ -31,8 +31,16 @@ impl Source {
         ensures moderate { IsModerate result }
         ensures least { InEach (λ column. 1 ≤ (envelope_in column result).rate) }
     {
-        let skew = domain.port_skew(contract.port);
-        source_by(domain.version(), skew, &contract.terms)
+        Self::on(domain, contract.port, &contract.terms)
+    }
+
+    /// What traffic on these terms keeps where it enters a domain at the port of a name, as `of` tells it of a contract.
+    pub fn on(domain: &Domain, port: Name, terms: &Terms) -> Self
+        ensures value { result ≡ source_by domain.now.version (skew_of (port_of domain.now port)) terms.now }
+        ensures moderate { IsModerate result }
+        ensures least { InEach (λ column. 1 ≤ (envelope_in column result).rate) }
+    {
+        source_by(domain.version(), domain.port_skew(port), terms)
     }
 
     /// What the packets of a column keep.

@@ -482,7 +482,7 @@ found_by_bounds d contracts rows sums self c bounds number answer refusal sound 
     (refused-shaped d contracts rows sums sums self c bounds bounds number answer refusal _ sound is_self is_number refl refl is_answer holds is_refusal refl)
 
 -- the last of what an acceptable table holds
-last_shape : (d : Domain) (contracts : List Contract) (rows : List (List Bound)) (c : Contract) (bounds : List Bound) → length rows ≡ length contracts
+pub last_shape : (d : Domain) (contracts : List Contract) (rows : List (List Bound)) (c : Contract) (bounds : List Bound) → length rows ≡ length contracts
     → IsCertificate d (contracts ++ c ∷ []) (rows ++ bounds ∷ []) → HasShape d c bounds
 last_shape d [] [] c bounds long met = met.0.0
 last_shape d [] (row ∷ rows) c bounds long met = absurd (omega (arith, long))

@@ -1,5 +1,5 @@
 -- Where any certificate is acceptable, the least one is: lower bounds bring less to each meter.
-use Rattle.std.proofs.Common.{◌≡◌, ◌≤◌, ℕ, Bool, true, List, [], ◌∷◌, ◌++◌, Option, refl, sym, ap, ◌∙◌, arith, inl, inr}
+use Rattle.std.proofs.Common.{◌≡◌, ◌≤◌, ℕ, Bool, true, List, [], ◌∷◌, ◌++◌, Option, refl, sym, subst, ◌∙◌, arith, inl, inr}
 use Rattle.std.specs.Prelude.{drop, filter, map, option_map, option_to_list, sum_by}
 use Rattle.std.specs.List.{AllZip, list_all, list_any}
 use Rattle.std.specs.Str.{bytes_eq}
@@ -15,46 +15,48 @@ use Rattle.ds_domain_base.specs.Domains.{Domain}
 use Rattle.ds_domain_base.specs.Sent.{has_peak}
 use Rattle.ds_domain_base.specs.declared.contract.Contract.{Contract}
 use Rattle.ds_domain_base.specs.declared.parts.Meter.{Meter}
-use Rattle.ds_certificate.specs.Bounds.{AreAtMost, IsAtMost, IsCertificate, fits, least}
+use Rattle.ds_certificate.specs.Bounds.{AreAtMost, IsAtMost, IsCertificate, fits, least, least_along, least_of}
 use Rattle.moment_core.specs.declared.column.Column.{Column}
 use Rattle.moment_core.specs.declared.column.Column.TheVariants.{Green}
 use Rattle.ds_certificate.specs.Columns.{Bound, bytes_in, envelope_in}
 use Rattle.ds_certificate.proofs.ColumnLaws.{in_column}
-use Rattle.ds_certificate.specs.Sources.{source_of}
+use Rattle.ds_certificate.specs.Sources.{jitters_along, source_of}
 use Rattle.ds_certificate.specs.declared.source.Source.{Source}
 use Rattle.ds_certificate.proofs.LeastLaws.{IsCertificate-least, least-below}
+use Rattle.ds_certificate.proofs.LesserLaws.{IsUnder, KeepsLess, KeepsLess-itself, least_along-less}
+use Rattle.ds_certificate.proofs.Volumes.{bytes_over-rate}
 use Rattle.ds_checker.specs.Acceptance.{Carries, IsAcceptable}
 use Rattle.ds_checker.specs.Loads.{Share, bound_into, counted, kept, load, share_of, shares_at}
 
--- a share that brings no more than another of the same contract
-record IsLess (a b : Share) : Type 0 where
-  pub source : a.source ≡ b.source
+-- a share that brings no more than another
+pub record IsLess (a b : Share) : Type 0 where
+  pub source : KeepsLess a.source b.source
   pub bound : IsAtMost a.bound b.bound
   pub peak : a.has_peak ≡ b.has_peak
 
-abbrev AreLess : List Share → List Share → Type 0
+abbrev pub AreLess : List Share → List Share → Type 0
 AreLess xs ys = AllZip IsLess xs ys
 
-AreLess-append : (xs ys more others : List Share) → AreLess xs ys → AreLess more others → AreLess (xs ++ more) (ys ++ others)
+pub AreLess-append : (xs ys more others : List Share) → AreLess xs ys → AreLess more others → AreLess (xs ++ more) (ys ++ others)
 AreLess-append [] [] more others low lower = lower
 AreLess-append [] (y ∷ ys) more others low lower = absurd low
 AreLess-append (x ∷ xs) [] more others low lower = absurd low
 AreLess-append (x ∷ xs) (y ∷ ys) more others low lower = (low.0, AreLess-append xs ys more others low.1 lower)
 
 -- the share of a bound, if there is one
-abbrev share_with : Source → Bool → Option Bound → List Share
+abbrev pub share_with : Source → Bool → Option Bound → List Share
 share_with source peak bound = option_to_list (option_map (λ b. record { source = source; bound = b; has_peak = peak }) bound)
 
-share_into : (source : Source) (peak : Bool) (name : List ℕ) (path : List (List ℕ)) (low high : List Bound) → AllZip IsAtMost low high
-    → AreLess (share_with source peak (bound_into name path low)) (share_with source peak (bound_into name path high))
+share_into : (source more : Source) (peak : Bool) (name : List ℕ) (path : List (List ℕ)) (low high : List Bound) → KeepsLess source more → AllZip IsAtMost low high
+    → AreLess (share_with source peak (bound_into name path low)) (share_with more peak (bound_into name path high))
 unfolding bound_into
-share_into source peak name [] low high less = tt
-share_into source peak name (to ∷ path) [] [] less = tt
-share_into source peak name (to ∷ path) [] (h ∷ high) less = absurd less
-share_into source peak name (to ∷ path) (l ∷ low) [] less = absurd less
-share_into source peak name (to ∷ path) (l ∷ low) (h ∷ high) less = elim (cases_Bool (bytes_eq name to)) [
-  | inl same ↦ rw same (record { source = refl; bound = less.0; peak = refl }, tt)
-  | inr other ↦ rw other (share_into source peak name path low high less.1)
+share_into source more peak name [] low high keeps less = tt
+share_into source more peak name (to ∷ path) [] [] keeps less = tt
+share_into source more peak name (to ∷ path) [] (h ∷ high) keeps less = absurd less
+share_into source more peak name (to ∷ path) (l ∷ low) [] keeps less = absurd less
+share_into source more peak name (to ∷ path) (l ∷ low) (h ∷ high) keeps less = elim (cases_Bool (bytes_eq name to)) [
+  | inl same ↦ rw same (record { source = keeps; bound = less.0; peak = refl }, tt)
+  | inr other ↦ rw other (share_into source more peak name path low high keeps less.1)
 ]
 
 behind_first : (low high : List Bound) → AllZip IsAtMost low high → AllZip IsAtMost (drop 1 low) (drop 1 high)
@@ -72,8 +74,29 @@ shares_less d name (c ∷ contracts) [] (h ∷ high) less = absurd less
 shares_less d name (c ∷ contracts) (l ∷ low) [] less = absurd less
 shares_less d name (c ∷ contracts) (l ∷ low) (h ∷ high) less =
     AreLess-append (share_of d name c l) (share_of d name c h) (shares_at d name contracts low) (shares_at d name contracts high)
-    (share_into (source_of d c) (has_peak c.terms) name c.path (drop 1 l) (drop 1 h) (behind_first l h less.0))
+    (share_into (source_of d c) (source_of d c) (has_peak c.terms) name c.path (drop 1 l) (drop 1 h) (KeepsLess-itself (source_of d c)) (behind_first l h less.0))
     (shares_less d name contracts low high less.1)
+
+-- what two contracts bring that go one way, of which the one keeps no more than the other
+pub record IsLesser (d : Domain) (a b : Contract) : Type 0 where
+  pub port : a.port ≡ b.port
+  pub path : a.path ≡ b.path
+  pub peak : has_peak a.terms ≡ has_peak b.terms
+  pub source : KeepsLess (source_of d a) (source_of d b)
+
+least_bounds_less : (d : Domain) (a b : Contract) → IsLesser d a b → AllZip IsAtMost (least_of d a) (least_of d b)
+least_bounds_less d a b lesser =
+    subst (λ path. AllZip IsAtMost (least_along (source_of d a) (jitters_along d a.port a.path)) (least_along (source_of d b) (jitters_along d b.port path))) lesser.path
+    (subst (λ port. AllZip IsAtMost (least_along (source_of d a) (jitters_along d a.port a.path)) (least_along (source_of d b) (jitters_along d port a.path))) lesser.port
+    (least_along-less (source_of d a) (source_of d b) (jitters_along d a.port a.path) lesser.source))
+
+pub share_less : (d : Domain) (name : List ℕ) (a b : Contract) → IsLesser d a b → AreLess (share_of d name a (least_of d a)) (share_of d name b (least_of d b))
+share_less d name a b lesser =
+    let low = drop 1 (least_of d a) in
+    let high = drop 1 (least_of d b) in
+    subst (λ path. AreLess (share_of d name a (least_of d a)) (share_with (source_of d b) (has_peak b.terms) (bound_into name path high))) lesser.path
+    (subst (λ peak. AreLess (share_of d name a (least_of d a)) (share_with (source_of d b) peak (bound_into name a.path high))) lesser.peak
+    (share_into (source_of d a) (source_of d b) (has_peak a.terms) name a.path low high lesser.source (behind_first (least_of d a) (least_of d b) (least_bounds_less d a b lesser))))
 
 sums_less : (f : Curve → ℕ) (g : Share → Curve) → ((a b : Share) → IsLess a b → f (g a) ≤ f (g b)) → (xs ys : List Share) → AreLess xs ys
     → sum_by f (map g xs) ≤ sum_by f (map g ys)
@@ -87,15 +110,12 @@ sums_less f g below (x ∷ xs) (y ∷ ys) less =
     let right = sum_by-cons f (g y) (map g ys) in
     omega (arith, first, later, left, right)
 
-same_rate : (column : Column) (a b : Source) → a ≡ b → (envelope_in column a).rate ≡ (envelope_in column b).rate
-same_rate column a b same = ap (λ s. (envelope_in column s).rate) same
-
-same_volume : (rate other skew : ℕ) → rate ≡ other → bytes_over rate skew ≡ bytes_over other skew
-same_volume rate other skew same = ap (λ r. bytes_over r skew) same
+low_rate : (column : Column) (a b : Source) → KeepsLess a b → (envelope_in column a).rate ≤ (envelope_in column b).rate
+low_rate column a b keeps = (in_column (λ k. IsUnder (envelope_in k a) (envelope_in k b)) keeps column).0
 
 load_rate : (column : Column) (skew : ℕ) (xs ys : List Share) → AreLess xs ys → (load column skew xs).rate ≤ (load column skew ys).rate
 load_rate column skew xs ys less =
-    sums_less (λ curve. curve.rate) (λ share. widened skew (kept column share)) (λ a b is. omega (arith, same_rate column a.source b.source is.source)) xs ys less
+    sums_less (λ curve. curve.rate) (λ share. widened skew (kept column share)) (λ a b is. low_rate column a.source b.source is.source) xs ys less
 
 load_burst : (column : Column) (skew : ℕ) (xs ys : List Share) → AreLess xs ys → (load column skew xs).burst ≤ (load column skew ys).burst
 load_burst column skew xs ys less =
@@ -103,7 +123,7 @@ load_burst column skew xs ys less =
     (λ a b is. omega (
       arith,
       in_column (λ k. bytes_in k a.bound ≤ bytes_in k b.bound) is.bound column,
-      same_volume (envelope_in column a.source).rate (envelope_in column b.source).rate skew (same_rate column a.source b.source is.source),
+      bytes_over-rate (envelope_in column a.source).rate (envelope_in column b.source).rate skew (low_rate column a.source b.source is.source),
     )) xs ys less
 
 -- those that are held against a meter
@@ -130,7 +150,7 @@ counted_less (SrTcm p) xs ys less = elim (cases_Bool (list_any (λ share. share.
 counted_less (TrTcm p) xs ys less = less
 counted_less (Rfc4115 p) xs ys less = peaked_less xs ys less
 
-Carries-less : (m : Meter) (xs ys : List Share) → AreLess xs ys → Carries m ys → Carries m xs
+pub Carries-less : (m : Meter) (xs ys : List Share) → AreLess xs ys → Carries m ys → Carries m xs
 Carries-less m xs ys less met =
     let all = counted_less m.parameters xs ys less in (
       (omega (arith, load_rate Green m.skew xs ys less, met.0.0), omega (arith, load_burst Green m.skew xs ys less, met.0.1)),
@@ -140,7 +160,7 @@ Carries-less m xs ys less met =
       ),
     )
 
-all_fit : (d : Domain) (contracts : List Contract) (rows : List (List Bound)) → IsCertificate d contracts rows → list_all (fits d) contracts ≡ true
+pub all_fit : (d : Domain) (contracts : List Contract) (rows : List (List Bound)) → IsCertificate d contracts rows → list_all (fits d) contracts ≡ true
 all_fit d [] [] met = refl
 all_fit d [] (bounds ∷ rows) met = absurd met
 all_fit d (c ∷ contracts) [] met = absurd met

@@ -3,6 +3,7 @@ pub mod BoundLaws
 pub mod ChangeLaws
 pub mod CopyLaws
 pub mod CheckLaws
+pub mod HeadroomLaws
 pub mod HoldLaws
 pub mod LeastTableLaws
 pub mod LifetimeLaws

@@ -144,7 +144,7 @@ passes_none : {X : Type 0} (p : X → Bool) (xs : List X) → nat_lt (position_o
 passes_none p [] long = tt
 passes_none p (x ∷ xs) long = passes_none_by p x xs (p x) refl (passes_none p xs) long
 
-none_passes : {X : Type 0} (p : X → Bool) (xs : List X) → position p xs ≡ None → AllByRecursion (λ x. p x ≡ false) xs
+pub none_passes : {X : Type 0} (p : X → Bool) (xs : List X) → position p xs ≡ None → AllByRecursion (λ x. p x ≡ false) xs
 none_passes p xs nowhere = passes_none p xs (is_found (nat_lt (position_or_len p xs) (length xs)) (position_or_len p xs) nowhere)
 
 -- with one hop more

@@ -6,6 +6,7 @@ use Rattle.std.specs.Str.{bytes_eq}
 use Rattle.ds_domain_base.specs.Lifetimes.{Span}
 use Rattle.ds_domain_base.specs.declared.contract.Contract.{Contract}
 use Rattle.ds_domain_base.specs.declared.parts.Meter.{Meter}
+use Rattle.ds_domain_base.specs.declared.terms.Terms.{Terms}
 use Rattle.ds_certificate.specs.Bounds.{fits}
 use Rattle.ds_certificate.specs.Columns.{Bound}
 use Rattle.ds_certificate.specs.Sources.{jitters_of, source_of}
@@ -47,6 +48,10 @@ without_contract t index =
 -- a contract with another lifetime
 abbrev pub lasting : Span → Contract → Contract
 lasting lifetime c = record c { lifetime = lifetime }
+
+-- a contract on other terms
+abbrev pub on_terms : Terms → Contract → Contract
+on_terms terms c = record c { terms = terms }
 
 -- contracts of which the one at a place has another lifetime
 unfoldable pub lasting_at : ℕ → Span → List Contract → List Contract

@@ -1,6 +1,7 @@
 pub mod Acceptance
 pub mod BoundTests
 pub mod Changes
+pub mod Headrooms
 pub mod Holds
 pub mod Loads
 pub mod Places

@@ -7,6 +7,7 @@ ghost use Rattle.ds_certificate.specs.Ranges.{IsModerate};
 ghost use Rattle.ds_certificate.specs.Sources.{jitters_along};
 ghost use Rattle.ds_domain_base.specs.Fitting.{repeats};
 ghost use Rattle.ds_domain_base.specs.declared.parts.Meter as meters;
+ghost use Rattle.ds_checker.specs.Changes.{on_terms};
 ghost use Rattle.ds_checker.specs.Loads.{bound_into, share_of};
 ghost use Rattle.ds_checker.specs.Places.{at_place, earlier};
 ghost use Rattle.ds_checker.specs.Sums.{AreBelow, share_by, sum_tests, sums_tests, with_brought};
@@ -16,7 +17,7 @@ use crate::load::{Loads, Share};
 use crate::refusal::Refusal;
 use crate::table::meter_refusal;
 use ds_certificate::{Bound, Source, delayed, entering};
-use ds_domain_base::{Contract, Domain, Name};
+use ds_domain_base::{Contract, Domain, Name, Terms};
 
 /// The first meter test that fails, in the order of the meters, once one contract more brings its traffic, by its
 /// bounds from its port on, where none failed before. It looks at the meters of the contract's path alone.
@@ -47,22 +48,25 @@ pub(crate) fn contract_refusal_at_meters(
     )
 }
 
-/// The same once one contract more that fits the domain brings its traffic by its least bounds. It takes no memory.
+/// The same once one contract more that fits the domain brings its traffic on these terms, by its least bounds. It takes
+/// no memory.
+#[tactic(auto, unfolding(ds_certificate::specs::Sources::source_of))]
 pub(crate) fn least_refusal_at_meters(
     domain: &Domain,
     sums: &[Loads],
     contract: &Contract,
+    terms: &Terms,
 ) -> Option<Refusal>
     requires fit { IsTrue (fits domain.now contract.now) }
     requires places { length sums.now ≡ length domain.now.meters }
     requires room { AllByRecursion (AreBelow (2 ^ 121)) sums.now }
     requires passed { first_failed (sums_tests domain.now.meters sums.now) ≡ None }
-    ensures { result ≡ first_failed (sums_tests domain.now.meters
-        (with_brought (λ name. share_of domain.now name contract.now (least_of domain.now contract.now))
+    ensures { let other = on_terms terms.now contract.now in result ≡ first_failed (sums_tests domain.now.meters
+        (with_brought (λ name. share_of domain.now name other (least_of domain.now other))
         (keys_of domain.now.meters) sums.now)) }
 {
-    let source = Source::of(domain, contract);
-    let has_peak = contract.terms.has_peak();
+    let source = Source::on(domain, contract.port, terms);
+    let has_peak = terms.has_peak();
     least_path_refusal(
         domain,
         sums,

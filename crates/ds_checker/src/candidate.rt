@@ -1,19 +1,22 @@
-ghost use Rattle.std.specs.Prelude.{◌≡◌, ◌<◌, ◌⊎◌, None, Some, IfOk, IfErr, IsTrue, OnErr, OnOk, length, slice_get};
+ghost use Rattle.std.specs.Prelude.{◌≡◌, ◌<◌, ◌⊎◌, None, Some, IfOk, IfErr, IfSome, IsTrue, OnErr, OnOk, length};
+ghost use Rattle.std.specs.Prelude.{slice_get};
 ghost use Rattle.ds_certificate.specs.Bounds.{fits, least_of};
 ghost use Rattle.ds_checker.specs.Acceptance.{IsAcceptable, refusal_of, table_of};
 ghost use Rattle.ds_domain_base.specs.Lifetimes.{Span};
-ghost use Rattle.ds_checker.specs.Changes.{lasting, with_contract, with_lifetime, without_contract};
+ghost use Rattle.ds_checker.specs.Changes.{lasting, on_terms, with_contract, with_lifetime, without_contract};
+ghost use Rattle.ds_checker.specs.Headrooms.{AreCovered, headroom_of};
 ghost use Rattle.ds_checker.specs.Holds.{hold_at};
 ghost use Rattle.ds_checker.specs.Sums.{IsKept};
 
 use crate::admission::{contract_refusal_at_meters, least_refusal_at_meters};
 use crate::bounds::{contract_refusal, has_shape};
+use crate::headroom::{Headroom, headroom_at};
 use crate::hold::hold_of;
 use crate::load::Loads;
 use crate::refusal::Refusal;
 use crate::table::{add_contract, take_contract};
 use ds_certificate::{Bound, Bounds, Certificate, least_bounds};
-use ds_domain_base::{Contract, Domain, Lifetime};
+use ds_domain_base::{Contract, Domain, Lifetime, Name, Terms};
 use std::alloc::{AllocError, Global};
 use std::marker::Model;
 use std::sync::Arc;
@@ -130,6 +133,18 @@ impl Accepted {
         let contract = self.contracts.as_slice().get(index)?;
         let bounds = self.certificate.bounds().get(index)?;
         Some(hold_of(&self.domain, contract, bounds.hops()))
+    }
+
+    /// What the contracts take at the meter of a name and what it has, for each test of `check` in their order: read from
+    /// the sums that the table keeps. None where there is no such meter.
+    pub fn headroom(&self, meter: Name) -> Option<Headroom>
+        ensures value { result ≡ headroom_of self.now meter }
+        ensures covered { IfSome result AreCovered }
+    {
+        let domain: &Domain = &self.domain;
+        let own = domain.meter(meter)?;
+        let place = domain.meter_index(meter)?;
+        Some(headroom_at(&own, &self.sums[place]))
     }
 
     /// The same table again; `AllocError` where memory runs out.
@@ -254,8 +269,18 @@ impl Accepted {
             result ≡ refusal_of (with_contract self.now other (least_of self.now.domain other)) }
         ensures acceptable { IsAcceptable self.now }
     {
+        self.refusal_on(contract, &contract.terms)
+    }
+
+    /// The same of that contract on other terms.
+    pub fn refusal_on(&self, contract: &Contract, terms: &Terms) -> Option<Refusal>
+        requires { IsTrue (fits self.now.domain contract.now) }
+        ensures value { (lifetime : Span) → let other = lasting lifetime (on_terms terms.now contract.now) in
+            result ≡ refusal_of (with_contract self.now other (least_of self.now.domain other)) }
+        ensures acceptable { IsAcceptable self.now }
+    {
         let domain: &Domain = &self.domain;
-        least_refusal_at_meters(domain, self.sums.as_slice(), contract)
+        least_refusal_at_meters(domain, self.sums.as_slice(), contract, terms)
     }
 
     /// Takes up a contract against which nothing stands; where memory runs out it hands it back, and is as it was.

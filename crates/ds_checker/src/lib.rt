@@ -6,6 +6,7 @@ pub mod acceptance;
 mod admission;
 pub mod bounds;
 pub mod candidate;
+pub mod headroom;
 pub mod hold;
 pub mod laws;
 pub mod load;
@@ -14,5 +15,6 @@ pub mod table;
 
 pub use acceptance::check;
 pub use candidate::{Accepted, Candidate};
+pub use headroom::{Headroom, Utilization};
 pub use hold::hold_of;
 pub use refusal::Refusal;

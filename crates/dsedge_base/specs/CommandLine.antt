@@ -52,6 +52,17 @@ on_table name = with_rule (with_rule (new_app name)
 abbrev pub check : App
 check = on_table (codes "check")
 
+-- what is left at the meters is that of a domain
+abbrev pub headroom : App
+headroom = with_rule (new_app (codes "headroom")) (positional (codes "domain"))
+
+-- a quote is of a contract of a domain, and of a field of it
+abbrev pub quote : App
+quote = with_rule (with_rule (with_rule (new_app (codes "quote"))
+    (positional (codes "domain")))
+    (required (codes "contract")))
+    (required (codes "most"))
+
 -- an audit is of a run over a domain with a certificate
 abbrev pub audit : App
 audit = on_table (codes "audit")
@@ -68,4 +79,4 @@ mark = with_rule (with_rule (with_rule (on_table (codes "mark"))
     (required (codes "red"))
 
 abbrev pub dsedge : App
-dsedge = with_subcommand (with_subcommand (with_subcommand (with_subcommand (with_subcommand (with_subcommand (with_subcommand program meter.top) envelope.top) certify.top) check.top) audit.top) drive.top) mark.top
+dsedge = with_subcommand (with_subcommand (with_subcommand (with_subcommand (with_subcommand (with_subcommand (with_subcommand (with_subcommand (with_subcommand program meter.top) envelope.top) certify.top) check.top) headroom.top) quote.top) audit.top) drive.top) mark.top

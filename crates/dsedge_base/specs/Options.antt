@@ -9,6 +9,8 @@ use Rattle.meter_book_base.specs.AnyMeter.{fault_of, opening_of}
 use Rattle.meter_book_base.specs.declared.any_meter.AnyMeter.{AnyMeter}
 use Rattle.meter_book_base.specs.declared.any_meter.Parameters.{Parameters}
 use Rattle.meter_book_base.specs.declared.any_meter.Parameters.TheVariants as parameters
+use Rattle.ds_quotes.specs.Words.{field_named}
+use Rattle.ds_quotes.specs.declared.field.Field.{Field}
 use Rattle.rfc4115_core.specs.declared.parameters.Rfc4115Parameters.{Rfc4115Parameters}
 use Rattle.srtcm_core.specs.declared.parameters.SrTcmParameters.{SrTcmParameters}
 use Rattle.trtcm_core.specs.declared.parameters.TrTcmParameters.{TrTcmParameters}
@@ -129,6 +131,18 @@ table_given given = do
   domain ← given (codes "domain")
   certificate ← given (codes "certificate")
   Some (domain, certificate)
+
+-- the rate or burst whose greatest value is asked for
+abbrev pub field_given : Given → Option Field
+field_given given = given (codes "most") >>= field_named
+
+-- the file of a domain, the name of a contract, and a field of it
+unfoldable pub quote_given : Given → Option (List ℕ × List ℕ × Field)
+quote_given given = do
+  domain ← given (codes "domain")
+  contract ← given (codes "contract")
+  field ← field_given given
+  Some (domain, contract, field)
 
 -- workers, 1 to 64
 abbrev pub workers_said : List ℕ → Option ℕ

@@ -7,13 +7,15 @@ use Rattle.clap.specs.Words.{IsAmong, Row, Text, fault_of, first_of, subcommand_
 use Rattle.clap.specs.declared.error.kind.ErrorKind.{ErrorKind}
 use Rattle.clap.specs.declared.error.kind.ErrorKind.TheVariants.{DisplayHelp, DisplayVersion}
 use Rattle.dsedge_base.specs.CommandLine.{dsedge}
-use Rattle.dsedge_base.specs.Options.{Given, envelope_given, marking_given, meter_given, table_given, workers_given, ◌>>=◌}
+use Rattle.dsedge_base.specs.Options.{Given, envelope_given, marking_given, meter_given, quote_given, table_given}
+use Rattle.dsedge_base.specs.Options.{workers_given, ◌>>=◌}
 use Rattle.dsedge_base.specs.declared.explanation.Explanation.{Explanation}
 use Rattle.dsedge_base.specs.declared.explanation.Explanation.TheVariants.{Form, Value, Workers}
 use Rattle.dsedge_base.specs.declared.fault.UsageFault.{UsageFault}
 use Rattle.dsedge_base.specs.declared.fault.UsageFault.TheVariants.{Usage, NoMemory}
 use Rattle.dsedge_base.specs.declared.work.Plan.{Plan}
-use Rattle.dsedge_base.specs.declared.work.Plan.TheVariants.{Audit, Certify, Check, Drive, Envelope, Mark, Meter, Show}
+use Rattle.dsedge_base.specs.declared.work.Plan.TheVariants.{Audit, Certify, Check, Drive, Envelope, Headroom, Mark}
+use Rattle.dsedge_base.specs.declared.work.Plan.TheVariants.{Meter, Quote, Show}
 
 -- the texts that the options of a command were given
 abbrev pub given_by : List Row → Given
@@ -39,6 +41,9 @@ plan_of c =
     if bytes_eq c.0 (codes "meter") then meter_given (given_by c.1) >>= (λ m. Some (Meter m))
     else if bytes_eq c.0 (codes "envelope") then envelope_given (given_by c.1) >>= (λ e. Some (Envelope e.0 e.1))
     else if bytes_eq c.0 (codes "certify") then given_by c.1 (codes "domain") >>= (λ domain. Some (Certify domain))
+    else if bytes_eq c.0 (codes "headroom") then given_by c.1 (codes "domain") >>= (λ domain. Some (Headroom domain))
+    else if bytes_eq c.0 (codes "quote") then
+    quote_given (given_by c.1) >>= (λ q. Some (Quote q.0 q.1 q.2))
     else if bytes_eq c.0 (codes "drive") then given_by c.1 (codes "domain") >>= (λ domain. Some (Drive domain))
     else if bytes_eq c.0 (codes "check") then check_given (given_by c.1)
     else if bytes_eq c.0 (codes "audit") then audit_given (given_by c.1)
@@ -65,6 +70,8 @@ IsPlanOf words (Meter m) = IsWellFormed words × (asked_by words ≡ Some (Meter
 IsPlanOf words (Envelope rate burst) = IsWellFormed words × (asked_by words ≡ Some (Envelope rate burst))
 IsPlanOf words (Certify domain) = IsWellFormed words × (asked_by words ≡ Some (Certify domain))
 IsPlanOf words (Check domain certificate) = IsWellFormed words × (asked_by words ≡ Some (Check domain certificate))
+IsPlanOf words (Headroom domain) = IsWellFormed words × (asked_by words ≡ Some (Headroom domain))
+IsPlanOf words (Quote domain contract field) = IsWellFormed words × (asked_by words ≡ Some (Quote domain contract field))
 IsPlanOf words (Audit domain certificate) = IsWellFormed words × (asked_by words ≡ Some (Audit domain certificate))
 IsPlanOf words (Drive domain) = IsWellFormed words × (asked_by words ≡ Some (Drive domain))
 IsPlanOf words (Mark domain certificate port workers keeps_red) =
@@ -109,6 +116,8 @@ IsShown (Meter m) = ⊥
 IsShown (Envelope rate burst) = ⊥
 IsShown (Certify domain) = ⊥
 IsShown (Check domain certificate) = ⊥
+IsShown (Headroom domain) = ⊥
+IsShown (Quote domain contract field) = ⊥
 IsShown (Audit domain certificate) = ⊥
 IsShown (Drive domain) = ⊥
 IsShown (Mark domain certificate port workers keeps_red) = ⊥

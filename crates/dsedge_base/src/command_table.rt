@@ -146,13 +146,37 @@ const COMMANDS: &[CommandEntry] = &[
         arguments: &[DOMAIN, CERTIFICATE],
     },
     CommandEntry {
+        name: "headroom",
+        about: "Prints what is taken and what there is at each meter, for each test: METER KIND TAKEN AVAILABLE.",
+        arguments: &[DOMAIN],
+    },
+    CommandEntry {
+        name: "quote",
+        about: "Prints the greatest value of a field of a contract that fits beside the others, or none.",
+        arguments: &[
+            DOMAIN,
+            ArgumentEntry {
+                form: Form::Needed,
+                name: "contract",
+                value: "NAME",
+                help: "the contract",
+            },
+            ArgumentEntry {
+                form: Form::Needed,
+                name: "most",
+                value: "FIELD",
+                help: "the rate or burst of it: cir, cbs, pir, pbs, eir or ebs, as its entry has it",
+            },
+        ],
+    },
+    CommandEntry {
         name: "audit",
         about: "Judges the run on standard input: lines send CONTRACT PACKET SIZE DSCP MOMENT and visit PACKET MOMENT.",
         arguments: &[DOMAIN, CERTIFICATE],
     },
     CommandEntry {
         name: "drive",
-        about: "Sells a domain's contracts: lines reserve NAME, release ID MOMENT, retire ID MOMENT, list and look.",
+        about: "Sells a domain's contracts: lines reserve, release, retire, quote, headroom, list and look.",
         arguments: &[DOMAIN],
     },
     CommandEntry {

@@ -1,13 +1,15 @@
 ghost use Rattle.std.specs.Prelude.{◌≡◌, option_map};
 ghost use Rattle.clap.specs.Words.{first_of, found_of, rows_of};
-ghost use Rattle.dsedge_base.specs.Options.{burst_given, burst_said, envelope_burst_said, envelope_given, is_given};
+ghost use Rattle.dsedge_base.specs.Options.{burst_given, burst_said, envelope_burst_said, envelope_given, field_given};
+ghost use Rattle.dsedge_base.specs.Options.{is_given};
 ghost use Rattle.dsedge_base.specs.Options.{marking_given, meter_given, mode_said, moment_said, opened};
-ghost use Rattle.dsedge_base.specs.Options.{origin_said, parameters_given, rate_given, rate_said, red_said};
+ghost use Rattle.dsedge_base.specs.Options.{origin_said, parameters_given, quote_given, rate_given, rate_said, red_said};
 ghost use Rattle.dsedge_base.specs.Options.{separate_rates_given, single_rate_given, table_given, two_rate_given};
 ghost use Rattle.dsedge_base.specs.Options.{workers_asked, workers_given, workers_said};
 ghost use Rattle.dsedge_base.specs.Plans.{given_by};
 
 use clap::ArgMatches;
+use ds_quotes::Field;
 use dsedge_lines::GivenName;
 use line_text::number;
 use meter_book_base::{AnyMeter, Parameters};
@@ -58,6 +60,27 @@ pub(crate) fn table_in<'a>(options: &ArgMatches<'a>) -> Option<(GivenName<'a>, G
     let domain = name_in(options, "domain")?;
     let certificate = name_in(options, "certificate")?;
     Some((domain, certificate))
+}
+
+/// The file of a domain, the name of a contract and the field of it that the options of `quote` ask for.
+#[tactic(auto, unfolding(crate::specs::Options::quote_given))]
+pub(crate) fn quote_in<'a>(
+    options: &ArgMatches<'a>,
+) -> Option<(GivenName<'a>, GivenName<'a>, Field)>
+    ensures { result ≡ quote_given (given_by (rows_of (found_of options.now))) }
+{
+    let domain = name_in(options, "domain")?;
+    let contract = name_in(options, "contract")?;
+    let field = field_in(options)?;
+    Some((domain, contract, field))
+}
+
+/// The field that the options of `quote` name.
+fn field_in(options: &ArgMatches<'_>) -> Option<Field>
+    ensures { result ≡ field_given (given_by (rows_of (found_of options.now))) }
+{
+    let word = text_in(options, "most")?;
+    Field::named(word.as_bytes())
 }
 
 /// The port, how many workers, and whether red frames are kept, that the options of `mark` ask for.

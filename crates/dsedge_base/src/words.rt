@@ -7,7 +7,7 @@ ghost use Rattle.dsedge_base.specs.Plans.{asks_other_workers, audit_given, check
 use crate::command_line::command_line;
 use crate::explanation::Explanation;
 use crate::fault::UsageFault;
-use crate::options::{envelope_in, marking_in, meter_in, name_in, table_in, workers_in};
+use crate::options::{envelope_in, marking_in, meter_in, name_in, quote_in, table_in, workers_in};
 use crate::work::Plan;
 use clap::error::ErrorKind;
 use clap::{ArgMatches, Error};
@@ -104,6 +104,18 @@ fn asked_of<'a>(name: &str, options: &ArgMatches<'a>) -> Option<Plan<'a>>
         "certify" => {
             let domain = name_in(options, "domain")?;
             Some(Plan::Certify { domain })
+        }
+        "headroom" => {
+            let domain = name_in(options, "domain")?;
+            Some(Plan::Headroom { domain })
+        }
+        "quote" => {
+            let (domain, contract, field) = quote_in(options)?;
+            Some(Plan::Quote {
+                domain,
+                contract,
+                field,
+            })
         }
         "drive" => {
             let domain = name_in(options, "domain")?;

@@ -1,6 +1,7 @@
 ghost use Rattle.std.specs.Prelude.{◌≡◌, IfOk};
 ghost use Rattle.dsedge_base.specs.Files.{files_of, port_of};
 
+use ds_quotes::Field;
 use dsedge_lines::GivenName;
 use meter_book_base::AnyMeter;
 use moment_core::Rate;
@@ -31,6 +32,20 @@ pub enum Plan<'a> {
         domain: GivenName<'a>,
         /// The file of the certificate.
         certificate: GivenName<'a>,
+    },
+    /// Tell what is taken and what there is at each meter of a domain.
+    Headroom {
+        /// The file of the domain.
+        domain: GivenName<'a>,
+    },
+    /// Tell the greatest value of a field of a contract of a domain that fits beside the others.
+    Quote {
+        /// The file of the domain.
+        domain: GivenName<'a>,
+        /// The name of the contract.
+        contract: GivenName<'a>,
+        /// The field.
+        field: Field,
     },
     /// Judge the run of standard input over a domain with a certificate of its contracts.
     Audit {
@@ -67,9 +82,10 @@ impl<'a> Plan<'a> {
         let mut names = Vec::new(alloc);
         match self {
             Plan::Show(_) | Plan::Meter(_) | Plan::Envelope { .. } => {}
-            Plan::Certify { domain } | Plan::Drive { domain } => {
-                names.push(GivenName::new(domain.text()))?
-            }
+            Plan::Certify { domain }
+            | Plan::Headroom { domain }
+            | Plan::Quote { domain, .. }
+            | Plan::Drive { domain } => names.push(GivenName::new(domain.text()))?,
             Plan::Check {
                 domain,
                 certificate,
@@ -90,12 +106,14 @@ impl<'a> Plan<'a> {
         Ok(names)
     }
 
-    /// The name of the port at which a capture is to be marked; an empty one where the plan is another.
+    /// The name that a domain has to have: of the port at which a capture is to be marked, or of the contract of a quote;
+    /// an empty one where the plan is another.
     pub fn port(&self) -> &str
         ensures { result.now ≡ port_of self.now }
     {
         match self {
             Plan::Mark { port, .. } => port.text(),
+            Plan::Quote { contract, .. } => contract.text(),
             _ => "",
         }
     }

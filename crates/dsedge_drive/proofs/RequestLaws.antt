@@ -3,7 +3,7 @@ use Rattle.std.proofs.Common.{◌≡◌, ◌≢◌, ℕ, List, [], ◌∷◌, le
 use Rattle.line_text.specs.Lines.{fields_of}
 use Rattle.line_text.proofs.LineLemmas.{fields_of-some}
 use Rattle.ds_domain_base.specs.declared.contract.Contract.{Contract}
-use Rattle.dsedge_drive.specs.Requests.{alone, reserve_of, timed_of}
+use Rattle.dsedge_drive.specs.Requests.{alone, quote_of, reserve_of, timed_of}
 use Rattle.dsedge_drive.specs.declared.request.Request.{Request}
 
 -- fields that are not two say no id and moment
@@ -12,6 +12,13 @@ not_two [] other = refl
 not_two (id ∷ []) other = refl
 not_two (id ∷ moment ∷ []) other = absurd (other refl)
 not_two (id ∷ moment ∷ next ∷ more) other = refl
+
+-- nor a name and a field
+pub no_quote : (offered : List Contract) (fields : List (List ℕ)) → length fields ≢ 2 → quote_of offered fields ≡ None
+no_quote offered [] other = refl
+no_quote offered (name ∷ []) other = refl
+no_quote offered (name ∷ word ∷ []) other = absurd (other refl)
+no_quote offered (name ∷ word ∷ next ∷ more) other = refl
 
 behind_alone : (request : Request) (fields : List (List ℕ)) → length fields ≢ 0 → alone request fields ≡ None
 behind_alone request [] some = absurd (some refl)

@@ -4,7 +4,7 @@ use Rattle.std.specs.Prelude.{Option, None, Some}
 use Rattle.ds_domain_base.specs.Domains.{Domain}
 use Rattle.ds_domain_base.specs.declared.contract.Contract.{Contract}
 use Rattle.ds_domain_base.specs.declared.fault.Kind.TheVariants as kinds
-use Rattle.ds_broker.specs.Books.{Book, contracts_in, held_of, with_command}
+use Rattle.ds_broker.specs.Books.{Book, contracts_in, held_of, table_of, with_command}
 use Rattle.ds_broker.specs.Entries.{entries_of, grant_of, next_serial}
 use Rattle.ds_broker.specs.Refusals.{release_refusal, reserve_refusal, retire_refusal}
 use Rattle.ds_broker.specs.declared.command.Command.{Command}
@@ -12,6 +12,10 @@ use Rattle.ds_broker.specs.declared.command.Command.TheVariants as commands
 use Rattle.ds_broker.specs.declared.refusal.BrokerRefusal.{BrokerRefusal}
 use Rattle.dsedge_lines.specs.Answers.{Answer, behind}
 use Rattle.dsedge_lines.specs.declared.command.Ending.TheVariants.{BadLine, Whole}
+use Rattle.ds_quotes.specs.Quotes.{others_of}
+use Rattle.ds_quotes.specs.declared.field.Field.{Field}
+use Rattle.dsedge_texts.specs.Headed.{headroom_text}
+use Rattle.dsedge_texts.specs.Quoted.{told_beside}
 use Rattle.dsedge_texts.specs.Wording.{kind_text}
 use Rattle.dsedge_drive.specs.Requests.{request_in}
 use Rattle.dsedge_drive.specs.Sold.{done_line, fault_line, granted_line, list_text, look_line, refused_line}
@@ -50,11 +54,19 @@ abbrev pub retired : Book → ℕ → ℕ → Said
 retired b id moment =
     said_of b (commands.Retire id moment) (done_line (codes "retired") id (next_serial b)) (retire_refusal b id moment)
 
+-- The greatest value of a field of a contract that is offered, beside what is held but the contract of its name; a name
+-- that none of them has is unknown.
+abbrev pub quoted : Book → Option Contract → Field → Said
+quoted b None field = only_said b (fault_line (kind_text kinds.UnknownName))
+quoted b (Some c) field = only_said b (told_beside (others_of (table_of b) c.name) c field).0
+
 -- what is asked for is said of the book as it is
 abbrev pub said : List Contract → Book → Request → Said
 said offered b (requests.Reserve place) = reserved b (option_and_then (slice_get offered) place)
 said offered b (requests.Release id at) = released b id at
 said offered b (requests.Retire id moment) = retired b id moment
+said offered b (requests.Quote place field) = quoted b (option_and_then (slice_get offered) place) field
+said offered b requests.Headroom = only_said b (headroom_text (table_of b))
 said offered b requests.List = only_said b (list_text (entries_of b))
 said offered b requests.Look = only_said b (look_line b)
 

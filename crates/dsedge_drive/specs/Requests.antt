@@ -1,21 +1,27 @@
--- The lines that ask something of a broker: `reserve NAME`, `release ID MOMENT`, `retire ID MOMENT`, `list`, `look`.
-use Rattle.std.specs.Prelude.{ℕ, ◌-◌, ◌^◌, List, [], ◌∷◌, codes, position, option_and_then, option_map, Option, None}
+-- The lines that ask something of a broker: `reserve NAME`, `release ID MOMENT`, `retire ID MOMENT`,
+-- `quote NAME FIELD`, `headroom`, `list`, `look`.
+use Rattle.std.specs.Prelude.{ℕ, ◌-◌, ◌^◌, List, [], ◌∷◌, codes, option_and_then, option_map, Option, None}
 use Rattle.std.specs.Prelude.{Some, if◌then◌else◌}
 use Rattle.std.specs.Str.{bytes_eq}
 use Rattle.line_text.specs.Lines.{fields_of, has_byte}
 use Rattle.line_text.specs.Numbers.{number_of}
 use Rattle.ds_domain_base.specs.declared.contract.Contract.{Contract}
+use Rattle.ds_quotes.specs.Words.{field_named}
+use Rattle.dsedge_texts.specs.Wording.{place_named}
 use Rattle.dsedge_drive.specs.declared.request.Request.{Request}
 use Rattle.dsedge_drive.specs.declared.request.Request.TheVariants as requests
-
--- where the contract of a name stands among those that are offered
-abbrev pub place_named : List Contract → List ℕ → Option ℕ
-place_named offered name = position (λ c. bytes_eq name c.name) offered
 
 -- a name has no CR (13), and need not be that of a contract that is offered
 abbrev pub reserve_of : List Contract → List (List ℕ) → Option Request
 reserve_of offered (name ∷ []) = if has_byte 13 name then None else Some (requests.Reserve (place_named offered name))
 reserve_of offered _ = None
+
+-- a name, likewise, and the word of a field
+abbrev pub quote_of : List Contract → List (List ℕ) → Option Request
+quote_of offered (name ∷ word ∷ []) =
+    if has_byte 13 name then None else
+    option_map (λ field. requests.Quote (place_named offered name) field) (field_named word)
+quote_of offered _ = None
 
 -- an id, 0 to 2^64 - 1, and a moment, 0 to 2^63 - 1 nanoseconds
 abbrev pub timed_of : List (List ℕ) → Option (ℕ × ℕ)
@@ -33,6 +39,8 @@ request_by offered verb fields =
     if bytes_eq verb (codes "reserve") then reserve_of offered fields
     else if bytes_eq verb (codes "release") then option_map (λ t. requests.Release t.0 t.1) (timed_of fields)
     else if bytes_eq verb (codes "retire") then option_map (λ t. requests.Retire t.0 t.1) (timed_of fields)
+    else if bytes_eq verb (codes "quote") then quote_of offered fields
+    else if bytes_eq verb (codes "headroom") then alone requests.Headroom fields
     else if bytes_eq verb (codes "list") then alone requests.List fields
     else if bytes_eq verb (codes "look") then alone requests.Look fields
     else None

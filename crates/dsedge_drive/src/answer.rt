@@ -1,14 +1,12 @@
 //! How a broker's answers are written.
 ghost use Rattle.std.specs.Prelude.{◌≡◌, ◌≢◌, ◌++◌, IfErr, MatchResult, OnOk, flat_map};
 ghost use Rattle.ds_broker.specs.Books.{contracts_in, held_of};
-ghost use Rattle.dsedge_texts.specs.Wording.{figure};
 ghost use Rattle.dsedge_drive.specs.Sold.{done_line, entry_line, fault_line, granted_line, hold_line, list_text};
 ghost use Rattle.dsedge_drive.specs.Sold.{refused_line, sight_line, until_text};
 
 use crate::sight::Sight;
 use ds_broker::{Book, BrokerRefusal, Entry, Grant, Serial};
-use dsedge_texts::{RefusalLine, kind_text, push_figure};
-use itoa::Buffer;
+use dsedge_texts::{RefusalLine, kind_text, push_figure, push_wide_figure};
 use line_text::push_number;
 use moment_core::Moment;
 use std::alloc::{AllocError, Global};
@@ -120,14 +118,6 @@ fn push_hold(text: &mut Vec<u8>, nanoseconds: u128) -> Result<(), AllocError>
     push_wide_figure(text, nanoseconds)?;
     text.push(b'\n')?;
     Ok(())
-}
-
-/// Appends a figure of up to 128 bits, behind a space.
-fn push_wide_figure(text: &mut Vec<u8>, number: u128) -> Result<(), AllocError>
-    ensures { OnOk result (text.new.items ≡ text.old.items ++ figure number) }
-{
-    text.push(b' ')?;
-    text.extend_from_slice(Buffer::new().format(number).as_bytes())
 }
 
 /// Appends a line for each contract that is held, or `none`.

@@ -1,6 +1,8 @@
 ghost use Rattle.std.specs.Prelude.{◌≡◌, ◌++◌, [], IfOk, OnOk, option_and_then, option_map, slice_get};
 ghost use Rattle.ds_broker.specs.Entries.{entries_of};
-ghost use Rattle.dsedge_drive.specs.Driven.{drive_from, opening_book, released, reserved, retired, said, sold};
+ghost use Rattle.ds_quotes.specs.Quotes.{others_of};
+ghost use Rattle.dsedge_texts.specs.Quoted.{told_beside};
+ghost use Rattle.dsedge_drive.specs.Driven.{drive_from, opening_book, quoted, released, reserved, retired, said, sold};
 ghost use Rattle.dsedge_drive.specs.Sold.{list_text, look_line};
 
 use crate::answer::{push_fault, push_list, push_outcome, push_sale, push_sight};
@@ -8,10 +10,12 @@ use crate::offers::Offers;
 use crate::request::{Request, asked};
 use crate::shop::Shop;
 use ds_broker::{Book, Limits};
+use ds_checker::Accepted;
 use ds_desk::{Naming, Opened};
 use ds_domain_base::{Contract, Domain, Kind};
+use ds_quotes::{Field, others};
 use dsedge_lines::{Command, Ending};
-use dsedge_texts::kind_text;
+use dsedge_texts::{kind_text, push_headroom, push_quote};
 use moment_core::Moment;
 use std::alloc::{AllocError, Global};
 use std::marker::Model;
@@ -102,6 +106,10 @@ fn say<J: Naming, R: Wait + Drop>(
         Request::Reserve(place) => reserve(alloc, shop, text, contract_at(offered, place)),
         Request::Release { id, at } => release(alloc, shop, text, id, at),
         Request::Retire { id, moment } => retire(alloc, shop, text, id, moment),
+        Request::Quote { place, field } => {
+            quote(alloc, shop.book(), text, contract_at(offered, place), field)
+        }
+        Request::Headroom => push_headroom(text, shop.book().table()),
         Request::List => list(alloc, shop.book(), text),
         Request::Look => look(shop, text),
     }
@@ -176,6 +184,55 @@ fn retire<J: Naming, R: Wait + Drop>(
 {
     let done = shop.retire(id, moment);
     push_outcome(alloc, text, shop.book(), "retired", id, done)
+}
+
+/// Appends the greatest value of a field of a contract, beside what a book holds but the contract of its name; where
+/// there is no contract, its name is unknown.
+fn quote(
+    alloc: Global,
+    book: &Book,
+    text: &mut Vec<u8>,
+    contract: Option<&Contract>,
+    field: Field,
+) -> Result<(), AllocError>
+    ensures { OnOk result (text.new.items
+        ≡ text.old.items ++ (quoted book.now (option_map (λ c. c.now) contract.entry) field).text) }
+{
+    match contract {
+        None => push_fault(text, kind_text(Kind::UnknownName)),
+        Some(contract) => quote_beside(alloc, book.table(), text, contract, field),
+    }
+}
+
+/// Appends the greatest value of a field of a contract, beside what a table holds but the contract of its name.
+fn quote_beside(
+    alloc: Global,
+    table: &Accepted,
+    text: &mut Vec<u8>,
+    contract: &Contract,
+    field: Field,
+) -> Result<(), AllocError>
+    ensures { OnOk result (text.new.items
+        ≡ text.old.items ++ (told_beside (others_of table.now contract.now.name) contract.now field).0) }
+{
+    match others(alloc, table, contract.name)? {
+        Some(others) => quote_over(alloc, &others, text, contract, field),
+        None => quote_over(alloc, table, text, contract, field),
+    }
+}
+
+/// Appends the greatest value of a field of a contract, beside what a table holds.
+fn quote_over(
+    alloc: Global,
+    table: &Accepted,
+    text: &mut Vec<u8>,
+    contract: &Contract,
+    field: Field,
+) -> Result<(), AllocError>
+    ensures { OnOk result (text.new.items ≡ text.old.items ++ (told_beside table.now contract.now field).0) }
+{
+    let _found = push_quote(alloc, text, table, contract, field)?;
+    Ok(())
 }
 
 /// Appends what a book holds.

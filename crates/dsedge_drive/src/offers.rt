@@ -1,5 +1,5 @@
 ghost use Rattle.std.specs.Prelude.{◌≡◌, IfOk};
-ghost use Rattle.dsedge_drive.specs.Requests.{place_named};
+ghost use Rattle.dsedge_texts.specs.Wording.{place_named};
 
 use ds_domain_base::Contract;
 use indexmap::IndexMap;

@@ -1,9 +1,10 @@
 ghost use Rattle.std.specs.Prelude.{◌≡◌, ◌∷◌, [], option_map};
 ghost use Rattle.std.specs.Option.{option_copied};
 ghost use Rattle.line_text.specs.Lines.{fields_left, fields_of, has_byte};
-ghost use Rattle.dsedge_drive.specs.Requests.{alone, request_in, reserve_of, timed_of};
+ghost use Rattle.dsedge_drive.specs.Requests.{alone, quote_of, request_in, reserve_of, timed_of};
 
 use crate::offers::Offers;
+use ds_quotes::Field;
 use dsedge_lines::moment;
 use line_text::{number, split_field, two_fields};
 use moment_core::Moment;
@@ -27,13 +28,23 @@ pub enum Request {
         /// The moment at which it is given back.
         moment: Moment,
     },
+    /// To tell the greatest value of a field of the contract at this place of those that are offered.
+    Quote {
+        /// The place; none has the name where there is none.
+        place: Option<usize>,
+        /// The field.
+        field: Field,
+    },
+    /// To tell what is taken and what there is at each meter.
+    Headroom,
     /// To tell the contracts that are held.
     List,
     /// To tell what a feed sees.
     Look,
 }
 
-/// What a line asks for, `reserve NAME`, `release ID MOMENT`, `retire ID MOMENT`, `list` or `look`, if for anything.
+/// What a line asks for, `reserve NAME`, `release ID MOMENT`, `retire ID MOMENT`, `quote NAME FIELD`, `headroom`, `list`
+/// or `look`, if for anything.
 #[tactic(auto, unfolding(crate::specs::Requests::request_in))]
 pub fn asked(offers: &Offers<'_>, line: &[u8]) -> Option<Request>
     ensures { result ≡ request_in offers.now line.now }
@@ -45,6 +56,10 @@ pub fn asked(offers: &Offers<'_>, line: &[u8]) -> Option<Request>
         release(rest?)
     } else if verb == b"retire".as_slice() {
         retire(rest?)
+    } else if verb == b"quote".as_slice() {
+        quote(offers, rest?)
+    } else if verb == b"headroom".as_slice() {
+        alone(Request::Headroom, rest)
     } else if verb == b"list".as_slice() {
         alone(Request::List, rest)
     } else if verb == b"look".as_slice() {
@@ -93,6 +108,20 @@ fn reserve_named(offers: &Offers<'_>, name: &[u8]) -> Option<Request>
         return None;
     }
     Some(Request::Reserve(offers.place(name)))
+}
+
+/// What `quote` asks for with what stands behind it: a name, which has no CR, and the word of a field.
+#[tactic(auto, using(crate::proofs::RequestLaws::no_quote))]
+fn quote(offers: &Offers<'_>, fields: &[u8]) -> Option<Request>
+    ensures { result ≡ quote_of offers.now (fields_of fields.now) }
+{
+    let (name, word) = two_fields(fields)?;
+    if has_return(name) {
+        return None;
+    }
+    let field = Field::named(word)?;
+    let place = offers.place(name);
+    Some(Request::Quote { place, field })
 }
 
 /// What `release` asks for with what stands behind it.

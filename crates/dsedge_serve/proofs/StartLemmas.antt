@@ -16,8 +16,8 @@ use Rattle.dsedge_lines.specs.declared.fault.PumpFault.TheVariants as pump_fault
 use Rattle.ds_conductor.specs.declared.fault.MarkFault.TheVariants as marks
 use Rattle.dsedge_serve.specs.declared.conclusion.Conclusion.TheVariants.{Ended, Unaccepted, Uncertified, Unsound}
 use Rattle.dsedge_serve.specs.declared.outcome.Outcome.{Outcome}
-use Rattle.dsedge_serve.specs.declared.outcome.Outcome.TheVariants.{Answered, Marked}
-use Rattle.dsedge_serve.specs.Served.{IsAnswered, status_after}
+use Rattle.dsedge_serve.specs.declared.outcome.Outcome.TheVariants.{Answered, Marked, Misused, Unnamed}
+use Rattle.dsedge_serve.specs.Served.{IsAnswered, is_misused, status_after}
 use Rattle.dsedge_serve.specs.Started.{Course, HasWords, IsCourseFrom, IsCourseOn, IsCourseWith, IsRefused, IsWordless, IsWritten, LacksWords}
 use Rattle.dsedge_serve.specs.Started.{fault_of_line, fault_of_words, input_from, is_broken_off, is_read, is_unread, status_in, words_from}
 use Rattle.dsedge_serve.specs.Started.Course.{Refused, Served, Unread}
@@ -56,32 +56,34 @@ unread_line first_line_faults.Usage failed now calls reads = reads
 unread_line first_line_faults.Read failed now calls reads = reads
 unread_line first_line_faults.NoMemory failed now calls reads = reads
 
--- no plan that was served ends as usage does
-served_is_no_usage : (port : List ℕ) (outcome : Outcome) → status_after port outcome ≡ 2 → ⊥
-served_is_no_usage port (Answered (Ok (Ended endings.Whole))) e = omega (arith, e)
-served_is_no_usage port (Answered (Ok (Ended endings.Refused))) e = omega (arith, e)
-served_is_no_usage port (Answered (Ok (Ended (endings.BadLine number)))) e = omega (arith, e)
-served_is_no_usage port (Answered (Ok (Ended endings.Full))) e = omega (arith, e)
-served_is_no_usage port (Answered (Ok (Unsound fault))) e = omega (arith, e)
-served_is_no_usage port (Answered (Ok (Uncertified fault))) e = omega (arith, e)
-served_is_no_usage port (Answered (Ok (Unaccepted line))) e = omega (arith, e)
-served_is_no_usage port (Answered (Err pump_faults.Read)) e = omega (arith, e)
-served_is_no_usage port (Answered (Err pump_faults.Write)) e = omega (arith, e)
-served_is_no_usage port (Answered (Err pump_faults.NoMemory)) e = omega (arith, e)
-served_is_no_usage port (Marked report None) e = omega (arith, e)
-served_is_no_usage port (Marked report (Some (marks.Capture pcaps.NotPcap))) e = omega (arith, e)
-served_is_no_usage port (Marked report (Some (marks.Capture pcaps.IsPcapng))) e = omega (arith, e)
-served_is_no_usage port (Marked report (Some (marks.Capture pcaps.BadVersion))) e = omega (arith, e)
-served_is_no_usage port (Marked report (Some (marks.Capture (pcaps.LinkType number)))) e = omega (arith, e)
-served_is_no_usage port (Marked report (Some (marks.Capture (pcaps.RecordTooLong count)))) e = omega (arith, e)
-served_is_no_usage port (Marked report (Some (marks.Capture pcaps.Truncated))) e = omega (arith, e)
-served_is_no_usage port (Marked report (Some (marks.Capture pcaps.ReadFault))) e = omega (arith, e)
-served_is_no_usage port (Marked report (Some (marks.Capture pcaps.WriteFault))) e = omega (arith, e)
-served_is_no_usage port (Marked report (Some (marks.Capture pcaps.NoMemory))) e = omega (arith, e)
-served_is_no_usage port (Marked report (Some (marks.Capture pcaps.Failed))) e = omega (arith, e)
-served_is_no_usage port (Marked report (Some marks.UnknownPort)) e = omega (arith, e)
-served_is_no_usage port (Marked report (Some marks.JournalFull)) e = omega (arith, e)
-served_is_no_usage port (Marked report (Some marks.NoMemory)) e = omega (arith, e)
+-- no plan that was served ends as usage does, but one of a field that its contract has not
+served_is_no_usage : (port : List ℕ) (outcome : Outcome) → status_after port outcome ≡ 2 → is_misused outcome ≡ true
+served_is_no_usage port Unnamed e = absurd (omega (arith, e))
+served_is_no_usage port Misused e = refl
+served_is_no_usage port (Answered (Ok (Ended endings.Whole))) e = absurd (omega (arith, e))
+served_is_no_usage port (Answered (Ok (Ended endings.Refused))) e = absurd (omega (arith, e))
+served_is_no_usage port (Answered (Ok (Ended (endings.BadLine number)))) e = absurd (omega (arith, e))
+served_is_no_usage port (Answered (Ok (Ended endings.Full))) e = absurd (omega (arith, e))
+served_is_no_usage port (Answered (Ok (Unsound fault))) e = absurd (omega (arith, e))
+served_is_no_usage port (Answered (Ok (Uncertified fault))) e = absurd (omega (arith, e))
+served_is_no_usage port (Answered (Ok (Unaccepted line))) e = absurd (omega (arith, e))
+served_is_no_usage port (Answered (Err pump_faults.Read)) e = absurd (omega (arith, e))
+served_is_no_usage port (Answered (Err pump_faults.Write)) e = absurd (omega (arith, e))
+served_is_no_usage port (Answered (Err pump_faults.NoMemory)) e = absurd (omega (arith, e))
+served_is_no_usage port (Marked report None) e = absurd (omega (arith, e))
+served_is_no_usage port (Marked report (Some (marks.Capture pcaps.NotPcap))) e = absurd (omega (arith, e))
+served_is_no_usage port (Marked report (Some (marks.Capture pcaps.IsPcapng))) e = absurd (omega (arith, e))
+served_is_no_usage port (Marked report (Some (marks.Capture pcaps.BadVersion))) e = absurd (omega (arith, e))
+served_is_no_usage port (Marked report (Some (marks.Capture (pcaps.LinkType number)))) e = absurd (omega (arith, e))
+served_is_no_usage port (Marked report (Some (marks.Capture (pcaps.RecordTooLong count)))) e = absurd (omega (arith, e))
+served_is_no_usage port (Marked report (Some (marks.Capture pcaps.Truncated))) e = absurd (omega (arith, e))
+served_is_no_usage port (Marked report (Some (marks.Capture pcaps.ReadFault))) e = absurd (omega (arith, e))
+served_is_no_usage port (Marked report (Some (marks.Capture pcaps.WriteFault))) e = absurd (omega (arith, e))
+served_is_no_usage port (Marked report (Some (marks.Capture pcaps.NoMemory))) e = absurd (omega (arith, e))
+served_is_no_usage port (Marked report (Some (marks.Capture pcaps.Failed))) e = absurd (omega (arith, e))
+served_is_no_usage port (Marked report (Some marks.UnknownPort)) e = absurd (omega (arith, e))
+served_is_no_usage port (Marked report (Some marks.JournalFull)) e = absurd (omega (arith, e))
+served_is_no_usage port (Marked report (Some marks.NoMemory)) e = absurd (omega (arith, e))
 
 -- a course that ends as usage does writes nothing
 pub usage_unwritten : (course : Course) (tells : Type 0) (input more before after : List ℕ) → status_in course ≡ 2
@@ -89,7 +91,7 @@ pub usage_unwritten : (course : Course) (tells : Type 0) (input more before afte
 usage_unwritten (Refused fault) tells input more before after usage is = is
 usage_unwritten (Unread plan fault) tells input more before after usage is = is
 usage_unwritten (Served plan texts outcome) tells input more before after usage is =
-    absurd (served_is_no_usage (port_of plan) outcome usage)
+    is.1 (served_is_no_usage (port_of plan) outcome usage)
 
 -- a course with the plan that words ask for is one on them
 pub on_plan : (words : List (List ℕ)) (plan : Plan) (course : Course) → IsPlanOf words plan → IsCourseWith plan course → IsCourseOn words course
@@ -121,7 +123,7 @@ written_behind (Refused fault) T U left input more before after tells behind is 
 written_behind (Unread plan fault) T U left input more before after tells behind is = is
 written_behind (Served plan texts outcome) T U left input more before after tells behind is =
     let P : List ℕ → Type 0 = λ bytes. IsAnswered plan texts bytes more outcome before after in
-    λ told. subst P (behind told) (is (tells told))
+    (λ told. subst P (behind told) (is.0 (tells told)), is.1)
 
 -- the count that stands before a course is that which the words left
 pub reads_behind : (course : Course) (failed first now calls : ℕ) → first ≡ failed → (is_broken_off course ≡ false → IsOfReads (is_unread course) first now calls)

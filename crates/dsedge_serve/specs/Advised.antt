@@ -19,11 +19,11 @@ use Rattle.dsedge_serve.specs.declared.advice.Advice.{Advice}
 use Rattle.dsedge_serve.specs.declared.advice.Advice.TheVariants as advices
 use Rattle.dsedge_serve.specs.declared.conclusion.Conclusion.{Conclusion}
 use Rattle.dsedge_serve.specs.declared.fault.Fault.{Fault}
-use Rattle.dsedge_serve.specs.declared.fault.Fault.TheVariants.{Usage, Certificate, Capture, File}
+use Rattle.dsedge_serve.specs.declared.fault.Fault.TheVariants.{Usage, Certificate, Capture, Contract, File}
 use Rattle.dsedge_serve.specs.declared.notice.Notice.{Notice}
 use Rattle.dsedge_serve.specs.declared.notice.Notice.TheVariants as notices
 use Rattle.dsedge_serve.specs.declared.outcome.Outcome.{Outcome}
-use Rattle.dsedge_serve.specs.declared.outcome.Outcome.TheVariants.{Answered, Marked}
+use Rattle.dsedge_serve.specs.declared.outcome.Outcome.TheVariants.{Answered, Marked, Misused, Unnamed}
 
 -- how a capture is converted, which link type it has, how long a record is said to be
 abbrev pub advice_of_capture : PcapFault → Option Advice
@@ -54,6 +54,8 @@ marking_advice (Some fault) port = advice_on (marking_fault port fault)
 -- what there is to say behind what is told of a plan that went so at a port
 abbrev pub advice_after : List ℕ → Outcome → Option Advice
 advice_after port (Answered outcome) = advice_for outcome
+advice_after port Unnamed = advice_on (Contract port)
+advice_after port Misused = advice_on Usage
 advice_after port (Marked report fault) = marking_advice fault port
 
 -- what is wrong with a value of a command, and where help is

@@ -8,8 +8,8 @@ use Rattle.dsedge_texts.specs.Wording.{kind_text}
 use Rattle.pcap_capture.specs.declared.fault.PcapFault.{PcapFault}
 use Rattle.pcap_capture.specs.declared.fault.PcapFault.TheVariants as pcaps
 use Rattle.dsedge_serve.specs.declared.fault.Fault.{Fault}
-use Rattle.dsedge_serve.specs.declared.fault.Fault.TheVariants.{Usage, Line, Domain, Certificate, Capture, Port, File}
-use Rattle.dsedge_serve.specs.declared.fault.Fault.TheVariants.{Read, Write, Memory, Full}
+use Rattle.dsedge_serve.specs.declared.fault.Fault.TheVariants.{Usage, Line, Domain, Certificate, Capture, Port}
+use Rattle.dsedge_serve.specs.declared.fault.Fault.TheVariants.{Contract, File, Read, Write, Memory, Full}
 use Rattle.dsedge_serve.specs.declared.notice.Notice.{Notice}
 use Rattle.dsedge_serve.specs.declared.notice.Notice.TheVariants as notices
 
@@ -61,6 +61,7 @@ fault_text (Domain fault) = codes "dsedge: domain " ++ domain_fault_text fault +
 fault_text (Certificate place) = codes "dsedge: certificate " ++ certificate_fault_text place.fault ++ codes "\n"
 fault_text (Capture fault) = codes "dsedge: capture " ++ capture_fault_text fault ++ codes "\n"
 fault_text (Port name) = codes "dsedge: port " ++ shown name ++ codes "\n"
+fault_text (Contract name) = codes "dsedge: contract " ++ shown name ++ codes "\n"
 fault_text (File name reason) = codes "dsedge: file " ++ shown name ++ codes "\n"
 fault_text Read = codes "dsedge: read\n"
 fault_text Write = codes "dsedge: write\n"
@@ -75,6 +76,7 @@ status_of (Domain fault) = 3
 status_of (Certificate place) = 3
 status_of (Capture fault) = 3
 status_of (Port name) = 3
+status_of (Contract name) = 3
 status_of (File name reason) = 4
 status_of Read = 4
 status_of Write = 4

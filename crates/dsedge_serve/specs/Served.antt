@@ -1,11 +1,12 @@
 -- What the program does for a plan.
-use Rattle.std.specs.Prelude.{◌≡◌, ◌⊎◌, ℕ, Bool, false, if◌then◌else◌, List, [], ◌∷◌, ◌++◌, Option, None}
+use Rattle.std.specs.Prelude.{◌≡◌, ◌⊎◌, ℕ, Bool, true, false, if◌then◌else◌, List, [], ◌∷◌, ◌++◌, Option, None}
 use Rattle.std.specs.Prelude.{⊤, Some, Result, Ok, Err, IfErr, IfOk, OnErr, codes, string_bytes}
 use Rattle.std.specs.Option.{option_map_or}
 use Rattle.line_text.specs.Lines.{lines_of}
 use Rattle.pcap_capture.specs.Counts.{next_count}
 use Rattle.dsedge_base.specs.declared.work.Plan.{Plan}
-use Rattle.dsedge_base.specs.declared.work.Plan.TheVariants.{Audit, Certify, Check, Drive, Envelope, Mark, Meter, Show}
+use Rattle.dsedge_base.specs.declared.work.Plan.TheVariants.{Audit, Certify, Check, Drive, Envelope, Headroom, Mark}
+use Rattle.dsedge_base.specs.declared.work.Plan.TheVariants.{Meter, Quote, Show}
 use Rattle.ds_domain.specs.DomainTexts.{parse_of}
 use Rattle.ds_domain_base.specs.Domains.{Domain, is_port}
 use Rattle.ds_domain_base.specs.declared.contract.Contract.{Contract}
@@ -27,19 +28,23 @@ use Rattle.dsedge_audit.specs.Audited.{audit_from}
 use Rattle.dsedge_drive.specs.Driven.{driven}
 use Rattle.dsedge_texts.specs.Accepted.{accepted_in}
 use Rattle.dsedge_texts.specs.Certified.{certified}
+use Rattle.dsedge_texts.specs.Headed.{headroom_in}
+use Rattle.dsedge_texts.specs.Quoted.{Told, quote_in}
+use Rattle.dsedge_texts.specs.declared.quoting.QuoteFault.{QuoteFault}
+use Rattle.dsedge_texts.specs.declared.quoting.QuoteFault.TheVariants as quotes
 use Rattle.dsedge_texts.specs.declared.accepting.TableFault.{TableFault}
 use Rattle.dsedge_texts.specs.declared.accepting.TableFault.TheVariants as tables
 use Rattle.dsedge_serve.specs.declared.conclusion.Conclusion.{Conclusion}
 use Rattle.dsedge_serve.specs.declared.conclusion.Conclusion.TheVariants.{Ended, Unaccepted, Uncertified, Unsound}
 use Rattle.dsedge_serve.specs.declared.fault.Fault.TheVariants as faults
 use Rattle.pcap_capture.specs.Fronts.{IsFrontOf}
-use Rattle.dsedge_serve.specs.Faults.{notice_text, status_of}
+use Rattle.dsedge_serve.specs.Faults.{fault_text, notice_text, status_of}
 use Rattle.dsedge_serve.specs.Marked.{IsMarkedOver, IsUnmarked, marking_answer, marking_status, marking_told, refusal_outcome}
 use Rattle.dsedge_serve.specs.Marked.{rule_said}
 use Rattle.dsedge_serve.specs.declared.notice.Notice.{Notice}
 use Rattle.dsedge_serve.specs.declared.notice.Notice.TheVariants as notices
 use Rattle.dsedge_serve.specs.declared.outcome.Outcome.{Outcome}
-use Rattle.dsedge_serve.specs.declared.outcome.Outcome.TheVariants.{Answered, Marked}
+use Rattle.dsedge_serve.specs.declared.outcome.Outcome.TheVariants.{Answered, Marked, Misused, Unnamed}
 
 -- a text on standard output, and how it ends
 pub record Reply : Type 0 where
@@ -59,14 +64,23 @@ abbrev pub reply_by : Result (List ℕ) DomainFault → Reply
 reply_by (Ok text) = whole_text text
 reply_by (Err fault) = record { text = []; conclusion = Unsound fault }
 
--- A table is accepted, or the checker's line is the reply; the fault of a text ends it before anything is written. Want
+-- The checker's line is the reply where it refuses a table; the fault of a text ends it before anything is written. Want
 -- of memory stands in no text.
+abbrev pub reply_against : TableFault → Reply
+reply_against (tables.Refused line) = record { text = line; conclusion = Ended endings.Refused }
+reply_against (tables.Domain fault) = record { text = []; conclusion = Unsound fault }
+reply_against (tables.Certificate fault) = record { text = []; conclusion = Uncertified fault }
+reply_against tables.NoMemory = whole_text []
+
+-- a table is accepted, or what stands against it is the reply
 abbrev pub reply_on : Result Table TableFault → Reply
 reply_on (Ok table) = whole_text (codes "accepted\n")
-reply_on (Err (tables.Refused line)) = record { text = line; conclusion = Ended endings.Refused }
-reply_on (Err (tables.Domain fault)) = record { text = []; conclusion = Unsound fault }
-reply_on (Err (tables.Certificate fault)) = record { text = []; conclusion = Uncertified fault }
-reply_on (Err tables.NoMemory) = whole_text []
+reply_on (Err fault) = reply_against fault
+
+-- a text that is made of an accepted table is the reply, or what stands against the table
+abbrev pub reply_told : Result (List ℕ) TableFault → Reply
+reply_told (Ok text) = whole_text text
+reply_told (Err fault) = reply_against fault
 
 -- The run that lines say is judged over an accepted table; where the checker refuses the table, or a text has a fault,
 -- that ends it before anything is written. Want of memory stands in no text.
@@ -76,6 +90,11 @@ reply_over (Err (tables.Refused line)) lines = record { text = []; conclusion = 
 reply_over (Err (tables.Domain fault)) lines = record { text = []; conclusion = Unsound fault }
 reply_over (Err (tables.Certificate fault)) lines = record { text = []; conclusion = Uncertified fault }
 reply_over (Err tables.NoMemory) lines = whole_text []
+
+-- lines that tell a value, or `none` with the checker's line, which answers with no
+abbrev pub reply_quoted : Told → Reply
+reply_quoted told =
+    record { text = told.0; conclusion = Ended (if told.1 then endings.Whole else endings.Refused) }
 
 -- The contracts that a domain text says are sold by lines; the fault of the text ends it before anything is written.
 abbrev pub reply_sold : Result (Domain × List Contract) DomainFault → List (List ℕ) → Reply
@@ -99,14 +118,33 @@ pub record IsServed (reply : Reply) (outcome : Result Conclusion PumpFault) (bef
 -- a reply was given, and not the marking of a capture
 abbrev pub IsReplied : Reply → Outcome → List ℕ → List ℕ → Type 0
 IsReplied reply (Answered outcome) before after = IsServed reply outcome before after
+IsReplied reply Unnamed before after = ⊥
+IsReplied reply Misused before after = ⊥
 IsReplied reply (Marked report fault) before after = ⊥
 
 -- a capture was marked at this port of a table, if that is accepted
 abbrev pub IsMarkedAt : Result Table TableFault → List ℕ → RedRule → List ℕ → List ℕ → Outcome → List ℕ → List ℕ
     → Type 0
 IsMarkedAt found port red bytes more (Answered outcome) before after = IsUnmarked found outcome before after
+IsMarkedAt found port red bytes more Unnamed before after = ⊥
+IsMarkedAt found port red bytes more Misused before after = ⊥
 IsMarkedAt found port red bytes more (Marked report fault) before after =
     IsMarkedOver found port red bytes more report fault before after
+
+-- a quote was answered, or the fault of the domain's text ended it before anything was written; for another fault memory
+-- ran out before it was found
+abbrev pub IsQuoteReplied : Result Told QuoteFault → Result Conclusion PumpFault → List ℕ → List ℕ → Type 0
+IsQuoteReplied (Ok told) outcome before after = IsServed (reply_quoted told) outcome before after
+IsQuoteReplied (Err (quotes.Domain fault)) outcome before after =
+    IsServed (record { text = []; conclusion = Unsound fault }) outcome before after
+IsQuoteReplied (Err fault) outcome before after = (outcome ≡ Err pump_faults.NoMemory) × (after ≡ before)
+
+-- a quote was answered, or nothing was written since there is no contract of the name, or it has no such field
+abbrev pub IsQuoted : Result Told QuoteFault → Outcome → List ℕ → List ℕ → Type 0
+IsQuoted found (Answered outcome) before after = IsQuoteReplied found outcome before after
+IsQuoted found Unnamed before after = (found ≡ Err quotes.Unnamed) × (after ≡ before)
+IsQuoted found Misused before after = (found ≡ Err quotes.NoField) × (after ≡ before)
+IsQuoted found (Marked report fault) before after = ⊥
 
 -- What a plan asks for was written, for the texts of its files and the bytes that the input had, of which it still has
 -- more.
@@ -121,6 +159,10 @@ IsAnswered (Certify domain) texts bytes more outcome before after =
     IsReplied (reply_by (certified (first_text texts))) outcome before after
 IsAnswered (Check domain certificate) texts bytes more outcome before after =
     IsReplied (reply_on (accepted_in (first_text texts) (second_text texts))) outcome before after
+IsAnswered (Headroom domain) texts bytes more outcome before after =
+    IsReplied (reply_told (headroom_in (first_text texts))) outcome before after
+IsAnswered (Quote domain contract field) texts bytes more outcome before after =
+    IsQuoted (quote_in (first_text texts) contract field) outcome before after
 IsAnswered (Audit domain certificate) texts bytes more outcome before after =
     IsReplied (reply_over (accepted_in (first_text texts) (second_text texts)) (lines_of bytes)) outcome before after
 IsAnswered (Drive domain) texts bytes more outcome before after =
@@ -153,6 +195,8 @@ IsForeseen (Meter meter) texts outcome = ⊤
 IsForeseen (Envelope rate burst) texts outcome = ⊤
 IsForeseen (Certify domain) texts outcome = ⊤
 IsForeseen (Check domain certificate) texts outcome = ⊤
+IsForeseen (Headroom domain) texts outcome = ⊤
+IsForeseen (Quote domain contract field) texts outcome = ⊤
 IsForeseen (Audit domain certificate) texts outcome =
     IsRefusedBefore (accepted_in (first_text texts) (second_text texts)) outcome
 IsForeseen (Drive domain) texts outcome = IsUnsoundBefore (parse_of (first_text texts)) outcome
@@ -202,24 +246,39 @@ IsOfWrites fault failed now = now ≡ (if fault then next_count failed else fail
 -- whether the output could not be written
 abbrev pub is_output_fault : Outcome → Bool
 is_output_fault (Answered outcome) = is_write_fault outcome
+is_output_fault Unnamed = false
+is_output_fault Misused = false
 is_output_fault (Marked report fault) = is_unwritten (marking_answer report fault)
 
 -- whether the input could not be read
 abbrev pub is_input_fault : Outcome → Bool
 is_input_fault (Answered outcome) = is_read_fault outcome
+is_input_fault Unnamed = false
+is_input_fault Misused = false
 is_input_fault (Marked report fault) = is_unread (marking_answer report fault)
 
 -- whether the outcome is that of a marking that was broken off, which tells nothing of the input
 abbrev pub is_broken_off : Outcome → Bool
 is_broken_off (Answered outcome) = false
+is_broken_off Unnamed = false
+is_broken_off Misused = false
 is_broken_off (Marked report fault) = is_marking_broken_off (marking_answer report fault)
 
--- the exit status of a plan that went so at a port
+-- whether a field was asked for that its contract has not
+abbrev pub is_misused : Outcome → Bool
+is_misused Misused = true
+is_misused _ = false
+
+-- the exit status of a plan that went so at a port, or at a contract of that name
 abbrev pub status_after : List ℕ → Outcome → ℕ
 status_after port (Answered outcome) = status_for outcome
+status_after port Unnamed = status_of (faults.Contract port)
+status_after port Misused = status_of faults.Usage
 status_after port (Marked report fault) = marking_status fault port
 
 -- what is told of it on standard error
 abbrev pub told_after : List ℕ → Outcome → List ℕ
 told_after port (Answered outcome) = told_of outcome
+told_after port Unnamed = fault_text (faults.Contract port)
+told_after port Misused = fault_text faults.Usage
 told_after port (Marked report fault) = marking_told report fault port

@@ -21,7 +21,7 @@ use Rattle.dsedge_serve.specs.declared.outcome.Outcome.{Outcome}
 use Rattle.dsedge_serve.specs.Advised.{advice_after, advice_on}
 use Rattle.dsedge_serve.specs.Faults.{fault_text, status_of}
 use Rattle.dsedge_serve.specs.Served.{IsAnswered, IsForeseen, is_broken_off as is_outcome_broken_off, is_input_fault}
-use Rattle.dsedge_serve.specs.Served.{is_output_fault, status_after, told_after}
+use Rattle.dsedge_serve.specs.Served.{is_misused, is_output_fault, status_after, told_after}
 
 -- the words of a command: those given, or where there are none, those of the first line of the input
 abbrev pub words_from : List (List ℕ) → List ℕ → List (List ℕ)
@@ -157,12 +157,13 @@ IsCourseOf tells holds (Served plan texts outcome) =
     × IsForeseen plan texts outcome
 
 -- What was written, where the devices tell their bytes: the answer to the input, which still has more, or a front of
--- it; a refusal writes nothing.
+-- it; a refusal writes nothing, and so does a field that its contract has not.
 abbrev pub IsWritten : Course → Type 0 → List ℕ → List ℕ → List ℕ → List ℕ → Type 0
 IsWritten (Refused fault) tells input more before after = after ≡ before
 IsWritten (Unread plan fault) tells input more before after = after ≡ before
 IsWritten (Served plan texts outcome) tells input more before after =
-    tells → IsAnswered plan texts input more outcome before after
+    (tells → IsAnswered plan texts input more outcome before after)
+    × (is_misused outcome ≡ true → after ≡ before)
 
 -- whether a start went so that the output could not be written
 abbrev pub is_unwritten : Course → Bool

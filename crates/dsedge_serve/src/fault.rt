@@ -30,6 +30,8 @@ pub enum Fault<'a> {
     Capture(PcapFault),
     /// The domain has no port of this name.
     Port(GivenName<'a>),
+    /// The domain has no contract of this name.
+    Contract(GivenName<'a>),
     /// The file of this name cannot be read, or has more than 16 MiB, for this reason.
     File(GivenName<'a>, Reason),
     /// The input could not be read.
@@ -53,7 +55,8 @@ impl Fault<'_> {
             | Fault::Domain(_)
             | Fault::Certificate(_)
             | Fault::Capture(_)
-            | Fault::Port(_) => 3,
+            | Fault::Port(_)
+            | Fault::Contract(_) => 3,
             Fault::File(..) | Fault::Read | Fault::Write => 4,
             Fault::Memory | Fault::Full => 5,
         }
@@ -98,6 +101,7 @@ impl Fault<'_> {
             }
             Fault::Capture(fault) => tell_line("dsedge: capture ", capture_text(*fault), faults),
             Fault::Port(name) => tell_name("dsedge: port ", name.text(), faults),
+            Fault::Contract(name) => tell_name("dsedge: contract ", name.text(), faults),
             Fault::File(name, _) => tell_name("dsedge: file ", name.text(), faults),
             Fault::Read => give_all(faults, b"dsedge: read\n"),
             Fault::Write => give_all(faults, b"dsedge: write\n"),

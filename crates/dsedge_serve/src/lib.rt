@@ -9,6 +9,7 @@ mod marking;
 mod notice;
 mod outcome;
 mod parts;
+mod quoting;
 mod report;
 mod running;
 mod selling;

@@ -7,6 +7,10 @@ use dsedge_lines::PumpFault;
 pub enum Outcome {
     /// A reply was given, or a device failed or memory ran out before its end.
     Answered(Result<Conclusion, PumpFault>),
+    /// The domain has no contract of the plan's name, and nothing is answered.
+    Unnamed,
+    /// The contract of the plan's name has no such field, and nothing is answered.
+    Misused,
     /// A capture was marked at the plan's port, with this report and this fault, if any.
     Marked(Report, Option<MarkFault>),
 }

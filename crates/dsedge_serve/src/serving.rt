@@ -3,16 +3,18 @@ ghost use Rattle.dsedge_base.specs.Files.{files_of, port_of};
 ghost use Rattle.dsedge_lines.specs.Faults.{is_read_fault, is_write_fault};
 ghost use Rattle.dsedge_serve.specs.Served.{IsForeseen, IsRefusedBefore};
 ghost use Rattle.dsedge_serve.specs.Served.{IsAnswered, IsOfWrites, IsServed, IsTold, Reply};
-ghost use Rattle.dsedge_serve.specs.Served.{is_broken_off, is_input_fault, is_output_fault, notice_of};
-ghost use Rattle.dsedge_serve.specs.Served.{reply_by, reply_of, reply_on, reply_over};
+ghost use Rattle.dsedge_serve.specs.Served.{is_broken_off, is_input_fault, is_misused, is_output_fault, notice_of};
+ghost use Rattle.dsedge_serve.specs.Served.{reply_against, reply_by, reply_of, reply_on, reply_over, reply_told};
 ghost use Rattle.dsedge_serve.specs.Served.{status_after, status_for, told_after, told_of};
-ghost use Rattle.dsedge_serve.specs.Advised.{advice_after, advice_for};
+ghost use Rattle.dsedge_serve.specs.Advised.{advice_after, advice_for, advice_on};
+ghost use Rattle.dsedge_serve.specs.Faults.{fault_text};
 ghost use Rattle.dsedge_serve.specs.Marked.{rule_said};
 ghost use Rattle.dsedge_serve.specs.declared.outcome.Outcome.{Outcome};
 ghost use Rattle.ds_conductor.specs.Steps.{opened};
 ghost use Rattle.dsedge_audit.specs.Audited.{audit_from};
 ghost use Rattle.dsedge_texts.specs.Accepted.{accepted_in};
 ghost use Rattle.dsedge_texts.specs.Certified.{certified};
+ghost use Rattle.dsedge_texts.specs.Headed.{headroom_in};
 ghost use Rattle.line_text.specs.Lines.{lines_of};
 ghost use Rattle.pcap_capture.specs.Counts.{IsOfReads};
 
@@ -22,15 +24,16 @@ use crate::fault::Fault;
 use crate::marking::{answer_mark, marking_advice, marking_status, refusal_outcome, tell_marking};
 use crate::notice::Notice;
 use crate::outcome::Outcome;
+use crate::quoting::answer_quote;
 use crate::selling::answer_drive;
 use ds_checker::Accepted;
 use ds_conductor::RedRule;
 use ds_domain_base::{DomainFault, Kind};
 use dsedge_audit::AuditCommand;
 use dsedge_base::Plan;
-use dsedge_lines::{Command, Ending, PumpFault, pump};
+use dsedge_lines::{Command, Ending, GivenName, PumpFault, pump};
 use dsedge_meter::{EnvelopeCommand, MeterCommand};
-use dsedge_texts::{TableFault, accept, certify};
+use dsedge_texts::{TableFault, accept, certify, headroom};
 use pcap_capture::{Intake, Outlet, give_all};
 use std::alloc::Global;
 use std::sync::Wait;
@@ -59,7 +62,7 @@ pub(crate) fn answer_lines<C: Command + Drop, I: Intake, O: Outlet>(
 }
 
 /// Answers with a text, and ends so.
-fn answer_text<O: Outlet>(
+pub(crate) fn answer_text<O: Outlet>(
     text: &[u8],
     ending: Ending,
     output: &mut O,
@@ -113,10 +116,40 @@ fn answer_check<O: Outlet>(
 {
     match accept(alloc, domain, certificate) {
         Ok(_) => answer_text(b"accepted\n", Ending::Whole, output),
-        Err(TableFault::Refused(line)) => answer_text(line.bytes(), Ending::Refused, output),
-        Err(TableFault::Domain(fault)) => Ok(Conclusion::Unsound(fault)),
-        Err(TableFault::Certificate(fault)) => Ok(Conclusion::Uncertified(fault)),
-        Err(TableFault::NoMemory) => Err(PumpFault::NoMemory),
+        Err(fault) => answer_against(fault, output),
+    }
+}
+
+/// Answers with what stands against a table.
+fn answer_against<O: Outlet>(fault: TableFault, output: &mut O) -> Result<Conclusion, PumpFault>
+    ensures served { O.tells output.old →
+        IsServed (reply_against fault) result (O.held output.old) (O.held output.new) }
+    ensures writes { IsOfWrites (is_write_fault result) (O.failed output.old) (O.failed output.new) }
+    ensures reads { is_read_fault result ≡ false }
+{
+    match fault {
+        TableFault::Refused(line) => answer_text(line.bytes(), Ending::Refused, output),
+        TableFault::Domain(fault) => Ok(Conclusion::Unsound(fault)),
+        TableFault::Certificate(fault) => Ok(Conclusion::Uncertified(fault)),
+        TableFault::NoMemory => Err(PumpFault::NoMemory),
+    }
+}
+
+/// Answers with what is taken and what there is at each meter of the domain that a text says; where its contracts do not
+/// fit, with the checker's line.
+fn answer_headroom<O: Outlet>(
+    alloc: Global,
+    domain: &[u8],
+    output: &mut O,
+) -> Result<Conclusion, PumpFault>
+    ensures served { O.tells output.old →
+        IsServed (reply_told (headroom_in domain.now)) result (O.held output.old) (O.held output.new) }
+    ensures writes { IsOfWrites (is_write_fault result) (O.failed output.old) (O.failed output.new) }
+    ensures reads { is_read_fault result ≡ false }
+{
+    match headroom(alloc, domain) {
+        Ok(lines) => answer_text(lines.as_slice(), Ending::Whole, output),
+        Err(fault) => answer_against(fault, output),
     }
 }
 
@@ -177,6 +210,7 @@ fn answer<R: Wait + Threads + Sync, I: Intake, O: Outlet>(
     ensures writes { IsOfWrites (is_output_fault result) (O.failed output.old) (O.failed output.new) }
     ensures reads { is_broken_off result ≡ false
         → IsOfReads (is_input_fault result) (I.failed intake.old) (I.failed intake.new) (I.calls intake.new) }
+    ensures misused { is_misused result ≡ true → O.held output.new ≡ O.held output.old }
 {
     match plan {
         Plan::Show(text) => {
@@ -197,6 +231,14 @@ fn answer<R: Wait + Threads + Sync, I: Intake, O: Outlet>(
             let (domain, certificate) = (texts[0].as_slice(), texts[1].as_slice());
             Outcome::Answered(answer_check(alloc, domain, certificate, output))
         }
+        Plan::Headroom { .. } => {
+            Outcome::Answered(answer_headroom(alloc, texts[0].as_slice(), output))
+        }
+        Plan::Quote {
+            contract,
+            field,
+            ..
+        } => answer_quote(alloc, texts[0].as_slice(), contract.text(), *field, output),
         Plan::Audit { .. } => {
             let (domain, certificate) = (texts[0].as_slice(), texts[1].as_slice());
             Outcome::Answered(answer_audit(alloc, domain, certificate, intake, output))
@@ -295,6 +337,8 @@ fn status_after(port: &str, outcome: &Outcome) -> u8
 {
     match outcome {
         Outcome::Answered(outcome) => status(outcome),
+        Outcome::Unnamed => Fault::Contract(GivenName::new(port)).status(),
+        Outcome::Misused => Fault::Usage.status(),
         Outcome::Marked(_, fault) => marking_status(*fault, port),
     }
 }
@@ -315,11 +359,25 @@ fn tell_after<F: Outlet>(
 {
     match outcome {
         Outcome::Answered(outcome) => tell(outcome, faults),
+        Outcome::Unnamed => tell_fault(&Fault::Contract(GivenName::new(port)), faults),
+        Outcome::Misused => tell_fault(&Fault::Usage, faults),
         Outcome::Marked(report, fault) => {
             let _told = tell_marking(alloc, &report, fault, port, faults);
             marking_advice(fault, port)
         }
     }
+}
+
+/// Tells a fault, and gives what there is to say behind it. A failure to write there is passed over.
+fn tell_fault<F: Outlet>(fault: &Fault<'_>, faults: &mut F) -> Option<Advice>
+    ensures still { F.tells faults.old → F.tells faults.new }
+    ensures told { F.tells faults.old →
+        IsTold (fault_text fault.now) (F.held faults.old) (F.held faults.new) (F.failed faults.old)
+        (F.failed faults.new) }
+    ensures advice { result ≡ advice_on fault.now }
+{
+    let _told = fault.tell(faults);
+    fault.advice()
 }
 
 /// Does what a plan asks for: answers on the output, tells a fault on `faults`, and gives the exit status, with what
@@ -351,7 +409,8 @@ pub fn serve<R: Wait + Threads + Sync, I: Intake, O: Outlet, F: Outlet>(
         × (is_broken_off outcome ≡ false
         → IsOfReads (is_input_fault outcome) (I.failed intake.old) (I.failed intake.new) (I.calls intake.new))
         × IsForeseen plan.now (map (λ text. text.items) texts.now) outcome
-        × (result.advice ≡ advice_after port outcome) }
+        × (result.advice ≡ advice_after port outcome)
+        × (is_misused outcome ≡ true → O.held output.new ≡ O.held output.old) }
 {
     let outcome = answer(alloc, rt, plan, texts, intake, output);
     let port = plan.port();

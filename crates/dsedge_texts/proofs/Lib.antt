@@ -2,5 +2,6 @@
 pub mod FittingLaws
 pub mod FolderLemmas
 pub mod NamedLaws
+pub mod QuoteLemmas
 pub mod ShapeLemmas
 pub mod TextLemmas

@@ -1,6 +1,7 @@
 -- How contracts, kinds of faults, columns and figures are written in what is told of them.
-use Rattle.std.specs.Prelude.{ℕ, List, [], ◌++◌, codes, decimal, slice_get}
+use Rattle.std.specs.Prelude.{ℕ, List, [], ◌++◌, codes, decimal, position, slice_get, Option}
 use Rattle.std.specs.Option.{option_map_or}
+use Rattle.std.specs.Str.{bytes_eq}
 use Rattle.ds_domain_base.specs.declared.contract.Contract.{Contract}
 use Rattle.ds_domain_base.specs.declared.fault.Kind.{Kind}
 use Rattle.ds_domain_base.specs.declared.fault.Kind.TheVariants as kinds
@@ -10,6 +11,10 @@ use Rattle.moment_core.specs.declared.column.Column.TheVariants.{Green, All, Exc
 -- the name of the contract of a number
 abbrev pub name_of : List Contract → ℕ → List ℕ
 name_of contracts number = option_map_or (λ c. c.name) (slice_get contracts number) []
+
+-- where the first contract of a name stands among some
+abbrev pub place_named : List Contract → List ℕ → Option ℕ
+place_named contracts name = position (λ c. bytes_eq name c.name) contracts
 
 abbrev pub column_text : Column → List ℕ
 column_text Green = codes "green"

@@ -96,7 +96,7 @@ fn certificate_said(
 }
 
 /// What the checker makes of a candidate.
-fn judge(alloc: Global, candidate: Candidate) -> Result<Accepted, TableFault>
+pub(crate) fn judge(alloc: Global, candidate: Candidate) -> Result<Accepted, TableFault>
     ensures ok { IfOk result (λ accepted. judged (table_of candidate) (refusal_of (table_of candidate)) ≡ Ok accepted) }
     ensures refused { IfErr result (λ fault. (fault ≡ TableFault.NoMemory)
         ⊎ (judged (table_of candidate) (refusal_of (table_of candidate)) ≡ Err fault)) }

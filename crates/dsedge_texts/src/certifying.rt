@@ -37,7 +37,7 @@ fn least_text(
 }
 
 /// The least certificate of contracts that fit a domain.
-fn least_certificate(
+pub(crate) fn least_certificate(
     alloc: Global,
     domain: &Domain,
     contracts: &[Contract],

@@ -2,10 +2,9 @@ ghost use Rattle.std.specs.Prelude.{◌≡◌, ◌++◌, IfOk, OnOk};
 ghost use Rattle.dsedge_texts.specs.Refused.{column_figures_text, figures_text, meter_place_text, place_text};
 ghost use Rattle.dsedge_texts.specs.Refused.{refusal_line, test_text};
 
-use crate::wording::{column_text, push_figure, push_name};
+use crate::wording::{column_text, push_figure, push_name, push_wide_figure};
 use ds_checker::Refusal;
 use ds_domain::{Contract, Name};
-use itoa::Buffer;
 use line_text::push_number;
 use moment_core::Column;
 use std::alloc::{AllocError, Global};
@@ -137,10 +136,8 @@ fn push_meter_place(text: &mut Vec<u8>, refusal: &Refusal) -> Result<(), AllocEr
 fn push_figures(text: &mut Vec<u8>, needed: u128, given: u128) -> Result<(), AllocError>
     ensures { OnOk result (text.new.items ≡ text.old.items ++ figures_text needed given) }
 {
-    text.push(b' ')?;
-    text.extend_from_slice(Buffer::new().format(needed).as_bytes())?;
-    text.push(b' ')?;
-    text.extend_from_slice(Buffer::new().format(given).as_bytes())
+    push_wide_figure(text, needed)?;
+    push_wide_figure(text, given)
 }
 
 /// Appends a column and two figures, behind a space.

@@ -2,6 +2,7 @@ ghost use Rattle.std.specs.Prelude.{◌≡◌, ◌++◌, OnOk};
 ghost use Rattle.dsedge_texts.specs.Wording.{column_text, figure, kind_text, name_of};
 
 use ds_domain::{Contract, Kind};
+use itoa::Buffer;
 use line_text::push_number;
 use moment_core::Column;
 use std::alloc::AllocError;
@@ -37,6 +38,14 @@ pub fn push_figure(text: &mut Vec<u8>, number: u64) -> Result<(), AllocError>
 {
     text.push(b' ')?;
     push_number(text, number)
+}
+
+/// Appends a figure of up to 128 bits, behind a space.
+pub fn push_wide_figure(text: &mut Vec<u8>, number: u128) -> Result<(), AllocError>
+    ensures { OnOk result (text.new.items ≡ text.old.items ++ figure number) }
+{
+    text.push(b' ')?;
+    text.extend_from_slice(Buffer::new().format(number).as_bytes())
 }
 
 /// How a kind of fault of a domain is written.

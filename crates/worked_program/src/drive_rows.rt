@@ -22,7 +22,7 @@ fn run_drive(
 }
 
 /// Expects of `drive` on lines, over a domain, an output, what is told, and a status.
-fn expect_of_drive(
+pub(crate) fn expect_of_drive(
     rt: &(impl Abort + Wait + Threads + Sync),
     alloc: Global,
     (domain, lines): (&str, &str),

@@ -11,6 +11,8 @@ mod excess_rows;
 #[cfg(test)]
 mod mark_rows;
 #[cfg(test)]
+mod quote_rows;
+#[cfg(test)]
 mod rows;
 #[cfg(test)]
 mod terminal_rows;

@@ -1,3 +1,4 @@
+use ds_quotes::Field;
 use dsedge_base::{Plan, UsageFault, plan};
 use dsedge_lines::GivenName;
 use meter_book_base::{AnyMeter, Parameters};
@@ -157,6 +158,31 @@ fn certificates(rt: HostRuntime) -> Result<(), Fail> {
     ] {
         let domain = GivenName::new(name);
         expect_plan(&rt, rt.alloc(), line, &Plan::Certify { domain })?;
+    }
+    Ok(())
+}
+
+#[test]
+fn headrooms_and_quotes(rt: HostRuntime) -> Result<(), Fail> {
+    let domain = GivenName::new("domain.toml");
+    let plan = Plan::Headroom { domain };
+    expect_plan(&rt, rt.alloc(), "headroom domain.toml", &plan)?;
+    for (line, field) in [
+        (
+            "quote domain.toml --contract b --most cbs",
+            Field::CommittedBurst,
+        ),
+        (
+            "quote --most=eir --contract b domain.toml",
+            Field::ExcessRate,
+        ),
+    ] {
+        let plan = Plan::Quote {
+            domain: GivenName::new("domain.toml"),
+            contract: GivenName::new("b"),
+            field,
+        };
+        expect_plan(&rt, rt.alloc(), line, &plan)?;
     }
     Ok(())
 }

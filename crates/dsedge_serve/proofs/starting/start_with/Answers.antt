@@ -17,7 +17,7 @@ returns-in-Ok-clause-course g c =
         λ tells. read.texts tells ∙ ap (λ all. Ok (map (λ text. text.items) all)) (sym slice.ensures.value),
         served.6,
       ),
-      λ tell. served.2 tell.0 tell.1,
+      (λ tell. served.2 tell.0 tell.1, served.8),
       served.3,
       served.4,
       served.5,

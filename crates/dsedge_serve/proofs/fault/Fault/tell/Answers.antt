@@ -51,3 +51,8 @@ pub returns-in-Port-clause-line : goal.returns-in-Port-clause-line
 returns-in-Port-clause-line g c told =
     rw c.in-Port.is (given_as c.tell_name.result (g.F.Outlet.held c.args.faults.now) (g.F.Outlet.held c.tell_name.new.faults) _ (fault_text (Port c.in-Port.name))
     (ap (λ text. codes "dsedge: port " ++ shown text ++ codes "\n") c.text.ensures) (c.tell_name.ensures.line told))
+
+pub returns-in-Contract-clause-line : goal.returns-in-Contract-clause-line
+returns-in-Contract-clause-line g c told =
+    rw c.in-Contract.is (given_as c.tell_name-in-Contract.result (g.F.Outlet.held c.args.faults.now) (g.F.Outlet.held c.tell_name-in-Contract.new.faults) _ (codes "dsedge: contract " ++ shown c.in-Contract.name ++ codes "\n")
+    (ap (λ text. codes "dsedge: contract " ++ shown text ++ codes "\n") c.text-in-Contract.ensures) (c.tell_name-in-Contract.ensures.line told))

@@ -5,10 +5,11 @@ use Rattle.std.specs.Arc.{arc_value}
 use Rattle.ds_domain_base.specs.Domains.{Domain}
 use Rattle.ds_certificate.specs.Bounds.{fits}
 use Rattle.ds_checker.specs.Acceptance.{Table}
+use Rattle.ds_checker.specs.Changes.{on_terms}
 use Rattle.ds_checker.specs.Sums.{AreBelow}
 use Rattle.ds_checker.proofs.ChangeLaws.{kept-below, kept-long, refused-lasting, self-of, sound-of, sums_pass, table}
 use Rattle.ds_checker.proofs.LoadLaws.{AreBelow-more}
-use Rattle.ds_checker.proofs.candidate.Accepted.refusal_with_least.Goals as goal
+use Rattle.ds_checker.proofs.candidate.Accepted.refusal_on.Goals as goal
 
 pub least_refusal_at_meters-requires-clause-fit : goal.least_refusal_at_meters-requires-clause-fit
 least_refusal_at_meters-requires-clause-fit c =
@@ -41,5 +42,5 @@ returns-clause-value c lifetime =
     let fit = subst (λ (x : Domain). IsTrue (fits x c.args.contract.now)) (sym own) c.requires in
     let sound = sound-of d (arc_value c.self.inside.domain) c.self.inside.contracts.items c.self.inside.certificate c.self.inside.sums.items c.deref-domain.ensures c.self.invariant in
     let is_self = self-of d (arc_value c.self.inside.domain) c.self.inside.contracts.items c.self.inside.certificate c.args.self.now c.deref-domain.ensures c.self.view_is in
-    refused-lasting d c.self.inside.contracts.items c.self.inside.certificate c.self.inside.sums.items c.as_slice.result.now c.args.self.now c.args.contract.now lifetime
+    refused-lasting d c.self.inside.contracts.items c.self.inside.certificate c.self.inside.sums.items c.as_slice.result.now c.args.self.now (on_terms c.args.terms.now c.args.contract.now) lifetime
     c.least_refusal_at_meters.result sound is_self c.as_slice.ensures.value fit c.least_refusal_at_meters.ensures

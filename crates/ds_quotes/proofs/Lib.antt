@@ -1,0 +1,3 @@
+pub mod LesserTables
+pub mod LesserTerms
+pub mod QuoteLaws

@@ -1,0 +1,4 @@
+pub mod Fields
+pub mod Passing
+pub mod Quotes
+pub mod Words

@@ -1,0 +1,13 @@
+//! What can still be sold beside an accepted table: the greatest value of a rate or a burst with which a contract is
+//! carried.
+#![tactic(auto)]
+
+pub mod field;
+pub mod laws;
+pub mod passing;
+pub mod quote;
+pub mod values;
+
+pub use field::Field;
+pub use quote::{greatest, greatest_beside, least_refusal, others};
+pub use values::Values;

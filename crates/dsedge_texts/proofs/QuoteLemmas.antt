@@ -1,0 +1,74 @@
+-- A contract of a text beside the others, and in its place again.
+use Rattle.std.proofs.Common.{arith, ◌≡◌, ℕ, zero, suc, ◌<◌, ◌≤◌, Bool, true, false, List, [], ◌∷◌, length, get_or, cond, nat_lt, None, Some, Result, Ok, Err, IfOk, refl, sym, ap, ◌∙◌}
+use Rattle.std.specs.List.{insert, list_all, position_or_len, remove}
+use Rattle.std.proofs.lemmas.Bool.{and_from, and_parts}
+use Rattle.std.proofs.lemmas.List.Edits.{length-remove}
+use Rattle.std.proofs.lemmas.Bool.Decides.{nat_tests}
+use Rattle.std.specs.Str.{bytes_eq}
+use Rattle.ds_checker.proofs.ChangeLaws.{got}
+use Rattle.ds_checker.specs.Acceptance.{Table, refusal_of}
+use Rattle.ds_domain_base.specs.Domains.{Domain}
+use Rattle.ds_domain_base.specs.declared.contract.Contract.{Contract}
+use Rattle.ds_domain_base.specs.declared.terms.Terms.{Terms}
+use Rattle.ds_quotes.specs.Quotes.{least_terms, with_least}
+use Rattle.ds_quotes.specs.declared.field.Field.{Field}
+use Rattle.dsedge_texts.specs.Quoted.{Told, quote_at, quote_of_contract, quote_on, told_at, told_beside}
+use Rattle.dsedge_texts.specs.declared.quoting.QuoteFault.{QuoteFault}
+use Rattle.dsedge_texts.specs.declared.quoting.Quoted.{Quoted}
+use Rattle.dsedge_texts.specs.Wording.{place_named}
+
+-- ---- what holds of all of a list
+pub all_removed : {X : Type 0} (p : X → Bool) (xs : List X) (i : ℕ) → list_all p xs ≡ true → list_all p (remove xs i) ≡ true
+all_removed p [] zero all = all
+all_removed p [] (suc i) all = all
+all_removed p (x ∷ xs) zero all = (and_parts (p x) (list_all p xs) all).1
+all_removed p (x ∷ xs) (suc i) all =
+    let both = and_parts (p x) (list_all p xs) all in
+    and_from (p x) (list_all p (remove xs i)) both.0 (all_removed p xs i both.1)
+
+pub one_of_all : {X : Type 0} (p : X → Bool) (xs : List X) (i : ℕ) (x : X) → list_all p xs ≡ true → i < length xs → p (get_or xs i x) ≡ true
+one_of_all p [] i x all inside = absurd (omega (arith, inside))
+one_of_all p (own ∷ xs) zero x all inside = (and_parts (p own) (list_all p xs) all).0
+one_of_all p (own ∷ xs) (suc i) x all inside = one_of_all p xs i x (and_parts (p own) (list_all p xs) all).1 (omega (arith, inside))
+
+pub all_inserted : {X : Type 0} (p : X → Bool) (xs : List X) (i : ℕ) (x : X) → list_all p xs ≡ true → p x ≡ true → i ≤ length xs → list_all p (insert xs i x) ≡ true
+all_inserted p xs zero x all own inside = and_from (p x) (list_all p xs) own all
+all_inserted p [] (suc i) x all own inside = absurd (omega (arith, inside))
+all_inserted p (first ∷ xs) (suc i) x all own inside =
+    let both = and_parts (p first) (list_all p xs) all in
+    and_from (p first) (list_all p (insert xs i x)) both.0 (all_inserted p xs i x both.1 own (omega (arith, inside)))
+
+-- ---- the contract of a name
+inside_by : (b : Bool) (j n i : ℕ) → nat_lt j n ≡ b → cond b (Some j) None ≡ Some i → i < n
+inside_by true j n i below is = let same : j ≡ i = cc in let lower : j < n = grind (arith, below, nat_tests) in omega (arith, lower, same)
+inside_by false j n i below is = absurd cc
+
+pub place-inside : (contracts : List Contract) (name : List ℕ) (place : ℕ) → Some place ≡ place_named contracts name → place < length contracts
+place-inside contracts name place is =
+    let named : Contract → Bool = λ c. bytes_eq name c.name in
+    inside_by (nat_lt (position_or_len named contracts) (length contracts)) (position_or_len named contracts) (length contracts) place refl (sym is)
+
+pub others-long : (contracts others : List Contract) (place : ℕ) → place < length contracts → others ≡ remove contracts place → place ≤ length others
+others-long contracts others place inside is = omega (arith, inside, ap length is, length-remove contracts place inside)
+
+pub quote-found : (d : Domain) (contracts others : List Contract) (name : List ℕ) (place : ℕ) (c : Contract) (field : Field) → Some place ≡ place_named contracts name
+    → others ≡ remove contracts place → c ≡ get_or contracts place c
+    → quote_at d contracts field (place_named contracts name) ≡ quote_on d others place c field (least_terms field c.terms)
+quote-found d contracts others name place c field is_place is_others is_contract =
+    ap (quote_at d contracts field) (sym is_place)
+    ∙ ap (quote_of_contract d contracts place field) (got contracts place c (place-inside contracts name place is_place) is_contract)
+    ∙ ap (λ xs. quote_on d xs place c field (least_terms field c.terms)) (sym is_others)
+
+-- ---- beside the others, which the checker accepts
+pub quote-over : (d : Domain) (others : List Contract) (place : ℕ) (c : Contract) (field : Field) (terms : Terms) (t : Table) → least_terms field c.terms ≡ Some terms
+    → refusal_of (with_least d others) ≡ None → t ≡ with_least d others
+    → quote_on d others place c field (least_terms field c.terms) ≡ Ok (told_beside t c field)
+quote-over d others place c field terms t is_terms unrefused same =
+    ap (quote_on d others place c field) is_terms
+    ∙ ap (λ refusal. Ok (told_at d others place c field terms refusal)) unrefused
+    ∙ ap (λ table. Ok (told_beside table c field)) (sym same)
+
+pub told-ok : (r : Result Quoted QuoteFault) (told : Told) (whole : Result Told QuoteFault) → whole ≡ Ok told
+    → IfOk r (λ quoted. told ≡ (quoted.text.items, quoted.is_found)) → IfOk r (λ quoted. whole ≡ Ok (quoted.text.items, quoted.is_found))
+told-ok (Ok quoted) told whole is holds = is ∙ ap Ok holds
+told-ok (Err fault) told whole is holds = holds

@@ -1,0 +1,13 @@
+use Rattle.std.proofs.Common.{rules, ◌≡◌, None, Some}
+use Rattle.ds_checker.specs.Acceptance.{refusal_of}
+use Rattle.ds_quotes.specs.Quotes.{least_terms, with_least}
+use Rattle.dsedge_texts.proofs.QuoteLemmas.{quote-over, told-ok}
+use Rattle.dsedge_texts.proofs.quoting.quote_beside.Goals as goal
+
+pub returns-in-Ok-clause-ok : goal.returns-in-Ok-clause-ok
+returns-in-Ok-clause-ok c =
+    let is_terms : least_terms c.args.field c.args.contract.terms ≡ Some c.in-Some.terms = search rules in
+    let unrefused : refusal_of (with_least c.args.domain c.args.others.items) ≡ None = search rules in
+    let same : c.in-Ok.accepted ≡ with_least c.args.domain c.args.others.items = search rules in
+    let e = quote-over c.args.domain c.args.others.items c.args.place c.args.contract c.args.field c.in-Some.terms c.in-Ok.accepted is_terms unrefused same in
+    told-ok c.quote_over.result _ _ e c.quote_over.ensures.told

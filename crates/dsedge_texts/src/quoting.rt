@@ -1,0 +1,300 @@
+ghost use Rattle.std.specs.Prelude.{◌≡◌, ◌⊎◌, ◌++◌, ◌≤◌, Err, IfErr, IfOk, IfSome, IsSome, None, Ok, OnOk, false, length, true};
+ghost use Rattle.std.specs.List.{list_all};
+ghost use Rattle.ds_certificate.specs.Bounds.{fits};
+ghost use Rattle.ds_checker.specs.Acceptance.{refusal_of};
+ghost use Rattle.ds_quotes.specs.Quotes.{least_terms, with_least};
+ghost use Rattle.dsedge_texts.specs.Quoted.{none_lines, quote_at, quote_in, quote_on, told_beside, told_none};
+ghost use Rattle.dsedge_texts.specs.Quoted.{value_line};
+ghost use Rattle.dsedge_texts.specs.Wording.{place_named};
+
+use crate::certifying::least_certificate;
+use crate::refusing::RefusalLine;
+use crate::wording::push_figure;
+use ds_checker::{Accepted, Candidate, Refusal, check};
+use ds_domain::{Contract, Domain, DomainFault, Kind, Terms, parse};
+use ds_quotes::{Field, greatest, least_refusal};
+use std::alloc::{AllocError, Global};
+
+/// What is answered to a quote.
+#[derive(Debug, Drop)]
+pub struct Quoted {
+    /// The lines.
+    pub text: Vec<u8>,
+    /// Whether they tell a value.
+    pub is_found: bool,
+}
+
+/// Why a domain text gives no quote.
+#[derive(Debug, Drop)]
+pub enum QuoteFault {
+    /// The text has a fault.
+    Domain(DomainFault),
+    /// It has no contract of the name.
+    Unnamed,
+    /// The contract has no such field.
+    NoField,
+    /// Memory ran out.
+    NoMemory,
+}
+
+/// The greatest value of a field of the contract of a name in a domain text, with which the contract is valid and the
+/// checker accepts the least certificate of all, all else being as the text says it: `FIELD VALUE`. Where no value is,
+/// `none`, and on a line behind it what the checker says with the least value that is valid.
+///
+/// Refused: `Domain` with the first fault of the text, `Unnamed`, `NoField`, in this order; `NoMemory` where memory runs
+/// out.
+pub fn quote(alloc: Global, text: &[u8], name: &[u8], field: Field) -> Result<Quoted, QuoteFault>
+    ensures ok { IfOk result (λ quoted. quote_in text.now name.now field ≡ Ok (quoted.text.items, quoted.is_found)) }
+    ensures refused { IfErr result (λ fault. (fault ≡ QuoteFault.NoMemory)
+        ⊎ (quote_in text.now name.now field ≡ Err fault)) }
+{
+    match parse(alloc, text) {
+        Ok((domain, contracts)) => quote_named(alloc, domain, contracts, name, field),
+        Err(fault) if fault.kind == Kind::NoMemory => Err(QuoteFault::NoMemory),
+        Err(fault) => Err(QuoteFault::Domain(fault)),
+    }
+}
+
+/// The same of contracts that fit a domain.
+fn quote_named(
+    alloc: Global,
+    domain: Domain,
+    contracts: Vec<Contract>,
+    name: &[u8],
+    field: Field,
+) -> Result<Quoted, QuoteFault>
+    requires { list_all (fits domain) contracts.items ≡ true }
+    ensures ok { IfOk result (λ quoted. quote_at domain contracts.items field (place_named contracts.items name.now)
+        ≡ Ok (quoted.text.items, quoted.is_found)) }
+    ensures refused { IfErr result (λ fault. (fault ≡ QuoteFault.NoMemory)
+        ⊎ (quote_at domain contracts.items field (place_named contracts.items name.now) ≡ Err fault)) }
+{
+    match place_named(contracts.as_slice(), name) {
+        Some(place) => {
+            let mut others = contracts;
+            let contract = others.remove(place);
+            quote_beside(alloc, domain, others, place, contract, field)
+        }
+        None => Err(QuoteFault::Unnamed),
+    }
+}
+
+/// Where the first contract of a name stands, if one has it.
+fn place_named(contracts: &[Contract], name: &[u8]) -> Option<usize>
+    ensures { result ≡ place_named contracts.now name.now }
+{
+    contracts
+        .iter()
+        .position(|contract| contract.name.bytes() == name)
+}
+
+/// The same of a contract beside others, before the one of a place.
+fn quote_beside(
+    alloc: Global,
+    domain: Domain,
+    others: Vec<Contract>,
+    place: usize,
+    contract: Contract,
+    field: Field,
+) -> Result<Quoted, QuoteFault>
+    requires fit { list_all (fits domain) others.items ≡ true }
+    requires own { fits domain contract ≡ true }
+    requires place { place ≤ length others.items }
+    ensures ok { IfOk result (λ quoted. quote_on domain others.items place contract field (least_terms field contract.terms)
+        ≡ Ok (quoted.text.items, quoted.is_found)) }
+    ensures refused { IfErr result (λ fault. (fault ≡ QuoteFault.NoMemory)
+        ⊎ (quote_on domain others.items place contract field (least_terms field contract.terms) ≡ Err fault)) }
+{
+    let Some(terms) = field.least_terms(&contract.terms) else {
+        return Err(QuoteFault::NoField);
+    };
+    match accepted_by(alloc, domain, others) {
+        Ok(accepted) => quote_over(alloc, &accepted, &contract, field),
+        Err(Some((domain, others))) => none_of(alloc, domain, others, place, contract, terms),
+        Err(None) => Err(QuoteFault::NoMemory),
+    }
+}
+
+/// The table of contracts that fit a domain, with their least certificate; or domain and contracts again where the
+/// checker refuses them, and nothing where memory runs out.
+fn accepted_by(
+    alloc: Global,
+    domain: Domain,
+    contracts: Vec<Contract>,
+) -> Result<Accepted, Option<(Domain, Vec<Contract>)>>
+    requires { list_all (fits domain) contracts.items ≡ true }
+    ensures accepted { IfOk result (λ accepted. accepted ≡ with_least domain contracts.items) }
+    ensures unrefused { OnOk result (refusal_of (with_least domain contracts.items) ≡ None) }
+    ensures refused { IfErr result (λ back. IfSome back
+        (λ back. (back.0 ≡ domain) × (back.1.items ≡ contracts.items)
+        × IsSome (refusal_of (with_least domain contracts.items)))) }
+{
+    let Ok(certificate) = least_certificate(alloc, &domain, contracts.as_slice()) else {
+        return Err(None);
+    };
+    let candidate = Candidate {
+        domain,
+        contracts,
+        certificate,
+    };
+    match check(alloc, candidate) {
+        Ok(accepted) => Ok(accepted),
+        Err((_, Refusal::NoMemory)) => Err(None),
+        Err((candidate, _)) => Err(Some(parts_of(candidate))),
+    }
+}
+
+/// The domain and the contracts of a candidate.
+fn parts_of(candidate: Candidate) -> (Domain, Vec<Contract>)
+    ensures { (result.0 ≡ candidate.domain) × (result.1.items ≡ candidate.contracts.items) }
+{
+    let Candidate {
+        domain,
+        contracts,
+        certificate: _,
+    } = candidate;
+    (domain, contracts)
+}
+
+/// What is answered to a quote beside an accepted table.
+fn quote_over(
+    alloc: Global,
+    accepted: &Accepted,
+    contract: &Contract,
+    field: Field,
+) -> Result<Quoted, QuoteFault>
+    ensures told { IfOk result (λ quoted. told_beside accepted.now contract.now field
+        ≡ (quoted.text.items, quoted.is_found)) }
+    ensures memory { IfErr result (λ fault. fault ≡ QuoteFault.NoMemory) }
+{
+    let mut text = Vec::new(alloc);
+    match push_quote(alloc, &mut text, accepted, contract, field) {
+        Ok(is_found) => Ok(Quoted { text, is_found }),
+        Err(_) => Err(QuoteFault::NoMemory),
+    }
+}
+
+/// Appends the greatest value of a field of a contract beside an accepted table, `FIELD VALUE`; or `none`, and behind it
+/// the checker's line for the least valid value, if there is one. Tells whether there was a value.
+pub fn push_quote(
+    alloc: Global,
+    text: &mut Vec<u8>,
+    accepted: &Accepted,
+    contract: &Contract,
+    field: Field,
+) -> Result<bool, AllocError>
+    ensures text { OnOk result (text.new.items
+        ≡ text.old.items ++ (told_beside accepted.now contract.now field).0) }
+    ensures found { IfOk result (λ found. found ≡ (told_beside accepted.now contract.now field).1) }
+{
+    match greatest(accepted, contract, field) {
+        Some(value) => {
+            push_value(text, field, value)?;
+            Ok(true)
+        }
+        None => {
+            let refusal = least_refusal(accepted, contract, field);
+            push_none(alloc, text, accepted.contracts(), refusal)?;
+            Ok(false)
+        }
+    }
+}
+
+/// Appends the value of a field: `FIELD VALUE`.
+fn push_value(text: &mut Vec<u8>, field: Field, value: u64) -> Result<(), AllocError>
+    ensures { OnOk result (text.new.items ≡ text.old.items ++ value_line field value) }
+{
+    text.extend_from_slice(field.text())?;
+    push_figure(text, value)?;
+    text.push(b'\n')?;
+    Ok(())
+}
+
+/// Appends `none`, and the checker's line of a refusal of some contracts, if there is one.
+fn push_none(
+    alloc: Global,
+    text: &mut Vec<u8>,
+    contracts: &[Contract],
+    refusal: Option<Refusal>,
+) -> Result<(), AllocError>
+    ensures { OnOk result (text.new.items ≡ text.old.items ++ none_lines contracts.now refusal) }
+{
+    text.extend_from_slice(b"none\n")?;
+    match refusal {
+        Some(refusal) => {
+            let line = RefusalLine::new(alloc, contracts, &refusal)?;
+            text.extend_from_slice(line.bytes())
+        }
+        None => Ok(()),
+    }
+}
+
+/// What is answered where the others are refused without a contract: what the checker says with it on some terms.
+fn none_of(
+    alloc: Global,
+    domain: Domain,
+    others: Vec<Contract>,
+    place: usize,
+    contract: Contract,
+    terms: Terms,
+) -> Result<Quoted, QuoteFault>
+    requires fit { list_all (fits domain) others.items ≡ true }
+    requires own { fits domain contract ≡ true }
+    requires place { place ≤ length others.items }
+    ensures told { IfOk result (λ quoted. told_none domain others.items place contract terms
+        ≡ (quoted.text.items, quoted.is_found)) }
+    ensures memory { IfErr result (λ fault. fault ≡ QuoteFault.NoMemory) }
+{
+    let mut contracts = others;
+    let mut contract = contract;
+    contract.terms = terms;
+    let Ok(()) = contracts.insert(place, contract) else {
+        return Err(QuoteFault::NoMemory);
+    };
+    none_with(alloc, domain, contracts)
+}
+
+/// `none`, and what the checker says of contracts that fit a domain with their least certificate.
+fn none_with(alloc: Global, domain: Domain, contracts: Vec<Contract>) -> Result<Quoted, QuoteFault>
+    requires { list_all (fits domain) contracts.items ≡ true }
+    ensures told { IfOk result (λ quoted.
+        (quoted.text.items ≡ none_lines contracts.items (refusal_of (with_least domain contracts.items)))
+        × (quoted.is_found ≡ false)) }
+    ensures memory { IfErr result (λ fault. fault ≡ QuoteFault.NoMemory) }
+{
+    let Ok(certificate) = least_certificate(alloc, &domain, contracts.as_slice()) else {
+        return Err(QuoteFault::NoMemory);
+    };
+    let candidate = Candidate {
+        domain,
+        contracts,
+        certificate,
+    };
+    match check(alloc, candidate) {
+        Ok(accepted) => none_told(alloc, accepted.contracts(), None),
+        Err((_, Refusal::NoMemory)) => Err(QuoteFault::NoMemory),
+        Err((candidate, refusal)) => {
+            none_told(alloc, candidate.contracts.as_slice(), Some(refusal))
+        }
+    }
+}
+
+/// `none`, and the checker's line of a refusal of some contracts, if there is one.
+fn none_told(
+    alloc: Global,
+    contracts: &[Contract],
+    refusal: Option<Refusal>,
+) -> Result<Quoted, QuoteFault>
+    ensures told { IfOk result (λ quoted. (quoted.text.items ≡ none_lines contracts.now refusal)
+        × (quoted.is_found ≡ false)) }
+    ensures memory { IfErr result (λ fault. fault ≡ QuoteFault.NoMemory) }
+{
+    let mut text = Vec::new(alloc);
+    match push_none(alloc, &mut text, contracts, refusal) {
+        Ok(()) => Ok(Quoted {
+            text,
+            is_found: false,
+        }),
+        Err(_) => Err(QuoteFault::NoMemory),
+    }
+}

@@ -1,0 +1,106 @@
+use crate::drive_rows::expect_of_drive;
+use crate::rows::run_on_domain;
+use std::alloc::Global;
+use std::process::Abort;
+use std::sync::Wait;
+use std::thread::Threads;
+use std::test::Fail;
+use worked_texts::{tight, wide};
+
+/// Expects of words on a domain an output, what is told, and a status.
+fn expect_on_domain(
+    rt: &(impl Abort + Wait + Threads + Sync),
+    alloc: Global,
+    (words, domain): (&str, &str),
+    (output, told, status): (&str, &str, u8),
+) -> Result<(), Fail> {
+    let done = run_on_domain(rt, alloc, words, domain)?;
+    assert_eq!(rt; done.output.as_slice(), output.as_bytes(), "{words}");
+    assert_eq!(rt; done.told.as_slice(), told.as_bytes(), "{words}");
+    assert_eq!(rt; done.status, status, "{words}");
+    Ok(())
+}
+
+#[test]
+fn what_is_left_at_the_meters(rt: HostRuntime) -> Result<(), Fail> {
+    let domain = wide(rt.alloc())?;
+    let lines = "m GreenRate 16000000 24000000\nm GreenBurst 9000 13500\n\
+        m AllRate 16000000 24000000\nm AllBurst 9000 13500\n";
+    let words = ("headroom domain.toml", domain.as_str());
+    expect_on_domain(&rt, rt.alloc(), words, (lines, "", 0))?;
+    let domain = tight(rt.alloc())?;
+    let refused = "refused 5 GreenBurst m 9000 4500\n";
+    let words = ("headroom domain.toml", domain.as_str());
+    expect_on_domain(&rt, rt.alloc(), words, (refused, "", 1))
+}
+
+#[test]
+fn what_a_contract_may_have_at_most(rt: HostRuntime) -> Result<(), Fail> {
+    let domain = wide(rt.alloc())?;
+    for (words, wanted) in [
+        (
+            "quote domain.toml --contract b --most cbs",
+            ("cbs 7500\n", "", 0),
+        ),
+        (
+            "quote domain.toml --contract zz --most cbs",
+            ("", "dsedge: contract zz\n", 3),
+        ),
+        (
+            "quote domain.toml --contract b --most pir",
+            ("", "dsedge: usage\n", 2),
+        ),
+        (
+            "quote domain.toml --contract b --most skew",
+            ("", "dsedge: usage\n", 2),
+        ),
+        ("quote domain.toml --contract b", ("", "dsedge: usage\n", 2)),
+    ] {
+        expect_on_domain(&rt, rt.alloc(), (words, domain.as_str()), wanted)?;
+    }
+    let domain = tight(rt.alloc())?;
+    let words = ("quote domain.toml --contract b --most cbs", domain.as_str());
+    let none = ("none\nrefused 5 GreenBurst m 6000 4500\n", "", 1);
+    expect_on_domain(&rt, rt.alloc(), words, none)
+}
+
+/// Quotes of a broker, before and behind a sale: beside what is held, but the contract of the same name.
+const QUOTED: [(&str, &str); 10] = [
+    (
+        "headroom",
+        "m GreenRate 0 16000000\nm GreenBurst 0 4500\nm AllRate 0 24000000\nm AllBurst 0 13500",
+    ),
+    ("quote b cbs", "cbs 3000"),
+    ("reserve a", "granted 1 1 0"),
+    ("quote b cbs", "none\nrefused 5 GreenBurst m 6000 4500"),
+    ("quote a cbs", "cbs 3000"),
+    ("quote a cir", "cir 8000000"),
+    ("quote zz cbs", "refused 1 UnknownName"),
+    ("quote a pir", "none"),
+    (
+        "headroom",
+        "m GreenRate 8000000 16000000\nm GreenBurst 4500 4500\n\
+        m AllRate 8000000 24000000\nm AllBurst 4500 13500",
+    ),
+    ("look", "serial 1 contracts 1"),
+];
+
+#[test]
+fn quotes_of_a_broker(rt: HostRuntime) -> Result<(), Fail> {
+    let alloc = rt.alloc();
+    let mut lines = String::new(alloc);
+    let mut answers = String::new(alloc);
+    for (line, answer) in QUOTED {
+        lines.push_str(line)?;
+        lines.push('\n')?;
+        answers.push_str(answer)?;
+        answers.push('\n')?;
+    }
+    let domain = tight(alloc)?;
+    expect_of_drive(
+        &rt,
+        alloc,
+        (domain.as_str(), lines.as_str()),
+        (answers.as_str(), "", 0),
+    )
+}
