@@ -1,0 +1,13 @@
+//! The ledger of a broker's book in an SQLite file.
+#![tactic(auto)]
+
+mod fault;
+mod file;
+mod form;
+mod ledger;
+mod making;
+mod reading;
+
+pub use file::open_ledger;
+pub use ledger::SqlLedger;
+pub use reading::ledger_over;

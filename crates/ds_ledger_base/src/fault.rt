@@ -1,0 +1,27 @@
+use thiserror::Error;
+
+/// Why a ledger could not be opened, read or written.
+#[derive(Clone, Copy, Debug, PartialEq, Eq, Drop, Error)]
+pub enum LedgerFault {
+    /// The file is no database.
+    #[error("the file is no database")]
+    NoDatabase,
+    /// The file is a database that is damaged, or a row of it is no command.
+    #[error("the file is damaged")]
+    Damaged,
+    /// The file is a database of another form.
+    #[error("the file is of another form")]
+    Form,
+    /// The file is kept by another broker.
+    #[error("another broker keeps the file")]
+    Busy,
+    /// The file cannot be opened or made.
+    #[error("the file cannot be opened")]
+    Open,
+    /// The disk is full or failed.
+    #[error("the disk is full or failed")]
+    Write,
+    /// Memory ran out.
+    #[error("out of memory")]
+    NoMemory,
+}
