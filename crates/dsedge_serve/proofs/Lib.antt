@@ -1,3 +1,4 @@
 pub mod AdviceLemmas
 pub mod FrontLemmas
+pub mod QuoteLemmas
 pub mod StartLemmas

@@ -1,10 +1,10 @@
-ghost use Rattle.std.specs.Prelude.{◌≡◌, false, length, map};
+ghost use Rattle.std.specs.Prelude.{◌≡◌, false, length, map, true};
 ghost use Rattle.dsedge_base.specs.Files.{files_of, port_of};
 ghost use Rattle.dsedge_lines.specs.Faults.{is_read_fault, is_write_fault};
 ghost use Rattle.dsedge_serve.specs.Served.{IsForeseen, IsRefusedBefore};
 ghost use Rattle.dsedge_serve.specs.Served.{IsAnswered, IsOfWrites, IsServed, IsTold, Reply};
 ghost use Rattle.dsedge_serve.specs.Served.{is_broken_off, is_input_fault, is_misused, is_output_fault, notice_of};
-ghost use Rattle.dsedge_serve.specs.Served.{reply_against, reply_by, reply_of, reply_on, reply_over, reply_told};
+ghost use Rattle.dsedge_serve.specs.Served.{reply_by, reply_of, reply_on, reply_over, reply_told};
 ghost use Rattle.dsedge_serve.specs.Served.{status_after, status_for, told_after, told_of};
 ghost use Rattle.dsedge_serve.specs.Advised.{advice_after, advice_for, advice_on};
 ghost use Rattle.dsedge_serve.specs.Faults.{fault_text};
@@ -116,22 +116,10 @@ fn answer_check<O: Outlet>(
 {
     match accept(alloc, domain, certificate) {
         Ok(_) => answer_text(b"accepted\n", Ending::Whole, output),
-        Err(fault) => answer_against(fault, output),
-    }
-}
-
-/// Answers with what stands against a table.
-fn answer_against<O: Outlet>(fault: TableFault, output: &mut O) -> Result<Conclusion, PumpFault>
-    ensures served { O.tells output.old →
-        IsServed (reply_against fault) result (O.held output.old) (O.held output.new) }
-    ensures writes { IsOfWrites (is_write_fault result) (O.failed output.old) (O.failed output.new) }
-    ensures reads { is_read_fault result ≡ false }
-{
-    match fault {
-        TableFault::Refused(line) => answer_text(line.bytes(), Ending::Refused, output),
-        TableFault::Domain(fault) => Ok(Conclusion::Unsound(fault)),
-        TableFault::Certificate(fault) => Ok(Conclusion::Uncertified(fault)),
-        TableFault::NoMemory => Err(PumpFault::NoMemory),
+        Err(TableFault::Refused(line)) => answer_text(line.bytes(), Ending::Refused, output),
+        Err(TableFault::Domain(fault)) => Ok(Conclusion::Unsound(fault)),
+        Err(TableFault::Certificate(fault)) => Ok(Conclusion::Uncertified(fault)),
+        Err(TableFault::NoMemory) => Err(PumpFault::NoMemory),
     }
 }
 
@@ -149,7 +137,10 @@ fn answer_headroom<O: Outlet>(
 {
     match headroom(alloc, domain) {
         Ok(lines) => answer_text(lines.as_slice(), Ending::Whole, output),
-        Err(fault) => answer_against(fault, output),
+        Err(TableFault::Refused(line)) => answer_text(line.bytes(), Ending::Refused, output),
+        Err(TableFault::Domain(fault)) => Ok(Conclusion::Unsound(fault)),
+        Err(TableFault::Certificate(fault)) => Ok(Conclusion::Uncertified(fault)),
+        Err(TableFault::NoMemory) => Err(PumpFault::NoMemory),
     }
 }
 
