@@ -27,10 +27,7 @@ fn begins(rt: &impl Abort, alloc: Global, ways: &Ways<'_>, flow: u32) -> bool {
 /// Of which of the first two flows packets can begin over a table.
 fn begun_over(rt: &impl Abort, alloc: Global, numbered: &Numbered<'_>) -> (bool, bool) {
     let ways = Ways::of_numbered(alloc, numbered).expect(rt, "memory");
-    (
-        begins(rt, alloc, &ways, 0),
-        begins(rt, alloc, &ways, 1),
-    )
+    (begins(rt, alloc, &ways, 0), begins(rt, alloc, &ways, 1))
 }
 
 /// Of which of the first two flows packets can begin, as a feed sees it.

@@ -44,10 +44,7 @@ fn site_of_flow(rt: &impl Abort, alloc: Global, ways: &Ways<'_>, flow: u32) -> O
     let size = PacketSize::new(100).expect(rt, "a size");
     let dscp = Dscp::new(10).expect(rt, "a code point");
     let at = Moment::new(2_000_000_000).expect(rt, "a moment");
-    first_site(
-        rt,
-        Traveller::begin(alloc, ways, flow, 1, size, dscp, at),
-    )
+    first_site(rt, Traveller::begin(alloc, ways, flow, 1, size, dscp, at))
 }
 
 /// Whether the contract of a flow is the one of a name; for none, whether there is no such contract.

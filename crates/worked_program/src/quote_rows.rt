@@ -3,8 +3,8 @@ use crate::rows::run_on_domain;
 use std::alloc::Global;
 use std::process::Abort;
 use std::sync::Wait;
-use std::thread::Threads;
 use std::test::Fail;
+use std::thread::Threads;
 use worked_texts::{tight, wide};
 
 /// Expects of words on a domain an output, what is told, and a status.
