@@ -1,4 +1,4 @@
-ghost use Rattle.std.specs.Prelude.{◌≡◌, ◌++◌, false, Some, Ok, MatchResult, is_ok, if◌then◌else◌};
+ghost use Rattle.std.specs.Prelude.{◌≡◌, ◌++◌, false, true, Some, Ok, MatchResult, is_ok, if◌then◌else◌};
 ghost use Rattle.ds_conductor.specs.Reports.{nothing_read};
 ghost use Rattle.ds_domain_base.specs.Domains.{is_port};
 ghost use Rattle.pcap_capture.specs.Fronts.{IsFrontOf};
@@ -6,7 +6,7 @@ ghost use Rattle.dsedge_serve.specs.Advised.{marking_advice};
 ghost use Rattle.dsedge_serve.specs.Marked.{capture_fault, marking_fault, marking_fault_text, marking_status};
 ghost use Rattle.dsedge_serve.specs.Marked.{marking_told, refusal_outcome};
 ghost use Rattle.dsedge_serve.specs.Served.{IsMarkedAt, IsOfWrites, IsPortlessBefore, IsRefusedBefore};
-ghost use Rattle.dsedge_serve.specs.Served.{is_broken_off, is_input_fault, is_output_fault};
+ghost use Rattle.dsedge_serve.specs.Served.{is_broken_off, is_input_fault, is_misused, is_output_fault};
 ghost use Rattle.dsedge_texts.specs.Accepted.{accepted_in};
 ghost use Rattle.pcap_capture.specs.Counts.{IsOfReads, next_count};
 
@@ -44,6 +44,7 @@ pub(crate) fn answer_mark<R: Threads + Sync, I: Intake, O: Outlet>(
     ensures writes { IsOfWrites (is_output_fault result) (O.failed output.old) (O.failed output.new) }
     ensures reads { is_broken_off result ≡ false
         → IsOfReads (is_input_fault result) (I.failed intake.old) (I.failed intake.new) (I.calls intake.new) }
+    ensures misused { is_misused result ≡ true → O.held output.new ≡ O.held output.old }
 {
     match accept(alloc, domain, certificate) {
         Ok(accepted) => mark_over(rt, alloc, &accepted, port, workers, red, intake, output),
@@ -70,6 +71,7 @@ fn mark_over<R: Threads + Sync, I: Intake, O: Outlet>(
     ensures writes { IsOfWrites (is_output_fault result) (O.failed output.old) (O.failed output.new) }
     ensures reads { is_broken_off result ≡ false
         → IsOfReads (is_input_fault result) (I.failed intake.old) (I.failed intake.new) (I.calls intake.new) }
+    ensures misused { is_misused result ≡ true → O.held output.new ≡ O.held output.old }
 {
     match mark(
         rt, alloc, accepted, port, workers, red, intake, output, &OpenGate,
