@@ -38,8 +38,10 @@ impl PartialEq for Name {
 
     ghost laws = { partial_equiv_from_equiv nat_list_eq_equiv };
 
+    #[tactic(auto, using(crate::proofs::NameLaws::same_name))]
     fn eq(&self, other: &Name) -> bool {
-        self.bytes() == other.bytes()
+        // Places behind the characters are 0, so that all 32 are compared at once.
+        self.count == other.count && self.characters == other.characters
     }
 }
 
