@@ -311,11 +311,11 @@ impl Accepted {
     }
 }
 
-/// The same contracts again.
+/// The same contracts again, with room for one more: what is copied mostly takes one up next.
 fn copied(alloc: Global, contracts: &[Contract]) -> Result<Vec<Contract>, AllocError>
     ensures { IfOk result (λ copied. copied.items ≡ contracts.now) }
 {
-    let mut copied = Vec::with_capacity(alloc, contracts.len())?;
+    let mut copied = Vec::with_capacity(alloc, contracts.len() + 1)?;
     for contract in contracts {
         let Ok(contract) = contract.copy(alloc) else {
             return Err(AllocError);
