@@ -7,11 +7,16 @@ use Rattle.std.proofs.lemmas.List.{map-append}
 use Rattle.ds_domain_base.specs.Lifetimes.{Span}
 use Rattle.ds_domain_base.specs.declared.contract.Contract.{Contract}
 use Rattle.ds_checker.specs.Acceptance.{Table}
-use Rattle.ds_checker.specs.Changes.{with_lifetime, without_contract}
+use Rattle.ds_checker.specs.Changes.{with_contract, with_lifetime, without_contract}
+use Rattle.ds_certificate.specs.Bounds.{least_of}
+use Rattle.ds_certificate.specs.Columns.{Bound}
+use Rattle.ds_domain_base.specs.Domains.{Domain}
 use Rattle.ds_broker.specs.Books.{Book, held_of, moment_in, newest_of, standing, table_in, table_of, table_with, with_command}
 use Rattle.ds_broker.specs.Entries.{flows_of}
 use Rattle.ds_broker.specs.Found.{IsFound}
-use Rattle.ds_broker.specs.Histories.{Holding, begun, ended, with_released}
+use Rattle.ds_broker.specs.Changes.{table_changed}
+use Rattle.ds_broker.specs.declared.change.Step.{Step}
+use Rattle.ds_broker.specs.Histories.{Holding, beginning, begun, ended, with_released}
 use Rattle.ds_broker.specs.Kept.{IsBook, book_of, ids_in}
 use Rattle.ds_broker.specs.declared.book.Book.TheInside as book
 use Rattle.ds_broker.specs.declared.command.Command.TheVariants.{Reserve, Release, Retire}
@@ -24,6 +29,20 @@ pub table-after-reserve : (b : Book) (c : Contract) (own next : Table) (since : 
     → next ≡ table_with since c own → next ≡ table_of (with_command b (Reserve c))
 table-after-reserve b c own next since is moment admitted =
     admitted ∙ ap (λ m. table_with m c own) moment ∙ ap (λ t. table_with (moment_in b c.lifetime.since) c t) is ∙ sym (table-reserved b c)
+
+-- a contract more that begins at a moment, with its least bounds
+pub grown : (b : Book) (c begun : Contract) (row : List Bound) (d : Domain) (since : ℕ) → d ≡ b.domain → begun ≡ beginning since c → row ≡ least_of d (beginning since c)
+    → with_contract (table_of b) begun row ≡ table_with since c (table_of b)
+grown b c begun row d since domain begins least =
+    ap (λ k. with_contract (table_of b) k row) begins
+    ∙ ap (with_contract (table_of b) (beginning since c)) (least ∙ ap (λ x. least_of x (beginning since c)) domain)
+
+-- a step that leads to the table with a contract more takes it up
+pub step-reserved : (b : Book) (c : Contract) (step : Step) (own next : Table) (since : ℕ) → own ≡ table_of b → since ≡ moment_in b c.lifetime.since
+    → table_of (with_command b (Reserve c)) ≡ table_changed step (table_of b) → next ≡ table_changed step own → next ≡ table_with since c own
+step-reserved b c step own next since is moment leads taken =
+    taken ∙ ap (table_changed step) is ∙ sym leads ∙ table-reserved b c
+    ∙ ap (λ m. table_with m c (table_of b)) (sym moment) ∙ ap (table_with since c) (sym is)
 
 -- with a contract released
 pub table-after-release : (b : Book) (id at place : ℕ) (released : Bool) (lifetime : Span) (own next : Table) → own ≡ table_of b

@@ -14,7 +14,8 @@ use Rattle.ds_certificate.specs.Bounds.{fits}
 use Rattle.ds_checker.specs.Acceptance.{Table}
 use Rattle.ds_broker.specs.Books.{Book, held_of, is_held, is_history_full, is_table_full, moment_in, table_of}
 use Rattle.ds_broker.specs.Found.{IsFound}
-use Rattle.ds_broker.specs.Refusals.{contract_fault, ends_early, fault_or, free_from, release_refusal, release_refusal_at, retire_refusal, retire_refusal_at, room_refusal}
+use Rattle.ds_broker.specs.declared.refusal.BrokerRefusal.{BrokerRefusal}
+use Rattle.ds_broker.specs.Refusals.{contract_fault, ends_early, fault_or, free_from, refusal_or_checked, release_refusal, release_refusal_at, retire_refusal, retire_refusal_at, room_refusal}
 use Rattle.ds_broker.specs.declared.refusal.BrokerRefusal.TheVariants.{HistoryFull, TableFull}
 
 pub fault-twice : (b : Book) (c : Contract) → is_held c.name (held_of b) ≡ true → contract_fault b c ≡ Some (fault_at kinds.Twice sections.Contract 0 fields.Name)
@@ -59,6 +60,11 @@ passed b c none =
     let fine = no_fault (is_held c.name (held_of b)) (ends_early (moment_in b c.lifetime.since) c.lifetime.until) (fault_at kinds.Twice sections.Contract 0 fields.Name)
     (fault_at kinds.Range sections.Contract 0 fields.Until) (way_fault 0 b.domain c.port c.path) all.0 in
     record { new = fine.0; ordered = fine.1; way = fine.2; table = all.1; history = all.2 }
+
+-- where nothing stands against a reserve, nothing does before the checker is asked
+pub roomy : (o : Option BrokerRefusal) (b : Book) (c : Contract) → refusal_or_checked o b c ≡ None → o ≡ None
+roomy None b c none = refl
+roomy (Some refusal) b c none = none
 
 above : (since until : ℕ) → nat_lt until since ≡ false → since ≤ until
 above since until is = grind (arith, is)

@@ -1,4 +1,5 @@
 pub mod Books
+pub mod Changes
 pub mod Entries
 pub mod Faults
 pub mod Found

@@ -3,8 +3,8 @@ ghost use Rattle.std.specs.Prelude.{OnErr, OnOk, length};
 ghost use Rattle.std.specs.Prelude.{◌<◌, IfNone, IsTrue, option_map, slice_get, unwrap_or, vec_capacity, vec_len};
 ghost use Rattle.std.specs.Bool.{OnFalse};
 ghost use Rattle.std.specs.List.{list_any};
-ghost use Rattle.ds_certificate.specs.Bounds.{fits};
-ghost use Rattle.ds_checker.specs.Acceptance.{IsAcceptable, refusal_of};
+ghost use Rattle.ds_certificate.specs.Bounds.{fits, least_of};
+ghost use Rattle.ds_checker.specs.Acceptance.{IsAcceptable};
 ghost use Rattle.ds_domain_base.specs.Faults.{fault_at};
 ghost use Rattle.ds_domain_base.specs.Lifetimes.{IsInOrder};
 ghost use Rattle.std.specs.HashSet.{spare};
@@ -12,7 +12,8 @@ ghost use Rattle.std.specs.Str.{bytes_eq};
 ghost use Rattle.ds_quotes.specs.Quotes.{others_of, quote_of};
 ghost use Rattle.ds_broker.specs.Books as books;
 ghost use Rattle.ds_broker.specs.Books.{held_of, holding_of, is_history_full, moment_in, newest_of};
-ghost use Rattle.ds_broker.specs.Books.{table_of, table_with, with_command};
+ghost use Rattle.ds_broker.specs.Books.{table_of, with_command};
+ghost use Rattle.ds_broker.specs.Changes.{IsChange};
 ghost use Rattle.ds_broker.specs.Entries.{entries_of, entry_in, grant_of, next_serial, room_of, told_of};
 ghost use Rattle.ds_broker.specs.Found.{IsFound};
 ghost use Rattle.ds_broker.specs.Histories.{Holding, beginning, end_by, ended};
@@ -20,11 +21,12 @@ ghost use Rattle.ds_broker.specs.Refusals.{IsRefusal, contract_fault, ends_early
 ghost use Rattle.ds_broker.specs.Refusals.{reserve_refusal, retire_refusal, room_refusal};
 ghost use Rattle.ds_broker.specs.Requests.{AreUnrefused};
 
+use crate::change::Change;
 use crate::command::Command;
 use crate::entry::{Entry, Grant, Room, Serial};
 use crate::limits::Limits;
 use crate::refusal::BrokerRefusal;
-use ds_certificate::Certificate;
+use ds_certificate::{Bounds, Certificate, least_bounds};
 use ds_checker::{Accepted, Candidate, check};
 use ds_domain_base::{Contract, Domain, DomainFault, Field, Kind, Lifetime, Name, Section, fits};
 use ds_quotes::greatest_beside;
@@ -123,9 +125,26 @@ impl Book {
         ensures refused { IfErr result (λ refused. IsRefusal (reserve_refusal self.old contract) refused.1) }
         ensures unchanged { OnErr result (self.new ≡ self.old) }
     {
-        if let Some(refusal) = self.refusal_against(&contract) {
-            return Err((contract, refusal));
+        let alloc = *self.ids.allocator();
+        let change = match self.growth(alloc, &contract) {
+            Ok(change) => change,
+            Err(refusal) => return Err((contract, refusal)),
+        };
+        match self.reserve_by(contract, &change) {
+            Ok(grant) => Ok(grant),
+            Err(contract) => Err((contract, BrokerRefusal::NoMemory)),
         }
+    }
+
+    /// Grants a contract, as `reserve` does, by the change that its command makes, as `change` tells it: it is not tested
+    /// again. Where memory runs out it hands the contract back, and the book is unchanged.
+    pub fn reserve_by(&mut self, contract: Contract, change: &Change) -> Result<Grant, Contract>
+        requires { IsChange self.old (Reserve contract) change.now }
+        ensures granted { IfOk result (λ grant. grant ≡ grant_of self.old contract) }
+        ensures accepted { OnOk result (self.new ≡ with_command self.old (Reserve contract)) }
+        ensures back { IfErr result (λ back. back ≡ contract) }
+        ensures unchanged { OnErr result (self.new ≡ self.old) }
+    {
         let serial = self.next_serial();
         let since = self.moment_of(contract.lifetime.since());
         let Ok(()) = make_room(
@@ -134,11 +153,11 @@ impl Book {
             &mut self.names,
             &mut self.history,
         ) else {
-            return Err((contract, BrokerRefusal::NoMemory));
+            return Err(contract);
         };
         let alloc = *self.ids.allocator();
-        let Ok(()) = take(alloc, &mut self.table, &contract, since) else {
-            return Err((contract, BrokerRefusal::NoMemory));
+        let Ok(()) = change.step.change(alloc, &mut self.table) else {
+            return Err(contract);
         };
         let id = self.granted + 1;
         self.ids.push(id).unwrap();
@@ -538,21 +557,19 @@ fn begun(alloc: Global, contract: &Contract, since: Moment) -> Result<Contract, 
     Ok(begun)
 }
 
-/// Takes a contract up in a table, to begin at a moment, with its least bounds, where nothing stands against that;
-/// `AllocError` where memory runs out, and then the table is unchanged.
-fn take(
+/// The same contract, to begin at a moment, and its least bounds; `AllocError` where memory runs out.
+fn begun_row(
     alloc: Global,
-    table: &mut Accepted,
+    domain: &Domain,
     contract: &Contract,
     since: Moment,
-) -> Result<(), AllocError>
-    requires fit { IsTrue (fits table.old.domain contract.now) }
+) -> Result<(Contract, Bounds), AllocError>
+    requires fit { IsTrue (fits domain.now contract.now) }
     requires order { IsInOrder since contract.now.lifetime.until }
-    requires unrefused { refusal_of (table_with since contract.now table.old) ≡ None }
-    ensures taken { OnOk result (table.new ≡ table_with since contract.now table.old) }
-    ensures acceptable { OnOk result (IsAcceptable table.new) }
-    ensures unchanged { OnErr result (table.new ≡ table.old) }
+    ensures begun { IfOk result (λ made. made.0 ≡ beginning since contract.now) }
+    ensures row { IfOk result (λ made. made.1 ≡ least_of domain.now (beginning since contract.now)) }
 {
     let begun = begun(alloc, contract, since)?;
-    table.take_least(alloc, begun)
+    let row = Bounds::new(alloc, least_bounds(alloc, domain, &begun)?)?;
+    Ok((begun, row))
 }

@@ -3,6 +3,7 @@
 #![tactic(auto)]
 
 pub mod book;
+pub mod change;
 pub mod command;
 pub mod entry;
 pub mod laws;
@@ -10,6 +11,7 @@ pub mod limits;
 pub mod refusal;
 
 pub use book::{Book, Next};
+pub use change::{Change, Step};
 pub use command::Command;
 pub use entry::{Entry, Grant, Room, Serial};
 pub use limits::Limits;

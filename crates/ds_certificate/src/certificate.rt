@@ -101,6 +101,16 @@ impl Certificate {
         }
     }
 
+    /// Takes up the bounds of one contract more, behind the others, over the same in memory; `AllocError` where memory
+    /// runs out, and then it is as it was.
+    pub fn push_shared(&mut self, row: Bounds) -> Result<(), AllocError>
+        ensures pushed { OnOk result (self.new ≡ self.old ++ row ∷ []) }
+        ensures unchanged { OnErr result (self.new ≡ self.old) }
+    {
+        self.bounds.push(row)?;
+        Ok(())
+    }
+
     /// Takes out the bounds of the contract at a place; those behind it move up. It takes no memory.
     pub fn remove(&mut self, index: usize) -> Bounds
         requires { index < length self.old }

@@ -177,6 +177,36 @@ impl Accepted {
         }
     }
 
+    /// Takes up one contract more with its bounds, which its copies share, behind the others, where nothing stands against
+    /// the table with it; `AllocError` where memory runs out, and then it is as it was.
+    pub fn take_shared(&mut self, contract: Contract, row: Bounds) -> Result<(), AllocError>
+        requires { refusal_of (with_contract self.old contract row) ≡ None }
+        ensures taken { OnOk result (self.new ≡ with_contract self.old contract row) }
+        ensures acceptable { IsAcceptable self.new }
+        ensures unchanged { OnErr result (self.new ≡ self.old) }
+    {
+        if self.contracts.reserve(1).is_err() {
+            return Err(AllocError);
+        }
+        match self.certificate.push_shared(row) {
+            Ok(()) => {}
+            Err(_) => return Err(AllocError),
+        }
+        let domain: &Domain = &self.domain;
+        let _meters = domain.meters();
+        let row = &self.certificate.bounds()[self.contracts.len()];
+        add_contract(self.sums.as_mut_slice(), domain, &contract, row.hops());
+        match self.contracts.push(contract) {
+            Ok(()) => Ok(()),
+            Err(_) => unreachable!(),
+        }
+    }
+
+    /// Whether it keeps room for several times the contracts that it has. Its value does not tell.
+    pub fn is_roomy(&self) -> bool {
+        self.contracts.capacity() / 4 > self.contracts.len() + 16
+    }
+
     /// The table with one contract more, behind the others, with its bounds, where it is acceptable with it.
     ///
     /// Else it hands both back, and tells what `check` of the table with that contract would: the first test that fails;

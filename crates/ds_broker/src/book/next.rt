@@ -1,10 +1,12 @@
-//! What a book would hold with a command more, on a copy.
-ghost use Rattle.std.specs.Prelude.{◌≡◌, ◌⊎◌, ◌-◌, None, Some, IfErr, IfOk, OnOk, map};
+//! What a command changes in a book, and what the book would hold with it, on a copy.
+ghost use Rattle.std.specs.Prelude.{◌≡◌, ◌-◌, None, IfErr, IfOk, OnOk, map};
 ghost use Rattle.ds_broker.specs.Books.{table_of, with_command};
+ghost use Rattle.ds_broker.specs.Changes.{Applies, IsChange, flows_changed, table_changed};
 ghost use Rattle.ds_broker.specs.Entries.{flows_of, next_serial};
 ghost use Rattle.ds_broker.specs.Refusals.{IsRefusal, refusal_in};
 
-use super::{Book, take};
+use super::{Book, begun_row};
+use crate::change::{Change, Step};
 use crate::command::Command;
 use crate::entry::Serial;
 use crate::refusal::BrokerRefusal;
@@ -24,6 +26,21 @@ pub struct Next {
     pub serial: Serial,
 }
 
+impl Next {
+    /// Takes in the change of a command more. Where memory runs out, what it holds then is of no book.
+    pub fn take(&mut self, alloc: Global, change: &Change) -> Result<(), AllocError>
+        requires { Applies change.now.step self.old.table self.old.flows.items }
+        ensures table { OnOk result (self.new.table ≡ table_changed change.now.step self.old.table) }
+        ensures flows { OnOk result (self.new.flows.items ≡ flows_changed change.now.step self.old.flows.items) }
+        ensures serial { OnOk result (self.new.serial ≡ change.now.serial) }
+    {
+        change.step.change(alloc, &mut self.table)?;
+        change.step.change_flows(&mut self.flows)?;
+        self.serial = change.serial;
+        Ok(())
+    }
+}
+
 impl Book {
     ghost use Rattle.ds_broker.specs.declared.command.Command.TheVariants.{Reserve, Release, Retire};
     ghost use Rattle.ds_broker.specs.declared.refusal.BrokerRefusal.TheVariants.{NoMemory};
@@ -39,20 +56,47 @@ impl Book {
         ensures unrefused { OnOk result (refusal_in self.now command.now ≡ None) }
         ensures refused { IfErr result (λ refusal. IsRefusal (refusal_in self.now command.now) refusal) }
     {
-        match command {
-            Command::Reserve(contract) => self.with_reserved(alloc, contract),
-            Command::Release { id, at } => self.with_released(alloc, *id, *at),
-            Command::Retire { id, moment } => self.with_retired(alloc, *id, *moment),
+        let change = self.change(alloc, command)?;
+        match self.with_change(alloc, &change) {
+            Ok(next) => Ok(next),
+            Err(_) => Err(BrokerRefusal::NoMemory),
         }
     }
 
-    /// What it would hold with a contract more.
-    fn with_reserved(&self, alloc: Global, contract: &Contract) -> Result<Next, BrokerRefusal>
-        ensures table { IfOk result (λ next. next.table ≡ table_of (with_command self.now (Reserve contract.now))) }
-        ensures flows { IfOk result
-            (λ next. next.flows.items ≡ flows_of (with_command self.now (Reserve contract.now))) }
-        ensures serial { IfOk result (λ next. next.serial ≡ next_serial self.now) }
-        ensures unrefused { OnOk result (refusal_in self.now (Reserve contract.now) ≡ None) }
+    /// What a command more would change. It costs what the path of its contract is long.
+    ///
+    /// Refused as the command itself: for the first that stands against it; `NoMemory` where nothing does and memory runs
+    /// out.
+    pub fn change(&self, alloc: Global, command: &Command) -> Result<Change, BrokerRefusal>
+        ensures change { IfOk result (λ change. IsChange self.now command.now change) }
+        ensures refused { IfErr result (λ refusal. IsRefusal (refusal_in self.now command.now) refusal) }
+    {
+        match command {
+            Command::Reserve(contract) => self.growth(alloc, contract),
+            Command::Release { id, at } => self.ending(*id, *at),
+            Command::Retire { id, moment } => self.shrinking(*id, *moment),
+        }
+    }
+
+    /// What it would hold with a change. It costs a copy of the table; `AllocError` where memory runs out.
+    pub fn with_change(&self, alloc: Global, change: &Change) -> Result<Next, AllocError>
+        requires { Applies change.now.step (table_of self.now) (flows_of self.now) }
+        ensures table { IfOk result (λ next. next.table ≡ table_changed change.now.step (table_of self.now)) }
+        ensures flows { IfOk result (λ next. next.flows.items ≡ flows_changed change.now.step (flows_of self.now)) }
+        ensures serial { IfOk result (λ next. next.serial ≡ change.now.serial) }
+    {
+        let mut next = Next {
+            table: self.table.copy(alloc)?,
+            flows: flows(alloc, self.ids.as_slice())?,
+            serial: self.serial(),
+        };
+        next.take(alloc, change)?;
+        Ok(next)
+    }
+
+    /// What a contract more would change.
+    pub(super) fn growth(&self, alloc: Global, contract: &Contract) -> Result<Change, BrokerRefusal>
+        ensures change { IfOk result (λ change. IsChange self.now (Reserve contract.now) change) }
         ensures refused { IfErr result (λ refusal. IsRefusal (refusal_in self.now (Reserve contract.now)) refusal) }
     {
         if let Some(refusal) = self.refusal_against(contract) {
@@ -60,72 +104,38 @@ impl Book {
         }
         let serial = self.next_serial();
         let since = self.moment_of(contract.lifetime.since());
-        let Ok(mut table) = self.table.copy(alloc) else {
+        let Ok((contract, row)) = begun_row(alloc, self.table.domain(), contract, since) else {
             return Err(BrokerRefusal::NoMemory);
         };
-        let Ok(()) = take(alloc, &mut table, contract, since) else {
-            return Err(BrokerRefusal::NoMemory);
+        let step = Step::Grow {
+            contract,
+            row,
+            flow: self.granted,
         };
-        let Ok(mut flows) = flows(alloc, self.ids.as_slice()) else {
-            return Err(BrokerRefusal::NoMemory);
-        };
-        match flows.push(self.granted) {
-            Ok(()) => Ok(Next {
-                table,
-                flows,
-                serial,
-            }),
-            Err(_) => Err(BrokerRefusal::NoMemory),
-        }
+        Ok(Change { serial, step })
     }
 
-    /// What it would hold with the contract of an id released.
-    fn with_released(&self, alloc: Global, id: u32, at: Moment) -> Result<Next, BrokerRefusal>
-        ensures table { IfOk result (λ next. next.table ≡ table_of (with_command self.now (Release id at))) }
-        ensures flows { IfOk result (λ next. next.flows.items ≡ flows_of (with_command self.now (Release id at))) }
-        ensures serial { IfOk result (λ next. next.serial ≡ next_serial self.now) }
-        ensures unrefused { OnOk result (refusal_in self.now (Release id at) ≡ None) }
+    /// What the release of the contract of an id would change.
+    fn ending(&self, id: u32, at: Moment) -> Result<Change, BrokerRefusal>
+        ensures change { IfOk result (λ change. IsChange self.now (Release id at) change) }
         ensures refused { IfErr result (λ refusal. IsRefusal (refusal_in self.now (Release id at)) refusal) }
     {
         let place = self.releasable(id)?;
         let serial = self.next_serial();
         let lifetime = self.ended(place, self.moment_of(at));
-        let Ok(mut table) = self.table.copy(alloc) else {
-            return Err(BrokerRefusal::NoMemory);
-        };
-        table.set_lifetime(place, lifetime);
-        match flows(alloc, self.ids.as_slice()) {
-            Ok(flows) => Ok(Next {
-                table,
-                flows,
-                serial,
-            }),
-            Err(_) => Err(BrokerRefusal::NoMemory),
-        }
+        let step = Step::Last { place, lifetime };
+        Ok(Change { serial, step })
     }
 
-    /// What it would hold with the contract of an id retired.
-    fn with_retired(&self, alloc: Global, id: u32, moment: Moment) -> Result<Next, BrokerRefusal>
-        ensures table { IfOk result (λ next. next.table ≡ table_of (with_command self.now (Retire id moment))) }
-        ensures flows { IfOk result (λ next. next.flows.items ≡ flows_of (with_command self.now (Retire id moment))) }
-        ensures serial { IfOk result (λ next. next.serial ≡ next_serial self.now) }
-        ensures unrefused { OnOk result (refusal_in self.now (Retire id moment) ≡ None) }
+    /// What the retirement of the contract of an id would change.
+    fn shrinking(&self, id: u32, moment: Moment) -> Result<Change, BrokerRefusal>
+        ensures change { IfOk result (λ change. IsChange self.now (Retire id moment) change) }
         ensures refused { IfErr result (λ refusal. IsRefusal (refusal_in self.now (Retire id moment)) refusal) }
     {
         let place = self.retirable(id, moment)?;
         let serial = self.next_serial();
-        let Ok(table) = self.table.without(alloc, place) else {
-            return Err(BrokerRefusal::NoMemory);
-        };
-        let Ok(mut flows) = flows(alloc, self.ids.as_slice()) else {
-            return Err(BrokerRefusal::NoMemory);
-        };
-        let _flow = flows.remove(place);
-        Ok(Next {
-            table,
-            flows,
-            serial,
-        })
+        let step = Step::Shrink { place };
+        Ok(Change { serial, step })
     }
 }
 

@@ -1,0 +1,28 @@
+use Rattle.std.proofs.Common.{◌≡◌, None, refl, sym, ap, ◌∙◌}
+use Rattle.ds_checker.specs.Acceptance.{refusal_of}
+use Rattle.ds_broker.specs.Books.{moment_in, standing, table_of}
+use Rattle.ds_broker.specs.Entries.{flows_of}
+use Rattle.ds_broker.specs.Refusals.{reserve_refusal}
+use Rattle.ds_broker.proofs.NextLaws.{flows-after-reserve, grown, table-after-reserve}
+use Rattle.ds_broker.proofs.TableLaws.{unrefused-checked}
+use Rattle.ds_broker.proofs.book.Book.growth.Goals as goal
+
+pub returns-clause-change : goal.returns-clause-change
+returns-clause-change c =
+    let b = c.args.self.now in
+    let k = c.args.contract.now in
+    let since = c.moment_of-since.result in
+    let moment : since ≡ moment_in b k.lifetime.since = c.moment_of-since.ensures ∙ ap (moment_in b) c.since.ensures in
+    let unrefused : reserve_refusal b k ≡ None = sym c.refusal_against.ensures.value ∙ c.in_default.is in
+    let domain : c.domain.result.now ≡ b.domain = c.domain.ensures.value ∙ ap (λ x. x.domain) c.self.view_is in
+    let larger = grown b k c.in-Ok.contract c.in-Ok.row c.domain.result.now since domain c.in-Ok.ensures.begun c.in-Ok.ensures.row in
+    let granted : c.self.inside.granted ≡ (standing b).granted = c.self.invariant.granted ∙ ap (λ x. (standing x).granted) c.self.view_is in record {
+      leads = record {
+        applies = ap refusal_of larger ∙ unrefused-checked b k (table_of b) since c.in_default.ensures.unrefused refl moment unrefused;
+        table = sym (table-after-reserve b k (table_of b) _ since refl moment larger);
+        flows = sym (flows-after-reserve b k (flows_of b) _ c.self.inside.granted refl granted refl);
+      };
+      serial = c.next_serial-serial.ensures;
+      unrefused = unrefused;
+      room = c.in_default.ensures.room;
+    }
