@@ -35,7 +35,9 @@ impl<J: Naming, R: Wait + Drop> Model for Desk<J, R> {
     ghost use Rattle.std.specs.Prelude.{◌≡◌};
     ghost use Rattle.std.specs.Arc.{arc_value};
     ghost use Rattle.ds_broker.specs.Books as books;
+    ghost use Rattle.ds_broker.specs.Entries.{flows_of};
     ghost use Rattle.ds_desk.specs.Acts.{history_in};
+    ghost use Rattle.ds_desk.specs.Pages.{LeadsTo, LeadsToOlder};
 
     ghost Value = { books.Book };
 
@@ -45,7 +47,10 @@ impl<J: Naming, R: Wait + Drop> Model for Desk<J, R> {
         × (history_in d.press.end.seen.log ≡ d.book.history)
         × (d.book.domain ≡ J.opening.domain)
         × (d.book.limits ≡ J.opening.limits)
-        × ((arc_value d.press.tables.desk.shown.value.page).table ≡ books.table_of d.book) };
+        × ((arc_value d.press.tables.desk.shown.value.page).table ≡ books.table_of d.book)
+        × ((arc_value d.press.tables.desk.shown.value.page).flows.items ≡ flows_of d.book)
+        × LeadsTo d.press.older (arc_value d.press.tables.desk.shown.value.page)
+        × LeadsToOlder d.press.oldest d.press.older };
 }
 
 impl<J: Naming, R: Wait + Drop> Drop for Desk<J, R> {
@@ -135,19 +140,19 @@ impl<J: Naming, R: Wait + Drop> Desk<J, R> {
         let Command::Reserve(contract) = command else {
             unreachable!()
         };
-        let page = match announced {
-            Ok(page) => page,
+        let (page, change) = match announced {
+            Ok(laid) => laid,
             Err(refusal) => return Err((contract, self.refused(refusal))),
         };
-        match self.book.reserve(contract) {
+        match self.book.reserve_by(contract, &change) {
             Ok(grant) => {
-                self.press.keep(&self.rt, &page);
+                self.press.keep(&self.rt, &page, change);
                 Ok(Granted {
                     grant,
                     front: self.front(),
                 })
             }
-            Err((contract, refusal)) => Err((contract, self.refused(refusal))),
+            Err(contract) => Err((contract, self.refused(BrokerRefusal::NoMemory))),
         }
     }
 
@@ -164,13 +169,13 @@ impl<J: Naming, R: Wait + Drop> Desk<J, R> {
         ensures named { self.old ≡ book_behind J.opening self.old.history }
     {
         let command = Command::Release { id, at };
-        let page = match self.press.announce(self.alloc, &self.book, &command) {
-            Ok(page) => page,
+        let (page, change) = match self.press.announce(self.alloc, &self.book, &command) {
+            Ok(laid) => laid,
             Err(refusal) => return Err(self.refused(refusal)),
         };
         match self.book.release(id, at) {
             Ok(serial) => {
-                self.press.keep(&self.rt, &page);
+                self.press.keep(&self.rt, &page, change);
                 Ok(Done {
                     serial,
                     front: self.front(),
@@ -193,13 +198,13 @@ impl<J: Naming, R: Wait + Drop> Desk<J, R> {
         ensures named { self.old ≡ book_behind J.opening self.old.history }
     {
         let command = Command::Retire { id, moment };
-        let page = match self.press.announce(self.alloc, &self.book, &command) {
-            Ok(page) => page,
+        let (page, change) = match self.press.announce(self.alloc, &self.book, &command) {
+            Ok(laid) => laid,
             Err(refusal) => return Err(self.refused(refusal)),
         };
         match self.book.retire(id, moment) {
             Ok(serial) => {
-                self.press.keep(&self.rt, &page);
+                self.press.keep(&self.rt, &page, change);
                 Ok(Done {
                     serial,
                     front: self.front(),

@@ -10,6 +10,7 @@ mod feed;
 mod log;
 mod page;
 mod press;
+mod trail;
 
 pub use answer::{Done, Granted, Refused, Told};
 pub use broker::Broker;

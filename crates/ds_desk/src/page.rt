@@ -8,7 +8,7 @@ ghost use Rattle.ds_desk.specs.Histories.{book_behind, flows_behind, table_behin
 
 use crate::log::{Act, End, Front, Law, Naming};
 use crossbeam_utils::rule::{Outcome, Protocol};
-use ds_broker::Serial;
+use ds_broker::{Next, Serial};
 use ds_checker::Accepted;
 use left_right::Absorb;
 use logbook::Word;
@@ -37,7 +37,7 @@ impl Page {
         requires table { table ≡ table_behind table.domain (story_in tried.seen.log) }
         requires flows { flows.items ≡ flows_behind (story_in tried.seen.log) }
         requires serial { serial ≡ length (story_in tried.seen.log) }
-        ensures { (result.table ≡ table) × (result.tried ≡ tried) }
+        ensures { (result.table ≡ table) × (result.tried ≡ tried) × (result.flows ≡ flows) }
     {
         let kept = Word::hint(&tried.seen);
         Page {
@@ -46,6 +46,24 @@ impl Page {
             serial,
             tried,
             kept,
+        }
+    }
+
+    /// What it shows.
+    pub(crate) fn into_next(self) -> Next
+        ensures { (result.table ≡ self.table) × (result.flows ≡ self.flows) }
+    {
+        let Page {
+            table,
+            flows,
+            serial,
+            tried: _tried,
+            kept: _kept,
+        } = self;
+        Next {
+            table,
+            flows,
+            serial,
         }
     }
 

@@ -35,3 +35,9 @@ new-requires-3-clause-rule g c =
     (ap (λ (t : Table). t.domain) (c.new-page.ensures.0 ∙ c.in_ok-table.ensures ∙ c.table.ensures.value) ∙ c.requires.domain) in
     let is : arc_value c.in_ok-try_clone.field-0 ≡ c.new-page.result = search rules in
     subst (λ (p : Page). IsOfDesk g.J.Naming.log g.J.Naming.opening p) (sym is) first
+
+pub returns-clause-flows : goal.returns-clause-flows
+unfolding standing_of
+returns-clause-flows g c =
+    let is : arc_value c.in_ok-tables.tables.desk.shown.value.page ≡ c.new-page.result = search rules in
+    ap (λ (p : Page). p.flows.items) is ∙ ap (λ v. v.items) c.new-page.ensures.2 ∙ c.new.ensures.items ∙ ap flows_behind (sym c.requires.empty)
