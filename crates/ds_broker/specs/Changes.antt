@@ -36,7 +36,8 @@ pub record Leads (step : Step) (t : Table) (own : List ℕ) (next : Table) (behi
 -- The change that a command makes in a book, against which nothing stands there: it leads from what the book holds to
 -- what it holds with the command.
 pub record IsChange (b : Book) (command : Command) (change : Change) : Type 0 where
-  pub leads : Leads change.step (table_of b) (flows_of b) (table_of (with_command b command)) (flows_of (with_command b command))
+  pub leads : Leads change.step (table_of b) (flows_of b)
+      (table_of (with_command b command)) (flows_of (with_command b command))
   pub serial : change.serial ≡ next_serial b
   pub unrefused : refusal_in b command ≡ None
   pub room : length b.history < 65536

@@ -136,8 +136,8 @@ impl Book {
         }
     }
 
-    /// Grants a contract, as `reserve` does, by the change that its command makes, as `change` tells it: it is not tested
-    /// again. Where memory runs out it hands the contract back, and the book is unchanged.
+    /// Grants a contract, as `reserve` does, by the change that its command makes, as `change` tells it: it is not
+    /// tested again. Where memory runs out it hands the contract back, and the book is unchanged.
     pub fn reserve_by(&mut self, contract: Contract, change: &Change) -> Result<Grant, Contract>
         requires { IsChange self.old (Reserve contract) change.now }
         ensures granted { IfOk result (λ grant. grant ≡ grant_of self.old contract) }

@@ -177,8 +177,8 @@ impl Accepted {
         }
     }
 
-    /// Takes up one contract more with its bounds, which its copies share, behind the others, where nothing stands against
-    /// the table with it; `AllocError` where memory runs out, and then it is as it was.
+    /// Takes up one contract more with its bounds, which its copies share, behind the others, where nothing stands
+    /// against the table with it; `AllocError` where memory runs out, and then it is as it was.
     pub fn take_shared(&mut self, contract: Contract, row: Bounds) -> Result<(), AllocError>
         requires { refusal_of (with_contract self.old contract row) ≡ None }
         ensures taken { OnOk result (self.new ≡ with_contract self.old contract row) }

@@ -1,12 +1,12 @@
-//! Pages that are no longer shown. The earlier of them is brought up to date in the time of a few commands, in place of a
-//! copy of the whole table.
+//! Pages that are no longer shown. The earlier of them is brought up to date in the time of a few commands, in place of
+//! a copy of the whole table.
 ghost use Rattle.std.specs.Prelude.{◌≡◌, None, IfOk, IfSome};
 ghost use Rattle.std.specs.Arc.{arc_value};
 ghost use Rattle.ds_broker.specs.Books.{table_of};
 ghost use Rattle.ds_broker.specs.Changes.{Applies, flows_changed, table_changed};
 ghost use Rattle.ds_broker.specs.Entries.{flows_of};
 ghost use Rattle.ds_desk.specs.Pages.{LeadsOn, LeadsTo, LeadsToOlder};
-ghost use Rattle.ds_desk.specs.declared.page.Page.{Page as pages_Page};
+ghost use Rattle.ds_desk.specs.declared.page.Page.{Page as PageRecord};
 
 use crate::page::Page;
 use ds_broker::{Book, Change, Next};
@@ -28,7 +28,7 @@ pub(crate) fn next(
     older: &Option<Older>,
     change: &Change,
 ) -> Result<Next, AllocError>
-    requires shown { (shown : pages_Page) × (shown.table ≡ table_of book.now) × (shown.flows.items ≡ flows_of book.now)
+    requires shown { (shown : PageRecord) × (shown.table ≡ table_of book.now) × (shown.flows.items ≡ flows_of book.now)
         × LeadsTo older.now shown × LeadsToOlder oldest.old older.now }
     requires applies { Applies change.now.step (table_of book.now) (flows_of book.now) }
     ensures taken { oldest.new ≡ None }
@@ -50,12 +50,12 @@ fn reused(
     older: &Option<Older>,
     change: &Change,
 ) -> Option<Next>
-    requires { (shown : pages_Page) × LeadsTo older.now shown × LeadsToOlder oldest.old older.now
+    requires { (shown : PageRecord) × LeadsTo older.now shown × LeadsToOlder oldest.old older.now
         × Applies change.now.step shown.table shown.flows.items }
     ensures taken { oldest.new ≡ None }
-    ensures table { (shown : pages_Page) → LeadsTo older.now shown
+    ensures table { (shown : PageRecord) → LeadsTo older.now shown
         → IfSome result (λ next. next.table ≡ table_changed change.now.step shown.table) }
-    ensures flows { (shown : pages_Page) → LeadsTo older.now shown
+    ensures flows { (shown : PageRecord) → LeadsTo older.now shown
         → IfSome result (λ next. next.flows.items ≡ flows_changed change.now.step shown.flows.items) }
     ensures serial { IfSome result (λ next. next.serial ≡ change.now.serial) }
 {
@@ -71,12 +71,12 @@ fn reused(
 
 /// A page with its change, and with those of the page behind it and of one more.
 fn brought_up(alloc: Global, oldest: Older, older: &Older, change: &Change) -> Option<Next>
-    requires { (shown : pages_Page) × LeadsOn older.now.change.step (arc_value older.now.page) shown
+    requires { (shown : PageRecord) × LeadsOn older.now.change.step (arc_value older.now.page) shown
         × LeadsOn oldest.change.step (arc_value oldest.page) (arc_value older.now.page)
         × Applies change.now.step shown.table shown.flows.items }
-    ensures table { (shown : pages_Page) → LeadsOn older.now.change.step (arc_value older.now.page) shown
+    ensures table { (shown : PageRecord) → LeadsOn older.now.change.step (arc_value older.now.page) shown
         → IfSome result (λ next. next.table ≡ table_changed change.now.step shown.table) }
-    ensures flows { (shown : pages_Page) → LeadsOn older.now.change.step (arc_value older.now.page) shown
+    ensures flows { (shown : PageRecord) → LeadsOn older.now.change.step (arc_value older.now.page) shown
         → IfSome result (λ next. next.flows.items ≡ flows_changed change.now.step shown.flows.items) }
     ensures serial { IfSome result (λ next. next.serial ≡ change.now.serial) }
 {
@@ -112,8 +112,8 @@ fn taken_in(
         (flows_changed second.now.step (flows_changed first.now.step next.flows.items)) }
     ensures table { IfOk result (λ taken. taken.table
         ≡ table_changed third.now.step (table_changed second.now.step (table_changed first.now.step next.table))) }
-    ensures flows { IfOk result (λ taken. taken.flows.items
-        ≡ flows_changed third.now.step (flows_changed second.now.step (flows_changed first.now.step next.flows.items))) }
+    ensures flows { IfOk result (λ taken. taken.flows.items ≡ flows_changed third.now.step
+        (flows_changed second.now.step (flows_changed first.now.step next.flows.items))) }
     ensures serial { IfOk result (λ taken. taken.serial ≡ third.now.serial) }
 {
     let mut next = next;
@@ -141,7 +141,7 @@ pub(crate) fn turn(
     change: Change,
 )
     requires { IfSome page (λ page. LeadsTo older.old (arc_value page)) }
-    ensures { (shown : pages_Page) → IfSome page (λ page. LeadsOn change.step (arc_value page) shown)
+    ensures { (shown : PageRecord) → IfSome page (λ page. LeadsOn change.step (arc_value page) shown)
         → LeadsTo older.new shown × LeadsToOlder oldest.new older.new }
 {
     match page {

@@ -47,8 +47,8 @@ impl Book {
 
     /// What the book would hold with a command more. It costs a copy of the table.
     ///
-    /// Refused as the command itself: for the first that stands against it; `NoMemory` where nothing does and memory runs
-    /// out.
+    /// Refused as the command itself: for the first that stands against it; `NoMemory` where nothing does and memory
+    /// runs out.
     pub fn next(&self, alloc: Global, command: &Command) -> Result<Next, BrokerRefusal>
         ensures table { IfOk result (λ next. next.table ≡ table_of (with_command self.now command.now)) }
         ensures flows { IfOk result (λ next. next.flows.items ≡ flows_of (with_command self.now command.now)) }
@@ -65,8 +65,8 @@ impl Book {
 
     /// What a command more would change. It costs what the path of its contract is long.
     ///
-    /// Refused as the command itself: for the first that stands against it; `NoMemory` where nothing does and memory runs
-    /// out.
+    /// Refused as the command itself: for the first that stands against it; `NoMemory` where nothing does and memory
+    /// runs out.
     pub fn change(&self, alloc: Global, command: &Command) -> Result<Change, BrokerRefusal>
         ensures change { IfOk result (λ change. IsChange self.now command.now change) }
         ensures refused { IfErr result (λ refusal. IsRefusal (refusal_in self.now command.now) refusal) }

@@ -1,4 +1,4 @@
-use Rattle.std.proofs.Common.{◌≡◌, sym, ◌∙◌}
+use Rattle.std.proofs.Common.{sym, ◌∙◌}
 use Rattle.ds_desk.proofs.TrailLaws.{older-leads, oldest-leads}
 use Rattle.ds_desk.proofs.trail.reused.Goals as goal
 

@@ -1,4 +1,4 @@
-use Rattle.std.proofs.Common.{◌≡◌, true, refl, sym, arith}
+use Rattle.std.proofs.Common.{true, refl, sym, arith}
 use Rattle.std.proofs.lemmas.List.{length-map}
 use Rattle.ds_broker.specs.Books.{held_of, table_of}
 use Rattle.ds_broker.specs.Entries.{flows_of}
