@@ -1,5 +1,5 @@
 -- What is taken at the meter of a name, and that it has as much.
-use Rattle.std.proofs.Common.{arith, ◌≡◌, ℕ, suc, ◌+◌, Bool, true, false, cond, List, [], ◌∷◌, get_or, map, Option, None, Some, option_map, refl, sym, ap, subst, ◌∙◌}
+use Rattle.std.proofs.Common.{arith, ◌≡◌, ℕ, suc, ◌+◌, Bool, true, false, cond, List, [], ◌∷◌, get_or, map, None, Some, option_map, refl, sym, ap, subst, ◌∙◌}
 use Rattle.std.specs.Prelude.{All}
 use Rattle.std.specs.List.{AllByRecursion, position, position_or_len}
 use Rattle.std.specs.Map.{keys_of, lookup}
@@ -12,9 +12,9 @@ use Rattle.ds_domain_base.specs.declared.parts.Meter.{Meter}
 use Rattle.ds_certificate.specs.Columns.{Bound}
 use Rattle.ds_checker.specs.Acceptance.{Carries, IsAcceptable, Table}
 use Rattle.ds_checker.specs.Headrooms.{AreCovered, headroom_at, headroom_by, headroom_of}
-use Rattle.ds_checker.specs.Loads.{Share, shares_at}
+use Rattle.ds_checker.specs.Loads.{shares_at}
 use Rattle.ds_checker.specs.Sums.{IsSound, counted_load, loads_of, sums_of}
-use Rattle.ds_checker.specs.TableTests.{all_load, green_load}
+use Rattle.ds_checker.specs.TableTests.{green_load}
 use Rattle.ds_checker.specs.declared.headroom.Headroom.{Headroom}
 use Rattle.ds_checker.specs.declared.load.Loads.{Loads}
 use Rattle.ds_checker.proofs.LoadLaws.{counted_is, green_is, none_passes}

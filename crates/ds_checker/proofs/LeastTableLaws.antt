@@ -6,7 +6,6 @@ use Rattle.std.specs.Str.{bytes_eq}
 use Rattle.std.proofs.lemmas.Bool.{cases_Bool, and_from}
 use Rattle.std.proofs.lemmas.List.Elements.{All-weaker}
 use Rattle.std.proofs.lemmas.List.Sums.{sum_by-cons}
-use Rattle.moment_core.specs.Volume.{bytes_over}
 use Rattle.envelope_core.specs.Curve.{Curve, widened}
 use Rattle.ds_domain_base.specs.Limits.{held_column}
 use Rattle.ds_domain_base.specs.Parameters.{Parameters}

@@ -1,4 +1,5 @@
 pub mod AcceptanceLaws
+pub mod BesideLaws
 pub mod BoundLaws
 pub mod ChangeLaws
 pub mod CopyLaws

@@ -1,4 +1,5 @@
 pub mod Acceptance
+pub mod Besides
 pub mod BoundTests
 pub mod Changes
 pub mod Headrooms

@@ -155,7 +155,7 @@ fn path_refusal(
 }
 
 /// The first test that fails, if one does, of sums at the meter at a place.
-fn place_refusal(domain: &Domain, place: usize, loads: &Loads) -> Option<Refusal>
+pub(crate) fn place_refusal(domain: &Domain, place: usize, loads: &Loads) -> Option<Refusal>
     requires { place < length domain.now.meters }
     ensures { (other : List ℕ × meters.Meter) →
         result ≡ first_failed (sum_tests (slice_index_or domain.now.meters place other) loads.now) }
@@ -165,7 +165,7 @@ fn place_refusal(domain: &Domain, place: usize, loads: &Loads) -> Option<Refusal
 }
 
 /// What was found at the lowest place, with what is found at one place more.
-fn earlier(
+pub(crate) fn earlier(
     first: Option<(usize, Refusal)>,
     place: usize,
     refusal: Option<Refusal>,

@@ -1,4 +1,4 @@
-ghost use Rattle.std.specs.Prelude.{◌≡◌, ◌<◌, ◌⊎◌, None, Some, IfOk, IfErr, IfSome, IsTrue, OnErr, OnOk, length};
+ghost use Rattle.std.specs.Prelude.{◌≡◌, ◌<◌, ◌^◌, ◌⊎◌, None, Some, IfOk, IfErr, IfSome, IsTrue, OnErr, OnOk, length};
 ghost use Rattle.std.specs.Prelude.{slice_get};
 ghost use Rattle.ds_certificate.specs.Bounds.{fits, least_of};
 ghost use Rattle.ds_checker.specs.Acceptance.{IsAcceptable, refusal_of, table_of};
@@ -6,7 +6,7 @@ ghost use Rattle.ds_domain_base.specs.Lifetimes.{Span};
 ghost use Rattle.ds_checker.specs.Changes.{lasting, on_terms, with_contract, with_lifetime, without_contract};
 ghost use Rattle.ds_checker.specs.Headrooms.{AreCovered, headroom_of};
 ghost use Rattle.ds_checker.specs.Holds.{hold_at};
-ghost use Rattle.ds_checker.specs.Sums.{IsKept};
+ghost use Rattle.ds_checker.specs.Sums.{IsKept, IsSound};
 
 use crate::admission::{contract_refusal_at_meters, least_refusal_at_meters};
 use crate::bounds::{contract_refusal, has_shape};
@@ -121,6 +121,14 @@ impl Accepted {
         ensures acceptable { IsAcceptable self.now }
     {
         &self.certificate
+    }
+
+    /// What its contracts bring to each meter, in the order of the meters.
+    pub(crate) fn sums(&self) -> &[Loads]
+        ensures sound { IsSound self.now result.now }
+        ensures few { length self.now.contracts < 2 ^ 64 }
+    {
+        self.sums.as_slice()
     }
 
     /// How long the share of the contract at a place is to be held once the contract has ended, in nanoseconds: the

@@ -4,6 +4,7 @@
 
 pub mod acceptance;
 mod admission;
+pub mod beside;
 pub mod bounds;
 pub mod candidate;
 pub mod headroom;
@@ -11,9 +12,11 @@ pub mod hold;
 pub mod laws;
 pub mod load;
 pub mod refusal;
+mod stop;
 pub mod table;
 
 pub use acceptance::check;
+pub use beside::Beside;
 pub use candidate::{Accepted, Candidate};
 pub use headroom::{Headroom, Utilization};
 pub use hold::hold_of;
