@@ -18,20 +18,19 @@ use crate::admission::{earlier, place_refusal};
 use crate::candidate::Accepted;
 use crate::load::Share;
 use crate::refusal::Refusal;
-use crate::stop::{Brought, MOST, Stop, stops_along};
-use arrayvec::ArrayVec;
+use crate::stop::{Brought, Stop, Stops, stops_along};
 use ds_certificate::{Source, delayed, entering};
 use ds_domain_base::{Contract, Domain, Terms};
 use std::marker::Model;
 
 /// A contract that fits the domain of an accepted table, beside what the table holds but the contract at a place, if one
 /// is left out. It keeps what is brought to the meters of the contract's path.
-#[derive(Debug, Drop)]
+#[derive(Drop)]
 pub struct Beside<'a> {
     accepted: &'a Accepted,
     left_out: Option<usize>,
     contract: &'a Contract,
-    stops: ArrayVec<Stop, MOST>,
+    stops: Stops,
 }
 
 impl<'a> Model for Beside<'a> {
@@ -41,7 +40,7 @@ impl<'a> Model for Beside<'a> {
 
     ghost view = { λ b. record { table = rest_of b.accepted.now b.left_out; contract = b.contract.now } };
 
-    ghost invariant = { λ b. IsBeside b.accepted.now b.left_out b.contract.now b.stops.items };
+    ghost invariant = { λ b. IsBeside b.accepted.now b.left_out b.contract.now b.stops };
 }
 
 impl Accepted {

@@ -1,5 +1,5 @@
 //! What a table holds along a path: read once, and then used for each test of a contract on that path.
-ghost use Rattle.std.specs.Prelude.{◌≡◌, ◌≤◌, ◌^◌, List, None, fold, length, position};
+ghost use Rattle.std.specs.Prelude.{◌≡◌, ◌<◌, ◌≤◌, ◌^◌, ◌++◌, ◌∷◌, [], List, None, fold, length, position};
 ghost use Rattle.std.specs.List.{IsDistinct};
 ghost use Rattle.std.specs.Map.{keys_of};
 ghost use Rattle.std.specs.Str.{bytes_eq};
@@ -9,17 +9,13 @@ ghost use Rattle.ds_checker.specs.Sums.{AreBelow, with_share};
 ghost use Rattle.ds_checker.specs.declared.load.Loads as declared_loads;
 
 use crate::load::{Loads, Share};
-use arrayvec::ArrayVec;
 use ds_certificate::{Bound, Source};
 use ds_domain_base::{Domain, Name};
 use moment_core::Gap;
 use std::marker::Model;
 
-/// The greatest number of meters on a path.
-pub(crate) const MOST: usize = 16;
-
 /// A name on a path: how packets come there, and where it is a meter's, what is brought to it.
-#[derive(Clone, Copy, Debug)]
+#[derive(Clone, Copy)]
 pub(crate) struct Stop {
     /// By how much delays of the link into it differ at most.
     pub(crate) jitter: Gap,
@@ -44,9 +40,50 @@ impl Stop {
     }
 }
 
-impl Default for Stop {
-    fn default() -> Self {
-        Stop::nowhere(Gap::NONE)
+/// The stops of a path, of which there are at most 16: in the value itself, so that they take no memory.
+#[derive(Drop)]
+pub(crate) struct Stops {
+    stops: [Stop; 16],
+    count: usize,
+}
+
+impl Model for Stops {
+    ghost use Rattle.std.specs.Prelude.{List, ◌≤◌, take};
+    ghost use Rattle.ds_checker.specs.declared.stop.Stop as declared_stops;
+
+    ghost Value = { List declared_stops.Stop };
+
+    ghost view = { λ s. take s.count s.stops };
+
+    ghost invariant = { λ s. s.count ≤ 16 };
+}
+
+impl Stops {
+    /// No stops.
+    fn new() -> Self
+        ensures { result ≡ [] }
+    {
+        Stops {
+            stops: [Stop::nowhere(Gap::NONE); 16],
+            count: 0,
+        }
+    }
+
+    /// Appends a stop, where there is room.
+    fn push(&mut self, stop: Stop)
+        requires { length self.old < 16 }
+        ensures { self.new ≡ self.old ++ stop ∷ [] }
+    {
+        self.stops[self.count] = stop;
+        self.count += 1;
+    }
+
+    /// The stops.
+    pub(crate) fn as_slice(&self) -> &[Stop]
+        ensures value { result.now ≡ self.now }
+        ensures few { length result.now ≤ 16 }
+    {
+        &self.stops[..self.count]
     }
 }
 
@@ -140,14 +177,14 @@ pub(crate) fn stops_along(
     port: Name,
     path: &[Name],
     left_out: &Option<Brought<'_>>,
-) -> ArrayVec<Stop, MOST>
+) -> Stops
     requires short { length path.now ≤ 16 }
     requires places { length sums.now ≡ length domain.now.meters }
     requires left { (before : List declared_loads.Loads) × IsLeft domain.now left_out.now sums.now before }
     ensures { (before : List declared_loads.Loads) → IsLeft domain.now left_out.now sums.now before
-        → AreStops domain.now before port path.now result.items }
+        → AreStops domain.now before port path.now result }
 {
-    let mut stops = ArrayVec::new();
+    let mut stops = Stops::new();
     let mut from = port;
     for to in path {
         stops.push(stop_at(domain, sums, from, *to, left_out));

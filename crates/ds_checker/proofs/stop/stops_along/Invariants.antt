@@ -9,6 +9,6 @@ abbrev pub invariant-loop-to : goal.invariant-loop-to
 invariant-loop-to l = record {
   value : (before : List Loads) → IsLeft l.domain l.left_out l.sums before → (later : List Stop)
       → AreStops l.domain before l.from (drop l.to-index l.path) later
-      → AreStops l.domain before l.fn.port l.path (l.stops.items ++ later);
-  many : length l.stops.items ≡ l.to-index;
+      → AreStops l.domain before l.fn.port l.path (l.stops ++ later);
+  many : length l.stops ≡ l.to-index;
 }

@@ -21,7 +21,7 @@ invariant_of-result c =
     let left = rest-left t c.domain.result.now c.sums.result.now c.args.left_out c.brought_at-brought.result c.requires.place c.sums.ensures.sound c.sums.ensures.few c.domain.ensures.value
     c.brought_at-brought.ensures in
     let before = loads_of (rest_of t c.args.left_out) in
-    beside-made t c.sums.result.now c.args.left_out c.args.contract.now c.stops_along-stops.result.items c.requires.place c.sums.ensures.sound c.requires.fit once
-    (subst (λ (d : Domain). AreStops d before c.args.contract.now.port c.args.contract.now.path c.stops_along-stops.result.items) c.domain.ensures.value
-    (subst (λ path. AreStops c.domain.result.now before c.args.contract.now.port path c.stops_along-stops.result.items) c.meters.ensures
+    beside-made t c.sums.result.now c.args.left_out c.args.contract.now c.stops_along-stops.result c.requires.place c.sums.ensures.sound c.requires.fit once
+    (subst (λ (d : Domain). AreStops d before c.args.contract.now.port c.args.contract.now.path c.stops_along-stops.result) c.domain.ensures.value
+    (subst (λ path. AreStops c.domain.result.now before c.args.contract.now.port path c.stops_along-stops.result) c.meters.ensures
     (c.stops_along-stops.ensures before left)))
