@@ -1,7 +1,7 @@
 -- What is found by trying values is the greatest that can be sold.
 use Rattle.std.proofs.Common.{arith, ◌≡◌, ℕ, ◌+◌, ◌-◌, ◌≤◌, ◌<◌, ◌^◌, zero, suc, Bool, true, false, if◌then◌else◌, Option, None, Some, nat_lt, ◌⊎◌, inl, inr, refl, sym, length, subst, ap, ◌∙◌}
 use Rattle.std.specs.Prelude.{IfNone, IfSome, IsSomeAnd, is_none, is_some, nat_eq, option_and_then}
-use Rattle.std.specs.Option.{option_map_or, option_or}
+use Rattle.std.specs.Option.{option_map_or}
 use Rattle.std.proofs.lemmas.Bool.Decides.{nat_tests}
 use Rattle.ds_domain_base.specs.declared.contract.Contract.{Contract}
 use Rattle.ds_domain_base.specs.declared.terms.Terms.{Terms}
@@ -13,7 +13,7 @@ use Rattle.ds_checker.proofs.AcceptanceLaws.{acceptable, is_shaped, unrefused}
 use Rattle.ds_checker.proofs.ChangeLaws.{last_shape, refused-shape, rows_long}
 use Rattle.ds_quotes.specs.Fields.{AreThose, is_allowed, terms_with}
 use Rattle.ds_quotes.specs.Passing.{IsDownward, IsPassing}
-use Rattle.ds_quotes.specs.Quotes.{IsGreatest, IsSaleable, greatest_below, is_saleable, least_below, least_refusal, least_terms, offered, quote_of, value_limit}
+use Rattle.ds_quotes.specs.Quotes.{IsGreatest, IsSaleable, greatest_below, is_saleable, least_below, least_terms, offered, quote_of, value_limit}
 use Rattle.ds_quotes.specs.declared.field.Field.{Field}
 use Rattle.ds_quotes.proofs.LesserTables.{carries-too, lesser-on_terms}
 
@@ -243,11 +243,10 @@ count-none t c field least most (suc count) result those found is =
     subst (λ o. IfNone o ((value : ℕ) → IsSaleable t c field value → ⊥)) (sym (is ∙ counted-some least count)) tt
 
 -- ---- a contract that does not fit
-pub unfit-refused : (t : Table) (c : Contract) (field : Field) (terms : Terms) (number : ℕ) → IsAcceptable t → fits t.domain c ≡ false → number ≡ length t.contracts
-    → Some terms ≡ least_terms field c.terms → Some (Shape number) ≡ least_refusal t c field
+pub unfit-offered : (t : Table) (c : Contract) (terms : Terms) (number : ℕ) → IsAcceptable t → fits t.domain c ≡ false → number ≡ length t.contracts
+    → Some (Shape number) ≡ refusal_of (offered t c terms)
 unfolding is_shaped
-unfit-refused t c field terms number own unfits is_number is_terms =
+unfit-offered t c terms number own unfits is_number =
     let other = on_terms terms c in
     let unshaped : is_shaped t.domain other (least_of t.domain other) ≡ false = rw unfits refl in
     sym (refused-shape t other (least_of t.domain other) number own is_number unshaped)
-    ∙ ap (option_and_then (λ own_terms. refusal_of (offered t c own_terms))) is_terms

@@ -9,5 +9,7 @@ pub mod quote;
 pub mod values;
 
 pub use field::Field;
-pub use quote::{greatest, greatest_beside, least_refusal, others};
+pub use quote::{
+    greatest, greatest_beside, greatest_without, least_refusal, least_refusal_without, others,
+};
 pub use values::Values;

@@ -1,39 +1,39 @@
-ghost use Rattle.std.specs.Prelude.{◌≡◌, ◌+◌, ◌-◌, ◌<◌, ◌^◌, ℕ, IfNone, IfOk, IfSome, None, Some, nat_eq, position};
+ghost use Rattle.std.specs.Prelude.{◌≡◌, ◌+◌, ◌-◌, ◌<◌, ◌^◌, ℕ, length, IfNone, IfOk, IfSome, None, Some, nat_eq, position};
 ghost use Rattle.std.specs.Prelude.{unwrap_or, if◌then◌else◌};
 ghost use Rattle.std.specs.Str.{bytes_eq};
-ghost use Rattle.ds_quotes.specs.Quotes.{IsGreatest, IsSaleable, least_refusal, others_of, quote_of};
+ghost use Rattle.ds_checker.specs.Acceptance.{refusal_of};
+ghost use Rattle.ds_checker.specs.Besides.{IsNameless, rest_of};
+ghost use Rattle.ds_quotes.specs.Quotes.{IsGreatest, IsSaleable, least_refusal, offered, others_of, quote_of};
 
 use crate::field::Field;
 use crate::passing::{Trial, passing_below};
 use ds_certificate::is_fit;
-use ds_checker::{Accepted, Refusal};
-use ds_domain_base::{Contract, Name};
+use ds_checker::{Accepted, Beside, Refusal};
+use ds_domain_base::{Contract, Name, Terms};
 use std::alloc::{AllocError, Global};
 
-/// A contract that fits the domain of a table, and one of its fields, whose values are tried from a least one on.
+/// A contract beside a table, and one of its fields, whose values are tried from a least one on.
 #[derive(Drop)]
 struct Offer<'a> {
-    accepted: &'a Accepted,
-    contract: &'a Contract,
+    beside: Beside<'a>,
     field: Field,
     least: u64,
 }
 
 impl Trial for Offer<'_> {
-    ghost use Rattle.std.specs.Prelude.{◌+◌, ◌^◌, ◌<◌, IsTrue};
-    ghost use Rattle.ds_certificate.specs.Bounds.{fits};
+    ghost use Rattle.std.specs.Prelude.{◌+◌, ◌^◌, ◌<◌};
     ghost use Rattle.ds_quotes.specs.Quotes.{is_saleable};
 
-    ghost takes = { λ o value. IsTrue (fits o.accepted.now.domain o.contract.now) × (o.least + value < 2 ^ 64) };
+    ghost takes = { λ o value. o.least + value < 2 ^ 64 };
 
-    ghost outcome = { λ o value. is_saleable o.accepted.now o.contract.now o.field (o.least + value) };
+    ghost outcome = { λ o value. is_saleable o.beside.table o.beside.contract o.field (o.least + value) };
 
     fn passes(&self, value: u64) -> bool {
         match self
             .field
-            .terms_with(self.least + value, &self.contract.terms)
+            .terms_with(self.least + value, &self.beside.contract().terms)
         {
-            Some(terms) => self.accepted.refusal_on(self.contract, &terms).is_none(),
+            Some(terms) => self.beside.refusal_on(&terms).is_none(),
             None => false,
         }
     }
@@ -51,13 +51,28 @@ pub fn greatest(accepted: &Accepted, contract: &Contract, field: Field) -> Optio
     ensures some { IfSome result (IsGreatest (IsSaleable accepted.now contract.now field)) }
     ensures none { IfNone result ((value : ℕ) → ¬ IsSaleable accepted.now contract.now field value) }
 {
+    greatest_without(accepted, None, contract, field)
+}
+
+/// The greatest value of a field, as `greatest` tells it, beside what a table holds but the contract at a place, if one
+/// is left out. It takes no memory either, and as long as that.
+pub fn greatest_without(
+    accepted: &Accepted,
+    left_out: Option<usize>,
+    contract: &Contract,
+    field: Field,
+) -> Option<u64>
+    requires { IfSome left_out (λ place. place < length accepted.now.contracts) }
+    ensures value { result ≡ quote_of (rest_of accepted.now left_out) contract.now field }
+    ensures some { IfSome result (IsGreatest (IsSaleable (rest_of accepted.now left_out) contract.now field)) }
+    ensures none { IfNone result ((value : ℕ) → ¬ IsSaleable (rest_of accepted.now left_out) contract.now field value) }
+{
     if !is_fit(accepted.domain(), contract) {
         return None;
     }
     let values = field.values(&contract.terms)?;
     let offer = Offer {
-        accepted,
-        contract,
+        beside: accepted.beside(left_out, contract),
         field,
         least: values.least,
     };
@@ -81,13 +96,58 @@ fn last_of(least: u64, count: u64) -> Option<u64>
 pub fn least_refusal(accepted: &Accepted, contract: &Contract, field: Field) -> Option<Refusal>
     ensures { result ≡ least_refusal accepted.now contract.now field }
 {
-    let terms = field.least_terms(&contract.terms)?;
+    least_refusal_without(accepted, None, contract, field)
+}
+
+/// The same beside what a table holds but the contract at a place, if one is left out. It names no contract of the
+/// table.
+pub fn least_refusal_without(
+    accepted: &Accepted,
+    left_out: Option<usize>,
+    contract: &Contract,
+    field: Field,
+) -> Option<Refusal>
+    requires { IfSome left_out (λ place. place < length accepted.now.contracts) }
+    ensures value { result ≡ least_refusal (rest_of accepted.now left_out) contract.now field }
+    ensures nameless { IfSome result IsNameless }
+{
+    match field.least_terms(&contract.terms) {
+        Some(terms) => refusal_without(accepted, left_out, contract, &terms),
+        None => None,
+    }
+}
+
+/// What stands against a contract on these terms, beside what a table holds but the contract at a place, if one is left
+/// out.
+fn refusal_without(
+    accepted: &Accepted,
+    left_out: Option<usize>,
+    contract: &Contract,
+    terms: &Terms,
+) -> Option<Refusal>
+    requires { IfSome left_out (λ place. place < length accepted.now.contracts) }
+    ensures value { result ≡ refusal_of (offered (rest_of accepted.now left_out) contract.now terms.now) }
+    ensures nameless { IfSome result IsNameless }
+{
     if !is_fit(accepted.domain(), contract) {
         return Some(Refusal::Shape {
-            contract: accepted.contracts().len(),
+            contract: number_without(accepted, left_out),
         });
     }
-    accepted.refusal_on(contract, &terms)
+    let beside = accepted.beside(left_out, contract);
+    beside.refusal_on(terms)
+}
+
+/// How many contracts a table holds but the one at a place, if one is left out.
+fn number_without(accepted: &Accepted, left_out: Option<usize>) -> usize
+    requires { IfSome left_out (λ place. place < length accepted.now.contracts) }
+    ensures { result ≡ length (rest_of accepted.now left_out).contracts }
+{
+    let number = accepted.contracts().len();
+    match left_out {
+        Some(_) => number - 1,
+        None => number,
+    }
 }
 
 /// The table without the contract of a name, and None where it holds none of that name; `AllocError` where memory runs
@@ -113,7 +173,7 @@ fn place_of(contracts: &[Contract], name: Name) -> Option<usize>
 }
 
 /// The greatest value of a field, as `greatest` tells it, beside what a table holds but the contract of that name;
-/// `AllocError` where memory runs out, which is taken where one of that name is held.
+/// `AllocError` where memory runs out, which is not taken.
 pub fn greatest_beside(
     alloc: Global,
     accepted: &Accepted,
@@ -122,8 +182,6 @@ pub fn greatest_beside(
 ) -> Result<Option<u64>, AllocError>
     ensures { IfOk result (λ value. value ≡ quote_of (others_of accepted.now contract.now.name) contract.now field) }
 {
-    match others(alloc, accepted, contract.name)? {
-        Some(others) => Ok(greatest(&others, contract, field)),
-        None => Ok(greatest(accepted, contract, field)),
-    }
+    let left_out = place_of(accepted.contracts(), contract.name);
+    Ok(greatest_without(accepted, left_out, contract, field))
 }
