@@ -1,14 +1,15 @@
 -- The names of what is held: which they are with a contract more or fewer, and that they differ.
-use Rattle.std.proofs.Common.{◌≡◌, ℕ, zero, suc, true, false, List, [], ◌∷◌, ◌++◌, Some, refl, sym, ap, ◌∙◌, inl, inr}
+use Rattle.std.proofs.Common.{arith, ◌≡◌, ℕ, zero, suc, Bool, true, false, length, nat_lt, None, List, [], ◌∷◌, ◌++◌, Some, refl, sym, ap, ◌∙◌, inl, inr}
 use Rattle.std.specs.Prelude.{◌||◌, cond, nat_eq, slice_get}
-use Rattle.std.specs.List.{AllByRecursion, IsDistinct, list_any}
+use Rattle.std.specs.List.{AllByRecursion, IsDistinct, list_any, position, position_or_len}
+use Rattle.std.proofs.lemmas.Bool.Decides.{nat_tests}
 use Rattle.std.specs.Str.{bytes_eq}
 use Rattle.std.proofs.Math.Bool.{or-false, or-true}
 use Rattle.std.proofs.lemmas.Bool.{cases_Bool}
 use Rattle.std.proofs.lemmas.List.Folds.{list_any-append}
 use Rattle.std.proofs.lemmas.Slice.Eq.{bytes_eq-Decides}
-use Rattle.ds_checker.proofs.LoadLaws.{bytes_eq-flip}
-use Rattle.ds_broker.specs.Books.{is_held}
+use Rattle.ds_checker.proofs.LoadLaws.{bytes_eq-flip, or_parts}
+use Rattle.ds_broker.specs.Books.{contracts_in, is_held}
 use Rattle.ds_broker.specs.Found.{IsFirst}
 use Rattle.ds_broker.specs.Histories.{Holding, with_released, with_retired}
 use Rattle.ds_broker.specs.Kept.{names_in}
@@ -84,3 +85,19 @@ names-released id moment (h ∷ held) = elim (cases_Bool (nat_eq id h.id)) [
 pub held-released : (name : List ℕ) (id moment : ℕ) (held : List Holding) → is_held name (with_released id moment held) ≡ is_held name held
 held-released name id moment held =
     sym (any-names name (with_released id moment held)) ∙ ap (list_any (bytes_eq name)) (names-released id moment held) ∙ any-names name held
+
+-- a name that is not held is that of no contract
+none_first : (name : List ℕ) (held : List Holding) → is_held name held ≡ false → position_or_len (λ c. bytes_eq name c.name) (contracts_in held) ≡ length (contracts_in held)
+none_first name [] none = refl
+none_first name (h ∷ held) none =
+    let parts = or_parts (bytes_eq name h.contract.name) (is_held name held) none in
+    let behind = none_first name held parts.1 in
+    rw parts.0 (omega (arith, behind))
+
+past_all : (n : ℕ) (x : Bool) → nat_lt n n ≡ x → cond x (Some n) None ≡ None
+past_all n true is = absurd (grind (arith, is, nat_tests))
+past_all n false is = refl
+
+pub unheld-nowhere : (name : List ℕ) (held : List Holding) → is_held name held ≡ false → position (λ c. bytes_eq name c.name) (contracts_in held) ≡ None
+unheld-nowhere name held none =
+    rw (none_first name held none) (past_all (length (contracts_in held)) (nat_lt (length (contracts_in held)) (length (contracts_in held))) refl)

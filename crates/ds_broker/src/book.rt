@@ -1,6 +1,6 @@
 ghost use Rattle.std.specs.Prelude.{◌≡◌, ◌⊎◌, ◌≤◌, ◌+◌, ◌-◌, [], false, true, ℕ, List, None, Some, IfErr, IfOk, IfSome};
 ghost use Rattle.std.specs.Prelude.{OnErr, OnOk, length};
-ghost use Rattle.std.specs.Prelude.{◌<◌, IfNone, IsTrue, option_map, slice_get, unwrap_or, vec_capacity, vec_len};
+ghost use Rattle.std.specs.Prelude.{◌<◌, IfNone, IsTrue, option_map, position, slice_get, unwrap_or, vec_capacity, vec_len};
 ghost use Rattle.std.specs.Bool.{OnFalse};
 ghost use Rattle.std.specs.List.{list_any};
 ghost use Rattle.ds_certificate.specs.Bounds.{fits, least_of};
@@ -29,7 +29,7 @@ use crate::refusal::BrokerRefusal;
 use ds_certificate::{Bounds, Certificate, least_bounds};
 use ds_checker::{Accepted, Candidate, check};
 use ds_domain_base::{Contract, Domain, DomainFault, Field, Kind, Lifetime, Name, Section, fits};
-use ds_quotes::greatest_beside;
+use ds_quotes::greatest_without;
 use moment_core::Moment;
 use std::alloc::{AllocError, Global};
 use std::collections::HashSet;
@@ -256,8 +256,8 @@ impl Book {
     }
 
     /// The greatest value of a field with which a contract is valid and would be carried beside all that the book holds
-    /// but the contract of its name; None where no value is. It changes nothing, and takes no memory where no contract
-    /// of that name is held; `AllocError` where memory runs out.
+    /// but the contract of its name; None where no value is. It changes nothing; `AllocError` where memory runs out, which
+    /// is not taken.
     pub fn greatest(
         &self,
         alloc: Global,
@@ -267,7 +267,20 @@ impl Book {
         ensures { IfOk result (λ value. value
             ≡ quote_of (others_of (table_of self.now) contract.now.name) contract.now field) }
     {
-        greatest_beside(alloc, self.table(), contract, field)
+        let _alloc = alloc;
+        let left_out = self.place_of(contract.name);
+        Ok(greatest_without(self.table(), left_out, contract, field))
+    }
+
+    /// The place of the contract of a name in its table, if it holds one. Where it holds none, it looks at no contract.
+    pub fn place_of(&self, name: Name) -> Option<usize>
+        ensures place { result ≡ position (λ c. bytes_eq name c.name) (table_of self.now).contracts }
+        ensures inside { IfSome result (λ place. place < length (table_of self.now).contracts) }
+    {
+        if !self.names.contains(&name) {
+            return None;
+        }
+        place_of(self.table.contracts(), name)
     }
 
     /// The domain.
@@ -456,6 +469,13 @@ impl Book {
         let hold = self.table.hold(place).unwrap();
         hold.saturating_sub(passed)
     }
+}
+
+/// The place of the contract of a name, if there is one.
+fn place_of(contracts: &[Contract], name: Name) -> Option<usize>
+    ensures { result ≡ position (λ c. bytes_eq name c.name) contracts.now }
+{
+    contracts.iter().position(|contract| contract.name == name)
 }
 
 /// A fault of a contract at a field.
