@@ -1,4 +1,5 @@
 ghost use Rattle.std.specs.Prelude.{◌≡◌, ◌++◌, [], IfOk, OnOk, option_and_then, option_map, slice_get};
+ghost use Rattle.ds_broker.specs.Books.{table_of};
 ghost use Rattle.ds_broker.specs.Entries.{entries_of};
 ghost use Rattle.ds_quotes.specs.Quotes.{others_of};
 ghost use Rattle.dsedge_texts.specs.Quoted.{told_beside};
@@ -10,12 +11,11 @@ use crate::offers::Offers;
 use crate::request::{Request, asked};
 use crate::shop::Shop;
 use ds_broker::{Book, Limits};
-use ds_checker::Accepted;
 use ds_desk::{Naming, Opened};
 use ds_domain_base::{Contract, Domain, Kind};
-use ds_quotes::{Field, others};
+use ds_quotes::Field;
 use dsedge_lines::{Command, Ending};
-use dsedge_texts::{kind_text, push_headroom, push_quote};
+use dsedge_texts::{kind_text, push_headroom, push_quote_without};
 use moment_core::Moment;
 use std::alloc::{AllocError, Global};
 use std::marker::Model;
@@ -200,38 +200,23 @@ fn quote(
 {
     match contract {
         None => push_fault(text, kind_text(Kind::UnknownName)),
-        Some(contract) => quote_beside(alloc, book.table(), text, contract, field),
+        Some(contract) => quote_beside(alloc, book, text, contract, field),
     }
 }
 
-/// Appends the greatest value of a field of a contract, beside what a table holds but the contract of its name.
+/// Appends the greatest value of a field of a contract, beside what a book holds but the contract of its name.
 fn quote_beside(
     alloc: Global,
-    table: &Accepted,
+    book: &Book,
     text: &mut Vec<u8>,
     contract: &Contract,
     field: Field,
 ) -> Result<(), AllocError>
     ensures { OnOk result (text.new.items
-        ≡ text.old.items ++ (told_beside (others_of table.now contract.now.name) contract.now field).0) }
+        ≡ text.old.items ++ (told_beside (others_of (table_of book.now) contract.now.name) contract.now field).0) }
 {
-    match others(alloc, table, contract.name)? {
-        Some(others) => quote_over(alloc, &others, text, contract, field),
-        None => quote_over(alloc, table, text, contract, field),
-    }
-}
-
-/// Appends the greatest value of a field of a contract, beside what a table holds.
-fn quote_over(
-    alloc: Global,
-    table: &Accepted,
-    text: &mut Vec<u8>,
-    contract: &Contract,
-    field: Field,
-) -> Result<(), AllocError>
-    ensures { OnOk result (text.new.items ≡ text.old.items ++ (told_beside table.now contract.now field).0) }
-{
-    let _found = push_quote(alloc, text, table, contract, field)?;
+    let left_out = book.place_of(contract.name);
+    let _found = push_quote_without(alloc, text, book.table(), left_out, contract, field)?;
     Ok(())
 }
 

@@ -1,20 +1,25 @@
 -- A contract of a text beside the others, and in its place again.
-use Rattle.std.proofs.Common.{arith, ◌≡◌, ℕ, zero, suc, ◌<◌, ◌≤◌, Bool, true, false, List, [], ◌∷◌, length, get_or, cond, nat_lt, None, Some, Result, Ok, Err, IfOk, refl, sym, ap, ◌∙◌}
+use Rattle.std.proofs.Common.{arith, ◌≡◌, ℕ, zero, suc, ◌<◌, ◌≤◌, Bool, true, false, List, [], ◌∷◌, ◌++◌, codes, length, Option, get_or, cond, nat_lt, None, Some, Result, Ok, Err, IfOk, refl, sym, ap, ◌∙◌}
 use Rattle.std.specs.List.{insert, list_all, position_or_len, remove}
 use Rattle.std.proofs.lemmas.Bool.{and_from, and_parts}
 use Rattle.std.proofs.lemmas.List.Edits.{length-remove}
 use Rattle.std.proofs.lemmas.Bool.Decides.{nat_tests}
 use Rattle.std.specs.Str.{bytes_eq}
 use Rattle.ds_checker.proofs.ChangeLaws.{got}
+use Rattle.std.specs.Prelude.{IfSome}
 use Rattle.ds_checker.specs.Acceptance.{Table, refusal_of}
+use Rattle.ds_checker.specs.Besides.{IsNameless}
+use Rattle.ds_checker.specs.declared.refusal.Refusal.{Refusal}
+use Rattle.ds_checker.specs.declared.refusal.Refusal.TheVariants as refusals
 use Rattle.ds_domain_base.specs.Domains.{Domain}
 use Rattle.ds_domain_base.specs.declared.contract.Contract.{Contract}
 use Rattle.ds_domain_base.specs.declared.terms.Terms.{Terms}
-use Rattle.ds_quotes.specs.Quotes.{least_terms, with_least}
+use Rattle.ds_quotes.specs.Quotes.{least_refusal, least_terms, quote_of, with_least}
 use Rattle.ds_quotes.specs.declared.field.Field.{Field}
-use Rattle.dsedge_texts.specs.Quoted.{Told, quote_at, quote_of_contract, quote_on, told_at, told_beside}
+use Rattle.dsedge_texts.specs.Quoted.{Told, none_lines, quote_at, quote_of_contract, quote_on, told_at, told_beside, told_by}
 use Rattle.dsedge_texts.specs.declared.quoting.QuoteFault.{QuoteFault}
 use Rattle.dsedge_texts.specs.declared.quoting.Quoted.{Quoted}
+use Rattle.dsedge_texts.specs.Refused.{refusal_line}
 use Rattle.dsedge_texts.specs.Wording.{place_named}
 
 -- ---- what holds of all of a list
@@ -72,3 +77,28 @@ pub told-ok : (r : Result Quoted QuoteFault) (told : Told) (whole : Result Told 
     → IfOk r (λ quoted. told ≡ (quoted.text.items, quoted.is_found)) → IfOk r (λ quoted. whole ≡ Ok (quoted.text.items, quoted.is_found))
 told-ok (Ok quoted) told whole is holds = is ∙ ap Ok holds
 told-ok (Err fault) told whole is holds = holds
+
+-- the line of a refusal that names no contract is the same for any contracts
+nameless_line : (refusal : Refusal) (contracts others : List Contract) → IsNameless refusal → refusal_line contracts refusal ≡ refusal_line others refusal
+nameless_line (refusals.Shape number) contracts others none = refl
+nameless_line (refusals.FirstBound number column needed given) contracts others none = absurd none
+nameless_line (refusals.HopBound number hop column needed given) contracts others none = absurd none
+nameless_line (refusals.GreenRate meter needed available) contracts others none = refl
+nameless_line (refusals.GreenBurst meter needed available) contracts others none = refl
+nameless_line (refusals.AllRate meter needed available) contracts others none = refl
+nameless_line (refusals.AllBurst meter needed available) contracts others none = refl
+nameless_line refusals.NoMemory contracts others none = refl
+
+pub nameless_lines : (refusal : Option Refusal) (contracts others : List Contract) → IfSome refusal IsNameless → none_lines contracts refusal ≡ none_lines others refusal
+nameless_lines None contracts others none = refl
+nameless_lines (Some refusal) contracts others none = ap (λ line. codes "none\n" ++ line) (nameless_line refusal contracts others none)
+
+-- where no value is, what is told is the refusal of the least one
+pub told-none-beside : (t : Table) (c : Contract) (field : Field) (contracts : List Contract) (refusal : Option Refusal) (value : Option ℕ) (before text : List ℕ)
+    → value ≡ quote_of t c field → value ≡ None → refusal ≡ least_refusal t c field → IfSome refusal IsNameless → text ≡ before ++ none_lines contracts refusal
+    → text ≡ before ++ (told_beside t c field).0
+told-none-beside t c field contracts refusal value before text is none is_refusal nameless written =
+    written
+    ∙ ap (λ lines. before ++ lines)
+    (nameless_lines refusal contracts t.contracts nameless ∙ ap (none_lines t.contracts) is_refusal
+    ∙ ap (λ (v : Option ℕ). (told_by t.contracts field (least_refusal t c field) v).0) (sym none ∙ is))

@@ -1,7 +1,8 @@
-ghost use Rattle.std.specs.Prelude.{◌≡◌, ◌⊎◌, ◌++◌, ◌≤◌, Err, IfErr, IfOk, IfSome, IsSome, None, Ok, OnOk, false, length, true};
+ghost use Rattle.std.specs.Prelude.{◌≡◌, ◌⊎◌, ◌++◌, ◌<◌, ◌≤◌, Err, IfErr, IfOk, IfSome, IsSome, None, Ok, OnOk, false, length, true};
 ghost use Rattle.std.specs.List.{list_all};
 ghost use Rattle.ds_certificate.specs.Bounds.{fits};
 ghost use Rattle.ds_checker.specs.Acceptance.{refusal_of};
+ghost use Rattle.ds_checker.specs.Besides.{rest_of};
 ghost use Rattle.ds_quotes.specs.Quotes.{least_terms, with_least};
 ghost use Rattle.dsedge_texts.specs.Quoted.{none_lines, quote_at, quote_in, quote_on, told_beside, told_none};
 ghost use Rattle.dsedge_texts.specs.Quoted.{value_line};
@@ -12,7 +13,7 @@ use crate::refusing::RefusalLine;
 use crate::wording::push_figure;
 use ds_checker::{Accepted, Candidate, Refusal, check};
 use ds_domain::{Contract, Domain, DomainFault, Kind, Terms, parse};
-use ds_quotes::{Field, greatest, least_refusal};
+use ds_quotes::{Field, greatest_without, least_refusal_without};
 use std::alloc::{AllocError, Global};
 
 /// What is answered to a quote.
@@ -187,13 +188,31 @@ pub fn push_quote(
         ≡ text.old.items ++ (told_beside accepted.now contract.now field).0) }
     ensures found { IfOk result (λ found. found ≡ (told_beside accepted.now contract.now field).1) }
 {
-    match greatest(accepted, contract, field) {
+    push_quote_without(alloc, text, accepted, None, contract, field)
+}
+
+/// The same beside what an accepted table holds but the contract at a place, if one is left out.
+pub fn push_quote_without(
+    alloc: Global,
+    text: &mut Vec<u8>,
+    accepted: &Accepted,
+    left_out: Option<usize>,
+    contract: &Contract,
+    field: Field,
+) -> Result<bool, AllocError>
+    requires { IfSome left_out (λ place. place < length accepted.now.contracts) }
+    ensures text { OnOk result (text.new.items
+        ≡ text.old.items ++ (told_beside (rest_of accepted.now left_out) contract.now field).0) }
+    ensures found { IfOk result (λ found.
+        found ≡ (told_beside (rest_of accepted.now left_out) contract.now field).1) }
+{
+    match greatest_without(accepted, left_out, contract, field) {
         Some(value) => {
             push_value(text, field, value)?;
             Ok(true)
         }
         None => {
-            let refusal = least_refusal(accepted, contract, field);
+            let refusal = least_refusal_without(accepted, left_out, contract, field);
             push_none(alloc, text, accepted.contracts(), refusal)?;
             Ok(false)
         }
