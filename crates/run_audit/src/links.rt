@@ -1,5 +1,5 @@
 //! Whether links keep their floors and jitters.
-ghost use Rattle.std.specs.Prelude.{◌≡◌, map};
+ghost use Rattle.std.specs.Prelude.{◌≡◌, Some, map};
 ghost use Rattle.ds_domain_base.specs.Domains.{link_of};
 ghost use Rattle.run_audit.specs.Assembled.{passage_of};
 ghost use Rattle.run_audit.specs.Bases.{basis_of};
@@ -9,16 +9,26 @@ ghost use Rattle.run_audit.specs.Verdicts.{against_sent, first_found, is_over};
 use crate::basis::Ground;
 use crate::sending::{Sending, sent_of};
 use crate::verdict::Verdict;
-use ds_domain_base::{Contract, Domain, Name};
+use ds_domain_base::{Contract, Domain, Link, Name};
 use meter_fabric_base::Trail;
 use moment_core::Moment;
 
-/// Whether what left a name at a moment arrives over the link to a name in its time.
+/// Whether what left a name at a moment arrives over the link to a name in its time. The link is looked up once.
 fn is_over(domain: &Domain, from: Name, to: Name, moment: Moment, arrival: Moment) -> bool
     ensures { result ≡ is_over (link_of domain.now from to) moment arrival }
 {
-    let earliest = moment.get() + domain.floor(from, to).get();
-    let latest = earliest + domain.jitter(from, to).get();
+    match domain.link(from, to) {
+        None => moment == arrival,
+        Some(link) => is_over_link(&link, moment, arrival),
+    }
+}
+
+/// Whether what left at a moment arrives over a link in its time.
+fn is_over_link(link: &Link, moment: Moment, arrival: Moment) -> bool
+    ensures { result ≡ is_over (Some link.now) moment arrival }
+{
+    let earliest = moment.get() + link.floor.get();
+    let latest = earliest + link.jitter.get();
     let arrival = arrival.get();
     earliest <= arrival && arrival <= latest
 }
