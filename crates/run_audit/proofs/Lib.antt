@@ -3,6 +3,7 @@ pub mod ColourLaws
 pub mod CountLaws
 pub mod ExampleLaws
 pub mod FoundLaws
+pub mod GroupLaws
 pub mod HopLaws
 pub mod Inputs
 pub mod JournalLaws

@@ -6,6 +6,7 @@ pub mod assembling;
 pub mod auditing;
 pub mod basis;
 pub mod fault;
+mod grouping;
 pub mod laws;
 mod links;
 mod orders;

@@ -5,6 +5,7 @@ ghost use Rattle.run_audit.specs.Assembled.{passage_of};
 ghost use Rattle.run_audit.specs.Standings.{by_contract};
 ghost use Rattle.run_audit.specs.Verdicts.{by_number, by_site};
 
+use crate::grouping::grouped;
 use crate::run::Run;
 use meter_book::Journal;
 use meter_fabric_base::Trail;
@@ -31,9 +32,25 @@ pub(crate) fn by_contract<'a>(alloc: Global, run: &'a Run<'_>) -> Result<Vec<&'a
     ensures { IfOk result (λ trails. map (λ trail. passage_of trail.now) trails.items
         ≡ by_contract run.now.run.passages) }
 {
-    let mut trails = all_trails(alloc, run.trails())?;
+    let all = all_trails(alloc, run.trails())?;
+    let mut trails = near_order(alloc, all, run.basis().flow_count())?;
     trails.sort_by_key(|trail| (trail.flow, trail.begun.get(), trail.packet))?;
     Ok(trails)
+}
+
+/// The same trails in groups, one for each of so many contracts, so that those that came as they were sent stand in order
+/// already; as they are where there are fewer of them than contracts.
+fn near_order<'a>(
+    alloc: Global,
+    trails: Vec<&'a Trail>,
+    contracts: u32,
+) -> Result<Vec<&'a Trail>, AllocError>
+    ensures { IfOk result (λ near. IsPermutation trails.entry.items near.items) }
+{
+    if trails.len() < contracts as usize {
+        return Ok(trails);
+    }
+    grouped(alloc, trails.as_slice(), contracts)
 }
 
 /// References to journals, in the order in which they stand.
