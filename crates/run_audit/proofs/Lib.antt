@@ -11,6 +11,7 @@ pub mod Journals
 pub mod Loads
 pub mod MemberLaws
 pub mod OrderLaws
+pub mod PathLaws
 pub mod Passages
 pub mod Peaks
 pub mod Places

@@ -9,6 +9,7 @@ pub mod Kept
 pub mod KeptColours
 pub mod Laws
 pub mod Orders
+pub mod Paths
 pub mod PolicedExample
 pub mod Premises
 pub mod Runs

@@ -53,7 +53,7 @@ fn first_broken(alloc: Global, run: &Run<'_>) -> Result<Option<Verdict>, AllocEr
     if over.is_some() {
         return Ok(over);
     }
-    let delayed = delayed(run, trails.as_slice());
+    let delayed = delayed(alloc, run, trails.as_slice());
     if delayed.is_some() {
         return Ok(delayed);
     }
@@ -77,11 +77,11 @@ fn over(alloc: Global, run: &Run<'_>) -> Result<Option<Verdict>, AllocError>
 }
 
 /// What is found against the floors and jitters of links.
-fn delayed(run: &Run<'_>, trails: &[&Trail]) -> Option<Verdict>
+fn delayed(alloc: Global, run: &Run<'_>, trails: &[&Trail]) -> Option<Verdict>
     requires { map (λ trail. passage_of trail.now) trails.now ≡ by_number run.now.run.passages }
     ensures { result ≡ link_of_run run.now.basis run.now.run }
 {
-    first_delayed(&run.basis(), trails)
+    first_delayed(alloc, &run.basis(), trails)
 }
 
 /// What is found against the skews of meters.

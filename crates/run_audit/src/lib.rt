@@ -10,6 +10,7 @@ mod grouping;
 pub mod laws;
 mod links;
 mod orders;
+mod paths;
 pub mod run;
 mod sending;
 mod sites;

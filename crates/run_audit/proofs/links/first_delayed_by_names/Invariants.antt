@@ -4,7 +4,7 @@ use Rattle.run_audit.specs.Bases.{basis_of}
 use Rattle.run_audit.specs.Assembled.{passage_of}
 use Rattle.run_audit.specs.Hops.{delayed_hop}
 use Rattle.run_audit.specs.Verdicts.{against_sent, first_found}
-use Rattle.run_audit.proofs.links.first_delayed.Given as goal
+use Rattle.run_audit.proofs.links.first_delayed_by_names.Given as goal
 
 -- what is left is as the whole
 abbrev pub invariant-loop-trail : goal.invariant-loop-trail

@@ -4,7 +4,7 @@ use Rattle.run_audit.specs.Assembled.{passage_of}
 use Rattle.run_audit.specs.Hops.{delayed_hop}
 use Rattle.run_audit.specs.Verdicts.{against_sent}
 use Rattle.run_audit.proofs.FoundLaws.{first_found-ended, found-at, found-behind}
-use Rattle.run_audit.proofs.links.first_delayed.Goals as goal
+use Rattle.run_audit.proofs.links.first_delayed_by_names.Goals as goal
 
 pub returns-then-is_some : goal.returns-then-is_some
 returns-then-is_some c =
