@@ -201,13 +201,19 @@ settled_heap rows run fresh visits more after run' same moved is kept =
     subst (λ us. IsPermutation (rows ++ (run ++ fresh)) (after ++ us)) (sym kept)
     (IsPermutation-trans (rows ++ (run ++ fresh)) ((rows ++ fresh) ++ run) (after ++ run) turned (IsPermutation-append_left run (rows ++ fresh) after put))
 
-pub settled_run : (rows run fresh sorted left right out after run' : List (Reverse Waiting)) → IsPermutation fresh sorted → left ≡ run → right ≡ sorted
-    → IsPermutation (left ++ right) out → after ≡ rows → run' ≡ out → IsPermutation (rows ++ (run ++ fresh)) (after ++ run')
-settled_run rows run fresh sorted left right out after run' turned first next merged kept is =
+pub settled_run : (rows run fresh lot sorted left right out run' : List (Reverse Waiting)) → lot ≡ fresh ++ rows → IsPermutation lot sorted → left ≡ run → right ≡ sorted
+    → IsPermutation (left ++ right) out → run' ≡ out → IsPermutation (rows ++ (run ++ fresh)) run'
+settled_run rows run fresh lot sorted left right out run' all turned first next merged is =
     let joined : IsPermutation (run ++ sorted) out = subst (λ us. IsPermutation (us ++ sorted) out) first (subst (λ us. IsPermutation (left ++ us) out) next merged) in
-    subst (λ us. IsPermutation (rows ++ (run ++ fresh)) (us ++ run')) (sym kept)
-    (subst (λ us. IsPermutation (rows ++ (run ++ fresh)) (rows ++ us)) (sym is)
-    (IsPermutation-append_right rows (run ++ fresh) out (IsPermutation-trans (run ++ fresh) (run ++ sorted) out (IsPermutation-append_right run fresh sorted turned) joined)))
+    let moved : IsPermutation (rows ++ (run ++ fresh)) (run ++ lot) =
+    subst (λ us. IsPermutation (rows ++ (run ++ fresh)) us) (append_assoc run fresh rows ∙ ap (λ us. run ++ us) (sym all)) (IsPermutation-append_comm rows (run ++ fresh)) in
+    subst (λ us. IsPermutation (rows ++ (run ++ fresh)) us) (sym is)
+    (IsPermutation-trans (rows ++ (run ++ fresh)) (run ++ lot) out moved
+    (IsPermutation-trans (run ++ lot) (run ++ sorted) out (IsPermutation-append_right run lot sorted turned) joined))
+
+-- where the heap is empty, all is in the run
+pub run_alone : (rows after run' run'' : List (Reverse Waiting)) → after ≡ [] → run'' ≡ run' → IsPermutation rows run' → IsPermutation rows (after ++ run'')
+run_alone rows after run' run'' none is moved = subst (λ us. IsPermutation rows (us ++ run'')) (sym none) (subst (λ us. IsPermutation rows us) (sym is) moved)
 
 -- ---- the first visit is taken
 

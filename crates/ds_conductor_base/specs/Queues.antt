@@ -20,12 +20,13 @@ stored_in q = heap_items q.heap ++ (q.run.items ++ q.fresh.items)
 abbrev pub queue_of : queues.Inside → List Visit
 queue_of q = in_order is_before (visits_in (stored_in q))
 
--- the first of the heap is on top, and that of the run is last; no two are those of one packet to one hop; and what is
--- fresh has room in the heap, and beside the run
+-- the first of the heap is on top, and that of the run is last; no two are those of one packet to one hop; what is fresh
+-- has room in the heap, the heap has room behind it, and both have room beside the run
 pub record IsQueue (q : queues.Inside) : Type 0 where
   pub ordered : IsHeap first_on_top (heap_items q.heap)
   pub sorted : IsSorted first_on_top q.run.items
   pub apart : IsDistinct is_same (visits_in (stored_in q))
   pub empty : vec_len q.spare ≡ 0
   pub heap_room : 0 < vec_len q.fresh → heap_len q.heap + vec_len q.fresh ≤ heap_capacity q.heap
-  pub spare_room : 0 < vec_len q.fresh → vec_len q.run + vec_len q.fresh ≤ vec_capacity q.spare
+  pub fresh_room : 0 < vec_len q.fresh → heap_len q.heap + vec_len q.fresh ≤ vec_capacity q.fresh
+  pub spare_room : 0 < vec_len q.fresh → vec_len q.run + (heap_len q.heap + vec_len q.fresh) ≤ vec_capacity q.spare

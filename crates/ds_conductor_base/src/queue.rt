@@ -91,9 +91,10 @@ impl VisitQueue {
         ensures unchanged { OnErr result (self.new ≡ self.old) }
     {
         let coming = self.fresh.len() + stops.len();
+        let waiting = self.heap.len();
         self.heap.reserve(coming)?;
-        self.fresh.reserve(stops.len())?;
-        self.spare.reserve(self.run.len() + coming)?;
+        self.fresh.reserve(waiting + stops.len())?;
+        self.spare.reserve(self.run.len() + (waiting + coming))?;
         push_visits(&mut self.fresh, place, packet, stops);
         Ok(())
     }
@@ -119,6 +120,7 @@ impl VisitQueue {
 /// Puts the visits of the packet of a place to its stops behind others, where there is room for them.
 fn push_visits(fresh: &mut Vec<Reverse<Waiting>>, place: usize, packet: &Sent, stops: &[Stop])
     requires { vec_len fresh.old + length stops.now ≤ vec_capacity fresh.old }
+    ensures capacity { vec_capacity fresh.old ≤ vec_capacity fresh.new }
     ensures len { vec_len fresh.new ≡ vec_len fresh.old + length stops.now }
     ensures added { visits_in fresh.new.items ≡ visits_in fresh.old.items ++ map (visit_to place packet.now) stops.now }
 {
@@ -129,8 +131,8 @@ fn push_visits(fresh: &mut Vec<Reverse<Waiting>>, place: usize, packet: &Sent, s
     }
 }
 
-/// Puts what is fresh among the others: in the heap where it is little beside the run, and else in the run. So a merge
-/// moves a few visits for each that is fresh, however long the run is.
+/// Puts what is fresh among the others: in the heap where both are little beside the run, and else with the heap in the
+/// run. So a merge moves a few visits for each that it puts in the run, however long that is, and the heap stays small.
 fn settle(
     heap: &mut BinaryHeap<Reverse<Waiting>>,
     run: &mut Vec<Reverse<Waiting>>,
@@ -143,8 +145,10 @@ fn settle(
     requires empty { vec_len spare.old ≡ 0 }
     requires heap_room { 0 < vec_len fresh.old →
         heap_len heap.old + vec_len fresh.old ≤ heap_capacity heap.old }
+    requires fresh_room { 0 < vec_len fresh.old →
+        heap_len heap.old + vec_len fresh.old ≤ vec_capacity fresh.old }
     requires spare_room { 0 < vec_len fresh.old →
-        vec_len run.old + vec_len fresh.old ≤ vec_capacity spare.old }
+        vec_len run.old + (heap_len heap.old + vec_len fresh.old) ≤ vec_capacity spare.old }
     ensures same { IsPermutation (heap_items heap.old ++ (run.old.items ++ fresh.old.items))
         (heap_items heap.new ++ run.new.items) }
     ensures settled { vec_len fresh.new ≡ 0 }
@@ -155,15 +159,38 @@ fn settle(
     if fresh.is_empty() {
         return;
     }
-    if run.len() / 4 > fresh.len() {
+    if run.len() / 4 > heap.len() + fresh.len() {
         push_all(heap, fresh);
     } else {
-        put_in_order(fresh, spare, numbers);
-        merge(run, fresh, spare);
-        swap(run, spare);
-        spare.clear();
+        put_in_run(heap, run, fresh, spare, numbers);
     }
     fresh.clear();
+}
+
+/// Puts what is fresh and what is in the heap in the run.
+fn put_in_run(
+    heap: &mut BinaryHeap<Reverse<Waiting>>,
+    run: &mut Vec<Reverse<Waiting>>,
+    fresh: &mut Vec<Reverse<Waiting>>,
+    spare: &mut Vec<Reverse<Waiting>>,
+    numbers: &mut Vec<u64>,
+)
+    requires sorted { IsSorted first_on_top run.old.items }
+    requires empty { vec_len spare.old ≡ 0 }
+    requires fresh_room { heap_len heap.old + vec_len fresh.old ≤ vec_capacity fresh.old }
+    requires spare_room { vec_len run.old + (heap_len heap.old + vec_len fresh.old) ≤ vec_capacity spare.old }
+    ensures same { IsPermutation (heap_items heap.old ++ (run.old.items ++ fresh.old.items)) run.new.items }
+    ensures emptied { heap_items heap.new ≡ [] }
+    ensures ordered { IsHeap first_on_top (heap_items heap.new) }
+    ensures empty { vec_len spare.new ≡ 0 }
+    ensures sorted { IsSorted first_on_top run.new.items }
+{
+    fresh.extend_from_slice(heap.as_slice()).unwrap();
+    heap.clear();
+    put_in_order(fresh, spare, numbers);
+    merge(run, fresh, spare);
+    swap(run, spare);
+    spare.clear();
 }
 
 /// Sorts visits: those that do not come in their order anyway by numbers first, which are sorted sooner than visits are.

@@ -1,6 +1,6 @@
-use Rattle.std.proofs.Common.{ap, ◌∙◌}
+use Rattle.std.proofs.Common.{◌++◌, ap, ◌∙◌}
 use Rattle.std.specs.BinaryHeap.{heap_items}
-use Rattle.ds_conductor_base.proofs.RunLaws.{settled_heap, settled_run}
+use Rattle.ds_conductor_base.proofs.RunLaws.{run_alone, settled_heap}
 use Rattle.ds_conductor_base.proofs.queue.settle.Goals as goal
 use Rattle.ds_conductor_base.proofs.queue.settle.Goals.{then-len, else-len}
 
@@ -11,8 +11,6 @@ returns-clause-same c =
           settled_heap (heap_items c.args.heap.now) c.args.run.now.items c.args.fresh.now.items w.deref.result.now (heap_items w.push_all.new.heap)
           (heap_items c.if-len.heap) c.if-len.run.items w.deref.ensures.value w.push_all.ensures.same (ap (λ h. heap_items h) w.heap-is) (ap (λ v. v.items) w.run-is)
       | else-len w ↦
-          settled_run (heap_items c.args.heap.now) c.args.run.now.items c.args.fresh.now.items w.put_in_order.new.visits.items w.deref-else-len.result.now
-          w.deref-else-len-2.result.now w.merge.new.out.items (heap_items c.if-len.heap) c.if-len.run.items w.put_in_order.ensures.same
-          w.deref-else-len.ensures.value w.deref-else-len-2.ensures.value w.merge.ensures.same (ap (λ h. heap_items h) w.heap-is)
-          (ap (λ v. v.items) (w.run-is ∙ w.swap.ensures.x_after))
+          run_alone (heap_items c.args.heap.now ++ (c.args.run.now.items ++ c.args.fresh.now.items)) (heap_items c.if-len.heap) w.put_in_run.new.run.items c.if-len.run.items
+          (ap (λ h. heap_items h) w.heap-is ∙ w.put_in_run.ensures.emptied) (ap (λ v. v.items) w.run-is) w.put_in_run.ensures.same
     ]

@@ -18,6 +18,7 @@ invariant_of-self-2 c =
     let moved = added_moved (heap_items c.self.inside.heap) (heap_items c.reserve.new.self) c.self.inside.run.items c.self.inside.fresh.items c.reserve-2.new.self.items
     c.push_visits.new.fresh.items more c.reserve.ensures.items c.reserve-2.ensures.items c.push_visits.ensures.added in
     let room = c.in_ok-reserve.ensures.ok in
+    let behind = c.in_ok-reserve-2.ensures.ok in
     let beside = c.in_ok-reserve-3.ensures.ok in
     record {
       ordered = subst (λ (us : List (Reverse Waiting)). IsHeap first_on_top us) (sym c.reserve.ensures.items) c.self.invariant.ordered;
@@ -26,6 +27,7 @@ invariant_of-self-2 c =
           (added_apart (stored_in c.self.inside) more (subst (λ (us : List Visit). IsDistinct is_same (us ++ more)) (sym c.self.view_is) c.requires)) moved;
       empty = c.reserve-3.ensures.len ∙ c.self.invariant.empty;
       heap_room = λ there. omega (arith, room);
+      fresh_room = λ there. omega (arith, behind, c.push_visits.ensures.capacity);
       spare_room = λ there. omega (arith, beside);
     }
 

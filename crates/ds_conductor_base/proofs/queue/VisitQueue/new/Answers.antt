@@ -20,6 +20,7 @@ invariant_of-result c =
       apart = subst (λ (us : List (Reverse Waiting)). IsDistinct is_same (visits_in us)) (sym none) tt;
       empty = c.new-4.ensures.len;
       heap_room = λ there. absurd (omega (arith, there, c.new-3.ensures.len));
+      fresh_room = λ there. absurd (omega (arith, there, c.new-3.ensures.len));
       spare_room = λ there. absurd (omega (arith, there, c.new-3.ensures.len));
     }
 

@@ -27,6 +27,7 @@ invariant_of-self c =
           (same_apart (stored_in c.self.inside) settled c.settle.ensures.same c.self.invariant.apart);
       empty = c.settle.ensures.empty;
       heap_room = λ there. absurd (omega (arith, there));
+      fresh_room = λ there. absurd (omega (arith, there));
       spare_room = λ there. absurd (omega (arith, there));
     }
 
@@ -59,6 +60,7 @@ invariant_of-self-2 c =
           (popped_rest left first (popped_apart (stored_in c.self.inside) left first moved c.self.invariant.apart));
       empty = c.settle.ensures.empty;
       heap_room = λ there. absurd (omega (arith, there));
+      fresh_room = λ there. absurd (omega (arith, there));
       spare_room = λ there. absurd (omega (arith, there));
     }
 
