@@ -41,7 +41,7 @@ pub sorted_inside : (numbers sorted : List ℕ) (most : ℕ) → IsPermutation n
 sorted_inside numbers sorted most moved inside = All-permutation (λ n. place_in n < most) numbers sorted moved inside
 
 any_visit : Reverse Waiting
-any_visit = record { 0 = record { moment = 0; place = 0; number = 0; site = 0 } }
+any_visit = record { 0 = record { moment = 0; place = 0; number = 0; site = 0; lane = 0 } }
 
 -- visits by their numbers in another order
 pub reordered : (visits after : List (Reverse Waiting)) (numbers sorted given : List ℕ) → given ≡ sorted → ((d : Reverse Waiting) → numbered_in visits d numbers ≡ visits)

@@ -21,20 +21,20 @@ use Rattle.ds_conductor_base.specs.declared.visit.Visit.{Visit}
 -- ---- the first is before the others
 
 -- what does not compare as less than another, and is not the same, is behind it
-compared : (m p h s m' p' h' s' : ℕ) → (nat_eq p p' && nat_eq h h') ≡ false
-    → is_lt (ordering_then (nat_cmp m' m) (ordering_then (nat_cmp p' p) (ordering_then (nat_cmp h' h) (nat_cmp s' s)))) ≡ false
+compared : (m p h s l m' p' h' s' l' : ℕ) → (nat_eq p p' && nat_eq h h') ≡ false
+    → is_lt (ordering_then (nat_cmp m' m) (ordering_then (nat_cmp p' p) (ordering_then (nat_cmp h' h) (ordering_then (nat_cmp s' s) (nat_cmp l' l))))) ≡ false
     → (nat_lt m m' || nat_eq m m' && (nat_lt p p' || nat_eq p p' && nat_lt h h')) ≡ true
-compared m p h s m' p' h' s' apart last = grind (arith, nat_tests)
+compared m p h s l m' p' h' s' l' apart last = grind (arith, nat_tests)
 
-compared_late : (m p h s m' p' h' s' : ℕ)
-    → is_lt (ordering_then (nat_cmp m' m) (ordering_then (nat_cmp p' p) (ordering_then (nat_cmp h' h) (nat_cmp s' s)))) ≡ false → m ≤ m'
-compared_late m p h s m' p' h' s' last = grind (arith, nat_tests)
+compared_late : (m p h s l m' p' h' s' l' : ℕ)
+    → is_lt (ordering_then (nat_cmp m' m) (ordering_then (nat_cmp p' p) (ordering_then (nat_cmp h' h) (ordering_then (nat_cmp s' s) (nat_cmp l' l))))) ≡ false → m ≤ m'
+compared_late m p h s l m' p' h' s' l' last = grind (arith, nat_tests)
 
 all_before : (r : Reverse Waiting) (rows : List (Reverse Waiting)) → AllByRecursion (λ w. is_same (visit_in r) w ≡ false) (visits_in rows)
     → IsUpperBound first_on_top r rows → AllByRecursion (λ w. is_before (visit_in r) w ≡ true) (visits_in rows)
 all_before r [] apart top = tt
 all_before r (s ∷ rows) apart top = (
-  compared r.0.moment r.0.place r.0.number r.0.site s.0.moment s.0.place s.0.number s.0.site apart.0 top.0,
+  compared r.0.moment r.0.place r.0.number r.0.site r.0.lane s.0.moment s.0.place s.0.number s.0.site s.0.lane apart.0 top.0,
   all_before r rows apart.1 top.1,
 )
 
@@ -42,7 +42,7 @@ all_late : (moment : ℕ) (r : Reverse Waiting) (rows : List (Reverse Waiting)) 
     → AllByRecursion (λ w. moment < w.moment) (visits_in rows)
 all_late moment r [] late top = tt
 all_late moment r (s ∷ rows) late top =
-    let here = compared_late r.0.moment r.0.place r.0.number r.0.site s.0.moment s.0.place s.0.number s.0.site top.0 in
+    let here = compared_late r.0.moment r.0.place r.0.number r.0.site r.0.lane s.0.moment s.0.place s.0.number s.0.site s.0.lane top.0 in
     (omega (arith, late, here), all_late moment r rows late top.1)
 
 pub late_rows : (moment : ℕ) (r : Reverse Waiting) (rows : List (Reverse Waiting)) → moment < r.0.moment → IsUpperBound first_on_top r rows

@@ -23,7 +23,7 @@ use Rattle.ds_conductor_base.specs.declared.queue.Waiting.{Waiting}
 waiting_total : IsTotalOrder waiting_cmp
 waiting_total =
     then_total (on_total (λ (w : Waiting). w.moment) nat_cmp_total) (then_total (on_total (λ (w : Waiting). w.place) nat_cmp_total)
-    (then_total (on_total (λ (w : Waiting). w.number) nat_cmp_total) (on_total (λ (w : Waiting). w.site) nat_cmp_total)))
+    (then_total (on_total (λ (w : Waiting). w.number) nat_cmp_total) (then_total (on_total (λ (w : Waiting). w.site) nat_cmp_total) (on_total (λ (w : Waiting). w.lane) nat_cmp_total))))
 
 first_total : IsTotalOrder first_on_top
 first_total = on_total (λ (r : Reverse Waiting). r.0) (back_total waiting_total)
@@ -43,7 +43,7 @@ last_bounds run r up is k d short =
     subst (λ x. is_later x (get_or run k d) ≡ false) (sym (get_or_read run (length run - 1) r (omega (arith, short)) is d))
     (sorted_far is_later later_strict run up k (length run - 1) d (omega (arith, short)) (omega (arith, short)))
 
-beyond : (r s : Reverse Waiting) (rows : List (Reverse Waiting)) → is_later r s ≡ false → All (λ q. is_later s q ≡ false) rows
+pub beyond : (r s : Reverse Waiting) (rows : List (Reverse Waiting)) → is_later r s ≡ false → All (λ q. is_later s q ≡ false) rows
     → All (λ q. is_later r q ≡ false) rows
 beyond r s rows here bound =
     All-weaker (λ q. is_later s q ≡ false) (λ q. is_later r q ≡ false) (λ q next. later_strict.chain r s q here next) rows bound
@@ -201,19 +201,13 @@ settled_heap rows run fresh visits more after run' same moved is kept =
     subst (λ us. IsPermutation (rows ++ (run ++ fresh)) (after ++ us)) (sym kept)
     (IsPermutation-trans (rows ++ (run ++ fresh)) ((rows ++ fresh) ++ run) (after ++ run) turned (IsPermutation-append_left run (rows ++ fresh) after put))
 
-pub settled_run : (rows run fresh lot sorted left right out run' : List (Reverse Waiting)) → lot ≡ fresh ++ rows → IsPermutation lot sorted → left ≡ run → right ≡ sorted
-    → IsPermutation (left ++ right) out → run' ≡ out → IsPermutation (rows ++ (run ++ fresh)) run'
-settled_run rows run fresh lot sorted left right out run' all turned first next merged is =
+pub settled_run : (rows run fresh sorted left right out after run' : List (Reverse Waiting)) → IsPermutation fresh sorted → left ≡ run → right ≡ sorted
+    → IsPermutation (left ++ right) out → after ≡ rows → run' ≡ out → IsPermutation (rows ++ (run ++ fresh)) (after ++ run')
+settled_run rows run fresh sorted left right out after run' turned first next merged kept is =
     let joined : IsPermutation (run ++ sorted) out = subst (λ us. IsPermutation (us ++ sorted) out) first (subst (λ us. IsPermutation (left ++ us) out) next merged) in
-    let moved : IsPermutation (rows ++ (run ++ fresh)) (run ++ lot) =
-    subst (λ us. IsPermutation (rows ++ (run ++ fresh)) us) (append_assoc run fresh rows ∙ ap (λ us. run ++ us) (sym all)) (IsPermutation-append_comm rows (run ++ fresh)) in
-    subst (λ us. IsPermutation (rows ++ (run ++ fresh)) us) (sym is)
-    (IsPermutation-trans (rows ++ (run ++ fresh)) (run ++ lot) out moved
-    (IsPermutation-trans (run ++ lot) (run ++ sorted) out (IsPermutation-append_right run lot sorted turned) joined))
-
--- where the heap is empty, all is in the run
-pub run_alone : (rows after run' run'' : List (Reverse Waiting)) → after ≡ [] → run'' ≡ run' → IsPermutation rows run' → IsPermutation rows (after ++ run'')
-run_alone rows after run' run'' none is moved = subst (λ us. IsPermutation rows (us ++ run'')) (sym none) (subst (λ us. IsPermutation rows us) (sym is) moved)
+    subst (λ us. IsPermutation (rows ++ (run ++ fresh)) (us ++ run')) (sym kept)
+    (subst (λ us. IsPermutation (rows ++ (run ++ fresh)) (rows ++ us)) (sym is)
+    (IsPermutation-append_right rows (run ++ fresh) out (IsPermutation-trans (run ++ fresh) (run ++ sorted) out (IsPermutation-append_right run fresh sorted turned) joined)))
 
 -- ---- the first visit is taken
 

@@ -4,6 +4,7 @@ pub mod Conducting
 pub mod Faults
 pub mod Kept
 pub mod KeptStreams
+pub mod Lanes
 pub mod Laws
 pub mod OnTheWay
 pub mod Packets

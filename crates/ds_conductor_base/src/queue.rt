@@ -1,7 +1,9 @@
 ghost use Rattle.std.specs.Prelude.{◌≡◌, ◌+◌, ◌-◌, ◌<◌, ◌≤◌, ◌++◌, ◌∷◌, [], length, map, MatchBool, MatchOption, OnErr};
+ghost use Rattle.std.specs.Prelude.{◌↔◌, IfNone, None, Some, option_to_list, is_some, if◌then◌else◌, IsSome, IfSome};
 ghost use Rattle.std.specs.Prelude.{OnOk, IsPermutation, IsTrue, slice_index_or, ◌^◌};
 ghost use Rattle.std.specs.BinaryHeap.{IsHeap, IsUpperBound, heap_capacity, heap_items, heap_len};
 ghost use Rattle.std.specs.Vec.{vec_capacity, vec_len};
+ghost use Rattle.ds_conductor_base.specs.Lanes.{AreLanes, IsLeftOut, IsPutBehind, rows_in};
 ghost use Rattle.ds_conductor_base.specs.Waits.{first_on_top, numbered_in, place_in, visit_in, visits_in};
 ghost use Rattle.std.specs.List.{All, IsDistinct};
 ghost use Rattle.std.specs.List.Sorted.{IsSorted};
@@ -14,10 +16,10 @@ use crate::sent::Sent;
 use crate::visit::{Visit, visit_to};
 use crate::way::Stop;
 use meter_fabric_base::Hop;
-use moment_core::Moment;
+use moment_core::{Gap, Moment};
 use std::alloc::{AllocError, Global};
 use std::cmp::Reverse;
-use std::collections::BinaryHeap;
+use std::collections::{BinaryHeap, VecDeque};
 use std::marker::Model;
 use std::mem::swap;
 
@@ -28,7 +30,15 @@ pub struct Waiting {
     place: usize,
     number: u8,
     site: u32,
+    /// The number of its lane.
+    lane: u16,
 }
+
+/// How many lanes there are: a power of two.
+const LANES: usize = 1024;
+
+/// Room for so many visits, four times over, is not given back.
+const FEW: usize = 8;
 
 /// From so many visits on, they are put in order by numbers.
 const LEAST_NUMBERED: usize = 32;
@@ -39,11 +49,92 @@ const MOST_NUMBERED: usize = 1 << 20;
 /// Visits that are put in order by numbers lie less far apart, in nanoseconds: so much fits in the high bits.
 const MOST_APART: u64 = 1 << 44;
 
+/// Visits that came one after the other, each behind that before it.
+#[derive(Drop)]
+struct Lane {
+    /// Those behind the first, which waits in the heap.
+    visits: VecDeque<Reverse<Waiting>>,
+    /// The last of all, while the first waits.
+    last: Option<Reverse<Waiting>>,
+}
+
+impl Lane {
+    /// No visits.
+    fn new(alloc: Global) -> Self
+        ensures visits { result.visits.items ≡ [] }
+        ensures last { result.last ≡ None }
+    {
+        Lane {
+            visits: VecDeque::new(alloc),
+            last: None,
+        }
+    }
+
+    /// Puts a visit behind the others, where it comes behind them. Else, or where memory runs out, it has to go into
+    /// the heap; there it is the first of the lane, if that is empty.
+    fn put(&mut self, visit: Reverse<Waiting>) -> bool
+        ensures { MatchBool result (IsPutBehind visit self.old self.new) (IsLeftOut visit self.old self.new) }
+    {
+        match self.last {
+            Some(last) => self.put_behind(last, visit),
+            None => {
+                self.last = Some(visit);
+                false
+            }
+        }
+    }
+
+    /// Puts a visit behind the others, where it comes behind the last of them. Else, or where memory runs out, all is
+    /// as it was.
+    fn put_behind(&mut self, last: Reverse<Waiting>, visit: Reverse<Waiting>) -> bool
+        requires { self.old.last ≡ Some last }
+        ensures { MatchBool result (IsPutBehind visit self.old self.new) (IsLeftOut visit self.old self.new) }
+    {
+        if last.cmp(&visit).is_lt() || self.visits.push_back(visit).is_err() {
+            return false;
+        }
+        self.last = Some(visit);
+        true
+    }
+
+    /// Takes the next visit out, once the first of the lane has left the heap.
+    fn take(&mut self) -> Option<Reverse<Waiting>>
+        ensures visits { self.old.visits.items ≡ option_to_list result ++ self.new.visits.items }
+        ensures last { self.new.last ≡ (if is_some result then self.old.last else None) }
+        ensures none { IfNone result (self.new.visits.items ≡ []) }
+    {
+        match self.visits.pop_front() {
+            Some(visit) => {
+                self.fit();
+                Some(visit)
+            }
+            None => {
+                self.last = None;
+                None
+            }
+        }
+    }
+
+    /// Gives room back that is not needed any more.
+    fn fit(&mut self)
+        ensures visits { self.new.visits.items ≡ self.old.visits.items }
+        ensures last { self.new.last ≡ self.old.last }
+    {
+        let len = self.visits.len();
+        if self.visits.capacity() / 4 > len.max(FEW) {
+            self.visits.shrink_to(len.saturating_mul(2));
+        }
+    }
+}
+
 /// The visits that wait, in their order.
 #[derive(Drop)]
 pub struct VisitQueue {
-    /// Those that came in small lots.
+    alloc: Global,
+    /// Of those that came in small lots, the first of each lane, and those of no lane.
     heap: BinaryHeap<Reverse<Waiting>>,
+    /// The others that came in small lots: each lane is for those that come after the same delay.
+    lanes: Vec<Lane>,
     /// Those that came in large lots: the first visit is the last.
     run: Vec<Reverse<Waiting>>,
     /// Those that came since the last visit was taken, in no order.
@@ -73,7 +164,9 @@ impl VisitQueue {
         ensures { result ≡ [] }
     {
         VisitQueue {
+            alloc,
             heap: BinaryHeap::new(alloc),
+            lanes: Vec::new(alloc),
             run: Vec::new(alloc),
             fresh: Vec::new(alloc),
             spare: Vec::new(alloc),
@@ -91,10 +184,9 @@ impl VisitQueue {
         ensures unchanged { OnErr result (self.new ≡ self.old) }
     {
         let coming = self.fresh.len() + stops.len();
-        let waiting = self.heap.len();
         self.heap.reserve(coming)?;
-        self.fresh.reserve(waiting + stops.len())?;
-        self.spare.reserve(self.run.len() + (waiting + coming))?;
+        self.fresh.reserve(stops.len())?;
+        self.spare.reserve(self.run.len() + coming)?;
         push_visits(&mut self.fresh, place, packet, stops);
         Ok(())
     }
@@ -106,13 +198,15 @@ impl VisitQueue {
             (λ v. (v.moment ≤ moment) × (self.old ≡ v ∷ self.new)) }
     {
         settle(
+            self.alloc,
             &mut self.heap,
+            &mut self.lanes,
             &mut self.run,
             &mut self.fresh,
             &mut self.spare,
             &mut self.numbers,
         );
-        let Reverse(first) = take_due(&mut self.heap, &mut self.run, moment)?;
+        let Reverse(first) = take_due(&mut self.heap, &mut self.lanes, &mut self.run, moment)?;
         Some(visit_of(first))
     }
 }
@@ -120,80 +214,185 @@ impl VisitQueue {
 /// Puts the visits of the packet of a place to its stops behind others, where there is room for them.
 fn push_visits(fresh: &mut Vec<Reverse<Waiting>>, place: usize, packet: &Sent, stops: &[Stop])
     requires { vec_len fresh.old + length stops.now ≤ vec_capacity fresh.old }
-    ensures capacity { vec_capacity fresh.old ≤ vec_capacity fresh.new }
     ensures len { vec_len fresh.new ≡ vec_len fresh.old + length stops.now }
     ensures added { visits_in fresh.new.items ≡ visits_in fresh.old.items ++ map (visit_to place packet.now) stops.now }
 {
     for stop in stops {
         fresh
-            .push(Reverse(stored(visit_to(place, packet, stop))))
+            .push(Reverse(stored(visit_to(place, packet, stop), lane_of(stop.delay))))
             .unwrap();
     }
 }
 
-/// Puts what is fresh among the others: in the heap where both are little beside the run, and else with the heap in the
-/// run. So a merge moves a few visits for each that it puts in the run, however long that is, and the heap stays small.
+/// Puts what is fresh among the others: in lanes and the heap where it is little beside the run, and else in the run.
+/// So a merge moves a few visits for each that is fresh, however long the run is.
 fn settle(
+    alloc: Global,
     heap: &mut BinaryHeap<Reverse<Waiting>>,
+    lanes: &mut Vec<Lane>,
     run: &mut Vec<Reverse<Waiting>>,
     fresh: &mut Vec<Reverse<Waiting>>,
     spare: &mut Vec<Reverse<Waiting>>,
     numbers: &mut Vec<u64>,
 )
     requires ordered { IsHeap first_on_top (heap_items heap.old) }
+    requires lanes { AreLanes (heap_items heap.old) lanes.old.items }
     requires sorted { IsSorted first_on_top run.old.items }
     requires empty { vec_len spare.old ≡ 0 }
     requires heap_room { 0 < vec_len fresh.old →
         heap_len heap.old + vec_len fresh.old ≤ heap_capacity heap.old }
-    requires fresh_room { 0 < vec_len fresh.old →
-        heap_len heap.old + vec_len fresh.old ≤ vec_capacity fresh.old }
     requires spare_room { 0 < vec_len fresh.old →
-        vec_len run.old + (heap_len heap.old + vec_len fresh.old) ≤ vec_capacity spare.old }
-    ensures same { IsPermutation (heap_items heap.old ++ (run.old.items ++ fresh.old.items))
-        (heap_items heap.new ++ run.new.items) }
+        vec_len run.old + vec_len fresh.old ≤ vec_capacity spare.old }
+    ensures same { IsPermutation
+        ((heap_items heap.old ++ rows_in lanes.old.items) ++ (run.old.items ++ fresh.old.items))
+        ((heap_items heap.new ++ rows_in lanes.new.items) ++ run.new.items) }
     ensures settled { vec_len fresh.new ≡ 0 }
     ensures empty { vec_len spare.new ≡ 0 }
     ensures ordered { IsHeap first_on_top (heap_items heap.new) }
+    ensures lanes { AreLanes (heap_items heap.new) lanes.new.items }
     ensures sorted { IsSorted first_on_top run.new.items }
 {
     if fresh.is_empty() {
         return;
     }
-    if run.len() / 4 > heap.len() + fresh.len() {
-        push_all(heap, fresh);
+    if run.len() / 4 > fresh.len() {
+        make_lanes(alloc, heap, lanes);
+        hold_all(heap, lanes, fresh);
     } else {
-        put_in_run(heap, run, fresh, spare, numbers);
+        put_in_order(fresh, spare, numbers);
+        merge(run, fresh, spare);
+        swap(run, spare);
+        spare.clear();
     }
     fresh.clear();
 }
 
-/// Puts what is fresh and what is in the heap in the run.
-fn put_in_run(
-    heap: &mut BinaryHeap<Reverse<Waiting>>,
-    run: &mut Vec<Reverse<Waiting>>,
-    fresh: &mut Vec<Reverse<Waiting>>,
-    spare: &mut Vec<Reverse<Waiting>>,
-    numbers: &mut Vec<u64>,
-)
-    requires sorted { IsSorted first_on_top run.old.items }
-    requires empty { vec_len spare.old ≡ 0 }
-    requires fresh_room { heap_len heap.old + vec_len fresh.old ≤ vec_capacity fresh.old }
-    requires spare_room { vec_len run.old + (heap_len heap.old + vec_len fresh.old) ≤ vec_capacity spare.old }
-    ensures same { IsPermutation (heap_items heap.old ++ (run.old.items ++ fresh.old.items)) run.new.items }
-    ensures emptied { heap_items heap.new ≡ [] }
-    ensures ordered { IsHeap first_on_top (heap_items heap.new) }
-    ensures empty { vec_len spare.new ≡ 0 }
-    ensures sorted { IsSorted first_on_top run.new.items }
+/// Makes the lanes, all of them empty, if there are none yet, as far as memory goes.
+fn make_lanes(alloc: Global, heap: &BinaryHeap<Reverse<Waiting>>, lanes: &mut Vec<Lane>)
+    requires { AreLanes (heap_items heap.now) lanes.old.items }
+    ensures same { rows_in lanes.new.items ≡ rows_in lanes.old.items }
+    ensures lanes { AreLanes (heap_items heap.now) lanes.new.items }
 {
-    fresh.extend_from_slice(heap.as_slice()).unwrap();
-    heap.clear();
-    put_in_order(fresh, spare, numbers);
-    merge(run, fresh, spare);
-    swap(run, spare);
-    spare.clear();
+    if !lanes.is_empty() || lanes.reserve(LANES).is_err() {
+        return;
+    }
+    for _ in 0..LANES {
+        if lanes.push(Lane::new(alloc)).is_err() {
+            return;
+        }
+    }
 }
 
-/// Sorts visits: those that do not come in their order anyway by numbers first, which are sorted sooner than visits are.
+/// Puts visits into their lanes, and into a heap that has room for them.
+fn hold_all(
+    heap: &mut BinaryHeap<Reverse<Waiting>>,
+    lanes: &mut Vec<Lane>,
+    visits: &[Reverse<Waiting>],
+)
+    requires room { heap_len heap.old + length visits.now ≤ heap_capacity heap.old }
+    requires ordered { IsHeap first_on_top (heap_items heap.old) }
+    requires lanes { AreLanes (heap_items heap.old) lanes.old.items }
+    ensures same { IsPermutation ((heap_items heap.old ++ rows_in lanes.old.items) ++ visits.now)
+        (heap_items heap.new ++ rows_in lanes.new.items) }
+    ensures ordered { IsHeap first_on_top (heap_items heap.new) }
+    ensures lanes { AreLanes (heap_items heap.new) lanes.new.items }
+{
+    for visit in visits {
+        hold(heap, lanes, visit);
+    }
+}
+
+/// Puts a visit into its lane, or into a heap that has room for it.
+fn hold(heap: &mut BinaryHeap<Reverse<Waiting>>, lanes: &mut Vec<Lane>, visit: &Reverse<Waiting>)
+    requires room { heap_len heap.old < heap_capacity heap.old }
+    requires ordered { IsHeap first_on_top (heap_items heap.old) }
+    requires lanes { AreLanes (heap_items heap.old) lanes.old.items }
+    ensures same { IsPermutation (visit.now ∷ (heap_items heap.old ++ rows_in lanes.old.items))
+        (heap_items heap.new ++ rows_in lanes.new.items) }
+    ensures ordered { IsHeap first_on_top (heap_items heap.new) }
+    ensures lanes { AreLanes (heap_items heap.new) lanes.new.items }
+    ensures len { heap_len heap.new ≤ heap_len heap.old + 1 }
+    ensures capacity { heap_capacity heap.old ≤ heap_capacity heap.new }
+{
+    if !put_in_lane(heap, lanes, visit) {
+        heap.push(*visit).unwrap();
+    }
+}
+
+/// Puts a visit into its lane, if that can be. Else it has to go into the heap.
+fn put_in_lane(
+    heap: &BinaryHeap<Reverse<Waiting>>,
+    lanes: &mut Vec<Lane>,
+    visit: &Reverse<Waiting>,
+) -> bool
+    requires { AreLanes (heap_items heap.now) lanes.old.items }
+    ensures { MatchBool result
+        (IsPermutation (visit.now ∷ rows_in lanes.old.items) (rows_in lanes.new.items)
+        × AreLanes (heap_items heap.now) lanes.new.items)
+        ((rows_in lanes.new.items ≡ rows_in lanes.old.items)
+        × AreLanes (visit.now ∷ heap_items heap.now) lanes.new.items) }
+{
+    let place = visit.0.lane as usize;
+    if place >= lanes.len() {
+        return false;
+    }
+    lanes[place].put(*visit)
+}
+
+/// Takes out the first visit of a heap, and puts the next one of its lane there, if there is one.
+fn pop_first(
+    heap: &mut BinaryHeap<Reverse<Waiting>>,
+    lanes: &mut Vec<Lane>,
+) -> Option<Reverse<Waiting>>
+    requires ordered { IsHeap first_on_top (heap_items heap.old) }
+    requires lanes { AreLanes (heap_items heap.old) lanes.old.items }
+    ensures some { IsSome result ↔ (0 < heap_len heap.old) }
+    ensures top { IfSome result (λ r. r ≡ slice_index_or (heap_items heap.old) 0 r) }
+    ensures same { IfSome result (λ r. IsPermutation (heap_items heap.old ++ rows_in lanes.old.items)
+        (r ∷ (heap_items heap.new ++ rows_in lanes.new.items))) }
+    ensures ordered { IsHeap first_on_top (heap_items heap.new) }
+    ensures lanes { AreLanes (heap_items heap.new) lanes.new.items }
+{
+    let first = heap.pop();
+    if let Some(visit) = &first {
+        lead(heap, lanes, visit);
+    }
+    first
+}
+
+/// Once a visit was taken out of the heap, puts the next one of its lane there, if there is one.
+fn lead(heap: &mut BinaryHeap<Reverse<Waiting>>, lanes: &mut Vec<Lane>, visit: &Reverse<Waiting>)
+    requires room { heap_len heap.old < heap_capacity heap.old }
+    requires ordered { IsHeap first_on_top (heap_items heap.old) }
+    requires lanes { AreLanes (visit.now ∷ heap_items heap.old) lanes.old.items }
+    ensures same { IsPermutation (heap_items heap.old ++ rows_in lanes.old.items)
+        (heap_items heap.new ++ rows_in lanes.new.items) }
+    ensures ordered { IsHeap first_on_top (heap_items heap.new) }
+    ensures lanes { AreLanes (heap_items heap.new) lanes.new.items }
+{
+    if let Some(next) = next_in_lane(heap, lanes, visit) {
+        heap.push(next).unwrap();
+    }
+}
+
+/// Takes the next visit out of the lane of one that was taken out of the heap. It has to go into the heap.
+fn next_in_lane(
+    heap: &BinaryHeap<Reverse<Waiting>>,
+    lanes: &mut Vec<Lane>,
+    visit: &Reverse<Waiting>,
+) -> Option<Reverse<Waiting>>
+    requires { AreLanes (visit.now ∷ heap_items heap.now) lanes.old.items }
+    ensures same { IsPermutation (rows_in lanes.old.items) (option_to_list result ++ rows_in lanes.new.items) }
+    ensures lanes { AreLanes (option_to_list result ++ heap_items heap.now) lanes.new.items }
+{
+    let place = visit.0.lane as usize;
+    if place >= lanes.len() {
+        return None;
+    }
+    lanes[place].take()
+}
+
+/// Sorts visits: those that do not come in their order anyway by numbers first, which are sorted sooner than visits.
 fn put_in_order(
     visits: &mut Vec<Reverse<Waiting>>,
     spare: &mut Vec<Reverse<Waiting>>,
@@ -287,17 +486,6 @@ fn reorder(visits: &mut Vec<Reverse<Waiting>>, spare: &mut Vec<Reverse<Waiting>>
     spare.clear();
 }
 
-/// Puts visits into a heap that has room for them.
-fn push_all(heap: &mut BinaryHeap<Reverse<Waiting>>, visits: &[Reverse<Waiting>])
-    requires { heap_len heap.old + length visits.now ≤ heap_capacity heap.old }
-    ensures same { IsPermutation (heap_items heap.old ++ visits.now) (heap_items heap.new) }
-    ensures ordered { IsHeap first_on_top (heap_items heap.old) → IsHeap first_on_top (heap_items heap.new) }
-{
-    for visit in visits {
-        heap.push(*visit).unwrap();
-    }
-}
-
 /// Puts two runs together as one, where there is room for it.
 fn merge(left: &[Reverse<Waiting>], right: &[Reverse<Waiting>], out: &mut Vec<Reverse<Waiting>>)
     requires left { IsSorted first_on_top left.now }
@@ -322,21 +510,26 @@ fn merge(left: &[Reverse<Waiting>], right: &[Reverse<Waiting>], out: &mut Vec<Re
     out.extend_from_slice(&right[j..]).unwrap();
 }
 
-/// Takes out the first visit of a heap and a run, if it is at or before the moment at so many nanoseconds.
+/// Takes out the first visit of a heap with lanes and a run, if it is at or before the moment at so many nanoseconds.
 fn take_due(
     heap: &mut BinaryHeap<Reverse<Waiting>>,
+    lanes: &mut Vec<Lane>,
     run: &mut Vec<Reverse<Waiting>>,
     moment: u64,
 ) -> Option<Reverse<Waiting>>
     requires ordered { IsHeap first_on_top (heap_items heap.old) }
+    requires lanes { AreLanes (heap_items heap.old) lanes.old.items }
     requires sorted { IsSorted first_on_top run.old.items }
     ensures first { MatchOption result
-        ((heap_items heap.new ≡ heap_items heap.old) × (run.new.items ≡ run.old.items)
-        × All (λ v. moment < v.moment) (visits_in (heap_items heap.old ++ run.old.items)))
+        (((heap_items heap.new ++ rows_in lanes.new.items) ≡ (heap_items heap.old ++ rows_in lanes.old.items))
+        × (run.new.items ≡ run.old.items)
+        × All (λ v. moment < v.moment) (visits_in ((heap_items heap.old ++ rows_in lanes.old.items) ++ run.old.items)))
         (λ r. (r.0.moment ≤ moment)
-        × IsPermutation (heap_items heap.old ++ run.old.items) (r ∷ (heap_items heap.new ++ run.new.items))
-        × IsUpperBound first_on_top r (heap_items heap.new ++ run.new.items)) }
+        × IsPermutation ((heap_items heap.old ++ rows_in lanes.old.items) ++ run.old.items)
+        (r ∷ ((heap_items heap.new ++ rows_in lanes.new.items) ++ run.new.items))
+        × IsUpperBound first_on_top r ((heap_items heap.new ++ rows_in lanes.new.items) ++ run.new.items)) }
     ensures ordered { IsHeap first_on_top (heap_items heap.new) }
+    ensures lanes { AreLanes (heap_items heap.new) lanes.new.items }
     ensures sorted { IsSorted first_on_top run.new.items }
 {
     if is_heap_first(heap, run) {
@@ -344,7 +537,7 @@ fn take_due(
         if moment < first.moment.get() {
             return None;
         }
-        heap.pop()
+        pop_first(heap, lanes)
     } else {
         let Reverse(first) = run.last()?;
         if moment < first.moment.get() {
@@ -374,8 +567,15 @@ fn is_heap_first(heap: &BinaryHeap<Reverse<Waiting>>, run: &[Reverse<Waiting>]) 
     }
 }
 
-/// A visit as it waits.
-fn stored(visit: Visit) -> Waiting
+/// The lane of the visits that come after a delay.
+fn lane_of(delay: Gap) -> u16 {
+    // the high bits of a product with the golden ratio: few delays fall together
+    let spread = delay.get().wrapping_mul(0x9e37_79b9_7f4a_7c15);
+    (spread >> 54) as u16
+}
+
+/// A visit as it waits in a lane.
+fn stored(visit: Visit, lane: u16) -> Waiting
     ensures { visit_in (record { 0 = result }) ≡ visit }
 {
     Waiting {
@@ -383,6 +583,7 @@ fn stored(visit: Visit) -> Waiting
         place: visit.place,
         number: visit.hop.number,
         site: visit.hop.site,
+        lane,
     }
 }
 

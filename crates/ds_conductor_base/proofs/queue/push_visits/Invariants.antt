@@ -8,7 +8,6 @@ use Rattle.ds_conductor_base.proofs.queue.push_visits.Given as goal
 abbrev pub invariant-loop-stop : goal.invariant-loop-stop
 invariant-loop-stop l = record {
   len : vec_len l.fresh ≡ vec_len l.fn.fresh + l.stop-index;
-  capacity : vec_capacity l.fn.fresh ≤ vec_capacity l.fresh;
   room : vec_len l.fn.fresh + length l.stops ≤ vec_capacity l.fresh;
   added : visits_in l.fresh.items ≡ visits_in l.fn.fresh.items ++ map (visit_to l.place l.packet) (take l.stop-index l.stops);
 }
