@@ -1,6 +1,7 @@
 ghost use Rattle.std.specs.Prelude.{◌≡◌, ◌⊎◌, ◌≤◌, ◌+◌, ◌-◌, [], false, true, ℕ, List, None, Some, IfErr, IfOk, IfSome};
 ghost use Rattle.std.specs.Prelude.{OnErr, OnOk, length};
-ghost use Rattle.std.specs.Prelude.{◌<◌, IfNone, IsTrue, option_map, position, slice_get, unwrap_or, vec_capacity, vec_len};
+ghost use Rattle.std.specs.Prelude.{◌<◌, IfNone, IsTrue, option_map, position, slice_get, unwrap_or, vec_capacity};
+ghost use Rattle.std.specs.Prelude.{vec_len};
 ghost use Rattle.std.specs.Bool.{OnFalse};
 ghost use Rattle.std.specs.List.{list_any};
 ghost use Rattle.ds_certificate.specs.Bounds.{fits, least_of};
@@ -256,8 +257,8 @@ impl Book {
     }
 
     /// The greatest value of a field with which a contract is valid and would be carried beside all that the book holds
-    /// but the contract of its name; None where no value is. It changes nothing; `AllocError` where memory runs out, which
-    /// is not taken.
+    /// but the contract of its name; None where no value is. It changes nothing; `AllocError` where memory runs out,
+    /// which is not taken.
     pub fn greatest(
         &self,
         alloc: Global,

@@ -73,7 +73,8 @@ AreStops d sums from (to ∷ path) [] = ⊥
 AreStops d sums from (to ∷ path) (stop ∷ stops) = IsStop d sums from to stop × AreStops d sums to path stops
 
 -- these are the stops of a path that passes no name twice, by sums of each meter that pass their tests
-pub record AreKnown (d : Domain) (sums : List Loads) (from : List ℕ) (path : List (List ℕ)) (stops : List Stop) : Type 0 where
+pub record AreKnown (d : Domain) (sums : List Loads) (from : List ℕ) (path : List (List ℕ))
+    (stops : List Stop) : Type 0 where
   pub along : AreStops d sums from path stops
   pub once : repeats path ≡ false
   pub places : length sums ≡ length d.meters

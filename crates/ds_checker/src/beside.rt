@@ -122,7 +122,8 @@ fn refusal_along(
     stops: &[Stop],
 ) -> Option<Refusal>
     requires short { length stops.now ≤ 16 }
-    requires known { (sums : List declared_loads.Loads) × AreKnown domain.now sums contract.now.port contract.now.path stops.now }
+    requires known { (sums : List declared_loads.Loads)
+        × AreKnown domain.now sums contract.now.port contract.now.path stops.now }
     ensures value { (sums : List declared_loads.Loads)
         → AreKnown domain.now sums contract.now.port contract.now.path stops.now
         → let other = on_terms terms.now contract.now in result ≡ first_failed (sums_tests domain.now.meters
@@ -144,7 +145,8 @@ fn stops_refusal(
 ) -> Option<Refusal>
     requires short { length stops.now ≤ 16 }
     requires moderate { IsModerate source.now }
-    requires known { (sums : List declared_loads.Loads) × (port : List ℕ) × (path : List (List ℕ)) × AreKnown domain.now sums port path stops.now }
+    requires known { (sums : List declared_loads.Loads) × (port : List ℕ) × (path : List (List ℕ))
+        × AreKnown domain.now sums port path stops.now }
     ensures value { (sums : List declared_loads.Loads) → (port : List ℕ) → (path : List (List ℕ))
         → AreKnown domain.now sums port path stops.now
         → result ≡ first_failed (sums_tests domain.now.meters

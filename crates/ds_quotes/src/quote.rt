@@ -1,5 +1,5 @@
-ghost use Rattle.std.specs.Prelude.{◌≡◌, ◌+◌, ◌-◌, ◌<◌, ◌^◌, ℕ, length, IfNone, IfOk, IfSome, None, Some, nat_eq, position};
-ghost use Rattle.std.specs.Prelude.{unwrap_or, if◌then◌else◌};
+ghost use Rattle.std.specs.Prelude.{◌≡◌, ◌+◌, ◌-◌, ◌<◌, ◌^◌, ℕ, IfNone, IfOk, IfSome, None, Some, length, nat_eq};
+ghost use Rattle.std.specs.Prelude.{position, unwrap_or, if◌then◌else◌};
 ghost use Rattle.std.specs.Str.{bytes_eq};
 ghost use Rattle.ds_checker.specs.Acceptance.{refusal_of};
 ghost use Rattle.ds_checker.specs.Besides.{IsNameless, rest_of};
