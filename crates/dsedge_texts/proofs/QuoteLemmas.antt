@@ -1,12 +1,12 @@
 -- A contract of a text beside the others, and in its place again.
-use Rattle.std.proofs.Common.{arith, ◌≡◌, ℕ, zero, suc, ◌<◌, ◌≤◌, Bool, true, false, List, [], ◌∷◌, ◌++◌, codes, length, Option, get_or, cond, nat_lt, None, Some, Result, Ok, Err, IfOk, refl, sym, ap, ◌∙◌}
+use Rattle.std.proofs.Common.{arith, rules, ◌≡◌, ℕ, zero, suc, ◌<◌, ◌≤◌, Bool, true, false, List, [], ◌∷◌, ◌++◌, codes, length, Option, get_or, cond, nat_lt, None, Some, Result, Ok, Err, IfOk, refl, sym, ap, ◌∙◌}
 use Rattle.std.specs.List.{insert, list_all, position_or_len, remove}
 use Rattle.std.proofs.lemmas.Bool.{and_from, and_parts}
 use Rattle.std.proofs.lemmas.List.Edits.{length-remove}
 use Rattle.std.proofs.lemmas.Bool.Decides.{nat_tests}
 use Rattle.std.specs.Str.{bytes_eq}
 use Rattle.ds_checker.proofs.ChangeLaws.{got}
-use Rattle.std.specs.Prelude.{IfSome}
+use Rattle.std.specs.Prelude.{IfSome, IsSome}
 use Rattle.ds_checker.specs.Acceptance.{Table, refusal_of}
 use Rattle.ds_checker.specs.Besides.{IsNameless}
 use Rattle.ds_checker.specs.declared.refusal.Refusal.{Refusal}
@@ -16,7 +16,7 @@ use Rattle.ds_domain_base.specs.declared.contract.Contract.{Contract}
 use Rattle.ds_domain_base.specs.declared.terms.Terms.{Terms}
 use Rattle.ds_quotes.specs.Quotes.{least_refusal, least_terms, quote_of, with_least}
 use Rattle.ds_quotes.specs.declared.field.Field.{Field}
-use Rattle.dsedge_texts.specs.Quoted.{Told, none_lines, quote_at, quote_of_contract, quote_on, told_at, told_beside, told_by}
+use Rattle.dsedge_texts.specs.Quoted.{Told, none_lines, quote_at, quote_of_contract, quote_on, told_at, told_beside, told_by, told_none}
 use Rattle.dsedge_texts.specs.declared.quoting.QuoteFault.{QuoteFault}
 use Rattle.dsedge_texts.specs.declared.quoting.Quoted.{Quoted}
 use Rattle.dsedge_texts.specs.Refused.{refusal_line}
@@ -72,6 +72,18 @@ quote-over d others place c field terms t is_terms unrefused same =
     ap (quote_on d others place c field) is_terms
     ∙ ap (λ refusal. Ok (told_at d others place c field terms refusal)) unrefused
     ∙ ap (λ table. Ok (told_beside table c field)) (sym same)
+
+none-at : (d : Domain) (others : List Contract) (place : ℕ) (c : Contract) (field : Field) (terms : Terms) (refusal : Option Refusal) → IsSome refusal
+    → told_at d others place c field terms refusal ≡ told_none d others place c terms
+none-at d others place c field terms None refused = absurd (search rules)
+none-at d others place c field terms (Some refusal) refused = refl
+
+-- beside the others, which the checker refuses
+pub quote-none : (d : Domain) (others : List Contract) (place : ℕ) (c : Contract) (field : Field) (terms : Terms) → least_terms field c.terms ≡ Some terms
+    → IsSome (refusal_of (with_least d others)) → quote_on d others place c field (least_terms field c.terms) ≡ Ok (told_none d others place c terms)
+quote-none d others place c field terms is_terms refused =
+    ap (quote_on d others place c field) is_terms
+    ∙ ap Ok (none-at d others place c field terms (refusal_of (with_least d others)) refused)
 
 pub told-ok : (r : Result Quoted QuoteFault) (told : Told) (whole : Result Told QuoteFault) → whole ≡ Ok told
     → IfOk r (λ quoted. told ≡ (quoted.text.items, quoted.is_found)) → IfOk r (λ quoted. whole ≡ Ok (quoted.text.items, quoted.is_found))

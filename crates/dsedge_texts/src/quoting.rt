@@ -292,10 +292,17 @@ fn none_with(alloc: Global, domain: Domain, contracts: Vec<Contract>) -> Result<
     match check(alloc, candidate) {
         Ok(accepted) => none_told(alloc, accepted.contracts(), None),
         Err((_, Refusal::NoMemory)) => Err(QuoteFault::NoMemory),
-        Err((candidate, refusal)) => {
-            none_told(alloc, candidate.contracts.as_slice(), Some(refusal))
-        }
+        Err((candidate, refusal)) => none_against(alloc, candidate, refusal),
     }
+}
+
+/// `none`, and the checker's line of a refusal of a candidate, which is let go here.
+fn none_against(alloc: Global, candidate: Candidate, refusal: Refusal) -> Result<Quoted, QuoteFault>
+    ensures told { IfOk result (λ quoted.
+        (quoted.text.items ≡ none_lines candidate.contracts.items (Some refusal)) × (quoted.is_found ≡ false)) }
+    ensures memory { IfErr result (λ fault. fault ≡ QuoteFault.NoMemory) }
+{
+    none_told(alloc, candidate.contracts.as_slice(), Some(refusal))
 }
 
 /// `none`, and the checker's line of a refusal of some contracts, if there is one.

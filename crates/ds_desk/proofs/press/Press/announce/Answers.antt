@@ -65,3 +65,6 @@ returns-in-Ok-append-clause-oldest g c = none-leads _ _ c.next.ensures.taken
 
 pub returns-in-Err-append-clause-oldest : goal.returns-in-Err-append-clause-oldest
 returns-in-Err-append-clause-oldest g c = none-leads _ _ c.next.ensures.taken
+
+pub returns-in_default-new-clause-oldest : goal.returns-in_default-new-clause-oldest
+returns-in_default-new-clause-oldest g c = none-leads _ _ c.next.ensures.taken
