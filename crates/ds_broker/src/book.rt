@@ -257,8 +257,8 @@ impl Book {
     }
 
     /// The greatest value of a field with which a contract is valid and would be carried beside all that the book holds
-    /// but the contract of its name; None where no value is. It changes nothing; `AllocError` where memory runs out,
-    /// which is not taken.
+    /// but the contract of its name; None where no value is. It changes nothing; it takes no memory, and so is never
+    /// refused.
     pub fn greatest(
         &self,
         alloc: Global,

@@ -71,7 +71,7 @@ impl Step {
         }
     }
 
-    /// Takes the step in the flows beside a table; `AllocError` where memory runs out, and then they are as they were.
+    /// Takes the step in the flows beside a table; `AllocError` where memory runs out.
     pub(crate) fn change_flows(&self, flows: &mut Vec<u32>) -> Result<(), AllocError>
         requires { (table : Table) × Applies self.now table flows.old.items }
         ensures changed { OnOk result (flows.new.items ≡ flows_changed self.now flows.old.items) }

@@ -23,8 +23,8 @@ use ds_certificate::{Source, delayed, entering};
 use ds_domain_base::{Contract, Domain, Terms};
 use std::marker::Model;
 
-/// A contract that fits the domain of an accepted table, beside what the table holds but the contract at a place, if one
-/// is left out. It keeps what is brought to the meters of the contract's path.
+/// A contract that fits the domain of an accepted table, beside what the table holds but the contract at a place, if
+/// one is left out. It keeps what is brought to the meters of the contract's path.
 #[derive(Drop)]
 pub struct Beside<'a> {
     accepted: &'a Accepted,
@@ -94,9 +94,9 @@ impl<'a> Beside<'a> {
         self.contract
     }
 
-    /// The first test that fails of that rest of the table with the contract on these terms, by its least bounds, if one
-    /// does; when the contract begins and ends makes no difference. It names no contract of the table, and takes no
-    /// memory.
+    /// The first test that fails of that rest of the table with the contract on these terms, by its least bounds, if
+    /// one does; when the contract begins and ends makes no difference. It names no contract of the table, and takes
+    /// no memory.
     pub fn refusal_on(&self, terms: &Terms) -> Option<Refusal>
         ensures value { (lifetime : Span) → let other = lasting lifetime (on_terms terms.now self.now.contract) in
             result ≡ refusal_of (with_contract self.now.table other (least_of self.now.table.domain other)) }

@@ -1,5 +1,5 @@
--- How a domain keeps what its look-ups go by: its meters and ports by names again, and its links by the numbers of their
--- ends.
+-- How a domain keeps what its look-ups go by: its meters and ports by names again, and its links by the numbers of
+-- their ends.
 use Rattle.std.specs.Prelude.{◌≡◌, ℕ, ◌+◌, ◌*◌, List, [], ◌∷◌, position, Option, None, Some}
 use Rattle.std.specs.Map.{keys_of}
 use Rattle.std.specs.Str.{bytes_eq}

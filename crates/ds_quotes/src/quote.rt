@@ -39,10 +39,10 @@ impl Trial for Offer<'_> {
     }
 }
 
-/// The greatest value of a field with which a contract is valid and a table carries it beside what it holds, all else of
-/// the contract being as it is: the table is acceptable then with the contract and its least bounds, and with each
-/// greater value it is not, or the contract is not valid. None where that is so of every value: where the contract has
-/// no such field or does not fit the domain, or where its least valid value is too much.
+/// The greatest value of a field with which a contract is valid and a table carries it beside what it holds, all else
+/// of the contract being as it is: the table is acceptable then with the contract and its least bounds, and with each
+/// greater value it is not, or the contract is not valid. None where that is so of every value: where the contract
+/// has no such field or does not fit the domain, or where its least valid value is too much.
 ///
 /// It tests at most 44 values, each in the time of the contract's path, on the sums that the table keeps, and takes no
 /// memory.
@@ -173,7 +173,7 @@ fn place_of(contracts: &[Contract], name: Name) -> Option<usize>
 }
 
 /// The greatest value of a field, as `greatest` tells it, beside what a table holds but the contract of that name;
-/// `AllocError` where memory runs out, which is not taken.
+/// it takes no memory, and so is never refused.
 pub fn greatest_beside(
     alloc: Global,
     accepted: &Accepted,

@@ -1,4 +1,5 @@
-ghost use Rattle.std.specs.Prelude.{◌≡◌, ◌⊎◌, ◌++◌, ◌<◌, ◌≤◌, Err, IfErr, IfOk, IfSome, IsSome, None, Ok, OnOk, false, length, true};
+ghost use Rattle.std.specs.Prelude.{◌≡◌, ◌⊎◌, ◌++◌, ◌<◌, ◌≤◌, Err, IfErr, IfOk, IfSome, IsSome, None, Ok, OnOk};
+ghost use Rattle.std.specs.Prelude.{false, length, true};
 ghost use Rattle.std.specs.List.{list_all};
 ghost use Rattle.ds_certificate.specs.Bounds.{fits};
 ghost use Rattle.ds_checker.specs.Acceptance.{refusal_of};

@@ -38,8 +38,8 @@ pub(crate) fn by_contract<'a>(alloc: Global, run: &'a Run<'_>) -> Result<Vec<&'a
     Ok(trails)
 }
 
-/// The same trails in groups, one for each of so many contracts, so that those that came as they were sent stand in order
-/// already; as they are where there are fewer of them than contracts.
+/// The same trails in groups, one for each of so many contracts, so that those that came as they were sent stand in
+/// order already; as they are where there are fewer of them than contracts.
 fn near_order<'a>(
     alloc: Global,
     trails: Vec<&'a Trail>,
