@@ -6,6 +6,7 @@ ghost use Rattle.run_audit.specs.Standings.{by_contract};
 ghost use Rattle.run_audit.specs.Verdicts.{by_number, by_site};
 
 use crate::grouping::grouped;
+use crate::paths::TRAILS_EACH;
 use crate::run::Run;
 use meter_book::Journal;
 use meter_fabric_base::Trail;
@@ -39,7 +40,7 @@ pub(crate) fn by_contract<'a>(alloc: Global, run: &'a Run<'_>) -> Result<Vec<&'a
 }
 
 /// The same trails in groups, one for each of so many contracts, so that those that came as they were sent stand in
-/// order already; as they are where there are fewer of them than contracts.
+/// order already; as they are where there are few of them for each contract.
 fn near_order<'a>(
     alloc: Global,
     trails: Vec<&'a Trail>,
@@ -47,7 +48,7 @@ fn near_order<'a>(
 ) -> Result<Vec<&'a Trail>, AllocError>
     ensures { IfOk result (λ near. IsPermutation trails.entry.items near.items) }
 {
-    if trails.len() < contracts as usize {
+    if trails.len() / TRAILS_EACH < contracts as usize {
         return Ok(trails);
     }
     grouped(alloc, trails.as_slice(), contracts)

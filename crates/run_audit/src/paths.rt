@@ -8,9 +8,8 @@ use crate::basis::Ground;
 use ds_domain_base::{Contract, Domain, Link};
 use std::alloc::{AllocError, Global};
 
-/// How many trails there are at least for each contract where the links of all paths are found first: so many as a path
-/// has meters.
-const TRAILS_EACH: usize = 16;
+/// How many trails there are at least for each contract where work is done once for each: so many as a path has meters.
+pub(crate) const TRAILS_EACH: usize = 16;
 
 /// The links of the path of each contract, where so many trails are to be held against them that it pays; `None` where
 /// there are fewer trails, or where memory runs out.
