@@ -12,6 +12,7 @@ use std::thread::Threads;
 #[derive(Clone, Copy)]
 pub(crate) enum Kind {
     Sell {
+        days: u64,
         offered: u64,
         held: u64,
         commands: u64,
@@ -67,6 +68,10 @@ fn kind_of(name: &str, figures: &[String]) -> Option<Kind> {
     match figures {
         [first, second] => of_two(name, figure(first)?, figure(second)?),
         [first, second, third] => of_three(name, [figure(first)?, figure(second)?, figure(third)?]),
+        [first, second, third, fourth] => {
+            let sizes = [figure(second)?, figure(third)?, figure(fourth)?];
+            of_four(name, figure(first)?, sizes)
+        }
         _ => None,
     }
 }
@@ -91,15 +96,22 @@ fn of_two(name: &str, first: u64, second: u64) -> Option<Kind> {
 
 fn of_three(name: &str, [first, second, third]: [u64; 3]) -> Option<Kind> {
     match name {
-        "sell" => Some(Kind::Sell {
-            offered: first,
-            held: second,
-            commands: third,
-        }),
         "texts" => Some(Kind::Texts {
             meters: first,
             strides: second,
             contracts: third,
+        }),
+        _ => None,
+    }
+}
+
+fn of_four(name: &str, days: u64, [first, second, third]: [u64; 3]) -> Option<Kind> {
+    match name {
+        "sell" => Some(Kind::Sell {
+            days,
+            offered: first,
+            held: second,
+            commands: third,
         }),
         _ => None,
     }
@@ -115,10 +127,14 @@ pub(crate) fn perform(
     let mut numbers = Numbers::new(job.seed);
     match job.kind {
         Kind::Sell {
+            days,
             offered,
             held,
             commands,
-        } => sell(rt, alloc, &mut numbers, [offered, held, commands], digest),
+        } => {
+            let sizes = [offered, held, commands];
+            sell(rt, alloc, &mut numbers, days, sizes, digest)
+        }
         Kind::Mark { captures, records } => mark(
             rt,
             alloc,

@@ -1,8 +1,9 @@
 //! The jobs that a user of the program waits for: each makes inputs of real shape and size from a seed, gives them to
 //! the program's commands, and prints a digest of all that these write, tell and end with. For `bench/run`.
 //!
-//! `workloads sell SEED OFFERED HELD COMMANDS`, `workloads mark SEED CAPTURES RECORDS`, `workloads hold SEED CAPTURES
-//! RECORDS`, `workloads audit SEED RUNS PACKETS`, `workloads texts SEED METERS STRIDES CONTRACTS`.
+//! `workloads sell SEED DAYS OFFERED HELD COMMANDS`, `workloads mark SEED CAPTURES RECORDS`,
+//! `workloads hold SEED CAPTURES RECORDS`, `workloads audit SEED RUNS PACKETS`,
+//! `workloads texts SEED METERS STRIDES CONTRACTS`.
 #![tactic(auto)]
 
 mod asking;

@@ -298,7 +298,7 @@ fn lines_of(
 }
 
 /// Sells so many of so many contracts, and then answers so many commands.
-pub(crate) fn sell(
+fn sell_one_day(
     rt: &(impl Wait + Threads + Sync),
     alloc: Global,
     numbers: &mut Numbers,
@@ -317,4 +317,19 @@ pub(crate) fn sell(
         &mut output,
         digest,
     )
+}
+
+/// The sales of so many days, each over a domain of its own.
+pub(crate) fn sell(
+    rt: &(impl Wait + Threads + Sync),
+    alloc: Global,
+    numbers: &mut Numbers,
+    days: u64,
+    sizes: [u64; 3],
+    digest: &mut Digest,
+) -> Result<(), AllocError> {
+    for _ in 0..days {
+        sell_one_day(rt, alloc, numbers, sizes, digest)?;
+    }
+    Ok(())
 }
