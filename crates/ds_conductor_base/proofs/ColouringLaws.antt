@@ -1,5 +1,5 @@
 -- The colours of packets that are all sent, and then handed out one by one.
-use Rattle.std.proofs.Common.{◌≡◌, ◌+◌, ℕ, List, [], ◌∷◌, ◌++◌, append-nil, None, refl, sym, ap, ◌∙◌, arith}
+use Rattle.std.proofs.Common.{◌≡◌, ℕ, List, [], ◌∷◌, ◌++◌, append-nil, None, refl, sym, ap, ◌∙◌, arith}
 use Rattle.std.proofs.lemmas.Option.{none-some}
 use Rattle.moment_core.specs.declared.colour.Colour.{Colour}
 use Rattle.run_audit.specs.Orders.{in_order}

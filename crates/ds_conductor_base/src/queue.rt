@@ -23,22 +23,98 @@ use std::collections::{BinaryHeap, VecDeque};
 use std::marker::Model;
 use std::mem::swap;
 
-/// A visit that waits. It compares as visits are made: by moment, then by packet, then by hop.
+/// A visit that waits. It compares as visits are made: by moment, then by packet, then by hop; no two that wait are alike
+/// in all of these.
 #[derive(Clone, Copy, Debug, PartialEq, Eq, PartialOrd, Ord)]
 pub struct Waiting {
     moment: Moment,
     place: usize,
     number: u8,
     site: u32,
-    /// The number of its lane.
+    /// The number of its lane, or [`NO_LANE`].
     lane: u16,
 }
 
 /// How many lanes there are: a power of two.
 const LANES: usize = 1024;
 
+/// The number of no lane.
+const NO_LANE: u16 = u16::MAX;
+
+/// No delay: none is so long.
+const NO_DELAY: u64 = u64::MAX;
+
+/// In so many lanes, one after the other, a delay may find its own.
+const TRIES: usize = 8;
+
+/// Where the visits of no lane outnumber the others by so many, lanes are for none that come from then on.
+const MOST_STRANGERS: usize = 4096;
+
 /// Room for so many visits, four times over, is not given back.
 const FEW: usize = 8;
+
+/// The delays that have a lane of their own.
+#[derive(Drop)]
+struct Delays {
+    /// At the number of each lane its delay, or [`NO_DELAY`]. Empty before there are lanes, and once most visits come
+    /// after other delays.
+    own: Vec<u64>,
+    /// By how many the visits of no lane outnumber the others.
+    strangers: usize,
+}
+
+impl Delays {
+    /// No delays, and no lanes.
+    fn new(alloc: Global) -> Self {
+        Delays {
+            own: Vec::new(alloc),
+            strangers: 0,
+        }
+    }
+
+    /// Makes lanes that can be taken, where there is memory for them.
+    fn make(&mut self) {
+        let _made = self.own.resize(LANES, NO_DELAY);
+    }
+
+    /// The lane of the visits that come after a delay, if it has one or finds one that is not taken.
+    fn lane_of(&mut self, delay: Gap) -> u16 {
+        if self.own.is_empty() {
+            return NO_LANE;
+        }
+        match self.place_of(delay.get()) {
+            Some(place) => {
+                self.strangers = self.strangers.saturating_sub(1);
+                place
+            }
+            None => {
+                self.strangers = self.strangers.saturating_add(1);
+                if self.strangers > MOST_STRANGERS {
+                    self.own.clear();
+                }
+                NO_LANE
+            }
+        }
+    }
+
+    /// The number of the lane of a delay of so many nanoseconds, which it takes where it is free.
+    fn place_of(&mut self, delay: u64) -> Option<u16> {
+        // the high bits of a product with the golden ratio (multiplicative hashing, Knuth): few delays fall together
+        let spread = delay.wrapping_mul(0x9e37_79b9_7f4a_7c15);
+        let first = (spread >> 54) as usize;
+        for step in 0..TRIES {
+            let place = (first + step) % LANES;
+            let own = self.own.get_mut(place)?;
+            if *own == NO_DELAY {
+                *own = delay;
+            }
+            if *own == delay {
+                return Some(place as u16);
+            }
+        }
+        None
+    }
+}
 
 /// Visits that came one after the other, each behind that before it.
 #[derive(Drop)]
@@ -122,9 +198,9 @@ impl Lane {
 #[derive(Drop)]
 pub struct VisitQueue {
     alloc: Global,
-    /// Of those that came in small lots, the first of each lane, and those of no lane.
+    /// Of those that came in small lots, the first of each lane, and those of no lane or out of its order.
     heap: BinaryHeap<Reverse<Waiting>>,
-    /// The others that came in small lots: each lane is for those that come after the same delay.
+    /// The others that came in small lots: each lane is for those that come after one delay.
     lanes: Vec<Lane>,
     /// Those that came in large lots: the first visit is the last.
     run: Vec<Reverse<Waiting>>,
@@ -132,6 +208,7 @@ pub struct VisitQueue {
     fresh: Vec<Reverse<Waiting>>,
     /// Empty: room for the run and what is fresh.
     spare: Vec<Reverse<Waiting>>,
+    delays: Delays,
 }
 
 impl Model for VisitQueue {
@@ -159,6 +236,7 @@ impl VisitQueue {
             run: Vec::new(alloc),
             fresh: Vec::new(alloc),
             spare: Vec::new(alloc),
+            delays: Delays::new(alloc),
         }
     }
 
@@ -175,7 +253,7 @@ impl VisitQueue {
         self.heap.reserve(coming)?;
         self.fresh.reserve(stops.len())?;
         self.spare.reserve(self.run.len() + coming)?;
-        push_visits(&mut self.fresh, place, packet, stops);
+        push_visits(&mut self.fresh, &mut self.delays, place, packet, stops);
         Ok(())
     }
 
@@ -192,6 +270,7 @@ impl VisitQueue {
             &mut self.run,
             &mut self.fresh,
             &mut self.spare,
+            &mut self.delays,
         );
         let Reverse(first) = take_due(&mut self.heap, &mut self.lanes, &mut self.run, moment)?;
         Some(visit_of(first))
@@ -199,14 +278,21 @@ impl VisitQueue {
 }
 
 /// Puts the visits of the packet of a place to its stops behind others, where there is room for them.
-fn push_visits(fresh: &mut Vec<Reverse<Waiting>>, place: usize, packet: &Sent, stops: &[Stop])
+fn push_visits(
+    fresh: &mut Vec<Reverse<Waiting>>,
+    delays: &mut Delays,
+    place: usize,
+    packet: &Sent,
+    stops: &[Stop],
+)
     requires { vec_len fresh.old + length stops.now ≤ vec_capacity fresh.old }
     ensures len { vec_len fresh.new ≡ vec_len fresh.old + length stops.now }
     ensures added { visits_in fresh.new.items ≡ visits_in fresh.old.items ++ map (visit_to place packet.now) stops.now }
 {
     for stop in stops {
+        let lane = delays.lane_of(stop.delay);
         fresh
-            .push(Reverse(stored(visit_to(place, packet, stop), lane_of(stop.delay))))
+            .push(Reverse(stored(visit_to(place, packet, stop), lane)))
             .unwrap();
     }
 }
@@ -220,6 +306,7 @@ fn settle(
     run: &mut Vec<Reverse<Waiting>>,
     fresh: &mut Vec<Reverse<Waiting>>,
     spare: &mut Vec<Reverse<Waiting>>,
+    delays: &mut Delays,
 )
     requires ordered { IsHeap first_on_top (heap_items heap.old) }
     requires lanes { AreLanes (heap_items heap.old) lanes.old.items }
@@ -242,7 +329,7 @@ fn settle(
         return;
     }
     if run.len() / 4 > fresh.len() {
-        make_lanes(alloc, heap, lanes);
+        make_lanes(alloc, heap, lanes, delays);
         hold_all(heap, lanes, fresh);
     } else {
         fresh.sort_unstable();
@@ -254,7 +341,12 @@ fn settle(
 }
 
 /// Makes the lanes, all of them empty, if there are none yet, as far as memory goes.
-fn make_lanes(alloc: Global, heap: &BinaryHeap<Reverse<Waiting>>, lanes: &mut Vec<Lane>)
+fn make_lanes(
+    alloc: Global,
+    heap: &BinaryHeap<Reverse<Waiting>>,
+    lanes: &mut Vec<Lane>,
+    delays: &mut Delays,
+)
     requires { AreLanes (heap_items heap.now) lanes.old.items }
     ensures same { rows_in lanes.new.items ≡ rows_in lanes.old.items }
     ensures lanes { AreLanes (heap_items heap.now) lanes.new.items }
@@ -262,6 +354,7 @@ fn make_lanes(alloc: Global, heap: &BinaryHeap<Reverse<Waiting>>, lanes: &mut Ve
     if !lanes.is_empty() || lanes.reserve(LANES).is_err() {
         return;
     }
+    delays.make();
     for _ in 0..LANES {
         if lanes.push(Lane::new(alloc)).is_err() {
             return;
@@ -459,14 +552,7 @@ fn is_heap_first(heap: &BinaryHeap<Reverse<Waiting>>, run: &[Reverse<Waiting>]) 
     }
 }
 
-/// The lane of the visits that come after a delay.
-fn lane_of(delay: Gap) -> u16 {
-    // the high bits of a product with the golden ratio: few delays fall together
-    let spread = delay.get().wrapping_mul(0x9e37_79b9_7f4a_7c15);
-    (spread >> 54) as u16
-}
-
-/// A visit as it waits in a lane.
+/// A visit as it waits, with the number of its lane.
 fn stored(visit: Visit, lane: u16) -> Waiting
     ensures { visit_in (record { 0 = result }) ≡ visit }
 {
