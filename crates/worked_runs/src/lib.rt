@@ -3,6 +3,8 @@
 #![tactic(auto)]
 
 #[cfg(test)]
+mod many_rows;
+#[cfg(test)]
 mod run_rows;
 #[cfg(test)]
 mod step_rows;
