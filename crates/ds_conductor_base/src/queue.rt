@@ -23,8 +23,8 @@ use std::collections::{BinaryHeap, VecDeque};
 use std::marker::Model;
 use std::mem::swap;
 
-/// A visit that waits. It compares as visits are made: by moment, then by packet, then by hop; no two that wait are alike
-/// in all of these.
+/// A visit that waits. It compares as visits are made: by moment, then by packet, then by hop. No two that wait are
+/// alike in all of these.
 #[derive(Clone, Copy, Debug, PartialEq, Eq, PartialOrd, Ord)]
 pub struct Waiting {
     moment: Moment,
@@ -217,6 +217,7 @@ pub struct VisitQueue {
     fresh: Vec<Reverse<Waiting>>,
     /// Empty: room for the run and what is fresh.
     spare: Vec<Reverse<Waiting>>,
+    /// Which delays have a lane.
     delays: Delays,
     /// Numbers by which visits are put in order.
     numbers: Vec<u64>,
