@@ -7,7 +7,7 @@ use Rattle.std.proofs.lemmas.List.Edits.{length-remove}
 use Rattle.std.proofs.lemmas.Map.Entries.{length-keys_of}
 use Rattle.std.proofs.lemmas.Slice.Eq.{bytes_eq-Decides}
 use Rattle.std.specs.Map.{keys_of}
-use Rattle.std.specs.Prelude.{IfSome, IsTrue}
+use Rattle.std.specs.Prelude.{IfSome, IsTrue, is_none, is_some}
 use Rattle.std.specs.Str.{bytes_eq}
 use Rattle.ds_domain_base.specs.Domains.{Domain, jitter_of, link_of}
 use Rattle.ds_domain_base.specs.Lifetimes.{Span}
@@ -33,7 +33,7 @@ use Rattle.ds_checker.specs.declared.refusal.Refusal.{Refusal}
 use Rattle.ds_checker.specs.declared.stop.Stop.{Stop}
 use Rattle.ds_checker.proofs.ChangeLaws.{acceptable-taken, kept-below, kept-taken, refused-lasting, rows_long, shape_at, sums-taken, sums_pass}
 use Rattle.ds_checker.proofs.LoadLaws.{AreBelow-at, AreBelow-more, brought_along, once_behind, with_brought-nothing}
-use Rattle.ds_checker.proofs.PlaceLaws.{answers, contract_before, first_at, found-ended, found-hop, found-past}
+use Rattle.ds_checker.proofs.PlaceLaws.{answers, contract_before, first-failed-at, first_at, found-ended, found-hop, found-past}
 
 -- What was found at the stops that lie behind, with what is found at those that are left, is what is found at all. The
 -- path that is left begins at some name, which the code need not know.
@@ -209,6 +209,31 @@ way-ended d source has_peak sums port path left bound first long passed way none
     let ended = stops_none d sums way.from way.rest (subst (AreStops d sums way.from way.rest) none way.along) in
     found-ended source has_peak way.rest _ d.meters sums _ first long passed (inl ended) way.found
 
+-- once a test failed at a stop, one fails in all
+either_found : (p : Bool) (first other : ℕ × Refusal) → is_none (option_map (λ f. f.1) (if p then Some other else Some first)) ≡ false
+either_found true first other = refl
+either_found false first other = refl
+
+found_still : (first : ℕ × Refusal) (rest : Option (ℕ × Refusal)) → is_none (option_map (λ f. f.1) (earlier (Some first) rest)) ≡ false
+found_still first None = refl
+found_still first (Some other) = either_found (nat_lt other.0 first.0) first other
+
+pub way-refused : (d : Domain) (source : Source) (has_peak : Bool) (sums : List Loads) (port : List ℕ) (path : List (List ℕ)) (left : List Stop) (bound : Bound) (first : ℕ × Refusal)
+    → IsOnTheWay d source has_peak sums port path left bound (Some first)
+    → is_none (first_failed (sums_tests d.meters (with_brought (brought_along source has_peak path (least_behind source (jitters_along d port path) (entering source))) (keys_of d.meters) sums))) ≡ false
+way-refused d source has_peak sums port path left bound first way =
+    ap is_none (sym (first-failed-at 0 d.meters _) ∙ ap (option_map (λ f. f.1)) (sym way.found)) ∙ found_still first _
+
+pub way-refused-at : (d : Domain) (source : Source) (has_peak : Bool) (sums : List Loads) (port : List ℕ) (path : List (List ℕ)) (left : List Stop) (bound : Bound) (place : ℕ) (refusal : Option Refusal)
+    → is_some refusal ≡ true → IsOnTheWay d source has_peak sums port path left bound (earlier None (at_place place refusal))
+    → is_none (first_failed (sums_tests d.meters (with_brought (brought_along source has_peak path (least_behind source (jitters_along d port path) (entering source))) (keys_of d.meters) sums))) ≡ false
+way-refused-at d source has_peak sums port path left bound place None refused way = absurd cc
+way-refused-at d source has_peak sums port path left bound place (Some refusal) refused way = way-refused d source has_peak sums port path left bound (place, refusal) way
+
+pub none-at-place : (place : ℕ) (refusal : Option Refusal) → is_some refusal ≡ false → None ≡ earlier None (at_place place refusal)
+none-at-place place None unrefused = refl
+none-at-place place (Some refusal) unrefused = absurd cc
+
 -- where it begins
 pub way-begun : (d : Domain) (source : Source) (has_peak : Bool) (sums : List Loads) (port : List ℕ) (path : List (List ℕ)) (stops : List Stop) → AreKnown d sums port path stops
     → IsOnTheWay d source has_peak sums port path stops (entering source) None
@@ -360,6 +385,23 @@ beside-refused t left_out c stops own d offer terms lifetime found is_offer besi
     subst (λ (x : Domain). found ≡ first_failed (sums_tests x.meters (with_brought (λ name. share_of x name (on_terms terms c) (least_of x (on_terms terms c))) (keys_of x.meters) sums))) is_domain (finds sums known) in
     subst (λ (o : Offer). found ≡ refusal_of (with_contract o.table (lasting lifetime (on_terms terms o.contract)) (least_of o.table.domain (lasting lifetime (on_terms terms o.contract))))) is_offer
     (refused_by t left_out (on_terms terms c) lifetime found beside.sound beside.fit there)
+
+-- and whether anything is found, whether anything stands against it
+pub beside-carried : (t : Table) (left_out : Option ℕ) (c : Contract) (stops own : List Stop) (d : Domain) (offer : Offer) (terms : Terms) (lifetime : Span) (carried : Bool)
+    → ◌≡◌ {A = Offer} (record { table = rest_of t left_out; contract = c }) offer → IsBeside t left_out c stops → d ≡ t.domain → own ≡ stops
+    → ((sums : List Loads) → AreKnown d sums c.port c.path own
+    → carried ≡ is_none (first_failed (sums_tests d.meters (with_brought (λ name. share_of d name (on_terms terms c) (least_of d (on_terms terms c))) (keys_of d.meters) sums))))
+    → carried ≡ is_none (refusal_of (with_contract offer.table (lasting lifetime (on_terms terms offer.contract)) (least_of offer.table.domain (lasting lifetime (on_terms terms offer.contract)))))
+beside-carried t left_out c stops own d offer terms lifetime carried is_offer beside is_domain is_own carries =
+    let sums = loads_of (rest_of t left_out) in
+    let known : AreKnown d sums c.port c.path own =
+    subst (λ (x : Domain). AreKnown x sums c.port c.path own) (sym is_domain) (subst (λ list. AreKnown t.domain sums c.port c.path list) (sym is_own) beside.known) in
+    let found = first_failed (sums_tests t.domain.meters (with_brought (λ name. share_of t.domain name (on_terms terms c) (least_of t.domain (on_terms terms c))) (keys_of t.domain.meters) sums)) in
+    let there : carried ≡ is_none found =
+    subst (λ (x : Domain). carried ≡ is_none (first_failed (sums_tests x.meters (with_brought (λ name. share_of x name (on_terms terms c) (least_of x (on_terms terms c))) (keys_of x.meters) sums)))) is_domain (carries sums known) in
+    there
+    ∙ subst (λ (o : Offer). is_none found ≡ is_none (refusal_of (with_contract o.table (lasting lifetime (on_terms terms o.contract)) (least_of o.table.domain (lasting lifetime (on_terms terms o.contract)))))) is_offer
+    (ap is_none (refused_by t left_out (on_terms terms c) lifetime found beside.sound beside.fit refl))
 
 -- ---- the contract at a place of an acceptable table
 pub inside_of : (place : Option ℕ) (i n : ℕ) → IfSome place (λ p. p < n) → place ≡ Some i → i < n

@@ -1,6 +1,6 @@
 //! One contract more beside an accepted table, or beside what is left of it without one of its own contracts: tried on
 //! as many terms as wanted, each in the time of its path.
-ghost use Rattle.std.specs.Prelude.{◌≡◌, ◌<◌, ◌≤◌, ℕ, List, IfSome, IsTrue, length, option_map};
+ghost use Rattle.std.specs.Prelude.{◌≡◌, ◌<◌, ◌≤◌, ℕ, List, IfSome, IsTrue, is_none, length, option_map};
 ghost use Rattle.std.specs.Map.{keys_of};
 ghost use Rattle.ds_certificate.specs.Bounds.{entering, fits, least_behind, least_of};
 ghost use Rattle.ds_certificate.specs.Ranges.{IsModerate};
@@ -110,6 +110,23 @@ impl<'a> Beside<'a> {
             self.stops.as_slice(),
         )
     }
+
+    /// Whether nothing stands against that rest of the table with the contract on these terms, by its least bounds:
+    /// `refusal_on` tells of none then. It looks no further along the path than to the first meter where a test fails,
+    /// and takes no memory.
+    pub fn carries(&self, terms: &Terms) -> bool
+        ensures value { (lifetime : Span) → let other = lasting lifetime (on_terms terms.now self.now.contract) in
+            result ≡ is_none (refusal_of (with_contract self.now.table other
+            (least_of self.now.table.domain other))) }
+        ensures acceptable { IsAcceptable self.now.table }
+    {
+        carries_along(
+            self.accepted.domain(),
+            self.contract,
+            terms,
+            self.stops.as_slice(),
+        )
+    }
 }
 
 /// The first meter test that fails, in the order of the meters, once a contract brings its traffic on these terms along
@@ -172,4 +189,54 @@ fn stops_refusal(
     }
     let (_, refusal) = first?;
     Some(refusal)
+}
+
+/// Whether no meter test fails once a contract brings its traffic on these terms along the stops of its path, by its
+/// least bounds.
+#[tactic(auto, unfolding(ds_certificate::specs::Sources::source_of))]
+fn carries_along(domain: &Domain, contract: &Contract, terms: &Terms, stops: &[Stop]) -> bool
+    requires short { length stops.now ≤ 16 }
+    requires known { (sums : List declared_loads.Loads)
+        × AreKnown domain.now sums contract.now.port contract.now.path stops.now }
+    ensures { (sums : List declared_loads.Loads)
+        → AreKnown domain.now sums contract.now.port contract.now.path stops.now
+        → let other = on_terms terms.now contract.now in result ≡ is_none (first_failed (sums_tests domain.now.meters
+        (with_brought (λ name. share_of domain.now name other (least_of domain.now other))
+        (keys_of domain.now.meters) sums))) }
+{
+    let source = Source::on(domain, contract.port, terms);
+    let has_peak = terms.has_peak();
+    stops_carry(domain, &source, has_peak, stops)
+}
+
+/// The same of traffic that enters before the first of the stops. It ends at the first stop where a test fails.
+fn stops_carry(domain: &Domain, source: &Source, has_peak: bool, stops: &[Stop]) -> bool
+    requires short { length stops.now ≤ 16 }
+    requires moderate { IsModerate source.now }
+    requires known { (sums : List declared_loads.Loads) × (port : List ℕ) × (path : List (List ℕ))
+        × AreKnown domain.now sums port path stops.now }
+    ensures { (sums : List declared_loads.Loads) → (port : List ℕ) → (path : List (List ℕ))
+        → AreKnown domain.now sums port path stops.now
+        → result ≡ is_none (first_failed (sums_tests domain.now.meters
+        (with_brought (λ name. share_by source.now has_peak (bound_into name path
+        (least_behind source.now (jitters_along domain.now port path) (entering source.now))))
+        (keys_of domain.now.meters) sums))) }
+{
+    let _meters = domain.meters();
+    let mut bound = entering(source);
+    for stop in stops {
+        bound = delayed(source, stop.jitter, bound);
+        if let Some(place) = stop.place {
+            let share = Share {
+                source: *source,
+                bound,
+                has_peak,
+            };
+            let loads = stop.loads.with(&share);
+            if place_refusal(domain, place, &loads).is_some() {
+                return false;
+            }
+        }
+    }
+    true
 }

@@ -33,7 +33,7 @@ impl Trial for Offer<'_> {
             .field
             .terms_with(self.least + value, &self.beside.contract().terms)
         {
-            Some(terms) => self.beside.refusal_on(&terms).is_none(),
+            Some(terms) => self.beside.carries(&terms),
             None => false,
         }
     }
