@@ -1,10 +1,10 @@
 -- A domain with one more meter, port or link.
-use Rattle.std.proofs.Common.{rules, ◌≡◌, ℕ, ◌<◌, ◌≤◌, Bool, true, false, ◌&&◌, ◌||◌, List, [], ◌∷◌, ◌++◌, length, Option, None, Some, is_some, IsTrue, IsSome, refl, sym, subst, ◌∙◌, ap, arith, true≢false}
+use Rattle.std.proofs.Common.{rules, ◌≡◌, ℕ, ◌<◌, ◌≤◌, Bool, true, false, ◌&&◌, List, [], ◌∷◌, ◌++◌, length, Option, None, Some, is_some, IsTrue, IsSome, if◌then◌else◌, refl, sym, subst, ◌∙◌, ap, arith}
 use Rattle.std.specs.Cmp.{IsEquivalence}
 use Rattle.std.specs.Cmp.Lexicographic.{bytes_decides, nat_list_eq_equiv}
 use Rattle.std.specs.Map.{lookup}
 use Rattle.std.specs.Str.{bytes_eq}
-use Rattle.std.proofs.lemmas.Bool.{and_from, and_parts, or_parts, or_left, or_right, false_from_ne_true}
+use Rattle.std.proofs.lemmas.Bool.{and_from, and_parts, or_parts}
 use Rattle.std.proofs.lemmas.List.{length-append}
 use Rattle.ds_domain_base.specs.declared.parts.Meter.{Meter}
 use Rattle.ds_domain_base.specs.declared.parts.Port.{Port}
@@ -12,10 +12,9 @@ use Rattle.ds_domain_base.specs.declared.parts.Link.{Link}
 use Rattle.ds_domain_base.specs.Domains.{Domain, is_meter, is_port, is_taken, link_of, meter_of, port_of, same_ends, with_link, with_meter, with_port}
 use Rattle.ds_domain_base.specs.Kept.{IsDomain}
 use Rattle.indexmap.specs.IndexMap.{insert_entry}
-use Rattle.ds_domain_base.proofs.EntryLaws.{keys_differ, new_entry, other_key, still_found}
-use Rattle.ds_domain_base.specs.Names.{is_name}
+use Rattle.ds_domain_base.proofs.EntryLaws.{keys_differ, new_entry, other_key}
 
-pub none_of : {A : Type 0} (o : Option A) → is_some o ≡ false → o ≡ None
+none_of : {A : Type 0} (o : Option A) → is_some o ≡ false → o ≡ None
 none_of None p = refl
 none_of (Some x) p = search (rules, p)
 
@@ -41,10 +40,10 @@ port_added now d es name port same free put =
     absent : lookup (bytes_eq name) now.ports ≡ None
     absent = none_of (port_of now name) (ap (λ x. is_port x name) same ∙ (or_parts (is_meter d name) (is_port d name) free).1)
 
-pub same_ends_is : (a b : List ℕ × List ℕ) → same_ends a b ≡ true → a ≡ b
+same_ends_is : (a b : List ℕ × List ℕ) → same_ends a b ≡ true → a ≡ b
 same_ends_is a b p = search (rules, (bytes_decides a.0 b.0).0 (and_parts _ _ p).0, (bytes_decides a.1 b.1).0 (and_parts (bytes_eq a.0 b.0) _ p).1)
 
-pub ends_equiv : IsEquivalence same_ends
+ends_equiv : IsEquivalence same_ends
 ends_equiv = record {
   refl = λ a. and_from _ _ (nat_list_eq_equiv.refl a.0) (nat_list_eq_equiv.refl a.1);
   symm = λ a b. ap (λ x. x && bytes_eq a.1 b.1) (nat_list_eq_equiv.symm a.0 b.0) ∙ ap (λ x. bytes_eq b.0 a.0 && x) (nat_list_eq_equiv.symm a.1 b.1);
@@ -59,7 +58,7 @@ linked_by d from to link start end true p kept taken meter found =
 linked_by d from to link start end false p kept taken meter found =
     kept.linked start end (ap is_some (sym (other_key (same_ends (start, end)) d.links (from, to) link p)) ∙ found)
 
-pub IsDomain-with_link : (d : Domain) (from to : List ℕ) (link : Link) → IsDomain d → length d.links < 65536 → IsTrue (is_taken d from) → IsTrue (is_meter d to)
+IsDomain-with_link : (d : Domain) (from to : List ℕ) (link : Link) → IsDomain d → length d.links < 65536 → IsTrue (is_taken d from) → IsTrue (is_meter d to)
     → is_some (link_of d from to) ≡ false → IsDomain (with_link d from to link)
 IsDomain-with_link d from to link kept few taken meter free = record {
   few_meters = kept.few_meters;
@@ -73,7 +72,7 @@ IsDomain-with_link d from to link kept few taken meter free = record {
   linked = λ start end found. linked_by d from to link start end (same_ends (start, end) (from, to)) refl kept taken meter found;
 }
 
-pub link_added : (now d : Domain) (es : List ((List ℕ × List ℕ) × Link)) (from to : List ℕ) (link : Link) → now ≡ d → is_some (link_of d from to) ≡ false
+link_added : (now d : Domain) (es : List ((List ℕ × List ℕ) × Link)) (from to : List ℕ) (link : Link) → now ≡ d → is_some (link_of d from to) ≡ false
     → es ≡ insert_entry same_ends now.links (from, to) link → record now { links = es } ≡ with_link d from to link
 link_added now d es from to link same free put =
     ap (λ ls. record now { links = ls }) (put ∙ new_entry same_ends now.links (from, to) link absent)
@@ -82,60 +81,30 @@ link_added now d es from to link same free put =
     absent : lookup (same_ends (from, to)) now.links ≡ None
     absent = none_of (link_of now from to) (ap (λ x. is_some (link_of x from to)) same ∙ free)
 
--- what is taken stays so
-taken_still : (first other more rest : Bool) → (first ≡ true → more ≡ true) → (other ≡ true → rest ≡ true) → (first || other) ≡ true → (more || rest) ≡ true
-taken_still true other more rest left right p = or_left more rest (left refl)
-taken_still false other more rest left right p = or_right more rest (right p)
+some_named : (b : Bool) (text name : List ℕ) → (if b then Some text else None) ≡ Some name → (b ≡ true) × (name ≡ text)
+some_named true text name p = (refl, search (rules, p))
+some_named false text name p = search (rules, p)
 
-named_by : (b : Bool) (x name : List ℕ) → bytes_eq x name ≡ b → IsTrue (is_name name) → (b ≡ false → IsTrue (is_name x)) → IsTrue (is_name x)
-named_by true x name same good other = subst (λ y. IsTrue (is_name y)) (sym ((bytes_decides x name).0 same)) good
-named_by false x name p good other = other refl
-
-apart_by : (b : Bool) (d : Domain) (x name : List ℕ) → bytes_eq x name ≡ b → port_of d name ≡ None → (b ≡ false → port_of d x ≡ None) → port_of d x ≡ None
-apart_by true d x name same none other = subst (λ y. port_of d y ≡ None) (sym ((bytes_decides x name).0 same)) none
-apart_by false d x name p none other = other refl
-
-pub IsDomain-with_meter : (d : Domain) (name : List ℕ) (meter : Meter) → IsDomain d → length d.meters < 1024 → IsTrue (is_name name) → is_taken d name ≡ false
-    → IsDomain (with_meter d name meter)
-IsDomain-with_meter d name meter kept few good free = record {
-  few_meters = length-push d.meters (name, meter) 1024 few;
-  few_ports = kept.few_ports;
-  few_links = kept.few_links;
-  named = λ x taken. named_by (bytes_eq x name) x name refl good (λ other. kept.named x (ap (λ b. b || is_port d x) (sym (same_meter x other)) ∙ taken));
-  meters_differ = keys_differ nat_list_eq_equiv d.meters name meter kept.meters_differ (or_parts (is_meter d name) (is_port d name) free).0;
-  ports_differ = kept.ports_differ;
-  apart = λ x found. apart_by (bytes_eq x name) d x name refl (none_of (port_of d name) (or_parts (is_meter d name) (is_port d name) free).1)
-      (λ other. kept.apart x (sym (same_meter x other) ∙ found));
-  links_differ = kept.links_differ;
-  linked = λ from to found. (taken_still (is_meter d from) (is_port d from) _ _ (still from) (λ p. p) (kept.linked from to found).0, still to (kept.linked from to found).1);
-}
+-- a link between names that are written so
+pub link_put : (now d : Domain) (es : List ((List ℕ × List ℕ) × Link)) (from to start end : List ℕ) (link : Link) → now ≡ d → IsDomain now
+    → length now.links < 65536 → (if is_taken d from then Some from else None) ≡ Some start → (if is_meter d to then Some to else None) ≡ Some end
+    → is_some (link_of d start end) ≡ false → es ≡ insert_entry same_ends now.links (start, end) link
+    → IsDomain (record now { links = es })
+    × (record now { links = es } ≡ with_link d from to link)
+link_put now d es from to start end link same kept few left right free put = (subst IsDomain (sym added) whole, added)
   where
-    same_meter : (x : List ℕ) → bytes_eq x name ≡ false → is_meter (with_meter d name meter) x ≡ is_meter d x
-    same_meter x other = ap is_some (other_key (bytes_eq x) d.meters name meter other)
+    first : (is_taken d from ≡ true) × (start ≡ from)
+    first = some_named (is_taken d from) from start left
 
-    still : (x : List ℕ) → is_meter d x ≡ true → is_meter (with_meter d name meter) x ≡ true
-    still x found = still_found (bytes_eq x) d.meters ((name, meter) ∷ []) found
+    second : (is_meter d to ≡ true) × (end ≡ to)
+    second = some_named (is_meter d to) to end right
 
-pub IsDomain-with_port : (d : Domain) (name : List ℕ) (port : Port) → IsDomain d → length d.ports < 1024 → IsTrue (is_name name) → is_taken d name ≡ false
-    → IsDomain (with_port d name port)
-IsDomain-with_port d name port kept few good free = record {
-  few_meters = kept.few_meters;
-  few_ports = length-push d.ports (name, port) 1024 few;
-  few_links = kept.few_links;
-  named = λ x taken. named_by (bytes_eq x name) x name refl good (λ other. kept.named x (ap (λ b. is_meter d x || b) (sym (same_port x other)) ∙ taken));
-  meters_differ = kept.meters_differ;
-  ports_differ = keys_differ nat_list_eq_equiv d.ports name port kept.ports_differ (or_parts (is_meter d name) (is_port d name) free).1;
-  apart = λ x found. other_key (bytes_eq x) d.ports name port (not_meter x found) ∙ kept.apart x found;
-  links_differ = kept.links_differ;
-  linked = λ from to found. (taken_still (is_meter d from) (is_port d from) _ _ (λ p. p) (still from) (kept.linked from to found).0, (kept.linked from to found).1);
-}
-  where
-    same_port : (x : List ℕ) → bytes_eq x name ≡ false → is_port (with_port d name port) x ≡ is_port d x
-    same_port x other = ap is_some (other_key (bytes_eq x) d.ports name port other)
+    plain : is_some (link_of d from to) ≡ false
+    plain = ap (λ a. is_some (link_of d a to)) (sym first.1) ∙ ap (λ b. is_some (link_of d start b)) (sym second.1) ∙ free
 
-    still : (x : List ℕ) → is_port d x ≡ true → is_port (with_port d name port) x ≡ true
-    still x found = still_found (bytes_eq x) d.ports ((name, port) ∷ []) found
+    added : record now { links = es } ≡ with_link d from to link
+    added = link_added now d es from to link same plain
+        (put ∙ ap (λ a. insert_entry same_ends now.links (a, end) link) first.1 ∙ ap (λ b. insert_entry same_ends now.links (from, b) link) second.1)
 
-    not_meter : (x : List ℕ) → is_meter d x ≡ true → bytes_eq x name ≡ false
-    not_meter x found = false_from_ne_true (bytes_eq x name)
-        (λ same. true≢false (sym found ∙ ap (is_meter d) ((bytes_decides x name).0 same) ∙ (or_parts (is_meter d name) (is_port d name) free).0))
+    whole : IsDomain (with_link d from to link)
+    whole = IsDomain-with_link d from to link (subst IsDomain same kept) (subst (λ x. length x.links < 65536) same few) first.0 second.0 plain

@@ -1,4 +1,3 @@
 pub mod DomainLaws
 pub mod EntryLaws
 pub mod NameLaws
-pub mod NumberLaws

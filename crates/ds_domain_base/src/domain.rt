@@ -1,24 +1,19 @@
-ghost use Rattle.std.specs.Prelude.{◌≡◌, ◌≤◌, ◌<◌, ◌+◌, ◌*◌, ◌^◌, ◌⊎◌, ◌++◌, [], List, ℕ, None, Some, false, true};
-ghost use Rattle.std.specs.Prelude.{position};
-ghost use Rattle.std.specs.Prelude.{IfOk, IfErr, IfSome, OnOk, OnErr, MatchOption, if◌then◌else◌};
+ghost use Rattle.std.specs.Prelude.{◌≡◌, ◌≤◌, ◌^◌, ◌⊎◌, ◌++◌, List, ℕ, None, Some, position, IfOk, IfErr, OnOk, OnErr};
+ghost use Rattle.std.specs.Prelude.{if◌then◌else◌};
 ghost use Rattle.std.specs.Map.{keys_of};
 ghost use Rattle.std.specs.Str.{bytes_eq};
-ghost use Rattle.indexmap.specs.IndexMap.{insert_entry, spare};
 ghost use Rattle.ds_domain_base.specs.Domains.{bare, floor_of, is_meter, is_port, is_taken, jitter_of, link_fault};
 ghost use Rattle.ds_domain_base.specs.Domains.{link_of, meter_fault, meter_of, port_fault, port_of, skew_of, with_link};
 ghost use Rattle.ds_domain_base.specs.Domains.{with_meter, with_port};
 ghost use Rattle.ds_domain_base.specs.Faults.{no_memory};
 ghost use Rattle.ds_domain_base.specs.Kept.{IsDomain};
-ghost use Rattle.ds_domain_base.specs.Numbers.{meter_number, place_number, port_number};
 
 use crate::fault::{DomainFault, Field, Kind, Section};
-use crate::key::Key;
 use crate::name::Name;
 use crate::parts::{Link, Meter, Port, Version};
 use indexmap::IndexMap;
 use moment_core::Gap;
 use std::alloc::Global;
-use std::fmt;
 use std::hash::Hash;
 use std::marker::Model;
 
@@ -26,43 +21,12 @@ use std::marker::Model;
 ///
 /// Meters and ports have names that all differ. A link goes from a port or a meter to a meter, and there is one at most
 /// from a name to a name. There are at most 1,024 meters, 1,024 ports and 65,536 links.
-#[derive(Drop)]
+#[derive(Debug, Drop)]
 pub struct Domain {
     version: Version,
     meters: IndexMap<Name, Meter>,
     ports: IndexMap<Name, Port>,
     links: IndexMap<(Name, Name), Link>,
-    lookups: Lookups,
-}
-
-/// What look-ups go by: the meters and the ports again by keys, and the links again by the numbers of their ends.
-struct Lookups {
-    meters: IndexMap<Key, Meter>,
-    ports: IndexMap<Key, Port>,
-    links: IndexMap<u32, Link>,
-}
-
-impl Drop for Lookups {
-    // By a call of its own, so that to drop a domain is one step more, and not as many as the maps have parts.
-    fn drop(self) {
-        let Lookups {
-            meters: _meters,
-            ports: _ports,
-            links: _links,
-        } = self;
-    }
-}
-
-impl fmt::Debug for Domain {
-    // What look-ups go by is not shown: it says nothing that the maps do not.
-    fn fmt<W: fmt::Write>(&self, f: &mut fmt::Formatter<W>) -> fmt::Result {
-        f.debug_struct("Domain")
-            .field("version", &self.version)
-            .field("meters", &self.meters)
-            .field("ports", &self.ports)
-            .field("links", &self.links)
-            .finish()
-    }
 }
 
 impl Model for Domain {
@@ -70,7 +34,7 @@ impl Model for Domain {
 
     ghost Value = { Domain };
 
-    ghost use Rattle.ds_domain_base.specs.Numbers.{IsKeyed};
+    ghost use Rattle.ds_domain_base.specs.Kept.{IsDomain};
 
     ghost view = { λ d. record {
       version = d.version;
@@ -79,12 +43,12 @@ impl Model for Domain {
       links = d.links.entries;
     } };
 
-    ghost invariant = { λ d. IsKeyed (record {
+    ghost invariant = { λ d. IsDomain (record {
       version = d.version;
       meters = d.meters.entries;
       ports = d.ports.entries;
       links = d.links.entries;
-    }) d.lookups.meters.entries d.lookups.ports.entries d.lookups.links.entries };
+    }) };
 }
 
 impl Domain {
@@ -106,7 +70,6 @@ impl Domain {
             meters: IndexMap::new(alloc),
             ports: IndexMap::new(alloc),
             links: IndexMap::new(alloc),
-            lookups: Lookups::new(alloc),
         }
     }
 
@@ -121,52 +84,21 @@ impl Domain {
     pub fn meter(&self, name: Name) -> Option<Meter>
         ensures { result ≡ meter_of self.now name }
     {
-        self.lookups.meters.get(&Key::new(name)).copied()
+        self.meters.get(&name).copied()
     }
 
     /// The port of a name.
     pub fn port(&self, name: Name) -> Option<Port>
         ensures { result ≡ port_of self.now name }
     {
-        self.lookups.ports.get(&Key::new(name)).copied()
+        self.ports.get(&name).copied()
     }
 
     /// The link from a name to a name.
     pub fn link(&self, from: Name, to: Name) -> Option<Link>
         ensures { result ≡ link_of self.now from to }
     {
-        let own = &self.lookups.links;
-        let from = self.place_number(from)?;
-        let to = self.meter_number(to)?;
-        own.get(&link_number(from, to)).copied()
-    }
-
-    /// The number of a meter, its place among the meters, or of a port, its place behind all meters that there may be.
-    fn place_number(&self, name: Name) -> Option<usize>
-        ensures value { result ≡ place_number self.now name }
-        ensures range { IfSome result (λ number. number < 2048) }
-    {
-        match self.meter_number(name) {
-            Some(number) => Some(number),
-            None => self.port_number(name),
-        }
-    }
-
-    /// The number of a meter.
-    fn meter_number(&self, name: Name) -> Option<usize>
-        ensures value { result ≡ meter_number self.now name }
-        ensures range { IfSome result (λ number. number < 1024) }
-    {
-        self.lookups.meters.get_index_of(&Key::new(name))
-    }
-
-    /// The number of a port.
-    fn port_number(&self, name: Name) -> Option<usize>
-        ensures value { result ≡ port_number self.now name }
-        ensures range { IfSome result (λ number. number < 2048) }
-    {
-        let place = self.lookups.ports.get_index_of(&Key::new(name))?;
-        Some(Self::MOST_METERS + place)
+        self.links.get(&(from, to)).copied()
     }
 
     /// What delays of the link from a name to a name are at least; none where there is no such link.
@@ -206,7 +138,7 @@ impl Domain {
     pub fn meter_index(&self, name: Name) -> Option<usize>
         ensures { result ≡ position (bytes_eq name) (keys_of self.now.meters) }
     {
-        self.meter_number(name)
+        self.meters.get_index_of(&name)
     }
 
     /// Whether a name is that of a meter or a port.
@@ -220,22 +152,22 @@ impl Domain {
     pub fn meter_named(&self, text: &str) -> Option<Name>
         ensures { result ≡ (if is_meter self.now text.now then Some text.now else None) }
     {
-        let own = &self.lookups.meters;
+        let own = &self.meters;
         let Ok(name) = Name::new(text) else {
             return None;
         };
-        own.contains_key(&Key::new(name)).then_some(name)
+        own.contains_key(&name).then_some(name)
     }
 
     /// The name of a port that is written so, if there is one. A text that is no name is that of none.
     pub fn port_named(&self, text: &str) -> Option<Name>
         ensures { result ≡ (if is_port self.now text.now then Some text.now else None) }
     {
-        let own = &self.lookups.ports;
+        let own = &self.ports;
         let Ok(name) = Name::new(text) else {
             return None;
         };
-        own.contains_key(&Key::new(name)).then_some(name)
+        own.contains_key(&name).then_some(name)
     }
 
     /// The name of a meter or a port that is written so, if there is one. A text that is no name is that of none.
@@ -246,38 +178,6 @@ impl Domain {
             Some(name) => Some(name),
             None => self.port_named(text),
         }
-    }
-
-    /// The name of a meter or a port that is written so, and its number.
-    #[tactic(auto, using(crate::proofs::NumberLaws::number_taken, crate::proofs::NumberLaws::number_free))]
-    fn place_spelled(&self, text: &str) -> Option<(Name, usize)>
-        ensures value { MatchOption result (is_taken self.now text.now ≡ false)
-            (λ found. (found.0 ≡ text.now) × (is_taken self.now text.now ≡ true)
-            × (place_number self.now text.now ≡ Some found.1)) }
-        ensures range { IfSome result (λ found. found.1 < 2048) }
-    {
-        let _own = &self.lookups.meters;
-        let Ok(name) = Name::new(text) else {
-            return None;
-        };
-        let number = self.place_number(name)?;
-        Some((name, number))
-    }
-
-    /// The name of a meter that is written so, and its number.
-    #[tactic(auto, using(crate::proofs::NumberLaws::meter_numbered))]
-    fn meter_spelled(&self, text: &str) -> Option<(Name, usize)>
-        ensures value { MatchOption result (is_meter self.now text.now ≡ false)
-            (λ found. (found.0 ≡ text.now) × (is_meter self.now text.now ≡ true)
-            × (meter_number self.now text.now ≡ Some found.1)) }
-        ensures range { IfSome result (λ found. found.1 < 1024) }
-    {
-        let _own = &self.lookups.meters;
-        let Ok(name) = Name::new(text) else {
-            return None;
-        };
-        let number = self.meter_number(name)?;
-        Some((name, number))
     }
 
     /// Adds a meter behind the others.
@@ -297,10 +197,7 @@ impl Domain {
         if self.is_taken(name) {
             return Err(DomainFault::new(Kind::Twice, Section::Meter, place, Field::Name));
         }
-        self.meters.reserve(1)?;
-        self.lookups.meters.reserve(1)?;
-        put(&mut self.meters, &name, &meter);
-        put(&mut self.lookups.meters, &Key::new(name), &meter);
+        self.meters.insert(name, meter)?;
         Ok(())
     }
 
@@ -321,10 +218,7 @@ impl Domain {
         if self.is_taken(name) {
             return Err(DomainFault::new(Kind::Twice, Section::Port, place, Field::Name));
         }
-        self.ports.reserve(1)?;
-        self.lookups.ports.reserve(1)?;
-        put(&mut self.ports, &name, &port);
-        put(&mut self.lookups.ports, &Key::new(name), &port);
+        self.ports.insert(name, port)?;
         Ok(())
     }
 
@@ -344,20 +238,16 @@ impl Domain {
         if place >= Self::MOST_LINKS {
             return Err(DomainFault::new(Kind::Range, Section::Top, 0, Field::Link));
         }
-        let Some((from, start)) = self.place_spelled(from) else {
+        let Some(from) = self.place_named(from) else {
             return Err(DomainFault::new(Kind::UnknownName, Section::Link, place, Field::From));
         };
-        let Some((to, end)) = self.meter_spelled(to) else {
+        let Some(to) = self.meter_named(to) else {
             return Err(DomainFault::new(Kind::UnknownName, Section::Link, place, Field::To));
         };
-        let number = link_number(start, end);
-        if self.lookups.links.contains_key(&number) {
+        if self.link(from, to).is_some() {
             return Err(DomainFault::new(Kind::Twice, Section::Link, place, Field::From));
         }
-        self.links.reserve(1)?;
-        self.lookups.links.reserve(1)?;
-        put(&mut self.links, &(from, to), &link);
-        put(&mut self.lookups.links, &number, &link);
+        self.links.insert((from, to), link)?;
         Ok(())
     }
 
@@ -393,64 +283,13 @@ impl Domain {
         let meters = copied(alloc, &self.meters)?;
         let ports = copied(alloc, &self.ports)?;
         let links = copied(alloc, &self.links)?;
-        let lookups = self.lookups.copy(alloc)?;
         Ok(Domain {
             version: self.version,
             meters,
             ports,
             links,
-            lookups,
         })
     }
-}
-
-impl Lookups {
-    /// Of a domain with nothing in it. It takes no memory.
-    fn new(alloc: Global) -> Self
-        ensures { (result.meters.entries ≡ []) × (result.ports.entries ≡ []) × (result.links.entries ≡ []) }
-    {
-        let meters = IndexMap::new(alloc);
-        let ports = IndexMap::new(alloc);
-        let links = IndexMap::new(alloc);
-        Lookups {
-            meters,
-            ports,
-            links,
-        }
-    }
-
-    /// The same again; `NoMemory` where memory runs out.
-    fn copy(&self, alloc: Global) -> Result<Lookups, DomainFault>
-        ensures copied { IfOk result (λ copy. (copy.meters.entries ≡ self.now.meters.entries)
-            × (copy.ports.entries ≡ self.now.ports.entries) × (copy.links.entries ≡ self.now.links.entries)) }
-        ensures refused { IfErr result (λ fault. fault ≡ no_memory) }
-    {
-        let meters = copied(alloc, &self.meters)?;
-        let ports = copied(alloc, &self.ports)?;
-        let numbered = copied(alloc, &self.links)?;
-        Ok(Lookups {
-            meters,
-            ports,
-            links: numbered,
-        })
-    }
-}
-
-/// The number of a link between these numbers.
-fn link_number(from: usize, to: usize) -> u32
-    requires from { from < 2048 }
-    requires to { to < 1024 }
-    ensures { result ≡ 1024 * from + to }
-{
-    (Domain::MOST_METERS * from + to) as u32
-}
-
-/// Puts an entry into a map that has room for it.
-fn put<K: Eq + Hash + Copy + Drop, V: Copy + Drop>(map: &mut IndexMap<K, V>, key: &K, value: &V)
-    requires { 0 < spare map.old }
-    ensures { map.new.entries ≡ insert_entry K.eq map.old.entries key.now value.now }
-{
-    map.insert(*key, *value).unwrap();
 }
 
 /// The same entries again.

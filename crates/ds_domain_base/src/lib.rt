@@ -6,7 +6,6 @@ pub mod contract;
 pub mod domain;
 pub mod fault;
 pub mod fit;
-mod key;
 pub mod name;
 pub mod parts;
 pub mod path;

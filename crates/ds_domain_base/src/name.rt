@@ -38,10 +38,8 @@ impl PartialEq for Name {
 
     ghost laws = { partial_equiv_from_equiv nat_list_eq_equiv };
 
-    #[tactic(auto, using(crate::proofs::NameLaws::same_name))]
     fn eq(&self, other: &Name) -> bool {
-        // Places behind the characters are 0, so that all 32 are compared at once.
-        self.count == other.count && self.characters == other.characters
+        self.bytes() == other.bytes()
     }
 }
 
