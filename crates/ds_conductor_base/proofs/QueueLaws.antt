@@ -22,12 +22,12 @@ use Rattle.ds_conductor_base.specs.declared.visit.Visit.{Visit}
 
 -- what does not compare as less than another, and is not the same, is behind it
 compared : (m p h s l m' p' h' s' l' : ℕ) → (nat_eq p p' && nat_eq h h') ≡ false
-    → is_lt (ordering_then (nat_cmp m' m) (ordering_then (nat_cmp p' p) (ordering_then (nat_cmp h' h) (ordering_then (nat_cmp s' s) (nat_cmp l' l))))) ≡ false
+    → is_lt (ordering_then (nat_cmp m' m) (ordering_then (nat_cmp p' p) (ordering_then (nat_cmp h' h) (ordering_then (nat_cmp l' l) (nat_cmp s' s))))) ≡ false
     → (nat_lt m m' || nat_eq m m' && (nat_lt p p' || nat_eq p p' && nat_lt h h')) ≡ true
 compared m p h s l m' p' h' s' l' apart last = grind (arith, nat_tests)
 
 compared_late : (m p h s l m' p' h' s' l' : ℕ)
-    → is_lt (ordering_then (nat_cmp m' m) (ordering_then (nat_cmp p' p) (ordering_then (nat_cmp h' h) (ordering_then (nat_cmp s' s) (nat_cmp l' l))))) ≡ false → m ≤ m'
+    → is_lt (ordering_then (nat_cmp m' m) (ordering_then (nat_cmp p' p) (ordering_then (nat_cmp h' h) (ordering_then (nat_cmp l' l) (nat_cmp s' s))))) ≡ false → m ≤ m'
 compared_late m p h s l m' p' h' s' l' last = grind (arith, nat_tests)
 
 all_before : (r : Reverse Waiting) (rows : List (Reverse Waiting)) → AllByRecursion (λ w. is_same (visit_in r) w ≡ false) (visits_in rows)

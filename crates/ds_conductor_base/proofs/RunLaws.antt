@@ -23,7 +23,7 @@ use Rattle.ds_conductor_base.specs.declared.queue.Waiting.{Waiting}
 waiting_total : IsTotalOrder waiting_cmp
 waiting_total =
     then_total (on_total (λ (w : Waiting). w.moment) nat_cmp_total) (then_total (on_total (λ (w : Waiting). w.place) nat_cmp_total)
-    (then_total (on_total (λ (w : Waiting). w.number) nat_cmp_total) (then_total (on_total (λ (w : Waiting). w.site) nat_cmp_total) (on_total (λ (w : Waiting). w.lane) nat_cmp_total))))
+    (then_total (on_total (λ (w : Waiting). w.number) nat_cmp_total) (then_total (on_total (λ (w : Waiting). w.lane) nat_cmp_total) (on_total (λ (w : Waiting). w.site) nat_cmp_total))))
 
 first_total : IsTotalOrder first_on_top
 first_total = on_total (λ (r : Reverse Waiting). r.0) (back_total waiting_total)

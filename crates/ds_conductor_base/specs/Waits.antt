@@ -21,7 +21,7 @@ visits_in rows = map visit_in rows
 abbrev pub waiting_cmp : Waiting → Waiting → Ordering
 waiting_cmp w z =
     ordering_then (nat_cmp w.moment z.moment) (ordering_then (nat_cmp w.place z.place)
-    (ordering_then (nat_cmp w.number z.number) (ordering_then (nat_cmp w.site z.site) (nat_cmp w.lane z.lane))))
+    (ordering_then (nat_cmp w.number z.number) (ordering_then (nat_cmp w.lane z.lane) (nat_cmp w.site z.site))))
 
 -- the first is the greatest
 abbrev pub first_on_top : Reverse Waiting → Reverse Waiting → Ordering

@@ -30,9 +30,9 @@ pub struct Waiting {
     moment: Moment,
     place: usize,
     number: u8,
-    site: u32,
-    /// The number of its lane, or [`NO_LANE`].
+    /// The number of its lane, or [`NO_LANE`]. It stands here, where it takes no room more.
     lane: u16,
+    site: u32,
 }
 
 /// How many lanes there are: a power of two.
@@ -669,8 +669,8 @@ fn stored(visit: Visit, lane: u16) -> Waiting
         moment: visit.moment,
         place: visit.place,
         number: visit.hop.number,
-        site: visit.hop.site,
         lane,
+        site: visit.hop.site,
     }
 }
 
