@@ -34,24 +34,23 @@ pub(crate) fn by_contract<'a>(alloc: Global, run: &'a Run<'_>) -> Result<Vec<&'a
         ≡ by_contract run.now.run.passages) }
 {
     let all = all_trails(alloc, run.trails())?;
-    let mut trails = near_order(alloc, all, run.basis().flow_count())?;
+    let mut trails = near_order(alloc, all, run.basis().flow_count());
     trails.sort_by_key(|trail| (trail.flow, trail.begun.get(), trail.packet))?;
     Ok(trails)
 }
 
 /// The same trails in groups, one for each of so many contracts, so that those that came as they were sent stand in
-/// order already; as they are where there are few of them for each contract.
-fn near_order<'a>(
-    alloc: Global,
-    trails: Vec<&'a Trail>,
-    contracts: u32,
-) -> Result<Vec<&'a Trail>, AllocError>
-    ensures { IfOk result (λ near. IsPermutation trails.entry.items near.items) }
+/// order already; as they are where there are few of them for each contract, and where memory runs out.
+fn near_order<'a>(alloc: Global, trails: Vec<&'a Trail>, contracts: u32) -> Vec<&'a Trail>
+    ensures { IsPermutation trails.entry.items result.items }
 {
     if trails.len() / TRAILS_EACH < contracts as usize {
-        return Ok(trails);
+        return trails;
     }
-    grouped(alloc, trails.as_slice(), contracts)
+    match grouped(alloc, trails.as_slice(), contracts) {
+        Ok(near) => near,
+        Err(_) => trails,
+    }
 }
 
 /// References to journals, in the order in which they stand.
