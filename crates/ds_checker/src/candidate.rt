@@ -349,11 +349,11 @@ impl Accepted {
     }
 }
 
-/// The same contracts again, with room for one more: what is copied mostly takes one up next.
+/// The same contracts again.
 fn copied(alloc: Global, contracts: &[Contract]) -> Result<Vec<Contract>, AllocError>
     ensures { IfOk result (λ copied. copied.items ≡ contracts.now) }
 {
-    let mut copied = Vec::with_capacity(alloc, contracts.len() + 1)?;
+    let mut copied = Vec::with_capacity(alloc, contracts.len())?;
     for contract in contracts {
         let Ok(contract) = contract.copy(alloc) else {
             return Err(AllocError);
