@@ -18,7 +18,6 @@ pub mod OpenedLaws
 pub mod PacketLaws
 pub mod PassLaws
 pub mod QueueLaws
-pub mod NumberLaws
 pub mod RunLaws
 pub mod SendLaws
 pub mod StepLaws

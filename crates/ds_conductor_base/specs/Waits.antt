@@ -1,5 +1,5 @@
 -- Visits as they wait.
-use Rattle.std.specs.Prelude.{ℕ, ◌-◌, ◌%◌, List, map, slice_index_or}
+use Rattle.std.specs.Prelude.{List, map}
 use Rattle.std.specs.Ordering.{nat_cmp, ordering_then}
 use Rattle.std.specs.declared.cmp.Ordering.{Ordering}
 use Rattle.std.specs.declared.cmp.Reverse.{Reverse}
@@ -26,11 +26,3 @@ waiting_cmp w z =
 -- the first is the greatest
 abbrev pub first_on_top : Reverse Waiting → Reverse Waiting → Ordering
 first_on_top r s = waiting_cmp s.0 r.0
-
--- the place that a number tells
-abbrev pub place_in : ℕ → ℕ
-place_in n = 1048575 - n % 1048576
-
--- the visits at the places that numbers tell
-abbrev pub numbered_in : List (Reverse Waiting) → Reverse Waiting → List ℕ → List (Reverse Waiting)
-numbered_in visits d numbers = map (λ n. slice_index_or visits (place_in n) d) numbers

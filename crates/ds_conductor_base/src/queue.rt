@@ -1,10 +1,10 @@
 ghost use Rattle.std.specs.Prelude.{◌≡◌, ◌+◌, ◌-◌, ◌<◌, ◌≤◌, ◌++◌, ◌∷◌, [], length, map, MatchBool, MatchOption, OnErr};
 ghost use Rattle.std.specs.Prelude.{◌↔◌, IfNone, None, Some, option_to_list, is_some, if◌then◌else◌, IsSome, IfSome};
-ghost use Rattle.std.specs.Prelude.{OnOk, IsPermutation, IsTrue, slice_index_or, ◌^◌};
+ghost use Rattle.std.specs.Prelude.{OnOk, IsPermutation, slice_index_or};
 ghost use Rattle.std.specs.BinaryHeap.{IsHeap, IsUpperBound, heap_capacity, heap_items, heap_len};
 ghost use Rattle.std.specs.Vec.{vec_capacity, vec_len};
 ghost use Rattle.ds_conductor_base.specs.Lanes.{AreLanes, IsLeftOut, IsPutBehind, rows_in};
-ghost use Rattle.ds_conductor_base.specs.Waits.{first_on_top, numbered_in, place_in, visit_in, visits_in};
+ghost use Rattle.ds_conductor_base.specs.Waits.{first_on_top, visit_in, visits_in};
 ghost use Rattle.std.specs.List.{All, IsDistinct};
 ghost use Rattle.std.specs.List.Sorted.{IsSorted};
 ghost use Rattle.run_audit.specs.Orders.{in_order};
@@ -52,15 +52,6 @@ const MOST_STRANGERS: usize = 4096;
 
 /// Room for so many visits, four times over, is not given back.
 const FEW: usize = 8;
-
-/// From so many visits on, they are put in order by numbers.
-const LEAST_NUMBERED: usize = 32;
-
-/// Up to so many visits, they are put in order by numbers: the place of each fits in the low bits of its number.
-const MOST_NUMBERED: usize = 1 << 20;
-
-/// Visits that are put in order by numbers lie less far apart, in nanoseconds: so much fits in the high bits.
-const MOST_APART: u64 = 1 << 44;
 
 /// The delays that have a lane of their own.
 #[derive(Drop)]
@@ -219,8 +210,6 @@ pub struct VisitQueue {
     spare: Vec<Reverse<Waiting>>,
     /// Which delays have a lane.
     delays: Delays,
-    /// Numbers by which visits are put in order.
-    numbers: Vec<u64>,
 }
 
 impl Model for VisitQueue {
@@ -249,7 +238,6 @@ impl VisitQueue {
             fresh: Vec::new(alloc),
             spare: Vec::new(alloc),
             delays: Delays::new(alloc),
-            numbers: Vec::new(alloc),
         }
     }
 
@@ -284,7 +272,6 @@ impl VisitQueue {
             &mut self.fresh,
             &mut self.spare,
             &mut self.delays,
-            &mut self.numbers,
         );
         let Reverse(first) = take_due(&mut self.heap, &mut self.lanes, &mut self.run, moment)?;
         Some(visit_of(first))
@@ -321,7 +308,6 @@ fn settle(
     fresh: &mut Vec<Reverse<Waiting>>,
     spare: &mut Vec<Reverse<Waiting>>,
     delays: &mut Delays,
-    numbers: &mut Vec<u64>,
 )
     requires ordered { IsHeap first_on_top (heap_items heap.old) }
     requires lanes { AreLanes (heap_items heap.old) lanes.old.items }
@@ -347,7 +333,7 @@ fn settle(
         make_lanes(alloc, heap, lanes, delays);
         hold_all(heap, lanes, fresh);
     } else {
-        put_in_order(fresh, spare, numbers);
+        fresh.sort_unstable();
         merge(run, fresh, spare);
         swap(run, spare);
         spare.clear();
@@ -484,100 +470,6 @@ fn next_in_lane(
         return None;
     }
     lanes[place].take()
-}
-
-/// Sorts visits: those that do not come in their order anyway by numbers first, which are sorted sooner than visits.
-fn put_in_order(
-    visits: &mut Vec<Reverse<Waiting>>,
-    spare: &mut Vec<Reverse<Waiting>>,
-    numbers: &mut Vec<u64>,
-)
-    requires empty { vec_len spare.old ≡ 0 }
-    requires room { vec_len visits.old ≤ vec_capacity spare.old }
-    ensures same { IsPermutation visits.old.items visits.new.items }
-    ensures len { vec_len visits.new ≡ vec_len visits.old }
-    ensures sorted { IsSorted first_on_top visits.new.items }
-    ensures empty { vec_len spare.new ≡ 0 }
-    ensures room { vec_capacity spare.old ≤ vec_capacity spare.new }
-{
-    if let Some(latest) = latest_of_mixed(visits) {
-        if number_all(visits, latest, numbers) {
-            numbers.sort_unstable();
-            reorder(visits, spare, numbers);
-        }
-    }
-    visits.sort_unstable();
-}
-
-/// The latest moment of visits, where they are many, and one of them is earlier than one that stands before it.
-fn latest_of_mixed(visits: &[Reverse<Waiting>]) -> Option<u64> {
-    if visits.len() < LEAST_NUMBERED {
-        return None;
-    }
-    let mut latest = 0;
-    let mut mixed = false;
-    for Reverse(visit) in visits {
-        let moment = visit.moment.get();
-        mixed |= moment < latest;
-        latest = latest.max(moment);
-    }
-    if mixed { Some(latest) } else { None }
-}
-
-/// Numbers visits, so that a later one has a smaller number, and of two at one moment the one that stands behind; the
-/// low bits of each tell its place. Answers whether all have numbers: not where they are too many or lie too far apart,
-/// nor where memory runs out.
-fn number_all(visits: &[Reverse<Waiting>], latest: u64, numbers: &mut Vec<u64>) -> bool
-    ensures inside { IsTrue result → All (λ n. place_in n < length visits.now) numbers.new.items }
-    ensures all { IsTrue result → length numbers.new.items ≡ length visits.now }
-    ensures same { IsTrue result → (d : Reverse Waiting) → numbered_in visits.now d numbers.new.items ≡ visits.now }
-{
-    numbers.clear();
-    if visits.len() > MOST_NUMBERED || numbers.reserve(visits.len()).is_err() {
-        return false;
-    }
-    for (place, Reverse(visit)) in visits.iter().enumerate() {
-        let before = latest.saturating_sub(visit.moment.get());
-        if before >= MOST_APART {
-            return false;
-        }
-        numbers.push(number_at(before, place)).unwrap();
-    }
-    true
-}
-
-/// The number of a visit that is so long before the latest, and stands at a place.
-fn number_at(before: u64, place: usize) -> u64
-    requires before { before < 2 ^ 44 }
-    requires place { place < 2 ^ 20 }
-    ensures { place_in result ≡ place }
-{
-    before * MOST_NUMBERED as u64 + (MOST_NUMBERED - 1 - place) as u64
-}
-
-/// The place of the visit of a number.
-fn place_of(number: u64) -> usize
-    ensures { result ≡ place_in number }
-{
-    MOST_NUMBERED - 1 - (number % MOST_NUMBERED as u64) as usize
-}
-
-/// Puts visits into the order of their numbers, through a list that has room for them.
-fn reorder(visits: &mut Vec<Reverse<Waiting>>, spare: &mut Vec<Reverse<Waiting>>, numbers: &[u64])
-    requires empty { vec_len spare.old ≡ 0 }
-    requires room { vec_len visits.old ≤ vec_capacity spare.old }
-    requires inside { All (λ n. place_in n < vec_len visits.old) numbers.now }
-    requires all { length numbers.now ≡ vec_len visits.old }
-    ensures len { vec_len visits.new ≡ vec_len visits.old }
-    ensures ordered { (d : Reverse Waiting) → visits.new.items ≡ numbered_in visits.old.items d numbers.now }
-    ensures empty { vec_len spare.new ≡ 0 }
-    ensures room { vec_capacity spare.old ≤ vec_capacity spare.new }
-{
-    for number in numbers {
-        spare.push(visits[place_of(*number)]).unwrap();
-    }
-    visits.copy_from_slice(spare);
-    spare.clear();
 }
 
 /// Puts two runs together as one, where there is room for it.

@@ -20,8 +20,8 @@ returns-clause-same c =
           w.make_lanes.ensures.same w.hold_all.ensures.same)
           (ap (λ h. heap_items h ++ rows_in c.if-len.lanes.items) w.heap-is ∙ ap (λ ls. heap_items w.hold_all.new.heap ++ rows_in ls.items) w.lanes-is) (ap (λ v. v.items) w.run-is)
       | else-len w ↦
-          settled_run held c.args.run.now.items c.args.fresh.now.items w.put_in_order.new.visits.items w.deref-else-len.result.now w.deref-else-len-2.result.now w.merge.new.out.items now
-          c.if-len.run.items w.put_in_order.ensures.same w.deref-else-len.ensures.value w.deref-else-len-2.ensures.value w.merge.ensures.same
+          settled_run held c.args.run.now.items c.args.fresh.now.items w.sort_unstable.new.self.items w.deref-else-len.result.now w.deref-else-len-2.result.now w.merge.new.out.items now
+          c.if-len.run.items w.sort_unstable.ensures.permutation w.deref-else-len.ensures.value w.deref-else-len-2.ensures.value w.merge.ensures.same
           (ap (λ h. heap_items h ++ rows_in c.if-len.lanes.items) w.heap-is ∙ ap (λ ls. heap_items c.args.heap.now ++ rows_in ls.items) w.lanes-is)
           (ap (λ v. v.items) (w.run-is ∙ w.swap.ensures.x_after))
     ]
