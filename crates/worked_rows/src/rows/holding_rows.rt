@@ -1,5 +1,7 @@
+ghost use Rattle.std.specs.Prelude.{IfSome, length, ◌<◌};
+
 use crate::rows::tables::{Said, parsed};
-use ds_certificate::{Bound, Certificate, bounds_of};
+use ds_certificate::{Bound, Certificate, bounds_of, is_fit};
 use ds_checker::{Accepted, Candidate, Refusal, check};
 use ds_domain::{Contract, Domain, Name};
 use std::alloc::Global;
@@ -39,15 +41,36 @@ fn larger(
     }
 }
 
-/// Expects that a table has no room for a contract.
-fn expect_no_room(rt: &impl Abort, alloc: Global, table: &Accepted, contract: &Contract) {
-    let wanted = Refusal::GreenBurst {
+/// What stands against a second contract.
+fn no_room(rt: &impl Abort) -> Refusal {
+    Refusal::GreenBurst {
         meter: Name::new("m").expect(rt, "a name"),
         needed: 9000,
         available: 4500,
-    };
+    }
+}
+
+/// Expects that a table has no room for a contract.
+fn expect_no_room(rt: &impl Abort, alloc: Global, table: &Accepted, contract: &Contract) {
     let refusal = larger(rt, alloc, table, contract).err();
-    assert_eq!(rt; refusal, Some(wanted));
+    assert_eq!(rt; refusal, Some(no_room(rt)));
+}
+
+/// Expects what stands against a contract on its own terms beside a table, or beside what is left of it without the
+/// contract at a place.
+fn expect_beside(
+    rt: &impl Abort,
+    table: &Accepted,
+    left_out: Option<usize>,
+    contract: &Contract,
+    wanted: Option<Refusal>,
+)
+    requires { IfSome left_out (λ place. place < length table.now.contracts) }
+{
+    assert!(rt; is_fit(table.domain(), contract));
+    let beside = table.beside(left_out, contract);
+    assert_eq!(rt; beside.carries(&contract.terms), wanted.is_none());
+    assert_eq!(rt; beside.refusal_on(&contract.terms), wanted);
 }
 
 /// Expects that a table without contracts has room for one.
@@ -61,6 +84,8 @@ fn expect_room_for_one(rt: &impl Abort, alloc: Global, one: &Accepted, other: &C
     assert_eq!(rt; one.contracts().len(), 1);
     assert_eq!(rt; (one.hold(0), one.hold(1)), (Some(6_000_000), None));
     expect_no_room(rt, alloc, one, other);
+    expect_beside(rt, one, None, other, Some(no_room(rt)));
+    expect_beside(rt, one, Some(0), other, None);
     expect_room(
         rt,
         alloc,
