@@ -80,6 +80,14 @@ pub fn mixed(rt: &impl Abort, alloc: Global) -> Plan {
     plan
 }
 
+/// The domain of as many contracts as it takes over one meter that has room for all.
+pub fn many(rt: &impl Abort, alloc: Global) -> Plan {
+    let text = worked_texts::most_contracts(alloc).expect(rt, "memory");
+    let plan = plan_of(rt, alloc, text.as_str());
+    drop(text);
+    plan
+}
+
 /// The refusal of a contract whose burst is no longer free at the meter of `tight`.
 pub fn full(rt: &impl Abort) -> BrokerRefusal {
     BrokerRefusal::Checker(Refusal::GreenBurst {

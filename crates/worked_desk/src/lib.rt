@@ -13,4 +13,6 @@ mod limit_rows;
 #[cfg(test)]
 mod memory_rows;
 #[cfg(test)]
+mod room_rows;
+#[cfg(test)]
 mod thread_rows;

@@ -5,5 +5,4 @@ mod excess_rows;
 mod greatest_rows;
 mod holding_rows;
 mod quote_rows;
-mod room_rows;
 mod tables;
