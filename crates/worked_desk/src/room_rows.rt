@@ -65,8 +65,10 @@ fn expect_much_room<J: Naming, R: Wait + Drop, W: Wait + Abort>(
 ) {
     let copied = broker.desk(rt).published().copy(alloc);
     let mut table = copied.expect(rt, "memory");
-    while table.contracts().len() > 3 {
-        let _withdrawn = table.withdraw(0);
+    for _ in 0..RETIRED {
+        if !table.contracts().is_empty() {
+            let _withdrawn = table.withdraw(0);
+        }
     }
     assert!(rt; table.is_roomy());
 }
