@@ -1,6 +1,7 @@
 -- What an accepted command changes in the table of its book, and in the flows of its contracts.
 use Rattle.std.specs.Prelude.{ℕ, ◌≡◌, ◌<◌, List, [], ◌∷◌, ◌++◌, length, None}
 use Rattle.std.specs.List.{remove}
+use Rattle.ds_domain_base.specs.Routes.{route_of}
 use Rattle.ds_checker.specs.Acceptance.{Table, refusal_of}
 use Rattle.ds_checker.specs.Changes.{with_contract, with_lifetime, without_contract}
 use Rattle.ds_broker.specs.Books.{Book, table_of, with_command}
@@ -12,18 +13,19 @@ use Rattle.ds_broker.specs.declared.change.Step.TheVariants.{Grow, Last, Shrink}
 use Rattle.ds_broker.specs.declared.command.Command.{Command}
 
 abbrev pub table_changed : Step → Table → Table
-table_changed (Grow contract row flow) t = with_contract t contract row
+table_changed (Grow contract route row flow) t = with_contract t contract row
 table_changed (Last place lifetime) t = with_lifetime t place lifetime
 table_changed (Shrink place) t = without_contract t place
 
 abbrev pub flows_changed : Step → List ℕ → List ℕ
-flows_changed (Grow contract row flow) flows = flows ++ flow ∷ []
+flows_changed (Grow contract route row flow) flows = flows ++ flow ∷ []
 flows_changed (Last place lifetime) flows = flows
 flows_changed (Shrink place) flows = remove flows place
 
--- a step can be taken: nothing stands against the contract that it adds, or there is one at its place
+-- a step can be taken: nothing stands against the contract that it adds, whose route it tells, or there is one at its place
 abbrev pub Applies : Step → Table → List ℕ → Type 0
-Applies (Grow contract row flow) t flows = refusal_of (with_contract t contract row) ≡ None
+Applies (Grow contract route row flow) t flows =
+    (refusal_of (with_contract t contract row) ≡ None) × (route ≡ route_of t.domain contract)
 Applies (Last place lifetime) t flows = place < length t.contracts
 Applies (Shrink place) t flows = (place < length t.contracts) × (place < length flows)
 

@@ -8,6 +8,7 @@ ghost use Rattle.ds_certificate.specs.Bounds.{fits, least_of};
 ghost use Rattle.ds_checker.specs.Acceptance.{IsAcceptable};
 ghost use Rattle.ds_domain_base.specs.Faults.{fault_at};
 ghost use Rattle.ds_domain_base.specs.Lifetimes.{IsInOrder};
+ghost use Rattle.ds_domain_base.specs.Routes.{route_of};
 ghost use Rattle.std.specs.HashSet.{spare};
 ghost use Rattle.std.specs.Str.{bytes_eq};
 ghost use Rattle.ds_quotes.specs.Quotes.{others_of, quote_of};
@@ -27,9 +28,9 @@ use crate::command::Command;
 use crate::entry::{Entry, Grant, Room, Serial};
 use crate::limits::Limits;
 use crate::refusal::BrokerRefusal;
-use ds_certificate::{Bounds, Certificate, least_bounds};
+use ds_certificate::{Bounds, Certificate, bounds_by_route};
 use ds_checker::{Accepted, Candidate, check};
-use ds_domain_base::{Contract, Domain, DomainFault, Field, Kind, Lifetime, Name, Section, fits};
+use ds_domain_base::{Contract, Domain, DomainFault, Field, Kind, Lifetime, Name, Route, Section};
 use ds_quotes::greatest_without;
 use moment_core::Moment;
 use std::alloc::{AllocError, Global};
@@ -336,47 +337,62 @@ impl Book {
         self.newest.max(at)
     }
 
-    /// What stands against a contract before the checker is asked.
-    fn room_refusal(&self, contract: &Contract) -> Option<BrokerRefusal>
-        ensures value { result ≡ room_refusal self.now contract.now }
-        ensures room { IfNone result (length self.now.history < 65536) }
+    /// The route of a contract against which nothing stands before the checker is asked, else the first that does.
+    fn with_room(&self, contract: &Contract) -> Result<Route, BrokerRefusal>
+        ensures route { IfOk result (λ route. route ≡ route_of self.now.domain contract.now) }
+        ensures unrefused { OnOk result (room_refusal self.now contract.now ≡ None) }
+        ensures room { OnOk result (length self.now.history < 65536) }
+        ensures refused { IfErr result (λ refusal. room_refusal self.now contract.now ≡ Some refusal) }
     {
-        if let Some(fault) = self.contract_fault(contract) {
-            Some(BrokerRefusal::Contract(fault))
-        } else if self.ids.len() >= self.limits.table() as usize {
-            Some(BrokerRefusal::TableFull)
-        } else if self.is_history_full() {
-            Some(BrokerRefusal::HistoryFull)
-        } else {
-            None
+        let route = match self.routed(contract) {
+            Ok(route) => route,
+            Err(fault) => return Err(BrokerRefusal::Contract(fault)),
+        };
+        if self.ids.len() >= self.limits.table() as usize {
+            return Err(BrokerRefusal::TableFull);
+        }
+        if self.is_history_full() {
+            return Err(BrokerRefusal::HistoryFull);
+        }
+        Ok(route)
+    }
+
+    /// The route of a contract that may be reserved, else the first that stands against it. It takes no memory.
+    fn admitted(&self, contract: &Contract) -> Result<Route, BrokerRefusal>
+        ensures route { IfOk result (λ route. route ≡ route_of self.now.domain contract.now) }
+        ensures unrefused { OnOk result (reserve_refusal self.now contract.now ≡ None) }
+        ensures roomy { OnOk result (room_refusal self.now contract.now ≡ None) }
+        ensures room { OnOk result (length self.now.history < 65536) }
+        ensures refused { IfErr result (λ refusal. reserve_refusal self.now contract.now ≡ Some refusal) }
+    {
+        let route = match self.with_room(contract) {
+            Ok(route) => route,
+            Err(refusal) => return Err(refusal),
+        };
+        match self
+            .table
+            .refusal_on_route(contract, &route, &contract.terms)
+        {
+            Some(refusal) => Err(BrokerRefusal::Checker(refusal)),
+            None => Ok(route),
         }
     }
 
-    /// What stands against a contract that is to be reserved. It takes no memory.
-    fn refusal_against(&self, contract: &Contract) -> Option<BrokerRefusal>
-        ensures value { result ≡ reserve_refusal self.now contract.now }
-        ensures unrefused { IfNone result (room_refusal self.now contract.now ≡ None) }
-        ensures room { IfNone result (length self.now.history < 65536) }
-    {
-        if let Some(refusal) = self.room_refusal(contract) {
-            return Some(refusal);
-        }
-        match self.table.refusal_with_least(contract) {
-            Some(refusal) => Some(BrokerRefusal::Checker(refusal)),
-            None => None,
-        }
-    }
-
-    /// What is wrong with a contract that is to be reserved.
-    fn contract_fault(&self, contract: &Contract) -> Option<DomainFault>
-        ensures { result ≡ contract_fault self.now contract.now }
+    /// The route of a contract that is to be reserved, else what is wrong with the contract.
+    fn routed(&self, contract: &Contract) -> Result<Route, DomainFault>
+        ensures route { IfOk result (λ route. route ≡ route_of self.now.domain contract.now) }
+        ensures good { OnOk result (contract_fault self.now contract.now ≡ None) }
+        ensures faulty { IfErr result (λ fault. contract_fault self.now contract.now ≡ Some fault) }
     {
         if self.names.contains(&contract.name) {
-            Some(fault(Kind::Twice, Field::Name))
-        } else if self.ends_early(contract.lifetime) {
-            Some(fault(Kind::Range, Field::Until))
-        } else {
-            fits(self.table.domain(), contract).err()
+            return Err(fault(Kind::Twice, Field::Name));
+        }
+        if self.ends_early(contract.lifetime) {
+            return Err(fault(Kind::Range, Field::Until));
+        }
+        match self.table.domain().route(contract) {
+            Ok(route) => Ok(route),
+            Err(fault) => Err(fault),
         }
     }
 
@@ -583,14 +599,15 @@ fn begun_row(
     alloc: Global,
     domain: &Domain,
     contract: &Contract,
+    route: &Route,
     since: Moment,
 ) -> Result<(Contract, Bounds), AllocError>
-    requires fit { IsTrue (fits domain.now contract.now) }
+    requires route { route.now ≡ route_of domain.now contract.now }
     requires order { IsInOrder since contract.now.lifetime.until }
     ensures begun { IfOk result (λ made. made.0 ≡ beginning since contract.now) }
     ensures row { IfOk result (λ made. made.1 ≡ least_of domain.now (beginning since contract.now)) }
 {
     let begun = begun(alloc, contract, since)?;
-    let row = Bounds::new(alloc, least_bounds(alloc, domain, &begun)?)?;
+    let row = Bounds::new(alloc, bounds_by_route(alloc, domain, &begun, route)?)?;
     Ok((begun, row))
 }

@@ -2,12 +2,13 @@
 ghost use Rattle.std.specs.Prelude.{◌≡◌, ℕ, List, None, OnErr, OnOk};
 ghost use Rattle.ds_checker.specs.Acceptance.{Table, IsAcceptable, refusal_of};
 ghost use Rattle.ds_checker.specs.Changes.{with_contract};
+ghost use Rattle.ds_domain_base.specs.Routes.{route_of};
 ghost use Rattle.ds_broker.specs.Changes.{Applies, flows_changed, table_changed};
 
 use crate::entry::Serial;
 use ds_certificate::Bounds;
 use ds_checker::Accepted;
-use ds_domain_base::{Contract, Lifetime};
+use ds_domain_base::{Contract, Lifetime, Route};
 use std::alloc::{AllocError, Global};
 
 /// What an accepted command changes: a step from what its book held before it to what it holds with it, at the cost of
@@ -27,6 +28,8 @@ pub enum Step {
     Grow {
         /// The contract, as it begins.
         contract: Contract,
+        /// Its route.
+        route: Route,
         /// Its bounds.
         row: Bounds,
         /// Its flow: its id less 1.
@@ -57,9 +60,10 @@ impl Step {
         match self {
             Step::Grow {
                 contract,
+                route,
                 row,
                 flow: _,
-            } => grow(alloc, table, contract, row),
+            } => grow(alloc, table, contract, route, row),
             Step::Last { place, lifetime } => {
                 table.set_lifetime(*place, *lifetime);
                 Ok(())
@@ -79,6 +83,7 @@ impl Step {
         match self {
             Step::Grow {
                 contract: _,
+                route: _,
                 row: _,
                 flow,
             } => {
@@ -103,9 +108,11 @@ fn grow(
     alloc: Global,
     table: &mut Accepted,
     contract: &Contract,
+    route: &Route,
     row: &Bounds,
 ) -> Result<(), AllocError>
-    requires { refusal_of (with_contract table.old contract.now row.now) ≡ None }
+    requires unrefused { refusal_of (with_contract table.old contract.now row.now) ≡ None }
+    requires route { route.now ≡ route_of table.old.domain contract.now }
     ensures taken { OnOk result (table.new ≡ with_contract table.old contract.now row.now) }
     ensures acceptable { OnOk result (IsAcceptable table.new) }
     ensures unchanged { OnErr result (table.new ≡ table.old) }
@@ -114,5 +121,5 @@ fn grow(
         return Err(AllocError);
     };
     let row = row.copy(alloc)?;
-    table.take_shared(contract, row)
+    table.take_on_route(contract, route, row)
 }

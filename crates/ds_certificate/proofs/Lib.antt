@@ -3,6 +3,7 @@ pub mod LeastLaws
 pub mod LesserLaws
 pub mod PlaceLaws
 pub mod ReadingLaws
+pub mod RouteLaws
 pub mod ShapeLaws
 pub mod TextLaws
 pub mod Volumes

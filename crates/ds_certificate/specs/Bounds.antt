@@ -4,6 +4,7 @@ use Rattle.std.specs.List.{AllZip}
 use Rattle.moment_core.specs.Volume.{bytes_over}
 use Rattle.ds_domain_base.specs.Domains.{Domain}
 use Rattle.ds_domain_base.specs.Fitting.{way_fault}
+use Rattle.ds_domain_base.specs.Routes.{Route, jitters_in}
 use Rattle.ds_domain_base.specs.declared.contract.Contract.{Contract}
 use Rattle.moment_core.specs.declared.column.Column.{Column}
 use Rattle.ds_certificate.specs.Columns.{Bound, InEach, bytes_in, envelope_in, in_each}
@@ -63,6 +64,10 @@ least_behind s (jitter ∷ jitters) before = delayed s jitter before ∷ least_b
 
 abbrev pub least_along : Source → List ℕ → List Bound
 least_along s jitters = entering s ∷ least_behind s jitters (entering s)
+
+-- the least bounds along a route, of traffic that keeps a source
+abbrev pub least_on : Source → Route → List Bound
+least_on s route = least_along s (jitters_in route.legs)
 
 -- the least bounds of a contract, and the least certificate
 abbrev pub least_of : Domain → Contract → List Bound

@@ -5,6 +5,7 @@ use Rattle.moment_core.specs.declared.column.Column.{Column}
 use Rattle.moment_core.specs.declared.column.Column.TheVariants.{Green, All, Excess}
 use Rattle.ds_domain_base.specs.Envelopes.{output_in}
 use Rattle.ds_domain_base.specs.Domains.{Domain, jitter_of, link_of, port_of, skew_of}
+use Rattle.ds_domain_base.specs.Routes.{Route}
 use Rattle.ds_domain_base.specs.declared.contract.Contract.{Contract}
 use Rattle.ds_domain_base.specs.declared.parts.Version.{Version}
 use Rattle.ds_domain_base.specs.declared.parts.Version.TheVariants.{One, Two}
@@ -42,6 +43,10 @@ source_by version skew (Policed parameters mode) = record {
   all = widened skew (output_in All parameters);
   excess = widened skew (output_in (edge_column version) parameters);
 }
+
+-- what traffic on these terms keeps where it enters a domain by a route
+abbrev pub source_on : Domain → Route → Terms → Source
+source_on d route terms = source_by d.version route.skew terms
 
 -- what a contract's traffic keeps where it enters a domain
 unfoldable pub source_of : Domain → Contract → Source

@@ -1,7 +1,8 @@
 ghost use Rattle.std.specs.Prelude.{◌≡◌, ◌+◌, ◌*◌, ◌≤◌, ◌^◌, ◌⊎◌, false, true, List, IsTrue, IfOk, IfErr, OnOk};
 ghost use Rattle.std.specs.List.{AllZip, list_all};
 ghost use Rattle.ds_certificate.specs.Bounds.{AreAtMost, HasShape, IsAtMost, IsCertificate, Meets, delayed, entering};
-ghost use Rattle.ds_certificate.specs.Bounds.{fits, least, least_of};
+ghost use Rattle.ds_certificate.specs.Bounds.{fits, least, least_of, least_on};
+ghost use Rattle.ds_domain_base.specs.Routes.{route_of};
 ghost use Rattle.ds_certificate.specs.Columns.{InEach, bytes_in, envelope_in};
 ghost use Rattle.ds_certificate.specs.Columns as columns;
 ghost use Rattle.moment_core.specs.Volume.{bytes_over};
@@ -12,7 +13,7 @@ use crate::bound::Bound;
 use crate::certificate::{Bounds, Certificate};
 use crate::fault::CertificateFault;
 use crate::source::Source;
-use ds_domain_base::{Contract, Domain, fits};
+use ds_domain_base::{Contract, Domain, Route, fits};
 use moment_core::{Column, Gap, bytes_over_ceil};
 use std::alloc::{AllocError, Global};
 
@@ -120,6 +121,40 @@ pub fn least_bounds(
         hops.push(next)?;
         last = next;
         from = to;
+    }
+    Ok(hops)
+}
+
+/// The least bounds of a contract by its route, as `bounds_of` gives them: no name is looked up. `AllocError` where memory
+/// runs out.
+#[tactic(auto, unfolding(crate::specs::Sources::source_of))]
+pub fn bounds_by_route(
+    alloc: Global,
+    domain: &Domain,
+    contract: &Contract,
+    route: &Route,
+) -> Result<Vec<Bound>, AllocError>
+    requires { route.now ≡ route_of domain.now contract.now }
+    ensures value { IfOk result (λ bounds. bounds.items ≡ least_of domain.now contract.now) }
+    ensures rated { HasRates domain.now contract.now }
+{
+    let source = Source::along(domain, route, &contract.terms);
+    bounds_along(alloc, &source, route)
+}
+
+/// The least bounds along a route of traffic that keeps a source; `AllocError` where memory runs out.
+pub fn bounds_along(alloc: Global, source: &Source, route: &Route) -> Result<Vec<Bound>, AllocError>
+    requires { IsModerate source.now }
+    ensures { IfOk result (λ bounds. bounds.items ≡ least_on source.now route.now) }
+{
+    let legs = route.legs();
+    let mut hops = Vec::with_capacity(alloc, legs.len() + 1)?;
+    let mut last = entering(source);
+    hops.push(last)?;
+    for leg in legs {
+        let next = delayed(source, leg.jitter.gap(), last);
+        hops.push(next)?;
+        last = next;
     }
     Ok(hops)
 }

@@ -4,9 +4,9 @@ ghost use Rattle.ds_domain_base.specs.Envelopes.{all_output, green_output, outpu
 ghost use Rattle.ds_domain_base.specs.Domains.{port_of, skew_of};
 ghost use Rattle.ds_certificate.specs.Columns.{InEach, envelope_in};
 ghost use Rattle.ds_certificate.specs.Ranges.{IsModerate, IsModest};
-ghost use Rattle.ds_certificate.specs.Sources.{curve_of, edge_column, source_by, source_of};
+ghost use Rattle.ds_certificate.specs.Sources.{curve_of, edge_column, source_by, source_of, source_on};
 
-use ds_domain_base::{Contract, Domain, Name, Parameters, Profile, Terms, Version};
+use ds_domain_base::{Contract, Domain, Name, Parameters, Profile, Route, Terms, Version};
 use envelope_core::{Envelope, widen};
 use moment_core::{Column, Gap};
 
@@ -41,6 +41,16 @@ impl Source {
         ensures least { InEach (λ column. 1 ≤ (envelope_in column result).rate) }
     {
         source_by(domain.version(), domain.port_skew(port), terms)
+    }
+
+    /// What traffic on these terms keeps where it enters a domain by a route: what `of` tells of a contract by its route.
+    /// No name is looked up.
+    pub fn along(domain: &Domain, route: &Route, terms: &Terms) -> Self
+        ensures value { result ≡ source_on domain.now route.now terms.now }
+        ensures moderate { IsModerate result }
+        ensures least { InEach (λ column. 1 ≤ (envelope_in column result).rate) }
+    {
+        source_by(domain.version(), route.skew().gap(), terms)
     }
 
     /// What the packets of a column keep.

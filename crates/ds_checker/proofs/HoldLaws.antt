@@ -18,7 +18,7 @@ greatest-three a b c x y z inner outer is_x is_y is_z is_inner is_outer =
 max-assoc : (a b c : ℕ) → max (max a b) c ≡ max a (max b c)
 max-assoc a b c = grind arith
 
-greatest-append : (a b : List ℕ) → greatest (a ++ b) ≡ max (greatest a) (greatest b)
+pub greatest-append : (a b : List ℕ) → greatest (a ++ b) ≡ max (greatest a) (greatest b)
 unfolding greatest
 greatest-append [] b = grind arith
 greatest-append (n ∷ a) b = ap (max n) (greatest-append a b) ∙ sym (max-assoc n (greatest a) (greatest b))
@@ -30,7 +30,7 @@ unfolding holds_along
 along-next d s way from to path b bounds =
     greatest-append (holds_at_hop s (way + link_delay d from to) (meter_skew (meter_of d to)) b) (holds_along d s (way + link_delay d from to) to path bounds)
 
-swap_max : (a b c : ℕ) → max (max a b) c ≡ max b (max a c)
+pub swap_max : (a b c : ℕ) → max (max a b) c ≡ max b (max a c)
 swap_max a b c = grind arith
 
 -- one hop more

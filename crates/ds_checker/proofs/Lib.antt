@@ -10,4 +10,7 @@ pub mod LeastTableLaws
 pub mod LifetimeLaws
 pub mod LoadLaws
 pub mod PlaceLaws
+pub mod RoutedHoldLaws
+pub mod RoutedLaws
+pub mod RoutedPlaceLaws
 pub mod WayLaws

@@ -200,7 +200,7 @@ none_by : (place : ℕ) (found : Option Refusal) (rest : List (Option Refusal)) 
 none_by place None rest none = (refl, none)
 none_by place (Some refusal) rest none = absurd cc
 
-some_first : (found : Option (ℕ × Refusal)) → option_map (λ f. f.1) found ≡ None → found ≡ None
+pub some_first : (found : Option (ℕ × Refusal)) → option_map (λ f. f.1) found ≡ None → found ≡ None
 some_first None none = refl
 some_first (Some f) none = absurd cc
 
@@ -250,7 +250,7 @@ lower a other below = lower_by true a other (grind (arith, below, nat_tests))
 upper : (a other : ℕ × Refusal) → a.0 ≤ other.0 → earlier (Some a) (Some other) ≡ Some a
 upper a other above = lower_by false a other (grind (arith, above, nat_tests))
 
-earlier-None : (a : Option (ℕ × Refusal)) → earlier a None ≡ a
+pub earlier-None : (a : Option (ℕ × Refusal)) → earlier a None ≡ a
 earlier-None None = refl
 earlier-None (Some a) = refl
 
@@ -310,13 +310,13 @@ earlier-assoc (Some a) (Some b) None = earlier-None (earlier (Some a) (Some b))
 earlier-assoc (Some a) (Some b) (Some c) = three_by (nat_lt b.0 a.0) (nat_lt c.0 b.0) a b c refl refl
 
 -- ---- a loop over a path
-none_of : (meters : List (List ℕ × Meter)) (loads : List Loads) → first_failed (sums_tests meters loads) ≡ None → AllByRecursion (λ f. f ≡ None) (answers meters loads)
+pub none_of : (meters : List (List ℕ × Meter)) (loads : List Loads) → first_failed (sums_tests meters loads) ≡ None → AllByRecursion (λ f. f ≡ None) (answers meters loads)
 none_of meters loads passed = first_at-None 0 (answers meters loads) (first-failed-at 0 meters loads ∙ passed)
 
-zero_plus : (n : ℕ) → 0 + n ≡ n
+pub zero_plus : (n : ℕ) → 0 + n ≡ n
 zero_plus n = omega arith
 
-entry_of : (meters : List (List ℕ × Meter)) → 0 < length meters → List ℕ × Meter
+pub entry_of : (meters : List (List ℕ × Meter)) → 0 < length meters → List ℕ × Meter
 entry_of [] some = absurd (omega (arith, some))
 entry_of (entry ∷ meters) some = entry
 

@@ -7,6 +7,7 @@ pub mod Holds
 pub mod Loads
 pub mod Places
 pub mod Refusals
+pub mod Routed
 pub mod Sums
 pub mod TableTests
 pub mod Tests

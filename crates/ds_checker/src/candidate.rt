@@ -3,6 +3,7 @@ ghost use Rattle.std.specs.Prelude.{slice_get};
 ghost use Rattle.ds_certificate.specs.Bounds.{fits, least_of};
 ghost use Rattle.ds_checker.specs.Acceptance.{IsAcceptable, refusal_of, table_of};
 ghost use Rattle.ds_domain_base.specs.Lifetimes.{Span};
+ghost use Rattle.ds_domain_base.specs.Routes.{route_of};
 ghost use Rattle.ds_checker.specs.Changes.{lasting, on_terms, with_contract, with_lifetime, without_contract};
 ghost use Rattle.ds_checker.specs.Headrooms.{AreCovered, headroom_of};
 ghost use Rattle.ds_checker.specs.Holds.{hold_at};
@@ -14,9 +15,10 @@ use crate::headroom::{Headroom, headroom_at};
 use crate::hold::hold_of;
 use crate::load::Loads;
 use crate::refusal::Refusal;
+use crate::routed::{add_on_route, least_refusal_on_route, take_on_route};
 use crate::table::{add_contract, take_contract};
 use ds_certificate::{Bound, Bounds, Certificate, least_bounds};
-use ds_domain_base::{Contract, Domain, Lifetime, Name, Terms};
+use ds_domain_base::{Contract, Domain, Lifetime, Name, Route, Terms};
 use std::alloc::{AllocError, Global};
 use std::marker::Model;
 use std::sync::Arc;
@@ -210,6 +212,42 @@ impl Accepted {
         }
     }
 
+    /// The same by the contract's route: no name is looked up.
+    pub fn take_on_route(
+        &mut self,
+        contract: Contract,
+        route: &Route,
+        row: Bounds,
+    ) -> Result<(), AllocError>
+        requires unrefused { refusal_of (with_contract self.old contract row) ≡ None }
+        requires route { route.now ≡ route_of self.old.domain contract }
+        ensures taken { OnOk result (self.new ≡ with_contract self.old contract row) }
+        ensures acceptable { IsAcceptable self.new }
+        ensures unchanged { OnErr result (self.new ≡ self.old) }
+    {
+        if self.contracts.reserve(1).is_err() {
+            return Err(AllocError);
+        }
+        match self.certificate.push_shared(row) {
+            Ok(()) => {}
+            Err(_) => return Err(AllocError),
+        }
+        let domain: &Domain = &self.domain;
+        let _meters = domain.meters();
+        let row = &self.certificate.bounds()[self.contracts.len()];
+        add_on_route(
+            self.sums.as_mut_slice(),
+            domain,
+            &contract,
+            route,
+            row.hops(),
+        );
+        match self.contracts.push(contract) {
+            Ok(()) => Ok(()),
+            Err(_) => unreachable!(),
+        }
+    }
+
     /// Whether it keeps room for several times the contracts that it has. Its value does not tell.
     pub fn is_roomy(&self) -> bool {
         self.contracts.capacity() / 4 > self.contracts.len() + 16
@@ -258,6 +296,30 @@ impl Accepted {
         let bounds = self.certificate.remove(index);
         let domain: &Domain = &self.domain;
         take_contract(self.sums.as_mut_slice(), domain, &contract, bounds.hops());
+        (contract, bounds)
+    }
+
+    /// The same by the contract's route: no name is looked up.
+    pub fn withdraw_on_route(&mut self, index: usize, route: &Route) -> (Contract, Bounds)
+        requires place { index < length self.old.contracts }
+        requires route { IfSome (slice_get self.old.contracts index)
+            (λ contract. route.now ≡ route_of self.old.domain contract) }
+        ensures withdrawn { self.new ≡ without_contract self.old index }
+        ensures acceptable { IsAcceptable self.new }
+        ensures contract { slice_get self.old.contracts index ≡ Some result.0 }
+        ensures bounds { slice_get self.old.certificate index ≡ Some result.1 }
+    {
+        let contract = self.contracts.remove(index);
+        let bounds = self.certificate.remove(index);
+        let domain: &Domain = &self.domain;
+        let _meters = domain.meters();
+        take_on_route(
+            self.sums.as_mut_slice(),
+            domain,
+            &contract,
+            route,
+            bounds.hops(),
+        );
         (contract, bounds)
     }
 
@@ -319,6 +381,24 @@ impl Accepted {
     {
         let domain: &Domain = &self.domain;
         least_refusal_at_meters(domain, self.sums.as_slice(), contract, terms)
+    }
+
+    /// What `refusal_on` tells, by the contract's route: no name is looked up.
+    pub fn refusal_on_route(
+        &self,
+        contract: &Contract,
+        route: &Route,
+        terms: &Terms,
+    ) -> Option<Refusal>
+        requires fit { IsTrue (fits self.now.domain contract.now) }
+        requires route { route.now ≡ route_of self.now.domain contract.now }
+        ensures value { (lifetime : Span) → let other = lasting lifetime (on_terms terms.now contract.now) in
+            result ≡ refusal_of (with_contract self.now other (least_of self.now.domain other)) }
+        ensures acceptable { IsAcceptable self.now }
+    {
+        let domain: &Domain = &self.domain;
+        let _meters = domain.meters();
+        least_refusal_on_route(domain, self.sums.as_slice(), contract, route, terms)
     }
 
     /// Takes up a contract against which nothing stands; where memory runs out it hands it back, and is as it was.

@@ -52,7 +52,7 @@ fn skew_at(domain: &Domain, name: Name) -> Gap
 }
 
 /// The hold at a hop into a meter with a skew that is reached in some nanoseconds: the greatest over the columns.
-fn hold_at_hop(way: u128, skew: Gap, source: &Source, bound: Bound) -> u128
+pub(crate) fn hold_at_hop(way: u128, skew: Gap, source: &Source, bound: Bound) -> u128
     requires way { way ≤ 2 ^ 100 }
     requires skew { skew ≤ 10 ^ 10 }
     requires least { InEach (λ column. 1 ≤ (envelope_in column source.now).rate) }

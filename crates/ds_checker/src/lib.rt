@@ -12,6 +12,7 @@ pub mod hold;
 pub mod laws;
 pub mod load;
 pub mod refusal;
+pub mod routed;
 mod stop;
 pub mod table;
 
@@ -21,3 +22,4 @@ pub use candidate::{Accepted, Candidate};
 pub use headroom::{Headroom, Utilization};
 pub use hold::hold_of;
 pub use refusal::Refusal;
+pub use routed::hold_on_route;

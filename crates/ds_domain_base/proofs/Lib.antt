@@ -1,3 +1,4 @@
 pub mod DomainLaws
 pub mod EntryLaws
 pub mod NameLaws
+pub mod RouteLaws

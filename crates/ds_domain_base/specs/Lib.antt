@@ -4,6 +4,7 @@ pub mod Fitting
 pub mod Kept
 pub mod Lifetimes
 pub mod Names
+pub mod Routes
 pub mod Sent
 -- what the clauses here cite of the crates below
 pub use Rattle.meter_book_base.specs.Envelopes

@@ -33,7 +33,7 @@ pub fn fits(domain: &Domain, contract: &Contract) -> Result<(), DomainFault>
 }
 
 /// The fault of a kind at a field of a contract.
-fn refusal(kind: Kind, field: Field) -> DomainFault
+pub(crate) fn refusal(kind: Kind, field: Field) -> DomainFault
     ensures { result ≡ fault_at kind Section.Contract 0 field }
 {
     DomainFault::new(kind, Section::Contract, 0, field)
@@ -49,7 +49,7 @@ fn names_unknown(domain: &Domain, path: &[Name]) -> bool
 
 /// Whether a name stands twice.
 #[tactic(auto, unfolding(crate::specs::Fitting::repeats))]
-fn repeats(path: &[Name]) -> bool
+pub(crate) fn repeats(path: &[Name]) -> bool
     ensures { result ≡ repeats path.now }
 {
     match path.split_first() {

@@ -10,6 +10,7 @@ pub mod name;
 pub mod parts;
 pub mod path;
 pub mod quantity;
+pub mod route;
 pub mod terms;
 
 pub use contract::Contract;
@@ -21,4 +22,5 @@ pub use name::{Name, is_name};
 pub use parts::{Link, Meter, Port, Version};
 pub use path::Path;
 pub use quantity::{Delay, Lifetime};
+pub use route::{Leg, Route};
 pub use terms::{Peak, Profile, Terms};

@@ -25,6 +25,9 @@ impl Delay {
     /// The greatest delay, 10^10 nanoseconds.
     pub const MOST: u64 = 10_000_000_000;
 
+    /// No delay.
+    pub(crate) const NONE: Delay = Delay { nanoseconds: 0 };
+
     /// The delay of so many nanoseconds; `OutOfRange` above 10^10.
     pub fn new(nanoseconds: u64) -> Result<Self, OutOfRange>
         ensures { OkIff result (nanoseconds ≤ 10 ^ 10) nanoseconds }

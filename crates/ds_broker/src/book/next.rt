@@ -99,16 +99,19 @@ impl Book {
         ensures change { IfOk result (λ change. IsChange self.now (Reserve contract.now) change) }
         ensures refused { IfErr result (λ refusal. IsRefusal (refusal_in self.now (Reserve contract.now)) refusal) }
     {
-        if let Some(refusal) = self.refusal_against(contract) {
-            return Err(refusal);
-        }
+        let route = match self.admitted(contract) {
+            Ok(route) => route,
+            Err(refusal) => return Err(refusal),
+        };
         let serial = self.next_serial();
         let since = self.moment_of(contract.lifetime.since());
-        let Ok((contract, row)) = begun_row(alloc, self.table.domain(), contract, since) else {
+        let Ok((contract, row)) = begun_row(alloc, self.table.domain(), contract, &route, since)
+        else {
             return Err(BrokerRefusal::NoMemory);
         };
         let step = Step::Grow {
             contract,
+            route,
             row,
             flow: self.granted,
         };

@@ -1,5 +1,7 @@
 use Rattle.std.proofs.Common.{◌≡◌, None, refl, sym, ap, ◌∙◌}
 use Rattle.ds_checker.specs.Acceptance.{refusal_of}
+use Rattle.ds_domain_base.specs.Routes.{route_of}
+use Rattle.ds_domain_base.specs.declared.contract.Contract.{Contract}
 use Rattle.ds_broker.specs.Books.{moment_in, standing, table_of}
 use Rattle.ds_broker.specs.Entries.{flows_of}
 use Rattle.ds_broker.specs.Refusals.{reserve_refusal}
@@ -13,16 +15,19 @@ returns-clause-change c =
     let k = c.args.contract.now in
     let since = c.moment_of-since.result in
     let moment : since ≡ moment_in b k.lifetime.since = c.moment_of-since.ensures ∙ ap (moment_in b) c.since.ensures in
-    let unrefused : reserve_refusal b k ≡ None = sym c.refusal_against.ensures.value ∙ c.in_default.is in
+    let unrefused : reserve_refusal b k ≡ None = c.in-Ok.ensures.unrefused in
     let domain : c.domain.result.now ≡ b.domain = c.domain.ensures.value ∙ ap (λ x. x.domain) c.self.view_is in
-    let larger = grown b k c.in-Ok.contract c.in-Ok.row c.domain.result.now since domain c.in-Ok.ensures.begun c.in-Ok.ensures.row in
+    let larger = grown b k c.in-Ok-begun_row.contract c.in-Ok-begun_row.row c.domain.result.now since domain c.in-Ok-begun_row.ensures.begun c.in-Ok-begun_row.ensures.row in
     let granted : c.self.inside.granted ≡ (standing b).granted = c.self.invariant.granted ∙ ap (λ x. (standing x).granted) c.self.view_is in record {
       leads = record {
-        applies = ap refusal_of larger ∙ unrefused-checked b k (table_of b) since c.in_default.ensures.unrefused refl moment unrefused;
+        applies = (
+          ap refusal_of larger ∙ unrefused-checked b k (table_of b) since c.in-Ok.ensures.roomy refl moment unrefused,
+          c.in-Ok.ensures.route ∙ sym (ap (λ (own : Contract). route_of b.domain own) c.in-Ok-begun_row.ensures.begun),
+        );
         table = sym (table-after-reserve b k (table_of b) _ since refl moment larger);
         flows = sym (flows-after-reserve b k (flows_of b) _ c.self.inside.granted refl granted refl);
       };
       serial = c.next_serial-serial.ensures;
       unrefused = unrefused;
-      room = c.in_default.ensures.room;
+      room = c.in-Ok.ensures.room;
     }

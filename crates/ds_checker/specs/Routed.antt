@@ -1,0 +1,41 @@
+-- What a contract brings along a route: a share at the place of each leg. It speaks of places alone.
+use Rattle.std.specs.Prelude.{⊤, ℕ, ◌+◌, Bool, List, [], ◌∷◌, ◌++◌, slice_index_or, slice_set}
+use Rattle.ds_domain_base.specs.declared.route.Leg.{Leg}
+use Rattle.ds_certificate.specs.Columns.{Bound, IsInRange}
+use Rattle.ds_certificate.specs.declared.source.Source.{Source}
+use Rattle.ds_checker.specs.Holds.{holds_at_hop}
+use Rattle.ds_checker.specs.Loads.{Share}
+use Rattle.ds_checker.specs.Sums.{no_loads, with_share, without_share}
+use Rattle.ds_checker.specs.declared.load.Loads.{Loads}
+
+-- the share of traffic at a meter, by the bound of the hop into it
+abbrev pub share_with : Source → Bool → Bound → Share
+share_with source has_peak bound = record { source = source; bound = bound; has_peak = has_peak }
+
+-- the sums at a place
+abbrev pub sums_at : List Loads → ℕ → Loads
+sums_at sums place = slice_index_or sums place (no_loads 0)
+
+-- sums with a share more at a place, and with one fewer
+abbrev pub with_share_at : Share → ℕ → List Loads → List Loads
+with_share_at share place sums = slice_set sums place (with_share (sums_at sums place) share)
+
+abbrev pub without_share_at : Share → ℕ → List Loads → List Loads
+without_share_at share place sums = slice_set sums place (without_share (sums_at sums place) share)
+
+-- leg by leg, by the bounds of the hops into their meters
+unfoldable pub with_legs : Source → Bool → List Leg → List Bound → List Loads → List Loads
+with_legs source has_peak (leg ∷ legs) (bound ∷ bounds) sums =
+    with_legs source has_peak legs bounds (with_share_at (share_with source has_peak bound) leg.place sums)
+with_legs source has_peak legs bounds sums = sums
+
+-- the bounds of the hops into the meters are in range
+unfoldable pub AreBounds : List Leg → List Bound → Type 0
+AreBounds (leg ∷ legs) (bound ∷ bounds) = IsInRange bound × AreBounds legs bounds
+AreBounds legs bounds = ⊤
+
+-- how long a share is to be held at each hop, leg by leg, from where it is reached in a time
+unfoldable pub holds_on : Source → ℕ → List Leg → List Bound → List ℕ
+holds_on s way (leg ∷ legs) (bound ∷ bounds) =
+    holds_at_hop s (way + (leg.floor + leg.jitter)) leg.skew bound ++ holds_on s (way + (leg.floor + leg.jitter)) legs bounds
+holds_on s way legs bounds = []
