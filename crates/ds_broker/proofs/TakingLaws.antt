@@ -10,7 +10,7 @@ use Rattle.ds_domain_base.specs.Lifetimes.{IsInOrder, Span}
 use Rattle.ds_domain_base.specs.declared.contract.Contract.{Contract}
 use Rattle.ds_certificate.specs.Bounds.{fits}
 use Rattle.ds_timeline.specs.Kept.{IsNumbered, IsTimeline}
-use Rattle.ds_timeline.specs.Timelines.{Timeline}
+use Rattle.ds_timeline.specs.Timelines.{Timeline, route_in, routes_in}
 use Rattle.ds_timeline.specs.declared.reservation.Reservation.{Reservation}
 use Rattle.ds_broker.specs.Books.{Book, Limits, held_of, holding_of, moment_in, standing}
 use Rattle.ds_broker.specs.Histories.{Holding, end_by, ended}
@@ -202,3 +202,12 @@ past-out rs newest at moment id new r is_moment numbered least most here is =
 -- a past of two parts
 pub past-parts : (p q : Past) → p.newest ≡ q.newest → p.granted ≡ q.granted → p ≡ q
 past-parts p q newest granted = ap (λ n. record { newest = n; granted = p.granted }) newest ∙ ap (λ rs. record { newest = q.newest; granted = rs }) granted
+
+-- a change that leaves each contract's way as it is leaves the routes
+pub routes-changed : (d : Domain) (id : ℕ) (change : Reservation → Reservation) (rs : List Reservation) → ((r : Reservation) → route_in d (change r) ≡ route_in d r)
+    → routes_in d (changed id change rs) ≡ routes_in d rs
+routes-changed d id change [] same = refl
+routes-changed d id change (r ∷ rs) same = elim (cases_Bool (nat_eq id (id_of r))) [
+  | inl is ↦ rw is (ap (λ route. route ∷ routes_in d (changed id change rs)) (same r) ∙ ap (λ routes. route_in d r ∷ routes) (routes-changed d id change rs same))
+  | inr is ↦ rw is (ap (λ routes. route_in d r ∷ routes) (routes-changed d id change rs same))
+]

@@ -1,6 +1,7 @@
 -- What the type of a timeline keeps.
 use Rattle.std.specs.Prelude.{◌≡◌, ℕ, suc, ◌≤◌, ⊤, List, [], ◌∷◌, length}
-use Rattle.ds_timeline.specs.Timelines.{AreRated, IsCovered, Timeline}
+use Rattle.ds_domain_base.specs.Routes.{Route}
+use Rattle.ds_timeline.specs.Timelines.{AreRated, IsCovered, Timeline, routes_in}
 use Rattle.ds_timeline.specs.declared.reservation.Reservation.{Reservation}
 
 -- flows count up from a number
@@ -15,3 +16,8 @@ pub record IsTimeline (t : Timeline) : Type 0 where
   pub rated : AreRated t
   pub numbered : IsNumbered 0 t.reservations
   pub few : length t.reservations ≤ 65536
+
+-- beside it stand the routes of its contracts
+pub record IsRouted (t : Timeline) (routes : List Route) : Type 0 where
+  pub timeline : IsTimeline t
+  pub beside : routes ≡ routes_in t.domain t.reservations

@@ -4,6 +4,7 @@ use Rattle.std.specs.Prelude.{AllPairs, Option, None, Some, IsSomeAnd}
 use Rattle.std.specs.Option.{ForSome}
 use Rattle.ds_certificate.specs.Rates.{HasRates}
 use Rattle.ds_domain_base.specs.Domains.{Domain}
+use Rattle.ds_domain_base.specs.Routes.{Route, route_of}
 use Rattle.ds_checker.specs.Acceptance.{IsAcceptable, Table}
 use Rattle.ds_checker.specs.Holds.{hold_of}
 use Rattle.ds_timeline.specs.declared.reservation.Reservation.{Reservation}
@@ -37,6 +38,13 @@ table_by d reservations = record {
 -- the table of a moment: those that are reserved then
 abbrev pub table_at : Timeline → ℕ → Table
 table_at t moment = table_by t.domain (reserved_at t moment)
+
+-- the route of a reservation's contract, and those of some
+abbrev pub route_in : Domain → Reservation → Route
+route_in d r = route_of d r.contract
+
+abbrev pub routes_in : Domain → List Reservation → List Route
+routes_in d reservations = map (route_in d) reservations
 
 -- how long a share is held once its contract has ended
 abbrev pub hold_in : Domain → Reservation → ℕ

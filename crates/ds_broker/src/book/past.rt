@@ -1,10 +1,12 @@
 //! Every contract that a book ever granted.
-ghost use Rattle.std.specs.Prelude.{◌≡◌, ◌≤◌, ◌<◌, IfOk, OnOk, false, length, max, true};
+ghost use Rattle.std.specs.Prelude.{◌≡◌, ◌≤◌, ◌<◌, ◌++◌, ◌∷◌, [], IfOk, OnOk, false, length, max, true};
 ghost use Rattle.std.specs.List.{AllByRecursion};
 ghost use Rattle.ds_certificate.specs.Bounds.{fits};
 ghost use Rattle.ds_certificate.specs.Rates.{HasRates};
 ghost use Rattle.ds_domain_base.specs.Lifetimes.{IsInOrder};
+ghost use Rattle.ds_domain_base.specs.Routes.{route_of};
 ghost use Rattle.ds_timeline.specs.Kept.{IsNumbered};
+ghost use Rattle.ds_timeline.specs.Timelines.{routes_in};
 ghost use Rattle.ds_broker.specs.Histories.{beginning};
 ghost use Rattle.ds_broker.specs.Kept.{IsAccepted, IsNext};
 ghost use Rattle.ds_broker.specs.Timelines.{IsOfRates, changed, ending_by, granted_as, past_after, past_of};
@@ -12,8 +14,8 @@ ghost use Rattle.ds_broker.specs.Timelines.{retired_at, timeline_of};
 
 use super::{Book, begun, ended};
 use crate::command::Command;
-use ds_certificate::{Bounds, CertificateFault, bounds_of};
-use ds_domain_base::{Contract, Domain};
+use ds_certificate::{Bounds, bounds_by_route};
+use ds_domain_base::{Contract, Domain, Route};
 use ds_timeline::{Reservation, Timeline};
 use moment_core::Moment;
 use std::alloc::{AllocError, Global};
@@ -44,25 +46,34 @@ impl Book {
     pub fn timeline(&self, alloc: Global) -> Result<Timeline, AllocError>
         ensures { IfOk result (λ timeline. timeline ≡ timeline_of self.now) }
     {
+        let mut routes = Vec::new(alloc);
         let Past { newest: _, granted } = Past::of(
             alloc,
             self.table.domain(),
+            &mut routes,
             self.history.as_slice(),
         )?;
         let Ok(domain) = self.table.domain().copy(alloc) else {
             return Err(AllocError);
         };
-        Ok(Timeline::new(domain, granted))
+        Ok(Timeline::new(domain, granted, routes))
     }
 }
 
 impl Past {
     ghost use Rattle.ds_broker.specs.declared.command.Command.TheVariants.{Reserve, Release, Retire};
 
-    /// What a history of accepted commands granted.
-    fn of(alloc: Global, domain: &Domain, history: &[Command]) -> Result<Self, AllocError>
-        requires { IsAccepted domain.now history.now }
+    /// What a history of accepted commands granted; the routes of these contracts are put into a list of none.
+    fn of(
+        alloc: Global,
+        domain: &Domain,
+        routes: &mut Vec<Route>,
+        history: &[Command],
+    ) -> Result<Self, AllocError>
+        requires accepted { IsAccepted domain.now history.now }
+        requires none { routes.old.items ≡ [] }
         ensures value { IfOk result (λ past. past ≡ past_of domain.now history.now) }
+        ensures routes { IfOk result (λ past. routes.new.items ≡ routes_in domain.now past.granted) }
         ensures rated { OnOk result (AllByRecursion (IsOfRates domain.now) history.now) }
     {
         let mut past = Past {
@@ -70,19 +81,27 @@ impl Past {
             granted: Vec::new(alloc),
         };
         for command in history {
-            past.take(alloc, domain, command)?;
+            past.take(alloc, domain, routes, command)?;
         }
         Ok(past)
     }
 
-    /// One command more.
-    fn take(&mut self, alloc: Global, domain: &Domain, command: &Command) -> Result<(), AllocError>
-        requires { IsNext domain.now self.old command.now }
+    /// One command more, beside the routes of the contracts.
+    fn take(
+        &mut self,
+        alloc: Global,
+        domain: &Domain,
+        routes: &mut Vec<Route>,
+        command: &Command,
+    ) -> Result<(), AllocError>
+        requires next { IsNext domain.now self.old command.now }
+        requires routes { routes.old.items ≡ routes_in domain.now self.old.granted }
         ensures value { OnOk result (self.new ≡ past_after domain.now self.old command.now) }
+        ensures routes { OnOk result (routes.new.items ≡ routes_in domain.now self.new.granted) }
         ensures rated { OnOk result (IsOfRates domain.now command.now) }
     {
         match command {
-            Command::Reserve(contract) => self.grant(alloc, domain, contract),
+            Command::Reserve(contract) => self.grant(alloc, domain, routes, contract),
             Command::Release { id, at } => {
                 self.release(*id, *at);
                 Ok(())
@@ -94,22 +113,29 @@ impl Past {
         }
     }
 
-    /// A contract is granted.
+    /// A contract is granted, whose route is found.
     fn grant(
         &mut self,
         alloc: Global,
         domain: &Domain,
+        routes: &mut Vec<Route>,
         contract: &Contract,
     ) -> Result<(), AllocError>
         requires fit { fits domain.now contract.now ≡ true }
         requires order { IsInOrder (max self.old.newest contract.now.lifetime.since) contract.now.lifetime.until }
         requires few { length self.old.granted < 65536 }
         ensures value { OnOk result (self.new ≡ past_after domain.now self.old (Reserve contract.now)) }
+        ensures route { OnOk result (routes.new.items ≡ routes.old.items ++ route_of domain.now contract.now ∷ []) }
         ensures rated { OnOk result (HasRates domain.now contract.now) }
     {
+        let Ok(route) = domain.route(contract) else {
+            unreachable!()
+        };
         let flow = self.granted.len() as u32;
         let since = self.newest.max(contract.lifetime.since());
-        let reservation = granted(alloc, domain, flow, contract, since)?;
+        let contract = begun(alloc, contract, since)?;
+        let reservation = granted(alloc, domain, &route, flow, contract)?;
+        routes.push(route)?;
         self.granted.push(reservation)?;
         self.newest = since;
         Ok(())
@@ -146,31 +172,26 @@ impl Past {
     }
 }
 
-/// A contract as it is granted under a flow, to begin at a moment; `AllocError` where memory runs out.
+/// A contract as it is granted under a flow, by its route; `AllocError` where memory runs out.
 fn granted(
     alloc: Global,
     domain: &Domain,
+    route: &Route,
     flow: u32,
-    contract: &Contract,
-    since: Moment,
+    contract: Contract,
 ) -> Result<Reservation, AllocError>
-    requires fit { fits domain.now contract.now ≡ true }
-    requires order { IsInOrder since contract.now.lifetime.until }
-    ensures value { IfOk result
-        (λ reservation. reservation ≡ granted_as domain.now flow (beginning since contract.now)) }
-    ensures rated { OnOk result (HasRates domain.now (beginning since contract.now)) }
+    requires { route.now ≡ route_of domain.now contract }
+    ensures value { IfOk result (λ reservation. reservation ≡ granted_as domain.now flow contract) }
+    ensures rated { HasRates domain.now contract }
 {
-    let contract = begun(alloc, contract, since)?;
-    let bounds = match bounds_of(alloc, domain, &contract) {
-        Ok(bounds) => Bounds::new(alloc, bounds)?,
-        Err(CertificateFault::NoMemory) => return Err(AllocError),
-        Err(_) => unreachable!(),
-    };
+    let bounds = bounds_by_route(alloc, domain, &contract, route)?;
+    let bounds = Bounds::new(alloc, bounds)?;
+    let from = contract.lifetime.since();
     Ok(Reservation {
         flow,
         contract,
         bounds,
-        from: since,
+        from,
         retirement: None,
     })
 }

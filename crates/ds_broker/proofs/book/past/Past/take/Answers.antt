@@ -1,34 +1,49 @@
-use Rattle.std.proofs.Common.{subst}
+use Rattle.std.proofs.Common.{ap, refl, subst, sym, ◌∙◌}
+use Rattle.std.specs.Prelude.{max}
+use Rattle.ds_timeline.specs.Timelines.{routes_in}
 use Rattle.ds_broker.specs.Kept.{IsNext}
-use Rattle.ds_broker.proofs.TakingLaws.{granted-released, granted-retired, grantable}
+use Rattle.ds_broker.specs.Timelines.{ending_by, retired_at}
+use Rattle.ds_broker.proofs.TakingLaws.{granted-released, granted-retired, grantable, routes-changed}
 use Rattle.ds_broker.proofs.book.past.Past.take.Goals as goal
 
 pub grant-requires-clause-order : goal.grant-requires-clause-order
 grant-requires-clause-order c =
-    (grantable c.args.domain.now c.args.self.now c.in-Reserve.contract (subst (IsNext c.args.domain.now c.args.self.now) c.in-Reserve.is c.requires)).order
+    (grantable c.args.domain.now c.args.self.now c.in-Reserve.contract (subst (IsNext c.args.domain.now c.args.self.now) c.in-Reserve.is c.requires.next)).order
 
 pub grant-requires-clause-few : goal.grant-requires-clause-few
 grant-requires-clause-few c =
-    (grantable c.args.domain.now c.args.self.now c.in-Reserve.contract (subst (IsNext c.args.domain.now c.args.self.now) c.in-Reserve.is c.requires)).few
+    (grantable c.args.domain.now c.args.self.now c.in-Reserve.contract (subst (IsNext c.args.domain.now c.args.self.now) c.in-Reserve.is c.requires.next)).few
 
 pub release-requires-clause-granted : goal.release-requires-clause-granted
 release-requires-clause-granted c =
-    let own = granted-released c.args.domain.now c.args.self.now c.in-Release.id c.in-Release.at (subst (IsNext c.args.domain.now c.args.self.now) c.in-Release.is c.requires) in
+    let own = granted-released c.args.domain.now c.args.self.now c.in-Release.id c.in-Release.at (subst (IsNext c.args.domain.now c.args.self.now) c.in-Release.is c.requires.next) in
     (own.least, own.most)
 
 pub release-requires-clause-numbered : goal.release-requires-clause-numbered
 release-requires-clause-numbered c =
-    (granted-released c.args.domain.now c.args.self.now c.in-Release.id c.in-Release.at (subst (IsNext c.args.domain.now c.args.self.now) c.in-Release.is c.requires)).numbered
+    (granted-released c.args.domain.now c.args.self.now c.in-Release.id c.in-Release.at (subst (IsNext c.args.domain.now c.args.self.now) c.in-Release.is c.requires.next)).numbered
 
 pub release-requires-clause-begun : goal.release-requires-clause-begun
 release-requires-clause-begun c =
-    (granted-released c.args.domain.now c.args.self.now c.in-Release.id c.in-Release.at (subst (IsNext c.args.domain.now c.args.self.now) c.in-Release.is c.requires)).begun
+    (granted-released c.args.domain.now c.args.self.now c.in-Release.id c.in-Release.at (subst (IsNext c.args.domain.now c.args.self.now) c.in-Release.is c.requires.next)).begun
 
 pub retire-requires-clause-granted : goal.retire-requires-clause-granted
 retire-requires-clause-granted c =
-    let own = granted-retired c.args.domain.now c.args.self.now c.in-Retire.id c.in-Retire.moment (subst (IsNext c.args.domain.now c.args.self.now) c.in-Retire.is c.requires) in
+    let own = granted-retired c.args.domain.now c.args.self.now c.in-Retire.id c.in-Retire.moment (subst (IsNext c.args.domain.now c.args.self.now) c.in-Retire.is c.requires.next) in
     (own.least, own.most)
 
 pub retire-requires-clause-numbered : goal.retire-requires-clause-numbered
 retire-requires-clause-numbered c =
-    (granted-retired c.args.domain.now c.args.self.now c.in-Retire.id c.in-Retire.moment (subst (IsNext c.args.domain.now c.args.self.now) c.in-Retire.is c.requires)).numbered
+    (granted-retired c.args.domain.now c.args.self.now c.in-Retire.id c.in-Retire.moment (subst (IsNext c.args.domain.now c.args.self.now) c.in-Retire.is c.requires.next)).numbered
+
+pub returns-in-Release-clause-routes : goal.returns-in-Release-clause-routes
+returns-in-Release-clause-routes c =
+    let d = c.args.domain.now in
+    let p = c.args.self.now in
+    c.requires.routes ∙ sym (routes-changed d c.in-Release.id (ending_by (max p.newest c.in-Release.at)) p.granted (λ r. refl)) ∙ ap (λ q. routes_in d q.granted) (sym c.release.ensures)
+
+pub returns-in-Retire-clause-routes : goal.returns-in-Retire-clause-routes
+returns-in-Retire-clause-routes c =
+    let d = c.args.domain.now in
+    let p = c.args.self.now in
+    c.requires.routes ∙ sym (routes-changed d c.in-Retire.id (retired_at (max p.newest c.in-Retire.moment)) p.granted (λ r. refl)) ∙ ap (λ q. routes_in d q.granted) (sym c.retire.ensures)
