@@ -1,7 +1,6 @@
 -- Traffic that keeps no more than other traffic has least bounds that are no greater.
-use Rattle.std.proofs.Common.{◌≡◌, ℕ, ◌+◌, ◌*◌, ◌≤◌, List, [], ◌∷◌, refl, arith}
+use Rattle.std.proofs.Common.{ℕ, ◌≤◌, List, [], ◌∷◌, arith}
 use Rattle.std.specs.List.{AllZip}
-use Rattle.moment_core.specs.Volume.{bytes_over}
 use Rattle.moment_core.specs.declared.column.Column.{Column}
 use Rattle.moment_core.specs.declared.column.Column.TheVariants.{Green, All, Excess}
 use Rattle.envelope_core.specs.Curve.{Curve, widened}

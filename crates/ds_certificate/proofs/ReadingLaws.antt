@@ -2,12 +2,14 @@
 use Rattle.std.proofs.Common.{rules, append_assoc, append-nil, get_or, take, ◌≡◌, ◌≢◌, ℕ, suc, ◌+◌, ◌-◌, ◌≤◌, ◌<◌, Bool, false, List, [], ◌∷◌, ◌++◌, drop, length, None, Some, Result, Ok, Err, refl, sym, ap, ◌∙◌, arith, if◌then◌else◌}
 use Rattle.std.proofs.lemmas.Bool.Decides.{nat_tests}
 use Rattle.std.proofs.lemmas.List.{drop_all, drop_more}
+use Rattle.std.specs.Prelude.{IsTrue, MatchOption, Option}
+use Rattle.std.specs.Result.{is_ok, result_err}
 use Rattle.line_text.specs.Lines.{fields_of, has_byte, lines_of}
 use Rattle.line_text.specs.Numbers.{number_of}
 use Rattle.line_text.proofs.LineLemmas.{lines_of-nil, lines_of-uncut}
 use Rattle.ds_domain_base.specs.declared.contract.Contract.{Contract}
 use Rattle.ds_certificate.specs.Columns.{Bound}
-use Rattle.ds_certificate.specs.Readings.{Entry, Read, bound_in, bounds_in, ending_in, entry_in, entry_of, has_form, if_formed, onto, row_onto, rows_in}
+use Rattle.ds_certificate.specs.Readings.{Entry, Read, bound_in, bounds_in, ending_in, entry_in, entry_of, has_form, if_formed, left_of, onto, row_onto, rows_in}
 use Rattle.ds_certificate.specs.declared.form.Form.{Form}
 use Rattle.ds_certificate.specs.declared.form.Form.TheVariants.{Short, Long}
 use Rattle.ds_certificate.specs.declared.fault.CertificateFault.{CertificateFault}
@@ -151,3 +153,64 @@ rows_in-excess form done contracts i lines fault all end = rw (drop_all i contra
 
 pub empty_end : (text : List ℕ) → take (length text - length text) (drop (length text) text) ≡ []
 empty_end text = rw (drop_all (length text) text (omega arith)) (search rules)
+
+-- what is left or wrong, whatever stands before
+left_ahead : (done : List Bound) (read : Result Read CertificateFault) → left_of (ahead done read) ≡ left_of read
+left_ahead done (Err fault) = refl
+left_ahead done (Ok read) = refl
+
+left_err : (read : Result Read CertificateFault) (fault : CertificateFault) → left_of read ≡ Err fault → read ≡ Err fault
+left_err (Err other) fault is = cc
+left_err (Ok read) fault is = cc
+
+left_ok : (read : Result Read CertificateFault) (left : List (List ℕ)) → left_of read ≡ Ok left → (bounds : List Bound) × (read ≡ Ok (bounds, left))
+left_ok (Err fault) left is = cc
+left_ok (Ok read) left is =
+    let same : read.1 ≡ left = cc in
+    (read.0, ap (λ lines. Ok (read.0, lines)) same)
+
+pub left-bad : (read whole : Result Read CertificateFault) (fault : CertificateFault) → ahead [] read ≡ Err fault → left_of read ≡ left_of whole → whole ≡ Err fault
+left-bad read whole fault bad same = left_err whole fault (sym same ∙ sym (left_ahead [] read) ∙ ap left_of bad)
+
+pub left-on : (form : Form) (name : List ℕ) (hop count : ℕ) (lines : List (List ℕ)) (line : List ℕ) (rest : List (List ℕ)) (b : Bound) (whole : Result Read CertificateFault) → hop < count
+    → lines ≡ line ∷ rest → bound_in form name hop line ≡ Ok b → left_of (bounds_in form name hop (count - hop) lines) ≡ left_of whole
+    → left_of (bounds_in form name (hop + 1) (count - (hop + 1)) rest) ≡ left_of whole
+left-on form name hop count lines line rest b whole more are said same =
+    sym (left_ahead (b ∷ []) (bounds_in form name (hop + 1) (count - (hop + 1)) rest))
+    ∙ ap left_of (sym (bounds_in-line form [] (b ∷ []) name hop count lines line rest b more are said refl))
+    ∙ left_ahead [] (bounds_in form name hop (count - hop) lines) ∙ same
+
+pub left-ended : (read whole : Result Read CertificateFault) (rest : List (List ℕ)) → ahead [] read ≡ Ok ([], rest) → left_of read ≡ left_of whole → left_of whole ≡ Ok rest
+left-ended read whole rest ended same = sym same ∙ sym (left_ahead [] read) ∙ ap left_of ended
+
+fault_ahead : (done : List (List Bound)) (rows : Result (List (List Bound)) CertificateFault) → result_err (rows_ahead done rows) ≡ result_err rows
+fault_ahead done (Err fault) = refl
+fault_ahead done (Ok rows) = refl
+
+pub fault-bad : (left whole : Result (List (List Bound)) CertificateFault) (fault : CertificateFault) → rows_ahead [] left ≡ Err fault → result_err left ≡ result_err whole → Some fault ≡ result_err whole
+fault-bad left whole fault bad same = sym (ap result_err bad) ∙ fault_ahead [] left ∙ same
+
+pub fault-on : (form : Form) (contracts : List Contract) (i : ℕ) (c : Contract) (lines left : List (List ℕ)) (whole : Result (List (List Bound)) CertificateFault)
+    → i < length contracts → c ≡ get_or contracts i c → left_of (bounds_in form c.name 0 (length c.path + 1) lines) ≡ Ok left
+    → result_err (rows_in form (drop i contracts) lines) ≡ result_err whole → result_err (rows_in form (drop (i + 1) contracts) left) ≡ result_err whole
+fault-on form contracts i c lines left whole inside is_c read same =
+    let bounds = left_ok (bounds_in form c.name 0 (length c.path + 1) lines) left read in
+    sym (fault_ahead (bounds.0 ∷ []) (rows_in form (drop (i + 1) contracts) left))
+    ∙ ap result_err (sym (rows_in-contract form [] (bounds.0 ∷ []) contracts i c lines left bounds.0 inside is_c bounds.1 refl))
+    ∙ fault_ahead [] (rows_in form (drop i contracts) lines) ∙ same
+
+pub fault-ended : (form : Form) (contracts : List Contract) (i : ℕ) (lines : List (List ℕ)) (whole : Result (List (List Bound)) CertificateFault) (found : Option CertificateFault) → length contracts ≤ i
+    → MatchOption found (ending_in form lines ≡ Ok []) (λ fault. ending_in form lines ≡ Err fault)
+    → result_err (rows_in form (drop i contracts) lines) ≡ result_err whole → found ≡ result_err whole
+fault-ended form contracts i lines whole None all end same =
+    sym (ap result_err (rows_in-ended form [] contracts i lines all end)) ∙ fault_ahead [] (rows_in form (drop i contracts) lines) ∙ same
+fault-ended form contracts i lines whole (Some fault) all end same =
+    fault-bad (rows_in form (drop i contracts) lines) whole fault (rows_in-excess form [] contracts i lines fault all end) same
+
+pub is_fault : (rows : Result (List (List Bound)) CertificateFault) (fault : CertificateFault) → Some fault ≡ result_err rows → rows ≡ Err fault
+is_fault (Err other) fault is = cc
+is_fault (Ok rows) fault is = cc
+
+pub is_read : (rows : Result (List (List Bound)) CertificateFault) → None ≡ result_err rows → IsTrue (is_ok rows)
+is_read (Err fault) is = cc
+is_read (Ok rows) is = search rules

@@ -76,6 +76,11 @@ bounds_in form name hop (suc count) [] = Err Shape
 bounds_in form name hop (suc count) (line ∷ lines) =
     onto (bound_in form name hop line) (bounds_in form name (suc hop) count lines)
 
+-- the lines that are left, or what is wrong with those before them
+abbrev pub left_of : Result Read CertificateFault → Result (List (List ℕ)) CertificateFault
+left_of (Err fault) = Err fault
+left_of (Ok read) = Ok read.1
+
 -- what stands behind the last bound is too much
 abbrev pub ending_in : Form → List (List ℕ) → Result (List (List Bound)) CertificateFault
 ending_in form [] = Ok []

@@ -1,12 +1,13 @@
 ghost use Rattle.std.specs.Prelude.{◌≡◌, ◌∷◌, [], ◌+◌, ◌≤◌, ◌^◌, ◌&&◌, ◌⊎◌, ⊤, length, nat_eq, None, Some, Ok, Err};
 ghost use Rattle.std.specs.Prelude.{◌≢◌, IsTrue, IfOk, IfErr, MatchOption, MatchResult};
 ghost use Rattle.std.specs.List.{list_all};
+ghost use Rattle.std.specs.Result.{is_ok, result_err};
 ghost use Rattle.std.specs.Char.{is_ascii_digit};
 ghost use Rattle.ds_domain_base.specs.Names.{is_name};
 ghost use Rattle.line_text.specs.Lines.{fields_of, lines_of};
 ghost use Rattle.line_text.specs.Numbers.{is_number, number_of, value_of};
 ghost use Rattle.ds_certificate.specs.Readings.{bound_in, bounds_in, certificate_in, ending_in, entry_in};
-ghost use Rattle.ds_certificate.specs.Readings.{entry_of_fields, has_form, rows_in};
+ghost use Rattle.ds_certificate.specs.Readings.{entry_of_fields, has_form, left_of, rows_in};
 ghost use Rattle.ds_certificate.specs.Texts.{is_shaped};
 
 use crate::bound::Bound;
@@ -25,8 +26,8 @@ const MOST_DIGITS: usize = 20;
 /// EXCESS`. LF ends a line, and the last may lack it.
 ///
 /// Lines are judged in order. Refused: `Text` at a line that is not of that form, `Shape` at one that is not of the
-/// contract or the hop whose turn it is, or where lines are missing, `Range` at a bound above 10^15, and `NoMemory`
-/// where memory runs out.
+/// contract or the hop whose turn it is, or where lines are missing, `Range` at a bound above 10^15; and `NoMemory`
+/// where nothing is wrong and memory runs out.
 #[tactic(auto, unfolding(crate::specs::Readings::certificate_in))]
 pub fn read(
     alloc: Global,
@@ -35,7 +36,8 @@ pub fn read(
 ) -> Result<Certificate, CertificateFault>
     ensures certificate { IfOk result (λ certificate. certificate_in contracts.now text.now ≡ Ok certificate) }
     ensures shape { IfOk result (λ certificate. IsTrue (is_shaped contracts.now certificate)) }
-    ensures refused { IfErr result (λ fault. (fault ≡ CertificateFault.NoMemory)
+    ensures refused { IfErr result (λ fault.
+        ((fault ≡ CertificateFault.NoMemory) × IsTrue (is_ok (certificate_in contracts.now text.now)))
         ⊎ (certificate_in contracts.now text.now ≡ Err fault)) }
 {
     let Some((heading, rest)) = next_line(text) else {
@@ -44,7 +46,53 @@ pub fn read(
     let Some(form) = Form::headed(heading) else {
         return Err(CertificateFault::Text);
     };
-    rows_in(alloc, form, rest, contracts)
+    match rows_in(alloc, form, rest, contracts) {
+        Err(CertificateFault::NoMemory) => match fault_in(form, rest, contracts) {
+            Some(fault) => Err(fault),
+            None => Err(CertificateFault::NoMemory),
+        },
+        read => read,
+    }
+}
+
+/// What is wrong with the lines behind the heading, if anything is: it takes no memory.
+fn fault_in(form: Form, text: &[u8], contracts: &[Contract]) -> Option<CertificateFault>
+    ensures { result ≡ result_err (rows_in form contracts.now (lines_of text.now)) }
+{
+    let mut rest = text;
+    for contract in contracts {
+        match behind_bounds(form, rest, contract) {
+            Ok(later) => rest = later,
+            Err(fault) => return Some(fault),
+        }
+    }
+    surplus_in(form, rest)
+}
+
+/// What stands behind the bounds of a contract, with which a text begins.
+fn behind_bounds<'a>(
+    form: Form,
+    text: &'a [u8],
+    contract: &Contract,
+) -> Result<&'a [u8], CertificateFault>
+    ensures behind { IfOk result (λ rest.
+        left_of (bounds_in form contract.now.name 0 (length contract.now.path + 1) (lines_of text.now))
+        ≡ Ok (lines_of rest.now)) }
+    ensures refused { IfErr result (λ fault.
+        bounds_in form contract.now.name 0 (length contract.now.path + 1) (lines_of text.now) ≡ Err fault) }
+{
+    let count = contract.path.meters().len() + 1;
+    let mut rest = text;
+    for hop in 0..count {
+        let Some((line, later)) = next_line(rest) else {
+            return Err(CertificateFault::Shape);
+        };
+        match bound_in(form, contract.name, hop as u64, line) {
+            Ok(_) => rest = later,
+            Err(fault) => return Err(fault),
+        }
+    }
+    Ok(rest)
 }
 
 /// The certificate of some contracts that the lines behind the heading say.
