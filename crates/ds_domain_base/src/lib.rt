@@ -22,5 +22,5 @@ pub use name::{Name, is_name};
 pub use parts::{Link, Meter, Port, Version};
 pub use path::Path;
 pub use quantity::{Delay, Lifetime};
-pub use route::{Leg, Route};
+pub use route::{Leg, Route, SharedRoute};
 pub use terms::{Peak, Profile, Terms};

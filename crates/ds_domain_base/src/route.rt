@@ -1,4 +1,5 @@
-ghost use Rattle.std.specs.Prelude.{◌≡◌, ◌≤◌, ◌<◌, ◌++◌, ◌∷◌, [], None, Some, MatchResult, is_none, length};
+ghost use Rattle.std.specs.Prelude.{◌≡◌, ◌≤◌, ◌<◌, ◌++◌, ◌∷◌, [], None, Some, IfOk, MatchResult, is_none};
+ghost use Rattle.std.specs.Prelude.{length};
 ghost use Rattle.ds_domain_base.specs.Domains.{floor_of, jitter_of, link_of, meter_of};
 ghost use Rattle.ds_domain_base.specs.Fitting.{lacks_link, names_unknown, way_fault};
 ghost use Rattle.ds_domain_base.specs.Routes.{AreInside, IsRoute, leg_of, legs_along, meter_skew, place_of};
@@ -10,7 +11,9 @@ use crate::fault::{DomainFault, Field, Kind};
 use crate::fit::{MOST_HOPS, refusal, repeats};
 use crate::name::Name;
 use crate::quantity::Delay;
+use std::alloc::{AllocError, Global};
 use std::marker::Model;
+use std::sync::Arc;
 
 /// A leg of a route: the link into a meter, and the meter.
 #[derive(Clone, Copy, Debug, PartialEq, Eq)]
@@ -114,6 +117,48 @@ impl Route {
         ensures kept { IsRoute self.now }
     {
         self.legs.as_slice()
+    }
+}
+
+/// A route that its copies share.
+#[derive(Debug, Drop)]
+pub struct SharedRoute {
+    route: Arc<Route, Global>,
+}
+
+impl Model for SharedRoute {
+    ghost use Rattle.std.specs.Arc.{arc_value};
+    ghost use Rattle.ds_domain_base.specs.Routes as routes;
+
+    ghost Value = { routes.Route };
+
+    ghost view = { λ s. arc_value s.route };
+}
+
+impl SharedRoute {
+    /// The route, to be shared; `AllocError` where memory runs out.
+    pub fn new(alloc: Global, route: Route) -> Result<Self, AllocError>
+        ensures { IfOk result (λ shared. shared ≡ route) }
+    {
+        let Ok(route) = Arc::new(alloc, route) else {
+            return Err(AllocError);
+        };
+        Ok(SharedRoute { route })
+    }
+
+    /// The route.
+    pub fn route(&self) -> &Route
+        ensures { result.now ≡ self.now }
+    {
+        &self.route
+    }
+
+    /// The same route again, over the same in memory; `AllocError` where it can have no owner more.
+    pub fn copy(&self) -> Result<SharedRoute, AllocError>
+        ensures { IfOk result (λ shared. shared ≡ self.now) }
+    {
+        let route = Arc::try_clone(&self.route)?;
+        Ok(SharedRoute { route })
     }
 }
 
