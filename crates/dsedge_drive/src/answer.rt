@@ -9,7 +9,7 @@ use ds_broker::{Book, BrokerRefusal, Entry, Grant, Serial};
 use dsedge_texts::{RefusalLine, kind_text, push_figure, push_wide_figure};
 use line_text::push_number;
 use moment_core::Moment;
-use std::alloc::{AllocError, Global};
+use std::alloc::AllocError;
 
 /// Appends what was granted: `granted ID SERIAL SINCE`.
 fn push_granted(text: &mut Vec<u8>, grant: Grant) -> Result<(), AllocError>
@@ -25,7 +25,6 @@ fn push_granted(text: &mut Vec<u8>, grant: Grant) -> Result<(), AllocError>
 
 /// Appends what was granted, or why a book refused it. Want of memory is no answer: `AllocError`.
 pub(crate) fn push_sale(
-    alloc: Global,
     text: &mut Vec<u8>,
     book: &Book,
     sale: Result<Grant, BrokerRefusal>,
@@ -37,7 +36,7 @@ pub(crate) fn push_sale(
 {
     match sale {
         Ok(grant) => push_granted(text, grant),
-        Err(refusal) => push_refused(alloc, text, book, &refusal),
+        Err(refusal) => push_refused(text, book, &refusal),
     }
 }
 
@@ -55,7 +54,6 @@ fn push_done(text: &mut Vec<u8>, done: &str, id: u64, serial: Serial) -> Result<
 /// Appends what was done with the contract of an id, or why its book refused that. Want of memory is no answer:
 /// `AllocError`.
 pub(crate) fn push_outcome(
-    alloc: Global,
     text: &mut Vec<u8>,
     book: &Book,
     done: &str,
@@ -69,7 +67,7 @@ pub(crate) fn push_outcome(
 {
     match outcome {
         Ok(serial) => push_done(text, done, id, serial),
-        Err(refusal) => push_refused(alloc, text, book, &refusal),
+        Err(refusal) => push_refused(text, book, &refusal),
     }
 }
 
@@ -84,12 +82,7 @@ pub(crate) fn push_fault(text: &mut Vec<u8>, kind: &str) -> Result<(), AllocErro
 }
 
 /// Appends why a command is refused by a book. Want of memory is no answer: `AllocError`.
-fn push_refused(
-    alloc: Global,
-    text: &mut Vec<u8>,
-    book: &Book,
-    refusal: &BrokerRefusal,
-) -> Result<(), AllocError>
+fn push_refused(text: &mut Vec<u8>, book: &Book, refusal: &BrokerRefusal) -> Result<(), AllocError>
     ensures line { OnOk result (text.new.items
         ≡ text.old.items ++ refused_line (contracts_in (held_of book.now)) refusal.now) }
     ensures answered { OnOk result (refusal.now ≢ BrokerRefusal.NoMemory) }
@@ -98,7 +91,7 @@ fn push_refused(
         BrokerRefusal::Contract(fault) => push_fault(text, kind_text(fault.kind)),
         BrokerRefusal::TableFull => text.extend_from_slice(b"refused 2 TableFull\n"),
         BrokerRefusal::Checker(refusal) => {
-            let line = RefusalLine::new(alloc, book.table().contracts(), refusal)?;
+            let line = RefusalLine::new(book.table().contracts(), refusal);
             text.extend_from_slice(line.bytes())
         }
         BrokerRefusal::UnknownId => text.extend_from_slice(b"refused 4 UnknownId\n"),

@@ -104,10 +104,10 @@ fn say<J: Naming, R: Wait + Drop>(
 {
     match request {
         Request::Reserve(place) => reserve(alloc, shop, text, contract_at(offered, place)),
-        Request::Release { id, at } => release(alloc, shop, text, id, at),
-        Request::Retire { id, moment } => retire(alloc, shop, text, id, moment),
+        Request::Release { id, at } => release(shop, text, id, at),
+        Request::Retire { id, moment } => retire(shop, text, id, moment),
         Request::Quote { place, field } => {
-            quote(alloc, shop.book(), text, contract_at(offered, place), field)
+            quote(shop.book(), text, contract_at(offered, place), field)
         }
         Request::Headroom => push_headroom(text, shop.book().table()),
         Request::List => list(alloc, shop.book(), text),
@@ -136,7 +136,7 @@ fn reserve<J: Naming, R: Wait + Drop>(
     match contract {
         None => push_fault(text, kind_text(Kind::UnknownName)),
         Some(contract) => match contract.copy(alloc) {
-            Ok(own) => sell(alloc, shop, text, own),
+            Ok(own) => sell(shop, text, own),
             Err(_) => Err(AllocError),
         },
     }
@@ -144,7 +144,6 @@ fn reserve<J: Naming, R: Wait + Drop>(
 
 /// Reserves a contract, and appends the answer.
 fn sell<J: Naming, R: Wait + Drop>(
-    alloc: Global,
     shop: &mut Shop<J, R>,
     text: &mut Vec<u8>,
     contract: Contract,
@@ -153,12 +152,11 @@ fn sell<J: Naming, R: Wait + Drop>(
     ensures book { OnOk result (shop.new ≡ (sold shop.old contract).book) }
 {
     let sale = shop.reserve(contract);
-    push_sale(alloc, text, shop.book(), sale)
+    push_sale(text, shop.book(), sale)
 }
 
 /// Releases the contract of an id, and appends the answer.
 fn release<J: Naming, R: Wait + Drop>(
-    alloc: Global,
     shop: &mut Shop<J, R>,
     text: &mut Vec<u8>,
     id: u64,
@@ -168,12 +166,11 @@ fn release<J: Naming, R: Wait + Drop>(
     ensures book { OnOk result (shop.new ≡ (released shop.old id at).book) }
 {
     let done = shop.release(id, at);
-    push_outcome(alloc, text, shop.book(), "released", id, done)
+    push_outcome(text, shop.book(), "released", id, done)
 }
 
 /// Retires the contract of an id, and appends the answer.
 fn retire<J: Naming, R: Wait + Drop>(
-    alloc: Global,
     shop: &mut Shop<J, R>,
     text: &mut Vec<u8>,
     id: u64,
@@ -183,13 +180,12 @@ fn retire<J: Naming, R: Wait + Drop>(
     ensures book { OnOk result (shop.new ≡ (retired shop.old id moment).book) }
 {
     let done = shop.retire(id, moment);
-    push_outcome(alloc, text, shop.book(), "retired", id, done)
+    push_outcome(text, shop.book(), "retired", id, done)
 }
 
 /// Appends the greatest value of a field of a contract, beside what a book holds but the contract of its name; where
 /// there is no contract, its name is unknown.
 fn quote(
-    alloc: Global,
     book: &Book,
     text: &mut Vec<u8>,
     contract: Option<&Contract>,
@@ -200,13 +196,12 @@ fn quote(
 {
     match contract {
         None => push_fault(text, kind_text(Kind::UnknownName)),
-        Some(contract) => quote_beside(alloc, book, text, contract, field),
+        Some(contract) => quote_beside(book, text, contract, field),
     }
 }
 
 /// Appends the greatest value of a field of a contract, beside what a book holds but the contract of its name.
 fn quote_beside(
-    alloc: Global,
     book: &Book,
     text: &mut Vec<u8>,
     contract: &Contract,
@@ -216,7 +211,7 @@ fn quote_beside(
         ≡ text.old.items ++ (told_beside (others_of (table_of book.now) contract.now.name) contract.now field).0) }
 {
     let left_out = book.place_of(contract.name);
-    let _found = push_quote_without(alloc, text, book.table(), left_out, contract, field)?;
+    let _found = push_quote_without(text, book.table(), left_out, contract, field)?;
     Ok(())
 }
 

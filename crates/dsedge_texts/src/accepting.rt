@@ -103,20 +103,18 @@ pub(crate) fn judge(alloc: Global, candidate: Candidate) -> Result<Accepted, Tab
 {
     match check(alloc, candidate) {
         Ok(accepted) => Ok(accepted),
-        Err((candidate, refusal)) => Err(told(alloc, candidate.contracts.as_slice(), refusal)),
+        Err((candidate, refusal)) => Err(told(candidate.contracts.as_slice(), refusal)),
     }
 }
 
 /// The fault of a table that is refused, by the refusal of its contracts' certificate.
-fn told(alloc: Global, contracts: &[Contract], refusal: Refusal) -> TableFault
+fn told(contracts: &[Contract], refusal: Refusal) -> TableFault
     ensures memory { refusal ≡ Refusal.NoMemory → result ≡ TableFault.NoMemory }
-    ensures line { (result ≡ TableFault.NoMemory) ⊎ (result ≡ TableFault.Refused (refusal_line contracts.now refusal)) }
+    ensures line { ((result ≡ TableFault.NoMemory) × (refusal ≡ Refusal.NoMemory))
+        ⊎ (result ≡ TableFault.Refused (refusal_line contracts.now refusal)) }
 {
-    if refusal == Refusal::NoMemory {
-        return TableFault::NoMemory;
-    }
-    match RefusalLine::new(alloc, contracts, &refusal) {
-        Ok(line) => TableFault::Refused(line),
-        Err(_) => TableFault::NoMemory,
+    match refusal {
+        Refusal::NoMemory => TableFault::NoMemory,
+        _ => TableFault::Refused(RefusalLine::new(contracts, &refusal)),
     }
 }

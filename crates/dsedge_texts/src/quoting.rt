@@ -170,7 +170,7 @@ fn quote_over(
     ensures memory { IfErr result (λ fault. fault ≡ QuoteFault.NoMemory) }
 {
     let mut text = Vec::new(alloc);
-    match push_quote(alloc, &mut text, accepted, contract, field) {
+    match push_quote(&mut text, accepted, contract, field) {
         Ok(is_found) => Ok(Quoted { text, is_found }),
         Err(_) => Err(QuoteFault::NoMemory),
     }
@@ -179,7 +179,6 @@ fn quote_over(
 /// Appends the greatest value of a field of a contract beside an accepted table, `FIELD VALUE`; or `none`, and behind it
 /// the checker's line for the least valid value, if there is one. Tells whether there was a value.
 pub fn push_quote(
-    alloc: Global,
     text: &mut Vec<u8>,
     accepted: &Accepted,
     contract: &Contract,
@@ -189,12 +188,11 @@ pub fn push_quote(
         ≡ text.old.items ++ (told_beside accepted.now contract.now field).0) }
     ensures found { IfOk result (λ found. found ≡ (told_beside accepted.now contract.now field).1) }
 {
-    push_quote_without(alloc, text, accepted, None, contract, field)
+    push_quote_without(text, accepted, None, contract, field)
 }
 
 /// The same beside what an accepted table holds but the contract at a place, if one is left out.
 pub fn push_quote_without(
-    alloc: Global,
     text: &mut Vec<u8>,
     accepted: &Accepted,
     left_out: Option<usize>,
@@ -214,7 +212,7 @@ pub fn push_quote_without(
         }
         None => {
             let refusal = least_refusal_without(accepted, left_out, contract, field);
-            push_none(alloc, text, accepted.contracts(), refusal)?;
+            push_none(text, accepted.contracts(), refusal)?;
             Ok(false)
         }
     }
@@ -232,7 +230,6 @@ fn push_value(text: &mut Vec<u8>, field: Field, value: u64) -> Result<(), AllocE
 
 /// Appends `none`, and the checker's line of a refusal of some contracts, if there is one.
 fn push_none(
-    alloc: Global,
     text: &mut Vec<u8>,
     contracts: &[Contract],
     refusal: Option<Refusal>,
@@ -241,10 +238,7 @@ fn push_none(
 {
     text.extend_from_slice(b"none\n")?;
     match refusal {
-        Some(refusal) => {
-            let line = RefusalLine::new(alloc, contracts, &refusal)?;
-            text.extend_from_slice(line.bytes())
-        }
+        Some(refusal) => { text.extend_from_slice(RefusalLine::new(contracts, &refusal).bytes()) }
         None => Ok(()),
     }
 }
@@ -317,7 +311,7 @@ fn none_told(
     ensures memory { IfErr result (λ fault. fault ≡ QuoteFault.NoMemory) }
 {
     let mut text = Vec::new(alloc);
-    match push_none(alloc, &mut text, contracts, refusal) {
+    match push_none(&mut text, contracts, refusal) {
         Ok(()) => Ok(Quoted {
             text,
             is_found: false,

@@ -1,19 +1,25 @@
-ghost use Rattle.std.specs.Prelude.{◌≡◌, ◌++◌, IfOk, OnOk};
+ghost use Rattle.std.specs.Prelude.{◌≡◌, ◌+◌, ◌≤◌, ◌<◌, ◌++◌, length};
+ghost use Rattle.arrayvec.specs.ArrayVec.{array_vec_len};
 ghost use Rattle.dsedge_texts.specs.Refused.{column_figures_text, figures_text, meter_place_text, place_text};
 ghost use Rattle.dsedge_texts.specs.Refused.{refusal_line, test_text};
+ghost use Rattle.dsedge_texts.specs.Wording.{column_text, figure, name_of};
 
-use crate::wording::{column_text, push_figure, push_name, push_wide_figure};
+use crate::wording::column_text;
+use arrayvec::ArrayVec;
 use ds_checker::Refusal;
 use ds_domain::{Contract, Name};
-use line_text::push_number;
+use itoa::Buffer;
 use moment_core::Column;
-use std::alloc::{AllocError, Global};
 use std::marker::Model;
 
-/// A line that says why a certificate is refused: `refused`, the refusal's number, its name and its figures.
+/// The bytes of a line: a name and three figures fit, and what stands before and between them.
+type Line = ArrayVec<u8, 192>;
+
+/// A line that says why a certificate is refused: `refused`, the refusal's number, its name and its figures. To make one
+/// takes no memory.
 #[derive(Debug, Drop)]
 pub struct RefusalLine {
-    text: Vec<u8>,
+    text: Line,
 }
 
 impl Model for RefusalLine {
@@ -25,17 +31,17 @@ impl Model for RefusalLine {
 }
 
 impl RefusalLine {
-    /// The line of a refusal of some contracts; `AllocError` where memory runs out.
-    pub fn new(alloc: Global, contracts: &[Contract], refusal: &Refusal) -> Result<Self, AllocError>
-        ensures { IfOk result (λ line. line ≡ refusal_line contracts.now refusal.now) }
+    /// The line of a refusal of some contracts.
+    pub fn new(contracts: &[Contract], refusal: &Refusal) -> Self
+        ensures { result ≡ refusal_line contracts.now refusal.now }
     {
-        let mut text = Vec::new(alloc);
-        text.extend_from_slice(b"refused ")?;
-        text.extend_from_slice(test_text(refusal))?;
-        text.push(b' ')?;
-        push_place(&mut text, contracts, refusal)?;
-        text.push(b'\n')?;
-        Ok(RefusalLine { text })
+        let mut text = Line::new();
+        push(&mut text, b"refused ");
+        push(&mut text, test_text(refusal));
+        push(&mut text, b" ");
+        push_place(&mut text, contracts, refusal);
+        push(&mut text, b"\n");
+        RefusalLine { text }
     }
 
     /// Its text, which ends with LF.
@@ -48,7 +54,8 @@ impl RefusalLine {
 
 /// A refusal's number and name.
 fn test_text(refusal: &Refusal) -> &'static [u8]
-    ensures { result.now ≡ test_text refusal.now }
+    ensures text { result.now ≡ test_text refusal.now }
+    ensures short { length result.now ≤ 12 }
 {
     match refusal {
         Refusal::Shape { .. } => "1 Shape".as_bytes(),
@@ -62,24 +69,32 @@ fn test_text(refusal: &Refusal) -> &'static [u8]
     }
 }
 
+/// Appends bytes.
+fn push(text: &mut Line, bytes: &[u8])
+    requires { array_vec_len text.now + length bytes.now ≤ 192 }
+    ensures { text.new.items ≡ text.old.items ++ bytes.now }
+{
+    if text.try_extend_from_slice(bytes).is_err() {
+        unreachable!();
+    }
+}
+
 /// Appends where a refusal is, and its figures.
-fn push_place(
-    text: &mut Vec<u8>,
-    contracts: &[Contract],
-    refusal: &Refusal,
-) -> Result<(), AllocError>
-    ensures { OnOk result (text.new.items ≡ text.old.items ++ place_text contracts.now refusal.now) }
+fn push_place(text: &mut Line, contracts: &[Contract], refusal: &Refusal)
+    requires { array_vec_len text.now ≤ 21 }
+    ensures text { text.new.items ≡ text.old.items ++ place_text contracts.now refusal.now }
+    ensures room { array_vec_len text.new < 192 }
 {
     match *refusal {
-        Refusal::Shape { contract } => push_number(text, contract as u64),
+        Refusal::Shape { contract } => push(text, Buffer::new().format(contract).as_bytes()),
         Refusal::FirstBound {
             contract,
             column,
             needed,
             given,
         } => {
-            push_name(text, contracts, contract)?;
-            push_column(text, column, needed, given)
+            push_name(text, contracts, contract);
+            push_column(text, column, needed, given);
         }
         Refusal::HopBound {
             contract,
@@ -88,9 +103,9 @@ fn push_place(
             needed,
             given,
         } => {
-            push_name(text, contracts, contract)?;
-            push_figure(text, hop as u64)?;
-            push_column(text, column, needed, given)
+            push_name(text, contracts, contract);
+            push_figure(text, hop as u128);
+            push_column(text, column, needed, given);
         }
         Refusal::GreenRate { .. }
         | Refusal::GreenBurst { .. }
@@ -101,8 +116,10 @@ fn push_place(
 }
 
 /// Appends the meter that a refusal is at, and its figures; nothing where it is at none.
-fn push_meter_place(text: &mut Vec<u8>, refusal: &Refusal) -> Result<(), AllocError>
-    ensures { OnOk result (text.new.items ≡ text.old.items ++ meter_place_text refusal.now) }
+fn push_meter_place(text: &mut Line, refusal: &Refusal)
+    requires { array_vec_len text.now ≤ 21 }
+    ensures text { text.new.items ≡ text.old.items ++ meter_place_text refusal.now }
+    ensures room { array_vec_len text.new < 192 }
 {
     match *refusal {
         Refusal::GreenRate {
@@ -128,41 +145,68 @@ fn push_meter_place(text: &mut Vec<u8>, refusal: &Refusal) -> Result<(), AllocEr
         Refusal::Shape { .. }
         | Refusal::FirstBound { .. }
         | Refusal::HopBound { .. }
-        | Refusal::NoMemory => Ok(()),
+        | Refusal::NoMemory => {}
     }
 }
 
-/// Appends two figures, each behind a space.
-fn push_figures(text: &mut Vec<u8>, needed: u128, given: u128) -> Result<(), AllocError>
-    ensures { OnOk result (text.new.items ≡ text.old.items ++ figures_text needed given) }
+/// Appends the name of the contract of a number; nothing where there is none.
+fn push_name(text: &mut Line, contracts: &[Contract], number: usize)
+    requires { array_vec_len text.now ≤ 21 }
+    ensures text { text.new.items ≡ text.old.items ++ name_of contracts.now number }
+    ensures room { array_vec_len text.new ≤ 53 }
 {
-    push_wide_figure(text, needed)?;
-    push_wide_figure(text, given)
+    if let Some(contract) = contracts.get(number) {
+        push_word(text, contract.name);
+    }
+}
+
+/// Appends a name.
+#[tactic(auto, using(ds_domain_base::proofs::NameLaws::name_fits))]
+fn push_word(text: &mut Line, name: Name)
+    requires { array_vec_len text.now ≤ 160 }
+    ensures text { text.new.items ≡ text.old.items ++ name }
+    ensures room { array_vec_len text.new ≤ array_vec_len text.old + 32 }
+{
+    push(text, name.bytes());
+}
+
+/// Appends a figure, behind a space.
+fn push_figure(text: &mut Line, number: u128)
+    requires { array_vec_len text.now ≤ 151 }
+    ensures text { text.new.items ≡ text.old.items ++ figure number }
+    ensures room { array_vec_len text.new ≤ array_vec_len text.old + 41 }
+{
+    push(text, b" ");
+    push(text, Buffer::new().format(number).as_bytes());
+}
+
+/// Appends two figures, each behind a space.
+fn push_figures(text: &mut Line, needed: u128, given: u128)
+    requires { array_vec_len text.now ≤ 101 }
+    ensures text { text.new.items ≡ text.old.items ++ figures_text needed given }
+    ensures room { array_vec_len text.new < 192 }
+{
+    push_figure(text, needed);
+    push_figure(text, given);
 }
 
 /// Appends a column and two figures, behind a space.
-fn push_column(
-    text: &mut Vec<u8>,
-    column: Column,
-    needed: u128,
-    given: u128,
-) -> Result<(), AllocError>
-    ensures { OnOk result (text.new.items ≡ text.old.items ++ column_figures_text column needed given) }
+fn push_column(text: &mut Line, column: Column, needed: u128, given: u128)
+    requires { array_vec_len text.now ≤ 94 }
+    ensures text { text.new.items ≡ text.old.items ++ column_figures_text column needed given }
+    ensures room { array_vec_len text.new < 192 }
 {
-    text.push(b' ')?;
-    text.extend_from_slice(column_text(column))?;
-    push_figures(text, needed, given)
+    push(text, b" ");
+    push(text, column_text(column));
+    push_figures(text, needed, given);
 }
 
 /// Appends a meter's name and two figures.
-fn push_meter(
-    text: &mut Vec<u8>,
-    meter: Name,
-    needed: u128,
-    available: u128,
-) -> Result<(), AllocError>
-    ensures { OnOk result (text.new.items ≡ text.old.items ++ meter ++ figures_text needed available) }
+fn push_meter(text: &mut Line, meter: Name, needed: u128, available: u128)
+    requires { array_vec_len text.now ≤ 21 }
+    ensures text { text.new.items ≡ text.old.items ++ meter ++ figures_text needed available }
+    ensures room { array_vec_len text.new < 192 }
 {
-    text.extend_from_slice(meter.bytes())?;
-    push_figures(text, needed, available)
+    push_word(text, meter);
+    push_figures(text, needed, available);
 }

@@ -1,4 +1,4 @@
-use Rattle.std.proofs.Common.{◌≡◌, ap, ◌∙◌}
+use Rattle.std.proofs.Common.{ap, ◌∙◌}
 use Rattle.std.specs.List.{list_all}
 use Rattle.ds_certificate.specs.Bounds.{fits}
 use Rattle.ds_checker.specs.Changes.{on_terms}
