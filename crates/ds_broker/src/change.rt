@@ -8,11 +8,11 @@ ghost use Rattle.ds_broker.specs.Changes.{Applies, flows_changed, table_changed}
 use crate::entry::Serial;
 use ds_certificate::Bounds;
 use ds_checker::Accepted;
-use ds_domain_base::{Contract, Lifetime, Route};
+use ds_domain_base::{Contract, Lifetime, SharedRoute};
 use std::alloc::{AllocError, Global};
 
 /// What an accepted command changes: a step from what its book held before it to what it holds with it, at the cost of
-/// the contract's own path. Its copies share the contract's path and bounds.
+/// the contract's own path. Its copies share the contract's path, its route and its bounds.
 #[derive(Debug, Drop)]
 pub struct Change {
     /// The number of the command.
@@ -29,7 +29,7 @@ pub enum Step {
         /// The contract, as it begins.
         contract: Contract,
         /// Its route.
-        route: Route,
+        route: SharedRoute,
         /// Its bounds.
         row: Bounds,
         /// Its flow: its id less 1.
@@ -108,7 +108,7 @@ fn grow(
     alloc: Global,
     table: &mut Accepted,
     contract: &Contract,
-    route: &Route,
+    route: &SharedRoute,
     row: &Bounds,
 ) -> Result<(), AllocError>
     requires unrefused { refusal_of (with_contract table.old contract.now row.now) ≡ None }
@@ -121,5 +121,5 @@ fn grow(
         return Err(AllocError);
     };
     let row = row.copy(alloc)?;
-    table.take_on_route(contract, route, row)
+    table.take_up(contract, route.copy()?, row)
 }

@@ -1,19 +1,25 @@
 -- Laws of the tests of bounds.
-use Rattle.std.proofs.Common.{◌≡◌, ℕ, suc, ◌+◌, ◌-◌, ◌*◌, ◌<◌, ◌≤◌, ◌^◌, ◌++◌, ◌&&◌, nat_eq, length, drop, get_or, map, List, [], ◌∷◌, Bool, true, false, is_some, Option, None, Some, option_map, if◌then◌else◌, nat_le, nat_lt, ◌⊎◌, inl, inr, refl, sym, ap, ◌∙◌, arith}
+use Rattle.std.proofs.Common.{◌≡◌, ℕ, suc, ◌+◌, ◌-◌, ◌*◌, ◌<◌, ◌≤◌, ◌^◌, ◌++◌, ◌&&◌, nat_eq, length, drop, get_or, map, List, [], ◌∷◌, Bool, true, false, is_none, is_some, Option, None, Some, option_map, if◌then◌else◌, nat_le, nat_lt, ◌⊎◌, inl, inr, refl, sym, ap, ◌∙◌, arith}
 use Rattle.std.proofs.lemmas.List.{drop_all, drop_more, length-drop}
 use Rattle.std.specs.Bool.{then_some}
+use Rattle.std.specs.Prelude.{IfSome}
 use Rattle.std.specs.Option.{MatchOption, option_or}
 use Rattle.std.proofs.lemmas.Bool.Decides.{nat_tests}
 use Rattle.std.proofs.Math.Nat.{mul-le-mul}
 use Rattle.std.proofs.lemmas.Grind.{div_ceil_times}
 use Rattle.moment_core.specs.Volume.{bytes_over}
 use Rattle.moment_core.specs.declared.column.Column.{Column}
-use Rattle.ds_domain_base.specs.Domains.{Domain, jitter_of, link_of}
+use Rattle.ds_domain_base.specs.Domains.{Domain}
 use Rattle.ds_domain_base.specs.declared.contract.Contract.{Contract}
 use Rattle.ds_certificate.specs.Bounds.{fits}
 use Rattle.ds_certificate.specs.Columns.{Bound}
-use Rattle.ds_certificate.specs.Sources.{jitters_along, jitters_of, source_of}
+use Rattle.ds_certificate.specs.Sources.{jitters_of, source_of}
 use Rattle.ds_certificate.specs.declared.source.Source.{Source}
+use Rattle.ds_domain_base.specs.Fitting.{way_fault}
+use Rattle.ds_domain_base.specs.Routes.{Route, jitters_in, route_of}
+use Rattle.ds_domain_base.proofs.RouteLaws.{length-legs_along}
+use Rattle.ds_domain_base.specs.declared.route.Leg.{Leg}
+use Rattle.ds_certificate.proofs.RouteLaws.{jitters-legs}
 use Rattle.ds_checker.specs.BoundTests.{bound_tests, first_test, hop_test, hop_tests, in_columns, misfit, tests_along}
 use Rattle.ds_checker.specs.Tests.{Test, first_failed}
 use Rattle.ds_checker.specs.declared.refusal.Refusal.{Refusal}
@@ -27,7 +33,7 @@ bytes_over_fits rate gap slow short =
     omega (arith, times)
 
 -- an item, and those behind it
-item_ahead : {X : Type 0} (xs : List X) (i : ℕ) (x : X) → i < length xs → x ≡ get_or xs i x → drop i xs ≡ x ∷ drop (i + 1) xs
+pub item_ahead : {X : Type 0} (xs : List X) (i : ℕ) (x : X) → i < length xs → x ≡ get_or xs i x → drop i xs ≡ x ∷ drop (i + 1) xs
 item_ahead xs i x inside is_item = drop_more xs i x inside ∙ ap (λ first. first ∷ drop (i + 1) xs) (sym is_item)
 
 -- the first test that fails in a list, or else in the list behind it
@@ -79,6 +85,14 @@ pub or_else_is : {P : Type 0} (first rest result : Option Refusal) → MatchOpti
 or_else_is None rest result which called = called which
 or_else_is (Some refusal) rest result which called = which
 
+pub or_assoc : (a b c : Option Refusal) → option_or (option_or a b) c ≡ option_or a (option_or b c)
+or_assoc None b c = refl
+or_assoc (Some a) b c = refl
+
+pub or_none : (a : Option Refusal) → option_or a None ≡ a
+or_none None = refl
+or_none (Some a) = refl
+
 next_is : (i : ℕ) → suc i ≡ i + 1
 next_is i = omega arith
 
@@ -111,17 +125,13 @@ misfit_left i d (bounds ∷ rows) = grind (arith, nat_tests)
 left_over : (i n : ℕ) → nat_lt 0 (n - i) ≡ nat_lt i n
 left_over i n = grind (arith, nat_tests)
 
-refused_if : (more : Bool) (number : ℕ) → then_some more (Shape number) ≡ option_map Shape (then_some more number)
-refused_if true number = refl
-refused_if false number = refl
-
 pub misfit-behind : (d : Domain) (contracts : List Contract) (rows : List (List Bound)) (i : ℕ) → i ≡ length contracts
-    → then_some (nat_lt (length contracts) (length rows)) (Shape (length contracts)) ≡ option_map Shape (misfit i d (drop i contracts) (drop i rows))
+    → misfit i d (drop i contracts) (drop i rows) ≡ then_some (nat_lt (length contracts) (length rows)) (length contracts)
 misfit-behind d contracts rows i ended =
-    let none = ap (λ left. misfit i d left (drop i rows)) (drop_all i contracts (omega arith)) in
-    let more = ap (λ count. then_some (nat_lt 0 count) i) (length-drop i rows) ∙ ap (λ some. then_some some i) (left_over i (length rows)) in
-    let counted = ap (λ count. then_some (nat_lt count (length rows)) count) ended in
-    refused_if (nat_lt (length contracts) (length rows)) (length contracts) ∙ sym (ap (option_map Shape) (none ∙ misfit_left i d (drop i rows) ∙ more ∙ counted))
+    ap (λ left. misfit i d left (drop i rows)) (drop_all i contracts (omega arith))
+    ∙ misfit_left i d (drop i rows)
+    ∙ ap (λ count. then_some (nat_lt 0 count) i) (length-drop i rows) ∙ ap (λ some. then_some some i) (left_over i (length rows))
+    ∙ ap (λ count. then_some (nat_lt count (length rows)) count) ended
 
 -- a hop, and what is behind it
 hops-next : (number hop : ℕ) (s : Source) (jitter : ℕ) (jitters : List ℕ) (before bound : Bound) (bounds : List Bound)
@@ -132,18 +142,12 @@ hops-next number hop s jitter jitters before bound bounds =
     first_failed-append (in_columns (hop_test number hop s jitter before bound)) (hop_tests number (suc hop) s jitters bound bounds)
     ∙ ap (λ next. option_or (first_failed (in_columns (hop_test number hop s jitter before bound))) (first_failed (hop_tests number next s jitters bound bounds))) (next_is hop)
 
-pub hops-step : (number : ℕ) (s : Source) (d : Domain) (from to : List ℕ) (path later : List (List ℕ)) (jitter : ℕ) (before bound : Bound) (bounds rest : List Bound)
-    → (index at next : ℕ) (refusal : Option Refusal) → path ≡ to ∷ later → bounds ≡ bound ∷ rest → at ≡ index → next ≡ index + 1 → jitter ≡ jitter_of (link_of d from to)
+pub hops-step : (number : ℕ) (s : Source) (jitters later : List ℕ) (jitter : ℕ) (before bound : Bound) (bounds rest : List Bound)
+    → (index at next : ℕ) (refusal : Option Refusal) → jitters ≡ jitter ∷ later → bounds ≡ bound ∷ rest → at ≡ index → next ≡ index + 1
     → refusal ≡ first_failed (in_columns (hop_test number (at + 1) s jitter before bound))
-    → first_failed (hop_tests number (index + 1) s (jitters_along d from path) before bounds)
-    ≡ option_or refusal (first_failed (hop_tests number (next + 1) s (jitters_along d to later) bound rest))
-unfolding jitters_along
-hops-step number s d from to path later jitter before bound bounds rest index at next refusal is_path is_bounds is_at is_next is_jitter is_refusal =
-    rw is_path
-    (rw is_bounds
-    (rw is_refusal
-    (rw is_at
-    (rw is_next (rw is_jitter (hops-next number (index + 1) s (jitter_of (link_of d from to)) (jitters_along d to later) before bound rest))))))
+    → first_failed (hop_tests number (index + 1) s jitters before bounds) ≡ option_or refusal (first_failed (hop_tests number (next + 1) s later bound rest))
+hops-step number s jitters later jitter before bound bounds rest index at next refusal is_jitters is_bounds is_at is_next is_refusal =
+    rw is_jitters (rw is_bounds (rw is_refusal (rw is_at (rw is_next (hops-next number (index + 1) s jitter later before bound rest)))))
 
 hops_none : (number hop : ℕ) (s : Source) (jitters : List ℕ) (before : Bound) → hop_tests number hop s jitters before [] ≡ []
 unfolding hop_tests
@@ -154,13 +158,37 @@ none_failed : first_failed [] ≡ None
 unfolding first_failed
 none_failed = refl
 
-pub hops-ended : (number hop : ℕ) (s : Source) (d : Domain) (from : List ℕ) (path : List (List ℕ)) (before : Bound) (bounds : List Bound) → (path ≡ []) ⊎ (bounds ≡ [])
-    → first_failed (hop_tests number hop s (jitters_along d from path) before bounds) ≡ None
-unfolding jitters_along hop_tests
-hops-ended number hop s d from path before bounds ended = elim ended [
+pub hops-ended : (number hop : ℕ) (s : Source) (legs : List Leg) (before : Bound) (bounds : List Bound) → (legs ≡ []) ⊎ (bounds ≡ [])
+    → first_failed (hop_tests number hop s (jitters_in legs) before bounds) ≡ None
+unfolding hop_tests
+hops-ended number hop s legs before bounds ended = elim ended [
   | inl ended ↦ rw ended none_failed
-  | inr ended ↦ rw ended (rw (hops_none number hop s (jitters_along d from path) before) none_failed)
+  | inr ended ↦ rw ended (rw (hops_none number hop s (jitters_in legs) before) none_failed)
 ]
+
+-- the jitters of a contract's links are told by its route
+pub jitters-route : (d : Domain) (c : Contract) (route : Route) → route ≡ route_of d c → jitters_in route.legs ≡ jitters_of d c
+jitters-route d c route is = ap (λ r. jitters_in r.legs) is ∙ jitters-legs d c.port c.path
+
+-- what is made where a test holds
+pub some-if : {X : Type 0} (holds : Bool) (x : X) → is_some (then_some holds x) ≡ holds
+some-if true x = refl
+some-if false x = refl
+
+pub some-then : {X : Type 0} (P : X → Type 0) (holds : Bool) (x : X) → P x → IfSome (then_some holds x) P
+some-then P true x own = own
+some-then P false x own = tt
+
+-- a contract that does not fit has no shape
+pub shaped-none : (d : Domain) (c : Contract) (bounds : List Bound) → fits d c ≡ false → false ≡ (fits d c && nat_eq (length bounds) (suc (length c.path)))
+shaped-none d c bounds unfit = sym (ap (λ f. f && nat_eq (length bounds) (suc (length c.path))) unfit)
+
+-- the shape of a contract that fits, by its route
+pub shaped-route : (d : Domain) (c : Contract) (route : Route) (legs : List Leg) (bounds : List Bound) (same : Bool) → way_fault 0 d c.port c.path ≡ None → route ≡ route_of d c → legs ≡ route.legs
+    → nat_eq (length bounds) (length legs + 1) ≡ same → same ≡ (fits d c && nat_eq (length bounds) (suc (length c.path)))
+shaped-route d c route legs bounds same faultless is is_legs is_same =
+    let long : length legs ≡ length c.path = ap length is_legs ∙ ap (λ r. length r.legs) is ∙ length-legs_along d c.port c.path in
+    sym is_same ∙ ap (nat_eq (length bounds)) (omega (arith, long)) ∙ sym (ap (λ fault. is_none fault && nat_eq (length bounds) (suc (length c.path))) faultless)
 
 -- a contract, and what is behind it
 contracts-next : (number : ℕ) (d : Domain) (c : Contract) (contracts : List Contract) (bounds : List Bound) (rows : List (List Bound))

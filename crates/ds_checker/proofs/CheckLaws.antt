@@ -1,59 +1,96 @@
 -- What stands against a table, part by part.
-use Rattle.std.proofs.Common.{◌≡◌, ◌∙◌, ℕ, List, Option, None, Some, option_map, refl, ap, subst, sym}
+use Rattle.std.proofs.Common.{arith, ◌≡◌, ◌∙◌, ℕ, ◌+◌, ◌≤◌, ◌<◌, Bool, true, false, ◌||◌, not, inl, nat_lt, List, drop, get_or, length, Option, None, Some, refl, ap, sym}
+use Rattle.std.specs.Bool.{then_some}
 use Rattle.std.specs.Option.{option_or}
+use Rattle.std.proofs.lemmas.Bool.Decides.{nat_tests}
+use Rattle.std.proofs.lemmas.List.{drop_all}
+use Rattle.ds_domain_base.specs.Domains.{Domain}
 use Rattle.ds_domain_base.specs.declared.contract.Contract.{Contract}
+use Rattle.ds_certificate.specs.Columns.{Bound}
+use Rattle.ds_certificate.specs.Sources.{jitters_of, source_of}
 use Rattle.ds_checker.specs.Acceptance.{Table, bounds_refusal_behind, bounds_refusal_of, refusal_behind, refusal_of}
-use Rattle.ds_checker.specs.BoundTests.{bound_tests, misfit}
+use Rattle.ds_checker.specs.BoundTests.{bound_tests, misfit, tests_along}
 use Rattle.ds_checker.specs.TableTests.{table_tests}
 use Rattle.ds_checker.specs.Tests.{first_failed}
 use Rattle.ds_checker.specs.declared.refusal.Refusal.{Refusal}
 use Rattle.ds_checker.specs.declared.refusal.Refusal.TheVariants.{Shape}
 use Rattle.ds_checker.specs.Sums.{loads_of, sums_tests}
 use Rattle.ds_checker.specs.declared.load.Loads.{Loads}
-use Rattle.ds_checker.proofs.BoundLaws.{first_failed-append}
+use Rattle.ds_checker.proofs.BoundLaws.{contracts-ended, contracts-step, first_failed-append, item_ahead, misfit-behind, or_assoc, or_none}
 use Rattle.ds_checker.proofs.LoadLaws.{sums_tests-are}
 
-behind_is : (t : Table) (m : Option ℕ) → refusal_behind t m
-    ≡ option_or (option_map Shape m)
-    (option_or (first_failed (bound_tests 0 t.domain t.contracts t.certificate)) (first_failed (table_tests t.domain t.contracts t.certificate t.domain.meters)))
+behind_is : (t : Table) (m : Option ℕ) → refusal_behind t m ≡ option_or (bounds_refusal_behind t m) (first_failed (table_tests t.domain t.contracts t.certificate t.domain.meters))
 behind_is t (Some number) = refl
 behind_is t None = first_failed-append (bound_tests 0 t.domain t.contracts t.certificate) (table_tests t.domain t.contracts t.certificate t.domain.meters)
 
--- its shape, or else its bounds, or else its meters
-pub refusal_is : (t : Table) (contracts : List Contract) (shape bounds : Option Refusal) → contracts ≡ t.contracts
-    → shape ≡ option_map Shape (misfit 0 t.domain contracts t.certificate) → bounds ≡ first_failed (bound_tests 0 t.domain contracts t.certificate)
-    → option_or shape (option_or bounds (first_failed (table_tests t.domain contracts t.certificate t.domain.meters))) ≡ refusal_of t
-refusal_is t contracts shape bounds same is_shape is_bounds =
-    rw is_shape (rw is_bounds (rw same (sym (behind_is t (misfit 0 t.domain t.contracts t.certificate)))))
+-- where its shape or a bound is refused
+pub bounds_found : (t : Table) (refusal : Refusal) → bounds_refusal_of t ≡ Some refusal → refusal_of t ≡ Some refusal
+bounds_found t refusal found =
+    behind_is t (misfit 0 t.domain t.contracts t.certificate)
+    ∙ ap (λ bounds. option_or bounds (first_failed (table_tests t.domain t.contracts t.certificate t.domain.meters))) found
 
--- where its shape is right and a bound is too low
-pub bounds_found : (t : Table) (contracts : List Contract) (shape bounds : Option Refusal) (refusal : Refusal) → contracts ≡ t.contracts
-    → shape ≡ option_map Shape (misfit 0 t.domain contracts t.certificate) → bounds ≡ first_failed (bound_tests 0 t.domain contracts t.certificate)
-    → shape ≡ None → bounds ≡ Some refusal → refusal_of t ≡ Some refusal
-bounds_found t contracts shape bounds refusal same is_shape is_bounds shaped found =
-    let table = first_failed (table_tests t.domain contracts t.certificate t.domain.meters) in
-    sym (refusal_is t contracts shape bounds same is_shape is_bounds) ∙ ap (λ s. option_or s (option_or bounds table)) shaped ∙ ap (λ b. option_or b table) found
-
--- where neither is wrong, the first meter that has too little
-pub table_found : (t : Table) (contracts : List Contract) (shape bounds found : Option Refusal) (own sums : List Loads) → contracts ≡ t.contracts
-    → shape ≡ option_map Shape (misfit 0 t.domain contracts t.certificate) → bounds ≡ first_failed (bound_tests 0 t.domain contracts t.certificate)
-    → shape ≡ None → bounds ≡ None → own ≡ sums → sums ≡ loads_of (record { domain = t.domain; contracts = contracts; certificate = t.certificate })
+-- where neither is, the first meter that has too little
+pub table_found : (t : Table) (found : Option Refusal) (own sums : List Loads) → bounds_refusal_of t ≡ None → own ≡ sums → sums ≡ loads_of t
     → found ≡ first_failed (sums_tests t.domain.meters own) → refusal_of t ≡ found
-table_found t contracts shape bounds found own sums same is_shape is_bounds shaped passed is_own is_sums is_found =
-    let table = first_failed (table_tests t.domain contracts t.certificate t.domain.meters) in
-    sym (refusal_is t contracts shape bounds same is_shape is_bounds) ∙ ap (λ s. option_or s (option_or bounds table)) shaped ∙ ap (λ b. option_or b table) passed
+table_found t found own sums passed is_own is_sums is_found =
+    behind_is t (misfit 0 t.domain t.contracts t.certificate)
+    ∙ ap (λ bounds. option_or bounds (first_failed (table_tests t.domain t.contracts t.certificate t.domain.meters))) passed
     ∙ sym (is_found ∙ ap (λ list. first_failed (sums_tests t.domain.meters list)) (is_own ∙ is_sums)
-    ∙ ap first_failed (sums_tests-are t.domain contracts t.certificate t.domain.meters))
+    ∙ ap first_failed (sums_tests-are t.domain t.contracts t.certificate t.domain.meters))
 
-behind_misfit : (t : Table) (m : Option ℕ) → option_map Shape m ≡ None → first_failed (bound_tests 0 t.domain t.contracts t.certificate) ≡ None → bounds_refusal_behind t m ≡ None
-behind_misfit t None shaped passed = passed
-behind_misfit t (Some number) shaped passed = shaped
+-- its shape alone
+shape_by : (t : Table) (m : Option ℕ) → bounds_refusal_behind t m ≡ None → m ≡ None
+shape_by t None passed = refl
+shape_by t (Some number) passed = absurd cc
 
--- where neither shape nor bounds are refused, nothing that takes no memory stands against a table
-pub bounds_refusal_is : (t : Table) (contracts : List Contract) (shape bounds : Option Refusal) → contracts ≡ t.contracts
-    → shape ≡ option_map Shape (misfit 0 t.domain contracts t.certificate) → bounds ≡ first_failed (bound_tests 0 t.domain contracts t.certificate)
-    → shape ≡ None → bounds ≡ None → bounds_refusal_of t ≡ None
-bounds_refusal_is t contracts shape bounds same is_shape is_bounds shaped passed =
-    let at : List Contract → Type 0 = λ cs. option_map Shape (misfit 0 t.domain cs t.certificate) ≡ None in
-    let ahead : List Contract → Type 0 = λ cs. first_failed (bound_tests 0 t.domain cs t.certificate) ≡ None in
-    behind_misfit t (misfit 0 t.domain t.contracts t.certificate) (subst at same (sym is_shape ∙ shaped)) (subst ahead same (sym is_bounds ∙ passed))
+pub shape_passed : (t : Table) → bounds_refusal_of t ≡ None → misfit 0 t.domain t.contracts t.certificate ≡ None
+shape_passed t passed = shape_by t (misfit 0 t.domain t.contracts t.certificate) passed
+
+pub shape_found : (t : Table) (contracts : List Contract) (rows : List (List Bound)) (number : ℕ) → contracts ≡ t.contracts → rows ≡ t.certificate
+    → misfit 0 t.domain contracts rows ≡ Some number → bounds_refusal_of t ≡ Some (Shape number)
+shape_found t contracts rows number is_contracts is_rows found =
+    ap (bounds_refusal_behind t) (sym (ap (λ list. misfit 0 t.domain list rows) is_contracts ∙ ap (misfit 0 t.domain t.contracts) is_rows) ∙ found)
+
+-- its bounds, where its shape is right: the first that is found once all contracts are gone over
+pub bounds_ended : (t : Table) (contracts : List Contract) (rows : List (List Bound)) (i : ℕ) (low : Option Refusal) → contracts ≡ t.contracts → rows ≡ t.certificate
+    → i ≡ length contracts → length rows ≤ length contracts → misfit i t.domain (drop i contracts) (drop i rows) ≡ misfit 0 t.domain contracts rows
+    → option_or low (first_failed (bound_tests i t.domain (drop i contracts) (drop i rows))) ≡ first_failed (bound_tests 0 t.domain contracts rows)
+    → bounds_refusal_of t ≡ low
+bounds_ended t contracts rows i low is_contracts is_rows ended level shape bounds =
+    let d = t.domain in
+    let unfitting : misfit 0 d contracts rows ≡ None =
+    sym shape ∙ misfit-behind d contracts rows i ended ∙ ap (λ more. then_some more (length contracts)) (not_less (length contracts) (length rows) level) in
+    let none = contracts-ended i d (drop i contracts) (drop i rows) (inl (drop_all i contracts (omega (arith, ended)))) in
+    ap (bounds_refusal_behind t) (sym (ap (λ list. misfit 0 d list rows) is_contracts ∙ ap (misfit 0 d t.contracts) is_rows) ∙ unfitting)
+    ∙ sym (ap (λ list. first_failed (bound_tests 0 d list rows)) is_contracts ∙ ap (λ list. first_failed (bound_tests 0 d t.contracts list)) is_rows)
+    ∙ sym bounds ∙ ap (option_or low) none ∙ or_none low
+  where
+    not_less : (a b : ℕ) → b ≤ a → nat_lt a b ≡ false
+    not_less a b level = grind (arith, nat_tests, level)
+
+-- where there are more rows than contracts
+pub over : (d : Domain) (contracts : List Contract) (rows : List (List Bound)) (i : ℕ) → i ≡ length contracts → length contracts < length rows
+    → misfit i d (drop i contracts) (drop i rows) ≡ misfit 0 d contracts rows → misfit 0 d contracts rows ≡ Some (length contracts)
+over d contracts rows i ended more shape =
+    sym shape ∙ misfit-behind d contracts rows i ended ∙ ap (λ some. then_some some (length contracts)) (less (length contracts) (length rows) more)
+  where
+    less : (a b : ℕ) → a < b → nat_lt a b ≡ true
+    less a b more = grind (arith, nat_tests, more)
+
+-- one contract more is gone over
+pub bounds_step : (d : Domain) (contracts : List Contract) (rows : List (List Bound)) (i : ℕ) (contract : Contract) (bounds : List Bound) (low refusal next whole : Option Refusal)
+    → i < length contracts → contract ≡ get_or contracts i contract → i < length rows → bounds ≡ get_or rows i bounds
+    → refusal ≡ first_failed (tests_along i (source_of d contract) (jitters_of d contract) bounds) → next ≡ option_or low refusal
+    → option_or low (first_failed (bound_tests i d (drop i contracts) (drop i rows))) ≡ whole
+    → option_or next (first_failed (bound_tests (i + 1) d (drop (i + 1) contracts) (drop (i + 1) rows))) ≡ whole
+bounds_step d contracts rows i contract bounds low refusal next whole inside is_contract within is_row is_refusal is_next held =
+    let behind = first_failed (bound_tests (i + 1) d (drop (i + 1) contracts) (drop (i + 1) rows)) in
+    let step = contracts-step d (drop i contracts) (drop (i + 1) contracts) (drop i rows) (drop (i + 1) rows) contract bounds i i (i + 1) refusal
+    (item_ahead contracts i contract inside is_contract) (item_ahead rows i bounds within is_row) refl refl is_refusal in
+    ap (λ found. option_or found behind) is_next ∙ or_assoc low refusal behind ∙ ap (option_or low) (sym step) ∙ held
+
+-- nothing was lacking
+pub kept_parts : (lacking kept : Bool) → (lacking || not kept) ≡ false → (lacking ≡ false) × (kept ≡ true)
+kept_parts false true none = (refl, refl)
+kept_parts false false none = absurd cc
+kept_parts true kept none = absurd cc

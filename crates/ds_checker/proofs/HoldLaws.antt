@@ -8,7 +8,8 @@ use Rattle.ds_domain_base.specs.declared.contract.Contract.{Contract}
 use Rattle.ds_certificate.specs.Columns.{Bound}
 use Rattle.ds_certificate.specs.Sources.{source_of}
 use Rattle.ds_certificate.specs.declared.source.Source.{Source}
-use Rattle.ds_checker.specs.Holds.{greatest, hold_of, holds_along, holds_at_hop, link_delay, meter_skew}
+use Rattle.ds_domain_base.specs.Routes.{meter_skew}
+use Rattle.ds_checker.specs.Holds.{greatest, hold_of, holds_along, holds_at_hop, link_delay}
 
 pub greatest-three : (a b c x y z inner outer : ℕ) → x ≡ a → y ≡ b → z ≡ c → inner ≡ max y z → outer ≡ max x inner → outer ≡ greatest (a ∷ b ∷ c ∷ [])
 unfolding greatest
@@ -32,32 +33,6 @@ along-next d s way from to path b bounds =
 
 pub swap_max : (a b c : ℕ) → max (max a b) c ≡ max b (max a c)
 swap_max a b c = grind arith
-
--- one hop more
-pub hold_kept : (d : Domain) (s : Source) (way delay later : ℕ) (from to : List ℕ) (xs path : List (List ℕ)) (ys bounds : List Bound) (b : Bound) (hold skew own new whole : ℕ)
-    → xs ≡ to ∷ path → ys ≡ b ∷ bounds → delay ≡ link_delay d from to → later ≡ way + delay → skew ≡ meter_skew (meter_of d to)
-    → own ≡ greatest (holds_at_hop s later skew b) → new ≡ max own hold
-    → max hold (greatest (holds_along d s way from xs ys)) ≡ whole → max new (greatest (holds_along d s later to path bounds)) ≡ whole
-hold_kept d s way delay later from to xs path ys bounds b hold skew own new whole is_path is_bounds is_delay is_later is_skew is_own is_new kept =
-    let is_way : later ≡ way + link_delay d from to = is_later ∙ ap (λ n. way + n) is_delay in
-    let is_hop : own ≡ greatest (holds_at_hop s (way + link_delay d from to) (meter_skew (meter_of d to)) b) =
-    is_own ∙ ap (λ n. greatest (holds_at_hop s n skew b)) is_way ∙ ap (λ n. greatest (holds_at_hop s (way + link_delay d from to) n b)) is_skew in
-    ap (λ n. max n (greatest (holds_along d s later to path bounds))) is_new
-    ∙ swap_max own hold (greatest (holds_along d s later to path bounds))
-    ∙ ap (λ n. max hold (max n (greatest (holds_along d s later to path bounds)))) is_hop
-    ∙ ap (λ n. max hold (max (greatest (holds_at_hop s (way + link_delay d from to) (meter_skew (meter_of d to)) b)) (greatest (holds_along d s n to path bounds)))) is_way
-    ∙ ap (max hold) (sym (along-next d s way from to path b bounds))
-    ∙ ap (λ p. max hold (greatest (holds_along d s way from p (b ∷ bounds)))) (sym is_path)
-    ∙ ap (λ p. max hold (greatest (holds_along d s way from xs p))) (sym is_bounds)
-    ∙ kept
-
-pub hold_ended : (d : Domain) (s : Source) (way : ℕ) (from : List ℕ) (xs : List (List ℕ)) (ys : List Bound) (hold whole : ℕ) → (xs ≡ []) ⊎ (ys ≡ [])
-    → max hold (greatest (holds_along d s way from xs ys)) ≡ whole → hold ≡ whole
-unfolding holds_along greatest
-hold_ended d s way from [] ys hold whole ended kept = sym (max-zero hold) ∙ kept
-hold_ended d s way from (to ∷ xs) [] hold whole ended kept = sym (max-zero hold) ∙ kept
-hold_ended d s way from (to ∷ xs) (b ∷ ys) hold whole (inl ended) kept = absurd cc
-hold_ended d s way from (to ∷ xs) (b ∷ ys) hold whole (inr ended) kept = absurd cc
 
 along-none : (d : Domain) (s : Source) (way : ℕ) (from : List ℕ) (path : List (List ℕ)) → 0 ≡ greatest (holds_along d s way from path [])
 unfolding holds_along greatest

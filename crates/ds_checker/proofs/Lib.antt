@@ -5,6 +5,7 @@ pub mod ChangeLaws
 pub mod CopyLaws
 pub mod CheckLaws
 pub mod HeadroomLaws
+pub mod HeldLaws
 pub mod HoldLaws
 pub mod LeastTableLaws
 pub mod LifetimeLaws
@@ -14,3 +15,4 @@ pub mod RoutedHoldLaws
 pub mod RoutedLaws
 pub mod RoutedPlaceLaws
 pub mod WayLaws
+pub mod WalkLaws

@@ -6,7 +6,7 @@ use Rattle.std.specs.List.{AllByRecursion, AllZip, IsDistinct, fold, list_any, p
 use Rattle.std.specs.Str.{bytes_eq}
 use Rattle.std.proofs.lemmas.Slice.Eq.{bytes_eq-Decides}
 use Rattle.std.proofs.lemmas.Bool.Decides.{nat_tests, same_from_decides}
-use Rattle.std.proofs.lemmas.List.{drop_all, take_all}
+use Rattle.std.proofs.lemmas.List.{drop_all, length-drop, take_all}
 use Rattle.std.proofs.lemmas.List.Sums.{fold-append, sum_by-cons}
 use Rattle.std.proofs.lemmas.List.Quantifiers.{position-Some}
 use Rattle.std.proofs.lemmas.Bool.{and_parts}
@@ -363,6 +363,16 @@ with_brought-contract : (d : Domain) (c : Contract) (contracts : List Contract) 
     → with_brought (λ name. share_of d name c bounds ++ shares_at d name contracts rows) names loads ≡ with_brought (λ name. shares_at d name (c ∷ contracts) (bounds ∷ rows)) names loads
 unfolding shares_at
 with_brought-contract d c contracts bounds rows names loads = refl
+
+-- where what holds of each pair is left, both lists go on
+zip_long : {X Y : Type 0} (P : X → Y → Type 0) (xs : List X) (ys : List Y) → AllZip P xs ys → length xs ≡ length ys
+zip_long P [] [] all = refl
+zip_long P [] (y ∷ ys) all = absurd all
+zip_long P (x ∷ xs) [] all = absurd all
+zip_long P (x ∷ xs) (y ∷ ys) all = ap suc (zip_long P xs ys all.1)
+
+pub zip_inside : {X Y : Type 0} (P : X → Y → Type 0) (xs : List X) (ys : List Y) (i : ℕ) → AllZip P (drop i xs) (drop i ys) → i < length xs → i < length ys
+zip_inside P xs ys i all inside = omega (arith, inside, zip_long P (drop i xs) (drop i ys) all, length-drop i xs, length-drop i ys)
 
 pub contract_kept : (d : Domain) (xs contracts : List Contract) (c : Contract) (ys rows : List (List Bound)) (bounds : List Bound) (names : List (List ℕ)) (loads new whole : List Loads)
     → xs ≡ c ∷ contracts → ys ≡ bounds ∷ rows → new ≡ with_brought (λ name. share_of d name c bounds) names loads

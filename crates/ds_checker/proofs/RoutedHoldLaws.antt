@@ -2,8 +2,7 @@
 use Rattle.std.proofs.Common.{◌≡◌, ℕ, ◌+◌, ◌⊎◌, inl, inr, List, [], ◌∷◌, ◌++◌, max, drop, Option, None, Some, refl, sym, ap, ◌∙◌}
 use Rattle.std.proofs.Math.Nat.{max-zero}
 use Rattle.ds_domain_base.specs.Domains.{Domain, meter_of}
-use Rattle.ds_domain_base.specs.Routes as routes
-use Rattle.ds_domain_base.specs.Routes.{Route, legs_along, route_of}
+use Rattle.ds_domain_base.specs.Routes.{Route, legs_along, meter_skew, route_of}
 use Rattle.ds_domain_base.specs.declared.contract.Contract.{Contract}
 use Rattle.ds_domain_base.specs.declared.parts.Meter.{Meter}
 use Rattle.ds_domain_base.specs.declared.route.Leg.{Leg}
@@ -11,7 +10,7 @@ use Rattle.ds_certificate.specs.Columns.{Bound}
 use Rattle.ds_certificate.specs.Sources.{source_of, source_on}
 use Rattle.ds_certificate.specs.declared.source.Source.{Source}
 use Rattle.ds_certificate.proofs.RouteLaws.{source-route}
-use Rattle.ds_checker.specs.Holds.{greatest, hold_of, holds_along, holds_at_hop, link_delay, meter_skew}
+use Rattle.ds_checker.specs.Holds.{greatest, hold_of, holds_along, holds_at_hop, link_delay}
 use Rattle.ds_checker.specs.Routed.{holds_on}
 use Rattle.ds_checker.proofs.HoldLaws.{greatest-append, swap_max}
 
@@ -37,10 +36,6 @@ hold-ended s way (leg ∷ xs) [] hold whole ended kept = sym (max-zero hold) ∙
 hold-ended s way (leg ∷ xs) (b ∷ ys) hold whole (inl ended) kept = absurd cc
 hold-ended s way (leg ∷ xs) (b ∷ ys) hold whole (inr ended) kept = absurd cc
 
-same-skew : (m : Option Meter) → routes.meter_skew m ≡ meter_skew m
-same-skew None = refl
-same-skew (Some m) = refl
-
 -- by places as by names
 holds-legs : (d : Domain) (s : Source) (way : ℕ) (from : List ℕ) (path : List (List ℕ)) (bounds : List Bound)
     → holds_on s way (legs_along d from path) bounds ≡ holds_along d s way from path bounds
@@ -48,8 +43,7 @@ unfolding holds_on holds_along legs_along
 holds-legs d s way from [] bounds = refl
 holds-legs d s way from (to ∷ path) [] = refl
 holds-legs d s way from (to ∷ path) (b ∷ bounds) =
-    ap (λ skew. holds_at_hop s (way + link_delay d from to) skew b ++ holds_on s (way + link_delay d from to) (legs_along d to path) bounds) (same-skew (meter_of d to))
-    ∙ ap (λ rest. holds_at_hop s (way + link_delay d from to) (meter_skew (meter_of d to)) b ++ rest) (holds-legs d s (way + link_delay d from to) to path bounds)
+    ap (λ rest. holds_at_hop s (way + link_delay d from to) (meter_skew (meter_of d to)) b ++ rest) (holds-legs d s (way + link_delay d from to) to path bounds)
 
 pub hold-route : (d : Domain) (c : Contract) (route : Route) (source : Source) (legs : List Leg) (row behind : List Bound) → route ≡ route_of d c
     → source ≡ source_on d route c.terms → legs ≡ route.legs → behind ≡ drop 1 row → greatest (holds_on source 0 legs behind) ≡ hold_of d c row

@@ -10,7 +10,8 @@ use Rattle.moment_core.specs.declared.column.Column.TheVariants.{Green, All, Exc
 use Rattle.ds_domain_base.specs.Domains.{Domain, meter_of}
 use Rattle.ds_certificate.specs.Columns.{Bound, bytes_in, envelope_in}
 use Rattle.ds_certificate.specs.declared.source.Source.{Source}
-use Rattle.ds_checker.specs.Holds.{greatest, hold_behind, holds_along, holds_at_hop, link_delay, meter_skew}
+use Rattle.ds_domain_base.specs.Routes.{meter_skew}
+use Rattle.ds_checker.specs.Holds.{greatest, hold_behind, holds_along, holds_at_hop, link_delay}
 use Rattle.ds_checker.specs.Loads.{bound_into}
 use Rattle.ds_checker.proofs.HoldLaws.{along-next}
 

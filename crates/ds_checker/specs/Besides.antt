@@ -1,25 +1,21 @@
--- A table as the path of one contract more sees it, with one of the table's own contracts left out.
-use Rattle.std.specs.Prelude.{◌≡◌, ⊤, ℕ, Bool, false, ◌≤◌, ◌^◌, List, [], ◌∷◌, IfSome, IsTrue, length, slice_index_or}
-use Rattle.std.specs.Prelude.{position, Option, None, Some}
-use Rattle.std.specs.List.{AllByRecursion}
-use Rattle.std.specs.Map.{keys_of}
+-- A table as the route of one contract more sees it, with one of the table's own contracts left out.
+use Rattle.std.specs.Prelude.{◌≡◌, ⊤, ℕ, Bool, ◌^◌, List, [], nat_eq, IfSome, IsTrue, Option, None, Some}
+use Rattle.std.specs.List.{AllByRecursion, IsDistinct}
 use Rattle.std.specs.Option.{option_map_or}
-use Rattle.std.specs.Str.{bytes_eq}
-use Rattle.ds_domain_base.specs.Domains.{Domain, jitter_of, link_of}
-use Rattle.ds_domain_base.specs.Fitting.{repeats}
+use Rattle.ds_domain_base.specs.Routes.{Route, places_of, route_of}
 use Rattle.ds_domain_base.specs.declared.contract.Contract.{Contract}
+use Rattle.ds_domain_base.specs.declared.route.Leg.{Leg}
 use Rattle.ds_certificate.specs.Bounds.{fits}
 use Rattle.ds_certificate.specs.Columns.{Bound}
 use Rattle.ds_certificate.specs.declared.source.Source.{Source}
 use Rattle.ds_checker.specs.Acceptance.{Table}
 use Rattle.ds_checker.specs.Changes.{without_contract}
-use Rattle.ds_checker.specs.Loads.{Share, bound_into}
-use Rattle.ds_checker.specs.Sums.{AreBelow, IsBefore, IsSound, loads_of, share_by, sums_tests}
-use Rattle.ds_checker.specs.Tests.{first_failed}
+use Rattle.ds_checker.specs.Loads.{Share}
+use Rattle.ds_checker.specs.Routed.{bound_at, sums_on, with_legs}
+use Rattle.ds_checker.specs.Sums.{AreBelow, IsSound, loads_of, share_by}
 use Rattle.ds_checker.specs.declared.load.Loads.{Loads}
 use Rattle.ds_checker.specs.declared.refusal.Refusal.{Refusal}
 use Rattle.ds_checker.specs.declared.refusal.Refusal.TheVariants as refusals
-use Rattle.ds_checker.specs.declared.stop.Stop.{Stop}
 
 -- a table without the contract at a place, if one is to be left out
 abbrev pub rest_of : Table → Option ℕ → Table
@@ -36,52 +32,32 @@ IsNameless (refusals.FirstBound contract column needed given) = ⊥
 IsNameless (refusals.HopBound contract hop column needed given) = ⊥
 IsNameless refusal = ⊤
 
--- what a contract brings along its path, by the bounds of the hops into its meters
+-- what a contract brings along its route, by the bounds of the hops into its meters
 pub record Brought : Type 0 where
-  pub path : List (List ℕ)
+  pub legs : List Leg
   pub bounds : List Bound
   pub source : Source
   pub has_peak : Bool
 
-abbrev pub brought_by : Brought → List ℕ → List Share
-brought_by held name = share_by held.source held.has_peak (bound_into name held.path held.bounds)
-
 -- nothing where no contract is left out
-abbrev pub brought_of : Option Brought → List ℕ → List Share
-brought_of None name = []
-brought_of (Some held) name = brought_by held name
+abbrev pub brought_at : ℕ → Option Brought → List Share
+brought_at place None = []
+brought_at place (Some held) = share_by held.source held.has_peak (bound_at place held.legs held.bounds)
 
--- sums are what they were before what a contract brings was added, and those were small
-pub record IsLeft (d : Domain) (held : Option Brought) (sums before : List Loads) : Type 0 where
-  pub added : IsBefore (brought_of held) (keys_of d.meters) sums before
+abbrev pub with_held : Option Brought → List Loads → List Loads
+with_held None sums = sums
+with_held (Some held) sums = with_legs held.source held.has_peak held.legs held.bounds sums
+
+-- sums are what they were before what a contract brings was added along its route, and those were small
+pub record IsLeft (held : Option Brought) (sums before : List Loads) : Type 0 where
+  pub added : sums ≡ with_held held before
+  pub once : IfSome held (λ own. IsDistinct nat_eq (places_of own.legs))
   pub room : AllByRecursion (AreBelow (2 ^ 121)) before
 
--- What is kept of a name on a path, into which a link leads from another name: the jitter of that link, and of a meter
--- its place and the sums there.
-pub record IsStop (d : Domain) (sums : List Loads) (from to : List ℕ) (stop : Stop) : Type 0 where
-  pub jitter : stop.jitter ≡ jitter_of (link_of d from to)
-  pub short : stop.jitter ≤ 10 ^ 10
-  pub place : stop.place ≡ position (bytes_eq to) (keys_of d.meters)
-  pub loads : IfSome stop.place (λ place. stop.loads ≡ slice_index_or sums place stop.loads)
-  pub room : AreBelow (2 ^ 121) stop.loads
-
--- along a path from a name on
-unfoldable pub AreStops : Domain → List Loads → List ℕ → List (List ℕ) → List Stop → Type 0
-AreStops d sums from [] [] = ⊤
-AreStops d sums from [] (stop ∷ stops) = ⊥
-AreStops d sums from (to ∷ path) [] = ⊥
-AreStops d sums from (to ∷ path) (stop ∷ stops) = IsStop d sums from to stop × AreStops d sums to path stops
-
--- these are the stops of a path that passes no name twice, by sums of each meter that pass their tests
-pub record AreKnown (d : Domain) (sums : List Loads) (from : List ℕ) (path : List (List ℕ))
-    (stops : List Stop) : Type 0 where
-  pub along : AreStops d sums from path stops
-  pub once : repeats path ≡ false
-  pub places : length sums ≡ length d.meters
-  pub passed : first_failed (sums_tests d.meters sums) ≡ None
-
--- a contract fits the domain of a table, and these are the stops of its path, by the sums of the rest of that table
-pub record IsBeside (t : Table) (left_out : Option ℕ) (c : Contract) (stops : List Stop) : Type 0 where
+-- a contract fits the domain of a table, this is its route, and these are the sums of the rest of that table along it
+pub record IsBeside (t : Table) (left_out : Option ℕ) (c : Contract) (route : Route) (sums : List Loads) : Type 0 where
   pub fit : IsTrue (fits t.domain c)
+  pub is_route : route ≡ route_of t.domain c
   pub sound : IsSound (rest_of t left_out) (loads_of (rest_of t left_out))
-  pub known : AreKnown t.domain (loads_of (rest_of t left_out)) c.port c.path stops
+  pub is_sums : sums ≡ sums_on route.legs (loads_of (rest_of t left_out))
+  pub room : AllByRecursion (AreBelow (2 ^ 121)) sums

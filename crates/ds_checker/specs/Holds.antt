@@ -5,17 +5,12 @@ use Rattle.moment_core.specs.Columns.{each_column}
 use Rattle.moment_core.specs.Volume.{nanoseconds_for}
 use Rattle.envelope_core.specs.Curve.{Curve, widened}
 use Rattle.ds_domain_base.specs.Domains.{Domain, floor_of, jitter_of, link_of, meter_of}
+use Rattle.ds_domain_base.specs.Routes.{meter_skew}
 use Rattle.ds_domain_base.specs.declared.contract.Contract.{Contract}
-use Rattle.ds_domain_base.specs.declared.parts.Meter.{Meter}
 use Rattle.ds_certificate.specs.Columns.{Bound, bytes_in, envelope_in}
 use Rattle.ds_certificate.specs.Sources.{source_of}
 use Rattle.ds_certificate.specs.declared.source.Source.{Source}
 use Rattle.ds_checker.specs.Acceptance.{Table}
-
--- the skew of a meter; 0 where there is none
-abbrev pub meter_skew : Option Meter → ℕ
-meter_skew None = 0
-meter_skew (Some m) = m.skew
 
 -- the longest that a packet takes over a link
 abbrev pub link_delay : Domain → List ℕ → List ℕ → ℕ

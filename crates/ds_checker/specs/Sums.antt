@@ -5,6 +5,7 @@ use Rattle.std.specs.List.{AllByRecursion}
 use Rattle.moment_core.specs.declared.column.Column.TheVariants.{Green, All, Excess}
 use Rattle.envelope_core.specs.Curve.{Curve, widened}
 use Rattle.ds_domain_base.specs.Parameters.{Parameters}
+use Rattle.ds_domain_base.specs.Routes.{Route, route_of}
 use Rattle.ds_domain_base.specs.Parameters.TheVariants.{SrTcm, TrTcm, Rfc4115}
 use Rattle.ds_domain_base.specs.declared.parts.Meter.{Meter}
 use Rattle.ds_certificate.specs.Columns.{Bound, IsInRange}
@@ -115,6 +116,11 @@ pub record IsKept (t : Table) (loads : List Loads) : Type 0 where
 pub record IsSound (t : Table) (loads : List Loads) : Type 0 where
   pub acceptable : IsAcceptable t
   pub kept : IsKept t loads
+
+-- and beside its contracts stand their routes
+pub record IsHeld (t : Table) (held : List Route) (loads : List Loads) : Type 0 where
+  pub sound : IsSound t loads
+  pub routes : held ≡ map (route_of t.domain) t.contracts
 
 -- what is held against a meter's limit of green and yellow packets
 abbrev pub counted_load : Parameters → Loads → Curve

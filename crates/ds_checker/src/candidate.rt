@@ -1,5 +1,5 @@
 ghost use Rattle.std.specs.Prelude.{◌≡◌, ◌<◌, ◌^◌, ◌⊎◌, None, Some, IfOk, IfErr, IfSome, IsTrue, OnErr, OnOk, length};
-ghost use Rattle.std.specs.Prelude.{slice_get};
+ghost use Rattle.std.specs.Prelude.{map, slice_get};
 ghost use Rattle.ds_certificate.specs.Bounds.{fits, least_of};
 ghost use Rattle.ds_checker.specs.Acceptance.{IsAcceptable, refusal_of, table_of};
 ghost use Rattle.ds_domain_base.specs.Lifetimes.{Span};
@@ -7,18 +7,17 @@ ghost use Rattle.ds_domain_base.specs.Routes.{route_of};
 ghost use Rattle.ds_checker.specs.Changes.{lasting, on_terms, with_contract, with_lifetime, without_contract};
 ghost use Rattle.ds_checker.specs.Headrooms.{AreCovered, headroom_of};
 ghost use Rattle.ds_checker.specs.Holds.{hold_at};
-ghost use Rattle.ds_checker.specs.Sums.{IsKept, IsSound};
+ghost use Rattle.ds_checker.specs.Sums.{IsHeld, IsSound};
+ghost use Rattle.ds_domain_base.specs.declared.contract.Contract as contracts;
 
-use crate::admission::{contract_refusal_at_meters, least_refusal_at_meters};
-use crate::bounds::{contract_refusal, has_shape};
+use crate::admission::contract_refusal_at_meters;
+use crate::bounds::{contract_refusal, shaped};
 use crate::headroom::{Headroom, headroom_at};
-use crate::hold::hold_of;
 use crate::load::Loads;
 use crate::refusal::Refusal;
-use crate::routed::{add_on_route, least_refusal_on_route, take_on_route};
-use crate::table::{add_contract, take_contract};
-use ds_certificate::{Bound, Bounds, Certificate, least_bounds};
-use ds_domain_base::{Contract, Domain, Lifetime, Name, Route, Terms};
+use crate::routed::{add_on_route, hold_on_route, take_on_route};
+use ds_certificate::{Bound, Bounds, Certificate};
+use ds_domain_base::{Contract, Domain, Lifetime, Name, Route, SharedRoute, Terms};
 use std::alloc::{AllocError, Global};
 use std::marker::Model;
 use std::sync::Arc;
@@ -37,13 +36,15 @@ pub struct Candidate {
 /// A domain, contracts, and an acceptable certificate of theirs.
 ///
 /// It keeps for each meter the sums of what its contracts bring there, so that a contract more or less costs what its
-/// own path is long, and not what the table is. Its copies share the domain, and the path and the bounds of each
-/// contract.
+/// own path is long, and not what the table is. Beside each contract it keeps the contract's route. Its copies share the
+/// domain, and the path, the bounds and the route of each contract.
 #[derive(Debug, Drop)]
 pub struct Accepted {
     domain: Arc<Domain, Global>,
     contracts: Vec<Contract>,
     certificate: Certificate,
+    /// The route of each contract, in the order of the contracts.
+    routes: Vec<SharedRoute>,
     /// What the contracts bring to each meter, in the order of the meters.
     sums: Vec<Loads>,
 }
@@ -51,7 +52,7 @@ pub struct Accepted {
 impl Model for Accepted {
     ghost use Rattle.std.specs.Arc.{arc_value};
     ghost use Rattle.ds_checker.specs.Acceptance.{Table};
-    ghost use Rattle.ds_checker.specs.Sums.{IsSound};
+    ghost use Rattle.ds_checker.specs.Sums.{IsHeld};
 
     ghost Value = { Table };
 
@@ -61,23 +62,23 @@ impl Model for Accepted {
       certificate = a.certificate;
     } };
 
-    ghost invariant = { λ a. IsSound (record {
+    ghost invariant = { λ a. IsHeld (record {
       domain = arc_value a.domain;
       contracts = a.contracts.items;
       certificate = a.certificate;
-    }) a.sums.items };
+    }) a.routes.items a.sums.items };
 }
 
 impl Accepted {
-    /// What was checked, once it is known to be acceptable, with the sums of what its contracts bring to each meter;
-    /// where memory runs out it hands the candidate back.
+    /// What was checked, once it is known to be acceptable, with the routes of its contracts and the sums of what they
+    /// bring to each meter; where memory runs out it hands the candidate back.
     pub(crate) fn new(
         alloc: Global,
         candidate: Candidate,
+        routes: Vec<SharedRoute>,
         sums: Vec<Loads>,
     ) -> Result<Self, Candidate>
-        requires acceptable { IsAcceptable (table_of candidate) }
-        requires kept { IsKept (table_of candidate) sums.items }
+        requires { IsHeld (table_of candidate) routes.items sums.items }
         ensures made { IfOk result (λ accepted. accepted ≡ table_of candidate) }
         ensures back { IfErr result (λ back. back ≡ candidate) }
     {
@@ -91,6 +92,7 @@ impl Accepted {
                 domain,
                 contracts,
                 certificate,
+                routes,
                 sums,
             }),
             Err(failed) => Err(Candidate {
@@ -125,6 +127,23 @@ impl Accepted {
         &self.certificate
     }
 
+    /// The route of each contract, in the order of the contracts.
+    pub fn routes(&self) -> &[SharedRoute]
+        ensures value { result.now ≡ map (route_of self.now.domain) self.now.contracts }
+        ensures acceptable { IsAcceptable self.now }
+    {
+        self.routes.as_slice()
+    }
+
+    /// The route of the contract at a place.
+    pub fn route(&self, index: usize) -> &Route
+        requires { index < length self.now.contracts }
+        ensures { (c : contracts.Contract) → slice_get self.now.contracts index ≡ Some c
+            → result.now ≡ route_of self.now.domain c }
+    {
+        self.routes[index].route()
+    }
+
     /// What its contracts bring to each meter, in the order of the meters.
     pub(crate) fn sums(&self) -> &[Loads]
         ensures sound { IsSound self.now result.now }
@@ -142,7 +161,10 @@ impl Accepted {
     {
         let contract = self.contracts.as_slice().get(index)?;
         let bounds = self.certificate.bounds().get(index)?;
-        Some(hold_of(&self.domain, contract, bounds.hops()))
+        let route = self.routes.as_slice().get(index)?;
+        let domain: &Domain = &self.domain;
+        let route = route.route();
+        Some(hold_on_route(domain, contract, route, bounds.hops()))
     }
 
     /// What the contracts take at the meter of a name and what it has, for each test of `check` in their order: read from
@@ -165,67 +187,26 @@ impl Accepted {
             domain: Arc::try_clone(&self.domain)?,
             contracts: copied(alloc, self.contracts.as_slice())?,
             certificate: self.certificate.copy(alloc)?,
+            routes: shared(alloc, self.routes.as_slice())?,
             sums: self.sums.as_slice().to_vec(alloc)?,
         })
     }
 
-    /// Takes up one contract more that fits the domain, behind the others, with its least bounds, where nothing stands
-    /// against the table with it, as `refusal_with_least` tells; `AllocError` where memory runs out, and then it is as
-    /// it was.
-    pub fn take_least(&mut self, alloc: Global, contract: Contract) -> Result<(), AllocError>
-        requires fit { IsTrue (fits self.old.domain contract) }
-        requires unrefused { refusal_of (with_contract self.old contract (least_of self.old.domain contract)) ≡ None }
-        ensures taken { OnOk result
-            (self.new ≡ with_contract self.old contract (least_of self.old.domain contract)) }
-        ensures acceptable { IsAcceptable self.new }
-        ensures unchanged { OnErr result (self.new ≡ self.old) }
-    {
-        let bounds = least_bounds(alloc, self.domain(), &contract)?;
-        match self.take_up(contract, bounds) {
-            Ok(()) => Ok(()),
-            Err(_back) => Err(AllocError),
-        }
-    }
-
-    /// Takes up one contract more with its bounds, which its copies share, behind the others, where nothing stands
-    /// against the table with it; `AllocError` where memory runs out, and then it is as it was.
-    pub fn take_shared(&mut self, contract: Contract, row: Bounds) -> Result<(), AllocError>
-        requires { refusal_of (with_contract self.old contract row) ≡ None }
-        ensures taken { OnOk result (self.new ≡ with_contract self.old contract row) }
-        ensures acceptable { IsAcceptable self.new }
-        ensures unchanged { OnErr result (self.new ≡ self.old) }
-    {
-        if self.contracts.reserve(1).is_err() {
-            return Err(AllocError);
-        }
-        match self.certificate.push_shared(row) {
-            Ok(()) => {}
-            Err(_) => return Err(AllocError),
-        }
-        let domain: &Domain = &self.domain;
-        let _meters = domain.meters();
-        let row = &self.certificate.bounds()[self.contracts.len()];
-        add_contract(self.sums.as_mut_slice(), domain, &contract, row.hops());
-        match self.contracts.push(contract) {
-            Ok(()) => Ok(()),
-            Err(_) => unreachable!(),
-        }
-    }
-
-    /// The same by the contract's route: no name is looked up.
-    pub fn take_on_route(
+    /// Takes up one contract more with its route and its bounds, which its copies share, behind the others, where
+    /// nothing stands against the table with it; `AllocError` where memory runs out, and then it is as it was.
+    pub fn take_up(
         &mut self,
         contract: Contract,
-        route: &Route,
+        route: SharedRoute,
         row: Bounds,
     ) -> Result<(), AllocError>
         requires unrefused { refusal_of (with_contract self.old contract row) ≡ None }
-        requires route { route.now ≡ route_of self.old.domain contract }
+        requires route { route ≡ route_of self.old.domain contract }
         ensures taken { OnOk result (self.new ≡ with_contract self.old contract row) }
         ensures acceptable { IsAcceptable self.new }
         ensures unchanged { OnErr result (self.new ≡ self.old) }
     {
-        if self.contracts.reserve(1).is_err() {
+        if self.contracts.reserve(1).is_err() || self.routes.reserve(1).is_err() {
             return Err(AllocError);
         }
         match self.certificate.push_shared(row) {
@@ -239,13 +220,12 @@ impl Accepted {
             self.sums.as_mut_slice(),
             domain,
             &contract,
-            route,
+            route.route(),
             row.hops(),
         );
-        match self.contracts.push(contract) {
-            Ok(()) => Ok(()),
-            Err(_) => unreachable!(),
-        }
+        self.routes.push(route).unwrap();
+        self.contracts.push(contract).unwrap();
+        Ok(())
     }
 
     /// Whether it keeps room for several times the contracts that it has. Its value does not tell.
@@ -271,15 +251,13 @@ impl Accepted {
             ((refused.2 ≡ Refusal.NoMemory) × (refusal_of (with_contract self.now contract bounds.items) ≡ None))
             ⊎ (refusal_of (with_contract self.now contract bounds.items) ≡ Some refused.2)) }
     {
-        if let Some(refusal) = self.refusal_with(&contract, bounds.as_slice()) {
-            return Err((contract, bounds, refusal));
-        }
-        let Ok(mut larger) = self.copy(alloc) else {
-            return Err((contract, bounds, Refusal::NoMemory));
+        let route = match self.admitted(&contract, bounds.as_slice()) {
+            Ok(route) => route,
+            Err(refusal) => return Err((contract, bounds, refusal)),
         };
-        match larger.take_up(contract, bounds) {
-            Ok(()) => Ok(larger),
-            Err((contract, bounds)) => Err((contract, bounds, Refusal::NoMemory)),
+        match self.larger(alloc, &contract, route, bounds.as_slice()) {
+            Ok(larger) => Ok(larger),
+            Err(_) => Err((contract, bounds, Refusal::NoMemory)),
         }
     }
 
@@ -293,23 +271,7 @@ impl Accepted {
         ensures bounds { slice_get self.old.certificate index ≡ Some result.1 }
     {
         let contract = self.contracts.remove(index);
-        let bounds = self.certificate.remove(index);
-        let domain: &Domain = &self.domain;
-        take_contract(self.sums.as_mut_slice(), domain, &contract, bounds.hops());
-        (contract, bounds)
-    }
-
-    /// The same by the contract's route: no name is looked up.
-    pub fn withdraw_on_route(&mut self, index: usize, route: &Route) -> (Contract, Bounds)
-        requires place { index < length self.old.contracts }
-        requires route { IfSome (slice_get self.old.contracts index)
-            (λ contract. route.now ≡ route_of self.old.domain contract) }
-        ensures withdrawn { self.new ≡ without_contract self.old index }
-        ensures acceptable { IsAcceptable self.new }
-        ensures contract { slice_get self.old.contracts index ≡ Some result.0 }
-        ensures bounds { slice_get self.old.certificate index ≡ Some result.1 }
-    {
-        let contract = self.contracts.remove(index);
+        let route = self.routes.remove(index);
         let bounds = self.certificate.remove(index);
         let domain: &Domain = &self.domain;
         let _meters = domain.meters();
@@ -317,7 +279,7 @@ impl Accepted {
             self.sums.as_mut_slice(),
             domain,
             &contract,
-            route,
+            route.route(),
             bounds.hops(),
         );
         (contract, bounds)
@@ -343,47 +305,30 @@ impl Accepted {
         self.contracts[index].lifetime = lifetime;
     }
 
-    /// The first test that fails of the table with one contract more, if one does.
-    fn refusal_with(&self, contract: &Contract, bounds: &[Bound]) -> Option<Refusal>
-        ensures value { result ≡ refusal_of (with_contract self.now contract.now bounds.now) }
-        ensures acceptable { IsAcceptable self.now }
+    /// The route of a contract against which nothing stands once the table has it too; else the first test that fails.
+    fn admitted(&self, contract: &Contract, bounds: &[Bound]) -> Result<Route, Refusal>
+        ensures route { IfOk result (λ route. route ≡ route_of self.now.domain contract.now) }
+        ensures unrefused { OnOk result (refusal_of (with_contract self.now contract.now bounds.now) ≡ None) }
+        ensures refused { IfErr result
+            (λ refusal. refusal_of (with_contract self.now contract.now bounds.now) ≡ Some refusal) }
     {
         let domain: &Domain = &self.domain;
         let number = self.contracts.len();
-        if !has_shape(domain, contract, bounds) {
-            return Some(Refusal::Shape { contract: number });
+        let Some(route) = shaped(domain, contract, bounds) else {
+            return Err(Refusal::Shape { contract: number });
+        };
+        if let Some(refusal) = contract_refusal(domain, number, contract, &route, bounds) {
+            return Err(refusal);
         }
-        let refusal = contract_refusal(domain, number, contract, bounds);
-        if refusal.is_some() {
-            return refusal;
+        match contract_refusal_at_meters(domain, self.sums.as_slice(), contract, &route, bounds) {
+            Some(refusal) => Err(refusal),
+            None => Ok(route),
         }
-        contract_refusal_at_meters(domain, self.sums.as_slice(), contract, bounds)
     }
 
-    /// The first test that fails of the table with one contract more that fits the domain and has its least bounds, if
-    /// one does; when the contract begins and ends makes no difference. It takes no memory, and looks at the meters of
+    /// The first test that fails of the table with one contract more on these terms, by its route and its least bounds,
+    /// if one does; when the contract begins and ends makes no difference. It takes no memory, and looks at the meters of
     /// the contract's path alone.
-    pub fn refusal_with_least(&self, contract: &Contract) -> Option<Refusal>
-        requires { IsTrue (fits self.now.domain contract.now) }
-        ensures value { (lifetime : Span) → let other = lasting lifetime contract.now in
-            result ≡ refusal_of (with_contract self.now other (least_of self.now.domain other)) }
-        ensures acceptable { IsAcceptable self.now }
-    {
-        self.refusal_on(contract, &contract.terms)
-    }
-
-    /// The same of that contract on other terms.
-    pub fn refusal_on(&self, contract: &Contract, terms: &Terms) -> Option<Refusal>
-        requires { IsTrue (fits self.now.domain contract.now) }
-        ensures value { (lifetime : Span) → let other = lasting lifetime (on_terms terms.now contract.now) in
-            result ≡ refusal_of (with_contract self.now other (least_of self.now.domain other)) }
-        ensures acceptable { IsAcceptable self.now }
-    {
-        let domain: &Domain = &self.domain;
-        least_refusal_at_meters(domain, self.sums.as_slice(), contract, terms)
-    }
-
-    /// What `refusal_on` tells, by the contract's route: no name is looked up.
     pub fn refusal_on_route(
         &self,
         contract: &Contract,
@@ -396,36 +341,30 @@ impl Accepted {
             result ≡ refusal_of (with_contract self.now other (least_of self.now.domain other)) }
         ensures acceptable { IsAcceptable self.now }
     {
-        let domain: &Domain = &self.domain;
-        let _meters = domain.meters();
-        least_refusal_on_route(domain, self.sums.as_slice(), contract, route, terms)
+        self.beside(None, contract, route).refusal_on(terms)
     }
 
-    /// Takes up a contract against which nothing stands; where memory runs out it hands it back, and is as it was.
-    fn take_up(
-        &mut self,
-        contract: Contract,
-        bounds: Vec<Bound>,
-    ) -> Result<(), (Contract, Vec<Bound>)>
-        requires { refusal_of (with_contract self.old contract bounds.items) ≡ None }
-        ensures admitted { OnOk result (self.new ≡ with_contract self.old contract bounds.items) }
-        ensures acceptable { IsAcceptable self.new }
-        ensures unchanged { OnErr result (self.new ≡ self.old) }
-        ensures back { IfErr result (λ back. (back.0 ≡ contract) × (back.1 ≡ bounds)) }
+    /// The table with a contract against which nothing stands; `AllocError` where memory runs out.
+    fn larger(
+        &self,
+        alloc: Global,
+        contract: &Contract,
+        route: Route,
+        bounds: &[Bound],
+    ) -> Result<Self, AllocError>
+        requires unrefused { refusal_of (with_contract self.now contract.now bounds.now) ≡ None }
+        requires route { route ≡ route_of self.now.domain contract.now }
+        ensures admitted { IfOk result (λ accepted. accepted ≡ with_contract self.now contract.now bounds.now) }
+        ensures acceptable { IfOk result (λ accepted. IsAcceptable accepted) }
     {
-        if self.contracts.reserve(1).is_err() {
-            return Err((contract, bounds));
-        }
-        match self.certificate.push(bounds) {
-            Ok(()) => {}
-            Err(bounds) => return Err((contract, bounds)),
-        }
-        let domain: &Domain = &self.domain;
-        let _meters = domain.meters();
-        let bounds = &self.certificate.bounds()[self.contracts.len()];
-        add_contract(self.sums.as_mut_slice(), domain, &contract, bounds.hops());
-        self.contracts.push(contract).unwrap();
-        Ok(())
+        let mut larger = self.copy(alloc)?;
+        let Ok(contract) = contract.copy(alloc) else {
+            return Err(AllocError);
+        };
+        let route = SharedRoute::new(alloc, route)?;
+        let row = Bounds::new(alloc, bounds.to_vec(alloc)?)?;
+        larger.take_up(contract, route, row)?;
+        Ok(larger)
     }
 }
 
@@ -441,4 +380,15 @@ fn copied(alloc: Global, contracts: &[Contract]) -> Result<Vec<Contract>, AllocE
         copied.push(contract)?;
     }
     Ok(copied)
+}
+
+/// The same routes again, over the same in memory.
+fn shared(alloc: Global, routes: &[SharedRoute]) -> Result<Vec<SharedRoute>, AllocError>
+    ensures { IfOk result (λ shared. shared.items ≡ routes.now) }
+{
+    let mut shared = Vec::with_capacity(alloc, routes.len())?;
+    for route in routes {
+        shared.push(route.copy()?)?;
+    }
+    Ok(shared)
 }

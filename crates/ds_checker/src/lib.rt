@@ -4,6 +4,7 @@
 
 pub mod acceptance;
 mod admission;
+mod along;
 pub mod beside;
 pub mod bounds;
 pub mod candidate;
@@ -13,13 +14,11 @@ pub mod laws;
 pub mod load;
 pub mod refusal;
 pub mod routed;
-mod stop;
 pub mod table;
 
 pub use acceptance::check;
 pub use beside::Beside;
 pub use candidate::{Accepted, Candidate};
 pub use headroom::{Headroom, Utilization};
-pub use hold::hold_of;
 pub use refusal::Refusal;
 pub use routed::hold_on_route;

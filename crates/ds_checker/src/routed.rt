@@ -1,29 +1,24 @@
 //! What a contract brings along its route, and how long its share is held there, by the places of meters.
-ghost use Rattle.std.specs.Prelude.{◌≡◌, ◌+◌, ◌*◌, ◌^◌, ◌≤◌, ℕ, List, None, IsTrue, length, nat_eq};
+ghost use Rattle.std.specs.Prelude.{◌≡◌, ◌+◌, ◌*◌, ◌^◌, ◌≤◌, ℕ, List, length, nat_eq};
 ghost use Rattle.std.specs.List.{AllByRecursion, IsDistinct};
 ghost use Rattle.std.specs.Map.{keys_of};
 ghost use Rattle.std.specs.Str.{bytes_eq};
-ghost use Rattle.ds_certificate.specs.Bounds.{HasShape, entering, fits, least_behind, least_of};
+ghost use Rattle.ds_certificate.specs.Bounds.{HasShape};
 ghost use Rattle.ds_certificate.specs.Ranges.{IsModerate};
-ghost use Rattle.ds_domain_base.specs.Routes.{AreInside, jitters_in, places_of, route_of};
-ghost use Rattle.ds_checker.specs.Changes.{on_terms};
+ghost use Rattle.ds_domain_base.specs.Routes.{AreInside, places_of, route_of};
 ghost use Rattle.ds_checker.specs.Loads.{share_of};
 ghost use Rattle.ds_checker.specs.Routed.{AreBounds, holds_on, with_legs};
 ghost use Rattle.ds_checker.specs.Holds.{greatest, hold_of};
 ghost use Rattle.ds_certificate.specs.Columns.{InEach, envelope_in};
-ghost use Rattle.ds_checker.specs.Sums.{AreBelow, AreSmall, IsBefore, sums_tests, with_brought};
-ghost use Rattle.ds_checker.specs.Tests.{first_failed};
+ghost use Rattle.ds_checker.specs.Sums.{AreBelow, AreSmall, IsBefore, with_brought};
 ghost use Rattle.ds_checker.specs.declared.load.Loads as declared_loads;
 
-use crate::admission::{earlier, place_refusal};
 use crate::hold::hold_at_hop;
 use crate::load::{Loads, Share};
-use crate::refusal::Refusal;
-use ds_certificate::{Bound, Source, delayed, entering};
-use ds_domain_base::{Contract, Domain, Leg, Route, Terms};
+use ds_certificate::{Bound, Source};
+use ds_domain_base::{Contract, Domain, Leg, Route};
 
-/// Adds what a contract brings to each meter, by its route and by its bounds from its port on: what `add_contract` adds,
-/// with no name looked up.
+/// Adds what a contract brings to each meter, by its route and by its bounds from its port on.
 pub(crate) fn add_on_route(
     sums: &mut [Loads],
     domain: &Domain,
@@ -69,8 +64,7 @@ fn add_legs(sums: &mut [Loads], legs: &[Leg], bounds: &[Bound], source: &Source,
     }
 }
 
-/// Takes back what a contract brings to each meter, by its route and by its bounds from its port on: what `take_contract`
-/// takes back, with no name looked up.
+/// Takes back what a contract brings to each meter, by its route and by its bounds from its port on.
 pub(crate) fn take_on_route(
     sums: &mut [Loads],
     domain: &Domain,
@@ -114,68 +108,10 @@ fn take_legs(sums: &mut [Loads], legs: &[Leg], bounds: &[Bound], source: &Source
     }
 }
 
-/// The first meter test that fails, in the order of the meters, once one contract more that fits the domain brings its
-/// traffic on these terms along its route, by its least bounds, where none failed before: what
-/// `least_refusal_at_meters` tells, with no name looked up. It takes no memory.
-pub(crate) fn least_refusal_on_route(
-    domain: &Domain,
-    sums: &[Loads],
-    contract: &Contract,
-    route: &Route,
-    terms: &Terms,
-) -> Option<Refusal>
-    requires fit { IsTrue (fits domain.now contract.now) }
-    requires route { route.now ≡ route_of domain.now contract.now }
-    requires apart { IsDistinct bytes_eq (keys_of domain.now.meters) }
-    requires places { length sums.now ≡ length domain.now.meters }
-    requires room { AllByRecursion (AreBelow (2 ^ 121)) sums.now }
-    requires passed { first_failed (sums_tests domain.now.meters sums.now) ≡ None }
-    ensures { let other = on_terms terms.now contract.now in result ≡ first_failed (sums_tests domain.now.meters
-        (with_brought (λ name. share_of domain.now name other (least_of domain.now other))
-        (keys_of domain.now.meters) sums.now)) }
-{
-    let source = Source::along(domain, route, terms);
-    let has_peak = terms.has_peak();
-    legs_refusal(domain, sums, route.legs(), &source, has_peak)
-}
-
-/// The same of legs, by the least bounds of traffic that enters before the first. Each bound is made of the one before it.
-fn legs_refusal(
-    domain: &Domain,
-    sums: &[Loads],
-    legs: &[Leg],
-    source: &Source,
-    has_peak: bool,
-) -> Option<Refusal>
-    requires inside { AreInside (length domain.now.meters) legs.now }
-    requires once { IsDistinct nat_eq (places_of legs.now) }
-    requires short { length legs.now ≤ 16 }
-    requires moderate { IsModerate source.now }
-    requires places { length sums.now ≡ length domain.now.meters }
-    requires room { AllByRecursion (AreBelow (2 ^ 121)) sums.now }
-    requires passed { first_failed (sums_tests domain.now.meters sums.now) ≡ None }
-    ensures { result ≡ first_failed (sums_tests domain.now.meters
-        (with_legs source.now has_peak legs.now
-        (least_behind source.now (jitters_in legs.now) (entering source.now)) sums.now)) }
-{
-    let mut first = None;
-    let mut bound = entering(source);
-    for leg in legs {
-        bound = delayed(source, leg.jitter.gap(), bound);
-        let share = Share {
-            source: *source,
-            bound,
-            has_peak,
-        };
-        let loads = sums[leg.place].with(&share);
-        first = earlier(first, leg.place, place_refusal(domain, leg.place, &loads));
-    }
-    let (_, refusal) = first?;
-    Some(refusal)
-}
-
-/// How long the share of a contract with these bounds is to be held once it has ended, by its route: what `hold_of` tells,
-/// with no name looked up.
+/// How long the share of a contract with these bounds, that of its port and those behind its meters, is to be held once
+/// the contract has ended, by its route, in nanoseconds: the greatest, over the hops of its path and the columns, of what
+/// delays can be up to that hop, the meter's skew, and the time in which the column's rate gives the bound there, widened
+/// by that skew (Cruz 1991, section II).
 pub fn hold_on_route(domain: &Domain, contract: &Contract, route: &Route, bounds: &[Bound]) -> u128
     requires { route.now ≡ route_of domain.now contract.now }
     ensures { result ≡ hold_of domain.now contract.now bounds.now }

@@ -1,22 +1,19 @@
-ghost use Rattle.std.specs.Prelude.{◌≡◌, ◌+◌, ◌*◌, ◌^◌, ◌≤◌, ℕ, false, List, None, IfOk, OnOk, drop, length, map};
+ghost use Rattle.std.specs.Prelude.{◌≡◌, ◌^◌, ◌≤◌, None, IfOk, OnOk, length, map};
 ghost use Rattle.std.specs.List.{AllByRecursion, IsDistinct};
 ghost use Rattle.std.specs.Map.{keys_of};
 ghost use Rattle.std.specs.Str.{bytes_eq};
-ghost use Rattle.ds_certificate.specs.Ranges.{IsModerate};
-ghost use Rattle.ds_domain_base.specs.Fitting.{repeats};
-ghost use Rattle.ds_certificate.specs.Bounds.{HasShape};
+ghost use Rattle.ds_domain_base.specs.Routes.{route_of};
+ghost use Rattle.ds_checker.specs.Acceptance.{table_of};
 ghost use Rattle.ds_checker.specs.BoundTests.{misfit};
-ghost use Rattle.ds_checker.specs.Loads.{bound_into, share_of};
-ghost use Rattle.ds_checker.specs.Sums.{AreBelow, AreSmall, IsBefore, IsKept, counted_load, no_loads, share_by};
-ghost use Rattle.ds_checker.specs.Sums.{sums_tests, with_brought};
+ghost use Rattle.ds_checker.specs.Sums.{AreBelow, IsKept, counted_load, no_loads, sums_tests};
 ghost use Rattle.ds_checker.specs.TableTests.{load_tests};
 ghost use Rattle.ds_checker.specs.Tests.{first_failed};
-ghost use Rattle.ds_checker.specs.declared.load.Loads as declared_loads;
 
-use crate::load::{Load, Loads, Share};
+use crate::candidate::Candidate;
+use crate::load::{Load, Loads};
 use crate::refusal::Refusal;
-use ds_certificate::{Bound, Certificate, Source};
-use ds_domain_base::{Contract, Domain, Meter, Name};
+use crate::routed::add_on_route;
+use ds_domain_base::{Domain, Meter, Name, SharedRoute};
 use std::alloc::{AllocError, Global};
 
 /// The first meter test that fails, if one does, of the sums of a table.
@@ -33,23 +30,29 @@ pub(crate) fn table_refusal(domain: &Domain, sums: &[Loads]) -> Option<Refusal>
     None
 }
 
-/// What the contracts bring to each meter, in the order of the meters, by a certificate that has their shape.
+/// What the contracts of a candidate bring to each meter, in the order of the meters, by their routes and by a
+/// certificate that has their shape.
 pub(crate) fn gathered(
     alloc: Global,
-    domain: &Domain,
-    contracts: &[Contract],
-    certificate: &Certificate,
+    candidate: &Candidate,
+    routes: &[SharedRoute],
 ) -> Result<Vec<Loads>, AllocError>
-    requires { misfit 0 domain.now contracts.now certificate.now ≡ None }
-    ensures { IfOk result (λ sums. IsKept (record {
-      domain = domain.now;
-      contracts = contracts.now;
-      certificate = certificate.now;
-    }) sums.items) }
+    requires shaped { misfit 0 candidate.now.domain candidate.now.contracts.items candidate.now.certificate ≡ None }
+    requires routes { routes.now ≡ map (route_of candidate.now.domain) candidate.now.contracts.items }
+    ensures { IfOk result (λ sums. IsKept (table_of candidate.now) sums.items) }
 {
+    let domain = &candidate.domain;
+    let contracts = candidate.contracts.as_slice();
+    let rows = candidate.certificate.bounds();
     let mut sums = unloaded(alloc, domain)?;
-    for (contract, bounds) in contracts.iter().zip(certificate.bounds()) {
-        add_contract(sums.as_mut_slice(), domain, contract, bounds.hops());
+    for (number, contract) in contracts.iter().enumerate() {
+        add_on_route(
+            sums.as_mut_slice(),
+            domain,
+            contract,
+            routes[number].route(),
+            rows[number].hops(),
+        );
     }
     Ok(sums)
 }
@@ -67,132 +70,6 @@ fn unloaded(alloc: Global, domain: &Domain) -> Result<Vec<Loads>, AllocError>
         sums.push(Loads::new(meter.skew.gap()))?;
     }
     Ok(sums)
-}
-
-/// Adds what a contract brings to each meter, by its bounds from its port on.
-pub(crate) fn add_contract(
-    sums: &mut [Loads],
-    domain: &Domain,
-    contract: &Contract,
-    bounds: &[Bound],
-)
-    requires shape { HasShape domain.now contract.now bounds.now }
-    requires apart { IsDistinct bytes_eq (keys_of domain.now.meters) }
-    requires places { length sums.old ≡ length domain.now.meters }
-    requires room { AllByRecursion (AreBelow (2 ^ 120)) sums.old }
-    ensures value { sums.new ≡ with_brought (λ name. share_of domain.now name contract.now bounds.now)
-        (keys_of domain.now.meters) sums.old }
-    ensures range { (most : ℕ) → AllByRecursion (AreBelow most) sums.old
-        → AllByRecursion (AreBelow (most + 32 * 10 ^ 15)) sums.new }
-    ensures small { AreSmall (λ name. share_of domain.now name contract.now bounds.now) domain.now.meters }
-{
-    let source = Source::of(domain, contract);
-    let has_peak = contract.terms.has_peak();
-    let (_, behind) = bounds.split_at(1);
-    add_path(
-        sums,
-        domain,
-        contract.path.meters(),
-        behind,
-        &source,
-        has_peak,
-    );
-}
-
-/// Adds what is brought to each meter of a path, by the bounds of the hops into them. Names that are no meter's are
-/// passed.
-fn add_path(
-    sums: &mut [Loads],
-    domain: &Domain,
-    path: &[Name],
-    bounds: &[Bound],
-    source: &Source,
-    has_peak: bool,
-)
-    requires once { repeats path.now ≡ false }
-    requires short { length path.now ≤ 16 }
-    requires moderate { IsModerate source.now }
-    requires apart { IsDistinct bytes_eq (keys_of domain.now.meters) }
-    requires places { length sums.old ≡ length domain.now.meters }
-    requires room { AllByRecursion (AreBelow (2 ^ 120)) sums.old }
-    ensures value { sums.new ≡ with_brought (λ name. share_by source.now has_peak (bound_into name path.now bounds.now))
-        (keys_of domain.now.meters) sums.old }
-    ensures range { (most : ℕ) → AllByRecursion (AreBelow most) sums.old
-        → AllByRecursion (AreBelow (most + 32 * 10 ^ 15)) sums.new }
-    ensures small { AreSmall (λ name. share_by source.now has_peak (bound_into name path.now bounds.now))
-        domain.now.meters }
-{
-    for (name, bound) in path.iter().zip(bounds) {
-        let share = Share {
-            source: *source,
-            bound: *bound,
-            has_peak,
-        };
-        if let Some(place) = domain.meter_index(*name) {
-            sums[place] = sums[place].with(&share);
-        }
-    }
-}
-
-/// Takes back what a contract brings to each meter, by its bounds from its port on.
-pub(crate) fn take_contract(
-    sums: &mut [Loads],
-    domain: &Domain,
-    contract: &Contract,
-    bounds: &[Bound],
-)
-    requires shape { HasShape domain.now contract.now bounds.now }
-    requires places { length sums.old ≡ length domain.now.meters }
-    requires added { (before : List declared_loads.Loads) ×
-        IsBefore (λ name. share_of domain.now name contract.now bounds.now)
-        (keys_of domain.now.meters) sums.old before }
-    ensures { (before : List declared_loads.Loads) →
-        IsBefore (λ name. share_of domain.now name contract.now bounds.now)
-        (keys_of domain.now.meters) sums.old before → sums.new ≡ before }
-{
-    let source = Source::of(domain, contract);
-    let has_peak = contract.terms.has_peak();
-    let (_, hops) = bounds.split_at(1);
-    take_path(
-        sums,
-        domain,
-        contract.path.meters(),
-        hops,
-        &source,
-        has_peak,
-    );
-}
-
-/// Takes back what is brought to each meter of a path, by the bounds of the hops into them. Names that are no meter's
-/// are passed.
-fn take_path(
-    sums: &mut [Loads],
-    domain: &Domain,
-    path: &[Name],
-    bounds: &[Bound],
-    source: &Source,
-    has_peak: bool,
-)
-    requires once { repeats path.now ≡ false }
-    requires places { length sums.old ≡ length domain.now.meters }
-    requires added { (before : List declared_loads.Loads) ×
-        IsBefore (λ name. share_by source.now has_peak (bound_into name path.now bounds.now))
-        (keys_of domain.now.meters) sums.old before }
-    ensures { (before : List declared_loads.Loads) →
-        IsBefore (λ name. share_by source.now has_peak (bound_into name path.now bounds.now))
-        (keys_of domain.now.meters) sums.old before → sums.new ≡ before }
-{
-    let _meters = domain.meters();
-    for (name, bound) in path.iter().zip(bounds) {
-        let share = Share {
-            source: *source,
-            bound: *bound,
-            has_peak,
-        };
-        if let Some(place) = domain.meter_index(*name) {
-            sums[place] = sums[place].without(&share);
-        }
-    }
 }
 
 /// The first test that fails, if one does, of what is brought to a meter.

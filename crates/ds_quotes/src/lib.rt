@@ -9,7 +9,5 @@ pub mod quote;
 pub mod values;
 
 pub use field::Field;
-pub use quote::{
-    greatest, greatest_beside, greatest_without, least_refusal, least_refusal_without, others,
-};
+pub use quote::{greatest, greatest_without, least_refusal_without, place_of};
 pub use values::Values;

@@ -1,16 +1,14 @@
-ghost use Rattle.std.specs.Prelude.{◌≡◌, ◌+◌, ◌-◌, ◌<◌, ◌^◌, ℕ, IfNone, IfOk, IfSome, None, Some, length, nat_eq};
-ghost use Rattle.std.specs.Prelude.{position, unwrap_or, if◌then◌else◌};
+ghost use Rattle.std.specs.Prelude.{◌≡◌, ◌+◌, ◌-◌, ◌<◌, ◌^◌, ℕ, IfNone, IfSome, None, Some, length, nat_eq};
+ghost use Rattle.std.specs.Prelude.{position, if◌then◌else◌};
 ghost use Rattle.std.specs.Str.{bytes_eq};
 ghost use Rattle.ds_checker.specs.Acceptance.{refusal_of};
 ghost use Rattle.ds_checker.specs.Besides.{IsNameless, rest_of};
-ghost use Rattle.ds_quotes.specs.Quotes.{IsGreatest, IsSaleable, least_refusal, offered, others_of, quote_of};
+ghost use Rattle.ds_quotes.specs.Quotes.{IsGreatest, IsSaleable, least_refusal, offered, quote_of};
 
 use crate::field::Field;
 use crate::passing::{Trial, passing_below};
-use ds_certificate::is_fit;
 use ds_checker::{Accepted, Beside, Refusal};
 use ds_domain_base::{Contract, Name, Terms};
-use std::alloc::{AllocError, Global};
 
 /// A contract beside a table, and one of its fields, whose values are tried from a least one on.
 #[derive(Drop)]
@@ -67,12 +65,13 @@ pub fn greatest_without(
     ensures some { IfSome result (IsGreatest (IsSaleable (rest_of accepted.now left_out) contract.now field)) }
     ensures none { IfNone result ((value : ℕ) → ¬ IsSaleable (rest_of accepted.now left_out) contract.now field value) }
 {
-    if !is_fit(accepted.domain(), contract) {
-        return None;
-    }
+    let route = match accepted.domain().route(contract) {
+        Ok(route) => route,
+        Err(_) => return None,
+    };
     let values = field.values(&contract.terms)?;
     let offer = Offer {
-        beside: accepted.beside(left_out, contract),
+        beside: accepted.beside(left_out, contract, &route),
         field,
         least: values.least,
     };
@@ -91,16 +90,9 @@ fn last_of(least: u64, count: u64) -> Option<u64>
     }
 }
 
-/// What stands against a contract with the least valid value of a field, beside what a table holds, if anything does.
-/// None too where the contract has no such field.
-pub fn least_refusal(accepted: &Accepted, contract: &Contract, field: Field) -> Option<Refusal>
-    ensures { result ≡ least_refusal accepted.now contract.now field }
-{
-    least_refusal_without(accepted, None, contract, field)
-}
-
-/// The same beside what a table holds but the contract at a place, if one is left out. It names no contract of the
-/// table.
+/// What stands against a contract with the least valid value of a field, beside what a table holds but the contract at a
+/// place, if one is left out, if anything does. None too where the contract has no such field. It names no contract of
+/// the table.
 pub fn least_refusal_without(
     accepted: &Accepted,
     left_out: Option<usize>,
@@ -129,12 +121,13 @@ fn refusal_without(
     ensures value { result ≡ refusal_of (offered (rest_of accepted.now left_out) contract.now terms.now) }
     ensures nameless { IfSome result IsNameless }
 {
-    if !is_fit(accepted.domain(), contract) {
-        return Some(Refusal::Shape {
+    let route = match accepted.domain().route(contract) {
+        Ok(route) => route,
+        Err(_) => return Some(Refusal::Shape {
             contract: number_without(accepted, left_out),
-        });
-    }
-    let beside = accepted.beside(left_out, contract);
+        }),
+    };
+    let beside = accepted.beside(left_out, contract, &route);
     beside.refusal_on(terms)
 }
 
@@ -150,38 +143,9 @@ fn number_without(accepted: &Accepted, left_out: Option<usize>) -> usize
     }
 }
 
-/// The table without the contract of a name, and None where it holds none of that name; `AllocError` where memory runs
-/// out.
-pub fn others(
-    alloc: Global,
-    accepted: &Accepted,
-    name: Name,
-) -> Result<Option<Accepted>, AllocError>
-    ensures { IfOk result (λ others. unwrap_or others accepted.now ≡ others_of accepted.now name) }
-{
-    match place_of(accepted.contracts(), name) {
-        Some(place) => Ok(Some(accepted.without(alloc, place)?)),
-        None => Ok(None),
-    }
-}
-
 /// The place of the contract of a name, if there is one.
-fn place_of(contracts: &[Contract], name: Name) -> Option<usize>
+pub fn place_of(contracts: &[Contract], name: Name) -> Option<usize>
     ensures { result ≡ position (λ c. bytes_eq name c.name) contracts.now }
 {
     contracts.iter().position(|contract| contract.name == name)
-}
-
-/// The greatest value of a field, as `greatest` tells it, beside what a table holds but the contract of that name;
-/// it takes no memory, and so is never refused.
-pub fn greatest_beside(
-    alloc: Global,
-    accepted: &Accepted,
-    contract: &Contract,
-    field: Field,
-) -> Result<Option<u64>, AllocError>
-    ensures { IfOk result (λ value. value ≡ quote_of (others_of accepted.now contract.now.name) contract.now field) }
-{
-    let left_out = place_of(accepted.contracts(), contract.name);
-    Ok(greatest_without(accepted, left_out, contract, field))
 }

@@ -19,7 +19,7 @@ use Rattle.ds_certificate.specs.Columns.{Bound, bytes_in, envelope_in}
 use Rattle.ds_certificate.specs.Sources.{source_of}
 use Rattle.ds_certificate.proofs.ColumnLaws.{in_column}
 use Rattle.ds_checker.specs.Acceptance.{IsAcceptable, Table}
-use Rattle.ds_checker.specs.Holds.{meter_skew}
+use Rattle.ds_domain_base.specs.Routes.{meter_skew}
 use Rattle.ds_checker.specs.Loads.{bound_into}
 use Rattle.ds_checker.proofs.WayLaws.{hold-covers, held_for, way_to}
 use Rattle.ds_timeline.specs.Constant.{reserved_from, timeline_of}

@@ -11,7 +11,7 @@ use crate::command::Command;
 use crate::entry::Serial;
 use crate::refusal::BrokerRefusal;
 use ds_checker::Accepted;
-use ds_domain_base::Contract;
+use ds_domain_base::{Contract, SharedRoute};
 use moment_core::Moment;
 use std::alloc::{AllocError, Global};
 
@@ -107,6 +107,9 @@ impl Book {
         let since = self.moment_of(contract.lifetime.since());
         let Ok((contract, row)) = begun_row(alloc, self.table.domain(), contract, &route, since)
         else {
+            return Err(BrokerRefusal::NoMemory);
+        };
+        let Ok(route) = SharedRoute::new(alloc, route) else {
             return Err(BrokerRefusal::NoMemory);
         };
         let step = Step::Grow {

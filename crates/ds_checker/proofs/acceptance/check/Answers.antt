@@ -3,9 +3,6 @@ use Rattle.ds_checker.specs.Acceptance.{table_of}
 use Rattle.ds_checker.proofs.AcceptanceLaws.{acceptable, bounds_stand}
 use Rattle.ds_checker.proofs.acceptance.check.Goals as goal
 
-pub new-requires-clause-acceptable : goal.new-requires-clause-acceptable
-new-requires-clause-acceptable c = acceptable (table_of c.args.candidate) c.in-Ok.ensures.unrefused
-
 pub returns-in-Err-new-clause-refused : goal.returns-in-Err-new-clause-refused
 returns-in-Err-new-clause-refused c =
     let t = table_of c.args.candidate in

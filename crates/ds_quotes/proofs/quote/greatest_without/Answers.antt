@@ -1,4 +1,4 @@
-use Rattle.std.proofs.Common.{◌≡◌, ◌+◌, ◌-◌, false, refl, sym, ap, subst, ◌∙◌}
+use Rattle.std.proofs.Common.{◌≡◌, ◌+◌, ◌-◌, false, is_none, refl, sym, ap, subst, ◌∙◌}
 use Rattle.ds_domain_base.specs.Domains.{Domain}
 use Rattle.ds_certificate.specs.Bounds.{fits}
 use Rattle.ds_checker.specs.Acceptance.{IsAcceptable}
@@ -9,20 +9,20 @@ use Rattle.ds_quotes.specs.Quotes.{is_saleable}
 use Rattle.ds_quotes.proofs.QuoteLaws.{count-none, count-some, count-value, downward, no-field, quoted-none, unfit}
 use Rattle.ds_quotes.proofs.quote.greatest_without.Goals as goal
 
-pub returns-then-not-is_fit-clause-value : goal.returns-then-not-is_fit-clause-value
-returns-then-not-is_fit-clause-value c =
+pub returns-in-Err-clause-value : goal.returns-in-Err-clause-value
+returns-in-Err-clause-value c =
     let t = rest_of c.args.accepted.now c.args.left_out in
     let own : IsAcceptable t = rest-acceptable c.args.accepted.now c.args.left_out c.requires c.domain.ensures.acceptable in
     let unfits : fits t.domain c.args.contract.now ≡ false =
-    ap (λ (d : Domain). fits d c.args.contract.now) (rest-domain c.args.accepted.now c.args.left_out ∙ sym c.domain.ensures.value) ∙ sym c.is_fit.ensures ∙ c.if-not-is_fit.true in
+    ap (λ (d : Domain). fits d c.args.contract.now) (rest-domain c.args.accepted.now c.args.left_out ∙ sym c.domain.ensures.value) ∙ ap is_none c.in-Err.ensures in
     sym (quoted-none t c.args.contract.now c.args.field (unfit t c.args.contract.now c.args.field own unfits))
 
-pub returns-then-not-is_fit-clause-none : goal.returns-then-not-is_fit-clause-none
-returns-then-not-is_fit-clause-none c =
+pub returns-in-Err-clause-none : goal.returns-in-Err-clause-none
+returns-in-Err-clause-none c =
     let t = rest_of c.args.accepted.now c.args.left_out in
     let own : IsAcceptable t = rest-acceptable c.args.accepted.now c.args.left_out c.requires c.domain.ensures.acceptable in
     let unfits : fits t.domain c.args.contract.now ≡ false =
-    ap (λ (d : Domain). fits d c.args.contract.now) (rest-domain c.args.accepted.now c.args.left_out ∙ sym c.domain.ensures.value) ∙ sym c.is_fit.ensures ∙ c.if-not-is_fit.true in
+    ap (λ (d : Domain). fits d c.args.contract.now) (rest-domain c.args.accepted.now c.args.left_out ∙ sym c.domain.ensures.value) ∙ ap is_none c.in-Err.ensures in
     unfit t c.args.contract.now c.args.field own unfits
 
 pub returns-in_err-values-clause-value : goal.returns-in_err-values-clause-value

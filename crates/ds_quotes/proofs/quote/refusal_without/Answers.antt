@@ -1,4 +1,4 @@
-use Rattle.std.proofs.Common.{◌≡◌, false, sym, ap, subst, ◌∙◌}
+use Rattle.std.proofs.Common.{◌≡◌, false, is_none, sym, ap, subst, ◌∙◌}
 use Rattle.ds_domain_base.specs.Domains.{Domain}
 use Rattle.ds_certificate.specs.Bounds.{fits}
 use Rattle.ds_checker.specs.Acceptance.{IsAcceptable, refusal_of}
@@ -8,12 +8,12 @@ use Rattle.ds_quotes.specs.Quotes.{offered}
 use Rattle.ds_quotes.proofs.QuoteLaws.{unfit-offered}
 use Rattle.ds_quotes.proofs.quote.refusal_without.Goals as goal
 
-pub returns-then-not-is_fit-clause-value : goal.returns-then-not-is_fit-clause-value
-returns-then-not-is_fit-clause-value c =
+pub returns-in-Err-clause-value : goal.returns-in-Err-clause-value
+returns-in-Err-clause-value c =
     let t = rest_of c.args.accepted.now c.args.left_out in
     let own : IsAcceptable t = rest-acceptable c.args.accepted.now c.args.left_out c.requires c.domain.ensures.acceptable in
     let unfits : fits t.domain c.args.contract.now ≡ false =
-    ap (λ (d : Domain). fits d c.args.contract.now) (rest-domain c.args.accepted.now c.args.left_out ∙ sym c.domain.ensures.value) ∙ sym c.is_fit.ensures ∙ c.if-not-is_fit.true in
+    ap (λ (d : Domain). fits d c.args.contract.now) (rest-domain c.args.accepted.now c.args.left_out ∙ sym c.domain.ensures.value) ∙ ap is_none c.in-Err.ensures in
     unfit-offered t c.args.contract.now c.args.terms.now _ own unfits c.number_without.ensures
 
 pub returns-clause-value : goal.returns-clause-value

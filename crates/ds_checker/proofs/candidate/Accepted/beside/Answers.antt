@@ -1,27 +1,32 @@
-use Rattle.std.proofs.Common.{rules, ◌≡◌, false, subst}
+use Rattle.std.proofs.Common.{◌≡◌, length, ap, subst, sym, ◌∙◌}
 use Rattle.ds_domain_base.specs.Domains.{Domain}
-use Rattle.ds_domain_base.specs.Fitting.{repeats}
-use Rattle.ds_checker.specs.Besides.{AreStops, rest_of}
+use Rattle.ds_domain_base.specs.Routes.{AreInside}
+use Rattle.ds_checker.specs.Besides.{IsLeft, rest_of}
+use Rattle.ds_checker.specs.Routed.{sums_on}
 use Rattle.ds_checker.specs.Sums.{loads_of}
-use Rattle.ds_checker.proofs.BesideLaws.{beside-made, rest-left}
+use Rattle.ds_checker.proofs.BesideLaws.{beside-made}
+use Rattle.ds_checker.proofs.ChangeLaws.{kept-long}
+use Rattle.ds_checker.proofs.RoutedLaws.{routed-inside}
 use Rattle.ds_checker.proofs.candidate.Accepted.beside.Goals as goal
 
-pub stops_along-stops-requires-clause-left : goal.stops_along-stops-requires-clause-left
-stops_along-stops-requires-clause-left c =
+pub sums_along-sums-requires-clause-inside : goal.sums_along-sums-requires-clause-inside
+sums_along-sums-requires-clause-inside c =
+    let t = c.args.self.now in
+    subst (AreInside (length c.sums.result.now)) (sym c.legs.ensures.value)
+    (subst (λ n. AreInside n c.args.route.now.legs) (sym (kept-long t c.sums.result.now c.sums.ensures.sound.kept))
+    (routed-inside t.domain c.args.contract.now c.args.route.now c.requires.route c.requires.fit))
+
+pub sums_along-sums-requires-clause-left : goal.sums_along-sums-requires-clause-left
+sums_along-sums-requires-clause-left c =
     let t = c.args.self.now in (
       loads_of (rest_of t c.args.left_out),
-      rest-left t c.domain.result.now c.sums.result.now c.args.left_out c.brought_at-brought.result c.requires.place c.sums.ensures.sound c.sums.ensures.few c.domain.ensures.value
-          c.brought_at-brought.ensures,
+      subst (λ list. IsLeft c.brought_by-brought.result list (loads_of (rest_of t c.args.left_out))) (sym c.sums.ensures.sound.kept.sums) c.brought_by-brought.ensures,
     )
 
 pub invariant_of-result : goal.invariant_of-result
 invariant_of-result c =
     let t = c.args.self.now in
-    let once : repeats c.args.contract.now.path ≡ false = search rules in
-    let left = rest-left t c.domain.result.now c.sums.result.now c.args.left_out c.brought_at-brought.result c.requires.place c.sums.ensures.sound c.sums.ensures.few c.domain.ensures.value
-    c.brought_at-brought.ensures in
-    let before = loads_of (rest_of t c.args.left_out) in
-    beside-made t c.sums.result.now c.args.left_out c.args.contract.now c.stops_along-stops.result c.requires.place c.sums.ensures.sound c.requires.fit once
-    (subst (λ (d : Domain). AreStops d before c.args.contract.now.port c.args.contract.now.path c.stops_along-stops.result) c.domain.ensures.value
-    (subst (λ path. AreStops c.domain.result.now before c.args.contract.now.port path c.stops_along-stops.result) c.meters.ensures
-    (c.stops_along-stops.ensures before left)))
+    let left = subst (λ list. IsLeft c.brought_by-brought.result list (loads_of (rest_of t c.args.left_out))) (sym c.sums.ensures.sound.kept.sums) c.brought_by-brought.ensures in
+    beside-made t c.sums.result.now c.sums.result.now c.sums_along-sums.result c.args.left_out c.args.contract.now c.args.route.now c.brought_by-brought.result c.requires.place
+    c.sums.ensures.sound c.requires.fit c.requires.route c.sums.ensures.sound.kept.sums left
+    (subst (λ legs. ◌≡◌ {A = _} c.sums_along-sums.result (sums_on legs (loads_of (rest_of t c.args.left_out)))) c.legs.ensures.value (c.sums_along-sums.ensures _ left))

@@ -15,7 +15,7 @@ returns-clause-value c =
     headroom-found (table d inside.contracts.items inside.certificate) c.args.self.now inside.sums.items c.args.meter c.in_ok-own.own c.in_ok-place.place c.index.result.now
     c.headroom_at.result
     (self-of d (arc_value inside.domain) inside.contracts.items inside.certificate c.args.self.now c.deref-domain.ensures c.self.view_is)
-    (sound-of d (arc_value inside.domain) inside.contracts.items inside.certificate inside.sums.items c.deref-domain.ensures c.self.invariant)
+    (sound-of d (arc_value inside.domain) inside.contracts.items inside.certificate inside.sums.items c.deref-domain.ensures c.self.invariant.sound)
     c.in_ok-own.ensures c.in_ok-place.ensures c.index.ensures c.headroom_at.ensures
 
 pub returns-clause-covered : goal.returns-clause-covered
@@ -24,5 +24,5 @@ returns-clause-covered c =
     let inside = c.self.inside in
     headroom-covered (table d inside.contracts.items inside.certificate) inside.sums.items c.args.meter c.in_ok-own.own c.in_ok-place.place c.index.result.now
     c.headroom_at.result
-    (sound-of d (arc_value inside.domain) inside.contracts.items inside.certificate inside.sums.items c.deref-domain.ensures c.self.invariant)
+    (sound-of d (arc_value inside.domain) inside.contracts.items inside.certificate inside.sums.items c.deref-domain.ensures c.self.invariant.sound)
     c.in_ok-own.ensures c.in_ok-place.ensures c.index.ensures c.headroom_at.ensures

@@ -1,12 +1,20 @@
-use Rattle.std.proofs.Common.{rules, refl}
+use Rattle.std.proofs.Common.{rules, ap, map, refl, sym, ◌∙◌}
 use Rattle.std.specs.Arc.{arc_value}
-use Rattle.ds_checker.proofs.LifetimeLaws.{sound-lasting, table-lasting}
+use Rattle.ds_checker.proofs.LifetimeLaws.{lasting-set, sound-lasting, table-lasting}
+use Rattle.ds_checker.proofs.HeldLaws.{routes-lasting}
+use Rattle.ds_domain_base.specs.Routes.{route_of}
 use Rattle.ds_checker.proofs.candidate.Accepted.set_lifetime.Goals as goal
 
 pub invariant_of-self : goal.invariant_of-self
-invariant_of-self c =
+invariant_of-self c = record {
+  sound = (
     sound-lasting (arc_value c.self.inside.domain) c.self.inside.contracts.items _ c.self.inside.certificate c.self.inside.sums.items c.args.index c.args.lifetime c.index_mut.result.now
-    (search rules) c.index_mut.ensures.value refl c.self.invariant
+    (search rules) c.index_mut.ensures.value refl c.self.invariant.sound
+  );
+  routes = c.self.invariant.routes
+      ∙ sym (ap (map (route_of (arc_value c.self.inside.domain))) (lasting-set c.self.inside.contracts.items c.args.index c.args.lifetime c.index_mut.result.now (search rules) c.index_mut.ensures.value)
+      ∙ routes-lasting (arc_value c.self.inside.domain) c.self.inside.contracts.items c.args.index c.args.lifetime);
+}
 
 pub returns-clause-set : goal.returns-clause-set
 returns-clause-set c =
@@ -16,4 +24,4 @@ returns-clause-set c =
 pub returns-clause-acceptable : goal.returns-clause-acceptable
 returns-clause-acceptable c =
     (sound-lasting (arc_value c.self.inside.domain) c.self.inside.contracts.items _ c.self.inside.certificate c.self.inside.sums.items c.args.index c.args.lifetime c.index_mut.result.now
-    (search rules) c.index_mut.ensures.value refl c.self.invariant).acceptable
+    (search rules) c.index_mut.ensures.value refl c.self.invariant.sound).acceptable
