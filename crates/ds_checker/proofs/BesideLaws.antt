@@ -1,5 +1,5 @@
 -- A table without one of its contracts, as one contract more sees it along its route.
-use Rattle.std.proofs.Common.{arith, ◌≡◌, ℕ, zero, suc, ◌^◌, ◌<◌, ◌≤◌, Bool, true, false, List, [], ◌∷◌, length, get_or, drop, if◌then◌else◌, nat_eq, nat_le, nat_lt, not, Option, None, Some, option_map, refl, sym, ap, subst, ◌∙◌}
+use Rattle.std.proofs.Common.{arith, ◌≡◌, ℕ, ◌^◌, ◌<◌, ◌≤◌, Bool, true, false, List, [], ◌∷◌, length, get_or, drop, if◌then◌else◌, nat_eq, nat_le, nat_lt, not, Option, None, Some, option_map, refl, sym, ap, subst, ◌∙◌}
 use Rattle.std.specs.List.{AllByRecursion, IsDistinct, fold}
 use Rattle.std.specs.Prelude.{IfSome, IsTrue, is_none, is_some}
 use Rattle.std.proofs.lemmas.List.{get_or_default, length-map}

@@ -1,5 +1,5 @@
 -- Laws of the tests of bounds.
-use Rattle.std.proofs.Common.{◌≡◌, ℕ, suc, ◌+◌, ◌-◌, ◌*◌, ◌<◌, ◌≤◌, ◌^◌, ◌++◌, ◌&&◌, nat_eq, length, drop, get_or, map, List, [], ◌∷◌, Bool, true, false, is_none, is_some, Option, None, Some, option_map, if◌then◌else◌, nat_le, nat_lt, ◌⊎◌, inl, inr, refl, sym, ap, ◌∙◌, arith}
+use Rattle.std.proofs.Common.{◌≡◌, ℕ, suc, ◌+◌, ◌-◌, ◌*◌, ◌<◌, ◌≤◌, ◌^◌, ◌++◌, ◌&&◌, nat_eq, length, drop, get_or, map, List, [], ◌∷◌, Bool, true, false, is_none, is_some, Option, None, Some, if◌then◌else◌, nat_le, nat_lt, ◌⊎◌, inl, inr, refl, sym, ap, ◌∙◌, arith}
 use Rattle.std.proofs.lemmas.List.{drop_all, drop_more, length-drop}
 use Rattle.std.specs.Bool.{then_some}
 use Rattle.std.specs.Prelude.{IfSome}
@@ -23,7 +23,6 @@ use Rattle.ds_certificate.proofs.RouteLaws.{jitters-legs}
 use Rattle.ds_checker.specs.BoundTests.{bound_tests, first_test, hop_test, hop_tests, in_columns, misfit, tests_along}
 use Rattle.ds_checker.specs.Tests.{Test, first_failed}
 use Rattle.ds_checker.specs.declared.refusal.Refusal.{Refusal}
-use Rattle.ds_checker.specs.declared.refusal.Refusal.TheVariants.{Shape}
 
 -- what a rate gives over a gap is far below 2^128
 pub bytes_over_fits : (rate gap : ℕ) → rate < 2 ^ 64 → gap < 2 ^ 64 → bytes_over rate gap < 2 ^ 97

@@ -1,14 +1,12 @@
 -- The routes beside the contracts of a table.
-use Rattle.std.proofs.Common.{arith, ◌≡◌, ℕ, zero, suc, ◌+◌, ◌<◌, List, [], ◌∷◌, ◌++◌, drop, get_or, length, map, slice_get, Option, None, Some, option_map, refl, sym, ap, ◌∙◌}
+use Rattle.std.proofs.Common.{◌≡◌, ℕ, zero, suc, ◌<◌, List, [], ◌∷◌, ◌++◌, get_or, length, map, refl, sym, ap, ◌∙◌}
 use Rattle.std.specs.List.{remove}
-use Rattle.std.proofs.lemmas.List.{append_assoc, drop_more, get_or-map, length-map, map-append}
-use Rattle.std.proofs.lemmas.Option.{slice_get-map}
+use Rattle.std.proofs.lemmas.List.{get_or-map, length-map, map-append}
 use Rattle.ds_domain_base.specs.Domains.{Domain}
 use Rattle.ds_domain_base.specs.Lifetimes.{Span}
 use Rattle.ds_domain_base.specs.declared.contract.Contract.{Contract}
 use Rattle.ds_domain_base.specs.Routes.{Route, route_of}
-use Rattle.ds_checker.specs.Changes.{lasting, lasting_at}
-use Rattle.ds_checker.proofs.CopyLaws.{one-copied}
+use Rattle.ds_checker.specs.Changes.{lasting_at}
 
 -- one contract more, and its route
 pub routes-more : (d : Domain) (contracts new : List Contract) (routes more : List Route) (c : Contract) (r : Route) → routes ≡ map (route_of d) contracts → r ≡ route_of d c
@@ -45,11 +43,3 @@ pub route-at : (d : Domain) (contracts : List Contract) (routes : List Route) (i
     → c ≡ get_or contracts i c → r ≡ get_or routes i r → r ≡ route_of d c
 route-at d contracts routes i c r are inside is_contract is_route =
     is_route ∙ ap (λ list. get_or list i r) are ∙ get_or-map (route_of d) contracts i c r inside ∙ ap (route_of d) (sym is_contract)
-
--- one more is found
-pub one-found : (d : Domain) (done new : List Route) (contracts : List Contract) (c : Contract) (r : Route) (i : ℕ) → i < length contracts → r ≡ route_of d c → c ≡ get_or contracts i c
-    → new ≡ done ++ r ∷ [] → done ++ drop i (map (route_of d) contracts) ≡ map (route_of d) contracts
-    → new ++ drop (i + 1) (map (route_of d) contracts) ≡ map (route_of d) contracts
-one-found d done new contracts c r i inside is is_contract pushed so_far =
-    one-copied done new (map (route_of d) contracts) r r i (omega (arith, inside, length-map contracts (route_of d))) refl
-    (is ∙ ap (route_of d) is_contract ∙ sym (get_or-map (route_of d) contracts i c r inside)) pushed so_far

@@ -170,10 +170,6 @@ with_brought-elsewhere source has_peak to path b bounds names loads nowhere =
     with_brought-apart to (brought_along source has_peak (to ∷ path) (b ∷ bounds)) (brought_along source has_peak path bounds) names loads
     (none_passes (bytes_eq to) names nowhere) (λ name other. ap (share_by source has_peak) (bound_into-other name to path b bounds other))
 
-pub repeats-behind : (to : List ℕ) (path : List (List ℕ)) → repeats (to ∷ path) ≡ false → repeats path ≡ false
-unfolding repeats
-repeats-behind to path once = (or_parts (list_any (bytes_eq to) path) (repeats path) once).1
-
 -- ---- no sum leaves its range
 pub IsBelow-more : (most more : ℕ) (curve : Curve) → most ≤ more → IsBelow most curve → IsBelow more curve
 IsBelow-more most more curve larger below = (omega (arith, larger, below.0), omega (arith, larger, below.1))
@@ -230,58 +226,10 @@ AreBelow-at most (l ∷ loads) zero d inside below = below.0
 AreBelow-at most (l ∷ loads) (suc i) d inside below = AreBelow-at most loads i d (omega (arith, inside)) below.1
 
 -- ---- a loop over the meters of a path
-room_left : (most : ℕ) (n : ℕ) (loads : List Loads) → n ≤ 16 → AllByRecursion (AreBelow (2 ^ 120 + 2 * 10 ^ 15 * (16 - n))) loads → AllByRecursion (AreBelow (2 ^ 121)) loads
-room_left most n loads short below = AreBelow-more (2 ^ 120 + 2 * 10 ^ 15 * (16 - n)) (2 ^ 121) loads (omega (arith, short)) below
-
-pub room_at : (n : ℕ) (loads first : List Loads) (i : ℕ) (l : Loads) → n ≤ 16 → i < length loads → l ≡ get_or loads i l → AllByRecursion (AreBelow (2 ^ 120)) first
-    → ((most : ℕ) → AllByRecursion (AreBelow most) first → AllByRecursion (AreBelow (most + 2 * 10 ^ 15 * (16 - n))) loads) → AreBelow (2 ^ 121) l
-room_at n loads first i l short inside is room range =
-    subst (AreBelow (2 ^ 121)) (sym is) (AreBelow-at (2 ^ 121) loads i l inside (room_left 0 n loads short (range (2 ^ 120) room)))
-
-pub range_hop : (xs path : List (List ℕ)) (to : List ℕ) (loads : List Loads) (i : ℕ) (l new : Loads) (most : ℕ) → xs ≡ to ∷ path → length xs ≤ 16 → i < length loads
-    → l ≡ get_or loads i l → ((most : ℕ) → AreBelow most l → AreBelow (most + 2 * 10 ^ 15) new) → AllByRecursion (AreBelow (most + 2 * 10 ^ 15 * (16 - length xs))) loads
-    → AllByRecursion (AreBelow (most + 2 * 10 ^ 15 * (16 - length path))) (set loads i new)
-range_hop xs path to loads i l new most next short inside is grows below =
-    let own = subst (AreBelow (most + 2 * 10 ^ 15 * (16 - length xs))) (sym is) (AreBelow-at (most + 2 * 10 ^ 15 * (16 - length xs)) loads i l inside below) in
-    AreBelow-more (most + 2 * 10 ^ 15 * (16 - length xs) + 2 * 10 ^ 15) (most + 2 * 10 ^ 15 * (16 - length path)) (set loads i new)
-    (omega (arith, ap length next, short)) (set-below (most + 2 * 10 ^ 15 * (16 - length xs)) loads i new inside below (grows (most + 2 * 10 ^ 15 * (16 - length xs)) own))
-
 pub range_past : (xs path : List (List ℕ)) (to : List ℕ) (loads : List Loads) (most : ℕ) → xs ≡ to ∷ path → length xs ≤ 16
     → AllByRecursion (AreBelow (most + 2 * 10 ^ 15 * (16 - length xs))) loads → AllByRecursion (AreBelow (most + 2 * 10 ^ 15 * (16 - length path))) loads
 range_past xs path to loads most next short below =
     AreBelow-more (most + 2 * 10 ^ 15 * (16 - length xs)) (most + 2 * 10 ^ 15 * (16 - length path)) loads (omega (arith, ap length next, short)) below
-
-pub hop_kept : (source : Source) (has_peak : Bool) (xs path : List (List ℕ)) (to : List ℕ) (ys bounds : List Bound) (b : Bound) (names : List (List ℕ))
-    (loads whole : List Loads) (i : ℕ) (l new : Loads)
-    → xs ≡ to ∷ path → ys ≡ b ∷ bounds → IsDistinct bytes_eq names → length loads ≡ length names → position (bytes_eq to) names ≡ Some i → repeats xs ≡ false
-    → l ≡ get_or loads i l → new ≡ with_share l (record { source = source; bound = b; has_peak = has_peak })
-    → with_brought (brought_along source has_peak xs ys) names loads ≡ whole → with_brought (brought_along source has_peak path bounds) names (set loads i new) ≡ whole
-hop_kept source has_peak xs path to ys bounds b names loads whole i l new is_path is_bounds distinct long at once is is_new kept =
-    let share : Share = record { source = source; bound = b; has_peak = has_peak } in
-    ap (λ own. with_brought (brought_along source has_peak path bounds) names (set loads i own)) (is_new ∙ ap (λ own. with_share own share) is)
-    ∙ with_brought-hop source has_peak to path b bounds names loads i l distinct long at (subst (λ p. repeats p ≡ false) is_path once)
-    ∙ sym (ap (λ p. with_brought (brought_along source has_peak p ys) names loads) is_path ∙ ap (λ p. with_brought (brought_along source has_peak (to ∷ path) p) names loads) is_bounds)
-    ∙ kept
-
-pub past_kept : (source : Source) (has_peak : Bool) (xs path : List (List ℕ)) (to : List ℕ) (ys bounds : List Bound) (b : Bound) (names : List (List ℕ)) (loads whole : List Loads)
-    → xs ≡ to ∷ path → ys ≡ b ∷ bounds → position (bytes_eq to) names ≡ None
-    → with_brought (brought_along source has_peak xs ys) names loads ≡ whole → with_brought (brought_along source has_peak path bounds) names loads ≡ whole
-past_kept source has_peak xs path to ys bounds b names loads whole is_path is_bounds nowhere kept =
-    with_brought-elsewhere source has_peak to path b bounds names loads nowhere
-    ∙ sym (ap (λ p. with_brought (brought_along source has_peak p ys) names loads) is_path ∙ ap (λ p. with_brought (brought_along source has_peak (to ∷ path) p) names loads) is_bounds)
-    ∙ kept
-
-pub path_ended : (source : Source) (has_peak : Bool) (xs : List (List ℕ)) (ys : List Bound) (names : List (List ℕ)) (loads whole : List Loads) → length loads ≡ length names
-    → (xs ≡ []) ⊎ (ys ≡ []) → with_brought (brought_along source has_peak xs ys) names loads ≡ whole → loads ≡ whole
-path_ended source has_peak xs ys names loads whole long ended kept =
-    sym (with_brought-nothing (brought_along source has_peak xs ys) names loads long (λ name. ap (share_by source has_peak) (bound_into-ended name xs ys ended))) ∙ kept
-
-pub once_behind : (xs path : List (List ℕ)) (to : List ℕ) → xs ≡ to ∷ path → repeats xs ≡ false → repeats path ≡ false
-once_behind xs path to is once = repeats-behind to path (subst (λ p. repeats p ≡ false) is once)
-
-pub position-inside : (to : List ℕ) (names : List (List ℕ)) (loads : List Loads) (i : ℕ) (at : Option ℕ) → at ≡ position (bytes_eq to) names → at ≡ Some i
-    → length loads ≡ length names → i < length loads
-position-inside to names loads i at is_at is long = omega (arith, (position-Some (bytes_eq to) names i to (sym is_at ∙ is)).0, long)
 
 -- ---- what is added is small
 small_by : (x : Bool) (source : Source) (has_peak : Bool) (b : Bound) (rest : Option Bound) → IsModerate source → IsInRange b
@@ -313,14 +261,6 @@ pub small-hop : (source : Source) (has_peak : Bool) (xs path : List (List ℕ)) 
 small-hop source has_peak xs path to ys bounds b meters is_path is_bounds moderate small behind =
     subst (λ p. AreSmall (brought_along source has_peak p ys) meters) (sym is_path)
     (subst (λ p. AreSmall (brought_along source has_peak (to ∷ path) p) meters) (sym is_bounds) (small-next source has_peak to path b bounds meters moderate small behind))
-
-pub small-past : (source : Source) (has_peak : Bool) (xs path : List (List ℕ)) (to : List ℕ) (ys bounds : List Bound) (b : Bound) (meters : List (List ℕ × Meter))
-    → xs ≡ to ∷ path → ys ≡ b ∷ bounds → position (bytes_eq to) (keys_of meters) ≡ None
-    → AreSmall (brought_along source has_peak path bounds) meters → AreSmall (brought_along source has_peak xs ys) meters
-small-past source has_peak xs path to ys bounds b meters is_path is_bounds nowhere behind =
-    subst (λ p. AreSmall (brought_along source has_peak p ys) meters) (sym is_path)
-    (subst (λ p. AreSmall (brought_along source has_peak (to ∷ path) p) meters) (sym is_bounds)
-    (small-elsewhere source has_peak to path b bounds meters (none_passes (bytes_eq to) (keys_of meters) nowhere) behind))
 
 pub small-ended : (source : Source) (has_peak : Bool) (xs : List (List ℕ)) (ys : List Bound) (meters : List (List ℕ × Meter)) → (xs ≡ []) ⊎ (ys ≡ [])
     → AreSmall (brought_along source has_peak xs ys) meters

@@ -1,32 +1,20 @@
 -- What sums are at the place of a name, and the first place at which a meter has too little.
-use Rattle.std.proofs.Common.{arith, ◌≡◌, ℕ, zero, suc, ◌+◌, ◌-◌, ◌<◌, ◌≤◌, Bool, true, false, nat_lt, ◌⊎◌, List, [], ◌∷◌, length, set, drop, get_or, if◌then◌else◌, Option, None, Some, option_map, refl, sym, ap, subst, ◌∙◌}
-use Rattle.std.specs.List.{AllByRecursion, IsDistinct, fold, list_any, position}
+use Rattle.std.proofs.Common.{arith, ◌≡◌, ℕ, zero, suc, ◌+◌, ◌-◌, ◌<◌, ◌≤◌, Bool, true, false, nat_lt, List, [], ◌∷◌, length, set, get_or, if◌then◌else◌, Option, None, Some, option_map, refl, sym, ap, subst, ◌∙◌}
+use Rattle.std.specs.List.{AllByRecursion, IsDistinct, fold}
 use Rattle.std.specs.Option.{option_or}
 use Rattle.std.specs.Str.{bytes_eq}
 use Rattle.std.proofs.lemmas.Bool.Decides.{nat_tests}
-use Rattle.std.proofs.lemmas.Slice.Eq.{bytes_eq-Decides}
-use Rattle.std.proofs.lemmas.List.{drop_more, get_or-set_same, length-set, set-get_or, set-set}
-use Rattle.std.proofs.lemmas.List.Quantifiers.{position-Some}
-use Rattle.std.proofs.lemmas.Map.Entries.{length-keys_of}
-use Rattle.std.specs.Map.{keys_of}
 use Rattle.envelope_core.specs.Curve.{Curve, widened}
 use Rattle.moment_core.specs.declared.column.Column.TheVariants.{Green, All, Excess}
-use Rattle.ds_domain_base.specs.Fitting.{repeats}
 use Rattle.ds_domain_base.specs.declared.parts.Meter.{Meter}
-use Rattle.ds_certificate.specs.Columns.{Bound}
-use Rattle.ds_certificate.specs.declared.source.Source.{Source}
-use Rattle.ds_certificate.specs.Sources.{source_of}
-use Rattle.ds_domain_base.specs.Domains.{Domain}
-use Rattle.ds_domain_base.specs.Sent.{has_peak}
-use Rattle.ds_domain_base.specs.declared.contract.Contract.{Contract}
-use Rattle.ds_checker.specs.Loads.{Share, kept, share_of}
+use Rattle.ds_checker.specs.Loads.{Share, kept}
 use Rattle.ds_checker.specs.Places.{at_place, earlier}
-use Rattle.ds_checker.specs.Sums.{IsBefore, IsCounted, IsPeakCounted, less, plus, share_by, sum_tests, sums_tests, with_brought, with_share, without_share}
+use Rattle.ds_checker.specs.Sums.{IsCounted, IsPeakCounted, less, plus, sum_tests, sums_tests, with_brought, with_share, without_share}
 use Rattle.ds_checker.specs.Tests.{first_failed}
 use Rattle.ds_checker.specs.declared.load.Loads.{Loads}
 use Rattle.ds_checker.specs.declared.refusal.Refusal.{Refusal}
 use Rattle.ds_checker.proofs.BoundLaws.{first_failed-append}
-use Rattle.ds_checker.proofs.LoadLaws.{apart_at, bound_into-absent, bound_into-ended, bound_into-here, bound_into-other, brought_along, length-with_brought, or_parts, same_curve, with_brought-apart, with_brought-elsewhere, with_brought-nothing}
+use Rattle.ds_checker.proofs.LoadLaws.{apart_at, same_curve, with_brought-apart}
 
 -- what is brought to one name alone more than to the others
 pub brought-at : (to : List ℕ) (share : Share) (first later : List ℕ → List Share) (names : List (List ℕ)) (loads : List Loads) (i : ℕ) (d : List ℕ) (l : Loads)
@@ -47,23 +35,6 @@ brought-at to share first later (name ∷ names) (own ∷ loads) (suc i) d l dis
       rw (same name (apart_at name to names i d distinct.0 (omega (arith, inside)) is)) (ap (λ rest. fold with_share own (first name) ∷ rest) behind.0),
       behind.1,
     )
-
--- at the first name of a path
-pub brought-hop : (source : Source) (has_peak : Bool) (to : List ℕ) (path : List (List ℕ)) (b : Bound) (bounds : List Bound) (names : List (List ℕ))
-    (loads : List Loads) (i : ℕ) (l : Loads)
-    → IsDistinct bytes_eq names → length loads ≡ length names → position (bytes_eq to) names ≡ Some i → repeats (to ∷ path) ≡ false
-    → (with_brought (brought_along source has_peak (to ∷ path) (b ∷ bounds)) names loads
-    ≡ set (with_brought (brought_along source has_peak path bounds) names loads) i
-    (with_share (get_or loads i l) (record { source = source; bound = b; has_peak = has_peak })))
-    × (get_or (with_brought (brought_along source has_peak path bounds) names loads) i l ≡ get_or loads i l)
-unfolding repeats
-brought-hop source has_peak to path b bounds names loads i l distinct long at once =
-    let found = position-Some (bytes_eq to) names i to at in
-    brought-at to (record { source = source; bound = b; has_peak = has_peak }) (brought_along source has_peak (to ∷ path) (b ∷ bounds))
-    (brought_along source has_peak path bounds) names loads i to l distinct long found.0 (sym ((bytes_eq-Decides to (get_or names i to)).0 found.1))
-    (λ name other. ap (share_by source has_peak) (bound_into-other name to path b bounds other))
-    (ap (share_by source has_peak) (bound_into-here to path b bounds))
-    (ap (share_by source has_peak) (bound_into-absent to path bounds (or_parts (list_any (bytes_eq to) path) (repeats path) once).0))
 
 -- ---- a share that is taken back
 abbrev pub loads_with : ℕ → Curve → Curve → Curve → ℕ → Loads
@@ -99,71 +70,6 @@ peak-counted false l share is = rw is tt
 
 pub counted-with : (l : Loads) (share : Share) → IsCounted share (with_share l share)
 counted-with l share = ((omega arith, omega arith), (omega arith, omega arith), peak-counted share.has_peak l share refl)
-
--- the sums of the first name of a path
-taken_facts : (source : Source) (has_peak : Bool) (xs path : List (List ℕ)) (to : List ℕ) (ys bounds : List Bound) (b : Bound) (names : List (List ℕ)) (loads before : List Loads)
-    (i : ℕ) (l : Loads) → xs ≡ to ∷ path → ys ≡ b ∷ bounds → IsDistinct bytes_eq names → length loads ≡ length names → position (bytes_eq to) names ≡ Some i
-    → repeats xs ≡ false → IsBefore (brought_along source has_peak xs ys) names loads before
-    → (loads ≡ set (with_brought (brought_along source has_peak path bounds) names before) i
-    (with_share (get_or before i l) (record { source = source; bound = b; has_peak = has_peak })))
-    × (get_or (with_brought (brought_along source has_peak path bounds) names before) i l ≡ get_or before i l)
-taken_facts source has_peak xs path to ys bounds b names loads before i l is_path is_bounds distinct long at once is_before =
-    let hop = brought-hop source has_peak to path b bounds names before i l distinct (is_before.0 ∙ long) at (subst (λ p. repeats p ≡ false) is_path once) in (
-      is_before.1 ∙ ap (λ p. with_brought (brought_along source has_peak p ys) names before) is_path
-          ∙ ap (λ p. with_brought (brought_along source has_peak (to ∷ path) p) names before) is_bounds ∙ hop.0,
-      hop.1,
-    )
-
-own_loads : (source : Source) (has_peak : Bool) (path : List (List ℕ)) (bounds : List Bound) (b : Bound) (to : List ℕ) (names : List (List ℕ)) (loads before : List Loads) (i : ℕ) (l : Loads)
-    → length before ≡ length names → position (bytes_eq to) names ≡ Some i → l ≡ get_or loads i l
-    → loads ≡ set (with_brought (brought_along source has_peak path bounds) names before) i
-    (with_share (get_or before i l) (record { source = source; bound = b; has_peak = has_peak }))
-    → l ≡ with_share (get_or before i l) (record { source = source; bound = b; has_peak = has_peak })
-own_loads source has_peak path bounds b to names loads before i l long at is is_loads =
-    let inside = (position-Some (bytes_eq to) names i to at).0 in
-    let within = length-with_brought (brought_along source has_peak path bounds) names before long in
-    is ∙ ap (λ list. get_or list i l) is_loads
-    ∙ get_or-set_same (with_brought (brought_along source has_peak path bounds) names before) i
-    (with_share (get_or before i l) (record { source = source; bound = b; has_peak = has_peak })) l (omega (arith, inside, within))
-
-pub taken-counted : (source : Source) (has_peak : Bool) (xs path : List (List ℕ)) (to : List ℕ) (ys bounds : List Bound) (b : Bound) (names : List (List ℕ)) (loads before : List Loads)
-    (i : ℕ) (l : Loads) → xs ≡ to ∷ path → ys ≡ b ∷ bounds → IsDistinct bytes_eq names → length loads ≡ length names → position (bytes_eq to) names ≡ Some i
-    → repeats xs ≡ false → l ≡ get_or loads i l → IsBefore (brought_along source has_peak xs ys) names loads before
-    → IsCounted (record { source = source; bound = b; has_peak = has_peak }) l
-taken-counted source has_peak xs path to ys bounds b names loads before i l is_path is_bounds distinct long at once is is_before =
-    let facts = taken_facts source has_peak xs path to ys bounds b names loads before i l is_path is_bounds distinct long at once is_before in
-    subst (IsCounted (record { source = source; bound = b; has_peak = has_peak }))
-    (sym (own_loads source has_peak path bounds b to names loads before i l (is_before.0 ∙ long) at is facts.0))
-    (counted-with (get_or before i l) (record { source = source; bound = b; has_peak = has_peak }))
-
-pub taken-hop : (source : Source) (has_peak : Bool) (xs path : List (List ℕ)) (to : List ℕ) (ys bounds : List Bound) (b : Bound) (names : List (List ℕ)) (loads before : List Loads)
-    (i : ℕ) (l new : Loads) → xs ≡ to ∷ path → ys ≡ b ∷ bounds → IsDistinct bytes_eq names → length loads ≡ length names → position (bytes_eq to) names ≡ Some i
-    → repeats xs ≡ false → l ≡ get_or loads i l → new ≡ without_share l (record { source = source; bound = b; has_peak = has_peak })
-    → IsBefore (brought_along source has_peak xs ys) names loads before → IsBefore (brought_along source has_peak path bounds) names (set loads i new) before
-taken-hop source has_peak xs path to ys bounds b names loads before i l new is_path is_bounds distinct long at once is is_new is_before =
-    let share : Share = record { source = source; bound = b; has_peak = has_peak } in
-    let left = with_brought (brought_along source has_peak path bounds) names before in
-    let facts = taken_facts source has_peak xs path to ys bounds b names loads before i l is_path is_bounds distinct long at once is_before in
-    let own = own_loads source has_peak path bounds b to names loads before i l (is_before.0 ∙ long) at is facts.0 in
-    let back : new ≡ get_or left i l = is_new ∙ ap (λ m. without_share m share) own ∙ without-with (get_or before i l) share ∙ sym facts.1 in (
-      is_before.0 ∙ sym (length-set loads i new),
-      ap (λ list. set list i new) facts.0 ∙ set-set left i (with_share (get_or before i l) share) new ∙ ap (set left i) back ∙ set-get_or left i l,
-    )
-
-pub taken-past : (source : Source) (has_peak : Bool) (xs path : List (List ℕ)) (to : List ℕ) (ys bounds : List Bound) (b : Bound) (names : List (List ℕ)) (loads before : List Loads)
-    → xs ≡ to ∷ path → ys ≡ b ∷ bounds → position (bytes_eq to) names ≡ None
-    → IsBefore (brought_along source has_peak xs ys) names loads before → IsBefore (brought_along source has_peak path bounds) names loads before
-taken-past source has_peak xs path to ys bounds b names loads before is_path is_bounds nowhere is_before = (
-  is_before.0,
-  is_before.1 ∙ ap (λ p. with_brought (brought_along source has_peak p ys) names before) is_path
-      ∙ ap (λ p. with_brought (brought_along source has_peak (to ∷ path) p) names before) is_bounds
-      ∙ sym (with_brought-elsewhere source has_peak to path b bounds names before nowhere),
-)
-
-pub taken-ended : (source : Source) (has_peak : Bool) (xs : List (List ℕ)) (ys : List Bound) (names : List (List ℕ)) (loads before : List Loads) → length loads ≡ length names
-    → (xs ≡ []) ⊎ (ys ≡ []) → IsBefore (brought_along source has_peak xs ys) names loads before → loads ≡ before
-taken-ended source has_peak xs ys names loads before long ended is_before =
-    is_before.1 ∙ with_brought-nothing (brought_along source has_peak xs ys) names before (is_before.0 ∙ long) (λ name. ap (share_by source has_peak) (bound_into-ended name xs ys ended))
 
 -- ---- what each meter answers
 pub answers : List (List ℕ × Meter) → List Loads → List (Option Refusal)
@@ -319,75 +225,3 @@ zero_plus n = omega arith
 pub entry_of : (meters : List (List ℕ × Meter)) → 0 < length meters → List ℕ × Meter
 entry_of [] some = absurd (omega (arith, some))
 entry_of (entry ∷ meters) some = entry
-
--- what is left of a path begins with the name at its place
-pub path_on : (path : List (List ℕ)) (i : ℕ) (to : List ℕ) → i < length path → to ≡ get_or path i to → drop i path ≡ to ∷ drop (i + 1) path
-path_on path i to inside is_to = drop_more path i to inside ∙ ap (λ name. name ∷ drop (i + 1) path) (sym is_to)
-
-pub found-hop : (source : Source) (has_peak : Bool) (xs path : List (List ℕ)) (to : List ℕ) (ys bounds : List Bound) (b : Bound) (meters : List (List ℕ × Meter)) (loads : List Loads)
-    (i : ℕ) (l new : Loads) (refusal : Option Refusal) (first next whole : Option (ℕ × Refusal))
-    → xs ≡ to ∷ path → ys ≡ b ∷ bounds → IsDistinct bytes_eq (keys_of meters) → length loads ≡ length meters → position (bytes_eq to) (keys_of meters) ≡ Some i
-    → repeats xs ≡ false → first_failed (sums_tests meters loads) ≡ None → l ≡ get_or loads i l → new ≡ with_share l (record { source = source; bound = b; has_peak = has_peak })
-    → ((e : List ℕ × Meter) → refusal ≡ first_failed (sum_tests (get_or meters i e) new)) → next ≡ earlier first (at_place i refusal)
-    → earlier first (first_at 0 (answers meters (with_brought (brought_along source has_peak xs ys) (keys_of meters) loads))) ≡ whole
-    → earlier next (first_at 0 (answers meters (with_brought (brought_along source has_peak path bounds) (keys_of meters) loads))) ≡ whole
-found-hop source has_peak xs path to ys bounds b meters loads i l new refusal first next whole is_path is_bounds distinct long at once passed is is_new refused is_next held =
-    let names = keys_of meters in
-    let as_long = long ∙ sym (length-keys_of meters) in
-    let share : Share = record { source = source; bound = b; has_peak = has_peak } in
-    let left = with_brought (brought_along source has_peak path bounds) names loads in
-    let hop = brought-hop source has_peak to path b bounds names loads i l distinct as_long at (subst (λ p. repeats p ≡ false) is_path once) in
-    let within = (position-Some (bytes_eq to) names i to at).0 in
-    let inside : i < length meters = omega (arith, within, length-keys_of meters) in
-    let e = entry_of meters (omega (arith, inside)) in
-    let is_refusal = refused e in
-    let left_long : length left ≡ length meters = length-with_brought (brought_along source has_peak path bounds) names loads as_long ∙ length-keys_of meters in
-    let all : with_brought (brought_along source has_peak xs ys) names loads ≡ set left i new =
-    ap (λ p. with_brought (brought_along source has_peak p ys) names loads) is_path ∙ ap (λ p. with_brought (brought_along source has_peak (to ∷ path) p) names loads) is_bounds
-    ∙ hop.0 ∙ ap (set left i) (sym (is_new ∙ ap (λ m. with_share m share) is)) in
-    let none : get_or (answers meters left) i None ≡ None =
-    answers-at meters left i l e inside (omega (arith, inside, left_long)) ∙ ap (λ m. first_failed (sum_tests (get_or meters i e) m)) hop.1
-    ∙ sym (answers-at meters loads i l e inside (omega (arith, inside, long))) ∙ none-at (answers meters loads) i (none_of meters loads passed) in
-    let answered : first_at 0 (answers meters (set left i new)) ≡ earlier (at_place i refusal) (first_at 0 (answers meters left)) =
-    ap (first_at 0) (answers-set meters left i new e inside ∙ ap (set (answers meters left) i) (sym is_refusal))
-    ∙ first_at-set 0 (answers meters left) i refusal (omega (arith, inside, length-answers meters left left_long)) none
-    ∙ ap (λ n. earlier (at_place n refusal) (first_at 0 (answers meters left))) (zero_plus i) in
-    ap (λ f. earlier f (first_at 0 (answers meters left))) is_next
-    ∙ earlier-assoc first (at_place i refusal) (first_at 0 (answers meters left))
-    ∙ ap (earlier first) (sym answered)
-    ∙ ap (λ list. earlier first (first_at 0 (answers meters list))) (sym all)
-    ∙ held
-
-pub found-past : (source : Source) (has_peak : Bool) (xs path : List (List ℕ)) (to : List ℕ) (ys bounds : List Bound) (b : Bound) (meters : List (List ℕ × Meter)) (loads : List Loads)
-    (first whole : Option (ℕ × Refusal)) → xs ≡ to ∷ path → ys ≡ b ∷ bounds → position (bytes_eq to) (keys_of meters) ≡ None
-    → earlier first (first_at 0 (answers meters (with_brought (brought_along source has_peak xs ys) (keys_of meters) loads))) ≡ whole
-    → earlier first (first_at 0 (answers meters (with_brought (brought_along source has_peak path bounds) (keys_of meters) loads))) ≡ whole
-found-past source has_peak xs path to ys bounds b meters loads first whole is_path is_bounds nowhere held =
-    ap (λ list. earlier first (first_at 0 (answers meters list)))
-    (with_brought-elsewhere source has_peak to path b bounds (keys_of meters) loads nowhere
-    ∙ sym (ap (λ p. with_brought (brought_along source has_peak p ys) (keys_of meters) loads) is_path
-    ∙ ap (λ p. with_brought (brought_along source has_peak (to ∷ path) p) (keys_of meters) loads) is_bounds)) ∙ held
-
-pub found-ended : (source : Source) (has_peak : Bool) (xs : List (List ℕ)) (ys : List Bound) (meters : List (List ℕ × Meter)) (loads all : List Loads) (first : Option (ℕ × Refusal))
-    → length loads ≡ length meters → first_failed (sums_tests meters loads) ≡ None → (xs ≡ []) ⊎ (ys ≡ [])
-    → earlier first (first_at 0 (answers meters (with_brought (brought_along source has_peak xs ys) (keys_of meters) loads))) ≡ first_at 0 (answers meters all)
-    → option_map (λ f. f.1) first ≡ first_failed (sums_tests meters all)
-found-ended source has_peak xs ys meters loads all first long passed ended held =
-    let nothing_left = with_brought-nothing (brought_along source has_peak xs ys) (keys_of meters) loads (long ∙ sym (length-keys_of meters))
-    (λ name. ap (share_by source has_peak) (bound_into-ended name xs ys ended)) in
-    let none : first_at 0 (answers meters loads) ≡ None = some_first (first_at 0 (answers meters loads)) (first-failed-at 0 meters loads ∙ passed) in
-    ap (option_map (λ f. f.1))
-    (sym (earlier-None first) ∙ ap (earlier first) (sym none) ∙ ap (λ list. earlier first (first_at 0 (answers meters list))) (sym nothing_left) ∙ held)
-    ∙ first-failed-at 0 meters all
-
--- what a contract brings is brought along its path
-pub contract_before : (d : Domain) (c : Contract) (row : List Bound) (source : Source) (peaked : Bool) (path : List (List ℕ)) (bounds : List Bound) (names : List (List ℕ))
-    (loads before : List Loads) → source ≡ source_of d c → peaked ≡ has_peak c.terms → path ≡ c.path → bounds ≡ drop 1 row
-    → IsBefore (λ name. share_of d name c row) names loads before → IsBefore (brought_along source peaked path bounds) names loads before
-contract_before d c row source peaked path bounds names loads before is_source is_peaked is_path is_bounds is_before = (
-  is_before.0,
-  is_before.1 ∙ ap (λ b. with_brought (brought_along (source_of d c) (has_peak c.terms) c.path b) names before) (sym is_bounds)
-      ∙ ap (λ p. with_brought (brought_along (source_of d c) (has_peak c.terms) p bounds) names before) (sym is_path)
-      ∙ ap (λ p. with_brought (brought_along (source_of d c) p path bounds) names before) (sym is_peaked)
-      ∙ ap (λ s. with_brought (brought_along s peaked path bounds) names before) (sym is_source),
-)

@@ -1,10 +1,9 @@
 -- The hold of a contract, by its route.
-use Rattle.std.proofs.Common.{◌≡◌, ℕ, ◌+◌, ◌⊎◌, inl, inr, List, [], ◌∷◌, ◌++◌, max, drop, Option, None, Some, refl, sym, ap, ◌∙◌}
+use Rattle.std.proofs.Common.{◌≡◌, ℕ, ◌+◌, ◌⊎◌, inl, inr, List, [], ◌∷◌, ◌++◌, max, drop, refl, sym, ap, ◌∙◌}
 use Rattle.std.proofs.Math.Nat.{max-zero}
 use Rattle.ds_domain_base.specs.Domains.{Domain, meter_of}
 use Rattle.ds_domain_base.specs.Routes.{Route, legs_along, meter_skew, route_of}
 use Rattle.ds_domain_base.specs.declared.contract.Contract.{Contract}
-use Rattle.ds_domain_base.specs.declared.parts.Meter.{Meter}
 use Rattle.ds_domain_base.specs.declared.route.Leg.{Leg}
 use Rattle.ds_certificate.specs.Columns.{Bound}
 use Rattle.ds_certificate.specs.Sources.{source_of, source_on}

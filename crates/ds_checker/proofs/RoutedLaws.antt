@@ -4,7 +4,7 @@ use Rattle.std.specs.List.{AllByRecursion, IsDistinct, list_any}
 use Rattle.std.specs.Map.{keys_of}
 use Rattle.std.specs.Str.{bytes_eq}
 use Rattle.std.proofs.lemmas.Bool.Decides.{nat_tests}
-use Rattle.std.proofs.lemmas.List.{drop_more, get_or_default, length-set}
+use Rattle.std.proofs.lemmas.List.{get_or_default, length-set}
 use Rattle.std.proofs.lemmas.Map.Entries.{length-keys_of}
 use Rattle.ds_domain_base.specs.Domains.{Domain, meter_of}
 use Rattle.ds_domain_base.specs.Fitting.{names_unknown, repeats}
@@ -81,7 +81,6 @@ leg_range n m sums i l new most next short inside is grows below =
     (set-below (most + 2 * 10 ^ 15 * (16 - n)) sums i new inside below (grows (most + 2 * 10 ^ 15 * (16 - n)) own))
 
 -- ---- places and names
-
 pub fits-known : (d : Domain) (c : Contract) → IsTrue (fits d c) → (names_unknown d c.path ≡ false) × (repeats c.path ≡ false)
 fits-known d c good = (grind (arith, nat_tests), grind (arith, nat_tests))
 
@@ -159,11 +158,6 @@ routed-least d c route terms source peaked legs sums is is_source is_peaked is_l
     distinct long
 
 -- ---- a loop over legs
-
--- what is left of legs begins with the leg at its place
-pub legs_on : (legs : List Leg) (i : ℕ) (leg : Leg) → i < length legs → leg ≡ get_or legs i leg → drop i legs ≡ leg ∷ drop (i + 1) legs
-legs_on legs i leg inside is = drop_more legs i leg inside ∙ ap (λ l. l ∷ drop (i + 1) legs) (sym is)
-
 -- the bound behind one leg, and those behind the others
 pub least-leg : (source : Source) (xs legs : List Leg) (leg : Leg) (last next : Bound) → xs ≡ leg ∷ legs → next ≡ delayed source leg.jitter last
     → least_behind source (jitters_in xs) last ≡ next ∷ least_behind source (jitters_in legs) next

@@ -1,5 +1,5 @@
 -- Legs that lead to places that all differ: each share can be added first or last, and is taken back by its place.
-use Rattle.std.proofs.Common.{arith, ◌≡◌, ◌≢◌, ℕ, ◌<◌, Bool, false, nat_eq, ◌⊎◌, inl, inr, List, [], ◌∷◌, length, set, get_or, Option, None, option_map, refl, sym, ap, subst, ◌∙◌}
+use Rattle.std.proofs.Common.{arith, ◌≡◌, ◌≢◌, ℕ, ◌<◌, Bool, false, nat_eq, ◌⊎◌, inl, inr, List, [], ◌∷◌, length, set, get_or, Option, None, refl, sym, ap, subst, ◌∙◌}
 use Rattle.std.specs.List.{AllByRecursion, IsDistinct}
 use Rattle.std.proofs.lemmas.Bool.Decides.{nat_tests}
 use Rattle.std.proofs.lemmas.List.{get_or_default, get_or-set_other, get_or-set_same, length-set, set-get_or, set-set, set_comm}
@@ -14,7 +14,7 @@ use Rattle.ds_checker.specs.Sums.{IsCounted, no_loads, sum_tests, sums_tests, wi
 use Rattle.ds_checker.specs.Tests.{first_failed}
 use Rattle.ds_checker.specs.declared.load.Loads.{Loads}
 use Rattle.ds_checker.specs.declared.refusal.Refusal.{Refusal}
-use Rattle.ds_checker.proofs.PlaceLaws.{answers, answers-at, answers-set, counted-with, earlier-None, earlier-assoc, entry_of, first-failed-at, first_at, first_at-set, length-answers, none-at, none_of, some_first, without-with, zero_plus}
+use Rattle.ds_checker.proofs.PlaceLaws.{answers, answers-at, answers-set, counted-with, earlier-assoc, entry_of, first_at, first_at-set, length-answers, none-at, none_of, without-with, zero_plus}
 
 -- no leg leads to a place
 abbrev pub AreApart : ℕ → List Leg → Type 0
@@ -62,7 +62,6 @@ unfolding IsDistinct
 once-here xs legs leg is once = subst (λ list. IsDistinct nat_eq (places_of list)) is once
 
 -- ---- taken back, leg by leg
-
 -- what is held at the place of the first leg
 held-here : (source : Source) (peaked : Bool) (legs : List Leg) (leg : Leg) (b : Bound) (bounds : List Bound) (sums before : List Loads) (l : Loads)
     → leg.place < length before → AreApart leg.place legs → sums ≡ with_legs source peaked (leg ∷ legs) (b ∷ bounds) before → l ≡ get_or sums leg.place l
@@ -142,15 +141,3 @@ found-leg source peaked xs legs leg ys bounds b meters sums l new refusal first 
     ∙ ap (earlier first) (sym answered)
     ∙ ap (λ list. earlier first (first_at 0 (answers meters list))) (sym all)
     ∙ held
-
-pub found-whole : (source : Source) (peaked : Bool) (xs : List Leg) (ys : List Bound) (meters : List (List ℕ × Meter)) (sums all : List Loads) (first : Option (ℕ × Refusal))
-    → xs ≡ [] → first_failed (sums_tests meters sums) ≡ None
-    → earlier first (first_at 0 (answers meters (with_legs source peaked xs ys sums))) ≡ first_at 0 (answers meters all)
-    → option_map (λ f. f.1) first ≡ first_failed (sums_tests meters all)
-unfolding with_legs
-found-whole source peaked xs ys meters sums all first ended passed held =
-    let nothing_left : with_legs source peaked xs ys sums ≡ sums = ap (λ p. with_legs source peaked p ys sums) ended in
-    let none : first_at 0 (answers meters sums) ≡ None = some_first (first_at 0 (answers meters sums)) (first-failed-at 0 meters sums ∙ passed) in
-    ap (option_map (λ f. f.1))
-    (sym (earlier-None first) ∙ ap (earlier first) (sym none) ∙ ap (λ list. earlier first (first_at 0 (answers meters list))) (sym nothing_left) ∙ held)
-    ∙ first-failed-at 0 meters all

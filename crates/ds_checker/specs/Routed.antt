@@ -8,7 +8,7 @@ use Rattle.ds_certificate.specs.declared.source.Source.{Source}
 use Rattle.ds_checker.specs.Holds.{holds_at_hop}
 use Rattle.ds_checker.specs.Loads.{Share}
 use Rattle.ds_checker.specs.Places.{at_place, earlier}
-use Rattle.ds_checker.specs.Sums.{no_loads, sum_tests, with_share, without_share}
+use Rattle.ds_checker.specs.Sums.{no_loads, sum_tests, with_share}
 use Rattle.ds_checker.specs.Tests.{first_failed}
 use Rattle.ds_checker.specs.declared.refusal.Refusal.{Refusal}
 use Rattle.ds_checker.specs.declared.load.Loads.{Loads}
@@ -21,12 +21,9 @@ share_with source has_peak bound = record { source = source; bound = bound; has_
 abbrev pub sums_at : List Loads → ℕ → Loads
 sums_at sums place = slice_index_or sums place (no_loads 0)
 
--- sums with a share more at a place, and with one fewer
+-- sums with a share more at a place
 abbrev pub with_share_at : Share → ℕ → List Loads → List Loads
 with_share_at share place sums = slice_set sums place (with_share (sums_at sums place) share)
-
-abbrev pub without_share_at : Share → ℕ → List Loads → List Loads
-without_share_at share place sums = slice_set sums place (without_share (sums_at sums place) share)
 
 -- leg by leg, by the bounds of the hops into their meters
 unfoldable pub with_legs : Source → Bool → List Leg → List Bound → List Loads → List Loads

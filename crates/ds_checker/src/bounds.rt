@@ -39,8 +39,9 @@ pub(crate) fn contract_refusal(
     let (first, behind) = bounds.split_first()?;
     let source = Source::along(domain, route, &contract.terms);
     let legs = route.legs();
-    first_refusal(number, &source, *first)
-        .or_else(|| hops_refusal(number, legs, &source, *first, behind))
+    first_refusal(number, &source, *first).or_else(|| hops_refusal(
+        number, legs, &source, *first, behind,
+    ))
 }
 
 /// The refusal of a contract's first bound, where it is too low, column by column.

@@ -1,5 +1,5 @@
 -- Acceptable tables, of which a contract is changed to one that keeps no more.
-use Rattle.std.proofs.Common.{arith, ◌≡◌, ℕ, zero, suc, ◌≤◌, true, List, [], ◌∷◌, ◌++◌, length, set, Some, refl, sym, ap, subst, ◌∙◌}
+use Rattle.std.proofs.Common.{arith, ◌≡◌, ℕ, zero, suc, ◌≤◌, true, List, [], ◌∷◌, ◌++◌, set, Some, refl, sym, ap, subst, ◌∙◌}
 use Rattle.std.specs.Prelude.{IsTrue}
 use Rattle.std.specs.List.{AllZip, list_all}
 use Rattle.std.proofs.lemmas.Bool.{and_from, and_parts}
@@ -18,7 +18,7 @@ use Rattle.ds_checker.specs.Acceptance.{Carries, IsAcceptable, Table}
 use Rattle.ds_checker.specs.Changes.{on_terms, with_contract}
 use Rattle.ds_checker.specs.Loads.{Share, share_of, shares_at}
 use Rattle.ds_checker.proofs.ChangeLaws.{last_shape, rows_long, shares_at-append}
-use Rattle.ds_checker.proofs.LeastTableLaws.{AreLess, AreLess-append, Carries-less, IsLesser, IsLess, all_fit, share_less}
+use Rattle.ds_checker.proofs.LeastTableLaws.{AreLess, AreLess-append, Carries-less, IsLesser, all_fit, share_less}
 use Rattle.ds_quotes.specs.Fields.{terms_with}
 use Rattle.ds_quotes.specs.Quotes.{with_least}
 use Rattle.ds_quotes.specs.declared.field.Field.{Field}

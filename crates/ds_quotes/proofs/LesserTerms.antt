@@ -1,9 +1,7 @@
 -- Terms with a lower value of a field: traffic keeps no more on them.
-use Rattle.std.proofs.Common.{arith, ◌≡◌, ℕ, ◌+◌, ◌≤◌, Bool, true, false, Option, None, Some, refl}
+use Rattle.std.proofs.Common.{arith, ◌≡◌, ℕ, ◌≤◌, Bool, true, false, Option, None, Some, refl}
 use Rattle.std.specs.Prelude.{is_none, option_and_then, option_map, unwrap_or, if◌then◌else◌}
 use Rattle.moment_core.specs.declared.colour.Mode.{Mode}
-use Rattle.moment_core.specs.declared.column.Column.TheVariants.{Green, All, Excess}
-use Rattle.envelope_core.specs.Curve.{Curve, widened}
 use Rattle.srtcm_core.specs.declared.parameters.SrTcmParameters.{SrTcmParameters}
 use Rattle.trtcm_core.specs.declared.parameters.TrTcmParameters.{TrTcmParameters}
 use Rattle.rfc4115_core.specs.declared.parameters.Rfc4115Parameters.{Rfc4115Parameters}
@@ -20,7 +18,7 @@ use Rattle.ds_domain_base.specs.declared.terms.Terms.{Terms}
 use Rattle.ds_domain_base.specs.declared.terms.Terms.TheVariants.{Trusted, Policed}
 use Rattle.ds_certificate.specs.Sources.{curve_of, edge_column, excess_profile, source_by}
 use Rattle.ds_certificate.proofs.LesserLaws.{IsUnder, KeepsLess, widened-less}
-use Rattle.ds_quotes.specs.Fields.{if_sound, parameters_with, terms_with}
+use Rattle.ds_quotes.specs.Fields.{if_sound, terms_with}
 use Rattle.ds_quotes.specs.declared.field.Field.{Field}
 use Rattle.ds_quotes.specs.declared.field.Field.TheVariants as fields
 

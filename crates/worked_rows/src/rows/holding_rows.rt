@@ -1,7 +1,7 @@
 ghost use Rattle.std.specs.Prelude.{IfSome, length, ◌<◌};
 
 use crate::rows::tables::{Said, parsed};
-use ds_certificate::{Bound, Certificate, bounds_of, is_fit};
+use ds_certificate::{Bound, Certificate, bounds_of};
 use ds_checker::{Accepted, Candidate, Refusal, check};
 use ds_domain::{Contract, Domain, Name};
 use std::alloc::Global;
@@ -67,8 +67,8 @@ fn expect_beside(
 )
     requires { IfSome left_out (λ place. place < length table.now.contracts) }
 {
-    assert!(rt; is_fit(table.domain(), contract));
-    let beside = table.beside(left_out, contract);
+    let route = table.domain().route(contract).expect(rt, "a route");
+    let beside = table.beside(left_out, contract, &route);
     assert_eq!(rt; beside.carries(&contract.terms), wanted.is_none());
     assert_eq!(rt; beside.refusal_on(&contract.terms), wanted);
 }

@@ -1,4 +1,4 @@
-use Rattle.std.proofs.Common.{rules, ◌≡◌, ◌+◌, ◌≤◌, arith, ap, drop, false, inl, inr, is_some, length, refl, sym, true, ◌∙◌}
+use Rattle.std.proofs.Common.{rules, ◌≤◌, arith, ap, false, inl, inr, is_some, length, refl, sym, true, ◌∙◌}
 use Rattle.std.proofs.lemmas.Bool.Decides.{nat_tests}
 use Rattle.ds_domain_base.specs.Routes.{route_of}
 use Rattle.ds_certificate.specs.Sources.{jitters_of, source_of}
@@ -66,8 +66,11 @@ returns-in-Some-low-clause-refused c =
 
 pub returns-in-None-clause-refused : goal.returns-in-None-clause-refused
 returns-in-None-clause-refused c =
-    inl (refl, bounds_ended (table_of c.args.candidate.now) c.as_slice-contracts.result.now c.bounds-rows.result.now c.loop-number.number-counter c.loop-number.low (search rules) (search rules)
-    (omega arith) c.if-rows-contracts.false c.loop-number.invariant.shape c.loop-number.invariant.bounds ∙ c.in-None.is)
+    inl (
+      refl,
+      bounds_ended (table_of c.args.candidate.now) c.as_slice-contracts.result.now c.bounds-rows.result.now c.loop-number.number-counter c.loop-number.low (search rules) (search rules)
+          (omega arith) c.if-rows-contracts.false c.loop-number.invariant.shape c.loop-number.invariant.bounds ∙ c.in-None.is,
+    )
 
 pub returns-in-None-2-clause-unrefused : goal.returns-in-None-2-clause-unrefused
 returns-in-None-2-clause-unrefused c =

@@ -1,11 +1,10 @@
-use Rattle.std.proofs.Common.{ap, length, option_map, sym, ◌∷◌, ◌∙◌}
+use Rattle.std.proofs.Common.{ap, option_map, sym, ◌∷◌, ◌∙◌}
 use Rattle.std.specs.Iterator.Adapters.{zip_first}
 use Rattle.std.specs.Slice.Iter.{iter_rest}
 use Rattle.std.proofs.lemmas.List.{get_or_default}
 use Rattle.std.proofs.lemmas.Slice.Zip.{Zip-more, either_empty_from_Zip}
 use Rattle.ds_checker.specs.Routed.{sums_on}
 use Rattle.ds_checker.specs.Sums.{no_loads}
-use Rattle.ds_checker.proofs.LoadLaws.{AreBelow-at}
 use Rattle.ds_checker.proofs.RoutedLaws.{inside-here}
 use Rattle.ds_checker.proofs.WalkLaws.{bounded-ended, walk-hop}
 use Rattle.ds_checker.proofs.admission.bounded_refusal.Goals as goal

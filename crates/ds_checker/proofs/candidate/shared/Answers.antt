@@ -1,5 +1,4 @@
 use Rattle.std.proofs.Common.{arith}
-use Rattle.ds_checker.proofs.CopyLaws.{one-copied}
 use Rattle.ds_checker.proofs.candidate.shared.Goals as goal
 
 pub bounds-routes-route-index : goal.bounds-routes-route-index

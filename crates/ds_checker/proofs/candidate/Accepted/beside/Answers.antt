@@ -1,5 +1,4 @@
-use Rattle.std.proofs.Common.{◌≡◌, length, ap, subst, sym, ◌∙◌}
-use Rattle.ds_domain_base.specs.Domains.{Domain}
+use Rattle.std.proofs.Common.{◌≡◌, length, subst, sym}
 use Rattle.ds_domain_base.specs.Routes.{AreInside}
 use Rattle.ds_checker.specs.Besides.{IsLeft, rest_of}
 use Rattle.ds_checker.specs.Routed.{sums_on}

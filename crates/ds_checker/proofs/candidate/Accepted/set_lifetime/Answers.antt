@@ -8,9 +8,9 @@ use Rattle.ds_checker.proofs.candidate.Accepted.set_lifetime.Goals as goal
 pub invariant_of-self : goal.invariant_of-self
 invariant_of-self c = record {
   sound = (
-    sound-lasting (arc_value c.self.inside.domain) c.self.inside.contracts.items _ c.self.inside.certificate c.self.inside.sums.items c.args.index c.args.lifetime c.index_mut.result.now
-    (search rules) c.index_mut.ensures.value refl c.self.invariant.sound
-  );
+      sound-lasting (arc_value c.self.inside.domain) c.self.inside.contracts.items _ c.self.inside.certificate c.self.inside.sums.items c.args.index c.args.lifetime c.index_mut.result.now
+      (search rules) c.index_mut.ensures.value refl c.self.invariant.sound
+      );
   routes = c.self.invariant.routes
       ∙ sym (ap (map (route_of (arc_value c.self.inside.domain))) (lasting-set c.self.inside.contracts.items c.args.index c.args.lifetime c.index_mut.result.now (search rules) c.index_mut.ensures.value)
       ∙ routes-lasting (arc_value c.self.inside.domain) c.self.inside.contracts.items c.args.index c.args.lifetime);

@@ -5,7 +5,7 @@ use Rattle.ds_checker.specs.Acceptance.{Table}
 use Rattle.ds_checker.specs.Changes.{without_contract}
 use Rattle.ds_checker.specs.Sums.{loads_of}
 use Rattle.ds_checker.proofs.ChangeLaws.{before-less, got, kept-long, row-inside, shape-less, sound-less, sound-of, table}
-use Rattle.ds_checker.proofs.HeldLaws.{route-at, routes-less, routes-long}
+use Rattle.ds_checker.proofs.HeldLaws.{routes-less, routes-long}
 use Rattle.ds_checker.proofs.candidate.Accepted.withdraw.Goals as goal
 
 pub remove-bounds-requires : goal.remove-bounds-requires
@@ -30,13 +30,13 @@ take_on_route-requires-clause-added c =
 pub invariant_of-self : goal.invariant_of-self
 invariant_of-self c = record {
   sound = (
-    let inside : c.args.index < length c.self.inside.contracts.items = search rules in
-    let before = before-less c.deref-domain.result.now c.self.inside.contracts.items c.self.inside.certificate c.self.inside.sums.items c.as_mut_slice.result.now c.args.index c.remove-contract.result
-    c.remove-bounds.result c.hops.result.now (sound-of c.deref-domain.result.now (arc_value c.self.inside.domain) c.self.inside.contracts.items c.self.inside.certificate c.self.inside.sums.items c.deref-domain.ensures c.self.invariant.sound) inside c.remove-contract.ensures.value c.remove-bounds.ensures.value c.hops.ensures c.as_mut_slice.ensures.value in
-    sound-of (arc_value c.self.inside.domain) c.deref-domain.result.now _ _ _ (sym c.deref-domain.ensures) (sound-less c.deref-domain.result.now c.self.inside.contracts.items _ c.self.inside.certificate _ c.self.inside.sums.items c.as_mut_slice.result.now c.take_on_route.new.sums _ c.args.index
-    c.remove-contract.result c.remove-bounds.result c.self.inside.sums.len (sound-of c.deref-domain.result.now (arc_value c.self.inside.domain) c.self.inside.contracts.items c.self.inside.certificate c.self.inside.sums.items c.deref-domain.ensures c.self.invariant.sound) inside c.remove-contract.ensures.items c.remove-bounds.ensures.rest c.as_mut_slice.ensures.value
-    c.as_mut_slice.ensures.len (c.take_on_route.ensures _ before) refl)
-  );
+      let inside : c.args.index < length c.self.inside.contracts.items = search rules in
+      let before = before-less c.deref-domain.result.now c.self.inside.contracts.items c.self.inside.certificate c.self.inside.sums.items c.as_mut_slice.result.now c.args.index c.remove-contract.result
+      c.remove-bounds.result c.hops.result.now (sound-of c.deref-domain.result.now (arc_value c.self.inside.domain) c.self.inside.contracts.items c.self.inside.certificate c.self.inside.sums.items c.deref-domain.ensures c.self.invariant.sound) inside c.remove-contract.ensures.value c.remove-bounds.ensures.value c.hops.ensures c.as_mut_slice.ensures.value in
+      sound-of (arc_value c.self.inside.domain) c.deref-domain.result.now _ _ _ (sym c.deref-domain.ensures) (sound-less c.deref-domain.result.now c.self.inside.contracts.items _ c.self.inside.certificate _ c.self.inside.sums.items c.as_mut_slice.result.now c.take_on_route.new.sums _ c.args.index
+      c.remove-contract.result c.remove-bounds.result c.self.inside.sums.len (sound-of c.deref-domain.result.now (arc_value c.self.inside.domain) c.self.inside.contracts.items c.self.inside.certificate c.self.inside.sums.items c.deref-domain.ensures c.self.invariant.sound) inside c.remove-contract.ensures.items c.remove-bounds.ensures.rest c.as_mut_slice.ensures.value
+      c.as_mut_slice.ensures.len (c.take_on_route.ensures _ before) refl)
+      );
   routes = routes-less (arc_value c.self.inside.domain) c.self.inside.contracts.items _ c.self.inside.routes.items _ c.args.index c.self.invariant.routes
       c.remove-contract.ensures.items c.remove-route.ensures.items;
 }
