@@ -115,7 +115,7 @@ fn answer_check<O: Outlet>(
     ensures reads { is_read_fault result ≡ false }
 {
     match accept(alloc, domain, certificate) {
-        Ok(_) => answer_text(b"accepted\n", Ending::Whole, output),
+        Ok(_accepted) => answer_text(b"accepted\n", Ending::Whole, output),
         Err(TableFault::Refused(line)) => answer_text(line.bytes(), Ending::Refused, output),
         Err(TableFault::Domain(fault)) => Ok(Conclusion::Unsound(fault)),
         Err(TableFault::Certificate(fault)) => Ok(Conclusion::Uncertified(fault)),
