@@ -1,4 +1,3 @@
-use crate::expecting::expect_same;
 use af_marker::{Class, Colour, Dscp, Header, colour_of, dscp, header, remark};
 use moment_core::PacketSize;
 use std::process::Abort;
@@ -59,11 +58,11 @@ static COLOURS: [(&str, u8, u8, Option<Colour>); 5] = [
 fn the_twelve_code_points_of_the_standard(rt: HostRuntime) {
     for (name, number, colour, wanted) in &CODE_POINTS {
         let found = dscp(class(&rt, *number), *colour).get();
-        expect_same(&rt, name, found, *wanted);
+        assert_eq!(rt; (name, found), (name, *wanted));
     }
     for (name, number, given, wanted) in &COLOURS {
         let found = colour_of(class(&rt, *number), code_point(&rt, *given));
-        expect_same(&rt, name, found, *wanted);
+        assert_eq!(rt; (name, found), (name, *wanted));
     }
 }
 
@@ -126,7 +125,7 @@ fn expect_code(rt: &impl Abort, (name, puts, length, wanted): &Tested) {
         Ok(_) => 0,
         Err(fault) => fault.code(),
     };
-    expect_same(rt, name, code, *wanted);
+    assert_eq!(rt; (name, code), (name, *wanted));
 }
 
 #[test]
@@ -217,8 +216,8 @@ static MARKS: [Marked; 9] = [
 fn expect_marked(rt: &impl Abort, (name, before, colour, after, verified): &Marked) {
     let mut bytes = changed(before);
     let found = remark(&mut bytes, dscp(class(rt, 1), *colour)).expect(rt, name);
-    expect_same(rt, name, found.verified, *verified);
-    expect_same(rt, name, bytes, changed(after));
+    assert_eq!(rt; (name, found.verified), (name, *verified));
+    assert_eq!(rt; (name, bytes), (name, changed(after)));
 }
 
 #[test]

@@ -3,8 +3,6 @@
 #![tactic(auto)]
 
 #[cfg(test)]
-mod expecting;
-#[cfg(test)]
 mod header_rows;
 #[cfg(test)]
 mod rule_rows;

@@ -1,4 +1,3 @@
-use crate::expecting::expect_same;
 use crate::header_rows::{changed, code_point};
 use af_marker::{OutOfRange, header};
 use flow_classifier::{FlowRule, Key, PortRange, Prefix, Rule, RuleTable, first_match};
@@ -140,7 +139,7 @@ static PARTS: [(&str, Part, bool); 15] = [
 
 /// Expects whether the rule of a row holds of a key.
 fn expect_held(rt: &impl Abort, key: &Key, (name, part, wanted): &(&str, Part, bool)) {
-    expect_same(rt, name, rule_of(rt, part).holds(key), *wanted);
+    assert_eq!(rt; (name, rule_of(rt, part).holds(key)), (name, *wanted));
 }
 
 #[test]

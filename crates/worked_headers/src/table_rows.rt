@@ -1,5 +1,4 @@
 //! Tables of many rules, which are found by halves once they are settled.
-use crate::expecting::expect_same;
 use crate::rule_rows::{ANY, from_host, key_of_fragment, ports, prefix};
 use flow_classifier::{FlowRule, Rule, RuleTable};
 use std::process::Abort;
@@ -102,7 +101,7 @@ fn expect_found(
     let mut key = key_of_fragment(rt, 0);
     key.source = *source;
     key.target = *target;
-    expect_same(rt, name, rules.first_flow(&key), *wanted);
+    assert_eq!(rt; (name, rules.first_flow(&key)), (name, *wanted));
 }
 
 /// Expects what a table of these rules finds, before it is settled and then.
