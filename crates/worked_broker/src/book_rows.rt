@@ -3,35 +3,15 @@ use ds_broker::{Book, BrokerRefusal, Entry, Limits};
 use ds_domain_base::Name;
 use std::alloc::Global;
 use std::process::Abort;
-use worked_texts::{A, B, LINK, METER, PORT, SHARE, TIGHT_METER, TRUSTED};
+use worked_texts::{
+    A, B, LINK, LOW_METER, METER, PEAKED, PLAIN, PORT, SHARE, SINGLE_RATE, TRUSTED,
+};
 
 /// Two contracts over a meter that has room for the burst of one.
-const TIGHT: &[&str] = &[
-    TIGHT_METER,
-    PORT,
-    LINK,
-    TRUSTED,
-    A,
-    SHARE,
-    TRUSTED,
-    B,
-    SHARE,
-];
+const TIGHT: &[&str] = &[LOW_METER, PORT, LINK, TRUSTED, A, SHARE, TRUSTED, B, SHARE];
 
 /// The same over a meter that has room for both.
 const WIDE: &[&str] = &[METER, PORT, LINK, TRUSTED, A, SHARE, TRUSTED, B, SHARE];
-
-/// A meter of a single rate, and a link to it without jitter.
-const SINGLE_RATE: &str = r#"
-meter = [{ name = "m", kind = "srtcm", cir = 24000, cbs = 2000, ebs = 1000, skew = 0 }]
-port = [{ name = "p", skew = 0 }]
-link = [{ from = "p", to = "m", floor = 0, jitter = 0 }]
-"#;
-
-/// The envelope of a contract without a peak, and of one with a peak.
-const PLAIN: &str = "cir = 8000\ncbs = 1001\n";
-
-const PEAKED: &str = "cir = 8000\ncbs = 100\npir = 8000\npbs = 100\n";
 
 /// That meter, a contract without a peak, and one with a peak.
 const EXCESS: &[&str] = &[SINGLE_RATE, TRUSTED, A, PLAIN, TRUSTED, B, PEAKED];

@@ -1,4 +1,3 @@
-use crate::expecting::expect_same;
 use ds_broker::{Book, BrokerRefusal, Limits};
 use ds_checker::Refusal;
 use ds_domain::parse;
@@ -181,15 +180,15 @@ fn expect_step(
         Step::Reserve(place, answer) => {
             let contract = contracts.get(*place).expect(rt, name);
             let found = reserved(rt, alloc, book, contract);
-            expect_same(rt, name, found, wanted(rt, answer));
+            assert_eq!(rt; (name, found), (name, wanted(rt, answer)));
         }
         Step::Release(id, at, answer) => {
             let found = released(book, *id, moment(rt, *at));
-            expect_same(rt, name, found, wanted(rt, answer));
+            assert_eq!(rt; (name, found), (name, wanted(rt, answer)));
         }
         Step::Retire(id, at, answer) => {
             let found = retired(book, *id, moment(rt, *at));
-            expect_same(rt, name, found, wanted(rt, answer));
+            assert_eq!(rt; (name, found), (name, wanted(rt, answer)));
         }
     }
 }

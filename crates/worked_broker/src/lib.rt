@@ -7,6 +7,4 @@ mod book_rows;
 #[cfg(test)]
 mod books;
 #[cfg(test)]
-mod expecting;
-#[cfg(test)]
 mod timeline_rows;

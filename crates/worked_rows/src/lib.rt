@@ -3,6 +3,4 @@
 #![tactic(auto)]
 
 #[cfg(test)]
-mod expecting;
-#[cfg(test)]
 mod rows;

@@ -58,5 +58,10 @@ pub const NARROW: &str = "kind = \"trtcm\"\ncir = 8000000\ncbs = 150\npir = 1600
 pub const SEPARATE_RATES: &str =
     "kind = \"rfc4115\"\ncir = 8000000\ncbs = 1500\neir = 8000000\nebs = 500\n";
 
+/// The envelope of a contract over a slow meter without a peak, and of one with a peak.
+pub const PLAIN: &str = "cir = 8000\ncbs = 1001\n";
+
+pub const PEAKED: &str = "cir = 8000\ncbs = 100\npir = 8000\npbs = 100\n";
+
 /// Packets of UDP alone.
 pub const UDP: &str = "protocol = 17\n";

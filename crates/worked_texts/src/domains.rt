@@ -1,6 +1,6 @@
 use crate::contracts::{A, B, POLICED, SHARE, TRUSTED, TWO_RATES, U, UDP};
 use crate::joining::{joined, push_all};
-use crate::sites::{EXCESS_WAY, LINK, METER, PORT, TIGHT_METER};
+use crate::sites::{EXCESS_WAY, LINK, LOW_METER, METER, PORT};
 use std::alloc::{AllocError, Global};
 
 /// The meter, the port and the link between them, with contracts behind them.
@@ -19,17 +19,7 @@ pub fn over_excess(alloc: Global, version: &str, contracts: &[&str]) -> Result<S
 
 /// The domain of examples/tight_burst.toml with its first two contracts: the meter has room for the burst of one.
 pub fn tight(alloc: Global) -> Result<String, AllocError> {
-    let parts = [
-        TIGHT_METER,
-        PORT,
-        LINK,
-        TRUSTED,
-        A,
-        SHARE,
-        TRUSTED,
-        B,
-        SHARE,
-    ];
+    let parts = [LOW_METER, PORT, LINK, TRUSTED, A, SHARE, TRUSTED, B, SHARE];
     joined(alloc, &parts)
 }
 

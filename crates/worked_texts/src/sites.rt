@@ -16,7 +16,7 @@ skew = 500000
 "#;
 
 /// The meter of examples/tight_burst.toml: it commits to 16 Mbit/s and 4,500 bytes.
-pub const TIGHT_METER: &str = r#"
+pub const LOW_METER: &str = r#"
 meter = [{ name = "m", kind = "trtcm", cir = 16000000, cbs = 4500, pir = 24000000, pbs = 13500, skew = 500000 }]
 "#;
 
@@ -42,4 +42,11 @@ pub const EXCESS_WAY: &str = r#"
 meter = [{ name = "m", kind = "rfc4115", cir = 8000000, cbs = 4000, eir = 8000000, ebs = 2000, skew = 0 }]
 port = [{ name = "p", skew = 0 }]
 link = [{ from = "p", to = "m", floor = 0, jitter = 1000000 }]
+"#;
+
+/// A meter of a single rate, and a link to it without jitter.
+pub const SINGLE_RATE: &str = r#"
+meter = [{ name = "m", kind = "srtcm", cir = 24000, cbs = 2000, ebs = 1000, skew = 0 }]
+port = [{ name = "p", skew = 0 }]
+link = [{ from = "p", to = "m", floor = 0, jitter = 0 }]
 "#;

@@ -1,10 +1,9 @@
-use crate::expecting::expect_same;
 use crate::rows::tables::parsed;
 use ds_certificate::{Bound, Bounds, Certificate, CertificateFault, fault_line, make, read, write};
 use ds_domain::{Contract, Domain};
 use std::alloc::Global;
 use std::process::Abort;
-use worked_texts::{A, LINK, METER, PORT, SHARE, TRUSTED};
+use worked_texts::{A, ANYWHERE, B, LINK, METER, PORT, SHARE, TRUSTED};
 
 /// A domain of a trusted contract `a` of 8 Mbit/s and 3,000 bytes over one meter.
 const ALONE: &[&str] = &[METER, PORT, LINK, TRUSTED, A, SHARE];
@@ -62,7 +61,7 @@ fn expect_fault(
     wanted: CertificateFault,
 ) {
     let fault = read(alloc, text.as_bytes(), contracts).err();
-    expect_same(rt, text, fault, Some(wanted));
+    assert_eq!(rt; (text, fault), (text, Some(wanted)));
 }
 
 /// Expects of each text why it is no certificate of some contracts.
@@ -93,33 +92,20 @@ fn expect_faults(rt: &impl Abort, alloc: Global, contracts: &[Contract]) {
     expect_each(rt, alloc, contracts, bounds);
 }
 
-/// Two contracts, `a` over two meters and `b` over one.
-const TWO_CONTRACTS: &str = r#"
+/// Two meters one behind the other, and the way over both.
+const TWO_METERS: &str = r#"
 meter = [
     { name = "m", kind = "trtcm", cir = 24000000, cbs = 13500, pir = 24000000, pbs = 13500, skew = 0 },
     { name = "n", kind = "trtcm", cir = 24000000, cbs = 13500, pir = 24000000, pbs = 13500, skew = 0 },
 ]
 port = [{ name = "p", skew = 0 }]
 link = [{ from = "p", to = "m", floor = 0, jitter = 0 }, { from = "m", to = "n", floor = 0, jitter = 0 }]
-[[contract]]
-name = "a"
-kind = "trusted"
-port = "p"
-path = ["m", "n"]
-class = 1
-cir = 8000000
-cbs = 3000
-[[contract]]
-name = "b"
-kind = "trusted"
-port = "p"
-path = ["m"]
-class = 2
-cir = 8000000
-cbs = 3000
 "#;
 
-const BOTH: &[&str] = &[TWO_CONTRACTS];
+const OVER_BOTH: &str = "path = [\"m\", \"n\"]\n";
+
+/// Two contracts, `a` over both meters and `b` over one.
+const BOTH: &[&str] = &[TWO_METERS, ANYWHERE, OVER_BOTH, A, SHARE, TRUSTED, B, SHARE];
 
 /// Texts, and the first line of each that is at fault.
 static FAULTY_LINES: [(&str, usize); 8] = [
@@ -142,7 +128,10 @@ static FAULTY_LINES: [(&str, usize); 8] = [
 /// Expects of each text which line is at fault.
 fn expect_lines(rt: &impl Abort, contracts: &[Contract]) {
     for (text, line) in &FAULTY_LINES {
-        expect_same(rt, text, fault_line(text.as_bytes(), contracts), *line);
+        assert_eq!(rt;
+            (text, fault_line(text.as_bytes(), contracts)),
+            (text, *line)
+        );
     }
 }
 
@@ -193,7 +182,7 @@ fn expect_rewritten(
     (name, text, wanted): &(&str, &str, &str),
 ) {
     let again = rewritten(alloc, text, contracts).expect(rt, name);
-    expect_same(rt, name, again.as_slice(), wanted.as_bytes());
+    assert_eq!(rt; (name, again.as_slice()), (name, wanted.as_bytes()));
 }
 
 /// Expects of each row what its certificate is written as.

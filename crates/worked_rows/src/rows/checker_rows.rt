@@ -1,4 +1,3 @@
-use crate::expecting::expect_same;
 use crate::rows::excess_rows::ENOUGH;
 use crate::rows::tables::{Said, parsed, text_of};
 use ds_certificate::{Bound, Bounds, Certificate};
@@ -28,7 +27,10 @@ fn line(answer: &Result<(), TableFault>) -> &[u8] {
 /// Expects the line of the refusal of two texts, or nothing where they are accepted.
 pub fn expect(rt: &impl Abort, alloc: Global, (domain, certificate): (&str, &str), wanted: &str) {
     let answer = fault_of(alloc, domain, certificate);
-    expect_same(rt, certificate, line(&answer), wanted.as_bytes());
+    assert_eq!(rt;
+        (certificate, line(&answer)),
+        (certificate, wanted.as_bytes())
+    );
 }
 
 /// The parts of a domain, a certificate, and the line of their refusal, or nothing where they are accepted.
@@ -213,6 +215,6 @@ static LISTS: [(&str, &[&[(u64, u64)]], usize); 3] = [
 fn lists_that_are_not_those_of_the_contracts(rt: HostRuntime) {
     for (name, rows, contract) in &LISTS {
         let refusal = refusal(&rt, rt.alloc(), rows).expect(&rt, name);
-        expect_same(&rt, name, misshapen(&refusal), Some((1, *contract)));
+        assert_eq!(rt; (name, misshapen(&refusal)), (name, Some((1, *contract))));
     }
 }

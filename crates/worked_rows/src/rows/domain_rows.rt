@@ -1,4 +1,3 @@
-use crate::expecting::expect_same;
 use crate::rows::tables::{parsed, text_of};
 use af_marker::Dscp;
 use ds_domain::{
@@ -607,7 +606,10 @@ static REFUSED: [Refused; 37] = [
 /// Expects the first fault of the text of a row.
 fn expect_refused(rt: &impl Abort, alloc: Global, (name, parts, wanted): &Refused) {
     let text = text_of(rt, alloc, parts);
-    expect_same(rt, name, fault_of(alloc, text.as_str()), Some(*wanted));
+    assert_eq!(rt;
+        (name, fault_of(alloc, text.as_str())),
+        (name, Some(*wanted))
+    );
 }
 
 #[test]

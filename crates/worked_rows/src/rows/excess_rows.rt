@@ -1,4 +1,3 @@
-use crate::expecting::expect_same;
 use crate::rows::checker_rows::expect;
 use crate::rows::tables::{parsed, text_of};
 use ds_certificate::{Certificate, read};
@@ -50,7 +49,10 @@ fn expect_least(
 ) {
     let domain = text_of(rt, alloc, parts);
     let least = least(rt, alloc, domain.as_str());
-    expect_same(rt, certificate, least.as_slice(), certificate.as_bytes());
+    assert_eq!(rt;
+        (certificate, least.as_slice()),
+        (certificate, certificate.as_bytes())
+    );
     expect(rt, alloc, (domain.as_str(), certificate), refusal);
 }
 

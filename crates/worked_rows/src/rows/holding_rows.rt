@@ -6,7 +6,7 @@ use ds_checker::{Accepted, Candidate, Refusal, check};
 use ds_domain::{Contract, Domain, Name};
 use std::alloc::Global;
 use std::process::Abort;
-use worked_texts::{A, B, LINK, PORT, SHARE, TIGHT_METER, TRUSTED};
+use worked_texts::{A, B, LINK, LOW_METER, PORT, SHARE, TRUSTED};
 
 /// The table of a domain without a contract; None where memory runs out.
 fn empty(alloc: Global, domain: Domain) -> Option<Accepted> {
@@ -102,17 +102,7 @@ fn expect_first(rt: &impl Abort, alloc: Global, table: &Accepted, contracts: &[C
 }
 
 /// The meter has room for the burst of one of two contracts.
-const TIGHT: &[&str] = &[
-    TIGHT_METER,
-    PORT,
-    LINK,
-    TRUSTED,
-    A,
-    SHARE,
-    TRUSTED,
-    B,
-    SHARE,
-];
+const TIGHT: &[&str] = &[LOW_METER, PORT, LINK, TRUSTED, A, SHARE, TRUSTED, B, SHARE];
 
 /// Expects that of the empty table and the contracts of this text.
 fn expect_taken_out(rt: &impl Abort, alloc: Global) {

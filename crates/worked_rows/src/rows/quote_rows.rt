@@ -1,25 +1,12 @@
-use crate::expecting::expect_same;
 use crate::rows::tables::text_of;
 use ds_quotes::Field;
 use dsedge_texts::{QuoteFault, Quoted, TableFault, headroom, quote};
 use std::alloc::Global;
 use std::process::Abort;
 use worked_texts::{
-    A, B, C, EXCESS, EXCESS_WAY, LINK, METER, PEAK, POLICED, PORT, SHARE, TIGHT_METER, TRUSTED,
-    TWO, TWO_RATES, U,
+    A, B, C, EXCESS, EXCESS_WAY, LINK, LOW_METER, METER, PEAK, PEAKED, PLAIN, POLICED, PORT, SHARE,
+    SINGLE_RATE, TRUSTED, TWO, TWO_RATES, U,
 };
-
-/// A meter of a single rate, and a link to it without jitter.
-const SINGLE_RATE: &str = r#"
-meter = [{ name = "m", kind = "srtcm", cir = 24000, cbs = 2000, ebs = 1000, skew = 0 }]
-port = [{ name = "p", skew = 0 }]
-link = [{ from = "p", to = "m", floor = 0, jitter = 0 }]
-"#;
-
-/// The envelope of a contract without a peak, and of one with a peak.
-const PLAIN: &str = "cir = 8000\ncbs = 1001\n";
-
-const PEAKED: &str = "cir = 8000\ncbs = 100\npir = 8000\npbs = 100\n";
 
 /// Two meters, of which none has a contract.
 const TWO_METERS: &str = r#"
@@ -69,17 +56,7 @@ static WHAT_IS_TAKEN_AND_WHAT_THERE_IS: [Headed; 8] = [
         m AllRate 8000000 8000000\nm AllBurst 2000 2000\n",
     ),
     (
-        &[
-            TIGHT_METER,
-            PORT,
-            LINK,
-            TRUSTED,
-            A,
-            SHARE,
-            TRUSTED,
-            B,
-            SHARE,
-        ],
+        &[LOW_METER, PORT, LINK, TRUSTED, A, SHARE, TRUSTED, B, SHARE],
         "refused 5 GreenBurst m 9000 4500\n",
     ),
 ];
@@ -97,7 +74,7 @@ fn lines(answer: &Result<Vec<u8>, TableFault>) -> &[u8] {
 fn expect_headed(rt: &impl Abort, alloc: Global, (parts, wanted): &Headed) {
     let text = text_of(rt, alloc, parts);
     let answer = headroom(alloc, text.as_str().as_bytes());
-    expect_same(rt, wanted, lines(&answer), wanted.as_bytes());
+    assert_eq!(rt; (wanted, lines(&answer)), (wanted, wanted.as_bytes()));
 }
 
 #[test]
@@ -111,33 +88,12 @@ fn what_is_taken_and_what_there_is(rt: HostRuntime) {
 const ONE_RATE: &str = "kind = \"srtcm\"\ncir = 8000000\ncbs = 1500\nebs = 0\n";
 
 /// One contract over the meter that has room for its burst, and two, and three.
-const TIGHT_ONE: &[&str] = &[TIGHT_METER, PORT, LINK, TRUSTED, A, SHARE];
+const TIGHT_ONE: &[&str] = &[LOW_METER, PORT, LINK, TRUSTED, A, SHARE];
 
-const TIGHT_TWO: &[&str] = &[
-    TIGHT_METER,
-    PORT,
-    LINK,
-    TRUSTED,
-    A,
-    SHARE,
-    TRUSTED,
-    B,
-    SHARE,
-];
+const TIGHT_TWO: &[&str] = &[LOW_METER, PORT, LINK, TRUSTED, A, SHARE, TRUSTED, B, SHARE];
 
 const TIGHT_THREE: &[&str] = &[
-    TIGHT_METER,
-    PORT,
-    LINK,
-    TRUSTED,
-    A,
-    SHARE,
-    TRUSTED,
-    B,
-    SHARE,
-    TRUSTED,
-    C,
-    SHARE,
+    LOW_METER, PORT, LINK, TRUSTED, A, SHARE, TRUSTED, B, SHARE, TRUSTED, C, SHARE,
 ];
 
 /// A contract that a meter of two rates polices, alone.
@@ -202,7 +158,7 @@ fn told(answer: &Result<Quoted, QuoteFault>) -> &[u8] {
 fn expect_told(rt: &impl Abort, alloc: Global, (parts, name, field, wanted): &Quotation) {
     let text = text_of(rt, alloc, parts);
     let answer = quote(alloc, text.as_str().as_bytes(), name.as_bytes(), *field);
-    expect_same(rt, wanted, told(&answer), wanted.as_bytes());
+    assert_eq!(rt; (wanted, told(&answer)), (wanted, wanted.as_bytes()));
 }
 
 #[test]
