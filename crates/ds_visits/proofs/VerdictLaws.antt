@@ -330,9 +330,6 @@ none_late j m place least (a ∷ arrivals) kept after climbs =
     passes : (x y : ℕ) → x ≤ y → nat_le x y ≡ true
     passes x y below = grind (arith, nat_tests)
 
-first_number : List ℕ → Option ℕ
-first_number moments = slice_get moments 0
-
 -- only the first row can be the first that is too late
 rows_told : (j : Journal) (arrivals : List Arrival) → Climbs (map (λ a. a.moment) arrivals)
     → first_found (late_row j) (rows_from j.opening 0 arrivals)

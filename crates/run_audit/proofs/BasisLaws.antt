@@ -12,17 +12,18 @@ use Rattle.std.proofs.lemmas.List.FromFn.{length-enumerate_from}
 use Rattle.std.proofs.lemmas.Map.Entries.{length-values_of}
 use Rattle.std.proofs.lemmas.Option.{slice_get-map, slice_get_within}
 use Rattle.ds_domain_base.specs.declared.contract.Contract.{Contract}
+use Rattle.ds_domain_base.specs.Routes.{route_of}
 use Rattle.ds_checker.specs.Acceptance.{IsAcceptable, Table}
 use Rattle.ds_timeline.specs.Constant.{timeline_of}
 use Rattle.ds_timeline.specs.Kept.{IsNumbered}
-use Rattle.ds_timeline.specs.Timelines.{AreRated, IsCovered, Timeline, reservation_of}
+use Rattle.ds_timeline.specs.Timelines.{AreRated, IsCovered, Timeline, reservation_of, route_in}
 use Rattle.ds_timeline.specs.declared.reservation.Reservation.{Reservation}
 use Rattle.ds_timeline.proofs.ConstantLaws.{covered-constant}
 use Rattle.ds_timeline.proofs.ReservedLaws.{granted-constant, rated-constant}
 use Rattle.meter_fabric_base.specs.Grounds.{Ground, contract_of, flow_count, ground_of, most_flows}
 use Rattle.meter_fabric_base.specs.Openings.{edge_opening, opening_at}
 use Rattle.meter_fabric_base.proofs.GroundLaws.{found_from-at, place_of}
-use Rattle.run_audit.specs.Bases.{IsCounted, IsGranted, ground_along, site_count}
+use Rattle.run_audit.specs.Bases.{IsCounted, IsGranted, ground_along, route_at, site_count}
 
 -- ---- each contract stands at the place of its flow
 
@@ -60,6 +61,11 @@ counted_at g flow counted =
     ap (λ entries. option_map (λ entry. entry.1) (find (λ entry. nat_eq entry.0 flow) entries)) counted
     ∙ ap (λ n. option_map (λ entry. entry.1) (find (λ entry. nat_eq entry.0 n) (enumerate_from 0 (values_of g.contracts)))) place
     ∙ found_from-at 0 (values_of g.contracts) flow
+
+-- where there is a contract, there is its route
+pub route_there : {X Y : Type 0} (c : Option X) (r : Option Y) (f : X → Y) → r ≡ option_map f c → IsSome c → IsSome r
+route_there None r f is there = absurd (false≢true there)
+route_there (Some x) r f is there = rw is refl
 
 slice_get_below : {X : Type 0} (xs : List X) (i : ℕ) → is_some (slice_get xs i) ≡ true → i < length xs
 slice_get_below {X} xs i some = by_found (slice_get xs i) refl some
@@ -128,6 +134,13 @@ same_at flow (r ∷ rs) = by_test (nat_eq r.flow flow) refl (same_at flow rs)
 
 pub line_at : (t : Timeline) (flow : ℕ) → contract_of (ground_along t) flow ≡ option_map (λ r. r.contract) (reservation_of t flow)
 line_at t flow = same_at flow t.reservations
+
+pub line_route : (t : Timeline) (flow : ℕ) → option_map (route_in t.domain) (reservation_of t flow) ≡ route_at (ground_along t) flow
+line_route t flow = twice (reservation_of t flow) ∙ ap (option_map (route_of t.domain)) (sym (line_at t flow))
+  where
+    twice : (o : Option Reservation) → option_map (route_in t.domain) o ≡ option_map (route_of t.domain) (option_map (λ r. r.contract) o)
+    twice None = refl
+    twice (Some r) = refl
 
 pub line_granted : (t : Timeline) → IsCovered t → AreRated t → IsGranted (ground_along t)
 line_granted t covered rated =

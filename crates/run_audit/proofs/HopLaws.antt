@@ -5,8 +5,10 @@ use Rattle.std.specs.List.{All}
 use Rattle.std.proofs.lemmas.List.Elements.{All-head, All-tail, All-weaker}
 use Rattle.std.proofs.lemmas.List.Sorted.{All-permutation}
 use Rattle.moment_core.specs.declared.colour.Colour.{Colour}
-use Rattle.ds_domain_base.specs.Domains.{Domain, link_of}
+use Rattle.ds_domain_base.specs.Domains.{Domain}
+use Rattle.ds_domain_base.specs.Routes.{leg_of, legs_along}
 use Rattle.ds_domain_base.specs.Sent.{came}
+use Rattle.ds_domain_base.specs.declared.route.Leg.{Leg}
 use Rattle.meter_fabric_base.specs.Grounds.{Ground}
 use Rattle.meter_fabric_base.specs.Sites.{hops_along}
 use Rattle.meter_fabric_base.specs.Trails.{IsTrail, Packet}
@@ -14,41 +16,42 @@ use Rattle.meter_fabric_base.specs.declared.trail.Receipt.{Receipt}
 use Rattle.run_audit.specs.Runs.{IsPassage, IsRun, Passage, Run}
 use Rattle.run_audit.specs.Sendings.{Sending, sending_of}
 use Rattle.run_audit.proofs.Passages.{trail_sent}
-use Rattle.run_audit.specs.Hops.{delayed_hop, untimely_hop}
-use Rattle.run_audit.specs.Verdicts.{against_sent, by_number, delayed, first_found, first_of, is_numbered_before, is_over, link_of_run, untimely}
+use Rattle.run_audit.specs.Hops.{delayed_hop, is_over_leg, untimely_on}
+use Rattle.run_audit.specs.Verdicts.{against_sent, by_number, delayed, first_found, first_of, is_numbered_before, link_of_run, untimely}
 use Rattle.run_audit.specs.declared.verdict.Verdict.{Verdict}
 use Rattle.run_audit.specs.declared.verdict.Verdict.TheVariants.{DelayOver}
 use Rattle.run_audit.proofs.OrderLaws.{in_order-permutes}
 
-pub hop_ended : (d : Domain) (from : List ℕ) (path : List (List ℕ)) (moment : ℕ) (rs : List Receipt) → (path ≡ []) ⊎ (rs ≡ []) → untimely_hop d from path moment rs ≡ None
-unfolding untimely_hop
-hop_ended d from path moment [] ended = refl
-hop_ended d from [] moment (r ∷ rs) ended = refl
-hop_ended d from (to ∷ path) moment (r ∷ rs) (inl none) = absurd cc
-hop_ended d from (to ∷ path) moment (r ∷ rs) (inr none) = absurd cc
+pub legs_ended : (legs : List Leg) (moment : ℕ) (rs : List Receipt) → (legs ≡ []) ⊎ (rs ≡ []) → untimely_on legs moment rs ≡ None
+unfolding untimely_on
+legs_ended legs moment [] ended = refl
+legs_ended [] moment (r ∷ rs) ended = refl
+legs_ended (leg ∷ legs) moment (r ∷ rs) (inl none) = absurd cc
+legs_ended (leg ∷ legs) moment (r ∷ rs) (inr none) = absurd cc
 
-pub hop_here : (d : Domain) (from : List ℕ) (to : List ℕ) (path later : List (List ℕ)) (moment : ℕ) (r : Receipt) (rs rest : List Receipt) (over : Bool)
-    → path ≡ to ∷ later → rs ≡ r ∷ rest → over ≡ is_over (link_of d from to) moment r.row.arrival → over ≡ false → untimely_hop d from path moment rs ≡ Some r.row.hop
-unfolding untimely_hop
-hop_here d from to path later moment r rs rest over is_path is_rs is_over late = rw is_path (rw is_rs (rw (← is_over) (rw late refl)))
+pub leg_here : (legs later : List Leg) (leg : Leg) (moment : ℕ) (r : Receipt) (rs rest : List Receipt) (over : Bool)
+    → legs ≡ leg ∷ later → rs ≡ r ∷ rest → over ≡ is_over_leg leg moment r.row.arrival → over ≡ false → untimely_on legs moment rs ≡ Some r.row.hop
+unfolding untimely_on
+leg_here legs later leg moment r rs rest over is_legs is_rs is_over late = rw is_legs (rw is_rs (rw (← is_over) (rw late refl)))
 
-pub hop_on : (d : Domain) (from : List ℕ) (to : List ℕ) (path later : List (List ℕ)) (moment : ℕ) (r : Receipt) (rs rest : List Receipt) (over : Bool)
-    → path ≡ to ∷ later → rs ≡ r ∷ rest → over ≡ is_over (link_of d from to) moment r.row.arrival → over ≡ true
-    → untimely_hop d from path moment rs ≡ untimely_hop d to later r.row.arrival rest
-unfolding untimely_hop
-hop_on d from to path later moment r rs rest over is_path is_rs is_over timely = rw is_path (rw is_rs (rw (← is_over) (rw timely refl)))
+pub leg_on : (legs later : List Leg) (leg : Leg) (moment : ℕ) (r : Receipt) (rs rest : List Receipt) (over : Bool)
+    → legs ≡ leg ∷ later → rs ≡ r ∷ rest → over ≡ is_over_leg leg moment r.row.arrival → over ≡ true
+    → untimely_on legs moment rs ≡ untimely_on later r.row.arrival rest
+unfolding untimely_on
+leg_on legs later leg moment r rs rest over is_legs is_rs is_over timely = rw is_legs (rw is_rs (rw (← is_over) (rw timely refl)))
 
 -- ---- the receipts of a trail know their hops
 
 hops_agree : (d : Domain) (packet : Packet) (number since : ℕ) (colour : Colour) (from : List ℕ) (path : List (List ℕ)) (moment : ℕ) (rs : List Receipt)
-    → IsTrail packet since colour (hops_along d number path) rs → untimely_hop d from path moment rs ≡ untimely d number from path moment rs
-unfolding untimely_hop untimely IsTrail hops_along
-hops_agree d packet number since colour from path moment [] trail = refl
+    → IsTrail packet since colour (hops_along d number path) rs → untimely_on (legs_along d from path) moment rs ≡ untimely d number from path moment rs
+unfolding untimely_on untimely IsTrail hops_along legs_along
+hops_agree d packet number since colour from [] moment [] trail = refl
+hops_agree d packet number since colour from (to ∷ path) moment [] trail = refl
 hops_agree d packet number since colour from [] moment (r ∷ rs) trail = refl
 hops_agree d packet number since colour from (to ∷ path) moment (r ∷ rs) trail =
-    ap (λ further. if is_over (link_of d from to) moment r.row.arrival then further else Some r.row.hop)
+    ap (λ further. if is_over_leg (leg_of d from to) moment r.row.arrival then further else Some r.row.hop)
     (hops_agree d packet (suc number) r.row.arrival r.row.left to path r.row.arrival rs trail.1)
-    ∙ ap (λ hop. if is_over (link_of d from to) moment r.row.arrival then untimely d (suc number) to path r.row.arrival rs else Some hop) (ap (λ a. a.hop) trail.0.arrival)
+    ∙ ap (λ hop. if is_over_leg (leg_of d from to) moment r.row.arrival then untimely d (suc number) to path r.row.arrival rs else Some hop) (ap (λ a. a.hop) trail.0.arrival)
 
 sent_agree : (find other : Sending → Option Verdict) (o : Option Sending) → ((s : Sending) → o ≡ Some s → find s ≡ other s) → option_and_then find o ≡ option_and_then other o
 sent_agree find other None same = refl

@@ -1,14 +1,13 @@
 -- What is known of journals that are one for each site, and of a front of them.
-use Rattle.std.proofs.Common.{◌≡◌, ⊎_elim, ℕ, ◌+◌, ◌<◌, not, Bool, true, false, List, [], ◌∷◌, ◌++◌, map, length, take, get_or, refl, sym, ◌∙◌, ap, arith, Some}
-use Rattle.std.specs.Prelude.{nat_eq, slice_get, position, AllPairs, Contains, IsTrue, if◌then◌else◌}
-use Rattle.std.specs.List.{list_any}
-use Rattle.std.proofs.lemmas.Bool.{cases_lt, cases_eq, true≢false}
+use Rattle.std.proofs.Common.{◌≡◌, ⊎_elim, inl, inr, ℕ, suc, ◌+◌, ◌<◌, not, Bool, true, false, List, [], ◌∷◌, map, length, take, get_or, refl, sym, ◌∙◌, ap, arith, Some, None}
+use Rattle.std.specs.Prelude.{◌||◌, Option, cond, is_some, nat_eq, nat_lt, slice_get, position, AllPairs, Contains, IsTrue}
+use Rattle.std.specs.List.{list_any, prefix_len}
+use Rattle.std.proofs.lemmas.Bool.{cases_Bool, cases_lt, cases_eq, true≢false}
 use Rattle.std.proofs.lemmas.Bool.Decides.{nat_tests}
 use Rattle.std.proofs.lemmas.List.{get_or-map, get_or-take, get_or_default, length-map, length-take, take_more}
 use Rattle.std.proofs.lemmas.List.Elements.{at_from_Contains}
 use Rattle.std.proofs.lemmas.List.Folds.{Any-from_list_any, list_any_at}
 use Rattle.std.proofs.lemmas.List.Quantifiers.{all_pairs_push, position-Some}
-use Rattle.indexmap.specs.IndexSet.{insert_key}
 use Rattle.meter_book.specs.Replay.{Journal, journal_rows}
 use Rattle.meter_fabric_base.specs.declared.trail.Receipt.{Receipt}
 use Rattle.run_audit.specs.Assembling.{IsNoted}
@@ -17,9 +16,6 @@ use Rattle.run_audit.specs.Assembling.{IsNoted}
 
 abbrev pub HaveOwnSites : List Journal → Type 0
 HaveOwnSites journals = AllPairs (λ j k. ¬ (j.site ≡ k.site)) journals
-
-site_map : Journal → ℕ
-site_map j = j.site
 
 -- the place of a journal of a site among the sites
 site_among : (journals : List Journal) (site : ℕ) → list_any (nat_eq site) (map (λ j. j.site) journals) ≡ true
@@ -53,17 +49,6 @@ own_site_more journals i j inside is none once =
     (let at_place = get_or-map (λ (x : Journal). x.site) (take i journals) k d 0 short in let e = at_place ∙ same in grind (arith, nat_tests))
     in
     true≢false (sym there ∙ none)))
-
-pub sites_more : (journals : List Journal) (keys more : List ℕ) (i : ℕ) (j : Journal) → i < length journals → j ≡ get_or journals i j
-    → keys ≡ map (λ j. j.site) (take i journals) → more ≡ keys ++ j.site ∷ []
-    → more ≡ map (λ j. j.site) (take (i + 1) journals)
-sites_more journals keys more i j inside is kept pushed =
-    let whole : take (i + 1) journals ≡ take i journals ++ j ∷ [] = take_more journals i j inside ∙ ap (λ (x : Journal). take i journals ++ x ∷ []) (sym is) in
-    rw (whole, pushed, kept) (map_push (take i journals) j)
-  where
-    map_push : (js : List Journal) (x : Journal) → map (λ j. j.site) js ++ x.site ∷ [] ≡ map (λ j. j.site) (js ++ x ∷ [])
-    map_push [] x = refl
-    map_push (y ∷ js) x = ap (λ l. y.site ∷ l) (map_push js x)
 
 -- of two journals of a site one is the other
 pub same_journal : (journals : List Journal) (j k : Journal) → HaveOwnSites journals → Contains journals j → Contains journals k → j.site ≡ k.site → j ≡ k
@@ -139,5 +124,54 @@ pub was_new : (added there : Bool) → added ≡ not there → added ≡ true �
 was_new added true is new = absurd (true≢false (sym new ∙ is))
 was_new added false is new = refl
 
-pub pushed_key : (keys more : List ℕ) (x : ℕ) → more ≡ insert_key nat_eq keys x → list_any (nat_eq x) keys ≡ false → more ≡ keys ++ x ∷ []
-pushed_key keys more x is none = is ∙ ap (λ there. if there then keys else keys ++ x ∷ []) none
+-- ---- numbers that are looked for one by one
+
+flips : (a b : ℕ) → nat_eq a b ≡ nat_eq b a
+flips a b = grind (arith, nat_tests)
+
+prefix_shown : {A : Type 0} (key : A → ℕ) (n : ℕ) (xs : List A) → prefix_len (λ x. not (nat_eq (key x) n)) xs ≡ prefix_len (λ m. not (nat_eq n m)) (map key xs)
+prefix_shown key n [] = refl
+prefix_shown key n (x ∷ xs) =
+    ap (λ here. cond (not here) (1 + prefix_len (λ y. not (nat_eq (key y) n)) xs) 0) (flips (key x) n)
+    ∙ ap (λ rest. cond (not (nat_eq n (key x))) (1 + rest) 0) (prefix_shown key n xs)
+
+-- the place of what shows a number is that of the number among all that they show
+pub place_shown : {A : Type 0} (key : A → ℕ) (n : ℕ) (xs : List A) → position (λ x. nat_eq (key x) n) xs ≡ position (nat_eq n) (map key xs)
+place_shown key n xs =
+    ap (λ k. cond (nat_lt k (length xs)) (Some k) None) (prefix_shown key n xs)
+    ∙ ap (λ l. cond (nat_lt (prefix_len (λ m. not (nat_eq n m)) (map key xs)) l) (Some (prefix_len (λ m. not (nat_eq n m)) (map key xs))) None) (sym (length-map xs key))
+
+-- and one of them shows it exactly where it is among these
+pub any_shown : {A : Type 0} (key : A → ℕ) (n : ℕ) (xs : List A) → list_any (λ x. nat_eq (key x) n) xs ≡ list_any (nat_eq n) (map key xs)
+any_shown key n [] = refl
+any_shown key n (x ∷ xs) = ap (λ here. here || list_any (λ y. nat_eq (key y) n) xs) (flips (key x) n) ∙ ap (λ rest. nat_eq n (key x) || rest) (any_shown key n xs)
+
+-- what is looked for has a place exactly where one passes
+front_short : {A : Type 0} (p : A → Bool) (xs : List A) → nat_lt (prefix_len (λ x. not (p x)) xs) (length xs) ≡ list_any p xs
+front_short p [] = refl
+front_short p (x ∷ xs) = elim (cases_Bool (p x)) [
+  | inl passes ↦ rw passes (first (length xs))
+  | inr fails ↦ rw fails (next (prefix_len (λ y. not (p y)) xs) (length xs) ∙ front_short p xs)
+]
+  where
+    first : (l : ℕ) → nat_lt 0 (suc l) ≡ true
+    first l = grind (arith, nat_tests)
+
+    next : (n l : ℕ) → nat_lt (1 + n) (suc l) ≡ nat_lt n l
+    next n l = grind (arith, nat_tests)
+
+some_cond : (b : Bool) (k : ℕ) → is_some (cond b (Some k) None) ≡ b
+some_cond true k = refl
+some_cond false k = refl
+
+pub place_found : {A : Type 0} (p : A → Bool) (xs : List A) → is_some (position p xs) ≡ list_any p xs
+place_found p xs = some_cond (nat_lt (prefix_len (λ x. not (p x)) xs) (length xs)) (prefix_len (λ x. not (p x)) xs) ∙ front_short p xs
+
+pub no_place : {A : Type 0} (key : A → ℕ) (n : ℕ) (xs : List A) (place : Option ℕ) (none : Bool) → place ≡ position (λ x. nat_eq (key x) n) xs → is_some place ≡ not none
+    → none ≡ not (list_any (nat_eq n) (map key xs))
+no_place key n xs place none is is_none =
+    twice none ∙ ap not (sym is_none) ∙ ap (λ o. not (is_some o)) is ∙ ap not (place_found (λ x. nat_eq (key x) n) xs ∙ any_shown key n xs)
+  where
+    twice : (b : Bool) → b ≡ not (not b)
+    twice true = refl
+    twice false = refl

@@ -8,10 +8,10 @@ pub mod HopLaws
 pub mod Inputs
 pub mod JournalLaws
 pub mod Journals
+pub mod LeastLaws
 pub mod Loads
 pub mod MemberLaws
 pub mod OrderLaws
-pub mod PathLaws
 pub mod Passages
 pub mod Peaks
 pub mod Places

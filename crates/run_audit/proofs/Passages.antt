@@ -96,11 +96,6 @@ IsNoBetter-trans Red Green c ab bc = absurd ab
 IsNoBetter-trans Red Yellow c ab bc = absurd ab
 IsNoBetter-trans Red Red c ab bc = bc
 
-IsNoBetter-refl : (a : Colour) → IsNoBetter a a
-IsNoBetter-refl Green = tt
-IsNoBetter-refl Yellow = tt
-IsNoBetter-refl Red = tt
-
 -- where no meter improves a colour, a packet comes in with the colour that it was sent with, or a worse one
 pub comes_no_better : (d : Domain) (packet : Packet) (number moment : ℕ) (sent colour : Colour) (path : List (List ℕ)) (rs : List Receipt)
     → IsTrail packet moment colour (hops_along d number path) rs

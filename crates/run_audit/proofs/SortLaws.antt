@@ -2,18 +2,14 @@
 use Rattle.std.proofs.Common.{◌≡◌, ℕ, suc, ◌+◌, ◌<◌, ◌⊎◌, inl, inr, Bool, true, false, eqb, List, [], ◌∷◌, map, length, get_or, refl, ap, ◌∙◌, arith}
 use Rattle.std.specs.Prelude.{◌||◌, ◌&&◌, nat_eq, nat_lt, AllPairs, IsPermutation}
 use Rattle.std.specs.List.{All, AllByRecursion, IsDistinct}
-use Rattle.std.specs.List.Sorted.{IsNonDecreasing, IsNonDecreasingBy}
 use Rattle.std.specs.Ordering.{is_lt, nat_cmp, ordering_then}
 use Rattle.std.proofs.lemmas.Bool.Decides.{nat_tests}
-use Rattle.std.proofs.lemmas.List.{get_or-map, length-map}
 use Rattle.std.proofs.lemmas.List.Elements.{All-cons, All-weaker}
-use Rattle.std.proofs.lemmas.List.Kept.{AllPairs-from_increasing}
 use Rattle.std.proofs.lemmas.List.Sorted.{Contains-permutation, IsPermutation-map, IsPermutation-sym}
-use Rattle.std.proofs.lemmas.Map.Keys.{IsDistinct-IsPermutation, IsStrictlyIncreasing-from_distinct}
+use Rattle.std.proofs.lemmas.Map.Keys.{IsDistinct-IsPermutation}
 use Rattle.run_audit.specs.Runs.{Passage}
-use Rattle.run_audit.specs.Orders.{in_order}
 use Rattle.run_audit.specs.Standings.{by_contract, stands_before}
-use Rattle.run_audit.proofs.OrderLaws.{AreApart, Ascends, IsOrder, ascends-from_pairs, in_order-is}
+use Rattle.run_audit.proofs.OrderLaws.{AreApart, Ascends, IsOrder, in_order-is}
 
 -- ---- elements with keys that differ
 
@@ -39,34 +35,6 @@ distinct_keys key (x ∷ xs) apart = (
   distinct_keys key xs (λ i j d below short. apart (suc i) (suc j) d (omega (arith, below)) (omega (arith, short))),
 )
 
-keys_rise : {A : Type 0} (key : A → ℕ) (xs : List A) → IsNonDecreasingBy key xs → IsNonDecreasing (map key xs)
-keys_rise key [] rises i j d below short = absurd (omega (arith, short))
-keys_rise key (x ∷ xs) rises i j d below short =
-    let fits : j < length (x ∷ xs) = omega (arith, short, length-map (x ∷ xs) key) in
-    let at_i = get_or-map key (x ∷ xs) i x d (omega (arith, below, fits)) in
-    let at_j = get_or-map key (x ∷ xs) j x d fits in
-    omega (arith, rises i j x below fits, at_i, at_j)
-
--- keys that do not fall and differ rise
-pub keys_ascend : {A : Type 0} (key : A → ℕ) (xs ys : List A) → IsPermutation xs ys → Differ key xs → IsNonDecreasingBy key ys → Ascends (λ x y. nat_lt (key x) (key y)) ys
-keys_ascend {A} key xs ys moved apart rises =
-    ascends-from_pairs (λ x y. nat_lt (key x) (key y)) ys
-    (λ i j d below short. rise i j d below short
-    (AllPairs-from_increasing (map key ys)
-    (IsStrictlyIncreasing-from_distinct (map key ys) (keys_rise key ys rises)
-    (IsDistinct-IsPermutation eqb eqb_flips (map key xs) (map key ys) (IsPermutation-map key xs ys moved) (distinct_keys key xs apart)))
-    i j (key d) below (omega (arith, short, length-map ys key))))
-  where
-    eqb_flips : (m n : ℕ) → eqb m n ≡ eqb n m
-    eqb_flips m n = grind (arith, nat_tests)
-
-    rise : (i j : ℕ) (d : A) → i < j → j < length ys → get_or (map key ys) i (key d) < get_or (map key ys) j (key d)
-        → nat_lt (key (get_or ys i d)) (key (get_or ys j d)) ≡ true
-    rise i j d below short less =
-        let at_i = get_or-map key ys i d (key d) (omega (arith, below, short)) in
-        let at_j = get_or-map key ys j d (key d) short in
-        grind (arith, nat_tests, less, at_i, at_j)
-
 -- ---- the order of keys
 
 pub key_order : {A : Type 0} (key : A → ℕ) → IsOrder (λ x y. nat_lt (key x) (key y))
@@ -90,30 +58,6 @@ either_way m n apart = by_test (nat_lt m n) refl
       where
         behind : ¬ (m ≡ n) → nat_lt m n ≡ false → nat_lt n m ≡ true
         behind apart last = grind (arith, nat_tests)
-
--- a list that is sorted by keys that differ is any list of the same elements in order
-pub sorted_is_in_order : {A : Type 0} (key : A → ℕ) (xs ys : List A) → IsPermutation xs ys → Differ key xs → IsNonDecreasingBy key ys
-    → ys ≡ in_order (λ x y. nat_lt (key x) (key y)) xs
-sorted_is_in_order key xs ys moved apart rises =
-    in_order-is (λ x y. nat_lt (key x) (key y)) (key_order key) xs ys
-    (λ i j d below short. either_way (key (get_or xs i d)) (key (get_or xs j d)) (apart i j d below short))
-    (keys_ascend key xs ys moved apart rises)
-    (λ z. Contains-permutation xs ys z moved)
-    (λ z. Contains-permutation ys xs z (IsPermutation-sym xs ys moved))
-
--- what is sorted by a key of what references show, once it is shown
-pub shown_sorted : {A B : Type 0} (key : B → ℕ) (show : A → B) (bs : List B) (xs ys : List A) → map show xs ≡ bs → IsPermutation xs ys → Differ key bs
-    → IsNonDecreasingBy (λ x. key (show x)) ys → map show ys ≡ in_order (λ x y. nat_lt (key x) (key y)) bs
-shown_sorted key show bs xs ys same moved apart rises =
-    rw (← same) (sorted_is_in_order key (map show xs) (map show ys) (IsPermutation-map show xs ys moved) (rw same apart) (shown_rises key show ys rises))
-  where
-    shown_rises : {A B : Type 0} (key : B → ℕ) (show : A → B) (ys : List A) → IsNonDecreasingBy (λ x. key (show x)) ys → IsNonDecreasingBy key (map show ys)
-    shown_rises key show [] rises i j d below short = absurd (omega (arith, short))
-    shown_rises key show (y ∷ ys) rises i j d below short =
-        let fits : j < length (y ∷ ys) = omega (arith, short, length-map (y ∷ ys) show) in
-        let at_i = ap key (get_or-map show (y ∷ ys) i y d (omega (arith, below, fits))) in
-        let at_j = ap key (get_or-map show (y ∷ ys) j y d fits) in
-        omega (arith, rises i j y below fits, at_i, at_j)
 
 -- what is shown of what references tell
 pub shown_told : {A B C : Type 0} (tell : A → B) (show : B → C) (xs : List A) (ys : List B) (zs : List C) → map tell xs ≡ ys → map show ys ≡ zs → map (λ x. show (tell x)) xs ≡ zs

@@ -1,5 +1,5 @@
 -- Trails that are sound, one after the other, and the first that is wrong.
-use Rattle.std.proofs.Common.{◌≡◌, ℕ, ◌+◌, ◌<◌, true, false, List, [], ◌∷◌, ◌++◌, map, length, take, drop, get_or, sym, ◌∙◌, ap, subst, arith}
+use Rattle.std.proofs.Common.{◌≡◌, ℕ, ◌+◌, ◌<◌, true, false, List, [], ◌∷◌, ◌++◌, map, length, take, drop, get_or, refl, sym, ◌∙◌, ap, subst, arith}
 use Rattle.std.specs.Prelude.{nat_eq}
 use Rattle.std.specs.List.{list_any}
 use Rattle.std.proofs.lemmas.Bool.{true≢false}
@@ -56,11 +56,9 @@ AreSound-more g journals trails i trail inside is sound new own =
       all_pairs_push (λ (p q : Passage). ¬ (p.packet.number ≡ q.packet.number)) (front_of trails i) (passage_of trail) sound.1 (λ k d within. new k d within),
     )
 
-pub numbers_more : (trails : List Trail) (i : ℕ) (trail : Trail) (keys more : List ℕ) → i < length trails → trail ≡ get_or trails i trail
-    → keys ≡ map number_of (front_of trails i) → more ≡ keys ++ trail.packet ∷ []
-    → more ≡ map number_of (front_of trails (i + 1))
-numbers_more trails i trail keys more inside is kept pushed =
-    pushed ∙ ap (λ ns. ns ++ trail.packet ∷ []) kept ∙ sym (map-append number_of (front_of trails i) (passage_of trail ∷ [])) ∙ ap (map number_of) (sym (front_more trails i trail inside is))
+pub numbers_of : (trails : List Trail) → map number_of (map passage_of trails) ≡ map (λ trail. trail.packet) trails
+numbers_of [] = refl
+numbers_of (trail ∷ trails) = ap (λ numbers. trail.packet ∷ numbers) (numbers_of trails)
 
 pub first_wrong : (g : Ground) (journals : List Journal) (trails : List Trail) (i : ℕ) (trail : Trail) (Wrong : List Passage → Passage → Type 0)
     → i < length trails → trail ≡ get_or trails i trail

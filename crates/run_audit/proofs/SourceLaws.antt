@@ -289,7 +289,7 @@ shown-same f g (x ∷ xs) (Some zero) same = ap Some (All-head (λ y. f y ≡ g 
 shown-same f g (x ∷ xs) (Some (suc i)) same = shown-same f g xs (Some i) (All-tail (λ y. f y ≡ g y) x xs same)
 
 in-standing : (g : Ground) (run : Run) → IsRun g run → (n : ℕ) (c : Contract) (column : Column) → IsTrusted c.terms
-    → spilled_in g.domain c (filter (is_of n) (by_contract run.passages)) column ≡ over_in g run n c column
+    → spilled_in (source_of g.domain c) c (filter (is_of n) (by_contract run.passages)) column ≡ over_in g run n c column
 in-standing g run is_run n c column trusted =
     let curve = envelope_in column (source_of g.domain c) in
     let own = filter (is_of n) (by_contract run.passages) in
@@ -316,7 +316,7 @@ found_same find other same (x ∷ xs) = ap (λ here. first_of here (first_found 
 by-standing : (g : Ground) (run : Run) → IsRun g run → (n : ℕ) (c : Contract) (terms : Terms) → c.terms ≡ terms
     → spilled_by terms g.domain c (filter (is_of n) (by_contract run.passages)) ≡ over_by terms g run n c
 by-standing g run is_run n c (Trusted committed peak) is =
-    found_same (spilled_in g.domain c (filter (is_of n) (by_contract run.passages))) (over_in g run n c)
+    found_same (spilled_in (source_of g.domain c) c (filter (is_of n) (by_contract run.passages))) (over_in g run n c)
     (λ column. in-standing g run is_run n c column (subst IsTrusted (sym is) tt)) each_column
 by-standing g run is_run n c (Policed parameters mode) is = refl
 

@@ -1,34 +1,61 @@
 -- Trails, hop by hop.
-use Rattle.std.proofs.Common.{◌≡◌, ℕ, ◌+◌, ◌-◌, ◌<◌, ◌≤◌, zero, suc, List, [], ◌∷◌, length, drop, get_or, refl, sym, ◌∙◌, ap, arith, Some, None}
-use Rattle.std.specs.Prelude.{option_map, slice_get}
+use Rattle.std.proofs.Common.{◌≡◌, ℕ, ◌+◌, ◌-◌, ◌<◌, ◌≤◌, zero, suc, List, [], ◌∷◌, ◌++◌, length, drop, get_or, refl, sym, ◌∙◌, ap, arith, Some, None}
+use Rattle.std.specs.Prelude.{option_map, position, slice_get, unwrap_or, Option}
+use Rattle.std.specs.Map.{keys_of}
+use Rattle.std.specs.Str.{bytes_eq}
+use Rattle.std.proofs.lemmas.List.Quantifiers.{position-Some}
+use Rattle.std.proofs.lemmas.Map.Entries.{length-keys_of}
 use Rattle.std.proofs.lemmas.List.{drop_all, drop_more, length-drop}
 use Rattle.std.proofs.lemmas.Option.{get_or_from_slice_get, slice_get_within}
 use Rattle.moment_core.specs.declared.colour.Colour.{Colour}
 use Rattle.ds_domain_base.specs.Domains.{Domain}
+use Rattle.ds_domain_base.specs.Routes.{AreInside, legs_along}
+use Rattle.ds_domain_base.specs.declared.contract.Contract.{Contract}
+use Rattle.ds_domain_base.specs.declared.route.Leg.{Leg}
 use Rattle.meter_fabric_base.proofs.TrailLaws.{IsTrail-none}
-use Rattle.meter_fabric_base.specs.Sites.{hops_along, site_of}
+use Rattle.meter_fabric_base.specs.Sites.{edge_hops, hops_along, hops_of, site_of}
 use Rattle.meter_fabric_base.specs.Trails.{IsReceipt, IsTrail, Packet}
 use Rattle.meter_fabric_base.specs.declared.hop.Hop.{Hop}
 use Rattle.meter_fabric_base.specs.declared.trail.Receipt.{Receipt}
+use Rattle.run_audit.specs.Hops.{hops_on}
 
--- the hops of a path, one by one
-abbrev pub hop_of : Domain → ℕ → List ℕ → Hop
-hop_of d number name = record { number = number; site = site_of d name }
+-- ---- the hops of legs, one by one
 
-hop_along : (d : Domain) (number place : ℕ) (path : List (List ℕ)) → slice_get (hops_along d number path) place ≡ option_map (hop_of d (place + number)) (slice_get path place)
-unfolding hops_along
-hop_along d number place [] = refl
-hop_along d number zero (name ∷ path) = let same : number ≡ 0 + number = omega arith in ap (λ n. Some (hop_of d n name)) same
-hop_along d number (suc place) (name ∷ path) =
+hop_on : (number place : ℕ) (legs : List Leg) → slice_get (hops_on number legs) place ≡ option_map (λ (leg : Leg). record { number = place + number; site = leg.place }) (slice_get legs place)
+unfolding hops_on
+hop_on number place [] = refl
+hop_on number zero (leg ∷ legs) = let same : number ≡ 0 + number = omega arith in ap (λ n. Some (record { number = n; site = leg.place })) same
+hop_on number (suc place) (leg ∷ legs) =
     let same : place + suc number ≡ suc place + number = omega arith in
-    hop_along d (suc number) place path ∙ ap (λ n. option_map (hop_of d n) (slice_get path place)) same
+    hop_on (suc number) place legs ∙ ap (λ n. option_map (λ (leg : Leg). record { number = n; site = leg.place }) (slice_get legs place)) same
 
-pub meter_hop_at : (d : Domain) (path : List (List ℕ)) (place : ℕ) (name : List ℕ) → slice_get path place ≡ Some name
-    → slice_get (hops_along d 1 path) place ≡ Some (hop_of d (place + 1) name)
-meter_hop_at d path place name is = hop_along d 1 place path ∙ ap (option_map (hop_of d (place + 1))) is
+pub leg_hop_at : (legs : List Leg) (place : ℕ) (leg : Leg) → slice_get legs place ≡ Some leg → slice_get (hops_on 1 legs) place ≡ Some (record { number = place + 1; site = leg.place })
+leg_hop_at legs place leg is = hop_on 1 place legs ∙ ap (option_map (λ (leg : Leg). record { number = place + 1; site = leg.place })) is
 
-pub no_hop_at : (d : Domain) (path : List (List ℕ)) (place : ℕ) → slice_get path place ≡ None → slice_get (hops_along d 1 path) place ≡ None
-no_hop_at d path place none = hop_along d 1 place path ∙ ap (option_map (hop_of d (place + 1))) none
+pub no_hop_at : (legs : List Leg) (place : ℕ) → slice_get legs place ≡ None → slice_get (hops_on 1 legs) place ≡ None
+no_hop_at legs place none = hop_on 1 place legs ∙ ap (option_map (λ (leg : Leg). record { number = place + 1; site = leg.place })) none
+
+-- those of the legs of a path are those of the path
+pub hops_on-legs : (d : Domain) (number : ℕ) (from : List ℕ) (path : List (List ℕ)) → hops_on number (legs_along d from path) ≡ hops_along d number path
+unfolding hops_on legs_along hops_along
+hops_on-legs d number from [] = refl
+hops_on-legs d number from (to ∷ path) = ap (λ hops. record { number = number; site = site_of d to } ∷ hops) (hops_on-legs d (suc number) to path)
+
+-- those over an edge, if there is one, and on the legs of a contract's route are those of its way
+pub way_is : (d : Domain) (flow : ℕ) (c : Contract) (edge : List Hop) (legs : List Leg) → edge ≡ edge_hops d flow c.terms → legs ≡ legs_along d c.port c.path
+    → edge ++ hops_on 1 legs ≡ hops_of d flow c
+way_is d flow c edge legs is_edge is_legs =
+    ap (λ front. front ++ hops_on 1 legs) is_edge ∙ ap (λ back. edge_hops d flow c.terms ++ hops_on 1 back) is_legs ∙ ap (λ back. edge_hops d flow c.terms ++ back) (hops_on-legs d 1 c.port c.path)
+
+-- the number of a site fits
+pub legs_inside : (d : Domain) (from : List ℕ) (path : List (List ℕ)) → length d.meters ≤ 1024 → AreInside 4294967296 (legs_along d from path)
+unfolding legs_along
+legs_inside d from [] few = tt
+legs_inside d from (to ∷ path) few = (by_place (position (bytes_eq to) (keys_of d.meters)) refl, legs_inside d to path few)
+  where
+    by_place : (at : Option ℕ) → position (bytes_eq to) (keys_of d.meters) ≡ at → unwrap_or at 0 < 4294967296
+    by_place None at = omega arith
+    by_place (Some place) at = omega (arith, (position-Some (bytes_eq to) (keys_of d.meters) place [] at).0, length-keys_of d.meters, few)
 
 drop_at : {X : Type 0} (xs : List X) (i : ℕ) (x : X) → slice_get xs i ≡ Some x → drop i xs ≡ x ∷ drop (i + 1) xs
 drop_at xs i x is = drop_more xs i x (slice_get_within xs i x is) ∙ ap (λ y. y ∷ drop (i + 1) xs) (get_or_from_slice_get xs i x x is)

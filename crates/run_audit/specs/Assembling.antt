@@ -1,6 +1,8 @@
 -- What stands against journals and trails: in this order, a mismatch of the journals, then the first trail that is
 -- wrong, then rows that no trail tells.
-use Rattle.std.specs.Prelude.{◌≡◌, ◌⊎◌, List, ◌∷◌, ◌++◌, All, AllPairs, Contains, IsPermutation, Some, slice_get}
+use Rattle.std.specs.Prelude.{◌≡◌, ◌⊎◌, ℕ, List, ◌∷◌, ◌++◌, All, AllPairs, Contains, IsPermutation, Option, Some, IfSome}
+use Rattle.std.specs.Prelude.{slice_get}
+use Rattle.indexmap.specs.IndexSet.{IndexSet}
 use Rattle.meter_book.specs.Replay.{Journal, journal_rows}
 use Rattle.meter_fabric_base.specs.Grounds.{Ground}
 use Rattle.meter_fabric_base.specs.declared.trail.Receipt.{Receipt}
@@ -39,11 +41,16 @@ pub record IsFirstWrong (g : Ground) (run : Run) (Wrong : List Passage → Passa
 abbrev pub AreTold : Run → Type 0
 AreTold run = All (λ j. IsPermutation (told j.site run.passages) (journal_rows j)) run.journals
 
--- What is answered where journals and trails are no run. A number that stood before counts first. Memory may run out.
+-- What is answered where journals and trails are no run. A number that stood before counts first. Want of memory refuses
+-- nothing.
 abbrev pub IsRefusal : Ground → Run → AssembleFault → Type 0
 IsRefusal g run Mismatch =
     (¬ AreJournals g run.journals)
     ⊎ (AreJournals g run.journals × IsFirstWrong g run (λ front p. IsNew front p × ¬ IsSound g run.journals p))
 IsRefusal g run Doubled = AreJournals g run.journals × IsFirstWrong g run (λ front p. ¬ IsNew front p)
 IsRefusal g run Untold = AreJournals g run.journals × AreSound g run.journals run.passages × ¬ AreTold run
-IsRefusal g run NoMemory = Unit {0}
+IsRefusal g run NoMemory = ⊥
+
+-- a set of numbers, if there is one, is of these in their order
+abbrev pub Knows : {S : Type 0} → Option (IndexSet ℕ S) → List ℕ → Type 0
+Knows numbers keys = IfSome numbers (λ set. set.keys ≡ keys)

@@ -1,9 +1,10 @@
 -- What an audited run stands on: a table that stays as it is, or a timeline of contracts that come and go.
-use Rattle.std.specs.Prelude.{◌≡◌, ℕ, ◌+◌, length, map}
+use Rattle.std.specs.Prelude.{◌≡◌, ℕ, ◌+◌, length, map, option_map, Option}
 use Rattle.std.specs.List.{enumerate_from}
 use Rattle.std.specs.Map.{values_of}
+use Rattle.ds_domain_base.specs.Routes.{Route, route_of}
 use Rattle.ds_timeline.specs.Timelines.{AreRated, IsCovered, Timeline}
-use Rattle.meter_fabric_base.specs.Grounds.{Ground, ground_of}
+use Rattle.meter_fabric_base.specs.Grounds.{Ground, contract_of, ground_of}
 use Rattle.run_audit.specs.KeptColours.{WasGranted}
 use Rattle.run_audit.specs.declared.basis.Ground as bases
 use Rattle.run_audit.specs.declared.basis.Ground.TheVariants.{Table, Line}
@@ -16,6 +17,10 @@ ground_along t = record { domain = t.domain; contracts = map (λ r. (r.flow, r.c
 abbrev pub basis_of : bases.Ground → Ground
 basis_of (Table accepted) = ground_of accepted.now
 basis_of (Line timeline) = ground_along timeline.now
+
+-- the route of the contract of a flow, if there is one
+abbrev pub route_at : Ground → ℕ → Option Route
+route_at g flow = option_map (route_of g.domain) (contract_of g flow)
 
 -- the flow of each contract is its place
 abbrev pub IsCounted : Ground → Type 0

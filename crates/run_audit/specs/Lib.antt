@@ -8,8 +8,8 @@ pub mod Hops
 pub mod Kept
 pub mod KeptColours
 pub mod Laws
+pub mod Leasts
 pub mod Orders
-pub mod Paths
 pub mod PolicedExample
 pub mod Premises
 pub mod Runs

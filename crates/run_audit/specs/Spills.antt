@@ -13,6 +13,7 @@ use Rattle.ds_domain_base.specs.declared.terms.Terms.{Terms}
 use Rattle.ds_domain_base.specs.declared.terms.Terms.TheVariants.{Trusted, Policed}
 use Rattle.ds_certificate.specs.Columns.{envelope_in}
 use Rattle.ds_certificate.specs.Sources.{source_of}
+use Rattle.ds_certificate.specs.declared.source.Source.{Source}
 use Rattle.run_audit.specs.Runs.{Passage}
 use Rattle.run_audit.specs.Verdicts.{first_found, first_of}
 use Rattle.run_audit.specs.declared.verdict.Verdict.{Verdict}
@@ -33,13 +34,14 @@ spilled curve column c level since (p ∷ ps) =
     else
     spilled curve column c level since ps
 
-abbrev pub spilled_in : Domain → Contract → List Passage → Column → Option Verdict
-spilled_in d c own column =
+-- of a contract with a source
+abbrev pub spilled_in : Source → Contract → List Passage → Column → Option Verdict
+spilled_in source c own column =
     option_map (λ p. SourceOver p.packet.flow column p.packet.number)
-    (spilled (envelope_in column (source_of d c)) column c 0 0 own)
+    (spilled (envelope_in column source) column c 0 0 own)
 
 abbrev pub spilled_by : Terms → Domain → Contract → List Passage → Option Verdict
-spilled_by (Trusted committed peak) d c own = first_found (spilled_in d c own) each_column
+spilled_by (Trusted committed peak) d c own = first_found (spilled_in (source_of d c) c own) each_column
 spilled_by (Policed parameters mode) d c own = None
 
 -- how many packets stand in front of those of later contracts

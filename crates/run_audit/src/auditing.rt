@@ -1,18 +1,14 @@
-ghost use Rattle.std.specs.Prelude.{◌≡◌, ◌↔◌, IfOk, map};
+ghost use Rattle.std.specs.Prelude.{◌≡◌, ◌↔◌, IfOk};
 ghost use Rattle.run_audit.specs.KeptColours.{ColoursKept};
 ghost use Rattle.run_audit.specs.Premises.{Premises};
-ghost use Rattle.run_audit.specs.Assembled.{passage_of};
-ghost use Rattle.run_audit.specs.Verdicts.{by_number, first_of, link_of_run, skew_of_run, source_of_run, time_of};
-ghost use Rattle.run_audit.specs.Verdicts.{verdict_of};
+ghost use Rattle.run_audit.specs.Verdicts.{first_of, link_of_run, skew_of_run, source_of_run, time_of, verdict_of};
 
-use crate::links::first_delayed;
-use crate::orders::{by_contract, by_number, by_site};
+use crate::orders::by_contract;
+use crate::packets::found_in;
 use crate::run::Run;
 use crate::skews::first_late;
 use crate::sources::first_spilled;
-use crate::times::first_outside;
 use crate::verdict::Verdict;
-use meter_fabric_base::Trail;
 use std::alloc::{AllocError, Global};
 
 /// Judges a run: whether it kept what its table rests on, or the first premise that it broke, with its place.
@@ -44,28 +40,18 @@ fn first_broken(alloc: Global, run: &Run<'_>) -> Result<Option<Verdict>, AllocEr
         (first_of (source_of_run run.now.basis run.now.run)
         (first_of (link_of_run run.now.basis run.now.run) (skew_of_run run.now.run)))) }
 {
-    let trails = by_number(alloc, run)?;
-    let outside = outside(run, trails.as_slice());
-    if outside.is_some() {
-        return Ok(outside);
+    let found = found_in(run);
+    if found.outside.is_some() {
+        return Ok(found.outside);
     }
     let over = over(alloc, run)?;
     if over.is_some() {
         return Ok(over);
     }
-    let delayed = delayed(alloc, run, trails.as_slice());
-    if delayed.is_some() {
-        return Ok(delayed);
+    if found.delayed.is_some() {
+        return Ok(found.delayed);
     }
-    late(alloc, run)
-}
-
-/// What is found against the time of contracts.
-fn outside(run: &Run<'_>, trails: &[&Trail]) -> Option<Verdict>
-    requires { map (λ trail. passage_of trail.now) trails.now ≡ by_number run.now.run.passages }
-    ensures { result ≡ time_of run.now.basis run.now.run }
-{
-    first_outside(&run.basis(), trails)
+    Ok(late(run))
 }
 
 /// What is found against the envelopes of trusted sources.
@@ -76,18 +62,9 @@ fn over(alloc: Global, run: &Run<'_>) -> Result<Option<Verdict>, AllocError>
     Ok(first_spilled(&run.basis(), trails.as_slice()))
 }
 
-/// What is found against the floors and jitters of links.
-fn delayed(alloc: Global, run: &Run<'_>, trails: &[&Trail]) -> Option<Verdict>
-    requires { map (λ trail. passage_of trail.now) trails.now ≡ by_number run.now.run.passages }
-    ensures { result ≡ link_of_run run.now.basis run.now.run }
-{
-    first_delayed(alloc, &run.basis(), trails)
-}
-
 /// What is found against the skews of meters.
-fn late(alloc: Global, run: &Run<'_>) -> Result<Option<Verdict>, AllocError>
-    ensures { IfOk result (λ found. found ≡ skew_of_run run.now.run) }
+fn late(run: &Run<'_>) -> Option<Verdict>
+    ensures { result ≡ skew_of_run run.now.run }
 {
-    let journals = by_site(alloc, run)?;
-    Ok(first_late(journals.as_slice()))
+    first_late(run.journals())
 }

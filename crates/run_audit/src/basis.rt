@@ -2,14 +2,14 @@
 ghost use Rattle.std.specs.Prelude.{◌≡◌, ◌≤◌, ◌<◌, ◌^◌, ℕ, length, option_and_then, option_copied, slice_get};
 ghost use Rattle.std.specs.Prelude.{IfSome, IsSome};
 ghost use Rattle.std.specs.Map.{values_of};
-ghost use Rattle.meter_fabric_base.specs.Grounds.{contract_of, most_flows};
+ghost use Rattle.meter_fabric_base.specs.Grounds.{contract_of, ground_of, most_flows};
 ghost use Rattle.meter_fabric_base.specs.Openings.{edge_opening, opening_at};
-ghost use Rattle.run_audit.specs.Bases.{IsCounted, IsGranted, basis_of, ground_along, site_count};
+ghost use Rattle.run_audit.specs.Bases.{IsCounted, IsGranted, basis_of, ground_along, route_at, site_count};
 
 use ds_checker::Accepted;
-use ds_domain_base::{Contract, Domain};
+use ds_domain_base::{Contract, Domain, Route};
 use ds_timeline::Timeline;
-use meter_fabric_base::{Opening, contract_of, edge_opening, flow_count};
+use meter_fabric_base::{Opening, contract_of, flow_count};
 
 /// What a run stands on: a domain, and the contracts that packets can be of, each with its flow.
 #[derive(Clone, Copy, Debug)]
@@ -56,6 +56,16 @@ impl<'a> Ground<'a> {
         }
     }
 
+    /// The route of the contract of a flow through the domain, if there is one. No name is looked up.
+    pub fn route(&self, flow: u32) -> Option<&'a Route>
+        ensures { option_copied result ≡ route_at (basis_of self.now) flow }
+    {
+        match *self {
+            Ground::Table(accepted) => routed(accepted, flow),
+            Ground::Line(timeline) => timeline.route(flow),
+        }
+    }
+
     /// How many numbers the sites have: one for each meter, then one for each contract.
     pub fn site_count(&self) -> u64
         ensures value { result ≡ site_count (basis_of self.now) }
@@ -86,7 +96,10 @@ impl<'a> Ground<'a> {
             (contract_of (basis_of self.now) flow) }
     {
         let contract = self.contract_of(flow)?;
-        edge_opening(self.domain(), contract)
+        let route = self.route(flow)?;
+        let meter = contract.edge()?;
+        let skew = route.skew().gap();
+        Some(Opening { meter, skew })
     }
 }
 
@@ -98,4 +111,12 @@ fn granted(timeline: &Timeline, flow: u32) -> Option<&Contract>
 {
     let reservation = timeline.reservations().get(flow as usize)?;
     Some(&reservation.contract)
+}
+
+/// The route of the contract of a flow of a table, if there is one.
+fn routed(accepted: &Accepted, flow: u32) -> Option<&Route>
+    ensures { option_copied result ≡ route_at (ground_of accepted.now) flow }
+{
+    let _contract = contract_of(accepted, flow)?;
+    Some(accepted.route(flow as usize))
 }

@@ -1,7 +1,6 @@
 ghost use Rattle.std.specs.Prelude.{◌≡◌};
 ghost use Rattle.run_audit.specs.Faults.{code_of};
 
-use std::alloc::{AllocError, AllocFailed};
 use thiserror::Error;
 
 /// Why journals and trails are not those of a run.
@@ -17,7 +16,7 @@ pub enum AssembleFault {
     /// Two trails are of packets of the same number.
     #[error("two trails have the same packet number")]
     Doubled,
-    /// Memory ran out.
+    /// Memory ran out. `Run::assemble` refuses nothing for it.
     #[error("out of memory")]
     NoMemory,
 }
@@ -33,25 +32,5 @@ impl AssembleFault {
             AssembleFault::Doubled => 3,
             AssembleFault::NoMemory => 4,
         }
-    }
-}
-
-impl From<AllocError> for AssembleFault {
-    ghost use Rattle.run_audit.specs.declared.fault.AssembleFault.TheVariants.{NoMemory};
-
-    ghost from_gives = { λ _ fault. fault ≡ NoMemory };
-
-    fn from(_error: AllocError) -> Self {
-        AssembleFault::NoMemory
-    }
-}
-
-impl<T: Drop> From<AllocFailed<T>> for AssembleFault {
-    ghost use Rattle.run_audit.specs.declared.fault.AssembleFault.TheVariants.{NoMemory};
-
-    ghost from_gives = { λ _ fault. fault ≡ NoMemory };
-
-    fn from(_error: AllocFailed<T>) -> Self {
-        AssembleFault::NoMemory
     }
 }

@@ -1,31 +1,21 @@
-//! Trails and journals in order.
+//! Trails in order.
 ghost use Rattle.std.specs.Prelude.{◌≡◌, IfOk, IsPermutation, map};
-ghost use Rattle.std.specs.List.Sorted.{IsNonDecreasingBy};
 ghost use Rattle.run_audit.specs.Assembled.{passage_of};
 ghost use Rattle.run_audit.specs.Standings.{by_contract};
-ghost use Rattle.run_audit.specs.Verdicts.{by_number, by_site};
 
 use crate::grouping::grouped;
-use crate::paths::TRAILS_EACH;
 use crate::run::Run;
-use meter_book::Journal;
 use meter_fabric_base::Trail;
 use std::alloc::{AllocError, Global};
+
+/// How many trails there are at least for each contract where they are put into groups: so many as a path has meters.
+const TRAILS_EACH: usize = 16;
 
 /// References to trails, in the order in which they stand.
 fn all_trails(alloc: Global, trails: &[Trail]) -> Result<Vec<&Trail>, AllocError>
     ensures { IfOk result (λ all. map (λ trail. trail.now) all.items ≡ trails.now) }
 {
     trails.iter().collect(alloc)
-}
-
-/// The trails of a run by the numbers of their packets.
-pub(crate) fn by_number<'a>(alloc: Global, run: &'a Run<'_>) -> Result<Vec<&'a Trail>, AllocError>
-    ensures { IfOk result (λ trails. map (λ trail. passage_of trail.now) trails.items ≡ by_number run.now.run.passages) }
-{
-    let mut trails = all_trails(alloc, run.trails())?;
-    trails.sort_by_key(|trail| trail.packet)?;
-    Ok(trails)
 }
 
 /// The trails of a run contract by contract, each contract's as they are sent.
@@ -51,20 +41,4 @@ fn near_order<'a>(alloc: Global, trails: Vec<&'a Trail>, contracts: u32) -> Vec<
         Ok(near) => near,
         Err(_) => trails,
     }
-}
-
-/// References to journals, in the order in which they stand.
-fn all_journals(alloc: Global, journals: &[Journal]) -> Result<Vec<&Journal>, AllocError>
-    ensures { IfOk result (λ all. map (λ journal. journal.now) all.items ≡ journals.now) }
-{
-    journals.iter().collect(alloc)
-}
-
-/// The journals of a run by their sites.
-pub(crate) fn by_site<'a>(alloc: Global, run: &'a Run<'_>) -> Result<Vec<&'a Journal>, AllocError>
-    ensures { IfOk result (λ journals. map (λ journal. journal.now) journals.items ≡ by_site run.now.run.journals) }
-{
-    let mut journals = all_journals(alloc, run.journals())?;
-    journals.sort_by_key(|journal| journal.site())?;
-    Ok(journals)
 }

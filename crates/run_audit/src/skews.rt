@@ -1,8 +1,9 @@
 //! Whether meters keep their skews.
-ghost use Rattle.std.specs.Prelude.{◌≡◌, map};
+ghost use Rattle.std.specs.Prelude.{◌≡◌, AllPairs};
 ghost use Rattle.meter_book.specs.Replay.{journal_rows};
-ghost use Rattle.run_audit.specs.Verdicts.{first_found, late_row};
+ghost use Rattle.run_audit.specs.Verdicts.{by_site, first_found, late_row};
 
+use crate::least::{lesser, told};
 use crate::verdict::Verdict;
 use meter_book::{Journal, Row};
 
@@ -35,16 +36,14 @@ fn late_in(journal: &Journal) -> Option<Verdict>
     None
 }
 
-/// What is found first against the rows of journals.
-pub(crate) fn first_late(journals: &[&Journal]) -> Option<Verdict>
-    ensures { result ≡ first_found (λ j. first_found (late_row j) (journal_rows j))
-        (map (λ journal. journal.now) journals.now) }
+/// What is found against the rows of journals, of which no two are of one site: at the least site.
+pub(crate) fn first_late(journals: &[Journal]) -> Option<Verdict>
+    requires { AllPairs (λ j k. ¬ (j.site ≡ k.site)) journals.now }
+    ensures { result ≡ first_found (λ j. first_found (late_row j) (journal_rows j)) (by_site journals.now) }
 {
+    let mut least = None;
     for journal in journals {
-        let late = late_in(journal);
-        if late.is_some() {
-            return late;
-        }
+        least = lesser(least, u64::from(journal.site()), late_in(journal));
     }
-    None
+    told(least)
 }

@@ -2,6 +2,8 @@
 ghost use Rattle.std.specs.Prelude.{◌≡◌, ◌+◌, ◌≤◌, ◌*◌, drop, length, map, nat_le, option_map, take};
 ghost use Rattle.std.specs.List.{prefix_len};
 ghost use Rattle.std.specs.Map.{values_of};
+ghost use Rattle.ds_certificate.specs.Sources.{source_of};
+ghost use Rattle.ds_domain_base.specs.Routes.{route_of};
 ghost use Rattle.envelope_core.specs.LeakyBucket.{filled};
 ghost use Rattle.run_audit.specs.Assembled.{passage_of};
 ghost use Rattle.run_audit.specs.Bases.{IsCounted, basis_of};
@@ -12,7 +14,7 @@ ghost use Rattle.moment_core.specs.Columns.{each_column};
 use crate::basis::Ground;
 use crate::verdict::Verdict;
 use ds_certificate::Source;
-use ds_domain_base::{Contract, Domain, Terms};
+use ds_domain_base::{Contract, Domain, Route, Terms};
 use envelope_core::Envelope;
 use meter_fabric_base::Trail;
 use moment_core::tokens::TOKEN;
@@ -58,44 +60,58 @@ fn spilled<'a>(
     None
 }
 
-/// What is found against a trusted contract's packets in a column.
+/// What a contract's packets keep where they enter, by its route.
+#[tactic(auto, unfolding(ds_certificate::specs::Sources::source_of))]
+fn source_on(domain: &Domain, route: &Route, contract: &Contract) -> Source
+    requires { route.now ≡ route_of domain.now contract.now }
+    ensures { result ≡ source_of domain.now contract.now }
+{
+    Source::along(domain, route, &contract.terms)
+}
+
+/// What is found against the packets of a trusted contract with a source in a column.
 fn spilled_in(
-    domain: &Domain,
+    source: &Source,
     contract: &Contract,
     own: &[&Trail],
     column: Column,
 ) -> Option<Verdict>
-    ensures { result ≡ spilled_in domain.now contract.now (map (λ trail. passage_of trail.now) own.now) column }
+    ensures { result ≡ spilled_in source.now contract.now (map (λ trail. passage_of trail.now) own.now) column }
 {
-    let envelope = Source::of(domain, contract).envelope(column);
-    match spilled(envelope, column, contract, own) {
-        Some(trail) => Some(Verdict::SourceOver {
-            flow: trail.flow,
-            column,
-            packet: trail.packet,
-        }),
-        None => None,
-    }
+    let trail = spilled(source.envelope(column), column, contract, own)?;
+    Some(Verdict::SourceOver {
+        flow: trail.flow,
+        column,
+        packet: trail.packet,
+    })
 }
 
 /// What is found against a contract's packets: nothing where it is policed.
-fn spilled_by(domain: &Domain, contract: &Contract, own: &[&Trail]) -> Option<Verdict>
+fn spilled_by(
+    domain: &Domain,
+    route: &Route,
+    contract: &Contract,
+    own: &[&Trail],
+) -> Option<Verdict>
+    requires { route.now ≡ route_of domain.now contract.now }
     ensures { result ≡ spilled_by contract.now.terms domain.now contract.now
         (map (λ trail. passage_of trail.now) own.now) }
 {
     match contract.terms {
-        Terms::Trusted { .. } => first_spilled_in(domain, contract, own),
+        Terms::Trusted { .. } => {
+            first_spilled_in(&source_on(domain, route, contract), contract, own)
+        }
         Terms::Policed { .. } => None,
     }
 }
 
-/// What is found against a trusted contract's packets, column by column.
-fn first_spilled_in(domain: &Domain, contract: &Contract, own: &[&Trail]) -> Option<Verdict>
+/// What is found against the packets of a trusted contract with a source, column by column.
+fn first_spilled_in(source: &Source, contract: &Contract, own: &[&Trail]) -> Option<Verdict>
     ensures { result ≡ first_found
-        (spilled_in domain.now contract.now (map (λ trail. passage_of trail.now) own.now)) each_column }
+        (spilled_in source.now contract.now (map (λ trail. passage_of trail.now) own.now)) each_column }
 {
     for column in Column::each() {
-        let found = spilled_in(domain, contract, own, *column);
+        let found = spilled_in(source, contract, own, *column);
         if found.is_some() {
             return found;
         }
@@ -127,8 +143,9 @@ pub(crate) fn first_spilled(basis: &Ground<'_>, trails: &[&Trail]) -> Option<Ver
     let mut begin = 0;
     for flow in 0..basis.flow_count() {
         let contract = basis.contract_of(flow).unwrap();
+        let route = basis.route(flow).unwrap();
         let end = own_end(flow as usize, begin, trails);
-        let found = spilled_by(domain, contract, &trails[begin..end]);
+        let found = spilled_by(domain, route, contract, &trails[begin..end]);
         if found.is_some() {
             return found;
         }

@@ -1,4 +1,4 @@
-use Rattle.std.proofs.Common.{⊎_elim, refl, sym, subst, arith}
+use Rattle.std.proofs.Common.{⊎_elim, map, refl, sym, subst, arith}
 use Rattle.std.specs.Prelude.{Contains, IsSome}
 use Rattle.std.proofs.lemmas.Bool.{cases_eq}
 use Rattle.run_audit.specs.Bases.{basis_of}
@@ -8,7 +8,7 @@ use Rattle.run_audit.proofs.sites.has_each.Goals as goal
 pub loop-site-preserved : goal.loop-site-preserved
 loop-site-preserved c site below some =
     ⊎_elim
-    (λ here. subst (λ n. IsSome (opening_at (basis_of c.args.basis.now) n) → Contains c.args.sites.now.keys n) (sym here) (c.if-not-is_met.ensures.0 refl) some)
+    (λ here. subst (λ n. IsSome (opening_at (basis_of c.args.basis.now) n) → Contains (map (λ j. j.site) c.args.journals.now) n) (sym here) (c.if-not-is_met.ensures.0 refl) some)
     (λ apart. c.loop-site.invariant site (omega (arith, below, apart)) some)
     (cases_eq site c.loop-site.site)
 

@@ -1,4 +1,4 @@
-use Rattle.std.proofs.Common.{◌<◌, ℕ}
+use Rattle.std.proofs.Common.{◌<◌, ℕ, map}
 use Rattle.std.specs.Prelude.{Contains, IsSome}
 use Rattle.run_audit.specs.Bases.{basis_of}
 use Rattle.meter_fabric_base.specs.Openings.{opening_at}
@@ -6,4 +6,5 @@ use Rattle.run_audit.proofs.sites.has_each.Given as goal
 
 -- those of the numbers so far
 abbrev pub invariant-loop-site : goal.invariant-loop-site
-invariant-loop-site l = (site : ℕ) → site < l.site → IsSome (opening_at (basis_of l.basis) site) → Contains l.sites.keys site
+invariant-loop-site l =
+    (site : ℕ) → site < l.site → IsSome (opening_at (basis_of l.basis) site) → Contains (map (λ j. j.site) l.journals) site

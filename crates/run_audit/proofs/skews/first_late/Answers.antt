@@ -1,22 +1,24 @@
-use Rattle.std.proofs.Common.{sym, ◌∙◌}
+use Rattle.std.proofs.Common.{◌∙◌, ap, subst, sym}
+use Rattle.std.proofs.lemmas.List.{map-id}
 use Rattle.meter_book.specs.Replay.{journal_rows}
-use Rattle.run_audit.specs.Verdicts.{first_found, late_row}
-use Rattle.run_audit.proofs.FoundLaws.{first_found-ended, found-at, found-behind}
+use Rattle.run_audit.specs.Verdicts.{by_site, first_found, late_row}
+use Rattle.run_audit.proofs.LeastLaws.{least_ended, least_more, least_start}
+use Rattle.run_audit.proofs.SortLaws.{Differ}
 use Rattle.run_audit.proofs.skews.first_late.Goals as goal
 
-pub returns-then-is_some : goal.returns-then-is_some
-returns-then-is_some c =
-    found-at (λ j. first_found (late_row j) (journal_rows j)) (λ journal. journal.now) c.args.journals.now c.loop-journal.journal-index c.journal-item.result
-    c.late_in-late.result _ c.is_some.result
-    c.loop-journal-test.true c.journal-item.is c.late_in-late.ensures c.is_some.ensures c.if-is_some.true c.loop-journal.invariant
+pub loop-journal-init : goal.loop-journal-init
+loop-journal-init c = least_start (λ j. j.site) (λ j. first_found (late_row j) (journal_rows j)) (λ j. j) c.args.journals.now
 
 pub loop-journal-preserved : goal.loop-journal-preserved
 loop-journal-preserved c =
-    found-behind (λ j. first_found (late_row j) (journal_rows j)) (λ journal. journal.now) c.args.journals.now c.loop-journal.journal-index c.journal-item.result
-    c.late_in-late.result _ c.is_some.result
-    c.loop-journal-test.true c.journal-item.is c.late_in-late.ensures c.is_some.ensures c.if-is_some.false c.loop-journal.invariant
+    least_more (λ j. j.site) (λ j. first_found (late_row j) (journal_rows j)) (λ j. j) c.args.journals.now c.loop-journal.journal-index c.journal-item.result
+    c.loop-journal.least _ c.from.result c.late_in.result c.loop-journal-test.true c.journal-item.is (c.from.ensures ∙ c.site.ensures) c.late_in.ensures c.lesser-least.ensures
+    c.loop-journal.invariant
 
 pub returns : goal.returns
 returns c =
-    sym (first_found-ended (λ j. first_found (late_row j) (journal_rows j)) (λ journal. journal.now) c.args.journals.now c.loop-journal.journal-index c.loop-journal-test.false)
-    ∙ c.loop-journal.invariant
+    let whole = map-id c.args.journals.now in
+    c.told.ensures
+    ∙ least_ended (λ j. j.site) (λ j. first_found (late_row j) (journal_rows j)) (λ j. j) c.args.journals.now c.loop-journal.journal-index c.loop-journal.least c.loop-journal-test.false
+    (subst (Differ (λ j. j.site)) (sym whole) c.requires) c.loop-journal.invariant
+    ∙ ap (λ js. first_found (λ j. first_found (late_row j) (journal_rows j)) (by_site js)) whole

@@ -1,12 +1,22 @@
 use Rattle.std.proofs.Common.{◌∙◌, ◌≤◌, arith, ap, length, map, refl, sym, take, drop, ◌-◌}
 use Rattle.std.specs.Map.{values_of}
-use Rattle.std.specs.Option.{option_copied}
+use Rattle.std.specs.Option.{is_some, option_copied}
 use Rattle.std.proofs.lemmas.Map.Entries.{length-values_of}
+use Rattle.ds_domain_base.specs.Routes.{route_of}
+use Rattle.meter_fabric_base.specs.Grounds.{contract_of}
 use Rattle.run_audit.specs.Assembled.{passage_of}
 use Rattle.run_audit.specs.Bases.{basis_of}
 use Rattle.run_audit.specs.Spills.{spilled_by}
+use Rattle.run_audit.proofs.BasisLaws.{route_there, some_copied}
 use Rattle.run_audit.proofs.SpillLaws.{spilled_from-behind, spilled_from-ended, spilled_from-found, stands_at}
 use Rattle.run_audit.proofs.sources.first_spilled.Goals as goal
+
+pub unwrap-route-requires : goal.unwrap-route-requires
+unwrap-route-requires c =
+    let g = basis_of c.args.basis.now in
+    sym (some_copied c.route.result)
+    ∙ route_there (contract_of g c.loop-flow.flow) (option_copied c.route.result) (route_of g.domain) c.route.ensures
+    (ap is_some (sym c.contract_of.ensures.value ∙ ap option_copied c.unwrap-contract.ensures))
 
 pub returns-then-is_some-clause-value : goal.returns-then-is_some-clause-value
 returns-then-is_some-clause-value c =
