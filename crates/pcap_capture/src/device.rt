@@ -32,6 +32,9 @@ impl DeviceFault {
 }
 
 /// A device that gives bytes, by 2^32 calls at most.
+///
+/// It sees the buffer that it is to fill, and so what an earlier call left in it: a device that should not gets a buffer
+/// of its own.
 pub trait Intake {
     // Whether the device tells which bytes it gives: memory does, a terminal does not. What is
     // said of bytes holds where it does.

@@ -4,5 +4,6 @@ mod domain_rows;
 mod excess_rows;
 mod greatest_rows;
 mod holding_rows;
+mod many_rows;
 mod quote_rows;
 mod tables;
