@@ -1,4 +1,3 @@
-use crate::expecting::expect_same;
 use crate::rows::checker_rows::expect;
 use crate::rows::tables::parsed;
 use ds_certificate::{CertificateFault, read};
@@ -58,7 +57,7 @@ fn faults_of_large_texts_and_refusals_of_large_tables_are_not_told_as_memory(rt:
     for (last, fault, refusal) in &LAST_LINES {
         let text = certificate_ending(alloc, last).expect(&rt, "memory");
         let found = read(alloc, text.as_bytes(), said.contracts.as_slice()).err();
-        expect_same(&rt, last, found, *fault);
+        assert_eq!(rt; (*last, found), (*last, *fault));
         expect(&rt, alloc, (domain.as_str(), text.as_str()), refusal);
     }
 }
