@@ -1,6 +1,6 @@
 -- Frames between their reading and their writing: seen, held until their colours are decided, and handed out.
 use Rattle.std.specs.Prelude.{◌≡◌, ◌⊎◌, ℕ, suc, ◌+◌, ◌≤◌, ◌^◌, Bool, true, false, List, [], ◌∷◌, ◌++◌, length, max, zip, None}
-use Rattle.std.specs.Prelude.{◌-◌, ◌<◌, All, IsSome}
+use Rattle.std.specs.Prelude.{◌-◌, ◌<◌, All, IsSome, OnErr, OnOk, Result}
 use Rattle.std.specs.List.{AllZip}
 use Rattle.moment_core.specs.declared.colour.Colour.{Colour}
 use Rattle.pcap_capture.specs.Frames.{FrameValue}
@@ -113,3 +113,22 @@ IsUndecided c =
     (c.held.items ≡ [])
     ⊎ ((decided c.under_way ≡ None)
     × ((first : Held) × (others : List Held) × (c.held.items ≡ first ∷ others) × IsSome first.packet))
+
+-- where frames were taken in, they are all seen
+abbrev pub AreSeen : {T E : Type 0} → Result T E → Port → Conditioner → Conditioner → List FrameValue → Type 0
+AreSeen result p old new taken =
+    OnOk result ((before : List FrameValue) (text : List ℕ) → IsConditioned p true before text old
+    → IsConditioned p true (before ++ taken) text new)
+
+-- and where memory ran out, those at the front of them
+abbrev pub AreSeenInPart : {T E : Type 0} → Result T E → Port → Conditioner → Conditioner → List FrameValue → Type 0
+AreSeenInPart result p old new taken =
+    OnErr result ((before : List FrameValue) (text : List ℕ) → IsConditioned p true before text old
+    → (front : List FrameValue) × (others : List FrameValue) × (taken ≡ front ++ others)
+    × IsConditioned p true (before ++ front) text new)
+
+-- or none
+abbrev pub AreUnseen : {T E : Type 0} → Result T E → Port → Conditioner → Conditioner → Type 0
+AreUnseen result p old new =
+    OnErr result ((before : List FrameValue) (text : List ℕ) → IsConditioned p true before text old
+    → IsConditioned p true before text new)

@@ -1,6 +1,6 @@
 -- What stands while a capture is marked, piece by piece.
 use Rattle.std.specs.Prelude.{◌≡◌, ◌⊎◌, ℕ, List, [], ◌++◌, zip, Bool, true, false, Option, None, Some, Result, Ok, Err}
-use Rattle.std.specs.Prelude.{if◌then◌else◌}
+use Rattle.std.specs.Prelude.{if◌then◌else◌, MatchResult}
 use Rattle.pcap_capture.specs.Fronts.{IsFrontOf}
 use Rattle.pcap_capture.specs.Frames.{FrameValue}
 use Rattle.pcap_capture.specs.Grammar.{capture, heading_of}
@@ -73,6 +73,22 @@ abbrev pub IsTurnedOut : Port → List ℕ → List ℕ → List ℕ → List �
     → Result (Option PcapFault) MarkFault → Type 0
 IsTurnedOut p bytes more before now c out (Ok fault) = IsThrough p bytes more before now c out fault
 IsTurnedOut p bytes more before now c out (Err fault) = IsBrokenOff p bytes more before now c fault
+
+-- what a turn that is not broken off comes to is no want of memory, nor a fault of the writing
+abbrev pub IsWell : Turn → Type 0
+IsWell turn = (¬ (turn ≡ Ended (Some pcaps.WriteFault))) × (¬ (turn ≡ Ended (Some pcaps.NoMemory)))
+
+-- What writing the frames that are decided comes to, whatever was written of what came before them: they are handed out,
+-- and their text is written, but for what is left of it; or a front of it is.
+abbrev pub IsWrittenOn : {T E : Type 0} → Result T E → Port → Bool → Conditioner → Conditioner → List ℕ → List ℕ
+    → List ℕ → List ℕ → Type 0
+IsWrittenOn result p more old new out left held now =
+    (frames : List FrameValue) (text before : List ℕ) → IsConditioned p more frames text old
+    → IsWrittenTo out before (p.heading.bytes ++ text) held → MatchResult result
+    (λ _. (after : List ℕ) × IsConditioned p more frames after new
+    × IsWrittenTo left before (p.heading.bytes ++ after) now)
+    (λ _. (after : List ℕ) × IsConditioned p more frames after new
+    × IsFrontOf before (p.heading.bytes ++ after) now)
 
 -- whether it is told that the device that gives bytes could not be read
 abbrev pub is_unread_by : Option PcapFault → Bool

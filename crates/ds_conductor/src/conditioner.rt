@@ -4,7 +4,8 @@ ghost use Rattle.pcap_capture.specs.Frames.{FrameValue};
 ghost use Rattle.ds_conductor_base.specs.Passing.{colours_of};
 ghost use Rattle.ds_conductor_base.specs.Streams.{ComeFrom, colours_left, decided, made_due, next_place};
 ghost use Rattle.ds_conductor_base.specs.Visits.{later};
-ghost use Rattle.ds_conductor.specs.Conditionings.{AreSeenOf, IsBounded, IsConditioned, IsSeeing, IsSeenOf};
+ghost use Rattle.ds_conductor.specs.Conditionings.{AreSeen, AreSeenInPart, AreSeenOf, AreUnseen, IsBounded};
+ghost use Rattle.ds_conductor.specs.Conditionings.{IsConditioned, IsSeeing, IsSeenOf};
 ghost use Rattle.ds_conductor.specs.Conditionings.{IsUndecided, see_at};
 ghost use Rattle.ds_visits.specs.Judging.{verdict_with};
 ghost use Rattle.ds_conductor.specs.Reports.{report_of};
@@ -87,12 +88,8 @@ impl<'a> Conditioner<'a> {
         ensures bounded { IsBounded self.new }
         ensures records { self.new.counts.records ≤ self.old.counts.records + 1 }
         ensures due { OnOk result (self.new.due ≡ later self.new.newest port.now.ahead) }
-        ensures seen { OnOk result ((frames : List FrameValue) (text : List ℕ)
-            → IsConditioned port.now true frames text self.old
-            → IsConditioned port.now true (frames ++ frame ∷ []) text self.new) }
-        ensures unseen { OnErr result ((frames : List FrameValue) (text : List ℕ)
-            → IsConditioned port.now true frames text self.old
-            → IsConditioned port.now true frames text self.new) }
+        ensures seen { AreSeen result port.now self.old self.new (frame ∷ []) }
+        ensures unseen { AreUnseen result port.now self.old self.new }
     {
         let seen = port.classifier.see(port.heading.link, frame.bytes());
         self.take_in(port, frame, seen)
@@ -109,12 +106,8 @@ impl<'a> Conditioner<'a> {
         ensures bounded { IsBounded self.new }
         ensures records { self.new.counts.records ≤ self.old.counts.records + 1 }
         ensures due { OnOk result (self.new.due ≡ later self.new.newest port.now.ahead) }
-        ensures seen { OnOk result ((frames : List FrameValue) (text : List ℕ)
-            → IsConditioned port.now true frames text self.old
-            → IsConditioned port.now true (frames ++ frame ∷ []) text self.new) }
-        ensures unseen { OnErr result ((frames : List FrameValue) (text : List ℕ)
-            → IsConditioned port.now true frames text self.old
-            → IsConditioned port.now true frames text self.new) }
+        ensures seen { AreSeen result port.now self.old self.new (frame ∷ []) }
+        ensures unseen { AreUnseen result port.now self.old self.new }
     {
         let moment = later(self.newest, frame.moment());
         let packet = packet_of(&seen.sight, self.counts.records, moment);
@@ -155,13 +148,8 @@ impl<'a> Conditioner<'a> {
         requires few { self.old.counts.records + length frames.items ≤ 2 ^ 44 }
         ensures bounded { IsBounded self.new }
         ensures records { self.new.counts.records ≤ self.old.counts.records + length frames.items }
-        ensures seen { OnOk result ((before : List FrameValue) (text : List ℕ)
-            → IsConditioned port.now true before text self.old
-            → IsConditioned port.now true (before ++ frames.items) text self.new) }
-        ensures unseen { OnErr result ((before : List FrameValue) (text : List ℕ)
-            → IsConditioned port.now true before text self.old
-            → (front : List FrameValue) × (others : List FrameValue) × (frames.items ≡ front ++ others)
-            × IsConditioned port.now true (before ++ front) text self.new) }
+        ensures seen { AreSeen result port.now self.old self.new frames.items }
+        ensures unseen { AreSeenInPart result port.now self.old self.new frames.items }
     {
         for frame in frames {
             self.see(port, frame)?;
@@ -183,13 +171,8 @@ impl<'a> Conditioner<'a> {
         requires told { AreSeenOf port.now frames.items seen.now }
         ensures bounded { IsBounded self.new }
         ensures records { self.new.counts.records ≤ self.old.counts.records + length frames.items }
-        ensures seen { OnOk result ((before : List FrameValue) (text : List ℕ)
-            → IsConditioned port.now true before text self.old
-            → IsConditioned port.now true (before ++ frames.items) text self.new) }
-        ensures unseen { OnErr result ((before : List FrameValue) (text : List ℕ)
-            → IsConditioned port.now true before text self.old
-            → (front : List FrameValue) × (others : List FrameValue) × (frames.items ≡ front ++ others)
-            × IsConditioned port.now true (before ++ front) text self.new) }
+        ensures seen { AreSeen result port.now self.old self.new frames.items }
+        ensures unseen { AreSeenInPart result port.now self.old self.new frames.items }
     {
         let mut place = 0;
         for frame in frames {

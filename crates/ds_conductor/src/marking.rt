@@ -4,15 +4,15 @@ ghost use Rattle.pcap_capture.specs.Counts.{IsOfReads, next_count};
 ghost use Rattle.pcap_capture.specs.Frames.{FrameValue};
 ghost use Rattle.ds_domain_base.specs.Domains.{is_port};
 ghost use Rattle.pcap_capture.specs.Fronts.{IsFrontOf};
-ghost use Rattle.ds_conductor.specs.Conditionings.{IsBounded, IsConditioned, IsPortOf};
+ghost use Rattle.ds_conductor.specs.Conditionings.{AreSeen, AreSeenInPart, IsBounded, IsConditioned, IsPortOf};
 ghost use Rattle.ds_conductor.specs.Markings.{IsMarked, IsMarkedAs, answer_of, is_broken_off};
 ghost use Rattle.ds_conductor.specs.Markings.{is_unread, is_unwritten};
-ghost use Rattle.ds_conductor.specs.Passings.{IsFinished, IsOnTheWay, IsTurned, IsTurnedOut};
+ghost use Rattle.ds_conductor.specs.Passings.{IsFinished, IsOnTheWay, IsTurned, IsTurnedOut, IsWell, IsWrittenOn};
 ghost use Rattle.ds_conductor.specs.Passings.{IsMarkedAt, is_unread_by, is_unread_in, marking_at, turned_by};
 ghost use Rattle.pcap_capture.specs.Takings.{is_read_fault};
 ghost use Rattle.ds_conductor.specs.Readings.{IsReadOn, IsUnderway, bytes_of, most_bytes};
 ghost use Rattle.ds_conductor.specs.Reports.{nothing_read};
-ghost use Rattle.ds_conductor.specs.Writings.{IsWrittenTo, is_write_fault};
+ghost use Rattle.ds_conductor.specs.Writings.{IsBreak, IsWrittenTo, failures_with, is_write_fault};
 
 use crate::conditioner::Conditioner;
 use crate::fault::MarkFault;
@@ -312,8 +312,7 @@ fn turn_all<R: Threads + Sync, I: Intake, O: Outlet, G: Gate>(
         (λ fault. (¬ (fault ≡ Some PcapFault.WriteFault)) × (¬ (fault ≡ Some PcapFault.NoMemory)))
         (λ fault. (fault ≡ MarkFault.Capture PcapFault.WriteFault) ⊎ (fault ≡ MarkFault.NoMemory)) }
     ensures told { O.tells outlet.old → O.tells outlet.new }
-    ensures failures { O.failed outlet.new
-        ≡ (if is_write_fault result then next_count (O.failed outlet.old) else O.failed outlet.old) }
+    ensures failures { O.failed outlet.new ≡ failures_with (is_write_fault result) (O.failed outlet.old) }
 {
     loop {
         let turn = take_turn_by(
@@ -363,14 +362,10 @@ fn take_turn_by<R: Threads + Sync, I: Intake, O: Outlet, G: Gate>(
         out.new.items result }
     ensures reads { IfOk result (λ turn.
         IsOfReads (is_unread_in turn) (I.failed intake.old) (I.failed intake.new) (I.calls intake.new)) }
-    ensures fault { MatchResult result
-        (λ turn. (¬ (turn ≡ Turn.Ended (Some PcapFault.WriteFault)))
-        × (¬ (turn ≡ Turn.Ended (Some PcapFault.NoMemory))))
-        (λ fault. (fault ≡ MarkFault.Capture PcapFault.WriteFault) ⊎ (fault ≡ MarkFault.NoMemory)) }
+    ensures fault { MatchResult result IsWell IsBreak }
     ensures taken { I.tells intake.old → I.tells intake.new }
     ensures told { O.tells outlet.old → O.tells outlet.new }
-    ensures failures { O.failed outlet.new
-        ≡ (if is_write_fault result then next_count (O.failed outlet.old) else O.failed outlet.old) }
+    ensures failures { O.failed outlet.new ≡ failures_with (is_write_fault result) (O.failed outlet.old) }
 {
     if workers > 1 && progress.is_empty() {
         let seers = workers as usize - 1;
@@ -426,14 +421,10 @@ fn take_turn<I: Intake, O: Outlet, G: Gate>(
         out.new.items result }
     ensures reads { IfOk result (λ turn.
         IsOfReads (is_unread_in turn) (I.failed intake.old) (I.failed intake.new) (I.calls intake.new)) }
-    ensures fault { MatchResult result
-        (λ turn. (¬ (turn ≡ Turn.Ended (Some PcapFault.WriteFault)))
-        × (¬ (turn ≡ Turn.Ended (Some PcapFault.NoMemory))))
-        (λ fault. (fault ≡ MarkFault.Capture PcapFault.WriteFault) ⊎ (fault ≡ MarkFault.NoMemory)) }
+    ensures fault { MatchResult result IsWell IsBreak }
     ensures taken { I.tells intake.old → I.tells intake.new }
     ensures told { O.tells outlet.old → O.tells outlet.new }
-    ensures failures { O.failed outlet.new
-        ≡ (if is_write_fault result then next_count (O.failed outlet.old) else O.failed outlet.old) }
+    ensures failures { O.failed outlet.new ≡ failures_with (is_write_fault result) (O.failed outlet.old) }
 {
     let read = read_piece(alloc, intake, progress);
     pass_on(alloc, port, conditioner, out, progress, outlet, gate, read)
@@ -466,13 +457,9 @@ pub(crate) fn pass_on<O: Outlet, G: Gate>(
         → IsTurned port.now bytes more before (O.held outlet.new) progress.new conditioner.new out.new.items result }
     ensures reads { (failed now calls : ℕ) → IsOfReads (is_read_fault read) failed now calls
         → IfOk result (λ turn. IsOfReads (is_unread_in turn) failed now calls) }
-    ensures fault { MatchResult result
-        (λ turn. (¬ (turn ≡ Turn.Ended (Some PcapFault.WriteFault)))
-        × (¬ (turn ≡ Turn.Ended (Some PcapFault.NoMemory))))
-        (λ fault. (fault ≡ MarkFault.Capture PcapFault.WriteFault) ⊎ (fault ≡ MarkFault.NoMemory)) }
+    ensures fault { MatchResult result IsWell IsBreak }
     ensures told { O.tells outlet.old → O.tells outlet.new }
-    ensures failures { O.failed outlet.new
-        ≡ (if is_write_fault result then next_count (O.failed outlet.old) else O.failed outlet.old) }
+    ensures failures { O.failed outlet.new ≡ failures_with (is_write_fault result) (O.failed outlet.old) }
 {
     let Ok(()) = see_read(alloc, port, conditioner, progress) else {
         return Err(MarkFault::NoMemory);
@@ -503,13 +490,8 @@ fn see_read(
     ensures heading { progress.new.heading ≡ progress.old.heading }
     ensures read { (gone : List FrameValue) (bytes more : List ℕ) → IsUnderway gone bytes more progress.old
         → IsUnderway (gone ++ progress.old.frames.items) bytes more progress.new }
-    ensures seen { OnOk result ((gone : List FrameValue) (text : List ℕ)
-        → IsConditioned port.now true gone text conditioner.old
-        → IsConditioned port.now true (gone ++ progress.old.frames.items) text conditioner.new) }
-    ensures unseen { OnErr result ((gone : List FrameValue) (text : List ℕ)
-        → IsConditioned port.now true gone text conditioner.old
-        → (front : List FrameValue) × (others : List FrameValue) × (progress.old.frames.items ≡ front ++ others)
-        × IsConditioned port.now true (gone ++ front) text conditioner.new) }
+    ensures seen { AreSeen result port.now conditioner.old conditioner.new progress.old.frames.items }
+    ensures unseen { AreSeenInPart result port.now conditioner.old conditioner.new progress.old.frames.items }
 {
     conditioner.see_all(port, progress.take_frames(alloc))
 }
@@ -526,18 +508,10 @@ fn write_due<O: Outlet, G: Gate>(
     ensures bounded { IsBounded conditioner.new }
     ensures records { conditioner.new.counts.records ≡ conditioner.old.counts.records }
     ensures told { O.tells outlet.old → O.tells outlet.new }
-    ensures bytes { O.tells outlet.old → (frames : List FrameValue) (text before : List ℕ)
-        → IsConditioned port.now true frames text conditioner.old
-        → IsWrittenTo out.old.items before (port.now.heading.bytes ++ text) (O.held outlet.old)
-        → MatchResult result
-        (λ _. (after : List ℕ) × IsConditioned port.now true frames after conditioner.new
-        × IsWrittenTo out.new.items before (port.now.heading.bytes ++ after) (O.held outlet.new))
-        (λ _. (after : List ℕ) × IsConditioned port.now true frames after conditioner.new
-        × IsFrontOf before (port.now.heading.bytes ++ after) (O.held outlet.new)) }
-    ensures fault { IfErr result (λ fault. (fault ≡ MarkFault.Capture PcapFault.WriteFault)
-        ⊎ (fault ≡ MarkFault.NoMemory)) }
-    ensures failures { O.failed outlet.new
-        ≡ (if is_write_fault result then next_count (O.failed outlet.old) else O.failed outlet.old) }
+    ensures bytes { O.tells outlet.old → IsWrittenOn result port.now true conditioner.old conditioner.new out.old.items
+        out.new.items (O.held outlet.old) (O.held outlet.new) }
+    ensures fault { IfErr result IsBreak }
+    ensures failures { O.failed outlet.new ≡ failures_with (is_write_fault result) (O.failed outlet.old) }
 {
     conditioner.make_due(gate);
     write_on(port, conditioner, out, outlet)

@@ -6,11 +6,12 @@ ghost use Rattle.pcap_capture.specs.Frames.{FrameValue};
 ghost use Rattle.pcap_capture.specs.Fronts.{IsFrontOf};
 ghost use Rattle.pcap_capture.specs.Takings.{is_read_fault};
 ghost use Rattle.pcap_capture.specs.declared.fault.PcapFault.{PcapFault};
-ghost use Rattle.ds_conductor.specs.Conditionings.{AreSeenOf, IsBounded, IsConditioned};
-ghost use Rattle.ds_conductor.specs.Passings.{IsOnTheWay, IsTurned, is_unread_in};
+ghost use Rattle.ds_conductor.specs.Conditionings.{AreSeen, AreSeenInPart, AreSeenOf, IsBounded, IsConditioned};
+ghost use Rattle.ds_conductor.specs.Passings.{IsOnTheWay, IsTurned, IsWell, is_unread_in};
 ghost use Rattle.ds_conductor.specs.Readings.{most_bytes, read_by};
 ghost use Rattle.ds_conductor.specs.Turnings.{IsCollected, IsReadFrom};
-ghost use Rattle.ds_conductor.specs.Writings.{IsWrittenTo, is_write_fault};
+ghost use Rattle.ds_conductor.specs.Writings.{is_write_fault};
+ghost use Rattle.ds_conductor.specs.Writings.{IsBreak, IsHandedOver, IsWrittenTo, failures_unless, failures_with};
 
 use crate::conditioner::Conditioner;
 use crate::fault::MarkFault;
@@ -36,13 +37,10 @@ fn write_and_read<I: Intake, O: Outlet>(
 ) -> Result<Pieces, MarkFault>
     requires missing { progress.old.missing ≤ 24 }
     ensures told { O.tells outlet.old → O.tells outlet.new }
-    ensures bytes { O.tells outlet.old → MatchResult result
-        (λ _. O.held outlet.new ≡ O.held outlet.old ++ out.old.items)
-        (λ _. IsFrontOf (O.held outlet.old) out.old.items (O.held outlet.new)) }
+    ensures bytes { O.tells outlet.old → IsHandedOver result (O.held outlet.old) out.old.items (O.held outlet.new) }
     ensures emptied { OnOk result (out.new.items ≡ []) }
     ensures fault { IfErr result (λ fault. fault ≡ MarkFault.Capture PcapFault.WriteFault) }
-    ensures failures { O.failed outlet.new
-        ≡ (if is_ok result then O.failed outlet.old else next_count (O.failed outlet.old)) }
+    ensures failures { O.failed outlet.new ≡ failures_unless (is_ok result) (O.failed outlet.old) }
     ensures unread { OnErr result ((intake.new ≡ intake.old) × (progress.new ≡ progress.old)) }
     ensures missing { progress.new.missing ≤ progress.old.missing }
     ensures fewer { IfOk result (λ pieces. OnOk (read_by pieces) (I.calls intake.new < I.calls intake.old)) }
@@ -76,13 +74,10 @@ fn make_and_read<R: Threads, I: Intake, O: Outlet, G: Gate>(
     ensures made { (p : Port) (frames : List FrameValue) (text : List ℕ)
         → IsConditioned p true frames text conditioner.old → IsConditioned p true frames text conditioner.new }
     ensures told { O.tells outlet.old → O.tells outlet.new }
-    ensures bytes { O.tells outlet.old → MatchResult result
-        (λ _. O.held outlet.new ≡ O.held outlet.old ++ out.old.items)
-        (λ _. IsFrontOf (O.held outlet.old) out.old.items (O.held outlet.new)) }
+    ensures bytes { O.tells outlet.old → IsHandedOver result (O.held outlet.old) out.old.items (O.held outlet.new) }
     ensures emptied { OnOk result (out.new.items ≡ []) }
     ensures fault { IfErr result (λ fault. fault ≡ MarkFault.Capture PcapFault.WriteFault) }
-    ensures failures { O.failed outlet.new
-        ≡ (if is_ok result then O.failed outlet.old else next_count (O.failed outlet.old)) }
+    ensures failures { O.failed outlet.new ≡ failures_unless (is_ok result) (O.failed outlet.old) }
     ensures unread { OnErr result ((intake.new ≡ intake.old) × (progress.new ≡ progress.old)) }
     ensures missing { progress.new.missing ≤ progress.old.missing }
     ensures fewer { IfOk result (λ pieces. OnOk (read_by pieces) (I.calls intake.new < I.calls intake.old)) }
@@ -100,13 +95,11 @@ fn make_and_read<R: Threads, I: Intake, O: Outlet, G: Gate>(
         &mut || -> Result<Pieces, MarkFault>
             requires { progress.now.missing ≤ 24 }
             ensures told { O.tells outlet.entry.now → O.tells outlet.exit.now }
-            ensures bytes { O.tells outlet.entry.now → MatchResult result
-                (λ _. O.held outlet.exit.now ≡ O.held outlet.entry.now ++ out.entry.now.items)
-                (λ _. IsFrontOf (O.held outlet.entry.now) out.entry.now.items (O.held outlet.exit.now)) }
+            ensures bytes { O.tells outlet.entry.now
+                → IsHandedOver result (O.held outlet.entry.now) out.entry.now.items (O.held outlet.exit.now) }
             ensures emptied { OnOk result (out.exit.now.items ≡ []) }
             ensures fault { IfErr result (λ fault. fault ≡ MarkFault.Capture PcapFault.WriteFault) }
-            ensures failures { O.failed outlet.exit.now
-                ≡ (if is_ok result then O.failed outlet.entry.now else next_count (O.failed outlet.entry.now)) }
+            ensures failures { O.failed outlet.exit.now ≡ failures_unless (is_ok result) (O.failed outlet.entry.now) }
             ensures unread { OnErr result
                 ((intake.exit.now ≡ intake.entry.now) × (progress.exit.now ≡ progress.entry.now)) }
             ensures missing { progress.exit.now.missing ≤ progress.entry.now.missing }
@@ -169,13 +162,8 @@ fn take_seen(
     requires told { IfOk seen (λ seen. AreSeenOf port.now frames.items seen.items) }
     ensures bounded { IsBounded conditioner.new }
     ensures records { conditioner.new.counts.records ≤ conditioner.old.counts.records + length frames.items }
-    ensures seen { OnOk result ((before : List FrameValue) (text : List ℕ)
-        → IsConditioned port.now true before text conditioner.old
-        → IsConditioned port.now true (before ++ frames.items) text conditioner.new) }
-    ensures unseen { OnErr result ((before : List FrameValue) (text : List ℕ)
-        → IsConditioned port.now true before text conditioner.old
-        → (front : List FrameValue) × (others : List FrameValue) × (frames.items ≡ front ++ others)
-        × IsConditioned port.now true (before ++ front) text conditioner.new) }
+    ensures seen { AreSeen result port.now conditioner.old conditioner.new frames.items }
+    ensures unseen { AreSeenInPart result port.now conditioner.old conditioner.new frames.items }
 {
     match seen {
         Ok(seen) => conditioner.take_all(port, frames, seen.as_slice()),
@@ -254,14 +242,10 @@ pub(crate) fn take_turn_beside<R: Threads + Sync, I: Intake, O: Outlet, G: Gate>
         out.new.items result }
     ensures reads { IfOk result (λ turn.
         IsOfReads (is_unread_in turn) (I.failed intake.old) (I.failed intake.new) (I.calls intake.new)) }
-    ensures fault { MatchResult result
-        (λ turn. (¬ (turn ≡ Turn.Ended (Some PcapFault.WriteFault)))
-        × (¬ (turn ≡ Turn.Ended (Some PcapFault.NoMemory))))
-        (λ fault. (fault ≡ MarkFault.Capture PcapFault.WriteFault) ⊎ (fault ≡ MarkFault.NoMemory)) }
+    ensures fault { MatchResult result IsWell IsBreak }
     ensures taken { I.tells intake.old → I.tells intake.new }
     ensures told { O.tells outlet.old → O.tells outlet.new }
-    ensures failures { O.failed outlet.new
-        ≡ (if is_write_fault result then next_count (O.failed outlet.old) else O.failed outlet.old) }
+    ensures failures { O.failed outlet.new ≡ failures_with (is_write_fault result) (O.failed outlet.old) }
 {
     let pieces = make_and_read(rt, alloc, conditioner, out, progress, intake, outlet, gate)?;
     match pieces {

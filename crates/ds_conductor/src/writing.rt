@@ -10,7 +10,9 @@ ghost use Rattle.ds_conductor.specs.Conditionings.{IsBounded, IsConditioned, IsU
 ghost use Rattle.ds_conductor.specs.Seens.{IsSeenAt};
 ghost use Rattle.ds_conductor.specs.Texts.{is_dropped, record_text, text_in_class};
 ghost use Rattle.ds_conductor.specs.Turnings.{IsCollected};
-ghost use Rattle.ds_conductor.specs.Writings.{IsWrittenTo, is_write_fault};
+ghost use Rattle.ds_conductor.specs.Passings.{IsWrittenOn};
+ghost use Rattle.ds_conductor.specs.Writings.{IsBreak, IsHandedOver, IsWrittenTo, failures_unless, failures_with};
+ghost use Rattle.ds_conductor.specs.Writings.{is_write_fault};
 
 use crate::conditioner::Conditioner;
 use crate::fault::MarkFault;
@@ -30,13 +32,10 @@ const FULL: usize = 65536;
 /// Hands over what is collected, and empties the collection. A fault leaves a front of it written.
 pub(crate) fn write_out<O: Outlet>(outlet: &mut O, out: &mut Vec<u8>) -> Result<(), MarkFault>
     ensures told { O.tells outlet.old → O.tells outlet.new }
-    ensures bytes { O.tells outlet.old → MatchResult result
-        (λ _. O.held outlet.new ≡ O.held outlet.old ++ out.old.items)
-        (λ _. IsFrontOf (O.held outlet.old) out.old.items (O.held outlet.new)) }
+    ensures bytes { O.tells outlet.old → IsHandedOver result (O.held outlet.old) out.old.items (O.held outlet.new) }
     ensures emptied { OnOk result (out.new.items ≡ []) }
     ensures fault { IfErr result (λ fault. fault ≡ MarkFault.Capture PcapFault.WriteFault) }
-    ensures failures { O.failed outlet.new
-        ≡ (if is_ok result then O.failed outlet.old else next_count (O.failed outlet.old)) }
+    ensures failures { O.failed outlet.new ≡ failures_unless (is_ok result) (O.failed outlet.old) }
 {
     match hand_over(outlet, out) {
         Ok(()) => Ok(()),
@@ -51,8 +50,7 @@ fn write_out_full<O: Outlet>(outlet: &mut O, out: &mut Vec<u8>) -> Result<(), Ma
         (λ _. IsWrittenTo out.new.items (O.held outlet.old) out.old.items (O.held outlet.new))
         (λ _. IsFrontOf (O.held outlet.old) out.old.items (O.held outlet.new)) }
     ensures fault { IfErr result (λ fault. fault ≡ MarkFault.Capture PcapFault.WriteFault) }
-    ensures failures { O.failed outlet.new
-        ≡ (if is_ok result then O.failed outlet.old else next_count (O.failed outlet.old)) }
+    ensures failures { O.failed outlet.new ≡ failures_unless (is_ok result) (O.failed outlet.old) }
 {
     if out.len() < FULL {
         return Ok(());
@@ -134,10 +132,8 @@ fn write_frame<O: Outlet>(
         MatchResult result
         (λ _. IsWrittenTo out.new.items (O.held outlet.old) text (O.held outlet.new))
         (λ _. IsFrontOf (O.held outlet.old) text (O.held outlet.new)) }
-    ensures fault { IfErr result (λ fault. (fault ≡ MarkFault.Capture PcapFault.WriteFault)
-        ⊎ (fault ≡ MarkFault.NoMemory)) }
-    ensures failures { O.failed outlet.new
-        ≡ (if is_write_fault result then next_count (O.failed outlet.old) else O.failed outlet.old) }
+    ensures fault { IfErr result IsBreak }
+    ensures failures { O.failed outlet.new ≡ failures_with (is_write_fault result) (O.failed outlet.old) }
 {
     let Ok(()) = add_record(out, port, &frame, packet) else {
         return Err(MarkFault::NoMemory);
@@ -158,19 +154,11 @@ fn write_decided<O: Outlet>(
     ensures records { conditioner.new.counts.records ≡ conditioner.old.counts.records }
     ensures waiting { conditioner.new.under_way.waiting ≡ conditioner.old.under_way.waiting }
     ensures told { O.tells outlet.old → O.tells outlet.new }
-    ensures bytes { O.tells outlet.old → (more : Bool) (frames : List FrameValue) (text before : List ℕ)
-        → IsConditioned port.now more frames text conditioner.old
-        → IsWrittenTo out.old.items before (port.now.heading.bytes ++ text) (O.held outlet.old)
-        → MatchResult result
-        (λ _. (after : List ℕ) × IsConditioned port.now more frames after conditioner.new
-        × IsWrittenTo out.new.items before (port.now.heading.bytes ++ after) (O.held outlet.new))
-        (λ _. (after : List ℕ) × IsConditioned port.now more frames after conditioner.new
-        × IsFrontOf before (port.now.heading.bytes ++ after) (O.held outlet.new)) }
+    ensures bytes { O.tells outlet.old → (more : Bool) → IsWrittenOn result port.now more conditioner.old conditioner.new
+        out.old.items out.new.items (O.held outlet.old) (O.held outlet.new) }
     ensures undecided { OnOk result (IsUndecided conditioner.new) }
-    ensures fault { IfErr result (λ fault. (fault ≡ MarkFault.Capture PcapFault.WriteFault)
-        ⊎ (fault ≡ MarkFault.NoMemory)) }
-    ensures failures { O.failed outlet.new
-        ≡ (if is_write_fault result then next_count (O.failed outlet.old) else O.failed outlet.old) }
+    ensures fault { IfErr result IsBreak }
+    ensures failures { O.failed outlet.new ≡ failures_with (is_write_fault result) (O.failed outlet.old) }
 {
     while let Some((frame, packet)) = conditioner.pop() {
         write_frame(outlet, out, port, frame, packet)?;
@@ -207,20 +195,12 @@ pub(crate) fn write_on<O: Outlet>(
     ensures records { conditioner.new.counts.records ≡ conditioner.old.counts.records }
     ensures waiting { conditioner.new.under_way.waiting ≡ conditioner.old.under_way.waiting }
     ensures told { O.tells outlet.old → O.tells outlet.new }
-    ensures bytes { O.tells outlet.old → (more : Bool) (frames : List FrameValue) (text before : List ℕ)
-        → IsConditioned port.now more frames text conditioner.old
-        → IsWrittenTo out.old.items before (port.now.heading.bytes ++ text) (O.held outlet.old)
-        → MatchResult result
-        (λ _. (after : List ℕ) × IsConditioned port.now more frames after conditioner.new
-        × IsWrittenTo out.new.items before (port.now.heading.bytes ++ after) (O.held outlet.new))
-        (λ _. (after : List ℕ) × IsConditioned port.now more frames after conditioner.new
-        × IsFrontOf before (port.now.heading.bytes ++ after) (O.held outlet.new)) }
+    ensures bytes { O.tells outlet.old → (more : Bool) → IsWrittenOn result port.now more conditioner.old conditioner.new
+        out.old.items out.new.items (O.held outlet.old) (O.held outlet.new) }
     ensures emptied { OnOk result (out.new.items ≡ []) }
     ensures undecided { OnOk result (IsUndecided conditioner.new) }
-    ensures fault { IfErr result (λ fault. (fault ≡ MarkFault.Capture PcapFault.WriteFault)
-        ⊎ (fault ≡ MarkFault.NoMemory)) }
-    ensures failures { O.failed outlet.new
-        ≡ (if is_write_fault result then next_count (O.failed outlet.old) else O.failed outlet.old) }
+    ensures fault { IfErr result IsBreak }
+    ensures failures { O.failed outlet.new ≡ failures_with (is_write_fault result) (O.failed outlet.old) }
 {
     write_decided(port, conditioner, out, outlet)?;
     write_out(outlet, out)

@@ -1,4 +1,4 @@
-use Rattle.std.proofs.Common.{◌++◌, Option, None, Some, Ok, arith, inr, refl, sym, ap, subst, ◌∙◌, append_assoc}
+use Rattle.std.proofs.Common.{◌++◌, Option, None, Some, arith, inr, refl, sym, ap, subst, ◌∙◌, append_assoc}
 use Rattle.std.proofs.lemmas.Result.{err_from_is_err_and}
 use Rattle.pcap_capture.specs.declared.heading.Heading.{Heading}
 use Rattle.ds_conductor.specs.Readings.{IsReading}

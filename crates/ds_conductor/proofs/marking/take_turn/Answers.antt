@@ -1,4 +1,4 @@
-use Rattle.std.proofs.Common.{sym, arith, ◌∙◌}
+use Rattle.std.proofs.Common.{sym, ◌∙◌}
 use Rattle.ds_conductor.proofs.ReadingLaws.{stage_of}
 use Rattle.ds_conductor.proofs.marking.take_turn.Goals as goal
 

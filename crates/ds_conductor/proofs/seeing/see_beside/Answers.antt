@@ -1,6 +1,5 @@
-use Rattle.std.proofs.Common.{◌≡◌, ℕ, List, Bor, ap, subst, sym, ◌∙◌}
+use Rattle.std.proofs.Common.{◌≡◌, ℕ, List, Bor, subst}
 use Rattle.std.proofs.lemmas.Result.{IfOk-weaker}
-use Rattle.frame_marker.specs.Marks.{mark_in}
 use Rattle.frame_marker.specs.declared.sight.Seen.{Seen}
 use Rattle.pcap_capture.specs.Frames.{FrameValue}
 use Rattle.ds_conductor.specs.Conditionings.{IsSeenOf}

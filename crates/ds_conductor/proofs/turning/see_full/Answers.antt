@@ -1,4 +1,4 @@
-use Rattle.std.proofs.Common.{true, [], ◌++◌, List, append-nil, refl, sym, subst}
+use Rattle.std.proofs.Common.{true, [], List, append-nil, refl, sym, subst}
 use Rattle.pcap_capture.specs.Frames.{FrameValue}
 use Rattle.ds_conductor.specs.Conditionings.{IsConditioned}
 use Rattle.ds_conductor.proofs.PassingLaws.{taken_in}

@@ -1,4 +1,4 @@
-use Rattle.std.proofs.Common.{◌≡◌, ◌+◌, ◌<◌, ℕ, List, true, ap, refl, sym, subst, arith}
+use Rattle.std.proofs.Common.{◌+◌, ◌<◌, true, ap, refl, sym, subst}
 use Rattle.std.specs.List.{All}
 use Rattle.ds_conductor_base.proofs.HeadStartLaws.{come_sooner}
 use Rattle.ds_conductor_base.specs.Streams.{ComeFrom}
