@@ -5,37 +5,23 @@ use Rattle.line_text.specs.Lines.{has_byte}
 use Rattle.line_text.proofs.LineLemmas.{has_byte-cons, has_byte-append}
 use Rattle.dsedge_lines.specs.FirstLine.{first_line_of, after_first_line}
 
--- LF ends the line
-pub first_line_of-cut : (line rest : List ℕ) → has_byte 10 line ≡ false → first_line_of (line ++ 10 ∷ rest) ≡ line
-unfolding first_line_of
-first_line_of-cut [] rest h = refl
-first_line_of-cut (byte ∷ line) rest h =
+-- LF ends the line, and what stands behind it is left
+pub first_line-cut : (line rest : List ℕ) → has_byte 10 line ≡ false → (first_line_of (line ++ 10 ∷ rest) ≡ line) × (after_first_line (line ++ 10 ∷ rest) ≡ rest)
+unfolding first_line_of after_first_line
+first_line-cut [] rest h = (refl, refl)
+first_line-cut (byte ∷ line) rest h =
     let parts = has_byte-cons 10 byte line h in
-    rw (parts.0, first_line_of-cut line rest parts.1) refl
+    let later = first_line-cut line rest parts.1 in
+    (rw (parts.0, later.0) refl, rw (parts.0, later.1) refl)
 
--- and what stands behind it is left
-pub after_first_line-cut : (line rest : List ℕ) → has_byte 10 line ≡ false → after_first_line (line ++ 10 ∷ rest) ≡ rest
-unfolding after_first_line
-after_first_line-cut [] rest h = refl
-after_first_line-cut (byte ∷ line) rest h =
+-- a text without LF is the line, and nothing is left
+pub first_line-uncut : (line : List ℕ) → has_byte 10 line ≡ false → (first_line_of line ≡ line) × (after_first_line line ≡ [])
+unfolding first_line_of after_first_line
+first_line-uncut [] h = (refl, refl)
+first_line-uncut (byte ∷ line) h =
     let parts = has_byte-cons 10 byte line h in
-    rw (parts.0, after_first_line-cut line rest parts.1) refl
-
--- a text without LF is the line
-pub first_line_of-uncut : (line : List ℕ) → has_byte 10 line ≡ false → first_line_of line ≡ line
-unfolding first_line_of
-first_line_of-uncut [] h = refl
-first_line_of-uncut (byte ∷ line) h =
-    let parts = has_byte-cons 10 byte line h in
-    rw (parts.0, first_line_of-uncut line parts.1) refl
-
--- and nothing is left
-pub after_first_line-uncut : (line : List ℕ) → has_byte 10 line ≡ false → after_first_line line ≡ []
-unfolding after_first_line
-after_first_line-uncut [] h = refl
-after_first_line-uncut (byte ∷ line) h =
-    let parts = has_byte-cons 10 byte line h in
-    rw (parts.0, after_first_line-uncut line parts.1) refl
+    let later = first_line-uncut line parts.1 in
+    (rw (parts.0, later.0) refl, rw (parts.0, later.1) refl)
 
 -- the line is no shorter than what came without LF
 pub first_line_of-long : (front rest : List ℕ) → has_byte 10 front ≡ false → length front ≤ length (first_line_of (front ++ rest))

@@ -19,22 +19,18 @@ pub struct Progress {
     pub out: Vec<u8>,
 }
 
-/// Answers the line that is carried over and ends with `rest`.
+/// Answers the line that is carried over, and ends there.
 fn answer_carried<C: Command>(
     command: &mut C,
     progress: &mut Progress,
-    rest: &[u8],
 ) -> Result<Option<Ending>, AllocError>
     requires number { progress.old.number + 1 < 2 ^ 64 }
     requires carried { has_byte 10 progress.old.carry.items ≡ false }
-    requires one_line { has_byte 10 rest.now ≡ false }
-    ensures answer { (later : List ℕ) →
-        Answers (answer_with (C.answer command.old) progress.old (rest.now ++ 10 ∷ later))
+    ensures answer { (later : List ℕ) → Answers (answer_with (C.answer command.old) progress.old (10 ∷ later))
         (answer_with (C.answer command.new) progress.new later) progress.new.out.items result }
     ensures carried { IfOk result (λ ended. IfNone ended (progress.new.carry.items ≡ [])) }
     ensures number { IfOk result (λ ended. IfNone ended (progress.new.number ≡ progress.old.number + 1)) }
 {
-    progress.carry.extend_from_slice(rest)?;
     let answered = command.line(
         progress.number,
         progress.carry.as_slice(),
@@ -62,7 +58,8 @@ fn answer_line<C: Command>(
     ensures number { IfOk result (λ ended. IfNone ended (progress.new.number ≡ progress.old.number + 1)) }
 {
     if !progress.carry.is_empty() {
-        return answer_carried(command, progress, rest);
+        progress.carry.extend_from_slice(rest)?;
+        return answer_carried(command, progress);
     }
     let answered = command.line(progress.number, rest, &mut progress.out);
     progress.number += 1;

@@ -3,7 +3,7 @@ use Rattle.std.proofs.lemmas.List.{length_push}
 use Rattle.line_text.proofs.LineLemmas.{has_byte-nil}
 use Rattle.pcap_capture.proofs.CountLaws.{reads_from}
 use Rattle.dsedge_lines.specs.FirstLine.{first_line_of, after_first_line}
-use Rattle.dsedge_lines.proofs.FirstLineLemmas.{first_line_of-cut, after_first_line-cut, first_line_of-uncut, after_first_line-uncut, first_line_of-long, has_byte-push, most_bytes, too_many_bytes}
+use Rattle.dsedge_lines.proofs.FirstLineLemmas.{first_line-cut, first_line-uncut, first_line_of-long, has_byte-push, most_bytes, too_many_bytes}
 use Rattle.dsedge_lines.proofs.words.read_line.Goals as goal
 
 pub loop-turn-init : goal.loop-turn-init
@@ -22,7 +22,7 @@ returns-in-Ok-None-clause-line g c = λ tells.
     let ends = rw c.in-Ok-None.field-0-is at (c.in-Ok-None.ensures.byte (was.told tells)) in
     let whole : g.I.Intake.left c.args.intake.now ≡ line = was.left tells ∙ ap (λ bytes. line ++ bytes) ends.0 ∙ append-nil line in
     let size : length line ≤ 65536 = most_bytes _ _ was.size c.loop-turn-test.true in
-    (sym (ap first_line_of whole ∙ first_line_of-uncut line was.unbroken), ends.1 ∙ sym (ap after_first_line whole ∙ after_first_line-uncut line was.unbroken), size)
+    (sym (ap first_line_of whole ∙ (first_line-uncut line was.unbroken).0), ends.1 ∙ sym (ap after_first_line whole ∙ (first_line-uncut line was.unbroken).1), size)
 
 pub returns-then-byte-eq10-clause-line : goal.returns-then-byte-eq10-clause-line
 returns-then-byte-eq10-clause-line g c = λ tells.
@@ -32,7 +32,7 @@ returns-then-byte-eq10-clause-line g c = λ tells.
     let next = rw c.in-Ok-Some.field-0-is at (c.in-Ok-Some.ensures.byte (was.told tells)) in
     let whole : g.I.Intake.left c.args.intake.now ≡ line ++ 10 ∷ rest = was.left tells ∙ ap (λ bytes. line ++ bytes) (next ∙ ap (λ byte. byte ∷ rest) c.if-byte-eq10.true) in
     let size : length line ≤ 65536 = most_bytes _ _ was.size c.loop-turn-test.true in
-    (sym (ap first_line_of whole ∙ first_line_of-cut line rest was.unbroken), sym (ap after_first_line whole ∙ after_first_line-cut line rest was.unbroken), size)
+    (sym (ap first_line_of whole ∙ (first_line-cut line rest was.unbroken).0), sym (ap after_first_line whole ∙ (first_line-cut line rest was.unbroken).1), size)
 
 pub loop-turn-preserved : goal.loop-turn-preserved
 loop-turn-preserved g c =
