@@ -1,9 +1,8 @@
 -- The ones' complement sum in closed form.
-use Rattle.std.proofs.Common.{◌≡◌, ℕ, ◌+◌, ◌-◌, ◌*◌, ◌/◌, ◌%◌, ◌<◌, ◌≤◌, zero, suc, List, [], ◌∷◌, length, take, drop, slice_index, refl, sym, inl, inr, add-zero, add-suc, ◌∙◌, ap, arith}
+use Rattle.std.proofs.Common.{◌≡◌, ℕ, ◌+◌, ◌-◌, ◌*◌, ◌/◌, ◌%◌, ◌<◌, zero, suc, List, [], ◌∷◌, length, slice_index, refl, sym, inl, inr, add-zero, add-suc, ◌∙◌, ap, arith}
 use Rattle.std.proofs.lemmas.Bool.Decides.{nat_tests}
 use Rattle.std.proofs.lemmas.Bool.{cases_lt}
 use Rattle.std.proofs.lemmas.Nat.{mod-mul-add}
-use Rattle.byteorder.specs.Endian.{big_number}
 use Rattle.af_marker.specs.Checksums.{folded, ones_add, ones_sum, words}
 
 -- a plain sum
@@ -52,12 +51,6 @@ AreWords-words (a ∷ []) h = let first = h 0 in (omega arith, tt)
 AreWords-words (a ∷ (b ∷ rest)) h =
     let first = h 0 in let second = h 1 in
     (omega arith, AreWords-words rest (AreBytes-rest b rest (AreBytes-rest a (b ∷ rest) h)))
-
--- two bytes more are a word more
-pub total_words_front : (bytes : List ℕ) → 2 ≤ length bytes → total (words bytes) ≡ big_number 2 (take 2 bytes) + total (words (drop 2 bytes))
-total_words_front [] h = absurd (omega arith)
-total_words_front (a ∷ []) h = absurd (omega arith)
-total_words_front (a ∷ (b ∷ rest)) h = omega arith
 
 -- an even number of bytes that is below two is none
 pub total_words_end : (bytes : List ℕ) → length bytes < 2 → length bytes % 2 ≡ 0 → total (words bytes) ≡ 0

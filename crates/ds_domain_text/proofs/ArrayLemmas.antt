@@ -1,6 +1,6 @@
 -- What the items of an array say, one after the other.
-use Rattle.std.proofs.Common.{◌≡◌, ◌≢◌, ℕ, ◌+◌, ◌<◌, ◌≤◌, List, [], ◌∷◌, ◌++◌, length, get_or, drop, Option, None, Some, option_map, map, refl, sym, ap, ◌∙◌, arith, append_assoc}
-use Rattle.std.proofs.lemmas.List.{append-nil, drop_all, map-append}
+use Rattle.std.proofs.Common.{◌≡◌, ◌≢◌, ℕ, ◌+◌, ◌<◌, List, [], ◌∷◌, ◌++◌, length, get_or, drop, Option, None, Some, option_map, map, refl, sym, ap, ◌∙◌, arith, append_assoc}
+use Rattle.std.proofs.lemmas.List.{map-append}
 use Rattle.toml.specs.Data.{Data}
 use Rattle.toml.specs.View.{items_view, view}
 use Rattle.toml.specs.declared.value.Value.{Value}
@@ -29,22 +29,6 @@ each_of-turn read f vs i v done after x h here said more before =
     let front : with_rest (map f done) (each_of read (items_view (drop i vs))) ≡ with_rest (map f done ++ f x ∷ []) (each_of read (items_view (drop (i + 1) vs))) =
     rw (items_view-drop vs i v h, ← here, ← said) (one_more (map f done) (f x) (each_of read (items_view (drop (i + 1) vs)))) in
     rw (more, map-append f done (x ∷ [])) (sym front ∙ before)
-
--- an item that says nothing
-pub each_of-stop : {A : Type 0} (read : Data → Option A) (vs : List Value) (i : ℕ) (v : Value) (done : List A) → i < length vs → v ≡ get_or vs i v → None ≡ read (view v)
-    → with_rest done (each_of read (items_view (drop i vs))) ≡ each_of read (items_view vs)
-    → each_of read (items_view vs) ≡ None
-each_of-stop read vs i v done h here said before =
-    let front : with_rest done (each_of read (items_view (drop i vs))) ≡ None = rw (items_view-drop vs i v h, ← here, ← said) refl in
-    sym before ∙ front
-
--- behind the last item
-pub each_of-all_done : {A : Type 0} (read : Data → Option A) (vs : List Value) (i : ℕ) (done : List A) → length vs ≤ i
-    → with_rest done (each_of read (items_view (drop i vs))) ≡ each_of read (items_view vs)
-    → each_of read (items_view vs) ≡ Some done
-each_of-all_done read vs i done h before =
-    let gone : drop i vs ≡ [] = drop_all i vs h in
-    sym before ∙ rw (gone, append-nil) refl
 
 -- two numbers are in arrays of two items alone
 pub two_numbers-other : (vs : List Value) → length vs ≢ 2 → two_numbers (items_view vs) ≡ None

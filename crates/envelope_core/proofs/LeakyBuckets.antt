@@ -2,7 +2,7 @@
 use Rattle.std.proofs.Common.{◌≡◌, ℕ, true, false, ◌+◌, ◌*◌, ◌<◌, ◌≤◌, ◌↔◌, suc, inl, inr, List, [], ◌∷◌, ◌++◌, Option, None, Some, arith, length, take, get_or, refl, ap, append_assoc, length-append}
 use Rattle.std.proofs.lemmas.Bool.{cases_lt, lt-ltb, le-ltb}
 use Rattle.std.proofs.lemmas.Bool.Decides.{nat_tests}
-use Rattle.std.proofs.lemmas.List.{append-nil, take-append-le, take_all, take-take}
+use Rattle.std.proofs.lemmas.List.{append-nil, take-append-le, take_all}
 use Rattle.moment_core.specs.Conformance.{Keeps}
 use Rattle.envelope_core.specs.Curve.{Curve}
 use Rattle.envelope_core.specs.Laws.{BucketsTell, IsFirstBeyond}
@@ -93,27 +93,6 @@ verdict_tells rate burst items (Some j) h = (
 
 pub buckets_tell_all : BucketsTell
 buckets_tell_all = λ rate burst items ordered. verdict_tells rate burst items (overflow_of rate burst items) (verdict_of_bucket rate burst items ordered)
-
--- a first index is not before another
-first_not_before : (rate burst : ℕ) (items : List (ℕ × ℕ)) (i j : ℕ) → IsFirstBeyond rate burst items i → IsFirstBeyond rate burst items j → j ≤ i
-first_not_before rate burst items i j a b =
-    elim (cases_lt i j) [
-      | inl before ↦
-          let front : Keeps rate burst (take (i + 1) items) = rw (take-take (i + 1) j items (omega arith)) at (Keeps-take rate burst (i + 1) (take j items) b.1) in
-          absurd (a.2 front)
-      | inr no' ↦ no'
-    ]
-
--- there is one verdict
-pub one_verdict : (rate burst : ℕ) (items : List (ℕ × ℕ)) (a b : Option ℕ) → IsVerdict rate burst items a → IsVerdict rate burst items b → a ≡ b
-one_verdict rate burst items None None a b = refl
-one_verdict rate burst items None (Some j) a b = absurd (b.2 (Keeps-take rate burst (j + 1) items a))
-one_verdict rate burst items (Some i) None a b = absurd (a.2 (Keeps-take rate burst (i + 1) items b))
-one_verdict rate burst items (Some i) (Some j) a b =
-    let low = first_not_before rate burst items i j a b in
-    let high = first_not_before rate burst items j i b a in
-    let same : i ≡ j = omega arith in
-    ap (λ k. Some k) same
 
 -- ---- a bucket, packet by packet
 

@@ -8,7 +8,7 @@ use Rattle.std.specs.Option.{ForSome}
 use Rattle.moment_core.specs.Conformance.{size_within, Keeps}
 use Rattle.moment_core.specs.Volume.{nanoseconds_for}
 use Rattle.envelope_core.proofs.Quotients.{bytes_within, bytes_within_back}
-use Rattle.envelope_core.proofs.Windows.{size_within_after, size_within_before, size_within_cases, size_within_inside, sum_by-filter, sum_by-flat_map, sum_by-mono, sum_by-none, sum_by-split}
+use Rattle.envelope_core.proofs.Windows.{size_within_after, size_within_cases, size_within_inside, sum_by-filter, sum_by-flat_map, sum_by-mono, sum_by-none, sum_by-split}
 use Rattle.std.proofs.lemmas.List.Sums.{sum_by-cons}
 use Rattle.std.proofs.lemmas.Option.{same_Some, none-some}
 
@@ -72,11 +72,6 @@ pub record IsOver (rate burst retirement : ℕ) (items : List (ℕ × ℕ)) : Ty
 none-before : (from start end : ℕ) (items : List (ℕ × ℕ)) → All (λ item. from ≤ item.0) items → end < from → sum_by (size_within start end) items ≡ 0
 none-before from start end items begun early =
     sum_by-none (size_within start end) items (λ k d h. let by = begun k d h in size_within_after start end (get_or items k d) (omega (arith, by, early)))
-
--- and none in one that starts behind the last
-none-behind : (last start end : ℕ) (items : List (ℕ × ℕ)) → All (λ item. item.0 ≤ last) items → last < start → sum_by (size_within start end) items ≡ 0
-none-behind last start end items ended late =
-    sum_by-none (size_within start end) items (λ k d h. let by = ended k d h in size_within_before start end (get_or items k d) (omega (arith, by, late)))
 
 -- a window may be cut to what holds all items
 narrower : (start end first last : ℕ) (items : List (ℕ × ℕ))

@@ -1,7 +1,7 @@
 -- Sums over a window, and what keeps an envelope.
 use Rattle.std.proofs.Common.{◌≡◌, ℕ, ◌+◌, ◌-◌, ◌*◌, ◌/◌, ◌<◌, ◌≤◌, ◌⊎◌, inl, inr, Bool, true, false, cond, List, [], ◌∷◌, ◌++◌, map, refl, sym, ◌∙◌, ap, arith, get_or}
 use Rattle.std.proofs.Math.Nat.{mul-le-mul_left, mul-le-mul_right, add-mul}
-use Rattle.std.proofs.lemmas.Bool.{cases_lt, false≢true}
+use Rattle.std.proofs.lemmas.Bool.{cases_lt}
 use Rattle.std.proofs.lemmas.Bool.Decides.{nat_tests}
 use Rattle.std.proofs.lemmas.List.Sums.{sum_by-cons, sum_by-append}
 use Rattle.std.proofs.lemmas.List.Sorted.{sum_by-IsPermutation}
@@ -114,26 +114,6 @@ Keeps-front rate burst front rest kept start end ordered =
 pub Keeps-part : (rate burst : ℕ) (whole part rest : List (ℕ × ℕ)) → IsPermutation whole (part ++ rest) → Keeps rate burst whole → Keeps rate burst part
 Keeps-part rate burst whole part rest same kept =
     Keeps-front rate burst part rest (Keeps-IsPermutation rate burst whole (part ++ rest) same kept)
-
--- Of things that stand for items, those that pass a test keep what those keep that pass a weaker one.
-pub Keeps-fewer : {P : Type 0} (item : P → ℕ × ℕ) (some more : P → Bool) (rate burst : ℕ) (ps : List P)
-    → All (λ p. some p ≡ true → more p ≡ true) ps
-    → Keeps rate burst (map item (filter more ps))
-    → Keeps rate burst (map item (filter some ps))
-Keeps-fewer item some more rate burst ps weaker kept start end ordered =
-    let weigh = λ (p : _). size_within start end (item p) in
-    let whole = kept start end ordered in
-    let less : sum_by weigh (filter some ps) ≤ sum_by weigh (filter more ps) =
-    rw (sum_by-filter weigh some ps, sum_by-filter weigh more ps)
-    (sum_by-mono (λ p. cond (some p) (weigh p) 0) (λ p. cond (more p) (weigh p) 0) ps
-    (λ k d h. cond-fewer (some (get_or ps k d)) (more (get_or ps k d)) (weigh (get_or ps k d)) (weaker k d h)))
-    in
-    omega (arith, whole, less, sum_by-map (size_within start end) item (filter some ps), sum_by-map (size_within start end) item (filter more ps))
-  where
-    cond-fewer : (some more : Bool) (n : ℕ) → (some ≡ true → more ≡ true) → cond some n 0 ≤ cond more n 0
-    cond-fewer false more n weaker = omega arith
-    cond-fewer true true n weaker = omega arith
-    cond-fewer true false n weaker = absurd (false≢true (weaker refl))
 
 -- what passes a test keeps what the whole keeps
 pub Keeps-filter : (rate burst : ℕ) (test : ℕ × ℕ → Bool) (items : List (ℕ × ℕ)) → Keeps rate burst items → Keeps rate burst (filter test items)

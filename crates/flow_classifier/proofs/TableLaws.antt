@@ -185,9 +185,6 @@ next_group groups index group key inside is =
     ap (λ left. first_flow_of (rules_in left) key) (drop_more groups index group inside ∙ ap (λ (g : List FlowRule). g ∷ drop (index + 1) groups) (sym is))
     ∙ flow_append group (rules_in (drop (index + 1) groups)) key
 
-pub no_group : (groups : List (List FlowRule)) (index : ℕ) (key : Key) → length groups ≤ index → first_flow_of (rules_in (drop index groups)) key ≡ None
-no_group groups index key ended = ap (λ left. first_flow_of (rules_in left) key) (drop_all index groups ended)
-
 -- ---- one rule more
 
 pub ok_then : {T E P Q : Type 0} (r : Result T E) → (P → Q) → OnOk r P → OnOk r Q

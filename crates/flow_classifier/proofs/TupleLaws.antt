@@ -8,7 +8,7 @@ use Rattle.std.specs.Ordering.{is_lt, nat_cmp, ordering_then}
 use Rattle.std.proofs.lemmas.Bool.{cases_lt}
 use Rattle.std.proofs.lemmas.Bool.Decides.{nat_tests}
 use Rattle.std.proofs.lemmas.Cmp.{nat_cmp_total, on_total, then_total}
-use Rattle.std.proofs.lemmas.List.{drop_all, drop_more, get_or-drop, get_or_default, get_or_read, map_push, take_more}
+use Rattle.std.proofs.lemmas.List.{drop_more, get_or-drop, get_or_default, get_or_read, map_push, take_more}
 use Rattle.std.proofs.lemmas.List.Elements.{All-cons, All-nil, All-push, All-weaker}
 use Rattle.std.proofs.lemmas.List.Sorted.{All-permutation, list_any-IsPermutation, ranks_by, sorted_far}
 use Rattle.std.proofs.lemmas.Option.{MatchOption-at_some, get_or_from_slice_get, none-some, same_Some, slice_get_within}
@@ -134,10 +134,6 @@ none_behind run addresses rules key count place e inside late before up above k 
         let at : row ≡ get_or run count d = get_or_default run count e d inside in
         let order : Precedes row (get_or run k d) = subst (λ (r : Row). Precedes r (get_or run k d)) (sym at) (preceding run up count k d last within) in
         absurd (contradict row.addresses row.place (get_or run k d).addresses (get_or run k d).place addresses place order.0 order.1 (above count e inside) asked early late)
-
--- at the end of the run
-pub none_all : (run : List Row) (addresses : ℕ) (rules : List FlowRule) (key : Key) (count place : ℕ) → length run ≤ count → NoneSoFar run rules key count → NoneOf run addresses rules key place
-none_all run addresses rules key count place ended before k d within asked early = before k d (omega (arith, ended, within))
 
 -- ---- a tuple
 
@@ -286,9 +282,6 @@ pub rows_next : (masks : Masks) (rules : List FlowRule) (place : ℕ) (row : Flo
     ≡ cond (same_masks (masks_of row.rule) masks) (row_at place row ∷ rows_from masks (place + 1) (drop (place + 1) rules)) (rows_from masks (place + 1) (drop (place + 1) rules))
 rows_next masks rules place row inside is =
     ap (rows_from masks place) (drop_more rules place row inside ∙ ap (λ (r : FlowRule). r ∷ drop (place + 1) rules) (sym is))
-
-pub rows_end : (masks : Masks) (rules : List FlowRule) (place : ℕ) → length rules ≤ place → rows_from masks place (drop place rules) ≡ []
-rows_end masks rules place ended = ap (rows_from masks place) (drop_all place rules ended)
 
 -- the row of one of some rules, the first of which stands at a place
 abbrev IsRowOf : ℕ → List FlowRule → Row → Type 0

@@ -1,7 +1,7 @@
 -- One arrival more, in a replay and in its sums.
-use Rattle.std.proofs.Common.{◌≡◌, ℕ, ◌+◌, ◌≤◌, Bool, true, false, cond, List, [], ◌∷◌, ◌++◌, length, map, refl, sym, ◌∙◌, ap, arith}
+use Rattle.std.proofs.Common.{◌≡◌, ℕ, ◌+◌, Bool, true, false, cond, List, [], ◌∷◌, ◌++◌, length, map, refl, sym, ◌∙◌, ap, arith}
 use Rattle.std.proofs.lemmas.List.{length-map, map-append}
-use Rattle.std.proofs.lemmas.List.Sums.{count_by-le-length, sum_by-append}
+use Rattle.std.proofs.lemmas.List.Sums.{sum_by-append}
 use Rattle.moment_core.specs.declared.colour.Colour.{Colour}
 use Rattle.moment_core.specs.declared.colour.Colour.TheVariants.{Green, Yellow, Red}
 use Rattle.moment_core.specs.Colours.{is_green, is_yellow, is_red}
@@ -103,10 +103,6 @@ tallies_of-push_left rows row Red e =
 -- the sums of one row more
 pub tallies_of-push : (rows : List Row) (row : Row) → tallies_of (rows ++ row ∷ []) ≡ with_packet (tallies_of rows) row.left row.size
 tallies_of-push rows row = tallies_of-push_left rows row row.left refl
-
--- no sum of packets is above the number of rows
-pub packets_left-le : (picked : Colour → Bool) (rows : List Row) → packets_left picked rows ≤ length rows
-packets_left-le picked rows = count_by-le-length (λ (r : Row). picked r.left) rows
 
 -- the sums of one arrival more, behind what was summed before
 pub counted-push : (before : Tallies) (opening meter : AnyMeter) (first : ℕ) (rows : List StoredRow) (a : Arrival) → meter ≡ meter_after opening (arrivals_of rows)

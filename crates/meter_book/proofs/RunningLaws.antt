@@ -4,20 +4,9 @@ use Rattle.meter_book_base.specs.AnyMeter.{left_of}
 use Rattle.meter_book.specs.declared.row.Arrival.{Arrival}
 use Rattle.meter_book.specs.declared.row.Row.{Row}
 use Rattle.meter_book.specs.declared.standing.Standing.{Standing}
-use Rattle.meter_book.specs.declared.tally.Tallies.{Tallies}
-use Rattle.meter_book.specs.Replay.{accounts_with, fresh, offer_of, rows_from, standing_after}
+use Rattle.meter_book.specs.Replay.{fresh, offer_of, rows_from, standing_after}
 use Rattle.meter_book.specs.Running.{ColoursAsBook, Running, StandsAsBook, colours_answered, counted_all}
-use Rattle.meter_book.specs.Tallies.{accounts_in, tallies_of, together, with_packet}
-use Rattle.meter_book.proofs.ReplayLaws.{tallies_of-push}
 use Rattle.meter_book.proofs.StandingLaws.{standing_after-append}
-use Rattle.meter_book.proofs.TallyLaws.{together-none, together-packet}
-
--- the sums with one packet more are those of a row behind what was summed before
-pub accounts_in-row : (t : Tallies) (row : Row) → accounts_in (with_packet t row.left row.size) ≡ accounts_with (accounts_in t) (row ∷ [])
-accounts_in-row t row =
-    ap accounts_in (ap (λ s. with_packet s row.left row.size) (sym (together-none t))
-    ∙ together-packet t (tallies_of []) row.left row.size
-    ∙ ap (together t) (sym (tallies_of-push [] row)))
 
 stands_behind : (s : Standing) (most : ℕ) (front arrivals : List Arrival)
     → (counted_all (record { standing = standing_after s front None; most = most }) arrivals).standing ≡ standing_after s (front ++ arrivals) None

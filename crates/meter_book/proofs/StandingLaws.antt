@@ -19,7 +19,7 @@ use Rattle.meter_book.specs.Chapters.{AreChapters, Chapter, Follows, GoesOn, IsS
 use Rattle.meter_book.specs.Kept.{arrivals_of, stored_of}
 use Rattle.meter_book.specs.declared.stored_row.StoredRow.{StoredRow}
 use Rattle.meter_book_base.specs.OutputLaws.{goes_on-any}
-use Rattle.meter_book.specs.Replay.{Book, accounts_of, accounts_with, is_shut_by, meter_after, next_row, note_fault, note_of, noted, offer_of, replay, room_of, row_of, rows_from, standing_after, unless}
+use Rattle.meter_book.specs.Replay.{Book, accounts_of, accounts_with, is_shut_by, meter_after, note_fault, offer_of, replay, room_of, row_of, rows_from, standing_after, unless}
 use Rattle.meter_book.specs.Tallies.{accounts_in, tallies_in, tallies_of, together}
 use Rattle.meter_book.proofs.ReplayLaws.{arrivals_of-rows_from}
 use Rattle.meter_book.proofs.TallyLaws.{none-together, together-assoc, together-rows}
@@ -48,12 +48,6 @@ module _ (b : Book) (moment : ℕ) (none : note_fault b moment ≡ None) where
 done_by : {A : Type 0} (against : Option NoteFault) (done made : A) → unless against done ≡ Ok made → (against ≡ None) × (done ≡ made)
 done_by None done made is = (refl, cc)
 done_by (Some fault) done made is = absurd cc
-
-pub noted_by : (b : Book) (a : Arrival) (made : Row × Book) → note_of b a ≡ Ok made
-    → (note_fault b a.moment ≡ None) × (next_row b a ≡ made.0) × (noted b a ≡ made.1)
-noted_by b a made is =
-    let (none, same) = done_by (note_fault b a.moment) (next_row b a, noted b a) made is in
-    (none, ap (λ (m : Row × Book). m.0) same, ap (λ (m : Row × Book). m.1) same)
 
 -- a book that is not shut, and refuses, has no room
 pub no_room : (b : Book) (moment : ℕ) (fault : NoteFault) → b.shut ≡ None → note_fault b moment ≡ Some fault → room_of b ≡ 0

@@ -1,5 +1,5 @@
 -- How the parts of a metering step compute, over any rules.
-use Rattle.std.proofs.Common.{◌≡◌, ℕ, ◌+◌, ◌-◌, ◌*◌, ◌/◌, ◌<◌, ◌≤◌, zero, suc, refl, ◌∙◌, ap, arith}
+use Rattle.std.proofs.Common.{◌≡◌, ℕ, ◌+◌, ◌-◌, ◌*◌, ◌/◌, ◌≤◌, zero, suc, refl, ◌∙◌, ap, arith}
 use Rattle.std.proofs.lemmas.Bool.Decides.{nat_tests}
 use Rattle.moment_core.specs.Tokens.{Content, each_nanosecond, given, tokens_at, with_tokens}
 use Rattle.moment_core.specs.Fillings.{filled_over, filling_of}
@@ -7,15 +7,6 @@ use Rattle.moment_core.specs.Metering.{Offer, Rules, State, after, colour_of, fi
 use Rattle.moment_core.specs.declared.colour.Colour.{Colour}
 use Rattle.moment_core.specs.declared.filling.Filling.{Filling}
 use Rattle.moment_core.proofs.TokenLaws.{begun_token-since, each_nanosecond-with_tokens, given-since}
-
--- the moment that is metered at is the later one
-pub used-later : (newest moment : ℕ) → newest < moment → used newest moment ≡ moment
-unfolding used
-used-later newest moment h = grind (arith, nat_tests)
-
-pub used-earlier : (newest moment : ℕ) → moment ≤ newest → used newest moment ≡ newest
-unfolding used
-used-earlier newest moment h = grind (arith, nat_tests)
 
 -- a meter never goes back
 pub newest_le-used : (newest moment : ℕ) → newest ≤ used newest moment
