@@ -1,5 +1,5 @@
 -- The least bounds meet what bounds must, and no others that do are below them.
-use Rattle.std.proofs.Common.{rules, append_assoc, append-nil, drop, get_or, ◌++◌, ◌≡◌, ℕ, suc, ◌+◌, ◌≤◌, ◌<◌, true, List, [], ◌∷◌, length, IsTrue, refl, sym, ap, ◌∙◌, arith}
+use Rattle.std.proofs.Common.{rules, append_assoc, append-nil, drop, get_or, ◌++◌, ◌≡◌, ℕ, suc, ◌+◌, ◌≤◌, ◌<◌, Bool, true, false, ◌&&◌, ◌||◌, not, List, [], ◌∷◌, length, IsTrue, refl, sym, ap, ◌∙◌, arith}
 use Rattle.std.specs.List.{AllZip, list_all}
 use Rattle.std.proofs.lemmas.Bool.{and_parts}
 use Rattle.std.proofs.lemmas.List.{drop_all, drop_more}
@@ -104,37 +104,37 @@ least-below d [] (bounds ∷ rows) met = absurd met
 least-below d (c ∷ contracts) [] met = absurd met
 least-below d (c ∷ contracts) (bounds ∷ rows) met = (least_below d c bounds met.0.0 met.0.1, least-below d contracts rows met.1)
 
--- one link more
-pub least_behind-link : (done : List Bound) (s : Source) (d : Domain) (from to : List ℕ) (rest : List (List ℕ)) (last : Bound)
-    → done ++ least_behind s (jitters_along d from (to ∷ rest)) last
-    ≡ (done ++ delayed s (jitter_of (link_of d from to)) last ∷ []) ++ least_behind s (jitters_along d to rest) (delayed s (jitter_of (link_of d from to)) last)
-unfolding least_behind jitters_along
-least_behind-link done s d from to rest last = simp append_assoc
+-- ---- contract by contract
+ahead : (contracts : List Contract) (i : ℕ) (c : Contract) → i < length contracts → c ≡ get_or contracts i c → drop i contracts ≡ c ∷ drop (i + 1) contracts
+ahead contracts i c inside is = drop_more contracts i c inside ∙ ap (λ own. own ∷ drop (i + 1) contracts) (sym is)
 
-pub least_behind-ended : (done : List Bound) (s : Source) (d : Domain) (from : List ℕ) (last : Bound) → done ++ least_behind s (jitters_along d from []) last ≡ done
-unfolding least_behind jitters_along
-least_behind-ended done s d from last = search rules
+-- one that fits, and one that does not
+pub one_fitting : (d : Domain) (contracts : List Contract) (i : ℕ) (c : Contract) → i < length contracts → c ≡ get_or contracts i c → fits d c ≡ true
+    → list_all (fits d) (drop (i + 1) contracts) ≡ list_all (fits d) (drop i contracts)
+one_fitting d contracts i c inside is fit =
+    sym (ap (list_all (fits d)) (ahead contracts i c inside is) ∙ ap (λ f. f && list_all (fits d) (drop (i + 1) contracts)) fit)
 
--- the bound behind one link, and those behind the others
-pub least_behind-next : (s : Source) (d : Domain) (from to : List ℕ) (xs rest : List (List ℕ)) (jitter : ℕ) (last next : Bound)
-    → xs ≡ to ∷ rest → jitter ≡ jitter_of (link_of d from to) → next ≡ delayed s jitter last
-    → least_behind s (jitters_along d from xs) last ≡ next ∷ least_behind s (jitters_along d to rest) next
-unfolding least_behind jitters_along
-least_behind-next s d from to xs rest jitter last next is_path is_jitter is_next =
-    let is_delayed : next ≡ delayed s (jitter_of (link_of d from to)) last = is_next ∙ ap (λ j. delayed s j last) is_jitter in
-    ap (λ p. least_behind s (jitters_along d from p) last) is_path
-    ∙ sym (ap (λ b. b ∷ least_behind s (jitters_along d to rest) b) is_delayed)
+pub none_fitting : (d : Domain) (contracts : List Contract) (i : ℕ) (c : Contract) → i < length contracts → c ≡ get_or contracts i c → fits d c ≡ false
+    → list_all (fits d) (drop i contracts) ≡ false
+none_fitting d contracts i c inside is unfit =
+    ap (list_all (fits d)) (ahead contracts i c inside is) ∙ ap (λ f. f && list_all (fits d) (drop (i + 1) contracts)) unfit
 
-pub link_kept : (done more : List Bound) (s : Source) (d : Domain) (from to : List ℕ) (path : List (List ℕ)) (i jitter : ℕ) (last next : Bound) (whole : List Bound)
-    → i < length path → to ≡ get_or path i to → jitter ≡ jitter_of (link_of d from to) → next ≡ delayed s jitter last → more ≡ done ++ next ∷ []
-    → done ++ least_behind s (jitters_along d from (drop i path)) last ≡ whole → more ++ least_behind s (jitters_along d to (drop (i + 1) path)) next ≡ whole
-link_kept done more s d from to path i jitter last next whole inside is_to is_jitter is_next is_more kept =
-    let here : drop i path ≡ to ∷ drop (i + 1) path = drop_more path i to inside ∙ ap (λ name. name ∷ drop (i + 1) path) (sym is_to) in
-    let before = ap (λ rest. done ++ least_behind s (jitters_along d from rest) last) here in
-    let step = least_behind-link done s d from to (drop (i + 1) path) last in
-    let is_delayed : next ≡ delayed s (jitter_of (link_of d from to)) last = is_next ∙ ap (λ j. delayed s j last) is_jitter in
-    let later = ap (λ b. (done ++ b ∷ []) ++ least_behind s (jitters_along d to (drop (i + 1) path)) b) is_delayed in
-    ap (λ items. items ++ least_behind s (jitters_along d to (drop (i + 1) path)) next) is_more ∙ later ∙ sym step ∙ sym before ∙ kept
+pub all_fitting : (d : Domain) (contracts : List Contract) (i : ℕ) → length contracts ≤ i → list_all (fits d) (drop i contracts) ≡ true
+all_fitting d contracts i done = ap (list_all (fits d)) (drop_all i contracts done)
+
+-- nothing was lacking
+pub kept_parts : (lacking kept : Bool) → (lacking || not kept) ≡ false → (lacking ≡ false) × (kept ≡ true)
+kept_parts false true none = (refl, refl)
+kept_parts false false none = absurd cc
+kept_parts true kept none = absurd cc
+
+pub rows_kept : (d : Domain) (contracts : List Contract) (done more : List (List Bound)) (i : ℕ) (c : Contract) → i < length contracts → c ≡ get_or contracts i c
+    → more ≡ done ++ least_of d c ∷ [] → done ++ least d (drop i contracts) ≡ least d contracts → more ++ least d (drop (i + 1) contracts) ≡ least d contracts
+rows_kept d contracts done more i c inside is is_more kept =
+    ap (λ items. items ++ least d (drop (i + 1) contracts)) is_more
+    ∙ append_assoc done (least_of d c ∷ []) (least d (drop (i + 1) contracts))
+    ∙ sym (ap (λ rest. done ++ least d rest) (ahead contracts i c inside is))
+    ∙ kept
 
 pub least-made : (d : Domain) (contracts : List Contract) (rows result : List (List Bound)) (i : ℕ) → length contracts ≤ i → rows ++ least d (drop i contracts) ≡ least d contracts
     → result ≡ rows → result ≡ least d contracts

@@ -82,25 +82,6 @@ impl Certificate {
         self.bounds.as_slice()
     }
 
-    /// Takes up the bounds of one contract more, behind the others; where memory runs out it hands them back, and is as
-    /// it was.
-    pub fn push(&mut self, hops: Vec<Bound>) -> Result<(), Vec<Bound>>
-        ensures pushed { OnOk result (self.new ≡ self.old ++ hops.items ∷ []) }
-        ensures unchanged { OnErr result (self.new ≡ self.old) }
-        ensures back { IfErr result (λ back. back ≡ hops) }
-    {
-        if self.bounds.reserve(1).is_err() {
-            return Err(hops);
-        }
-        match Bounds::new(*self.bounds.allocator(), hops) {
-            Ok(bounds) => {
-                self.bounds.push(bounds).unwrap();
-                Ok(())
-            }
-            Err(failed) => Err(failed.value),
-        }
-    }
-
     /// Takes up the bounds of one contract more, behind the others, over the same in memory; `AllocError` where memory
     /// runs out, and then it is as it was.
     pub fn push_shared(&mut self, row: Bounds) -> Result<(), AllocError>

@@ -1,4 +1,4 @@
-ghost use Rattle.std.specs.Prelude.{◌≡◌, ◌+◌, ◌*◌, ◌≤◌, ◌^◌, ◌⊎◌, false, true, List, IsTrue, IfOk, IfErr, OnOk};
+ghost use Rattle.std.specs.Prelude.{◌≡◌, ◌+◌, ◌*◌, ◌≤◌, ◌^◌, ◌⊎◌, ◌++◌, ◌∷◌, [], false, true, List, IfOk, IfErr, OnOk};
 ghost use Rattle.std.specs.List.{AllZip, list_all};
 ghost use Rattle.ds_certificate.specs.Bounds.{AreAtMost, HasShape, IsAtMost, IsCertificate, Meets, delayed, entering};
 ghost use Rattle.ds_certificate.specs.Bounds.{fits, least, least_of, least_on};
@@ -13,7 +13,7 @@ use crate::bound::Bound;
 use crate::certificate::{Bounds, Certificate};
 use crate::fault::CertificateFault;
 use crate::source::Source;
-use ds_domain_base::{Contract, Domain, Route, fits};
+use ds_domain_base::{Contract, Domain, Route};
 use moment_core::{Column, Gap, bytes_over_ceil};
 use std::alloc::{AllocError, Global};
 
@@ -37,34 +37,39 @@ pub fn make(
         ((fault ≡ CertificateFault.NoMemory) × (list_all (fits domain.now) contracts.now ≡ true))
         ⊎ ((fault ≡ CertificateFault.Shape) × (list_all (fits domain.now) contracts.now ≡ false))) }
 {
-    if !are_fit(domain, contracts) {
-        return Err(CertificateFault::Shape);
+    let mut rows = Vec::new(alloc);
+    let mut is_lacking = false;
+    for contract in contracts {
+        let route = match domain.route(contract) {
+            Ok(route) => route,
+            Err(_) => return Err(CertificateFault::Shape),
+        };
+        is_lacking |= !add_row(alloc, domain, contract, &route, &mut rows);
     }
-    Ok(least_rows(alloc, domain, contracts)?)
+    if is_lacking {
+        return Err(CertificateFault::NoMemory);
+    }
+    Ok(Certificate::new(rows))
 }
 
-/// Whether each of some contracts fits a domain.
-fn are_fit(domain: &Domain, contracts: &[Contract]) -> bool
-    ensures { result ≡ list_all (fits domain.now) contracts.now }
-{
-    contracts.iter().all(|contract| is_fit(domain, contract))
-}
-
-/// The least certificate of contracts that fit a domain; `AllocError` where memory runs out.
-fn least_rows(
+/// Appends the least bounds of a contract to those of others; whether there was memory for them.
+fn add_row(
     alloc: Global,
     domain: &Domain,
-    contracts: &[Contract],
-) -> Result<Certificate, AllocError>
-    requires { list_all (fits domain.now) contracts.now ≡ true }
-    ensures { IfOk result (λ certificate. certificate ≡ least domain.now contracts.now) }
+    contract: &Contract,
+    route: &Route,
+    rows: &mut Vec<Bounds>,
+) -> bool
+    requires { route.now ≡ route_of domain.now contract.now }
+    ensures { result ≡ true → rows.new.items ≡ rows.old.items ++ least_of domain.now contract.now ∷ [] }
 {
-    let mut bounds = Vec::with_capacity(alloc, contracts.len())?;
-    for contract in contracts {
-        let hops = least_bounds(alloc, domain, contract)?;
-        bounds.push(Bounds::new(alloc, hops)?)?;
+    let Ok(hops) = bounds_by_route(alloc, domain, contract, route) else {
+        return false;
+    };
+    match Bounds::new(alloc, hops) {
+        Ok(row) => rows.push(row).is_ok(),
+        Err(_) => false,
     }
-    Ok(Certificate::new(bounds))
 }
 
 /// The least bounds of one contract, from hop 0 on: those that `make` gives it among any others. What has bounds has a
@@ -87,42 +92,10 @@ pub fn bounds_of(
         ((fault ≡ CertificateFault.NoMemory) × (fits domain.now contract.now ≡ true))
         ⊎ ((fault ≡ CertificateFault.Shape) × (fits domain.now contract.now ≡ false))) }
 {
-    if !is_fit(domain, contract) {
-        return Err(CertificateFault::Shape);
+    match domain.route(contract) {
+        Ok(route) => Ok(bounds_by_route(alloc, domain, contract, &route)?),
+        Err(_) => Err(CertificateFault::Shape),
     }
-    Ok(least_bounds(alloc, domain, contract)?)
-}
-
-/// Whether a contract fits a domain.
-pub fn is_fit(domain: &Domain, contract: &Contract) -> bool
-    ensures { result ≡ fits domain.now contract.now }
-{
-    fits(domain, contract).is_ok()
-}
-
-/// The least bounds of a contract that fits a domain, as `bounds_of` gives them; `AllocError` where memory runs out.
-pub fn least_bounds(
-    alloc: Global,
-    domain: &Domain,
-    contract: &Contract,
-) -> Result<Vec<Bound>, AllocError>
-    requires { IsTrue (fits domain.now contract.now) }
-    ensures value { IfOk result (λ bounds. bounds.items ≡ least_of domain.now contract.now) }
-    ensures rated { HasRates domain.now contract.now }
-{
-    let source = Source::of(domain, contract);
-    let path = contract.path.meters();
-    let mut hops = Vec::with_capacity(alloc, path.len() + 1)?;
-    let mut last = entering(&source);
-    hops.push(last)?;
-    let mut from = &contract.port;
-    for to in path {
-        let next = delayed(&source, domain.jitter(*from, *to), last);
-        hops.push(next)?;
-        last = next;
-        from = to;
-    }
-    Ok(hops)
 }
 
 /// The least bounds of a contract by its route, as `bounds_of` gives them: no name is looked up. `AllocError` where memory

@@ -16,7 +16,7 @@ pub use bound::Bound;
 pub use certificate::{Bounds, Certificate};
 pub use fault::CertificateFault;
 pub use least::{
-    bounds_along, bounds_by_route, bounds_of, delayed, entering, is_fit, least_bounds, make,
+    bounds_along, bounds_by_route, bounds_of, delayed, entering, make,
 };
 pub use place::fault_line;
 pub use reading::read;

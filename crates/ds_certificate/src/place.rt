@@ -31,7 +31,7 @@ fn rows_said(form: Form, text: &[u8], contracts: &[Contract]) -> usize
     for contract in contracts {
         let (said, later) = bounds_said(form, rest, contract);
         lines += said;
-        if said <= contract.path.meters().len() {
+        if said <= contract.path.hops() {
             return lines;
         }
         rest = later;
@@ -44,7 +44,7 @@ fn bounds_said<'a>(form: Form, text: &'a [u8], contract: &Contract) -> (usize, &
     ensures lines { result.0 ≡ bounds_said form contract.now.name 0 (length contract.now.path + 1) (lines_of text.now) }
     ensures rest { lines_of result.1.now ≡ drop result.0 (lines_of text.now) }
 {
-    let count = contract.path.meters().len() + 1;
+    let count = contract.path.hops() + 1;
     let mut rest = text;
     for hop in 0..count {
         let Some((line, later)) = next_line(rest) else {

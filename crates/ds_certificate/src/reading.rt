@@ -81,7 +81,7 @@ fn behind_bounds<'a>(
     ensures refused { IfErr result (λ fault.
         bounds_in form contract.now.name 0 (length contract.now.path + 1) (lines_of text.now) ≡ Err fault) }
 {
-    let count = contract.path.meters().len() + 1;
+    let count = contract.path.hops() + 1;
     let mut rest = text;
     for hop in 0..count {
         let Some((line, later)) = next_line(rest) else {
@@ -150,7 +150,7 @@ fn bounds_in<'a>(
     ensures refused { IfErr result (λ fault. (fault ≡ CertificateFault.NoMemory)
         ⊎ (bounds_in form contract.now.name 0 (length contract.now.path + 1) (lines_of text.now) ≡ Err fault)) }
 {
-    let count = contract.path.meters().len() + 1;
+    let count = contract.path.hops() + 1;
     let mut hops = Vec::with_capacity(alloc, count)?;
     let mut rest = text;
     for hop in 0..count {

@@ -61,7 +61,7 @@ fn is_shaped(contracts: &[Contract], rows: &[Bounds]) -> bool
 fn is_long(bounds: &Bounds, contract: &Contract) -> bool
     ensures { result ≡ nat_eq (length bounds.now) (suc (length contract.now.path)) }
 {
-    bounds.hops().len() == contract.path.meters().len() + 1
+    bounds.hops().len() == contract.path.hops() + 1
 }
 
 /// Appends the lines of a contract's bounds, from hop 0 on.

@@ -88,9 +88,3 @@ bounds_step d contracts rows i contract bounds low refusal next whole inside is_
     let step = contracts-step d (drop i contracts) (drop (i + 1) contracts) (drop i rows) (drop (i + 1) rows) contract bounds i i (i + 1) refusal
     (item_ahead contracts i contract inside is_contract) (item_ahead rows i bounds within is_row) refl refl is_refusal in
     ap (λ found. option_or found behind) is_next ∙ or_assoc low refusal behind ∙ ap (option_or low) (sym step) ∙ held
-
--- nothing was lacking
-pub kept_parts : (lacking kept : Bool) → (lacking || not kept) ≡ false → (lacking ≡ false) × (kept ≡ true)
-kept_parts false true none = (refl, refl)
-kept_parts false false none = absurd cc
-kept_parts true kept none = absurd cc

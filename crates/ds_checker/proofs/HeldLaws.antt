@@ -38,8 +38,3 @@ routes-lasting d (c ∷ contracts) (suc i) lifetime = ap (λ rest. route_of d c 
 -- the route at a place
 pub routes-long : (d : Domain) (contracts : List Contract) (routes : List Route) → routes ≡ map (route_of d) contracts → length routes ≡ length contracts
 routes-long d contracts routes are = ap length are ∙ length-map contracts (route_of d)
-
-pub route-at : (d : Domain) (contracts : List Contract) (routes : List Route) (i : ℕ) (c : Contract) (r : Route) → routes ≡ map (route_of d) contracts → i < length contracts
-    → c ≡ get_or contracts i c → r ≡ get_or routes i r → r ≡ route_of d c
-route-at d contracts routes i c r are inside is_contract is_route =
-    is_route ∙ ap (λ list. get_or list i r) are ∙ get_or-map (route_of d) contracts i c r inside ∙ ap (route_of d) (sym is_contract)

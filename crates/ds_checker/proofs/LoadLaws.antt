@@ -162,14 +162,6 @@ with_brought-hop source has_peak to path b bounds names loads i l distinct long 
     (ap (share_by source has_peak) (bound_into-here to path b bounds))
     (ap (share_by source has_peak) (bound_into-absent to path bounds (or_parts (list_any (bytes_eq to) path) (repeats path) once).0))
 
--- and with one that leads to none of them
-pub with_brought-elsewhere : (source : Source) (has_peak : Bool) (to : List ℕ) (path : List (List ℕ)) (b : Bound) (bounds : List Bound) (names : List (List ℕ))
-    (loads : List Loads) → position (bytes_eq to) names ≡ None
-    → with_brought (brought_along source has_peak path bounds) names loads ≡ with_brought (brought_along source has_peak (to ∷ path) (b ∷ bounds)) names loads
-with_brought-elsewhere source has_peak to path b bounds names loads nowhere =
-    with_brought-apart to (brought_along source has_peak (to ∷ path) (b ∷ bounds)) (brought_along source has_peak path bounds) names loads
-    (none_passes (bytes_eq to) names nowhere) (λ name other. ap (share_by source has_peak) (bound_into-other name to path b bounds other))
-
 -- ---- no sum leaves its range
 pub IsBelow-more : (most more : ℕ) (curve : Curve) → most ≤ more → IsBelow most curve → IsBelow more curve
 IsBelow-more most more curve larger below = (omega (arith, larger, below.0), omega (arith, larger, below.1))

@@ -33,6 +33,9 @@ pub struct Candidate {
     pub certificate: Certificate,
 }
 
+/// So many contracts more than it holds do not make a table roomy: room for them is not worth the time of a copy.
+const FEW: usize = 16;
+
 /// A domain, contracts, and an acceptable certificate of theirs.
 ///
 /// It keeps for each meter the sums of what its contracts bring there, so that a contract more or less costs what its
@@ -174,9 +177,8 @@ impl Accepted {
         ensures covered { IfSome result AreCovered }
     {
         let domain: &Domain = &self.domain;
-        let own = domain.meter(meter)?;
-        let place = domain.meter_index(meter)?;
-        Some(headroom_at(&own, &self.sums[place]))
+        let (place, _, own) = domain.meters().get_full(&meter)?;
+        Some(headroom_at(own, &self.sums[place]))
     }
 
     /// The same table again; `AllocError` where memory runs out.
@@ -230,7 +232,7 @@ impl Accepted {
 
     /// Whether it keeps room for several times the contracts that it has. Its value does not tell.
     pub fn is_roomy(&self) -> bool {
-        self.contracts.capacity() / 4 > self.contracts.len() + 16
+        self.contracts.capacity() / 4 > self.contracts.len() + FEW
     }
 
     /// The table with one contract more, behind the others, with its bounds, where it is acceptable with it.

@@ -2,7 +2,7 @@ ghost use Rattle.std.specs.Prelude.{◌≡◌, ◌≤◌, ◌^◌, ◌⊎◌, �
 ghost use Rattle.std.specs.Prelude.{if◌then◌else◌};
 ghost use Rattle.std.specs.Map.{keys_of};
 ghost use Rattle.std.specs.Str.{bytes_eq};
-ghost use Rattle.ds_domain_base.specs.Domains.{bare, floor_of, is_meter, is_port, is_taken, jitter_of, link_fault};
+ghost use Rattle.ds_domain_base.specs.Domains.{bare, floor_of, is_meter, is_port, is_taken, link_fault};
 ghost use Rattle.ds_domain_base.specs.Domains.{link_of, meter_fault, meter_of, port_fault, port_of, skew_of, with_link};
 ghost use Rattle.ds_domain_base.specs.Domains.{with_meter, with_port};
 ghost use Rattle.ds_domain_base.specs.Faults.{no_memory};
@@ -108,17 +108,6 @@ impl Domain {
     {
         match self.link(from, to) {
             Some(link) => link.floor.gap(),
-            None => Gap::NONE,
-        }
-    }
-
-    /// By how much delays of the link from a name to a name differ at most; none where there is no such link.
-    pub fn jitter(&self, from: Name, to: Name) -> Gap
-        ensures value { result ≡ jitter_of (link_of self.now from to) }
-        ensures range { result ≤ 10 ^ 10 }
-    {
-        match self.link(from, to) {
-            Some(link) => link.jitter.gap(),
             None => Gap::NONE,
         }
     }

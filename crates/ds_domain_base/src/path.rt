@@ -1,4 +1,4 @@
-ghost use Rattle.std.specs.Prelude.{◌≡◌, IfOk, IfErr};
+ghost use Rattle.std.specs.Prelude.{◌≡◌, ◌<◌, ◌^◌, IfOk, IfErr, length};
 ghost use Rattle.ds_domain_base.specs.Faults.{no_memory};
 
 use crate::fault::DomainFault;
@@ -37,6 +37,14 @@ impl Path {
         ensures { result.now ≡ self.now }
     {
         self.meters.as_slice()
+    }
+
+    /// How many meters it leads through: its hops.
+    pub fn hops(&self) -> usize
+        ensures value { result ≡ length self.now }
+        ensures range { result < 2 ^ 63 }
+    {
+        self.meters().len()
     }
 
     /// The same path again, over the same names in memory, as long as they can have one owner more; `NoMemory` where

@@ -6,7 +6,8 @@ use Rattle.ds_checker.specs.Acceptance.{table_of}
 use Rattle.ds_checker.specs.BoundTests.{tests_along}
 use Rattle.ds_checker.specs.Tests.{first_failed}
 use Rattle.ds_checker.proofs.BoundLaws.{misfit-missing, misfit-step, or_else_is}
-use Rattle.ds_checker.proofs.CheckLaws.{bounds_ended, bounds_step, kept_parts, over, shape_found}
+use Rattle.ds_checker.proofs.CheckLaws.{bounds_ended, bounds_step, over, shape_found}
+use Rattle.ds_certificate.proofs.LeastLaws.{kept_parts}
 use Rattle.ds_checker.proofs.CopyLaws.{one-mapped}
 use Rattle.ds_checker.proofs.acceptance.bounded.Goals as goal
 
