@@ -1,11 +1,11 @@
 -- The least bounds meet what bounds must, and no others that do are below them.
-use Rattle.std.proofs.Common.{rules, append_assoc, append-nil, drop, get_or, ◌++◌, ◌≡◌, ℕ, suc, ◌+◌, ◌≤◌, ◌<◌, Bool, true, false, ◌&&◌, ◌||◌, not, List, [], ◌∷◌, length, IsTrue, refl, sym, ap, ◌∙◌, arith}
+use Rattle.std.proofs.Common.{append_assoc, append-nil, drop, get_or, ◌++◌, ◌≡◌, ℕ, suc, ◌+◌, ◌≤◌, ◌<◌, Bool, true, false, ◌&&◌, ◌||◌, not, List, [], ◌∷◌, length, IsTrue, refl, sym, ap, ◌∙◌, arith}
 use Rattle.std.specs.List.{AllZip, list_all}
 use Rattle.std.proofs.lemmas.Bool.{and_parts}
 use Rattle.std.proofs.lemmas.List.{drop_all, drop_more}
 use Rattle.std.proofs.lemmas.Bool.Decides.{nat_tests}
 use Rattle.moment_core.specs.Volume.{bytes_over}
-use Rattle.ds_domain_base.specs.Domains.{Domain, jitter_of, link_of}
+use Rattle.ds_domain_base.specs.Domains.{Domain}
 use Rattle.ds_domain_base.specs.declared.contract.Contract.{Contract}
 use Rattle.ds_certificate.specs.Bounds.{AreAtMost, Grows, HasShape, IsAtMost, IsCertificate, Meets, MeetsIn, delayed, entering, fits, least, least_along, least_behind, least_of}
 use Rattle.moment_core.specs.declared.column.Column.{Column}

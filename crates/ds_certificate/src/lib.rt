@@ -15,9 +15,7 @@ pub mod writing;
 pub use bound::Bound;
 pub use certificate::{Bounds, Certificate};
 pub use fault::CertificateFault;
-pub use least::{
-    bounds_along, bounds_by_route, bounds_of, delayed, entering, make,
-};
+pub use least::{bounds_along, bounds_by_route, bounds_of, delayed, entering, make};
 pub use place::fault_line;
 pub use reading::read;
 pub use source::Source;

@@ -1,14 +1,15 @@
-use Rattle.std.proofs.Common.{arith, ◌≡◌, ◌+◌, ap, append-nil, drop, false, inl, inr, is_none, refl, subst, sym, true, ◌++◌, ◌∙◌}
-use Rattle.std.specs.List.{list_all}
-use Rattle.std.proofs.lemmas.List.{drop_all}
-use Rattle.ds_certificate.specs.Bounds.{AreAtMost, IsCertificate, fits, least}
+use Rattle.std.proofs.Common.{arith, ap, inl, inr, is_none, refl, subst, sym, ◌∙◌}
+use Rattle.ds_certificate.specs.Bounds.{AreAtMost, IsCertificate}
 use Rattle.ds_certificate.proofs.LeastLaws.{IsCertificate-least, all_fitting, kept_parts, least-below, least-made, none_fitting, one_fitting, rows_kept}
 use Rattle.ds_certificate.proofs.least.make.Goals as goal
 
 pub returns-in-Err-clause-refused : goal.returns-in-Err-clause-refused
 returns-in-Err-clause-refused c =
-    inr (refl, sym c.loop-contract.invariant.fitting
-    ∙ none_fitting c.args.domain.now c.args.contracts.now c.loop-contract.contract-index c.contract-item.result c.loop-contract-test.true c.contract-item.is (ap is_none c.in-Err.ensures))
+    inr (
+      refl,
+      sym c.loop-contract.invariant.fitting
+          ∙ none_fitting c.args.domain.now c.args.contracts.now c.loop-contract.contract-index c.contract-item.result c.loop-contract-test.true c.contract-item.is (ap is_none c.in-Err.ensures),
+    )
 
 pub loop-contract-preserved : goal.loop-contract-preserved
 loop-contract-preserved c = record {

@@ -1,4 +1,4 @@
-use Rattle.std.proofs.Common.{◌+◌, List, ℕ, length, ap, sym, ◌∙◌}
+use Rattle.std.proofs.Common.{◌+◌, ℕ, ap, sym, ◌∙◌}
 use Rattle.line_text.specs.Lines.{lines_of}
 use Rattle.ds_certificate.specs.Places.{bounds_said}
 use Rattle.ds_certificate.proofs.PlaceLaws.{all_done, bounds_said-bad, bounds_said-ended, bounds_said-line, bounds_said-missing, drop-line, none_left, one_more}

@@ -1,4 +1,4 @@
-use Rattle.std.proofs.Common.{List, ℕ, length, ap, arith}
+use Rattle.std.proofs.Common.{arith}
 use Rattle.line_text.specs.Lines.{lines_of}
 use Rattle.ds_certificate.proofs.PlaceLaws.{rows_said-count, said_all, said_last, said_more, said_on}
 use Rattle.ds_certificate.proofs.place.rows_said.Goals as goal

@@ -1,4 +1,4 @@
-use Rattle.std.proofs.Common.{◌+◌, [], List, ℕ, length, ap, sym, ◌∙◌, arith}
+use Rattle.std.proofs.Common.{◌+◌, [], ℕ, ap, sym, ◌∙◌, arith}
 use Rattle.line_text.specs.Lines.{lines_of}
 use Rattle.ds_certificate.specs.Readings.{bounds_in, left_of}
 use Rattle.ds_certificate.proofs.ReadingLaws.{bounds_in-bad, bounds_in-ended, bounds_in-missing, left-bad, left-ended, left-on}
