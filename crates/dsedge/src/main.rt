@@ -9,7 +9,7 @@ use crate::screen::Screen;
 use crate::watch::Watch;
 use crate::watched::{WatchedIntake, WatchedOutlet};
 use dsedge_lines::Words;
-use dsedge_serve::run;
+use dsedge_serve::{AtTerminal, run};
 use dsedge_texts::{Folder, SystemFolder};
 use pcap_capture::{Intake, Outlet, ReadIntake, WriteOutlet};
 use std::env;
@@ -34,12 +34,11 @@ fn run_in<W: Wait + Threads + Sync, D: Folder, I: Intake, O: Outlet, F: Outlet>(
     output: &mut O,
     faults: &mut F,
 ) -> u8 {
-    let at_terminal = rt.stderr().is_terminal();
     run(
         rt.alloc(),
         waiting,
         command_line(rt),
-        at_terminal,
+        AtTerminal::of(&rt.stderr()),
         folder,
         intake,
         output,

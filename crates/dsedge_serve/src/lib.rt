@@ -16,6 +16,7 @@ mod selling;
 mod serving;
 mod shown;
 mod starting;
+mod terminal;
 
 pub use advice::{Advice, Ended};
 pub use conclusion::Conclusion;
@@ -24,3 +25,4 @@ pub use outcome::Outcome;
 pub use running::run;
 pub use serving::serve;
 pub use starting::{refuse, start};
+pub use terminal::AtTerminal;

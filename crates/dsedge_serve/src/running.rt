@@ -12,6 +12,7 @@ ghost use Rattle.dsedge_serve.specs.Started.{status_in, told_in, wordless};
 use crate::advising::advise;
 use crate::fault::Fault;
 use crate::starting::{refuse, start};
+use crate::terminal::AtTerminal;
 use dsedge_lines::Words;
 use dsedge_texts::Folder;
 use pcap_capture::{Intake, Outlet};
@@ -30,7 +31,7 @@ pub fn run<R: Wait + Threads + Sync, D: Folder, I: Intake, O: Outlet, F: Outlet>
     alloc: Global,
     rt: &R,
     line: io::Result<Words>,
-    at_terminal: bool,
+    at_terminal: AtTerminal,
     folder: &D,
     intake: &mut I,
     output: &mut O,
@@ -63,7 +64,7 @@ pub fn run<R: Wait + Threads + Sync, D: Folder, I: Intake, O: Outlet, F: Outlet>
                 alloc,
                 rt,
                 words,
-                at_terminal,
+                at_terminal.is_so(),
                 folder,
                 intake,
                 output,

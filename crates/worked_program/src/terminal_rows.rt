@@ -1,14 +1,25 @@
 use crate::rows::{ALONE, domain_text};
-use dsedge_serve::run;
+use dsedge_serve::{AtTerminal, run};
 use dsedge_texts::MemoryFolder;
 use pcap_capture::{SliceIntake, VecOutlet};
 use std::alloc::Global;
-use std::io::{Error, ErrorKind};
+use std::io::{Error, ErrorKind, IsTerminal};
 use std::process::Abort;
 use std::sync::Wait;
 use std::test::Fail;
 use std::thread::Threads;
 use worked_texts::LEAST_OF_TRUSTED;
+
+/// What faults are written to, which is a terminal, or a pipe.
+struct Faults {
+    at_terminal: bool,
+}
+
+impl IsTerminal for Faults {
+    fn is_terminal(&self) -> bool {
+        self.at_terminal
+    }
+}
 
 /// What the program left behind.
 #[derive(Drop)]
@@ -44,7 +55,7 @@ fn run_line(
         alloc,
         rt,
         Ok(words),
-        at_terminal,
+        AtTerminal::of(&Faults { at_terminal }),
         &MemoryFolder { files: &files },
         &mut SliceIntake::new(input),
         &mut output,
@@ -248,7 +259,7 @@ fn words_that_cannot_be_had(rt: HostRuntime) {
             rt.alloc(),
             &rt,
             Err(Error::from(kind)),
-            true,
+            AtTerminal::of(&Faults { at_terminal: true }),
             &MemoryFolder { files: &[] },
             &mut SliceIntake::new(b""),
             &mut output,
