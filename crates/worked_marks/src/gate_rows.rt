@@ -1,8 +1,9 @@
 use crate::captures::{HEADING, OTHER, TAGGED, capture};
 use crate::mark_rows::narrow;
+use crate::marking::leavings_through;
 use ds_checker::Accepted;
-use ds_conductor::{Gate, RedRule, mark};
-use pcap_capture::{SliceIntake, VecOutlet};
+use ds_conductor::{Gate, RedRule};
+use pcap_capture::SliceIntake;
 use std::alloc::Global;
 use std::process::Abort;
 use std::sync::atomic::{AtomicU64, Ordering};
@@ -39,31 +40,6 @@ impl Gate for Counter {
     }
 }
 
-/// Marks a capture by so many workers with a gate.
-fn mark_through(
-    rt: &(impl Abort + Threads + Sync),
-    alloc: Global,
-    accepted: &Accepted,
-    workers: u32,
-    given: &[u8],
-    gate: &Counter,
-) {
-    let mut outlet = VecOutlet::new(Vec::new(alloc));
-    let marked = mark(
-        rt,
-        alloc,
-        accepted,
-        "p",
-        workers,
-        RedRule::Keep,
-        &mut SliceIntake::new(given),
-        &mut outlet,
-        gate,
-    );
-    assert!(rt; marked.is_ok());
-    drop(outlet);
-}
-
 /// Expects that a gate is called before and after each of the four visits of a capture, whatever the number of workers.
 fn expect_calls(
     rt: &(impl Abort + Threads + Sync),
@@ -77,7 +53,11 @@ fn expect_calls(
             after: AtomicU64::new(0),
             wrong: AtomicU64::new(0),
         };
-        mark_through(rt, alloc, accepted, workers, given, &gate);
+        let mut intake = SliceIntake::new(given);
+        let job = ("p", workers, RedRule::Keep);
+        let marked = leavings_through(rt, alloc, accepted, job, &mut intake, &gate);
+        assert_eq!(rt; marked.fault, None);
+        drop(marked);
         assert_eq!(rt; gate.before.load(Ordering::SeqCst), 4);
         assert_eq!(rt; gate.after.load(Ordering::SeqCst), 4);
         assert_eq!(rt; gate.wrong.load(Ordering::SeqCst), 0);

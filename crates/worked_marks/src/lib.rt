@@ -11,6 +11,8 @@ mod gate_rows;
 #[cfg(test)]
 mod mark_rows;
 #[cfg(test)]
+mod marking;
+#[cfg(test)]
 mod stream_rows;
 #[cfg(test)]
 mod tables;

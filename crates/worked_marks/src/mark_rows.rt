@@ -1,10 +1,11 @@
 use crate::captures::{
     CUT, EARLIER, EARLIER_YELLOW, GREEN, HEADING, OTHER, OTHER_LINK, RED, TAGGED, YELLOW, capture,
 };
+use crate::marking::{Job, Marked, leavings};
 use crate::tables::accepted;
 use ds_checker::Accepted;
-use ds_conductor::{MarkFault, OpenGate, RedRule, Report, mark};
-use pcap_capture::{Intake, MOST_CALLS, PcapFault, SliceIntake, VecOutlet};
+use ds_conductor::{MarkFault, RedRule, Report};
+use pcap_capture::{Intake, MOST_CALLS, PcapFault, SliceIntake};
 use run_audit::Verdict;
 use std::alloc::Global;
 use std::process::Abort;
@@ -53,44 +54,9 @@ fn kept(report: Report) -> Report {
     }
 }
 
-/// What `mark` leaves behind: what it wrote, its report, and its fault.
-#[derive(Drop)]
-struct Marked {
-    written: Vec<u8>,
-    report: Report,
-    fault: Option<MarkFault>,
-}
-
-/// What `mark` by so many workers leaves behind of a capture at a port.
-fn leavings(
-    rt: &(impl Threads + Sync),
-    alloc: Global,
-    accepted: &Accepted,
-    (port, workers): (&str, u32),
-    red: RedRule,
-    intake: &mut SliceIntake<'_>,
-) -> Marked {
-    let mut outlet = VecOutlet::new(Vec::new(alloc));
-    let answer = mark(
-        rt,
-        alloc,
-        accepted,
-        port,
-        workers,
-        red,
-        intake,
-        &mut outlet,
-        &OpenGate,
-    );
-    let (report, fault) = match answer {
-        Ok(report) => (report, None),
-        Err((report, fault)) => (report, Some(fault)),
-    };
-    Marked {
-        written: outlet.bytes,
-        report,
-        fault,
-    }
+/// The job of so many workers at port `p` that keep red packets.
+fn by(workers: u32) -> Job<'static> {
+    ("p", workers, RedRule::Keep)
 }
 
 /// Expects what `mark` left behind.
@@ -129,7 +95,7 @@ fn expect_pieces(
         most,
         ..SliceIntake::new(given.as_slice())
     };
-    let marked = leavings(rt, alloc, accepted, ("p", workers), red, &mut intake);
+    let marked = leavings(rt, alloc, accepted, ("p", workers, red), &mut intake);
     expect(rt, &marked, written.as_slice(), row.report, row.fault);
     drop(marked);
     drop(written);
@@ -257,7 +223,7 @@ fn a_capture_of_another_link(rt: HostRuntime) {
 fn expect_no_port(rt: &(impl Abort + Threads + Sync), alloc: Global, accepted: &Accepted) {
     let given = capture(rt, alloc, &[HEADING]);
     let mut intake = SliceIntake::new(given.as_slice());
-    let marked = leavings(rt, alloc, accepted, ("q", 1), RedRule::Keep, &mut intake);
+    let marked = leavings(rt, alloc, accepted, ("q", 1, RedRule::Keep), &mut intake);
     let fault = Some(MarkFault::UnknownPort);
     expect(rt, &marked, &[], Report::nothing(), fault);
     assert_eq!(rt; intake.turns, 0);
@@ -295,14 +261,7 @@ fn expect_first(
         calls,
         ..SliceIntake::new(given.as_slice())
     };
-    let marked = leavings(
-        rt,
-        alloc,
-        accepted,
-        ("p", workers),
-        RedRule::Keep,
-        &mut intake,
-    );
+    let marked = leavings(rt, alloc, accepted, by(workers), &mut intake);
     let fault = Some(MarkFault::Capture(PcapFault::ReadFault));
     let report = report(1, 0, 0, [1, 0, 0]);
     expect(rt, &marked, written.as_slice(), report, fault);
@@ -350,14 +309,7 @@ fn expect_spent(
         calls: 3,
         ..SliceIntake::new(given.as_slice())
     };
-    let marked = leavings(
-        rt,
-        alloc,
-        accepted,
-        ("p", workers),
-        RedRule::Keep,
-        &mut intake,
-    );
+    let marked = leavings(rt, alloc, accepted, by(workers), &mut intake);
     let fault = Some(MarkFault::Capture(PcapFault::ReadFault));
     expect(rt, &marked, &[], Report::nothing(), fault);
     assert_eq!(rt; intake.failures(), 0);
@@ -403,14 +355,7 @@ fn expect_all(
 ) {
     let given = frames(rt, alloc, records);
     let mut intake = SliceIntake::new(given.as_slice());
-    let marked = leavings(
-        rt,
-        alloc,
-        accepted,
-        ("p", workers),
-        RedRule::Keep,
-        &mut intake,
-    );
+    let marked = leavings(rt, alloc, accepted, by(workers), &mut intake);
     assert_eq!(rt; marked.fault, None);
     assert_eq!(rt; marked.report.marked, records);
     assert_eq!(rt; marked.written.len(), given.len());

@@ -11,7 +11,7 @@ use std::alloc::Global;
 use std::process::Abort;
 use std::sync::atomic::{AtomicU64, Ordering};
 use std::thread::Threads;
-use worked_texts::joined;
+use worked_texts::{ANYWHERE, POLICED, SHARE};
 
 /// An intake that notes, at each call, how many bytes were written so far.
 #[derive(Debug, Drop)]
@@ -151,56 +151,19 @@ link = [
 ]
 "#;
 
-/// A trusted contract at `p` over one meter.
-const ONE_HOP: &str = r#"
-[[contract]]
-name = "a"
-kind = "trusted"
-port = "p"
-path = ["m"]
-class = 1
-cir = 8000000
-cbs = 3000
-"#;
+/// What names a trusted contract over one meter, and one over both, behind their ports.
+const ONE_HOP: &str = "name = \"a\"\npath = [\"m\"]\nclass = 1\n";
 
-/// One over both meters.
-const TWO_HOPS: &str = r#"
-[[contract]]
-name = "b"
-kind = "trusted"
-port = "p"
-path = ["m", "n"]
-class = 1
-cir = 8000000
-cbs = 3000
-"#;
+const TWO_HOPS: &str = "name = \"b\"\npath = [\"m\", \"n\"]\nclass = 1\n";
 
-/// One at `q`.
-const OTHER_PORT: &str = r#"
-[[contract]]
-name = "c"
-kind = "trusted"
-port = "q"
-path = ["m"]
-class = 2
-cir = 8000000
-cbs = 3000
-"#;
+/// A trusted contract at `q` over one meter, but for its envelope.
+const OTHER_PORT: &str =
+    "[[contract]]\nname = \"c\"\nkind = \"trusted\"\nport = \"q\"\npath = [\"m\"]\nclass = 2\n";
 
-/// A policed one at `p`.
-const EDGE: &str = r#"
-[[contract]]
-name = "d"
-kind = "trtcm"
-port = "p"
-path = ["m"]
-mode = "blind"
-class = 2
-cir = 8000000
-cbs = 150
-pir = 8000000
-pbs = 150
-"#;
+/// What names a policed contract, and its meter of 8 Mbit/s and 150 bytes.
+const EDGE: &str = "name = \"d\"\nclass = 2\n";
+
+const EVEN: &str = "kind = \"trtcm\"\ncir = 8000000\ncbs = 150\npir = 8000000\npbs = 150\n";
 
 /// Expects of contracts with their least certificate, and three records of the first of them that are stamped alike, how
 /// many bytes were written before the last record was taken.
@@ -211,41 +174,47 @@ fn expect_alike(
     certificate: &str,
     before: u64,
 ) {
-    let domain = joined(alloc, contracts).expect(rt, "memory");
-    let accepted = table_of(rt, alloc, domain.as_str(), certificate);
+    let accepted = table_of(rt, alloc, contracts, certificate);
     let given = capture(rt, alloc, &[HEADING, GREEN, GREEN, GREEN]);
     expect_noted(rt, alloc, &accepted, given.as_slice(), before);
     drop(given);
     drop(accepted);
-    drop(domain);
 }
 
 #[test]
 fn frames_that_are_stamped_alike_are_written_piece_by_piece_over_one_hop(rt: HostRuntime) {
     let least = "dscert 1\na 0 3000 3000\na 1 3000 3000\n";
-    expect_alike(&rt, rt.alloc(), &[FLOORS, ONE_HOP], least, 24 + 108);
-}
-
-#[test]
-fn frames_that_are_stamped_alike_are_held_over_two_hops(rt: HostRuntime) {
-    let least = "dscert 1\nb 0 3000 3000\nb 1 3000 3000\nb 2 3000 3000\n";
-    expect_alike(&rt, rt.alloc(), &[FLOORS, TWO_HOPS], least, 24);
-}
-
-#[test]
-fn a_contract_at_another_port_holds_no_frame(rt: HostRuntime) {
-    let least = "dscert 1\na 0 3000 3000\na 1 3000 3000\nc 0 3000 3000\nc 1 3000 3000\n";
     expect_alike(
         &rt,
         rt.alloc(),
-        &[FLOORS, ONE_HOP, OTHER_PORT],
+        &[FLOORS, ANYWHERE, ONE_HOP, SHARE],
         least,
         24 + 108,
     );
 }
 
 #[test]
+fn frames_that_are_stamped_alike_are_held_over_two_hops(rt: HostRuntime) {
+    let least = "dscert 1\nb 0 3000 3000\nb 1 3000 3000\nb 2 3000 3000\n";
+    expect_alike(
+        &rt,
+        rt.alloc(),
+        &[FLOORS, ANYWHERE, TWO_HOPS, SHARE],
+        least,
+        24,
+    );
+}
+
+#[test]
+fn a_contract_at_another_port_holds_no_frame(rt: HostRuntime) {
+    let least = "dscert 1\na 0 3000 3000\na 1 3000 3000\nc 0 3000 3000\nc 1 3000 3000\n";
+    let domain = [FLOORS, ANYWHERE, ONE_HOP, SHARE, OTHER_PORT, SHARE];
+    expect_alike(&rt, rt.alloc(), &domain, least, 24 + 108);
+}
+
+#[test]
 fn a_policed_contract_at_the_port_holds_the_frames_of_others(rt: HostRuntime) {
     let least = "dscert 1\na 0 3000 3000\na 1 3000 3000\nd 0 151 151\nd 1 151 151\n";
-    expect_alike(&rt, rt.alloc(), &[FLOORS, ONE_HOP, EDGE], least, 24);
+    let domain = [FLOORS, ANYWHERE, ONE_HOP, SHARE, POLICED, EDGE, EVEN];
+    expect_alike(&rt, rt.alloc(), &domain, least, 24);
 }

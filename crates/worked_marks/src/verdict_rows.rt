@@ -1,43 +1,36 @@
 use crate::captures::{GREEN, HEADING, capture};
+use crate::marking::{Marked, leavings};
 use crate::tables::{accepted, table_of};
 use af_marker::Dscp;
 use ds_checker::Accepted;
-use ds_conductor::{OpenGate, RedRule, Report, mark};
+use ds_conductor::{RedRule, Report};
 use ds_conductor_base::Sent;
 use ds_visits::Judge;
 use moment_core::{Column, Gap, Moment, PacketSize};
-use pcap_capture::{SliceIntake, VecOutlet};
+use pcap_capture::SliceIntake;
 use run_audit::Verdict;
 use std::alloc::Global;
 use std::process::Abort;
 use std::thread::Threads;
+use worked_texts::{A, ANYWHERE, B, EXCESS, PEAK, PORT, SHARE, TRUSTED, TWO};
 
-/// A meter `m` whose buckets are full from 1 s on, with a skew of 500 µs; a port `p`; a link between them of 1 ms to
-/// 2 ms; and a contract that is trusted until 5 s with 3,000 bytes green, 4,000 green and yellow, and 1,000 yellow.
-pub const TRUSTED: &str = r#"
-version = 2
+/// A meter `m` whose buckets are full from 1 s on, with a skew of 500 µs, and a link to it of 1 ms to 2 ms.
+const FROM_ONE: &str = r#"
 meter = [{ name = "m", kind = "trtcm", cir = 24000000, cbs = 13500, pir = 24000000, pbs = 13500, skew = 500000,
     origin = 1000000000 }]
-port = [{ name = "p", skew = 0 }]
 link = [{ from = "p", to = "m", floor = 1000000, jitter = 1000000 }]
-
-[[contract]]
-name = "a"
-kind = "trusted"
-port = "p"
-path = ["m"]
-class = 1
-until = 5000000000
-cir = 8000000
-cbs = 3000
-pir = 16000000
-pbs = 4000
-eir = 8000000
-ebs = 1000
 "#;
 
+/// What names a contract that is trusted until 5 s.
+const UNTIL_FIVE: &str = "name = \"a\"\nclass = 1\nuntil = 5000000000\n";
+
+/// That contract behind a port `p` over that meter, with 3,000 bytes green, 4,000 green and yellow, and 1,000 yellow.
+const OF_THREE: &[&str] = &[
+    TWO, FROM_ONE, PORT, TRUSTED, UNTIL_FIVE, SHARE, PEAK, EXCESS,
+];
+
 /// Its least certificate.
-pub const TRUSTED_LEAST: &str = "dscert 2\na 0 3000 4000 1000\na 1 4000 6000 2000\n";
+const OF_THREE_LEAST: &str = "dscert 2\na 0 3000 4000 1000\na 1 4000 6000 2000\n";
 
 /// The code points of class 1: green, yellow and red.
 const AF11: u8 = 10;
@@ -73,7 +66,7 @@ fn verdict(rt: &impl Abort, alloc: Global, accepted: &Accepted, packets: &[Packe
 
 /// Expects a verdict on packets.
 fn expect(rt: &impl Abort, alloc: Global, packets: &[Packet], expected: Verdict) {
-    let accepted = table_of(rt, alloc, TRUSTED, TRUSTED_LEAST);
+    let accepted = table_of(rt, alloc, OF_THREE, OF_THREE_LEAST);
     let told = verdict(rt, alloc, &accepted, packets);
     assert_eq!(rt; told, expected);
     drop(accepted);
@@ -163,7 +156,7 @@ fn a_packet_that_comes_before_its_meter(rt: HostRuntime) {
     expect(&rt, rt.alloc(), &packets, Verdict::Kept);
 }
 
-/// Two meters, and two contracts that are trusted, one at each.
+/// Two meters behind a port.
 const TWO_METERS: &str = r#"
 meter = [
     { name = "m", kind = "trtcm", cir = 24000000, cbs = 13500, pir = 24000000, pbs = 13500, skew = 500000 },
@@ -174,30 +167,16 @@ link = [
     { from = "p", to = "m", floor = 0, jitter = 1000000 },
     { from = "p", to = "n", floor = 0, jitter = 1000000 },
 ]
-
-[[contract]]
-name = "a"
-kind = "trusted"
-port = "p"
-path = ["m"]
-class = 1
-cir = 8000000
-cbs = 3000
-src = "10.0.0.0/24"
-
-[[contract]]
-name = "b"
-kind = "trusted"
-port = "p"
-path = ["n"]
-class = 2
-cir = 8000000
-cbs = 3000
-src = "10.0.1.0/24"
 "#;
 
+/// The way over the second.
+const OVER_N: &str = "path = [\"n\"]\n";
+
+/// Two contracts that are trusted, one at each.
+const ONE_AT_EACH: &[&str] = &[TWO_METERS, TRUSTED, A, SHARE, ANYWHERE, OVER_N, B, SHARE];
+
 /// Their least certificate.
-const TWO_METERS_LEAST: &str =
+const ONE_AT_EACH_LEAST: &str =
     "dscert 1\na 0 3000 3000\na 1 4000 4000\nb 0 3000 3000\nb 1 4000 4000\n";
 
 /// The heading of a capture of IPv4 packets without a link's header.
@@ -210,28 +189,16 @@ const OF_A: &str =
 const OF_B: &str =
     "00000000 00000000 14000000 14000000 4548 0014 0000 0000 4011 0000 0a00 0101 0a00 0001";
 
-/// What `mark` by so many workers writes of a capture at port `p`, and its report, where it has no fault.
+/// What so many workers leave behind of a capture at port `p`.
 fn passed(
     rt: &(impl Threads + Sync),
     alloc: Global,
     accepted: &Accepted,
     workers: u32,
     given: &[u8],
-) -> (Vec<u8>, Option<Report>) {
-    let mut outlet = VecOutlet::new(Vec::new(alloc));
-    let mut intake = SliceIntake::new(given);
-    let answer = mark(
-        rt,
-        alloc,
-        accepted,
-        "p",
-        workers,
-        RedRule::Keep,
-        &mut intake,
-        &mut outlet,
-        &OpenGate,
-    );
-    (outlet.bytes, answer.ok())
+) -> Marked {
+    let job = ("p", workers, RedRule::Keep);
+    leavings(rt, alloc, accepted, job, &mut SliceIntake::new(given))
 }
 
 /// Expects of a capture of two packets that it is written as it is, and its report.
@@ -242,9 +209,8 @@ fn expect_two(
     workers: u32,
     given: &[u8],
 ) {
-    let (written, report) = passed(rt, alloc, accepted, workers, given);
-    assert_eq!(rt; written.as_slice(), given);
-    drop(written);
+    let marked = passed(rt, alloc, accepted, workers, given);
+    assert_eq!(rt; marked.written.as_slice(), given);
     let expected = Report {
         records: 2,
         marked: 2,
@@ -254,12 +220,13 @@ fn expect_two(
         verdict: Some(Verdict::Kept),
         ..Report::nothing()
     };
-    assert_eq!(rt; report, Some(expected));
+    assert_eq!(rt; (marked.report, marked.fault), (expected, None));
+    drop(marked);
 }
 
 /// Expects the same of a packet to each of two meters.
 fn expect_two_meters(rt: &(impl Abort + Threads + Sync), alloc: Global) {
-    let accepted = table_of(rt, alloc, TWO_METERS, TWO_METERS_LEAST);
+    let accepted = table_of(rt, alloc, ONE_AT_EACH, ONE_AT_EACH_LEAST);
     let given = capture(rt, alloc, &[RAW, OF_A, OF_B]);
     for workers in [1, 2, 3, 8, 64] {
         expect_two(rt, alloc, &accepted, workers, given.as_slice());
@@ -273,34 +240,15 @@ fn two_meters_pass_two_packets(rt: HostRuntime) {
     expect_two_meters(&rt, rt.alloc());
 }
 
-/// A contract that is trusted with 200 bytes, until 2 s.
-const SMALL: &str = r#"
-[[contract]]
-name = "t"
-kind = "trusted"
-port = "p"
-path = ["m"]
-class = 1
-until = 2000000000
-cir = 8000000
-cbs = 200
-"#;
+/// What names a contract that is trusted, until 2 s and until 1 s, and its envelope of 200 bytes.
+const UNTIL_TWO: &str = "name = \"t\"\nclass = 1\nuntil = 2000000000\n";
 
-/// Its least certificate.
+const UNTIL_ONE: &str = "name = \"t\"\nclass = 1\nuntil = 1000000000\n";
+
+const SMALL: &str = "cir = 8000000\ncbs = 200\n";
+
+/// The least certificate of such a contract.
 const SMALL_LEAST: &str = "dscert 1\nt 0 200 200\nt 1 1200 1200\n";
-
-/// The same until 1 s.
-const SHORT: &str = r#"
-[[contract]]
-name = "t"
-kind = "trusted"
-port = "p"
-path = ["m"]
-class = 1
-until = 1000000000
-cir = 8000000
-cbs = 200
-"#;
 
 /// Expects the verdict that `mark` tells of so many packets of 115 bytes, all green and at 1.5 s.
 fn expect_told(
@@ -311,10 +259,10 @@ fn expect_told(
     verdict: Verdict,
 ) {
     let given = capture(rt, alloc, records);
-    let (written, report) = passed(rt, alloc, accepted, 1, given.as_slice());
-    let told = report.map_or(None, |report| report.verdict);
-    assert_eq!(rt; told, Some(verdict));
-    drop(written);
+    let marked = passed(rt, alloc, accepted, 1, given.as_slice());
+    assert_eq!(rt; marked.fault, None);
+    assert_eq!(rt; marked.report.verdict, Some(verdict));
+    drop(marked);
     drop(given);
 }
 
@@ -326,7 +274,7 @@ fn expect_of_small(
     records: &[&str],
     verdict: Verdict,
 ) {
-    let small = accepted(rt, alloc, &[contract], SMALL_LEAST);
+    let small = accepted(rt, alloc, &[TRUSTED, contract, SMALL], SMALL_LEAST);
     expect_told(rt, alloc, &small, records, verdict);
     drop(small);
 }
@@ -334,41 +282,39 @@ fn expect_of_small(
 #[test]
 fn a_capture_over_its_envelope(rt: HostRuntime) {
     let alloc = rt.alloc();
-    expect_of_small(&rt, alloc, SMALL, &[HEADING, GREEN], Verdict::Kept);
+    expect_of_small(&rt, alloc, UNTIL_TWO, &[HEADING, GREEN], Verdict::Kept);
     let over = over(Column::Green, 1);
-    expect_of_small(&rt, alloc, SMALL, &[HEADING, GREEN, GREEN], over);
+    expect_of_small(&rt, alloc, UNTIL_TWO, &[HEADING, GREEN, GREEN], over);
 }
 
 #[test]
 fn a_capture_outside_its_contract(rt: HostRuntime) {
     let records = [HEADING, GREEN, GREEN];
     let outside = Verdict::OutsideContract { packet: 0 };
-    expect_of_small(&rt, rt.alloc(), SHORT, &records, outside);
+    expect_of_small(&rt, rt.alloc(), UNTIL_ONE, &records, outside);
 }
 
-/// A meter whose buckets are full from 2 s on, and a contract that is trusted.
+/// A meter `m` whose buckets are full from 2 s on, and a link to it of 1 ms.
 const FROM_TWO: &str = r#"
 meter = [{ name = "m", kind = "trtcm", cir = 24000000, cbs = 13500, pir = 24000000, pbs = 13500, skew = 500000,
     origin = 2000000000 }]
-port = [{ name = "p", skew = 0 }]
 link = [{ from = "p", to = "m", floor = 1000000, jitter = 0 }]
-
-[[contract]]
-name = "t"
-kind = "trusted"
-port = "p"
-path = ["m"]
-class = 1
-cir = 8000000
-cbs = 3000
 "#;
 
-/// Its least certificate.
-const FROM_TWO_LEAST: &str = "dscert 1\nt 0 3000 3000\nt 1 3000 3000\n";
+/// What names a contract that is trusted without an end.
+const ENDLESS: &str = "name = \"t\"\nclass = 1\n";
+
+/// Its least certificate over that meter.
+const ENDLESS_LEAST: &str = "dscert 1\nt 0 3000 3000\nt 1 3000 3000\n";
 
 /// Expects of a packet that comes before its meter that it is late.
 fn expect_early(rt: &(impl Abort + Threads + Sync), alloc: Global) {
-    let early = table_of(rt, alloc, FROM_TWO, FROM_TWO_LEAST);
+    let early = table_of(
+        rt,
+        alloc,
+        &[FROM_TWO, PORT, TRUSTED, ENDLESS, SHARE],
+        ENDLESS_LEAST,
+    );
     let late = late(rt, 499_000_000);
     expect_told(rt, alloc, &early, &[HEADING, GREEN], late);
     drop(early);

@@ -9,7 +9,7 @@ use std::process::Abort;
 
 /// Expects no colour where nothing is sent into a domain of nothing.
 fn expect_none(rt: &impl Abort, alloc: Global) {
-    let accepted = table_of(rt, alloc, "", "dscert 1\n");
+    let accepted = table_of(rt, alloc, &[], "dscert 1\n");
     let mut under_way = UnderWay::new(alloc, &accepted).expect(rt, "memory");
     under_way.make_all(&OpenGate);
     assert_eq!(rt; under_way.decided(), None);

@@ -1,8 +1,9 @@
 use crate::captures::{HEADING, OTHER, capture};
 use crate::mark_rows::narrow;
+use crate::marking::leavings;
 use ds_checker::Accepted;
-use ds_conductor::{MarkFault, OpenGate, RedRule, Report, mark};
-use pcap_capture::{MOST_CALLS, PcapFault, SliceIntake, VecOutlet};
+use ds_conductor::{MarkFault, RedRule};
+use pcap_capture::{MOST_CALLS, PcapFault, SliceIntake};
 use std::alloc::Global;
 use std::process::Abort;
 use std::thread::Threads;
@@ -35,32 +36,6 @@ fn seconds(rt: &impl Abort, alloc: Global, records: u32) -> Vec<u8> {
     bytes
 }
 
-/// What `mark` by so many workers writes of a capture that its device gives so, its report, and its fault.
-fn marked(
-    rt: &(impl Threads + Sync),
-    alloc: Global,
-    accepted: &Accepted,
-    (workers, red): (u32, RedRule),
-    mut intake: SliceIntake<'_>,
-) -> (Vec<u8>, Report, Option<MarkFault>) {
-    let mut outlet = VecOutlet::new(Vec::new(alloc));
-    let answer = mark(
-        rt,
-        alloc,
-        accepted,
-        "p",
-        workers,
-        red,
-        &mut intake,
-        &mut outlet,
-        &OpenGate,
-    );
-    match answer {
-        Ok(report) => (outlet.bytes, report, None),
-        Err((report, fault)) => (outlet.bytes, report, Some(fault)),
-    }
-}
-
 /// Expects of a capture that its device gives so that each number of workers does with it what one does, and how that
 /// ends.
 fn expect_same(
@@ -71,16 +46,16 @@ fn expect_same(
     intake: &SliceIntake<'_>,
     fault: Option<MarkFault>,
 ) {
-    let (written, report, ended) = marked(rt, alloc, accepted, (1, red), again(intake));
-    assert_eq!(rt; ended, fault);
+    let wanted = leavings(rt, alloc, accepted, ("p", 1, red), &mut again(intake));
+    assert_eq!(rt; wanted.fault, fault);
     for workers in [2, 3, 8, 64] {
-        let (bytes, told, end) = marked(rt, alloc, accepted, (workers, red), again(intake));
-        assert_eq!(rt; bytes.as_slice(), written.as_slice());
-        assert_eq!(rt; told, report);
-        assert_eq!(rt; end, fault);
-        drop(bytes);
+        let found = leavings(rt, alloc, accepted, ("p", workers, red), &mut again(intake));
+        assert_eq!(rt; found.written.as_slice(), wanted.written.as_slice());
+        assert_eq!(rt; found.report, wanted.report);
+        assert_eq!(rt; found.fault, fault);
+        drop(found);
     }
-    drop(written);
+    drop(wanted);
 }
 
 /// The same device, from its front.
