@@ -1,5 +1,5 @@
 -- Which bytes are a domain text, and the fault of a document whose contracts are refused.
-use Rattle.std.proofs.Common.{◌≡◌, ℕ, List, [], Some, None, Result, Ok, Err, IfErr, ◌⊎◌, IsUtf8, refl, inl, inr}
+use Rattle.std.proofs.Common.{◌≡◌, ℕ, List, [], Some, Result, Ok, Err, IfErr, ◌⊎◌, IsUtf8, refl, inl, inr}
 use Rattle.std.proofs.lemmas.Bool.{cases_Bool}
 use Rattle.std.proofs.lemmas.Str.{IsUtf8-from_is_utf8, is_utf8-from_IsUtf8}
 use Rattle.std.specs.Str.{is_utf8}
@@ -22,11 +22,6 @@ parse_of-other bytes other =
       | inl same ↦ absurd (other (IsUtf8-from_is_utf8 bytes same))
       | inr differs ↦ rw differs refl
     ]
-
--- a text that is not TOML
-pub parse_of-refused : (bytes : List ℕ) → IsUtf8 bytes → parse_document bytes ≡ None → parse_of bytes ≡ Err no_text
-unfolding parse_of
-parse_of-refused bytes utf8 none = rw (is_utf8-from_IsUtf8 bytes utf8, none) refl
 
 -- a text that is TOML
 pub parse_of-document : (bytes : List ℕ) (members : Members) → IsUtf8 bytes → parse_document bytes ≡ Some members → parse_of bytes ≡ document_of members

@@ -56,10 +56,6 @@ pub cut_whole : (skew : ℕ) (visits : List Visit) (lengths : List ℕ) (rest : 
 unfolding AreRounds
 cut_whole skew visits lengths rest to done = subst (AreRounds skew visits) (append-nil lengths) (to [] done)
 
-pub cut_nothing : (skew : ℕ) (visits : List Visit) (lengths : List ℕ) → lengths ≡ []
-    → IsCutTo skew visits lengths visits
-cut_nothing skew visits lengths none counts are = subst (λ ls. AreRounds skew visits (ls ++ counts)) (sym none) are
-
 pub none_left : (rest : List Visit) (empty : Bool) → empty ≡ nat_eq (length rest) 0 → empty ≡ true → rest ≡ []
 none_left [] empty is passes = refl
 none_left (v ∷ rest) empty is passes = absurd (wrong (length (v ∷ rest)) (sym is ∙ passes) (omega arith))

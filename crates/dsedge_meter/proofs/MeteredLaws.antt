@@ -24,13 +24,6 @@ take-suc (suc room) x xs h =
     let same : suc room - 1 ≡ room = omega arith in
     rw same refl
 
-take-zero : {X : Type 0} (xs : List X) → take 0 xs ≡ []
-take-zero [] = refl
-take-zero (x ∷ xs) = refl
-
-take-none : {X : Type 0} (room : ℕ) (xs : List X) → room ≡ 0 → take room xs ≡ []
-take-none room xs e = rw e (take-zero xs)
-
 take-nil : {X : Type 0} (room : ℕ) → take {A = X} room [] ≡ []
 take-nil zero = refl
 take-nil (suc room) = refl
