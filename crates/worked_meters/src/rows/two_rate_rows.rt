@@ -1,5 +1,6 @@
-use crate::meters::{Figures, Metered, expect_all, expect_rows, opened};
-use moment_core::Mode;
+use crate::rows::meters::Figures::Two;
+use crate::rows::meters::{Metered, expect_all, expect_rows, opened};
+use moment_core::Mode::{Aware, Blind};
 use std::process::Abort;
 
 const ONE_A_NANOSECOND: &str = "
@@ -19,8 +20,8 @@ const HEEDED: &str = "
 
 static METERS: [Metered; 1] = [(
     "tokens_of_a_nanosecond_come_before_its_packets",
-    Figures::Two(800_000_000, 20, 800_000_000, 20),
-    Mode::Blind,
+    Two(800_000_000, 20, 800_000_000, 20),
+    Blind,
     ONE_A_NANOSECOND,
 )];
 
@@ -31,8 +32,8 @@ fn meters_of_two_rates(rt: HostRuntime) {
 
 /// Expects of a meter that it heeds the colour that comes in.
 fn expect_heeded(rt: &impl Abort) {
-    let figures = Figures::Two(8_000, 1_000, 16_000, 2_000);
-    let mut meter = opened(rt, figures, Mode::Aware);
+    let figures = Two(8_000, 1_000, 16_000, 2_000);
+    let mut meter = opened(rt, figures, Aware);
     expect_all(rt, &mut meter, "heeded", HEEDED);
     assert_eq!(rt; meter.newest().get(), 1_000_000);
 }

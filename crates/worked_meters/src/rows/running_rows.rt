@@ -1,6 +1,5 @@
-use crate::book_rows::arrival;
-use crate::expecting::expect_same;
-use crate::meters::{Figures, moment, opened};
+use crate::rows::book_rows::arrival;
+use crate::rows::meters::{Figures, moment, opened};
 use envelope_core::{Envelope, LeakyBucket};
 use meter_book::{NoteFault, RunningMeter};
 use moment_core::{Colour, Gap, Mode};
@@ -35,7 +34,7 @@ fn expect_no_fourth(rt: &impl Abort) {
     let mut meter = RunningMeter::new(opened(rt, figures, Mode::Blind), Gap::NONE, 3);
     for (name, moment, size, wanted) in &ANSWERS {
         let left = meter.note(arrival(rt, 0, *moment, *size, Colour::Green));
-        expect_same(rt, name, left, *wanted);
+        assert_eq!(rt; (name, left), (name, *wanted));
     }
     expect_sums(rt, &meter, [1, 1, 1], [1_500, 1_500, 100]);
 }

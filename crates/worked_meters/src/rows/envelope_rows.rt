@@ -1,5 +1,4 @@
-use crate::expecting::expect_same;
-use crate::meters::moment;
+use crate::rows::meters::moment;
 use envelope_core::{Envelope, add, in_order, keeps, widen};
 use moment_core::{Gap, Moment};
 use std::alloc::Global;
@@ -117,7 +116,7 @@ fn expect_kept(rt: &impl Abort, alloc: Global, (name, figures, items, wanted): &
     let items = sized(rt, alloc, items);
     assert!(rt; in_order(items.as_slice()));
     let verdict = keeps(items.as_slice(), envelope(rt, *figures));
-    expect_same(rt, name, verdict, *wanted);
+    assert_eq!(rt; (name, verdict), (name, *wanted));
 }
 
 #[test]

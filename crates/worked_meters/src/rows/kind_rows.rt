@@ -1,7 +1,6 @@
-use crate::book_rows::arrival;
-use crate::envelope_rows::figures_of;
-use crate::expecting::expect_same;
-use crate::meters::{Figures, opened};
+use crate::rows::book_rows::arrival;
+use crate::rows::envelope_rows::figures_of;
+use crate::rows::meters::{Figures, opened};
 use meter_book::{AnyMeter, Meter, meter_all};
 use moment_core::{Colour, Mode};
 use std::alloc::Global;
@@ -44,8 +43,8 @@ fn envelopes(meter: &AnyMeter) -> [(u64, u64); 3] {
 /// Expects what a meter tells of itself.
 fn expect_told(rt: &impl Abort, (name, figures, mode, wanted): &Told) {
     let meter = opened(rt, *figures, *mode);
-    expect_same(rt, name, Meter::mode(&meter), *mode);
-    expect_same(rt, name, envelopes(&meter).as_slice(), wanted);
+    assert_eq!(rt; (name, Meter::mode(&meter)), (name, *mode));
+    assert_eq!(rt; (name, envelopes(&meter).as_slice()), (name, *wanted));
 }
 
 #[test]
@@ -68,7 +67,10 @@ static LEFT: [Colour; 4] = [Colour::Green, Colour::Green, Colour::Yellow, Colour
 fn expect_metered(rt: &impl Abort, alloc: Global) {
     let mut meter = opened(rt, Figures::Single(8_000, 1_000, 500), Mode::Blind);
     let left = four(rt, alloc, &mut meter);
-    expect_same(rt, "four red packets", left.as_slice(), LEFT.as_slice());
+    assert_eq!(rt;
+        ("four red packets", left.as_slice()),
+        ("four red packets", LEFT.as_slice())
+    );
     assert!(rt; meter.newest().get() == 7);
 }
 

@@ -1,5 +1,4 @@
-use crate::expecting::expect_same;
-use crate::meters::moment;
+use crate::rows::meters::moment;
 use moment_core::{Gap, Moment, Rate, bytes_over_ceil, drain_gap, tokens_between};
 use std::process::Abort;
 
@@ -53,7 +52,7 @@ fn expect_tokens(rt: &impl Abort, (name, rate, (begin, end), wanted): &Given) {
     assert!(rt; begin.get() <= end.get());
     let first = Moment::new(0).expect(rt, name);
     let given = tokens_between(rate, first, begin, end);
-    expect_same(rt, name, given, *wanted);
+    assert_eq!(rt; (name, given), (name, *wanted));
 }
 
 #[test]

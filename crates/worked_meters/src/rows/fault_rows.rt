@@ -1,5 +1,5 @@
-use crate::expecting::expect_same;
-use crate::meters::{Figures, moment, parameters, separate_rates, single_rate, two_rates};
+use crate::rows::meters::Figures::{Separate, Single, Two};
+use crate::rows::meters::{Figures, moment, parameters, separate_rates, single_rate, two_rates};
 use meter_book::{AnyMeter, Meter};
 use moment_core::{Colour, MeterParameters, Mode, PacketSize};
 use rfc4115_core::Rfc4115;
@@ -11,67 +11,43 @@ use trtcm_core::TrTcm;
 type Faulty = (&'static str, Figures, u8);
 
 static FAULTS: [Faulty; 10] = [
-    (
-        "two rates, no committed burst",
-        Figures::Two(8_000, 0, 7_000, 1),
-        1,
-    ),
-    (
-        "two rates, no peak burst",
-        Figures::Two(8_000, 1, 7_000, 0),
-        1,
-    ),
+    ("two rates, no committed burst", Two(8_000, 0, 7_000, 1), 1),
+    ("two rates, no peak burst", Two(8_000, 1, 7_000, 0), 1),
     (
         "two rates, a peak below the committed rate",
-        Figures::Two(8_000, 1, 7_000, 1),
+        Two(8_000, 1, 7_000, 1),
         2,
     ),
-    (
-        "two rates that are the same",
-        Figures::Two(8_000, 1, 8_000, 1),
-        0,
-    ),
-    (
-        "separate rates, no burst",
-        Figures::Separate(8_000, 0, 8_000, 0),
-        1,
-    ),
+    ("two rates that are the same", Two(8_000, 1, 8_000, 1), 0),
+    ("separate rates, no burst", Separate(8_000, 0, 8_000, 0), 1),
     (
         "separate rates, an excess burst",
-        Figures::Separate(8_000, 0, 8_000, 1),
+        Separate(8_000, 0, 8_000, 1),
         0,
     ),
     (
         "separate rates, a committed burst",
-        Figures::Separate(8_000, 1, 8_000, 0),
+        Separate(8_000, 1, 8_000, 0),
         0,
     ),
-    ("a single rate, no burst", Figures::Single(8_000, 0, 0), 1),
-    (
-        "a single rate, an excess burst",
-        Figures::Single(8_000, 0, 1),
-        0,
-    ),
-    (
-        "a single rate, a committed burst",
-        Figures::Single(8_000, 1, 0),
-        0,
-    ),
+    ("a single rate, no burst", Single(8_000, 0, 0), 1),
+    ("a single rate, an excess burst", Single(8_000, 0, 1), 0),
+    ("a single rate, a committed burst", Single(8_000, 1, 0), 0),
 ];
 
 /// The number of the fault of a meter of figures, made as a meter of its kind alone; 0 where it has none.
 fn code_of_kind(rt: &impl Abort, figures: Figures) -> u8 {
     let (mode, origin) = (Mode::Blind, moment(rt, 5));
     match figures {
-        Figures::Single(cir, cbs, ebs) => {
+        Single(cir, cbs, ebs) => {
             let made = SrTcm::new(single_rate(rt, cir, cbs, ebs), mode, origin);
             made.err().map_or(0, |fault| fault.code())
         }
-        Figures::Two(cir, cbs, pir, pbs) => {
+        Two(cir, cbs, pir, pbs) => {
             let made = TrTcm::new(two_rates(rt, cir, cbs, pir, pbs), mode, origin);
             made.err().map_or(0, |fault| fault.code())
         }
-        Figures::Separate(cir, cbs, eir, ebs) => {
+        Separate(cir, cbs, eir, ebs) => {
             let made = Rfc4115::new(separate_rates(rt, cir, cbs, eir, ebs), mode, origin);
             made.err().map_or(0, |fault| fault.code())
         }
@@ -80,11 +56,14 @@ fn code_of_kind(rt: &impl Abort, figures: Figures) -> u8 {
 
 /// Expects of figures the number of the fault of a meter of its kind alone and of one of any kind.
 fn expect_fault(rt: &impl Abort, (name, figures, wanted): &Faulty) {
-    expect_same(rt, name, code_of_kind(rt, *figures), *wanted);
+    assert_eq!(rt; (name, code_of_kind(rt, *figures)), (name, *wanted));
     let parameters = parameters(rt, *figures);
     let fault = AnyMeter::new(parameters, Mode::Blind, moment(rt, 5)).err();
-    expect_same(rt, name, fault, parameters.fault());
-    expect_same(rt, name, fault.map_or(0, |fault| fault.code()), *wanted);
+    assert_eq!(rt; (name, fault), (name, parameters.fault()));
+    assert_eq!(rt;
+        (name, fault.map_or(0, |fault| fault.code())),
+        (name, *wanted)
+    );
 }
 
 #[test]

@@ -1,7 +1,6 @@
 ghost use Rattle.std.specs.Prelude.{◌≤◌, ◌^◌};
 
-use crate::expecting::expect_same;
-use crate::meters::{Figures, moment, opened};
+use crate::rows::meters::{Figures, moment, opened};
 use meter_book::{Arrival, Journal, MeterBook, Row};
 use moment_core::{Colour, Gap, Mode, PacketSize};
 use std::alloc::Global;
@@ -62,11 +61,9 @@ static FIVE: [((u64, u64, u64), Colour); 5] = [
 fn expect_five(rt: &impl Abort, book: &mut MeterBook) {
     for (packet, left) in &FIVE {
         let row = noted(rt, book, *packet, Colour::Green);
-        expect_same(
-            rt,
-            "of five packets",
-            (row.place, row.left),
-            (packet.0, *left),
+        assert_eq!(rt;
+            ("of five packets", (row.place, row.left)),
+            ("of five packets", (packet.0, *left))
         );
     }
 }

@@ -1,8 +1,7 @@
 ghost use Rattle.std.specs.Prelude.{◌≤◌};
 
-use crate::book_rows::{arrival, book};
-use crate::expecting::expect_same;
-use crate::meters::{Figures, moment};
+use crate::rows::book_rows::{arrival, book};
+use crate::rows::meters::{Figures, moment};
 use meter_book::{Chapter, JoinFault, Journal, MeterBook, NoteFault, Row};
 use moment_core::{Colour, Mode};
 use std::alloc::Global;
@@ -56,11 +55,9 @@ fn cut(rt: &impl Abort, book: &mut MeterBook) -> Chapter {
 fn whole(rt: &impl Abort, alloc: Global) -> Journal {
     let mut book = book(rt, alloc, EDGE, 3);
     for packet in 0..3 {
-        expect_same(
-            rt,
-            "of three packets",
-            place(rt, &mut book, packet, packet),
-            Ok(packet),
+        assert_eq!(rt;
+            ("of three packets", place(rt, &mut book, packet, packet)),
+            ("of three packets", Ok(packet))
         );
     }
     assert!(rt; book.opening().place == 0);
@@ -73,7 +70,10 @@ fn expect_same_journals(rt: &impl Abort, journal: &Journal, other: &Journal) {
     assert!(rt; journal.opening() == other.opening() && journal.skew() == other.skew());
     assert!(rt; journal.accounts() == other.accounts());
     for place in 0..4 {
-        expect_same(rt, "of three rows", journal.row(place), other.row(place));
+        assert_eq!(rt;
+            ("of three rows", journal.row(place)),
+            ("of three rows", other.row(place))
+        );
     }
 }
 

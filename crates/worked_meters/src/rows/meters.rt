@@ -134,3 +134,27 @@ pub fn expect_rows(rt: &impl Abort, rows: &[Metered]) {
         expect_all(rt, &mut opened(rt, *figures, *mode), name, lines);
     }
 }
+
+/// A gap of all time fills both buckets and no more.
+pub const IDLE: &str = "
+0 1000 g g
+0 500 g y
+9223372036854775807 1000 g g
+9223372036854775807 500 g y
+9223372036854775807 1 g r
+";
+
+/// An arrival from before the newest moment is metered at the newest; a blind meter heeds no colour.
+pub const LATE: &str = "
+2000000 2 r g
+1000000 1 r r
+3000000 1 y g
+0 1 g r
+4000000 1 g g
+";
+
+/// An excess bucket of size 0 never admits.
+pub const GREATEST_COMMITTED: &str = "
+0 65535 g g
+0 1 y r
+";

@@ -1,0 +1,11 @@
+mod book_rows;
+mod chapter_rows;
+mod envelope_rows;
+mod fault_rows;
+mod kind_rows;
+mod meters;
+mod running_rows;
+mod separate_rate_rows;
+mod single_rate_rows;
+mod token_rows;
+mod two_rate_rows;
