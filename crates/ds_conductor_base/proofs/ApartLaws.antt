@@ -13,7 +13,7 @@ use Rattle.ds_conductor_base.specs.Visits.{is_same, visit_to, visits_from}
 use Rattle.ds_conductor_base.specs.Ways.{delay_over, edge_stops, stops_along, stops_at, stops_by}
 use Rattle.ds_conductor_base.specs.declared.sent.Sent.{Sent}
 use Rattle.ds_conductor_base.specs.declared.visit.Visit.{Visit}
-use Rattle.ds_conductor_base.specs.declared.way.Stop.{Stop}
+use Rattle.ds_conductor_base.specs.Ways.{Stop}
 
 -- ---- tests of numbers
 

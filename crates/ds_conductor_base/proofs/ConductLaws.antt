@@ -1,13 +1,12 @@
 -- What comes of the steps that are left, one by one.
-use Rattle.std.proofs.Common.{◌≡◌, ◌⊎◌, inl, inr, ◌+◌, ◌<◌, ◌≤◌, ℕ, suc, List, [], ◌∷◌, length, drop, get_or, Ok, Err, refl, sym, ap, ◌∙◌, arith}
+use Rattle.std.proofs.Common.{◌≡◌, ◌⊎◌, inl, inr, ◌+◌, ◌<◌, ◌≤◌, ℕ, suc, List, [], ◌∷◌, length, drop, get_or, Ok, Err, Result, refl, sym, ap, ◌∙◌, arith}
 use Rattle.std.proofs.lemmas.List.{drop_all, drop_more}
 use Rattle.ds_checker.specs.Acceptance.{Table}
 use Rattle.ds_conductor_base.specs.Conducting.{as_run, conducted, conducted_from, fault_at, going_on, run_so_far}
-use Rattle.ds_conductor_base.specs.Steps.{Stage, opened, stepped}
+use Rattle.ds_conductor_base.specs.Steps.{Stage, opened, refusal_of, stepped}
 use Rattle.ds_conductor_base.specs.declared.fault.ConductFault.{ConductFault}
 use Rattle.ds_conductor_base.specs.declared.fault.ConductFault.TheVariants as conducts
 use Rattle.ds_conductor_base.specs.declared.fault.StepFault.{StepFault}
-use Rattle.ds_conductor_base.specs.declared.fault.StepFault.TheVariants as steps
 use Rattle.ds_conductor_base.specs.declared.step.Step.{Step}
 
 module _ (t : Table) where
@@ -37,12 +36,16 @@ module _ (t : Table) where
   -- one that cannot be made
   pub conducted_refused : (g : Stage) (index : ℕ) (s : Step) (all : List Step) (fault : StepFault) (told : ConductFault) → index < length all
       → s ≡ get_or all index s → conducted_from t g index (drop index all) ≡ conducted_from t (opened t) 0 all
-      → told ≡ fault_at index fault → (fault ≡ steps.NoMemory) ⊎ (stepped t g s ≡ Err fault)
+      → told ≡ fault_at index fault → fault ≡ refusal_of (stepped t g s)
       → (told ≡ conducts.NoMemory) ⊎ (conducted t all ≡ Err told)
-  conducted_refused g index s all fault told within is whole tells (inl memory) = inl (tells ∙ ap (fault_at index) memory)
-  conducted_refused g index s all fault told within is whole tells (inr refused) =
-      inr (ap as_run (sym whole ∙ left_steps g index s all within is ∙ ap (going_on index (λ h. conducted_from t h (suc index) (drop (index + 1) all))) refused)
-      ∙ ap (λ f. Err f) (sym tells))
+  conducted_refused g index s all fault told within is whole tells refused = by (stepped t g s) refl
+    where
+      by : (r : Result Stage StepFault) → stepped t g s ≡ r → (told ≡ conducts.NoMemory) ⊎ (conducted t all ≡ Err told)
+      by (Ok h) made = inl (tells ∙ ap (fault_at index) (refused ∙ ap (refusal_of {A = Stage}) made))
+      by (Err own) made =
+          let same : fault ≡ own = refused ∙ ap (refusal_of {A = Stage}) made in
+          inr (ap as_run (sym whole ∙ left_steps g index s all within is ∙ ap (going_on index (λ h. conducted_from t h (suc index) (drop (index + 1) all))) made)
+          ∙ ap (λ f. Err (fault_at index f)) (sym same) ∙ ap (λ f. Err f) (sym tells))
 
   -- behind the last
   pub conducted_whole : (g : Stage) (index : ℕ) (all : List Step) → length all ≤ index

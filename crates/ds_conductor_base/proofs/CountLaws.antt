@@ -12,7 +12,7 @@ use Rattle.ds_conductor_base.specs.KeptStreams.{AreCounted}
 use Rattle.ds_conductor_base.specs.Visits.{visit_to}
 use Rattle.ds_conductor_base.specs.declared.sent.Sent.{Sent}
 use Rattle.ds_conductor_base.specs.declared.visit.Visit.{Visit}
-use Rattle.ds_conductor_base.specs.declared.way.Stop.{Stop}
+use Rattle.ds_conductor_base.specs.Ways.{Stop}
 
 -- ---- counts
 

@@ -19,7 +19,7 @@ use Rattle.ds_conductor_base.specs.Laws.{HeadStartsHold}
 use Rattle.ds_conductor_base.specs.Streams.{ComeFrom}
 use Rattle.ds_conductor_base.specs.Ways.{IsHeadStart, NoneNearer, delay_over, edge_stops, stops_along, stops_by, stops_of}
 use Rattle.ds_conductor_base.specs.declared.sent.Sent.{Sent}
-use Rattle.ds_conductor_base.specs.declared.way.Stop.{Stop}
+use Rattle.ds_conductor_base.specs.Ways.{Stop}
 
 abbrev IsFrom : ℕ → Stop → Type 0
 IsFrom delay stop = delay ≤ stop.delay

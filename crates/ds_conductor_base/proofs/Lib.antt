@@ -11,7 +11,7 @@ pub mod HeadStartLaws
 pub mod InOrderLaws
 pub mod JoinLaws
 pub mod JournalLaws
-pub mod LaneLaws
+pub mod TrainLaws
 pub mod ListLaws
 pub mod OnTheWayLaws
 pub mod OpenedLaws

@@ -15,7 +15,7 @@ use Rattle.ds_conductor_base.proofs.InOrderLaws.{visit_order}
 use Rattle.ds_conductor_base.proofs.JoinLaws.{in_order-rises, in_order-same, in_order-told}
 use Rattle.ds_conductor_base.specs.Visits.{is_before, is_same}
 use Rattle.ds_conductor_base.specs.Waits.{first_on_top, visit_in, visits_in}
-use Rattle.ds_conductor_base.specs.declared.queue.Waiting.{Waiting}
+use Rattle.ds_conductor_base.specs.declared.waiting.Waiting.{Waiting}
 use Rattle.ds_conductor_base.specs.declared.visit.Visit.{Visit}
 
 -- ---- the first is before the others
@@ -34,7 +34,7 @@ all_before : (r : Reverse Waiting) (rows : List (Reverse Waiting)) → AllByRecu
     → IsUpperBound first_on_top r rows → AllByRecursion (λ w. is_before (visit_in r) w ≡ true) (visits_in rows)
 all_before r [] apart top = tt
 all_before r (s ∷ rows) apart top = (
-  compared r.0.moment r.0.place r.0.number r.0.site r.0.lane s.0.moment s.0.place s.0.number s.0.site s.0.lane apart.0 top.0,
+  compared r.0.moment r.0.place r.0.number r.0.site r.0.train s.0.moment s.0.place s.0.number s.0.site s.0.train apart.0 top.0,
   all_before r rows apart.1 top.1,
 )
 
@@ -42,7 +42,7 @@ all_late : (moment : ℕ) (r : Reverse Waiting) (rows : List (Reverse Waiting)) 
     → AllByRecursion (λ w. moment < w.moment) (visits_in rows)
 all_late moment r [] late top = tt
 all_late moment r (s ∷ rows) late top =
-    let here = compared_late r.0.moment r.0.place r.0.number r.0.site r.0.lane s.0.moment s.0.place s.0.number s.0.site s.0.lane top.0 in
+    let here = compared_late r.0.moment r.0.place r.0.number r.0.site r.0.train s.0.moment s.0.place s.0.number s.0.site s.0.train top.0 in
     (omega (arith, late, here), all_late moment r rows late top.1)
 
 pub late_rows : (moment : ℕ) (r : Reverse Waiting) (rows : List (Reverse Waiting)) → moment < r.0.moment → IsUpperBound first_on_top r rows

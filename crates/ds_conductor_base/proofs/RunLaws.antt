@@ -1,6 +1,6 @@
 -- Runs of waiting visits, of which the first visit is the last, and a heap beside one.
 use Rattle.std.proofs.Common.{◌≡◌, ◌<◌, ◌≤◌, ◌+◌, ◌-◌, ℕ, zero, suc, ◌⊎◌, inl, inr, Bool, true, false, List, [], ◌∷◌, ◌++◌, length, take, drop, get_or, refl, sym, ap, ◌∙◌, subst, arith, append-nil}
-use Rattle.std.specs.Prelude.{IfSome, IsPermutation, IsSome, MatchBool, MatchOption, None, Ok, Option, Result, Some, is_ok, nat_lt, if◌then◌else◌}
+use Rattle.std.specs.Prelude.{IsPermutation, IsSome, MatchBool, MatchOption, None, Ok, Option, Result, Some, is_ok, nat_lt, if◌then◌else◌}
 use Rattle.std.specs.Option.{option_to_list}
 use Rattle.std.specs.BinaryHeap.{IsUpperBound}
 use Rattle.std.specs.Cmp.{IsStrictWeakOrder, IsTotalOrder}
@@ -12,18 +12,19 @@ use Rattle.std.proofs.lemmas.Bool.{cases_lt, false≢true}
 use Rattle.std.proofs.lemmas.Bool.Decides.{nat_tests}
 use Rattle.std.proofs.lemmas.Cmp.{back_total, nat_cmp_total, on_total, then_total}
 use Rattle.std.proofs.lemmas.List.{drop_all, drop_more, get_or-append_right, get_or-drop, get_or_append_left, get_or_push, get_or_read, append_assoc, length-append, length-drop, take_all, take_more}
-use Rattle.std.proofs.lemmas.List.Elements.{All-append, All-from_recursion, All-tail, All-weaker, recursion_from_All}
+use Rattle.std.proofs.lemmas.List.Elements.{All-append, All-from_recursion, All-nil, All-tail, All-weaker, recursion_from_All}
 use Rattle.std.proofs.lemmas.List.Kept.{IsSortedBy-push}
 use Rattle.std.proofs.lemmas.List.Sorted.{All-permutation, IsPermutation-append_comm, IsPermutation-append_left, IsPermutation-append_right, IsPermutation-middle, IsPermutation-push_more, IsPermutation-to_front, IsPermutation-trans, ranks_by, sorted_far}
-use Rattle.ds_conductor_base.specs.Waits.{first_on_top, waiting_cmp}
-use Rattle.ds_conductor_base.specs.declared.queue.Waiting.{Waiting}
+use Rattle.ds_conductor_base.specs.Trains.{IsFirst}
+use Rattle.ds_conductor_base.specs.Waits.{first_on_top, visits_in, waiting_cmp}
+use Rattle.ds_conductor_base.specs.declared.waiting.Waiting.{Waiting}
 
 -- ---- the order
 
 waiting_total : IsTotalOrder waiting_cmp
 waiting_total =
     then_total (on_total (λ (w : Waiting). w.moment) nat_cmp_total) (then_total (on_total (λ (w : Waiting). w.place) nat_cmp_total)
-    (then_total (on_total (λ (w : Waiting). w.number) nat_cmp_total) (then_total (on_total (λ (w : Waiting). w.lane) nat_cmp_total) (on_total (λ (w : Waiting). w.site) nat_cmp_total))))
+    (then_total (on_total (λ (w : Waiting). w.number) nat_cmp_total) (then_total (on_total (λ (w : Waiting). w.train) nat_cmp_total) (on_total (λ (w : Waiting). w.site) nat_cmp_total))))
 
 first_total : IsTotalOrder first_on_top
 first_total = on_total (λ (r : Reverse Waiting). r.0) (back_total waiting_total)
@@ -64,28 +65,26 @@ pub first_of_run : (rows run : List (Reverse Waiting)) → length rows ≡ 0 →
     → IsUpperBound first_on_top r (rows ++ run)
 first_of_run rows run empty up r is = bounds_both r rows run (bounds_none r rows empty) (last_bounds run r up is)
 
--- with no run, it is on top of the heap
-pub first_of_heap : (rows run : List (Reverse Waiting)) (top : Reverse Waiting) → length run ≡ 0 → 0 < length rows → top ≡ get_or rows 0 top
-    → IsUpperBound first_on_top top rows → (r : Reverse Waiting) → r ≡ get_or rows 0 r → IsUpperBound first_on_top r (rows ++ run)
-first_of_heap rows run top empty there is bound r own =
-    subst (λ q. IsUpperBound first_on_top q (rows ++ run)) (same_at rows 0 top r there is own)
-    (bounds_both top rows run (All-from_recursion (λ q. is_later top q ≡ false) rows bound) (bounds_none top run empty))
+-- with no run, it is in front of the others
+pub first_of_rows : (rows run : List (Reverse Waiting)) → length run ≡ 0 → (r : Reverse Waiting) → IsFirst r rows → IsUpperBound first_on_top r (rows ++ run)
+first_of_rows rows run empty r first =
+    bounds_both r rows run (All-from_recursion (λ q. is_later r q ≡ false) rows first.bound) (bounds_none r run empty)
 
 -- of both, the one that is not later
-pub first_of_both : (rows run : List (Reverse Waiting)) (top last : Reverse Waiting) → 0 < length rows → top ≡ get_or rows 0 top → IsUpperBound first_on_top top rows
-    → 0 < length run → last ≡ get_or run (length run - 1) last → IsSorted first_on_top run → (n : ℕ) → 0 < n → (b : Bool) → b ≡ is_later last top
-    → MatchBool b ((0 < n) × ((r : Reverse Waiting) → r ≡ get_or rows 0 r → IsUpperBound first_on_top r (rows ++ run)))
-    ((length run ≡ 0 → n ≡ 0) × ((r : Reverse Waiting) → r ≡ get_or run (length run - 1) r → IsUpperBound first_on_top r (rows ++ run)))
-first_of_both rows run top last there is bound filled own up n some true later = (
-  some,
-  λ r same. subst (λ q. IsUpperBound first_on_top q (rows ++ run)) (same_at rows 0 top r there is same)
-      (bounds_both top rows run (All-from_recursion (λ q. is_later top q ≡ false) rows bound)
+pub first_of_both : (rows run : List (Reverse Waiting)) (top last : Reverse Waiting) → IsFirst top rows → 0 < length run → last ≡ get_or run (length run - 1) last
+    → IsSorted first_on_top run → (b : Bool) → b ≡ is_later last top
+    → MatchBool b ((0 < length rows) × ((r : Reverse Waiting) → IsFirst r rows → IsUpperBound first_on_top r (rows ++ run)))
+    ((length run ≡ 0 → length rows ≡ 0) × ((r : Reverse Waiting) → r ≡ get_or run (length run - 1) r → IsUpperBound first_on_top r (rows ++ run)))
+first_of_both rows run top last first filled own up true later = (
+  first.there,
+  λ r here. subst (λ q. IsUpperBound first_on_top q (rows ++ run)) (same_at rows 0 top r first.there first.front here.front)
+      (bounds_both top rows run (All-from_recursion (λ q. is_later top q ≡ false) rows first.bound)
       (beyond top last run (later_strict.one_way last top (sym later)) (last_bounds run last up own))),
 )
-first_of_both rows run top last there is bound filled own up n some false later = (
+first_of_both rows run top last first filled own up false later = (
   (λ empty. absurd (omega (arith, empty, filled))),
   λ r same. subst (λ q. IsUpperBound first_on_top q (rows ++ run)) (same_at run (length run - 1) last r (omega (arith, filled)) own same)
-      (bounds_both last rows run (beyond last top rows (sym later) (All-from_recursion (λ q. is_later top q ≡ false) rows bound)) (last_bounds run last up own)),
+      (bounds_both last rows run (beyond last top rows (sym later) (All-from_recursion (λ q. is_later top q ≡ false) rows first.bound)) (last_bounds run last up own)),
 )
 
 -- what bounds all bounds those that are left
@@ -221,14 +220,19 @@ filled n there = grind (arith, nat_tests)
 pub unfilled : (n : ℕ) → nat_lt 0 n ≡ false → n ≡ 0
 unfilled n there = grind (arith, nat_tests)
 
-pub heap_taken : (moment : ℕ) (rows left run : List (Reverse Waiting)) (first : Reverse Waiting) (o : Option (Reverse Waiting)) (P : Type 0) → first ≡ get_or rows 0 first
-    → first.0.moment ≤ moment → IsUpperBound first_on_top first (rows ++ run) → 0 < length rows → IsSome o → IfSome o (λ r. r ≡ get_or rows 0 r)
-    → IfSome o (λ r. IsPermutation rows (r ∷ left))
+-- none are there
+pub none_due : (moment : ℕ) (rows run : List (Reverse Waiting)) → length rows ≡ 0 → length run ≡ 0 → All (λ v. moment < v.moment) (visits_in (rows ++ run))
+none_due moment [] [] first next = All-nil (λ v. moment < v.moment)
+none_due moment [] (r ∷ run) first next = absurd (omega (arith, next))
+none_due moment (r ∷ rows) run first next = absurd (omega (arith, first))
+
+pub front_taken : (moment : ℕ) (rows run : List (Reverse Waiting)) (first : Reverse Waiting) (o : Option (Reverse Waiting)) (left : List (Reverse Waiting)) (P : Type 0) → IsFirst first rows
+    → first.0.moment ≤ moment → IsUpperBound first_on_top first (rows ++ run) → MatchOption o ((rows ≡ []) × (left ≡ [])) (λ r. IsFirst r rows × IsPermutation rows (r ∷ left))
     → MatchOption o P (λ r. (r.0.moment ≤ moment) × IsPermutation (rows ++ run) (r ∷ (left ++ run)) × IsUpperBound first_on_top r (left ++ run))
-heap_taken moment rows left run first None P is early bound there some top moved = absurd (false≢true some)
-heap_taken moment rows left run first (Some r) P is early bound there some top moved =
-    let same : first ≡ r = same_at rows 0 first r there is top in
-    let all : IsPermutation (rows ++ run) (r ∷ (left ++ run)) = IsPermutation-append_left run rows (r ∷ left) moved in (
+front_taken moment rows run first None left P here early bound told = absurd (omega (arith, here.there, ap (λ us. length us) told.0))
+front_taken moment rows run first (Some r) left P here early bound told =
+    let same : first ≡ r = same_at rows 0 first r here.there here.front told.0.front in
+    let all : IsPermutation (rows ++ run) (r ∷ (left ++ run)) = IsPermutation-append_left run rows (r ∷ left) told.1 in (
       subst (λ (q : Reverse Waiting). q.0.moment ≤ moment) same early,
       all,
       bounds_rest (rows ++ run) (left ++ run) r all (subst (λ (q : Reverse Waiting). IsUpperBound first_on_top q (rows ++ run)) same bound),

@@ -1,6 +1,6 @@
 -- What a step makes, by what is found of its packet's number.
-use Rattle.std.proofs.Common.{◌≡◌, ◌⊎◌, inl, inr, ℕ, zero, suc, true, false, List, [], ◌∷◌, ◌++◌, Option, None, Some, Result, Ok, Err, nat_eq, position, is_some, refl, sym, ◌∙◌, ap, subst}
-use Rattle.std.specs.Prelude.{option_map, slice_get, slice_set, IfErr, OnOk, OnErr}
+use Rattle.std.proofs.Common.{◌≡◌, ℕ, zero, suc, true, false, List, [], ◌∷◌, ◌++◌, Option, None, Some, Result, Ok, Err, nat_eq, position, is_some, refl, sym, ◌∙◌, ap, subst}
+use Rattle.std.specs.Prelude.{◌↔◌, option_map, slice_get, slice_set, IfErr, OnOk, OnErr}
 use Rattle.std.specs.List.{list_any}
 use Rattle.std.specs.Map.{keys_of, values_of}
 use Rattle.std.proofs.lemmas.List.{map_push}
@@ -16,9 +16,11 @@ use Rattle.meter_fabric_base.specs.Trails.{Packet}
 use Rattle.meter_fabric_base.specs.Travels.{Traveller, begun_of}
 use Rattle.meter_fabric_base.specs.declared.fault.BeginFault.{BeginFault}
 use Rattle.meter_fabric_base.specs.declared.fault.BeginFault.TheVariants as begins
-use Rattle.ds_conductor_base.specs.Faults.{begin_fault_of}
+use Rattle.meter_fabric_base.specs.Travels as visits
+use Rattle.meter_fabric_base.specs.declared.fault.VisitFault.{VisitFault}
+use Rattle.ds_conductor_base.specs.Faults.{begin_fault_of, visit_fault_of}
 use Rattle.ds_conductor_base.specs.Kept.{Conduct}
-use Rattle.ds_conductor_base.specs.Steps.{Stage, numbers_of, put_back, sent, stepped, visited_by, visited_from, visited_next}
+use Rattle.ds_conductor_base.specs.Steps.{Stage, as_step, numbers_of, put_back, refusal_of, sent, stepped, visited_by, visited_from, visited_next, with_books}
 use Rattle.ds_conductor_base.proofs.ListLaws.{set_same}
 use Rattle.ds_conductor_base.specs.OnTheWay.{IsUnderWay}
 use Rattle.ds_conductor_base.specs.declared.fault.StepFault.{StepFault}
@@ -83,11 +85,20 @@ module _ (t : Table) (g : Stage) (flow packet size dscp moment : ℕ) where
       → stepped t g (Send flow packet size dscp moment) ≡ Ok (record { travellers = ts; books = g.books })
   send_begun p ts new is pushed = send_new (Some p) new is ∙ ap (λ us. Ok (record { travellers = us; books = g.books })) (sym pushed)
 
-  pub send_refused : (fault : BeginFault) → list_any (nat_eq packet) (numbers_of g.travellers) ≡ false
-      → (fault ≡ begins.UnknownFlow → contract_of (ground_of t) flow ≡ None)
-      → (begin_fault_of fault ≡ NoMemory) ⊎ (stepped t g (Send flow packet size dscp moment) ≡ Err (begin_fault_of fault))
-  send_refused begins.UnknownFlow new unknown = inr (send_new None new (ap (option_map _) (unknown refl)))
-  send_refused begins.NoMemory new unknown = inl refl
+  pub send_refused : {A : Type 0} (fault : BeginFault) → list_any (nat_eq packet) (numbers_of g.travellers) ≡ false
+      → (◌≡◌ {A = Result A BeginFault} (Err fault) (Err begins.UnknownFlow) ↔ (contract_of (ground_of t) flow ≡ None))
+      → begin_fault_of fault ≡ refusal_of (stepped t g (Send flow packet size dscp moment))
+  send_refused begins.UnknownFlow new unknown = sym (ap (refusal_of {A = Stage}) (send_new None new (ap (option_map _) (unknown.0 refl))))
+  send_refused begins.NoMemory new unknown = by (contract_of (ground_of t) flow) refl
+    where
+      by : (found : Option Contract) → contract_of (ground_of t) flow ≡ found → NoMemory ≡ refusal_of (stepped t g (Send flow packet size dscp moment))
+      by None is = let other = unknown.1 is in absurd cc
+      by (Some c) is = sym (ap (refusal_of {A = Stage}) (send_new (Some (beginning t own c)) new (ap (option_map (beginning t own)) is)))
+
+  -- what was to begin, where memory ran out
+  pub send_memory : (p : Traveller) → list_any (nat_eq packet) (numbers_of g.travellers) ≡ false → begun_of (ground_of t) own ≡ Some p
+      → NoMemory ≡ refusal_of (stepped t g (Send flow packet size dscp moment))
+  send_memory p new is = sym (ap (refusal_of {A = Stage}) (send_new (Some p) new is))
 
   -- the packet that begins is of that number
   pub begun_number : (p : Traveller) → begun_of (ground_of t) own ≡ Some p → p.packet.number ≡ packet
@@ -101,6 +112,19 @@ module _ (t : Table) (g : Stage) (packet moment : ℕ) where
   pub visit_unknown : position (nat_eq packet) (numbers_of g.travellers) ≡ None → stepped t g (Visit packet moment) ≡ Err BadStep
   unfolding stepped
   visit_unknown none = rw none refl
+
+-- what stands against a visit stands against the step
+put_back_refused : (g : Stage) (place : ℕ) (r : Result (Traveller × List (Option Book)) StepFault) → refusal_of (put_back g place r) ≡ refusal_of r
+put_back_refused g place (Ok done) = refl
+put_back_refused g place (Err fault) = refl
+
+pub with_books_refused : (books : List (Option Book)) (site : ℕ) (r : Result (Traveller × Option Book) StepFault) → refusal_of (with_books books site r) ≡ refusal_of r
+with_books_refused books site (Ok done) = refl
+with_books_refused books site (Err fault) = refl
+
+pub as_step_refused : (r : Result (Traveller × Book) VisitFault) → refusal_of (as_step r) ≡ visit_fault_of (visits.refusal_of r)
+as_step_refused (Ok done) = refl
+as_step_refused (Err fault) = refl
 
 -- a packet that is kept by its number, and is put back where it stood
 module _ {S : Type 0} (t : Table) (kept : IndexMap ℕ Traveller S) (books : List (Option Book)) (packet moment place : ℕ) (p : Traveller) (own : keys kept ≡ numbers_of (values kept))
@@ -128,11 +152,10 @@ module _ {S : Type 0} (t : Table) (kept : IndexMap ℕ Traveller S) (books : Lis
   visit_done q after (Ok x) done = known ∙ made q after done
   visit_done q after (Err fault) done = done
 
-  pub visit_refused : {A : Type 0} (result : Result A StepFault) → IfErr result (λ fault. (fault ≡ NoMemory) ⊎ (visited_next p books moment ≡ Err fault))
-      → IfErr result (λ fault. (fault ≡ NoMemory) ⊎ (stepped t before (Visit packet moment) ≡ Err fault))
+  pub visit_refused : {A : Type 0} (result : Result A StepFault) → IfErr result (λ fault. fault ≡ refusal_of (visited_next p books moment))
+      → IfErr result (λ fault. fault ≡ refusal_of (stepped t before (Visit packet moment)))
   visit_refused (Ok x) refused = refused
-  visit_refused (Err fault) (inl memory) = inl memory
-  visit_refused (Err fault) (inr refused) = inr (known ∙ goes_on ∙ ap (put_back before place) refused)
+  visit_refused (Err fault) refused = refused ∙ sym (put_back_refused before place (visited_next p books moment)) ∙ sym (ap (refusal_of {A = Stage}) (known ∙ goes_on))
 
   unchanged : (q : Traveller) (after : List (Option Book)) → q ≡ p → after ≡ books → behind q after ≡ before
   unchanged q after same all =

@@ -4,7 +4,7 @@ use Rattle.std.proofs.lemmas.List.{drop_more}
 use Rattle.ds_domain_base.specs.Domains.{Domain}
 use Rattle.meter_fabric_base.specs.Sites.{site_of}
 use Rattle.ds_conductor_base.specs.Ways.{delay_over, stops_along}
-use Rattle.ds_conductor_base.specs.declared.way.Stop.{Stop}
+use Rattle.ds_conductor_base.specs.Ways.{Stop}
 
 stops_along-cons : (done : List Stop) (d : Domain) (number : ℕ) (from to : List ℕ) (delay : ℕ) (path : List (List ℕ))
     → done ++ stops_along d number from delay (to ∷ path)

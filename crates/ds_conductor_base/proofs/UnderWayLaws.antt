@@ -21,7 +21,7 @@ use Rattle.ds_conductor_base.specs.Ways.{stops_at}
 use Rattle.ds_conductor_base.specs.declared.passing.OnTheWay.{OnTheWay}
 use Rattle.ds_conductor_base.specs.declared.sent.Sent.{Sent}
 use Rattle.ds_conductor_base.specs.declared.visit.Visit.{Visit}
-use Rattle.ds_conductor_base.specs.declared.way.Stop.{Stop}
+use Rattle.ds_conductor_base.specs.Ways.{Stop}
 
 abbrev pub stream : Table → List (Option AnyMeter) → ℕ → List OnTheWay → List Visit → Stream
 stream t meters first packets waiting = record { table = t; traffic = record { meters = meters; first = first; packets = carried_in packets }; waiting = waiting }

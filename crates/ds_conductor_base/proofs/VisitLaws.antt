@@ -10,7 +10,7 @@ use Rattle.ds_conductor_base.specs.Visits.{is_same, later, visit_to, visits_from
 use Rattle.ds_conductor_base.specs.Ways.{stops_at}
 use Rattle.ds_conductor_base.specs.declared.sent.Sent.{Sent}
 use Rattle.ds_conductor_base.specs.declared.visit.Visit.{Visit}
-use Rattle.ds_conductor_base.specs.declared.way.Stop.{Stop}
+use Rattle.ds_conductor_base.specs.Ways.{Stop}
 
 -- ---- the visits of a packet
 

@@ -12,7 +12,7 @@ use Rattle.ds_conductor_base.specs.Visits.{visit_to, visits_from}
 use Rattle.ds_conductor_base.specs.Ways.{AreInReach, AreNear, AreWays, stops_at, stops_by}
 use Rattle.ds_conductor_base.specs.declared.sent.Sent.{Sent}
 use Rattle.ds_conductor_base.specs.declared.visit.Visit.{Visit}
-use Rattle.ds_conductor_base.specs.declared.way.Stop.{Stop}
+use Rattle.ds_conductor_base.specs.Ways.{Stop}
 
 -- ---- the stops of each contract
 

@@ -4,7 +4,8 @@ pub mod Conducting
 pub mod Faults
 pub mod Kept
 pub mod KeptStreams
-pub mod Lanes
+pub mod KeptTrains
+pub mod Trains
 pub mod Laws
 pub mod OnTheWay
 pub mod Packets

@@ -1,33 +1,29 @@
 -- What the fields of a queue of visits stand for, and what they keep.
 use Rattle.std.specs.Prelude.{◌≡◌, ◌+◌, ◌<◌, ◌≤◌, ◌++◌, List}
-use Rattle.std.specs.BinaryHeap.{IsHeap, heap_capacity, heap_items, heap_len}
 use Rattle.std.specs.List.{IsDistinct}
 use Rattle.std.specs.List.Sorted.{IsSorted}
 use Rattle.std.specs.Vec.{vec_capacity, vec_len}
 use Rattle.std.specs.declared.cmp.Reverse.{Reverse}
 use Rattle.run_audit.specs.Orders.{in_order}
-use Rattle.ds_conductor_base.specs.Lanes.{AreLanes, rows_in}
 use Rattle.ds_conductor_base.specs.Visits.{is_before, is_same}
-use Rattle.ds_conductor_base.specs.declared.queue.Waiting.{Waiting}
+use Rattle.ds_conductor_base.specs.declared.waiting.Waiting.{Waiting}
 use Rattle.ds_conductor_base.specs.declared.visit.Visit.{Visit}
 use Rattle.ds_conductor_base.specs.Waits.{first_on_top, visits_in}
 use Rattle.ds_conductor_base.specs.declared.queue.VisitQueue.TheInside as queues
 
 -- all that wait, as they are stored
 abbrev pub stored_in : queues.Inside → List (Reverse Waiting)
-stored_in q = (heap_items q.heap ++ rows_in q.lanes.items) ++ (q.run.items ++ q.fresh.items)
+stored_in q = q.trains.rows ++ (q.run.items ++ q.fresh.items)
 
 -- in their order, however they are stored
 abbrev pub queue_of : queues.Inside → List Visit
 queue_of q = in_order is_before (visits_in (stored_in q))
 
--- the first of the heap is on top, with that of each lane in it, and that of the run is last; no two are those of one
--- packet to one hop; and what is fresh has room in the heap, and beside the run
+-- the first of the run is last; no two are those of one packet to one hop; and what is fresh has room in the heap, and
+-- beside the run
 pub record IsQueue (q : queues.Inside) : Type 0 where
-  pub ordered : IsHeap first_on_top (heap_items q.heap)
-  pub lanes : AreLanes (heap_items q.heap) q.lanes.items
   pub sorted : IsSorted first_on_top q.run.items
   pub apart : IsDistinct is_same (visits_in (stored_in q))
   pub empty : vec_len q.spare ≡ 0
-  pub heap_room : 0 < vec_len q.fresh → heap_len q.heap + vec_len q.fresh ≤ heap_capacity q.heap
+  pub heap_room : 0 < vec_len q.fresh → vec_len q.fresh ≤ q.trains.room
   pub spare_room : 0 < vec_len q.fresh → vec_len q.run + vec_len q.fresh ≤ vec_capacity q.spare

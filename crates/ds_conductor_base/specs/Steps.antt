@@ -10,7 +10,7 @@ use Rattle.meter_fabric_base.specs.declared.fault.VisitFault.{VisitFault}
 use Rattle.meter_fabric_base.specs.Openings.{book_with, opening_at, site_count}
 use Rattle.ds_conductor_base.specs.Faults.{visit_fault_of}
 use Rattle.ds_conductor_base.specs.declared.fault.StepFault.{StepFault}
-use Rattle.ds_conductor_base.specs.declared.fault.StepFault.TheVariants.{BadStep}
+use Rattle.ds_conductor_base.specs.declared.fault.StepFault.TheVariants.{BadStep, NoMemory}
 use Rattle.ds_conductor_base.specs.declared.step.Step.{Step}
 use Rattle.ds_conductor_base.specs.declared.step.Step.TheVariants.{Send, Visit}
 
@@ -98,3 +98,8 @@ stepped t g (Send flow packet size dscp moment) =
     else
     sent g (begun_of (ground_of t) (record { flow = flow; number = packet; size = size; dscp = dscp; begun = moment }))
 stepped t g (Visit packet moment) = visited_from g moment (position (nat_eq packet) (numbers_of g.travellers))
+
+-- what is answered where no step was made: what stands against it, and where nothing does, that memory ran out
+abbrev pub refusal_of : {A : Type 0} → Result A StepFault → StepFault
+refusal_of (Ok done) = NoMemory
+refusal_of (Err fault) = fault

@@ -6,7 +6,7 @@ use Rattle.run_audit.specs.Orders.{in_order}
 use Rattle.ds_conductor_base.specs.Ways.{stops_at}
 use Rattle.ds_conductor_base.specs.declared.sent.Sent.{Sent}
 use Rattle.ds_conductor_base.specs.declared.visit.Visit.{Visit}
-use Rattle.ds_conductor_base.specs.declared.way.Stop.{Stop}
+use Rattle.ds_conductor_base.specs.Ways.{Stop}
 
 -- so long after a moment, but not behind the last moment that there is
 abbrev pub later : ℕ → ℕ → ℕ

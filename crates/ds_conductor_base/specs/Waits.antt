@@ -3,7 +3,7 @@ use Rattle.std.specs.Prelude.{List, map}
 use Rattle.std.specs.Ordering.{nat_cmp, ordering_then}
 use Rattle.std.specs.declared.cmp.Ordering.{Ordering}
 use Rattle.std.specs.declared.cmp.Reverse.{Reverse}
-use Rattle.ds_conductor_base.specs.declared.queue.Waiting.{Waiting}
+use Rattle.ds_conductor_base.specs.declared.waiting.Waiting.{Waiting}
 use Rattle.ds_conductor_base.specs.declared.visit.Visit.{Visit}
 
 -- the visit that waits
@@ -21,7 +21,7 @@ visits_in rows = map visit_in rows
 abbrev pub waiting_cmp : Waiting → Waiting → Ordering
 waiting_cmp w z =
     ordering_then (nat_cmp w.moment z.moment) (ordering_then (nat_cmp w.place z.place)
-    (ordering_then (nat_cmp w.number z.number) (ordering_then (nat_cmp w.lane z.lane) (nat_cmp w.site z.site))))
+    (ordering_then (nat_cmp w.number z.number) (ordering_then (nat_cmp w.train z.train) (nat_cmp w.site z.site))))
 
 -- the first is the greatest
 abbrev pub first_on_top : Reverse Waiting → Reverse Waiting → Ordering

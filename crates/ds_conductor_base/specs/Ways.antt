@@ -7,7 +7,12 @@ use Rattle.ds_domain_base.specs.declared.terms.Terms.{Terms}
 use Rattle.ds_checker.specs.Acceptance.{Table}
 use Rattle.meter_fabric_base.specs.Grounds.{contract_of, ground_of}
 use Rattle.meter_fabric_base.specs.Sites.{edge_hops, site_of}
-use Rattle.ds_conductor_base.specs.declared.way.Stop.{Stop}
+use Rattle.meter_fabric_base.specs.declared.hop.Hop.{Hop}
+
+-- a hop, and how long after it was sent a packet comes there
+pub record Stop : Type 0 where
+  pub hop : Hop
+  pub delay : ℕ
 
 -- what is policed comes to its edge when it is sent
 abbrev pub edge_stops : Domain → ℕ → Terms → List Stop

@@ -1,7 +1,7 @@
-ghost use Rattle.std.specs.Prelude.{◌≡◌, ◌⊎◌, Ok, Err, IfErr, IfOk, OnErr, OnOk};
+ghost use Rattle.std.specs.Prelude.{◌≡◌, Ok, IfErr, IfOk, OnErr, OnOk};
 ghost use Rattle.meter_fabric_base.specs.Grounds.{ground_of};
 ghost use Rattle.ds_conductor_base.specs.Conducting.{run_so_far};
-ghost use Rattle.ds_conductor_base.specs.Steps.{opened, stepped};
+ghost use Rattle.ds_conductor_base.specs.Steps.{opened, refusal_of, stepped};
 
 use crate::closing::{journals_of, trails_of};
 use crate::fault::StepFault;
@@ -57,12 +57,12 @@ impl<'a> Conductor<'a> {
     ///
     /// Refused: `BadStep` where there is no contract of the packet's number, where the packet was sent before, or
     /// never, where its path has ended, or where the moment is before its last one; else `JournalFull` where the book
-    /// of its next site has 2^20 rows; `NoMemory` where memory runs out. All is then as it was.
+    /// of its next site has 2^20 rows; `NoMemory` where none of these stands against it and memory runs out. All is then as
+    /// it was.
     pub fn step(&mut self, step: Step) -> Result<(), StepFault>
         ensures table { self.new.table ≡ self.old.table }
         ensures done { OnOk result (stepped self.old.table self.old.stage step ≡ Ok self.new.stage) }
-        ensures refused { IfErr result (λ fault. (fault ≡ StepFault.NoMemory)
-            ⊎ (stepped self.old.table self.old.stage step ≡ Err fault)) }
+        ensures refused { IfErr result (λ fault. fault ≡ refusal_of (stepped self.old.table self.old.stage step)) }
         ensures unchanged { OnErr result (self.new ≡ self.old) }
     {
         match step {
@@ -89,8 +89,8 @@ impl<'a> Conductor<'a> {
         ensures table { self.new.table ≡ self.old.table }
         ensures done { OnOk result (stepped self.old.table self.old.stage (Step.Send flow packet size dscp moment)
             ≡ Ok self.new.stage) }
-        ensures refused { IfErr result (λ fault. (fault ≡ StepFault.NoMemory)
-            ⊎ (stepped self.old.table self.old.stage (Step.Send flow packet size dscp moment) ≡ Err fault)) }
+        ensures refused { IfErr result (λ fault. fault
+            ≡ refusal_of (stepped self.old.table self.old.stage (Step.Send flow packet size dscp moment))) }
         ensures unchanged { OnErr result (self.new ≡ self.old) }
     {
         if self.travellers.contains_key(&packet) {
@@ -107,8 +107,8 @@ impl<'a> Conductor<'a> {
         ensures table { self.new.table ≡ self.old.table }
         ensures done { OnOk result (stepped self.old.table self.old.stage (Step.Visit packet moment)
             ≡ Ok self.new.stage) }
-        ensures refused { IfErr result (λ fault. (fault ≡ StepFault.NoMemory)
-            ⊎ (stepped self.old.table self.old.stage (Step.Visit packet moment) ≡ Err fault)) }
+        ensures refused { IfErr result (λ fault. fault
+            ≡ refusal_of (stepped self.old.table self.old.stage (Step.Visit packet moment))) }
         ensures unchanged { OnErr result (self.new ≡ self.old) }
     {
         let Some(place) = self.travellers.get_index_of(&packet) else {

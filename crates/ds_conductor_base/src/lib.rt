@@ -8,7 +8,8 @@
 //!
 //! Visits that follow from what is sent alone, over meters that keep no rows:
 //! - what is sent → `sent`; where a contract's packets come, and when → `way`; a packet at a hop → `visit`
-//! - visits that wait until they are due, in the order in which they are made → `queue`
+//! - visits that wait until they are due, in the order in which they are made → `queue`; those that come in small lots →
+//!   `trains`, and there one train → `train`; one visit → `waiting`
 //! - a visit is made, and the gate is called round it → `passing`, `gate`; over the meters of all sites → `meters`
 //! - packets under way, whose colours are handed out once they are decided → `under_way`
 //!
@@ -27,9 +28,12 @@ pub(crate) mod passing;
 pub mod queue;
 pub mod sent;
 pub mod step;
+pub mod train;
+pub(crate) mod trains;
 pub mod under_way;
 pub mod visit;
 mod visiting;
+pub mod waiting;
 pub mod way;
 
 pub use conducting::conduct;
@@ -40,6 +44,8 @@ pub use opening::opened_books;
 pub use queue::VisitQueue;
 pub use sent::Sent;
 pub use step::Step;
+pub use train::Train;
 pub use under_way::UnderWay;
 pub use visit::{Visit, later, visit_to};
-pub use way::{Stop, Way, all_ways, head_start, stops_at};
+pub use waiting::{NO_TRAIN, Waiting};
+pub use way::{Stop, Stops, all_stops, head_start, stops_at};

@@ -9,7 +9,7 @@ use crate::meters::opened_meters;
 use crate::passing::{OnTheWay, pass};
 use crate::queue::VisitQueue;
 use crate::sent::Sent;
-use crate::way::{Way, all_ways, stops_at};
+use crate::way::{Stops, all_stops, number_all, stops_at};
 use ds_checker::Accepted;
 use meter_book_base::AnyMeter;
 use meter_fabric_base::contract_of;
@@ -23,7 +23,7 @@ use std::marker::Model;
 #[derive(Drop)]
 pub struct UnderWay<'a> {
     accepted: &'a Accepted,
-    ways: Vec<Way>,
+    ways: Vec<Stops>,
     meters: Vec<Option<AnyMeter>>,
     packets: VecDeque<OnTheWay>,
     first: usize,
@@ -48,7 +48,8 @@ impl<'a> UnderWay<'a> {
     pub fn new(alloc: Global, accepted: &'a Accepted) -> Result<Self, AllocError>
         ensures begun { IfOk result (λ under_way. under_way ≡ begun accepted.now) }
     {
-        let ways = all_ways(alloc, accepted)?;
+        let mut ways = all_stops(alloc, accepted)?;
+        let delays = number_all(alloc, &mut ways);
         let meters = opened_meters(alloc, accepted)?;
         Ok(UnderWay {
             accepted,
@@ -56,7 +57,7 @@ impl<'a> UnderWay<'a> {
             meters,
             packets: VecDeque::new(alloc),
             first: 0,
-            waiting: VisitQueue::new(alloc),
+            waiting: VisitQueue::new(alloc, delays),
             made: 0,
         })
     }

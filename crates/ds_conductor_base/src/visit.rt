@@ -23,8 +23,8 @@ pub fn visit_to(place: usize, packet: &Sent, stop: &Stop) -> Visit
 {
     Visit {
         place,
-        hop: stop.hop,
-        moment: later(packet.moment, stop.delay),
+        hop: stop.hop(),
+        moment: later(packet.moment, stop.delay()),
     }
 }
 

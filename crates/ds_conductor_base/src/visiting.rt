@@ -1,5 +1,5 @@
-ghost use Rattle.std.specs.Prelude.{◌≡◌, ◌⊎◌, Ok, Err, IfErr, OnErr, OnOk};
-ghost use Rattle.ds_conductor_base.specs.Steps.{visit_there, visited_next};
+ghost use Rattle.std.specs.Prelude.{◌≡◌, Ok, IfErr, OnErr, OnOk};
+ghost use Rattle.ds_conductor_base.specs.Steps.{refusal_of, visit_there, visited_next};
 
 use crate::fault::StepFault;
 use meter_book::MeterBook;
@@ -9,6 +9,7 @@ use moment_core::Moment;
 /// Lets a packet visit the book of its next site.
 ///
 /// Refused as `Conductor::step` is; all is then as it was.
+#[tactic(auto, using(crate::proofs::StepLaws::with_books_refused))]
 pub(crate) fn visit_next(
     traveller: &mut Traveller,
     books: &mut Vec<Option<MeterBook>>,
@@ -16,8 +17,7 @@ pub(crate) fn visit_next(
 ) -> Result<(), StepFault>
     ensures done { OnOk result
         (visited_next traveller.old books.old.items moment ≡ Ok (traveller.new, books.new.items)) }
-    ensures refused { IfErr result (λ fault. (fault ≡ StepFault.NoMemory)
-        ⊎ (visited_next traveller.old books.old.items moment ≡ Err fault)) }
+    ensures refused { IfErr result (λ fault. fault ≡ refusal_of (visited_next traveller.old books.old.items moment)) }
     ensures unchanged { OnErr result ((traveller.new ≡ traveller.old) × (books.new.items ≡ books.old.items)) }
 {
     let Some(site) = traveller.next_site() else {
@@ -30,14 +30,14 @@ pub(crate) fn visit_next(
 }
 
 /// Lets a packet visit the book of a site, if there is one.
+#[tactic(auto, using(crate::proofs::StepLaws::as_step_refused))]
 fn visit_there(
     traveller: &mut Traveller,
     book: &mut Option<MeterBook>,
     moment: Moment,
 ) -> Result<(), StepFault>
     ensures done { OnOk result (visit_there traveller.old book.old moment ≡ Ok (traveller.new, book.new)) }
-    ensures refused { IfErr result (λ fault. (fault ≡ StepFault.NoMemory)
-        ⊎ (visit_there traveller.old book.old moment ≡ Err fault)) }
+    ensures refused { IfErr result (λ fault. fault ≡ refusal_of (visit_there traveller.old book.old moment)) }
     ensures unchanged { OnErr result ((traveller.new ≡ traveller.old) × (book.new ≡ book.old)) }
 {
     match book {

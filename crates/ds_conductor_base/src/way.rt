@@ -1,8 +1,9 @@
-ghost use Rattle.std.specs.Prelude.{◌≡◌, ℕ, ◌+◌, ◌*◌, ◌<◌, ◌≤◌, ◌^◌, [], IfOk, length, min, slice_get};
+ghost use Rattle.std.specs.Prelude.{◌≡◌, ℕ, ◌+◌, ◌*◌, ◌<◌, ◌≤◌, ◌^◌, [], IfOk, IfSome, length, min, slice_get};
 ghost use Rattle.std.specs.Prelude.{unwrap_or};
 ghost use Rattle.ds_conductor_base.specs.Ways.{AreInReach, AreNear, AreWays, IsHeadStart, NoneNearer, stops_at};
 ghost use Rattle.ds_conductor_base.specs.Ways.{stops_of};
 
+use crate::waiting::NO_TRAIN;
 use ds_checker::Accepted;
 use ds_domain_base::{Contract, Domain, Name, Terms};
 use meter_fabric_base::{Hop, contract_of, edge_hop, flow_count, flows_of, site_of};
@@ -11,40 +12,108 @@ use std::alloc::{AllocError, Global};
 use std::marker::Model;
 
 /// A hop of a contract's packets, and when they come there.
-#[derive(Clone, Copy, Debug)]
+#[derive(Debug, Drop)]
 pub struct Stop {
+    delay: Gap,
+    site: u32,
+    /// The number of its delay, or [`NO_TRAIN`]. What stops and visits are does not depend on it.
+    train: u16,
+    number: u8,
+}
+
+impl Model for Stop {
+    ghost use Rattle.ds_conductor_base.specs.Ways as ways;
+
+    ghost Value = { ways.Stop };
+
+    ghost view = { λ s. record { hop = record { number = s.number; site = s.site }; delay = s.delay } };
+}
+
+impl Stop {
+    /// The stop of a hop; its delay has no number yet.
+    fn new(hop: Hop, delay: Gap) -> Self
+        ensures { result ≡ record { hop = hop; delay = delay } }
+    {
+        Stop {
+            delay,
+            site: hop.site,
+            train: NO_TRAIN,
+            number: hop.number,
+        }
+    }
+
     /// The hop.
-    pub hop: Hop,
+    pub fn hop(&self) -> Hop
+        ensures { result ≡ self.now.hop }
+    {
+        Hop {
+            number: self.number,
+            site: self.site,
+        }
+    }
+
     /// How long after it was sent a packet comes there.
-    pub delay: Gap,
+    pub fn delay(&self) -> Gap
+        ensures { result ≡ self.now.delay }
+    {
+        self.delay
+    }
+
+    /// The number of the train of the visits there, or [`NO_TRAIN`].
+    pub(crate) fn train(&self) -> u16 {
+        self.train
+    }
+
+    /// The same stop, with the number that its delay has among others.
+    fn numbered(&self, delays: &[Gap]) -> Self
+        requires { length delays.now ≤ 65535 }
+        ensures { result ≡ self.now }
+    {
+        Stop {
+            delay: self.delay,
+            site: self.site,
+            train: number_of(delays, self.delay),
+            number: self.number,
+        }
+    }
 }
 
 /// The stops of a contract's packets, in order.
 #[derive(Debug, Drop)]
-pub struct Way {
+pub struct Stops {
     stops: Vec<Stop>,
 }
 
-impl Model for Way {
+impl Model for Stops {
     ghost use Rattle.std.specs.Prelude.{List};
-    ghost use Rattle.ds_conductor_base.specs.declared.way.Stop.{Stop};
+    ghost use Rattle.ds_conductor_base.specs.Ways.{Stop};
 
     ghost Value = { List Stop };
 
-    ghost view = { λ w. w.stops.items };
+    ghost view = { λ s. s.stops.items };
 }
 
-impl Way {
-    /// Its stops, in order.
-    pub fn stops(&self) -> &[Stop]
+impl Stops {
+    /// They themselves, in order.
+    pub fn as_slice(&self) -> &[Stop]
         ensures { result.now ≡ self.now }
     {
         self.stops.as_slice()
     }
+
+    /// Gives each the number that its delay has among others.
+    fn number(&mut self, delays: &[Gap])
+        requires { length delays.now ≤ 65535 }
+        ensures { self.new ≡ self.old }
+    {
+        for place in 0..self.stops.len() {
+            self.stops[place] = self.stops[place].numbered(delays);
+        }
+    }
 }
 
 /// The stops of each contract at its number; `AllocError` where memory runs out.
-pub fn all_ways(alloc: Global, accepted: &Accepted) -> Result<Vec<Way>, AllocError>
+pub fn all_stops(alloc: Global, accepted: &Accepted) -> Result<Vec<Stops>, AllocError>
     ensures ways { IfOk result (λ ways. AreWays accepted.now ways.items) }
     ensures reach { IfOk result (λ ways. AreInReach accepted.now) }
 {
@@ -57,18 +126,59 @@ pub fn all_ways(alloc: Global, accepted: &Accepted) -> Result<Vec<Way>, AllocErr
 }
 
 /// The stops that stand at a contract's number, none behind the last.
-pub fn stops_at(ways: &[Way], flow: u32) -> &[Stop]
+pub fn stops_at(ways: &[Stops], flow: u32) -> &[Stop]
     ensures { result.now ≡ unwrap_or (slice_get ways.now flow) [] }
 {
     match ways.get(flow as usize) {
-        Some(way) => way.stops(),
+        Some(stops) => stops.as_slice(),
         None => &[],
+    }
+}
+
+/// Numbers the delays of all stops, as far as there is memory and numbers are below 65,535: equal delays alike, from the
+/// least on. Tells how many got a number.
+pub(crate) fn number_all(alloc: Global, ways: &mut Vec<Stops>) -> usize
+    ensures { ways.new.items ≡ ways.old.items }
+{
+    let Ok(delays) = delays_of(alloc, ways) else {
+        return 0;
+    };
+    for place in 0..ways.len() {
+        ways[place].number(&delays);
+    }
+    delays.len()
+}
+
+/// The least 65,535 delays of stops, each once, in order; `AllocError` where memory runs out.
+fn delays_of(alloc: Global, ways: &[Stops]) -> Result<Vec<Gap>, AllocError>
+    ensures { IfOk result (λ delays. length delays.items ≤ 65535) }
+{
+    let mut delays = Vec::new(alloc);
+    for stops in ways {
+        for stop in stops.as_slice() {
+            delays.push(stop.delay)?;
+        }
+    }
+    delays.sort_unstable();
+    delays.dedup();
+    delays.truncate(usize::from(NO_TRAIN));
+    Ok(delays)
+}
+
+/// The number of a delay: its place among those in order that have one, or [`NO_TRAIN`]. So no two share one.
+fn number_of(delays: &[Gap], delay: Gap) -> u16
+    requires { length delays.now ≤ 65535 }
+    ensures { IfSome (slice_get delays.now result) (λ other. other ≡ delay) }
+{
+    match delays.binary_search(&delay) {
+        Ok(place) => place as u16,
+        Err(_) => NO_TRAIN,
     }
 }
 
 /// The stops of the packets of a contract's number, none where there is no such contract; `AllocError` where memory
 /// runs out.
-fn way_at(alloc: Global, accepted: &Accepted, flow: u32) -> Result<Way, AllocError>
+fn way_at(alloc: Global, accepted: &Accepted, flow: u32) -> Result<Stops, AllocError>
     ensures value { IfOk result (λ way. way ≡ stops_at accepted.now flow) }
     ensures reach { IfOk result (λ way. AreNear (stops_at accepted.now flow)) }
 {
@@ -76,7 +186,7 @@ fn way_at(alloc: Global, accepted: &Accepted, flow: u32) -> Result<Way, AllocErr
         Some(contract) => stops_of(alloc, accepted.domain(), flow, contract)?,
         None => Vec::new(alloc),
     };
-    Ok(Way { stops })
+    Ok(Stops { stops })
 }
 
 /// The stops of the packets of a contract: its edge where it is policed, then the meters of its path; `AllocError`
@@ -95,8 +205,7 @@ fn stops_of(
     let path = contract.path.meters();
     let mut stops = Vec::with_capacity(alloc, path.len() + 1)?;
     if let Some(hop) = edge_hop(domain, flow, &contract.terms) {
-        let delay = Gap::NONE;
-        stops.push(Stop { hop, delay })?;
+        stops.push(Stop::new(hop, Gap::NONE))?;
     }
     let mut number = 0;
     let mut from = contract.port;
@@ -106,7 +215,7 @@ fn stops_of(
         delay = longer(delay, domain.floor(from, *to));
         let site = site_of(domain, *to);
         let hop = Hop { number, site };
-        stops.push(Stop { hop, delay })?;
+        stops.push(Stop::new(hop, delay))?;
         from = *to;
     }
     Ok(stops)

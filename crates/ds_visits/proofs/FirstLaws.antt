@@ -15,7 +15,7 @@ use Rattle.ds_conductor_base.specs.Visits.{is_before, later, visit_to, visits_fr
 use Rattle.ds_conductor_base.specs.Ways.{stops_at}
 use Rattle.ds_conductor_base.specs.declared.sent.Sent.{Sent}
 use Rattle.ds_conductor_base.specs.declared.visit.Visit.{Visit}
-use Rattle.ds_conductor_base.specs.declared.way.Stop.{Stop}
+use Rattle.ds_conductor_base.specs.Ways.{Stop}
 use Rattle.ds_visits.specs.Behind.{visits_at}
 use Rattle.ds_visits.specs.Judged.{first_moment}
 use Rattle.ds_visits.specs.Judging.{Judging, earliest, is_first, noted, reached, reached_along, reached_at, reached_by, spoken_at, spoken_by}

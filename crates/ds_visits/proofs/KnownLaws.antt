@@ -16,7 +16,7 @@ use Rattle.meter_fabric_base.proofs.GroundLaws.{place_of}
 use Rattle.run_audit.proofs.Places.{fits_names, meters_known}
 use Rattle.ds_conductor_base.specs.Ways.{delay_over, edge_stops, stops_along, stops_at, stops_by, stops_of}
 use Rattle.ds_conductor_base.specs.declared.sent.Sent.{Sent}
-use Rattle.ds_conductor_base.specs.declared.way.Stop.{Stop}
+use Rattle.ds_conductor_base.specs.Ways.{Stop}
 use Rattle.ds_visits.specs.Behind.{AreSendable}
 use Rattle.ds_visits.proofs.MadeLaws.{AreKnown}
 use Rattle.ds_visits.proofs.StopLaws.{at_site, stops-once, stops-there}

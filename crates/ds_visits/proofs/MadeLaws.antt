@@ -28,7 +28,7 @@ use Rattle.ds_conductor_base.specs.Visits.{is_before, later, visit_to}
 use Rattle.ds_conductor_base.specs.Ways.{stops_at, stops_by}
 use Rattle.ds_conductor_base.specs.declared.sent.Sent.{Sent}
 use Rattle.ds_conductor_base.specs.declared.visit.Visit.{Visit}
-use Rattle.ds_conductor_base.specs.declared.way.Stop.{Stop}
+use Rattle.ds_conductor_base.specs.Ways.{Stop}
 use Rattle.ds_visits.specs.Behind.{AreSendable, arrival_told, number_at, packet_sent, visit_noted, visit_told, visits_at}
 use Rattle.ds_visits.specs.Making.{visit_step}
 use Rattle.ds_conductor_base.proofs.GoingLaws.{no_fault, place_of, visit_goes}

@@ -36,7 +36,7 @@ use Rattle.ds_conductor_base.specs.Visits.{is_before, later, visit_to, visits_fr
 use Rattle.ds_conductor_base.specs.Ways.{stops_at}
 use Rattle.ds_conductor_base.specs.declared.sent.Sent.{Sent}
 use Rattle.ds_conductor_base.specs.declared.visit.Visit.{Visit}
-use Rattle.ds_conductor_base.specs.declared.way.Stop.{Stop}
+use Rattle.ds_conductor_base.specs.Ways.{Stop}
 use Rattle.ds_visits.specs.Behind.{visits_at}
 use Rattle.ds_visits.specs.Judged.{first_moment, is_counted, item_of, judged, late_at, late_by, outside_in, over_at, over_by, over_in, overflowing, sent_in, skew_in, source_in, time_in}
 use Rattle.ds_visits.specs.Judging.{Judging, buckets_by, earliest, empty, empty_each, is_first, late_told, noted, reached, reached_along, reached_at, reached_by, silent, spoken, spoken_at, spoken_by, told_at, told_in, told_of, unjudged, verdict_now, verdict_with, watch_in, watched, watched_by, watched_each, watched_with}

@@ -20,7 +20,7 @@ use Rattle.ds_conductor_base.specs.Visits.{later, visit_to}
 use Rattle.ds_conductor_base.specs.Ways.{AreNear, edge_stops, stops_along, stops_by}
 use Rattle.ds_conductor_base.specs.declared.sent.Sent.{Sent}
 use Rattle.ds_conductor_base.specs.declared.visit.Visit.{Visit}
-use Rattle.ds_conductor_base.specs.declared.way.Stop.{Stop}
+use Rattle.ds_conductor_base.specs.Ways.{Stop}
 use Rattle.ds_visits.specs.Behind.{MadeItsVisits, packet_sent, visit_told}
 
 -- no visit of a packet is later than the last moment that there is

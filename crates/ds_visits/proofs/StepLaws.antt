@@ -13,7 +13,7 @@ use Rattle.run_audit.specs.declared.verdict.Verdict.TheVariants.{Kept, OutsideCo
 use Rattle.ds_conductor_base.specs.Visits.{later}
 use Rattle.ds_conductor_base.specs.Ways.{AreWays, stops_at, stops_by}
 use Rattle.ds_conductor_base.specs.declared.sent.Sent.{Sent}
-use Rattle.ds_conductor_base.specs.declared.way.Stop.{Stop}
+use Rattle.ds_conductor_base.specs.Ways.{Stop}
 use Rattle.ds_visits.specs.Judged.{outside_by, outside_in}
 use Rattle.ds_visits.specs.Judging.{Judging, is_first, late_told, noted, reached, reached_along, reached_by, spoken_by, told_at, verdict_now, verdict_with}
 use Rattle.ds_visits.specs.declared.sender.Sender.{Sender}

@@ -26,7 +26,7 @@ use Rattle.run_audit.proofs.OrderLaws.{Ascends}
 use Rattle.ds_conductor_base.specs.Visits.{is_before, later, visit_to}
 use Rattle.ds_conductor_base.specs.Ways.{delay_over, edge_stops, stops_along, stops_by, stops_of}
 use Rattle.ds_conductor_base.specs.declared.sent.Sent.{Sent}
-use Rattle.ds_conductor_base.specs.declared.way.Stop.{Stop}
+use Rattle.ds_conductor_base.specs.Ways.{Stop}
 use Rattle.ds_visits.proofs.ListLaws.{keep_no, keep_none, keep_yes}
 
 -- ---- their hops

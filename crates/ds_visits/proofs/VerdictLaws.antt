@@ -51,7 +51,7 @@ use Rattle.ds_conductor_base.specs.Visits.{is_before, is_same, later, visit_to, 
 use Rattle.ds_conductor_base.specs.Ways.{AreInReach, AreNear, delay_over, stops_along}
 use Rattle.ds_conductor_base.specs.declared.sent.Sent.{Sent}
 use Rattle.ds_conductor_base.specs.declared.visit.Visit.{Visit}
-use Rattle.ds_conductor_base.specs.declared.way.Stop.{Stop}
+use Rattle.ds_conductor_base.specs.Ways.{Stop}
 use Rattle.ds_visits.specs.Behind.{AreSendable, IsBehind, MadeItsVisits, packet_sent, visit_told, visits_at}
 use Rattle.ds_visits.specs.Judged.{first_moment, is_counted, judged, late_at, late_by, late_with, outside_by, outside_in, over_at, over_by, over_in, overflowing, sent_in, skew_in, source_in, time_in}
 use Rattle.ds_visits.specs.Judged as judgings

@@ -27,7 +27,7 @@ use Rattle.run_audit.specs.declared.verdict.Verdict.TheVariants.{Kept, OutsideCo
 use Rattle.ds_conductor_base.specs.Visits.{later}
 use Rattle.ds_conductor_base.specs.Ways.{stops_at}
 use Rattle.ds_conductor_base.specs.declared.sent.Sent.{Sent}
-use Rattle.ds_conductor_base.specs.declared.way.Stop.{Stop}
+use Rattle.ds_conductor_base.specs.Ways.{Stop}
 use Rattle.ds_visits.specs.Judged.{late_by, outside_in}
 use Rattle.ds_visits.specs.declared.sender.Buckets.{Buckets}
 use Rattle.ds_visits.specs.declared.sender.Sender.{Sender}

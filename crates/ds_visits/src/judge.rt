@@ -11,7 +11,7 @@ ghost use Rattle.ds_visits.specs.Judging.{spoken_by, told_at, unjudged, verdict_
 
 use crate::sender::{Sender, silent_senders};
 use ds_checker::Accepted;
-use ds_conductor_base::{Sent, Stop, Way, all_ways, later, stops_at};
+use ds_conductor_base::{Sent, Stop, Stops, all_stops, later, stops_at};
 use ds_domain_base::Contract;
 use meter_fabric_base::{Opening, contract_of, flow_count, opening_at, site_count};
 use moment_core::{Gap, Moment};
@@ -25,7 +25,7 @@ use std::marker::Model;
 #[derive(Debug, Drop)]
 pub struct Judge<'a> {
     accepted: &'a Accepted,
-    ways: Vec<Way>,
+    ways: Vec<Stops>,
     /// The number of the first packet that was sent outside its contract's time.
     outside: Option<u64>,
     /// What is kept of each contract, at the number of its flow.
@@ -52,7 +52,7 @@ impl<'a> Judge<'a> {
         ensures unjudged { IfOk result (λ judge. judge ≡ unjudged accepted.now) }
         ensures reach { IfOk result (λ judge. AreInReach accepted.now) }
     {
-        let ways = all_ways(alloc, accepted)?;
+        let ways = all_stops(alloc, accepted)?;
         let senders = silent_senders(alloc, accepted)?;
         let firsts = no_moments(alloc, site_count(accepted))?;
         Ok(Judge {
@@ -136,7 +136,7 @@ fn reach_along(firsts: &mut Vec<Option<Moment>>, moment: Moment, stops: &[Stop])
     ensures { firsts.new.items ≡ reached_along firsts.old.items moment stops.now }
 {
     for stop in stops {
-        reach(firsts, stop.hop.site, later(moment, stop.delay));
+        reach(firsts, stop.hop().site, later(moment, stop.delay()));
     }
 }
 

@@ -56,8 +56,7 @@ impl<'a> AuditCommand<'a> {
     fn make(&mut self, step: Step) -> Result<(), StepFault>
         ensures table { self.new.table ≡ self.old.table }
         ensures done { OnOk result (stepped self.old.table self.old.stage step ≡ Ok self.new.stage) }
-        ensures refused { IfErr result (λ fault. (fault ≡ StepFault.NoMemory)
-            ⊎ (stepped self.old.table self.old.stage step ≡ Err fault)) }
+        ensures refused { IfErr result (λ fault. fault ≡ refusal_of (stepped self.old.table self.old.stage step)) }
     {
         match &mut self.conductor {
             Some(conductor) => conductor.step(step),

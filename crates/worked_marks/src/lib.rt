@@ -17,6 +17,8 @@ mod stream_rows;
 #[cfg(test)]
 mod tables;
 #[cfg(test)]
+mod train_rows;
+#[cfg(test)]
 mod verdict_rows;
 #[cfg(test)]
 mod visit_rows;

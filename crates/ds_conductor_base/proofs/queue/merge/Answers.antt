@@ -4,7 +4,7 @@ use Rattle.std.specs.List.Sorted.{IsSorted}
 use Rattle.std.specs.Ordering.{is_lt}
 use Rattle.std.specs.declared.cmp.Reverse.{Reverse}
 use Rattle.ds_conductor_base.specs.Waits.{first_on_top}
-use Rattle.ds_conductor_base.specs.declared.queue.Waiting.{Waiting}
+use Rattle.ds_conductor_base.specs.declared.waiting.Waiting.{Waiting}
 use Rattle.ds_conductor_base.proofs.RunLaws.{IsBehind, if_ok, is_later, later_strict, merged_left, merged_right, merged_sorted, other_behind, own_behind, pushed_sorted, rest_of, same_at}
 use Rattle.ds_conductor_base.proofs.queue.merge.Goals as goal
 use Rattle.ds_conductor_base.proofs.queue.merge.Goals.{then-loop-i-test+else-j-right, else-loop-i-test}

@@ -1,22 +1,30 @@
-use Rattle.std.proofs.Common.{Err, inr, rules, ap, sym, ◌∙◌}
+use Rattle.std.proofs.Common.{rules, ap, sym, ◌∙◌}
 use Rattle.indexmap.specs.IndexMap.{values}
 use Rattle.ds_conductor_base.specs.Kept.{stage_of}
+use Rattle.ds_conductor_base.specs.Steps.{Stage, refusal_of}
 use Rattle.ds_conductor_base.specs.declared.step.Step.TheVariants.{Send}
-use Rattle.ds_conductor_base.proofs.StepLaws.{begun_number, keys_sent, send_begun, send_known, send_refused, sent_before, values_sent}
+use Rattle.ds_conductor_base.proofs.StepLaws.{begun_number, keys_sent, send_begun, send_known, send_memory, send_refused, sent_before, values_sent}
 use Rattle.ds_conductor_base.proofs.OnTheWayLaws.{stepped_under_way}
 use Rattle.ds_conductor_base.proofs.conductor.Conductor.send.Goals as goal
 
 pub returns-then-contains_key-clause-refused : goal.returns-then-contains_key-clause-refused
 returns-then-contains_key-clause-refused c =
     let known = sent_before c.self.inside.travellers c.args.packet c.self.invariant.numbers ∙ sym c.contains_key.ensures ∙ c.if-contains_key.true in
-    rw (← c.self.view_is) (inr (send_known c.self.inside.accepted.now (stage_of c.self.inside) c.args.flow c.args.packet c.args.size c.args.dscp c.args.moment known))
+    rw (← c.self.view_is) (sym (ap (refusal_of {A = Stage}) (send_known c.self.inside.accepted.now (stage_of c.self.inside) c.args.flow c.args.packet c.args.size c.args.dscp c.args.moment known)))
 
 pub returns-in_err-traveller-clause-refused : goal.returns-in_err-traveller-clause-refused
 returns-in_err-traveller-clause-refused c =
     let fresh = sent_before c.self.inside.travellers c.args.packet c.self.invariant.numbers ∙ sym c.contains_key.ensures ∙ c.if-contains_key.false in
     let refused = send_refused c.self.inside.accepted.now (stage_of c.self.inside) c.args.flow c.args.packet c.args.size c.args.dscp c.args.moment c.in_err-traveller.field-0.0 fresh
-    (λ unknown. (rw c.self.invariant.ways at c.in_err-traveller.ensures.unknown).0 (ap (λ e. Err e) unknown)) in
+    (rw c.self.invariant.ways at c.in_err-traveller.ensures.unknown) in
     rw (← c.self.view_is) (search (rules, refused, c.from_residual.ensures))
+
+pub returns-in_err-insert-clause-refused : goal.returns-in_err-insert-clause-refused
+returns-in_err-insert-clause-refused c =
+    let fresh = sent_before c.self.inside.travellers c.args.packet c.self.invariant.numbers ∙ sym c.contains_key.ensures ∙ c.if-contains_key.false in
+    let memory = send_memory c.self.inside.accepted.now (stage_of c.self.inside) c.args.flow c.args.packet c.args.size c.args.dscp c.args.moment c.in_ok-traveller.traveller fresh
+    (rw c.self.invariant.ways at c.in_ok-traveller.ensures.begun) in
+    rw (← c.self.view_is) (search (rules, memory, c.from_residual-in_err-insert.ensures))
 
 pub invariant_of-self-2 : goal.invariant_of-self-2
 invariant_of-self-2 c =

@@ -1,12 +1,13 @@
-use Rattle.std.proofs.Common.{ap, nat_eq, inr, position, sym, ◌∙◌}
+use Rattle.std.proofs.Common.{ap, nat_eq, position, sym, ◌∙◌}
 use Rattle.ds_conductor_base.specs.Kept.{stage_of}
+use Rattle.ds_conductor_base.specs.Steps.{Stage, refusal_of}
 use Rattle.ds_conductor_base.proofs.StepLaws.{visit_done, visit_keeps, visit_refused, visit_unchanged, visit_unknown}
 use Rattle.ds_conductor_base.proofs.conductor.Conductor.visit.Goals as goal
 
 pub returns-in_default-clause-refused : goal.returns-in_default-clause-refused
 returns-in_default-clause-refused c =
     let none = ap (position (nat_eq c.args.packet)) (sym c.self.invariant.numbers) ∙ sym c.get_index_of.ensures.index ∙ c.in_default.is in
-    rw (← c.self.view_is) (inr (visit_unknown c.self.inside.accepted.now (stage_of c.self.inside) c.args.packet c.args.moment none))
+    rw (← c.self.view_is) (sym (ap (refusal_of {A = Stage}) (visit_unknown c.self.inside.accepted.now (stage_of c.self.inside) c.args.packet c.args.moment none)))
 
 pub invariant_of-self : goal.invariant_of-self
 invariant_of-self c =

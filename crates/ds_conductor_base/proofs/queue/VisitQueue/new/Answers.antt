@@ -1,13 +1,10 @@
-use Rattle.std.proofs.Common.{◌++◌, List, ap, length, subst, sym, arith}
-use Rattle.std.specs.BinaryHeap.{heap_items}
+use Rattle.std.proofs.Common.{List, ap, length, subst, sym, arith}
 use Rattle.std.specs.List.{IsDistinct}
 use Rattle.std.specs.declared.cmp.Reverse.{Reverse}
 use Rattle.run_audit.specs.Orders.{in_order}
 use Rattle.ds_conductor_base.specs.Visits.{is_before, is_same}
 use Rattle.ds_conductor_base.specs.Waits.{visits_in}
-use Rattle.ds_conductor_base.specs.declared.queue.Waiting.{Waiting}
-use Rattle.ds_conductor_base.specs.Lanes.{rows_in}
-use Rattle.ds_conductor_base.proofs.LaneLaws.{held_none, lanes_none}
+use Rattle.ds_conductor_base.specs.declared.waiting.Waiting.{Waiting}
 use Rattle.ds_conductor_base.proofs.QueueLaws.{all_empty}
 use Rattle.ds_conductor_base.proofs.RunLaws.{none_sorted}
 use Rattle.ds_conductor_base.proofs.queue.VisitQueue.new.Goals as goal
@@ -15,21 +12,17 @@ use Rattle.ds_conductor_base.proofs.queue.VisitQueue.new.Goals as goal
 pub invariant_of-result : goal.invariant_of-result
 unfolding IsDistinct
 invariant_of-result c =
-    let none = all_empty (heap_items c.new.result ++ rows_in c.new-2.result.items) c.new-3.result.items c.new-4.result.items
-    (held_none (heap_items c.new.result) c.new-2.result.items c.new.ensures.items c.new-2.ensures.items) c.new-3.ensures.items c.new-4.ensures.items in
+    let none = all_empty c.new.result.rows c.new-2.result.items c.new-3.result.items c.new.ensures c.new-2.ensures.items c.new-3.ensures.items in
     record {
-      ordered = c.new.ensures.heap_order;
-      lanes = lanes_none (heap_items c.new.result) c.new-2.result.items c.new-2.ensures.items;
-      sorted = none_sorted c.new-3.result.items (omega (arith, ap (λ (us : List (Reverse Waiting)). length us) c.new-3.ensures.items));
+      sorted = none_sorted c.new-2.result.items (omega (arith, ap (λ (us : List (Reverse Waiting)). length us) c.new-2.ensures.items));
       apart = subst (λ (us : List (Reverse Waiting)). IsDistinct is_same (visits_in us)) (sym none) tt;
-      empty = c.new-5.ensures.len;
-      heap_room = λ there. absurd (omega (arith, there, c.new-4.ensures.len));
-      spare_room = λ there. absurd (omega (arith, there, c.new-4.ensures.len));
+      empty = c.new-4.ensures.len;
+      heap_room = λ there. absurd (omega (arith, there, c.new-3.ensures.len));
+      spare_room = λ there. absurd (omega (arith, there, c.new-3.ensures.len));
     }
 
 pub returns : goal.returns
 unfolding in_order
 returns c =
     ap (λ (us : List (Reverse Waiting)). in_order is_before (visits_in us))
-    (all_empty (heap_items c.new.result ++ rows_in c.new-2.result.items) c.new-3.result.items c.new-4.result.items
-    (held_none (heap_items c.new.result) c.new-2.result.items c.new.ensures.items c.new-2.ensures.items) c.new-3.ensures.items c.new-4.ensures.items)
+    (all_empty c.new.result.rows c.new-2.result.items c.new-3.result.items c.new.ensures c.new-2.ensures.items c.new-3.ensures.items)

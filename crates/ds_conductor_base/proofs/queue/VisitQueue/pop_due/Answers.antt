@@ -1,14 +1,12 @@
 use Rattle.std.proofs.Common.{◌≡◌, ◌<◌, ◌++◌, ◌∷◌, List, length, ap, subst, sym, ◌∙◌, arith}
-use Rattle.std.specs.BinaryHeap.{heap_items}
 use Rattle.std.specs.List.{All, IsDistinct}
 use Rattle.std.specs.declared.cmp.Reverse.{Reverse}
 use Rattle.std.proofs.lemmas.List.Sorted.{IsPermutation-trans}
 use Rattle.run_audit.specs.Orders.{in_order}
-use Rattle.ds_conductor_base.specs.Lanes.{rows_in}
 use Rattle.ds_conductor_base.specs.Queues.{stored_in}
 use Rattle.ds_conductor_base.specs.Visits.{is_before, is_same}
 use Rattle.ds_conductor_base.specs.Waits.{visits_in}
-use Rattle.ds_conductor_base.specs.declared.queue.Waiting.{Waiting}
+use Rattle.ds_conductor_base.specs.declared.waiting.Waiting.{Waiting}
 use Rattle.ds_conductor_base.specs.declared.visit.Visit.{Visit}
 use Rattle.ds_conductor_base.proofs.QueueLaws.{late_order, none_fresh, popped_apart, popped_first, popped_rest, same_apart, same_order}
 use Rattle.ds_conductor_base.proofs.queue.VisitQueue.pop_due.Goals as goal
@@ -16,14 +14,12 @@ use Rattle.ds_conductor_base.proofs.queue.VisitQueue.pop_due.Goals as goal
 pub invariant_of-self : goal.invariant_of-self
 invariant_of-self c =
     let fresh : length c.settle.new.fresh.items ≡ 0 = omega arith in
-    let settled = (heap_items c.settle.new.heap ++ rows_in c.settle.new.lanes.items) ++ c.settle.new.run.items in
-    let kept : (heap_items c.take_due.new.heap ++ rows_in c.take_due.new.lanes.items) ++ (c.take_due.new.run.items ++ c.settle.new.fresh.items) ≡ settled =
-    none_fresh (heap_items c.take_due.new.heap ++ rows_in c.take_due.new.lanes.items) c.take_due.new.run.items c.settle.new.fresh.items fresh
+    let settled = c.settle.new.trains.rows ++ c.settle.new.run.items in
+    let kept : c.take_due.new.trains.rows ++ (c.take_due.new.run.items ++ c.settle.new.fresh.items) ≡ settled =
+    none_fresh c.take_due.new.trains.rows c.take_due.new.run.items c.settle.new.fresh.items fresh
     ∙ ap (λ (us : List (Reverse Waiting)). us ++ c.take_due.new.run.items) c.in_err-first.ensures.first.0
-    ∙ ap (λ (us : List (Reverse Waiting)). (heap_items c.settle.new.heap ++ rows_in c.settle.new.lanes.items) ++ us) c.in_err-first.ensures.first.1 in
+    ∙ ap (λ (us : List (Reverse Waiting)). c.settle.new.trains.rows ++ us) c.in_err-first.ensures.first.1 in
     record {
-      ordered = c.take_due.ensures.ordered;
-      lanes = c.take_due.ensures.lanes;
       sorted = c.take_due.ensures.sorted;
       apart = subst (λ (us : List (Reverse Waiting)). IsDistinct is_same (visits_in us)) (sym kept)
           (same_apart (stored_in c.self.inside) settled c.settle.ensures.same c.self.invariant.apart);
@@ -35,11 +31,11 @@ invariant_of-self c =
 pub returns-in_err-first : goal.returns-in_err-first
 returns-in_err-first c =
     let fresh : length c.settle.new.fresh.items ≡ 0 = omega arith in
-    let settled = (heap_items c.settle.new.heap ++ rows_in c.settle.new.lanes.items) ++ c.settle.new.run.items in
-    let kept : (heap_items c.take_due.new.heap ++ rows_in c.take_due.new.lanes.items) ++ (c.take_due.new.run.items ++ c.settle.new.fresh.items) ≡ settled =
-    none_fresh (heap_items c.take_due.new.heap ++ rows_in c.take_due.new.lanes.items) c.take_due.new.run.items c.settle.new.fresh.items fresh
+    let settled = c.settle.new.trains.rows ++ c.settle.new.run.items in
+    let kept : c.take_due.new.trains.rows ++ (c.take_due.new.run.items ++ c.settle.new.fresh.items) ≡ settled =
+    none_fresh c.take_due.new.trains.rows c.take_due.new.run.items c.settle.new.fresh.items fresh
     ∙ ap (λ (us : List (Reverse Waiting)). us ++ c.take_due.new.run.items) c.in_err-first.ensures.first.0
-    ∙ ap (λ (us : List (Reverse Waiting)). (heap_items c.settle.new.heap ++ rows_in c.settle.new.lanes.items) ++ us) c.in_err-first.ensures.first.1 in
+    ∙ ap (λ (us : List (Reverse Waiting)). c.settle.new.trains.rows ++ us) c.in_err-first.ensures.first.1 in
     let order : in_order is_before (visits_in settled) ≡ c.args.self.now =
     sym (same_order (stored_in c.self.inside) settled c.settle.ensures.same c.self.invariant.apart) ∙ c.self.view_is in
     rw c.from_residual.ensures (
@@ -51,14 +47,12 @@ pub invariant_of-self-2 : goal.invariant_of-self-2
 invariant_of-self-2 c =
     let first = c.in_ok-first.field-0 in
     let fresh : length c.settle.new.fresh.items ≡ 0 = omega arith in
-    let left = (heap_items c.take_due.new.heap ++ rows_in c.take_due.new.lanes.items) ++ c.take_due.new.run.items in
-    let moved = IsPermutation-trans (stored_in c.self.inside) ((heap_items c.settle.new.heap ++ rows_in c.settle.new.lanes.items) ++ c.settle.new.run.items) (first ∷ left) c.settle.ensures.same c.in_ok-first.ensures.first.1 in
+    let left = c.take_due.new.trains.rows ++ c.take_due.new.run.items in
+    let moved = IsPermutation-trans (stored_in c.self.inside) (c.settle.new.trains.rows ++ c.settle.new.run.items) (first ∷ left) c.settle.ensures.same c.in_ok-first.ensures.first.1 in
     record {
-      ordered = c.take_due.ensures.ordered;
-      lanes = c.take_due.ensures.lanes;
       sorted = c.take_due.ensures.sorted;
       apart = subst (λ (us : List (Reverse Waiting)). IsDistinct is_same (visits_in us))
-          (sym (none_fresh (heap_items c.take_due.new.heap ++ rows_in c.take_due.new.lanes.items) c.take_due.new.run.items c.settle.new.fresh.items fresh))
+          (sym (none_fresh c.take_due.new.trains.rows c.take_due.new.run.items c.settle.new.fresh.items fresh))
           (popped_rest left first (popped_apart (stored_in c.self.inside) left first moved c.self.invariant.apart));
       empty = c.settle.ensures.empty;
       heap_room = λ there. absurd (omega (arith, there));
@@ -69,14 +63,14 @@ pub returns : goal.returns
 returns c =
     let first = c.in_ok-first.field-0 in
     let fresh : length c.settle.new.fresh.items ≡ 0 = omega arith in
-    let left = (heap_items c.take_due.new.heap ++ rows_in c.take_due.new.lanes.items) ++ c.take_due.new.run.items in
-    let moved = IsPermutation-trans (stored_in c.self.inside) ((heap_items c.settle.new.heap ++ rows_in c.settle.new.lanes.items) ++ c.settle.new.run.items) (first ∷ left) c.settle.ensures.same c.in_ok-first.ensures.first.1 in
+    let left = c.take_due.new.trains.rows ++ c.take_due.new.run.items in
+    let moved = IsPermutation-trans (stored_in c.self.inside) (c.settle.new.trains.rows ++ c.settle.new.run.items) (first ∷ left) c.settle.ensures.same c.in_ok-first.ensures.first.1 in
     let early = c.in_ok-first.ensures.first.0 in
-    let told = ap (λ (v : Visit). v.moment) c.visit_of.ensures in (
+    let told = ap (λ (v : Visit). v.moment) c.visit.ensures in (
       omega (arith, told, early),
       sym c.self.view_is
           ∙ popped_first (stored_in c.self.inside) left first moved c.self.invariant.apart c.in_ok-first.ensures.first.2
-          ∙ ap (λ (v : Visit). v ∷ in_order is_before (visits_in left)) (sym c.visit_of.ensures)
-          ∙ ap (λ (us : List (Reverse Waiting)). c.visit_of.result ∷ in_order is_before (visits_in us))
-          (sym (none_fresh (heap_items c.take_due.new.heap ++ rows_in c.take_due.new.lanes.items) c.take_due.new.run.items c.settle.new.fresh.items fresh)),
+          ∙ ap (λ (v : Visit). v ∷ in_order is_before (visits_in left)) (sym c.visit.ensures)
+          ∙ ap (λ (us : List (Reverse Waiting)). c.visit.result ∷ in_order is_before (visits_in us))
+          (sym (none_fresh c.take_due.new.trains.rows c.take_due.new.run.items c.settle.new.fresh.items fresh)),
     )
