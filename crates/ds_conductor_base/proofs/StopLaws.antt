@@ -1,33 +1,37 @@
--- The stops of a path one by one.
-use Rattle.std.proofs.Common.{◌≡◌, ◌<◌, ◌+◌, ℕ, List, [], ◌∷◌, ◌++◌, length, drop, get_or, sym, ap, ◌∙◌, append_assoc, add-one, rules}
+-- The stops of a path, by its legs one by one.
+use Rattle.std.proofs.Common.{◌≡◌, ◌<◌, ◌+◌, ℕ, suc, List, [], ◌∷◌, ◌++◌, length, drop, get_or, refl, sym, ap, ◌∙◌, append_assoc, add-one, rules}
 use Rattle.std.proofs.lemmas.List.{drop_more}
 use Rattle.ds_domain_base.specs.Domains.{Domain}
+use Rattle.ds_domain_base.specs.Routes.{leg_of, legs_along}
+use Rattle.ds_domain_base.specs.declared.route.Leg.{Leg}
 use Rattle.meter_fabric_base.specs.Sites.{site_of}
-use Rattle.ds_conductor_base.specs.Ways.{delay_over, stops_along}
-use Rattle.ds_conductor_base.specs.Ways.{Stop}
+use Rattle.ds_conductor_base.specs.Ways.{Stop, delay_over, stops_along, stops_on}
 
-stops_along-cons : (done : List Stop) (d : Domain) (number : ℕ) (from to : List ℕ) (delay : ℕ) (path : List (List ℕ))
-    → done ++ stops_along d number from delay (to ∷ path)
-    ≡ (done ++ record { hop = record { number = number; site = site_of d to }; delay = delay_over d from to delay } ∷ [])
-    ++ stops_along d (number + 1) to (delay_over d from to delay) path
-unfolding stops_along
-stops_along-cons done d number from to delay path = simp (add-one, append_assoc)
+-- the legs of a path have the stops of its meters
+pub stops_on-along : (d : Domain) (number : ℕ) (from : List ℕ) (delay : ℕ) (path : List (List ℕ)) → stops_on number delay (legs_along d from path) ≡ stops_along d number from delay path
+unfolding stops_on stops_along legs_along
+stops_on-along d number from delay [] = refl
+stops_on-along d number from delay (to ∷ path) =
+    let first : Stop = record { hop = record { number = number; site = site_of d to }; delay = delay_over d from to delay } in
+    ap (λ stops. first ∷ stops) (stops_on-along d (suc number) to (delay_over d from to delay) path)
 
-pub stops_along-none : (done : List Stop) (d : Domain) (number : ℕ) (from : List ℕ) (delay : ℕ) → done ++ stops_along d number from delay [] ≡ done
-unfolding stops_along
-stops_along-none done d number from delay = search rules
+stops_on-cons : (done : List Stop) (number delay : ℕ) (leg : Leg) (legs : List Leg)
+    → done ++ stops_on number delay (leg ∷ legs)
+    ≡ (done ++ record { hop = record { number = number; site = leg.place }; delay = delay + leg.floor } ∷ []) ++ stops_on (number + 1) (delay + leg.floor) legs
+unfolding stops_on
+stops_on-cons done number delay leg legs = simp (add-one, append_assoc)
+
+pub stops_on-none : (done : List Stop) (number delay : ℕ) → done ++ stops_on number delay [] ≡ done
+unfolding stops_on
+stops_on-none done number delay = search rules
 
 -- one stop more
-pub stop_more : (done items all : List Stop) (d : Domain) (number i site : ℕ) (from to : List ℕ) (delay later : ℕ) (path : List (List ℕ))
-    → i < length path → to ≡ get_or path i to → site ≡ site_of d to → later ≡ delay_over d from to delay
-    → items ≡ done ++ record { hop = record { number = number; site = site }; delay = later } ∷ []
-    → done ++ stops_along d number from delay (drop i path) ≡ all → items ++ stops_along d (number + 1) to later (drop (i + 1) path) ≡ all
-stop_more done items all d number i site from to delay later path inside is_to is_site is_later pushed kept =
-    let here : drop i path ≡ to ∷ drop (i + 1) path = drop_more path i to inside ∙ ap (λ (n : List ℕ). n ∷ drop (i + 1) path) (sym is_to) in
-    let before = ap (λ (left : List (List ℕ)). done ++ stops_along d number from delay left) here in
-    let step = stops_along-cons done d number from to delay (drop (i + 1) path) in
-    let placed =
-    ap (λ (s : ℕ). (done ++ record { hop = record { number = number; site = s }; delay = later } ∷ []) ++ stops_along d (number + 1) to later (drop (i + 1) path)) is_site in
+pub stop_more : (done items all : List Stop) (number i : ℕ) (leg : Leg) (delay later : ℕ) (legs : List Leg) → i < length legs → leg ≡ get_or legs i leg → later ≡ delay + leg.floor
+    → items ≡ done ++ record { hop = record { number = number; site = leg.place }; delay = later } ∷ []
+    → done ++ stops_on number delay (drop i legs) ≡ all → items ++ stops_on (number + 1) later (drop (i + 1) legs) ≡ all
+stop_more done items all number i leg delay later legs inside is_leg is_later pushed kept =
+    let here : drop i legs ≡ leg ∷ drop (i + 1) legs = drop_more legs i leg inside ∙ ap (λ (l : Leg). l ∷ drop (i + 1) legs) (sym is_leg) in
+    let before = ap (λ (left : List Leg). done ++ stops_on number delay left) here in
     let timed =
-    ap (λ (e : ℕ). (done ++ record { hop = record { number = number; site = site_of d to }; delay = e } ∷ []) ++ stops_along d (number + 1) to e (drop (i + 1) path)) is_later in
-    ap (λ (stops : List Stop). stops ++ stops_along d (number + 1) to later (drop (i + 1) path)) pushed ∙ placed ∙ timed ∙ sym step ∙ sym before ∙ kept
+    ap (λ (e : ℕ). (done ++ record { hop = record { number = number; site = leg.place }; delay = e } ∷ []) ++ stops_on (number + 1) e (drop (i + 1) legs)) is_later in
+    ap (λ (stops : List Stop). stops ++ stops_on (number + 1) later (drop (i + 1) legs)) pushed ∙ timed ∙ sym (stops_on-cons done number delay leg (drop (i + 1) legs)) ∙ sym before ∙ kept

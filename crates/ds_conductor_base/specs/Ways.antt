@@ -3,6 +3,7 @@ use Rattle.std.specs.Prelude.{◌≡◌, ℕ, suc, ◌+◌, ◌*◌, ◌^◌, �
 use Rattle.std.specs.Prelude.{None, Some, IfSome}
 use Rattle.ds_domain_base.specs.Domains.{Domain, floor_of, link_of}
 use Rattle.ds_domain_base.specs.declared.contract.Contract.{Contract}
+use Rattle.ds_domain_base.specs.declared.route.Leg.{Leg}
 use Rattle.ds_domain_base.specs.declared.terms.Terms.{Terms}
 use Rattle.ds_checker.specs.Acceptance.{Table}
 use Rattle.meter_fabric_base.specs.Grounds.{contract_of, ground_of}
@@ -28,6 +29,13 @@ stops_along d number from delay [] = []
 stops_along d number from delay (to ∷ path) =
     record { hop = record { number = number; site = site_of d to }; delay = delay_over d from to delay }
     ∷ stops_along d (suc number) to (delay_over d from to delay) path
+
+-- the same along legs, by the places of their meters
+unfoldable pub stops_on : ℕ → ℕ → List Leg → List Stop
+stops_on number delay [] = []
+stops_on number delay (leg ∷ legs) =
+    record { hop = record { number = number; site = leg.place }; delay = delay + leg.floor }
+    ∷ stops_on (suc number) (delay + leg.floor) legs
 
 -- the hops of a contract's packets, and how long after it was sent a packet comes to each
 abbrev pub stops_of : Domain → ℕ → Contract → List Stop

@@ -1,12 +1,13 @@
 ghost use Rattle.std.specs.Prelude.{◌≡◌, ℕ, ◌+◌, ◌*◌, ◌<◌, ◌≤◌, ◌^◌, [], IfOk, IfSome, length, min, slice_get};
 ghost use Rattle.std.specs.Prelude.{unwrap_or};
+ghost use Rattle.ds_domain_base.specs.Routes.{route_of};
 ghost use Rattle.ds_conductor_base.specs.Ways.{AreInReach, AreNear, AreWays, IsHeadStart, NoneNearer, stops_at};
 ghost use Rattle.ds_conductor_base.specs.Ways.{stops_of};
 
 use crate::waiting::NO_TRAIN;
 use ds_checker::Accepted;
-use ds_domain_base::{Contract, Domain, Name, Terms};
-use meter_fabric_base::{Hop, contract_of, edge_hop, flow_count, flows_of, site_of};
+use ds_domain_base::{Contract, Domain, Name, Route, Terms};
+use meter_fabric_base::{Hop, contract_of, edge_hop, flow_count, flows_of};
 use moment_core::Gap;
 use std::alloc::{AllocError, Global};
 use std::marker::Model;
@@ -183,40 +184,44 @@ fn way_at(alloc: Global, accepted: &Accepted, flow: u32) -> Result<Stops, AllocE
     ensures reach { IfOk result (λ way. AreNear (stops_at accepted.now flow)) }
 {
     let stops = match contract_of(accepted, flow) {
-        Some(contract) => stops_of(alloc, accepted.domain(), flow, contract)?,
+        Some(contract) => {
+            let route = accepted.route(flow as usize);
+            stops_of(alloc, accepted.domain(), flow, contract, route)?
+        }
         None => Vec::new(alloc),
     };
     Ok(Stops { stops })
 }
 
-/// The stops of the packets of a contract: its edge where it is policed, then the meters of its path; `AllocError`
-/// where memory runs out.
+/// The stops of the packets of a contract with this route: its edge where it is policed, then the meters of its legs;
+/// `AllocError` where memory runs out.
 fn stops_of(
     alloc: Global,
     domain: &Domain,
     flow: u32,
     contract: &Contract,
+    route: &Route,
 ) -> Result<Vec<Stop>, AllocError>
     requires numbered { flow < 4294966272 }
-    requires short { length contract.now.path ≤ 16 }
+    requires route { route.now ≡ route_of domain.now contract.now }
     ensures value { IfOk result (λ stops. stops.items ≡ stops_of domain.now flow contract.now) }
     ensures reach { IfOk result (λ stops. AreNear stops.items) }
 {
-    let path = contract.path.meters();
-    let mut stops = Vec::with_capacity(alloc, path.len() + 1)?;
+    // a domain has at most 1,024 meters, so a place among them has 32 bits
+    let _meters = domain.meters();
+    let legs = route.legs();
+    let mut stops = Vec::with_capacity(alloc, legs.len() + 1)?;
     if let Some(hop) = edge_hop(domain, flow, &contract.terms) {
         stops.push(Stop::new(hop, Gap::NONE))?;
     }
     let mut number = 0;
-    let mut from = contract.port;
     let mut delay = Gap::NONE;
-    for to in path {
+    for leg in legs {
         number += 1;
-        delay = longer(delay, domain.floor(from, *to));
-        let site = site_of(domain, *to);
+        delay = longer(delay, leg.floor.gap());
+        let site = leg.place as u32;
         let hop = Hop { number, site };
         stops.push(Stop::new(hop, delay))?;
-        from = *to;
     }
     Ok(stops)
 }

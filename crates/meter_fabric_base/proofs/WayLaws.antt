@@ -1,14 +1,20 @@
 -- The way of a packet as sites one behind the other.
-use Rattle.std.proofs.Common.{◌≡◌, ◌≤◌, ◌<◌, ◌+◌, ℕ, zero, suc, Bool, true, false, List, [], ◌∷◌, ◌++◌, length, map, take, drop, set, get_or, Option, None, Some, refl, sym, ap, ◌∙◌, arith, append_assoc, append-nil}
-use Rattle.std.specs.Prelude.{nat_lt, option_map, slice_get, unwrap_or}
+use Rattle.std.proofs.Common.{◌≡◌, ◌≤◌, ◌<◌, ◌+◌, ◌^◌, ℕ, zero, suc, Bool, true, false, List, [], ◌∷◌, ◌++◌, length, map, take, drop, set, get_or, Option, None, Some, refl, sym, ap, ◌∙◌, arith, append_assoc, append-nil}
+use Rattle.std.specs.Prelude.{nat_lt, option_map, position, slice_get, unwrap_or}
 use Rattle.std.specs.List.{range_with_len}
 use Rattle.std.specs.List.Sorted.{IsStrictlyIncreasing}
+use Rattle.std.specs.Map.{keys_of}
+use Rattle.std.specs.Str.{bytes_eq}
 use Rattle.std.proofs.lemmas.Bool.Decides.{nat_tests}
 use Rattle.std.proofs.lemmas.List.FromFn.{length-map-range_with_len}
 use Rattle.std.proofs.lemmas.List.{drop_all, drop_more, get_or-take, length-take, map-append, take_more, take_more_set}
+use Rattle.std.proofs.lemmas.List.Quantifiers.{position-Some}
+use Rattle.std.proofs.lemmas.Map.Entries.{length-keys_of}
 use Rattle.std.proofs.lemmas.Option.{get_or_from_slice_get, slice_get-get_or, slice_get-map, slice_get_past}
 use Rattle.ds_domain_base.specs.Domains.{Domain}
+use Rattle.ds_domain_base.specs.Routes.{AreInside, legs_along, place_of, places_of}
 use Rattle.ds_domain_base.specs.declared.contract.Contract.{Contract}
+use Rattle.ds_domain_base.specs.declared.route.Leg.{Leg}
 use Rattle.ds_domain_base.specs.declared.terms.Terms.{Terms}
 use Rattle.ds_domain_base.specs.declared.terms.Terms.TheVariants.{Trusted, Policed}
 use Rattle.ds_checker.specs.Acceptance.{Table}
@@ -55,35 +61,49 @@ pub no_hop : (first count place : ℕ) (sites : List ℕ) → count ≤ place �
     → None ≡ slice_get (hops_from first (take count sites)) place
 no_hop first count place sites past most long = sym (slice_get_past (hops_from first (take count sites)) place (omega (arith, counted first count sites most long, past)))
 
--- ---- the sites of a path, one by one
+-- ---- the sites of legs, one by one
 
-pub site_more : (d : Domain) (sites next all : List ℕ) (place i site : ℕ) (name : List ℕ) (path : List (List ℕ)) → place < length sites → i < length path
-    → name ≡ get_or path i name → site ≡ site_of d name → next ≡ set sites place site → take place sites ++ map (site_of d) (drop i path) ≡ all
-    → take (place + 1) next ++ map (site_of d) (drop (i + 1) path) ≡ all
-site_more d sites next all place i site name path room inside is_name is_site is_next kept =
-    let rest = map (site_of d) (drop (i + 1) path) in
-    let here : drop i path ≡ name ∷ drop (i + 1) path = drop_more path i name inside ∙ ap (λ (n : List ℕ). n ∷ drop (i + 1) path) (sym is_name) in
+pub site_more : (sites next all : List ℕ) (place i site : ℕ) (leg : Leg) (legs : List Leg) → place < length sites → i < length legs
+    → leg ≡ get_or legs i leg → site ≡ leg.place → next ≡ set sites place site → take place sites ++ places_of (drop i legs) ≡ all
+    → take (place + 1) next ++ places_of (drop (i + 1) legs) ≡ all
+site_more sites next all place i site leg legs room inside is_leg is_site is_next kept =
+    let rest = places_of (drop (i + 1) legs) in
+    let here : drop i legs ≡ leg ∷ drop (i + 1) legs = drop_more legs i leg inside ∙ ap (λ (l : Leg). l ∷ drop (i + 1) legs) (sym is_leg) in
     ap (λ (xs : List ℕ). take (place + 1) xs ++ rest) is_next
     ∙ ap (λ (xs : List ℕ). xs ++ rest) (take_more_set sites place site room)
     ∙ append_assoc (take place sites) (site ∷ []) rest
     ∙ ap (λ (s : ℕ). take place sites ++ s ∷ rest) is_site
-    ∙ ap (λ (names : List (List ℕ)). take place sites ++ map (site_of d) names) (sym here)
+    ∙ ap (λ (ls : List Leg). take place sites ++ places_of ls) (sym here)
     ∙ kept
 
-pub path_placed : (d : Domain) (sites all : List ℕ) (place from i : ℕ) (path : List (List ℕ)) → length path ≤ i → place ≡ from + length path
-    → take place sites ++ map (site_of d) (drop i path) ≡ all → take (from + length path) sites ≡ all
-path_placed d sites all place from i path ended is kept =
+pub legs_placed : (sites all : List ℕ) (place from i : ℕ) (legs : List Leg) → length legs ≤ i → place ≡ from + length legs
+    → take place sites ++ places_of (drop i legs) ≡ all → take (from + length legs) sites ≡ all
+legs_placed sites all place from i legs ended is kept =
     ap (λ n. take n sites) (sym is)
     ∙ sym (append-nil (take place sites))
-    ∙ ap (λ (names : List (List ℕ)). take place sites ++ map (site_of d) names) (sym (drop_all i path ended))
+    ∙ ap (λ (ls : List Leg). take place sites ++ places_of ls) (sym (drop_all i legs ended))
     ∙ kept
+
+-- a name has a place below the number of meters, or 0
+place_low : (d : Domain) (name : List ℕ) → place_of d name ≤ length d.meters
+place_low d name = by (position (bytes_eq name) (keys_of d.meters)) refl
+  where
+    by : (found : Option ℕ) → position (bytes_eq name) (keys_of d.meters) ≡ found → unwrap_or found 0 ≤ length d.meters
+    by None is = omega arith
+    by (Some place) is = let at = position-Some (bytes_eq name) (keys_of d.meters) place name is in omega (arith, at.0, length-keys_of d.meters)
+
+-- the places of legs have 32 bits
+pub legs_low : (d : Domain) (from : List ℕ) (path : List (List ℕ)) → length d.meters ≤ 1024 → AreInside (2 ^ 32) (legs_along d from path)
+unfolding legs_along
+legs_low d from [] few = tt
+legs_low d from (to ∷ path) few = (omega (arith, place_low d to, few), legs_low d to path few)
 
 -- ---- the way of a contract's packets
 
-hops_from-path : (d : Domain) (number : ℕ) (path : List (List ℕ)) → hops_from number (map (site_of d) path) ≡ hops_along d number path
-unfolding hops_from hops_along
-hops_from-path d number [] = refl
-hops_from-path d number (name ∷ path) = ap (λ rest. hop number (site_of d name) ∷ rest) (hops_from-path d (suc number) path)
+hops_from-legs : (d : Domain) (number : ℕ) (from : List ℕ) (path : List (List ℕ)) → hops_from number (places_of (legs_along d from path)) ≡ hops_along d number path
+unfolding hops_from hops_along legs_along
+hops_from-legs d number from [] = refl
+hops_from-legs d number from (to ∷ path) = ap (λ rest. hop number (site_of d to) ∷ rest) (hops_from-legs d (suc number) to path)
 
 hops_from-edge : (site : ℕ) (sites : List ℕ) → hops_from 0 (site ∷ sites) ≡ hop 0 site ∷ hops_from 1 sites
 unfolding hops_from
@@ -95,24 +115,24 @@ edge_first d flow (Policed parameters mode) edge is =
     let same : edge ≡ hop 0 (length d.meters + flow) = cc in
     ap (λ (e : Hop). hop 0 e.site ∷ []) (sym same)
 
-pub trusted_way : (d : Domain) (flow : ℕ) (c : Contract) (path : List (List ℕ)) (sites : List ℕ) → path ≡ c.path → [] ≡ edge_hops d flow c.terms
-    → take (0 + length path) sites ≡ map (site_of d) path → hops_from 1 (take (length path) sites) ≡ hops_of d flow c
-trusted_way d flow c path sites same no_edge placed =
-    let place : length path ≡ 0 + length path = omega arith in
+pub trusted_way : (d : Domain) (flow : ℕ) (c : Contract) (legs : List Leg) (sites : List ℕ) → legs ≡ legs_along d c.port c.path → [] ≡ edge_hops d flow c.terms
+    → take (0 + length legs) sites ≡ places_of legs → hops_from 1 (take (length legs) sites) ≡ hops_of d flow c
+trusted_way d flow c legs sites same no_edge placed =
+    let place : length legs ≡ 0 + length legs = omega arith in
     ap (λ n. hops_from 1 (take n sites)) place
-    ∙ ap (hops_from 1) placed
-    ∙ hops_from-path d 1 path
-    ∙ ap (hops_along d 1) same
+    ∙ ap (hops_from 1) (placed ∙ ap places_of same)
+    ∙ hops_from-legs d 1 c.port c.path
     ∙ ap (λ (edge : List Hop). edge ++ hops_along d 1 c.path) no_edge
 
-pub policed_way : (d : Domain) (flow : ℕ) (c : Contract) (edge : Hop) (path : List (List ℕ)) (sites : List ℕ) → path ≡ c.path → edge ∷ [] ≡ edge_hops d flow c.terms
-    → take (1 + length path) sites ≡ edge.site ∷ map (site_of d) path → hops_from 0 (take (length path + 1) sites) ≡ hops_of d flow c
-policed_way d flow c edge path sites same is_edge placed =
-    let place : length path + 1 ≡ 1 + length path = omega arith in
+pub policed_way : (d : Domain) (flow : ℕ) (c : Contract) (edge : Hop) (legs : List Leg) (sites : List ℕ) → legs ≡ legs_along d c.port c.path
+    → edge ∷ [] ≡ edge_hops d flow c.terms → take (1 + length legs) sites ≡ edge.site ∷ places_of legs
+    → hops_from 0 (take (length legs + 1) sites) ≡ hops_of d flow c
+policed_way d flow c edge legs sites same is_edge placed =
+    let place : length legs + 1 ≡ 1 + length legs = omega arith in
     ap (λ n. hops_from 0 (take n sites)) place
-    ∙ ap (hops_from 0) placed
-    ∙ hops_from-edge edge.site (map (site_of d) path)
-    ∙ ap (λ rest. hop 0 edge.site ∷ rest) (hops_from-path d 1 path ∙ ap (hops_along d 1) same)
+    ∙ ap (hops_from 0) (placed ∙ ap (λ ls. edge.site ∷ places_of ls) same)
+    ∙ hops_from-edge edge.site (places_of (legs_along d c.port c.path))
+    ∙ ap (λ rest. hop 0 edge.site ∷ rest) (hops_from-legs d 1 c.port c.path)
     ∙ ap (λ (front : List Hop). front ++ hops_along d 1 c.path) (sym (edge_first d flow c.terms edge is_edge))
 
 -- ---- the ways of all contracts

@@ -1,15 +1,16 @@
-ghost use Rattle.std.specs.Prelude.{◌≡◌, ◌+◌, ◌<◌, ◌≤◌, ℕ, List, [], ◌++◌, IfOk, IfSome, length, map, option_map};
+ghost use Rattle.std.specs.Prelude.{◌≡◌, ◌+◌, ◌<◌, ◌≤◌, ◌^◌, [], ◌++◌, IfOk, IfSome, length, option_map};
 ghost use Rattle.std.specs.Prelude.{slice_get, slice_index, take};
+ghost use Rattle.ds_domain_base.specs.Routes.{AreInside, places_of, route_of};
 ghost use Rattle.meter_fabric_base.specs.Grounds.{contract_of, ground_of};
 ghost use Rattle.meter_fabric_base.specs.Numbered.{numbered_ground};
-ghost use Rattle.meter_fabric_base.specs.Sites.{hops_of, site_of};
+ghost use Rattle.meter_fabric_base.specs.Sites.{hops_of};
 ghost use Rattle.meter_fabric_base.specs.Ways.{way_at};
 
 use crate::hop::{Hop, edge_hop};
 use crate::numbered::Numbered;
-use crate::site::{MOST_FLOWS, contract_of, flow_count, site_of};
+use crate::site::{MOST_FLOWS, contract_of, flow_count};
 use ds_checker::Accepted;
-use ds_domain_base::{Contract, Domain, Name};
+use ds_domain_base::{Contract, Domain, Leg, Route};
 use std::alloc::{AllocError, Global};
 use std::marker::Model;
 
@@ -47,25 +48,27 @@ impl Way {
         }
     }
 
-    /// The way of the packets of a contract: its edge where it is policed, then the meters of its path.
-    pub(crate) fn of(domain: &Domain, flow: u32, contract: &Contract) -> Self
+    /// The way of the packets of a contract with this route: its edge where it is policed, then the meters of its legs.
+    pub(crate) fn of(domain: &Domain, flow: u32, contract: &Contract, route: &Route) -> Self
         requires numbered { flow < 4294966272 }
-        requires short { length contract.now.path ≤ 16 }
+        requires route { route.now ≡ route_of domain.now contract.now }
         ensures { result ≡ hops_of domain.now flow contract.now }
     {
-        let path = contract.path.meters();
+        // a domain has at most 1,024 meters, so a place among them has 32 bits
+        let _meters = domain.meters();
+        let legs = route.legs();
         let mut sites = [0; 17];
         match edge_hop(domain, flow, &contract.terms) {
             None => Way {
-                sites: with_path(domain, path, sites, 0),
-                count: path.len() as u8,
+                sites: with_legs(legs, sites, 0),
+                count: legs.len() as u8,
                 first: 1,
             },
             Some(edge) => {
                 sites[0] = edge.site;
                 Way {
-                    sites: with_path(domain, path, sites, 1),
-                    count: path.len() as u8 + 1,
+                    sites: with_legs(legs, sites, 1),
+                    count: legs.len() as u8 + 1,
                     first: 0,
                 }
             }
@@ -104,15 +107,16 @@ impl Way {
     }
 }
 
-/// Sites, and from a place on those of the meters of a path.
-fn with_path(domain: &Domain, path: &[Name], sites: [u32; 17], from: usize) -> [u32; 17]
-    requires { from + length path.now ≤ 17 }
-    ensures { take (from + length path.now) result ≡ take from sites ++ map (site_of domain.now) path.now }
+/// Sites, and from a place on those of the meters of legs.
+fn with_legs(legs: &[Leg], sites: [u32; 17], from: usize) -> [u32; 17]
+    requires room { from + length legs.now ≤ 17 }
+    requires inside { AreInside (2 ^ 32) legs.now }
+    ensures { take (from + length legs.now) result ≡ take from sites ++ places_of legs.now }
 {
     let mut all = sites;
     let mut place = from;
-    for name in path {
-        all[place] = site_of(domain, *name);
+    for leg in legs {
+        all[place] = leg.place as u32;
         place += 1;
     }
     all
@@ -202,7 +206,12 @@ fn way_at(accepted: &Accepted, flow: u32) -> Way
     ensures { result ≡ way_at (ground_of accepted.now) flow }
 {
     match contract_of(accepted, flow) {
-        Some(contract) => Way::of(accepted.domain(), flow, contract),
+        Some(contract) => Way::of(
+            accepted.domain(),
+            flow,
+            contract,
+            accepted.route(flow as usize),
+        ),
         None => Way::none(),
     }
 }
@@ -221,5 +230,6 @@ fn way_beside(numbered: &Numbered<'_>, place: usize) -> Way
         numbered.accepted.domain(),
         flow,
         numbered.contract_at(place),
+        numbered.accepted.route(place),
     )
 }

@@ -1,6 +1,6 @@
-use Rattle.std.proofs.Common.{ap, get_or, refl, ◌∙◌}
+use Rattle.std.proofs.Common.{ap, get_or, refl, sym, ◌∙◌}
+use Rattle.ds_domain_base.specs.Routes.{route_of}
 use Rattle.meter_fabric_base.specs.Sites.{hops_of}
-use Rattle.meter_fabric_base.proofs.PathLaws.{certified_short}
 use Rattle.meter_fabric_base.proofs.WayLaws.{no_way, way_there}
 use Rattle.meter_fabric_base.proofs.way.way_beside.Goals as goal
 
@@ -9,10 +9,10 @@ returns-then-flow-ge-MOST_FLOWS c =
     let n = c.args.numbered.now in
     c.none.ensures ∙ no_way n.accepted.now n.flows.now (get_or n.flows.now c.args.place 0) c.if-flow-ge-MOST_FLOWS.true
 
-pub of-requires-clause-short : goal.of-requires-clause-short
-of-requires-clause-short c =
-    let t = c.args.numbered.now.accepted.now in
-    certified_short t.domain t.contracts t.certificate c.args.place c.contract_at.result.now c.domain.ensures.acceptable.0 c.contract_at.ensures
+pub of-requires-clause-route : goal.of-requires-clause-route
+of-requires-clause-route c =
+    let own = c.contract_at.result.now in
+    c.route.ensures own c.contract_at.ensures ∙ ap (λ d. route_of d own) (sym c.domain.ensures.value)
 
 pub returns : goal.returns
 returns c =
