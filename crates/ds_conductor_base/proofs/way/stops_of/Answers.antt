@@ -1,14 +1,25 @@
-use Rattle.std.proofs.Common.{length, ◌+◌, ◌*◌, ◌^◌, ◌≤◌, ◌++◌, ◌∷◌, [], List, arith, ap, sym, ◌∙◌}
+use Rattle.std.proofs.Common.{length, ◌+◌, ◌*◌, ◌^◌, ◌≤◌, ◌++◌, ◌∷◌, [], List, arith, ap, subst, sym, ◌∙◌}
 use Rattle.std.proofs.lemmas.List.Elements.{All-push, All-same}
 use Rattle.std.proofs.lemmas.List.{drop_all}
-use Rattle.ds_domain_base.specs.Routes.{Route}
+use Rattle.ds_domain_base.specs.Routes.{AreInside, Route}
 use Rattle.ds_domain_base.specs.declared.route.Leg.{Leg}
+use Rattle.ds_checker.proofs.WalkLaws.{inside-at}
+use Rattle.meter_fabric_base.proofs.WayLaws.{legs_low}
 use Rattle.ds_conductor_base.specs.Ways.{Stop, edge_stops, stops_on}
 use Rattle.ds_conductor_base.proofs.StopLaws.{stop_more, stops_on-along, stops_on-none}
 use Rattle.ds_conductor_base.proofs.way.stops_of.Goals as goal
 
 abbrev AreNearAt : Stop → Type 0
 AreNearAt stop = stop.delay ≤ 16 * 10 ^ 10
+
+pub overflow_cast-site : goal.overflow_cast-site
+overflow_cast-site c =
+    let own = c.args.contract.now in
+    let legs = c.legs-legs.ensures.value ∙ ap (λ (r : Route). r.legs) c.requires.route in
+    let low : AreInside (2 ^ 32) c.legs-legs.result.now =
+    subst (λ ls. AreInside (2 ^ 32) ls) (sym legs) (legs_low c.args.domain.now own.port own.path c.meters-meters.ensures.kept.few_meters) in
+    let here = inside-at (2 ^ 32) c.legs-legs.result.now c.loop-leg.leg-index c.leg-item.result low c.loop-leg-test.true c.leg-item.is in
+    grind (arith, here)
 
 pub loop-leg-preserved : goal.loop-leg-preserved
 loop-leg-preserved c = record {
