@@ -57,8 +57,8 @@ impl<'a> Conductor<'a> {
     ///
     /// Refused: `BadStep` where there is no contract of the packet's number, where the packet was sent before, or
     /// never, where its path has ended, or where the moment is before its last one; else `JournalFull` where the book
-    /// of its next site has 2^20 rows; `NoMemory` where none of these stands against it and memory runs out. All is then as
-    /// it was.
+    /// of its next site has 2^20 rows; `NoMemory` where none of these stands against it and memory runs out. All is then
+    /// as it was.
     pub fn step(&mut self, step: Step) -> Result<(), StepFault>
         ensures table { self.new.table ≡ self.old.table }
         ensures done { OnOk result (stepped self.old.table self.old.stage step ≡ Ok self.new.stage) }

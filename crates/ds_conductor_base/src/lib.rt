@@ -8,8 +8,8 @@
 //!
 //! Visits that follow from what is sent alone, over meters that keep no rows:
 //! - what is sent → `sent`; where a contract's packets come, and when → `way`; a packet at a hop → `visit`
-//! - visits that wait until they are due, in the order in which they are made → `queue`; those that come in small lots →
-//!   `trains`, and there one train → `train`; one visit → `waiting`
+//! - visits that wait until they are due, in the order in which they are made → `queue`; those that come in small
+//!   lots → `trains`, and there one train → `train`; one visit → `waiting`
 //! - a visit is made, and the gate is called round it → `passing`, `gate`; over the meters of all sites → `meters`
 //! - packets under way, whose colours are handed out once they are decided → `under_way`
 //!

@@ -15,8 +15,8 @@ const CROWD: usize = 4;
 /// They stay in use as long as so many do.
 const COMPANY: usize = 2;
 
-/// Visits that wait in a heap and in trains: each train is for those that come after one delay. The heap has the first of
-/// each train, and the visits of no train or out of its order.
+/// Visits that wait in a heap and in trains: each train is for those that come after one delay. The heap has the first
+/// of each train, and the visits of no train or out of its order.
 #[derive(Drop)]
 pub(crate) struct Trains {
     alloc: Global,
@@ -83,8 +83,8 @@ impl Trains {
         }
     }
 
-    /// Takes trains into use where many visits wait for each delay, and out of use where few do. Where there is no memory
-    /// for them, all wait in the heap.
+    /// Takes trains into use where many visits wait for each delay, and out of use where few do. Where there is no
+    /// memory for them, all wait in the heap.
     fn turn(&mut self)
         ensures { self.new ≡ self.old }
     {

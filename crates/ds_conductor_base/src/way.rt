@@ -136,8 +136,8 @@ pub fn stops_at(ways: &[Stops], flow: u32) -> &[Stop]
     }
 }
 
-/// Numbers the delays of all stops, as far as there is memory and numbers are below 65,535: equal delays alike, from the
-/// least on. Tells how many got a number.
+/// Numbers the delays of all stops, as far as there is memory and numbers are below 65,535: equal delays alike, from
+/// the least on. Tells how many got a number.
 pub(crate) fn number_all(alloc: Global, ways: &mut Vec<Stops>) -> usize
     ensures { ways.new.items ≡ ways.old.items }
 {
