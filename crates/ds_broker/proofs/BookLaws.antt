@@ -1,6 +1,6 @@
 -- What the fields of a book keep, and what a command makes of them.
-use Rattle.std.proofs.Common.{◌≡◌, ◌≤◌, ◌<◌, ◌+◌, ◌-◌, ℕ, Bool, List, [], ◌∷◌, ◌++◌, Option, None, Some, Result, Ok, Err, refl, sym, ap, subst, ◌∙◌, arith, inl, inr}
-use Rattle.std.specs.Prelude.{length, map, max, nat_lt, slice_get, slice_index_or, MatchResult}
+use Rattle.std.proofs.Common.{◌≡◌, ◌≤◌, ◌<◌, ◌+◌, ◌-◌, ℕ, Bool, List, Option, None, Some, Result, Ok, Err, refl, sym, ap, subst, ◌∙◌, arith, inl, inr}
+use Rattle.std.specs.Prelude.{length, map, nat_lt, slice_get, slice_index_or, MatchResult}
 use Rattle.std.proofs.Common.{get_or}
 use Rattle.std.specs.List.{list_any}
 use Rattle.std.specs.List.Sorted.{IsBinarySearchResult}
@@ -12,16 +12,14 @@ use Rattle.std.proofs.lemmas.List.Sorted.{searched}
 use Rattle.ds_domain_base.specs.declared.contract.Contract.{Contract}
 use Rattle.std.proofs.lemmas.List.{length-map}
 use Rattle.std.proofs.lemmas.Option.{slice_get-map}
-use Rattle.ds_domain_base.specs.Domains.{Domain}
 use Rattle.ds_certificate.specs.Bounds.{least_of}
 use Rattle.ds_checker.specs.Holds.{hold_at, hold_of}
-use Rattle.ds_broker.specs.Books.{Book, contracts_in, held_of, holding_of, is_held, moment_in, newest_of, table_in, with_command}
+use Rattle.ds_broker.specs.Books.{Book, contracts_in, held_of, holding_of, is_held, table_of}
 use Rattle.ds_broker.specs.Entries.{entries_of, told_of}
 use Rattle.ds_broker.specs.Found.{IsFound}
 use Rattle.ds_broker.specs.Histories.{Holding}
 use Rattle.ds_broker.specs.Kept.{IsBook, book_of, held_in, ids_in}
 use Rattle.ds_broker.specs.declared.book.Book.TheInside as book
-use Rattle.ds_broker.specs.declared.command.Command.{Command}
 use Rattle.ds_broker.proofs.HoldingLaws.{first-holding, looked-at, told-held}
 use Rattle.ds_broker.proofs.IdLaws.{first-rising, missing-apart, rising-sorted, standing-rising}
 
@@ -74,54 +72,33 @@ missing-at i b view kept id r answer none =
     subst (λ x. holding_of id (held_of x) ≡ None) view
     (missing-apart id (held_in i) (sought-none id (ids_in (held_in i)) r (searched-ids i kept id r answer) none))
 
--- a book whose history has one command more, and whose limits and domain are the same
-pub accepted-view : (old new : book.Inside) (b : Book) (command : Command) → book_of old ≡ b → new.table.domain ≡ old.table.domain → new.limits ≡ old.limits
-    → new.history.items ≡ old.history.items ++ command ∷ [] → book_of new ≡ with_command b command
-accepted-view old new b command view domain limits history = rw (domain, limits, history) (ap (λ x. with_command x command) view)
-
 -- the contract at a place of the table is the one that is held there
-pub contract-placed : (i : book.Inside) (b : Book) → book_of i ≡ b → IsBook i → (contracts : List Contract) → contracts ≡ i.table.contracts
+pub contract-placed : (b : Book) (contracts : List Contract) → contracts ≡ (table_of b).contracts
     → (place : ℕ) (h : Holding) (other : Contract) → slice_get (held_of b) place ≡ Some h → slice_index_or contracts place other ≡ h.contract
-contract-placed i b view kept contracts is place h other at =
-    ap (λ cs. slice_index_or cs place other) (is ∙ ap (λ t. t.contracts) kept.table)
-    ∙ looked-at (λ g. g.contract) (held_in i) place h other (ap (λ x. slice_get (held_of x) place) view ∙ at)
-
-hold-at : (d : Domain) (held : List Holding) (place : ℕ) (h : Holding) → slice_get held place ≡ Some h
-    → hold_at (table_in d held) place ≡ Some (hold_of d h.contract (least_of d h.contract))
-hold-at d held place h at =
-    rw (slice_get-map (least_of d) (map (λ g. g.contract) held) place, slice_get-map (λ g. g.contract) held place, at) refl
+contract-placed b contracts is place h other at = ap (λ cs. slice_index_or cs place other) is ∙ looked-at (λ g. g.contract) (held_of b) place h other at
 
 -- and its hold is that of its least bounds
-pub hold-placed : (i : book.Inside) (b : Book) → book_of i ≡ b → IsBook i → (place : ℕ) (h : Holding) → slice_get (held_of b) place ≡ Some h
-    → hold_at i.table place ≡ Some (hold_of b.domain h.contract (least_of b.domain h.contract))
-hold-placed i b view kept place h at =
-    ap (λ t. hold_at t place) kept.table ∙ hold-at i.table.domain (held_in i) place h (ap (λ x. slice_get (held_of x) place) view ∙ at)
-    ∙ ap (λ x. Some (hold_of x.domain h.contract (least_of x.domain h.contract))) view
+pub hold-placed : (b : Book) (place : ℕ) (h : Holding) → slice_get (held_of b) place ≡ Some h
+    → hold_at (table_of b) place ≡ Some (hold_of b.domain h.contract (least_of b.domain h.contract))
+hold-placed b place h at =
+    rw (slice_get-map (least_of b.domain) (map (λ g. g.contract) (held_of b)) place, slice_get-map (λ g. g.contract) (held_of b) place, at) refl
 
 -- what is left until an end and a hold behind it, counted from the end
 pub left-of : (hold passed moment end : ℕ) → passed ≡ moment - end → end ≤ moment → hold - passed ≡ (end + hold) - moment
 left-of hold passed moment end is over = omega (arith, is, over)
 
 -- what is told of its ids and of its contracts is what is told of it
-pub told-listed : (i : book.Inside) (b : Book) → book_of i ≡ b → IsBook i → (contracts : List Contract) → contracts ≡ i.table.contracts
+pub told-listed : (i : book.Inside) (b : Book) → book_of i ≡ b → IsBook i → (contracts : List Contract) → contracts ≡ (table_of b).contracts
     → told_of i.ids.items contracts ≡ entries_of b
 told-listed i b view kept contracts is =
-    ap (λ cs. told_of i.ids.items cs) (is ∙ ap (λ t. t.contracts) kept.table) ∙ ap (λ ids. told_of ids (contracts_in (held_in i))) kept.ids
-    ∙ told-held (held_in i) ∙ ap entries_of view
-
-pub contracts-length : (i : book.Inside) (b : Book) → book_of i ≡ b → IsBook i → length i.table.contracts ≡ length (held_of b)
-contracts-length i b view kept =
-    ap (λ t. length t.contracts) kept.table ∙ length-map (held_in i) (λ h. h.contract) ∙ ap (λ x. length (held_of x)) view
+    ap (λ cs. told_of i.ids.items cs) is ∙ ap (λ ids. told_of ids (contracts_in (held_of b))) (kept.ids ∙ ap (λ x. ids_in (held_of x)) view)
+    ∙ told-held (held_of b)
 
 pub ids-length : (i : book.Inside) (b : Book) → book_of i ≡ b → IsBook i → length i.ids.items ≡ length (held_of b)
 ids-length i b view kept = ap length kept.ids ∙ length-map (held_in i) (λ h. h.id) ∙ ap (λ x. length (held_of x)) view
 
 pub released-length : (i : book.Inside) (b : Book) → book_of i ≡ b → IsBook i → length i.released.items ≡ length (held_of b)
 released-length i b view kept = ap length kept.released ∙ length-map (held_in i) (λ h. h.released) ∙ ap (λ x. length (held_of x)) view
-
--- a moment of a command, by the newest that is kept
-pub newest-moment : (i : book.Inside) (b : Book) (at moment : ℕ) → book_of i ≡ b → IsBook i → moment ≡ moment_in b at → moment ≡ max i.newest at
-newest-moment i b at moment view kept is = is ∙ ap (λ newest. max newest at) (sym (kept.newest ∙ ap newest_of view))
 
 pub one-at : (o : Option Holding) (g h : Holding) → o ≡ Some g → o ≡ Some h → g ≡ h
 one-at None g h is also = cc

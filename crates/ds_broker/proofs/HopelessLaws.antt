@@ -1,22 +1,18 @@
 -- A contract that the checker refuses beside the others cannot be carried by any certificate.
-use Rattle.std.proofs.Common.{◌≡◌, ◌⊎◌, Bool, true, false, List, [], Option, None, Some, refl, sym, ap, ◌∙◌, inl, inr}
+use Rattle.std.proofs.Common.{◌≡◌, Bool, true, false, List, Option, None, Some}
 use Rattle.std.specs.Prelude.{option_map, if◌then◌else◌}
 use Rattle.ds_domain_base.specs.declared.contract.Contract.{Contract}
 use Rattle.ds_domain_base.specs.declared.fault.DomainFault.{DomainFault}
 use Rattle.ds_certificate.specs.Columns.{Bound}
 use Rattle.ds_checker.specs.Acceptance.{IsAcceptable, refusal_of}
 use Rattle.ds_checker.specs.declared.refusal.Refusal.{Refusal}
-use Rattle.ds_checker.specs.declared.refusal.Refusal.TheVariants as checker
-use Rattle.ds_domain_base.specs.Domains.{Domain}
 use Rattle.ds_checker.proofs.AcceptanceLaws.{unrefused}
 use Rattle.ds_checker.proofs.LeastTableLaws.{least_accepted}
 use Rattle.ds_broker.specs.Books.{Book, is_history_full, is_table_full, table_of, with_command}
 use Rattle.ds_broker.specs.Refusals.{contract_fault, fault_or, refusal_or_checked, reserve_refusal, room_refusal}
 use Rattle.ds_broker.specs.declared.command.Command.TheVariants.{Reserve}
 use Rattle.ds_broker.specs.declared.refusal.BrokerRefusal.{BrokerRefusal}
-use Rattle.ds_broker.specs.declared.refusal.BrokerRefusal.TheVariants.{Checker, HistoryFull, NoMemory, TableFull}
-use Rattle.ds_broker.specs.Faults.{told}
-use Rattle.ds_broker.proofs.TableLaws.{none-acceptable}
+use Rattle.ds_broker.specs.declared.refusal.BrokerRefusal.TheVariants.{Checker, HistoryFull, TableFull}
 
 -- a refusal by the checker is that of the larger table
 checked : (o : Option Refusal) (refusal : Refusal) → option_map Checker o ≡ Some (Checker refusal) → o ≡ Some refusal
@@ -46,29 +42,3 @@ hopeless b c refusal is rows met =
     let t = table_of (with_command b (Reserve c)) in
     let no = no_checker (contract_fault b c) (is_table_full b) (is_history_full b) refusal in
     unlike (refusal_of t) refusal (unrefused t (least_accepted t.domain t.contracts rows met)) (of_checker b c (room_refusal b c) refusal no is)
-
--- a table with no contract is refused for want of memory alone
-pub only_memory : (d : Domain) (refusal : Refusal) (known : Type 0)
-    → ((refusal ≡ checker.NoMemory) × known) ⊎ (refusal_of (record { domain = d; contracts = []; certificate = [] }) ≡ Some refusal) → told refusal ≡ NoMemory
-only_memory d refusal known (inl memory) = ap told memory.0
-only_memory d refusal known (inr refused) =
-    absurd (unlike (refusal_of (record { domain = d; contracts = []; certificate = [] })) refusal (unrefused (record { domain = d; contracts = []; certificate = [] }) (none-acceptable d)) refused)
-
--- what a refusal is told as
-told_as : (refusal : Refusal) → (told refusal ≡ NoMemory) ⊎ (told refusal ≡ Checker refusal)
-told_as (checker.Shape contract) = inr refl
-told_as (checker.FirstBound contract column needed given_bytes) = inr refl
-told_as (checker.HopBound contract hop column needed given_bytes) = inr refl
-told_as (checker.GreenRate meter needed available) = inr refl
-told_as (checker.GreenBurst meter needed available) = inr refl
-told_as (checker.AllRate meter needed available) = inr refl
-told_as (checker.AllBurst meter needed available) = inr refl
-told_as checker.NoMemory = inl refl
-
-pub told_refusal : (o : Option Refusal) (refusal : Refusal) (known : Type 0) → ((refusal ≡ checker.NoMemory) × known) ⊎ (o ≡ Some refusal)
-    → (told refusal ≡ NoMemory) ⊎ (option_map Checker o ≡ Some (told refusal))
-told_refusal o refusal known (inl memory) = inl (ap told memory.0)
-told_refusal o refusal known (inr refused) = elim (told_as refusal) [
-  | inl memory ↦ inl memory
-  | inr same ↦ inr (ap (λ x. option_map Checker x) refused ∙ ap Some (sym same))
-]

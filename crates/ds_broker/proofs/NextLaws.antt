@@ -1,9 +1,9 @@
 -- What a book holds with a command more: its table, and the flows of its contracts.
 use Rattle.std.proofs.Common.{◌≡◌, ◌+◌, ◌-◌, ℕ, Bool, false, List, [], ◌∷◌, ◌++◌, refl, sym, ap, ◌∙◌, arith, inl, inr}
-use Rattle.std.specs.Prelude.{map, max, nat_eq}
+use Rattle.std.specs.Prelude.{length, map, max, nat_eq}
 use Rattle.std.specs.List.{remove}
 use Rattle.std.proofs.lemmas.Bool.{cases_Bool}
-use Rattle.std.proofs.lemmas.List.{map-append}
+use Rattle.std.proofs.lemmas.List.{length-append, map-append}
 use Rattle.ds_domain_base.specs.Lifetimes.{Span}
 use Rattle.ds_domain_base.specs.declared.contract.Contract.{Contract}
 use Rattle.ds_checker.specs.Acceptance.{Table}
@@ -12,11 +12,9 @@ use Rattle.ds_certificate.specs.Bounds.{least_of}
 use Rattle.ds_certificate.specs.Columns.{Bound}
 use Rattle.ds_domain_base.specs.Domains.{Domain}
 use Rattle.ds_broker.specs.Books.{Book, held_of, moment_in, newest_of, standing, table_in, table_of, table_with, with_command}
-use Rattle.ds_broker.specs.Entries.{flows_of}
+use Rattle.ds_broker.specs.Entries.{flows_of, grant_of, last_grant_of}
 use Rattle.ds_broker.specs.Found.{IsFound}
-use Rattle.ds_broker.specs.Changes.{table_changed}
-use Rattle.ds_broker.specs.declared.change.Step.{Step}
-use Rattle.ds_broker.specs.Histories.{Holding, beginning, begun, ended, with_released}
+use Rattle.ds_broker.specs.Histories.{Holding, Standing, beginning, begun, ended, with_released}
 use Rattle.ds_broker.specs.Kept.{IsBook, book_of, ids_in}
 use Rattle.ds_broker.specs.declared.book.Book.TheInside as book
 use Rattle.ds_broker.specs.declared.command.Command.TheVariants.{Reserve, Release, Retire}
@@ -31,18 +29,11 @@ table-after-reserve b c own next since is moment admitted =
     admitted ∙ ap (λ m. table_with m c own) moment ∙ ap (λ t. table_with (moment_in b c.lifetime.since) c t) is ∙ sym (table-reserved b c)
 
 -- a contract more that begins at a moment, with its least bounds
-pub grown : (b : Book) (c begun : Contract) (row : List Bound) (d : Domain) (since : ℕ) → d ≡ b.domain → begun ≡ beginning since c → row ≡ least_of d (beginning since c)
+pub with-begun : (b : Book) (c begun : Contract) (row : List Bound) (d : Domain) (since : ℕ) → d ≡ b.domain → begun ≡ beginning since c → row ≡ least_of d (beginning since c)
     → with_contract (table_of b) begun row ≡ table_with since c (table_of b)
-grown b c begun row d since domain begins least =
+with-begun b c begun row d since domain begins least =
     ap (λ k. with_contract (table_of b) k row) begins
     ∙ ap (with_contract (table_of b) (beginning since c)) (least ∙ ap (λ x. least_of x (beginning since c)) domain)
-
--- a step that leads to the table with a contract more takes it up
-pub step-reserved : (b : Book) (c : Contract) (step : Step) (own next : Table) (since : ℕ) → own ≡ table_of b → since ≡ moment_in b c.lifetime.since
-    → table_of (with_command b (Reserve c)) ≡ table_changed step (table_of b) → next ≡ table_changed step own → next ≡ table_with since c own
-step-reserved b c step own next since is moment leads taken =
-    taken ∙ ap (table_changed step) is ∙ sym leads ∙ table-reserved b c
-    ∙ ap (λ m. table_with m c (table_of b)) (sym moment) ∙ ap (table_with since c) (sym is)
 
 -- with a contract released
 pub table-after-release : (b : Book) (id at place : ℕ) (released : Bool) (lifetime : Span) (own next : Table) → own ≡ table_of b
@@ -98,3 +89,10 @@ pub flows-after-retire : (b : Book) (id moment place : ℕ) (released : Bool) (o
 flows-after-retire b id moment place released own next is found taken =
     taken ∙ ap (λ ns. remove ns place) is ∙ sym (map-retired flow_of id (held_of b) place found.first)
     ∙ ap (λ s. map flow_of s.held) (sym (standing-push b.history (Retire id moment)))
+
+-- behind a reserve the last grant is its own
+pub last-granted : (b : Book) (c : Contract) → last_grant_of (with_command b (Reserve c)) ≡ grant_of b c
+last-granted b c =
+    let st = standing-push b.history (Reserve c) in
+    ap (λ (s : Standing). record { id = s.granted; serial = length (b.history ++ Reserve c ∷ []); since = s.newest }) st
+    ∙ ap (λ n. record { id = (standing b).granted + 1; serial = n; since = moment_in b c.lifetime.since }) (length-append b.history (Reserve c ∷ []))

@@ -12,11 +12,14 @@ use Rattle.ds_domain_base.specs.declared.fault.Section.TheVariants as sections
 use Rattle.ds_domain_base.specs.declared.fault.Field.TheVariants as fields
 use Rattle.ds_certificate.specs.Bounds.{fits}
 use Rattle.ds_checker.specs.Acceptance.{Table}
-use Rattle.ds_broker.specs.Books.{Book, held_of, is_held, is_history_full, is_table_full, moment_in, table_of}
+use Rattle.ds_broker.specs.Books.{Book, held_of, holding_of, is_held, is_history_full, is_table_full, moment_in, table_of}
 use Rattle.ds_broker.specs.Found.{IsFound}
+use Rattle.ds_broker.specs.Histories.{Holding}
+use Rattle.ds_broker.specs.declared.command.Command.{Command}
+use Rattle.ds_broker.specs.declared.command.Command.TheVariants.{Reserve, Release, Retire}
 use Rattle.ds_broker.specs.declared.refusal.BrokerRefusal.{BrokerRefusal}
-use Rattle.ds_broker.specs.Refusals.{contract_fault, ends_early, fault_or, free_from, refusal_or_checked, release_refusal, release_refusal_at, retire_refusal, retire_refusal_at, room_refusal}
-use Rattle.ds_broker.specs.declared.refusal.BrokerRefusal.TheVariants.{HistoryFull, TableFull}
+use Rattle.ds_broker.specs.Refusals.{contract_fault, ends_early, fault_or, free_from, hold_left, refusal_in, refusal_or_checked, release_refusal, release_refusal_at, retire_refusal, retire_refusal_at, room_refusal}
+use Rattle.ds_broker.specs.declared.refusal.BrokerRefusal.TheVariants.{AlreadyReleased, HistoryFull, NotReleased, TableFull}
 
 pub fault-twice : (b : Book) (c : Contract) → is_held c.name (held_of b) ≡ true → contract_fault b c ≡ Some (fault_at kinds.Twice sections.Contract 0 fields.Name)
 fault-twice b c held = rw held refl
@@ -93,3 +96,27 @@ retire-passed b id moment place released found done full free =
     let is : found.holding.released ≡ true = found.is_released ∙ done in
     let over : nat_lt (moment_in b moment) (free_from b.domain found.holding.contract) ≡ false = grind (arith, free) in
     ap (retire_refusal_at b moment) found.found ∙ rw (is, full) (rw over refl)
+
+-- where nothing stands against a command, the history is not full
+release-unfilled : (b : Book) (o : Option Holding) → release_refusal_at b o ≡ None → is_history_full b ≡ false
+release-unfilled b None none = cc
+release-unfilled b (Some h) none = unlisted h.released (is_history_full b) none
+  where
+    unlisted : (released full : Bool) → (if released then Some AlreadyReleased else if full then Some HistoryFull else None) ≡ None → full ≡ false
+    unlisted true full none = cc
+    unlisted false true none = cc
+    unlisted false false none = refl
+
+retire-unfilled : (b : Book) (moment : ℕ) (o : Option Holding) → retire_refusal_at b moment o ≡ None → is_history_full b ≡ false
+retire-unfilled b moment None none = cc
+retire-unfilled b moment (Some h) none = unlisted h.released (is_history_full b) (hold_left (moment_in b moment) (free_from b.domain h.contract)) none
+  where
+    unlisted : (released full : Bool) (left : Option BrokerRefusal) → (if released then if full then Some HistoryFull else left else Some NotReleased) ≡ None → full ≡ false
+    unlisted false full left none = cc
+    unlisted true true left none = cc
+    unlisted true false left none = refl
+
+pub unfilled : (b : Book) (command : Command) → refusal_in b command ≡ None → is_history_full b ≡ false
+unfilled b (Reserve c) none = (passed b c (roomy (room_refusal b c) b c none)).history
+unfilled b (Release id at) none = release-unfilled b (holding_of id (held_of b)) none
+unfilled b (Retire id moment) none = retire-unfilled b moment (holding_of id (held_of b)) none

@@ -1,7 +1,7 @@
 -- What a broker's book answers: which contracts it holds, how much room it has, and what a command was accepted as.
 use Rattle.std.specs.Prelude.{ℕ, ◌+◌, ◌-◌, List, [], ◌∷◌, length, map, option_map, Option}
 use Rattle.ds_domain_base.specs.declared.contract.Contract.{Contract}
-use Rattle.ds_broker.specs.Books.{Book, held_of, holding_of, moment_in, standing}
+use Rattle.ds_broker.specs.Books.{Book, held_of, holding_of, moment_in, newest_of, standing}
 use Rattle.ds_broker.specs.Histories.{Holding}
 use Rattle.ds_broker.specs.declared.entry.Entry.{Entry}
 use Rattle.ds_broker.specs.declared.entry.Grant.{Grant}
@@ -41,6 +41,10 @@ grant_of b c = record {
   serial = next_serial b;
   since = moment_in b c.lifetime.since;
 }
+
+-- the id that was given last, the number of the last command, and the greatest moment
+abbrev pub last_grant_of : Book → Grant
+last_grant_of b = record { id = (standing b).granted; serial = length b.history; since = newest_of b }
 
 -- what is told of ids and contracts, pair by pair
 unfoldable pub told_of : List ℕ → List Contract → List Entry

@@ -1,7 +1,5 @@
--- The numbers of refusals, and what a refusal of the checker is told as.
+-- The numbers of refusals.
 use Rattle.std.specs.Prelude.{ℕ}
-use Rattle.ds_checker.specs.declared.refusal.Refusal.{Refusal}
-use Rattle.ds_checker.specs.declared.refusal.Refusal.TheVariants as checker
 use Rattle.ds_broker.specs.declared.refusal.BrokerRefusal.{BrokerRefusal}
 use Rattle.ds_broker.specs.declared.refusal.BrokerRefusal.TheVariants as refusals
 
@@ -15,8 +13,3 @@ refusal_code refusals.HistoryFull = 6
 refusal_code refusals.NoMemory = 7
 refusal_code refusals.NotReleased = 8
 refusal_code (refusals.HoldLeft nanoseconds) = 9
-
--- a refusal by the checker is told as that, but for want of memory
-abbrev pub told : Refusal → BrokerRefusal
-told checker.NoMemory = refusals.NoMemory
-told refusal = refusals.Checker refusal

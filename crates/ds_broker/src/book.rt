@@ -1,21 +1,17 @@
-ghost use Rattle.std.specs.Prelude.{◌≡◌, ◌⊎◌, ◌≤◌, ◌+◌, ◌-◌, [], false, true, ℕ, List, None, Some, IfErr, IfOk, IfSome};
+ghost use Rattle.std.specs.Prelude.{◌≡◌, ◌≤◌, ◌+◌, ◌-◌, [], false, true, None, Some, IfErr, IfOk, IfSome};
 ghost use Rattle.std.specs.Prelude.{OnErr, OnOk, length};
-ghost use Rattle.std.specs.Prelude.{◌<◌, IfNone, IsTrue, option_map, position, slice_get, unwrap_or, vec_capacity};
-ghost use Rattle.std.specs.Prelude.{vec_len};
+ghost use Rattle.std.specs.Prelude.{◌<◌, IfNone, position, slice_get, unwrap_or};
 ghost use Rattle.std.specs.Bool.{OnFalse};
-ghost use Rattle.std.specs.List.{list_any};
 ghost use Rattle.ds_certificate.specs.Bounds.{fits, least_of};
 ghost use Rattle.ds_checker.specs.Acceptance.{IsAcceptable};
 ghost use Rattle.ds_domain_base.specs.Faults.{fault_at};
 ghost use Rattle.ds_domain_base.specs.Lifetimes.{IsInOrder};
 ghost use Rattle.ds_domain_base.specs.Routes.{route_of};
-ghost use Rattle.std.specs.HashSet.{spare};
 ghost use Rattle.std.specs.Str.{bytes_eq};
 ghost use Rattle.ds_quotes.specs.Quotes.{others_of, quote_of};
 ghost use Rattle.ds_broker.specs.Books as books;
 ghost use Rattle.ds_broker.specs.Books.{held_of, holding_of, is_history_full, moment_in, newest_of};
 ghost use Rattle.ds_broker.specs.Books.{table_of, with_command};
-ghost use Rattle.ds_broker.specs.Changes.{IsChange};
 ghost use Rattle.ds_broker.specs.Entries.{entries_of, entry_in, grant_of, next_serial, room_of, told_of};
 ghost use Rattle.ds_broker.specs.Found.{IsFound};
 ghost use Rattle.ds_broker.specs.Histories.{Holding, beginning, end_by, ended};
@@ -23,15 +19,15 @@ ghost use Rattle.ds_broker.specs.Refusals.{IsRefusal, contract_fault, ends_early
 ghost use Rattle.ds_broker.specs.Refusals.{reserve_refusal, retire_refusal, room_refusal};
 ghost use Rattle.ds_broker.specs.Requests.{AreUnrefused};
 
-use crate::change::Change;
 use crate::command::Command;
 use crate::entry::{Entry, Grant, Room, Serial};
 use crate::limits::Limits;
 use crate::refusal::BrokerRefusal;
+use crate::shared::SharedTable;
 use ds_certificate::{Bounds, Certificate, bounds_by_route};
 use ds_checker::{Accepted, Candidate, check};
 use ds_domain_base::{Contract, Domain, DomainFault, Field, Kind, Lifetime, Name, Route, Section};
-use ds_quotes::greatest_without;
+use ds_quotes::{greatest_without, place_of};
 use moment_core::Moment;
 use std::alloc::{AllocError, Global};
 use std::collections::HashSet;
@@ -39,6 +35,7 @@ use std::marker::Model;
 
 mod next;
 mod past;
+mod taking;
 
 pub use next::Next;
 
@@ -50,7 +47,7 @@ pub use next::Next;
 #[derive(Debug, Drop)]
 pub struct Book {
     /// What it holds, with the least certificate.
-    table: Accepted,
+    table: SharedTable,
     /// The ids of what it holds, in order of admission: they count up.
     ids: Vec<u32>,
     /// Whether each of it is released.
@@ -92,24 +89,37 @@ impl Book {
         ensures back { IfErr result (λ refused. refused.0 ≡ domain) }
         ensures memory { IfErr result (λ refused. refused.1 ≡ NoMemory) }
     {
+        match Book::of(alloc, &domain, limits) {
+            Ok(book) => Ok(book),
+            Err(_) => Err((domain, BrokerRefusal::NoMemory)),
+        }
+    }
+
+    /// The same of a copy of the domain; `AllocError` where memory runs out, and for nothing else.
+    pub fn of(alloc: Global, domain: &Domain, limits: Limits) -> Result<Self, AllocError>
+        ensures { IfOk result (λ book. book ≡ record { domain = domain.now; limits = limits; history = [] }) }
+    {
+        let Ok(domain) = domain.copy(alloc) else {
+            return Err(AllocError);
+        };
         let candidate = Candidate {
             domain,
             contracts: Vec::new(alloc),
             certificate: Certificate::new(Vec::new(alloc)),
         };
-        match check(alloc, candidate) {
-            Ok(table) => Ok(Book {
-                table,
-                ids: Vec::new(alloc),
-                released: Vec::new(alloc),
-                names: HashSet::new(alloc),
-                limits,
-                granted: 0,
-                newest: Moment::new(0).unwrap(),
-                history: Vec::new(alloc),
-            }),
-            Err((candidate, refusal)) => Err((candidate.domain, BrokerRefusal::from(refusal))),
-        }
+        let Ok(table) = check(alloc, candidate) else {
+            return Err(AllocError);
+        };
+        Ok(Book {
+            table: SharedTable::new(alloc, table)?,
+            ids: Vec::new(alloc),
+            released: Vec::new(alloc),
+            names: HashSet::new(alloc),
+            limits,
+            granted: 0,
+            newest: Moment::new(0).unwrap(),
+            history: Vec::new(alloc),
+        })
     }
 
     /// Grants a contract: adds it behind the others, under the next id. It begins at the greatest moment of all
@@ -127,48 +137,13 @@ impl Book {
         ensures refused { IfErr result (λ refused. IsRefusal (reserve_refusal self.old contract) refused.1) }
         ensures unchanged { OnErr result (self.new ≡ self.old) }
     {
-        let alloc = *self.ids.allocator();
-        let change = match self.growth(alloc, &contract) {
-            Ok(change) => change,
-            Err(refusal) => return Err((contract, refusal)),
-        };
-        match self.reserve_by(contract, &change) {
-            Ok(grant) => Ok(grant),
-            Err(contract) => Err((contract, BrokerRefusal::NoMemory)),
+        match self.accept(Command::Reserve(contract)) {
+            Ok(_serial) => Ok(self.last_grant()),
+            Err((command, refusal)) => match command {
+                Command::Reserve(contract) => Err((contract, refusal)),
+                _ => unreachable!(),
+            },
         }
-    }
-
-    /// Grants a contract, as `reserve` does, by the change that its command makes, as `change` tells it: it is not
-    /// tested again. Where memory runs out it hands the contract back, and the book is unchanged.
-    pub fn reserve_by(&mut self, contract: Contract, change: &Change) -> Result<Grant, Contract>
-        requires { IsChange self.old (Reserve contract) change.now }
-        ensures granted { IfOk result (λ grant. grant ≡ grant_of self.old contract) }
-        ensures accepted { OnOk result (self.new ≡ with_command self.old (Reserve contract)) }
-        ensures back { IfErr result (λ back. back ≡ contract) }
-        ensures unchanged { OnErr result (self.new ≡ self.old) }
-    {
-        let serial = self.next_serial();
-        let since = self.moment_of(contract.lifetime.since());
-        let Ok(()) = make_room(
-            &mut self.ids,
-            &mut self.released,
-            &mut self.names,
-            &mut self.history,
-        ) else {
-            return Err(contract);
-        };
-        let alloc = *self.ids.allocator();
-        let Ok(()) = change.step.change(alloc, &mut self.table) else {
-            return Err(contract);
-        };
-        let id = self.granted + 1;
-        self.ids.push(id).unwrap();
-        self.released.push(false).unwrap();
-        self.names.insert(contract.name).unwrap();
-        self.granted = id;
-        self.newest = since;
-        self.history.push(Command::Reserve(contract)).unwrap();
-        Ok(Grant { id, serial, since })
     }
 
     /// Ends the contract of an id: at a moment, or at the greatest moment of all accepted commands where that is later.
@@ -183,18 +158,10 @@ impl Book {
         ensures refused { IfErr result (λ refusal. IsRefusal (release_refusal self.old id) refusal) }
         ensures unchanged { OnErr result (self.new ≡ self.old) }
     {
-        let place = self.releasable(id)?;
-        let moment = self.moment_of(at);
-        let lifetime = self.ended(place, moment);
-        let Ok(()) = self.history.reserve(1) else {
-            return Err(BrokerRefusal::NoMemory);
-        };
-        let serial = self.next_serial();
-        self.table.set_lifetime(place, lifetime);
-        self.released[place] = true;
-        self.newest = moment;
-        self.history.push(Command::Release { id, at }).unwrap();
-        Ok(serial)
+        match self.accept(Command::Release { id, at }) {
+            Ok(serial) => Ok(serial),
+            Err((_command, refusal)) => Err(refusal),
+        }
     }
 
     /// Gives the share of a released contract back, once its hold has passed behind its end: at a moment, or at the
@@ -209,26 +176,17 @@ impl Book {
         ensures refused { IfErr result (λ refusal. IsRefusal (retire_refusal self.old id moment) refusal) }
         ensures unchanged { OnErr result (self.new ≡ self.old) }
     {
-        let place = self.retirable(id, moment)?;
-        let newest = self.moment_of(moment);
-        let Ok(()) = self.history.reserve(1) else {
-            return Err(BrokerRefusal::NoMemory);
-        };
-        let serial = self.next_serial();
-        let (contract, _) = self.table.withdraw(place);
-        let _id = self.ids.remove(place);
-        let _released = self.released.remove(place);
-        self.names.remove(&contract.name);
-        self.newest = newest;
-        self.history.push(Command::Retire { id, moment }).unwrap();
-        Ok(serial)
+        match self.accept(Command::Retire { id, moment }) {
+            Ok(serial) => Ok(serial),
+            Err((_command, refusal)) => Err(refusal),
+        }
     }
 
     /// What it holds, in order of admission; `AllocError` where memory runs out.
     pub fn list(&self, alloc: Global) -> Result<Vec<Entry>, AllocError>
         ensures { IfOk result (λ entries. entries.items ≡ entries_of self.now) }
     {
-        entries(alloc, self.ids.as_slice(), self.table.contracts())
+        entries(alloc, self.ids.as_slice(), self.table().contracts())
     }
 
     /// What it holds under an id, if it does.
@@ -236,7 +194,7 @@ impl Book {
         ensures { result ≡ entry_in self.now id }
     {
         let (place, _) = self.find(id)?;
-        Some(entry_of(id, &self.table.contracts()[place]))
+        Some(entry_of(id, &self.table().contracts()[place]))
     }
 
     /// How many contracts, and how many commands, it still takes.
@@ -254,24 +212,22 @@ impl Book {
         ensures value { result.now ≡ table_of self.now }
         ensures acceptable { IsAcceptable result.now }
     {
-        &self.table
+        self.table.accepted()
+    }
+
+    /// The table for one more to have; `AllocError` where it can have no owner more.
+    pub fn share(&self) -> Result<SharedTable, AllocError>
+        ensures { IfOk result (λ table. table ≡ table_of self.now) }
+    {
+        self.table.again()
     }
 
     /// The greatest value of a field with which a contract is valid and would be carried beside all that the book holds
-    /// but the contract of its name; None where no value is. It changes nothing; it takes no memory, and so is never
-    /// refused.
-    pub fn greatest(
-        &self,
-        alloc: Global,
-        contract: &Contract,
-        field: ds_quotes::Field,
-    ) -> Result<Option<u64>, AllocError>
-        ensures { IfOk result (λ value. value
-            ≡ quote_of (others_of (table_of self.now) contract.now.name) contract.now field) }
+    /// but the contract of its name; None where no value is. It changes nothing, and takes no memory.
+    pub fn greatest(&self, contract: &Contract, field: ds_quotes::Field) -> Option<u64>
+        ensures { result ≡ quote_of (others_of (table_of self.now) contract.now.name) contract.now field }
     {
-        let _alloc = alloc;
-        let left_out = self.place_of(contract.name);
-        Ok(greatest_without(self.table(), left_out, contract, field))
+        greatest_without(self.table(), self.place_of(contract.name), contract, field)
     }
 
     /// The place of the contract of a name in its table, if it holds one. Where it holds none, it looks at no contract.
@@ -282,14 +238,14 @@ impl Book {
         if !self.names.contains(&name) {
             return None;
         }
-        place_of(self.table.contracts(), name)
+        place_of(self.table().contracts(), name)
     }
 
     /// The domain.
     pub fn domain(&self) -> &Domain
         ensures { result.now ≡ self.now.domain }
     {
-        self.table.domain()
+        self.table().domain()
     }
 
     /// How much it takes.
@@ -358,7 +314,7 @@ impl Book {
     }
 
     /// The route of a contract that may be reserved, else the first that stands against it. It takes no memory.
-    fn admitted(&self, contract: &Contract) -> Result<Route, BrokerRefusal>
+    fn reservable(&self, contract: &Contract) -> Result<Route, BrokerRefusal>
         ensures route { IfOk result (λ route. route ≡ route_of self.now.domain contract.now) }
         ensures unrefused { OnOk result (reserve_refusal self.now contract.now ≡ None) }
         ensures roomy { OnOk result (room_refusal self.now contract.now ≡ None) }
@@ -370,7 +326,7 @@ impl Book {
             Err(refusal) => return Err(refusal),
         };
         match self
-            .table
+            .table()
             .refusal_on_route(contract, &route, &contract.terms)
         {
             Some(refusal) => Err(BrokerRefusal::Checker(refusal)),
@@ -390,7 +346,7 @@ impl Book {
         if self.ends_early(contract.lifetime) {
             return Err(fault(Kind::Range, Field::Until));
         }
-        match self.table.domain().route(contract) {
+        match self.table().domain().route(contract) {
             Ok(route) => Ok(route),
             Err(fault) => Err(fault),
         }
@@ -469,7 +425,7 @@ impl Book {
         ensures { (h : Holding) → slice_get (held_of self.now) place ≡ Some h →
             result ≡ (ended moment h.contract).lifetime }
     {
-        ended(self.table.contracts()[place].lifetime, moment)
+        ended(self.table().contracts()[place].lifetime, moment)
     }
 
     /// How much of the hold of the contract at a place is left at a moment, in nanoseconds; 0 where it has passed. The
@@ -481,18 +437,11 @@ impl Book {
         ensures { (h : Holding) → slice_get (held_of self.now) place ≡ Some h →
             result ≡ free_from self.now.domain h.contract - moment }
     {
-        let end = end_of(self.table.contracts()[place].lifetime);
+        let end = end_of(self.table().contracts()[place].lifetime);
         let passed = u128::from(moment.get() - end);
-        let hold = self.table.hold(place).unwrap();
+        let hold = self.table().hold(place).unwrap();
         hold.saturating_sub(passed)
     }
-}
-
-/// The place of the contract of a name, if there is one.
-fn place_of(contracts: &[Contract], name: Name) -> Option<usize>
-    ensures { result ≡ position (λ c. bytes_eq name c.name) contracts.now }
-{
-    contracts.iter().position(|contract| contract.name == name)
 }
 
 /// A fault of a contract at a field.
@@ -557,29 +506,6 @@ fn entries(alloc: Global, ids: &[u32], contracts: &[Contract]) -> Result<Vec<Ent
         entries.push(entry_of(*id, contract))?;
     }
     Ok(entries)
-}
-
-/// Makes room for one contract and one command more.
-fn make_room(
-    ids: &mut Vec<u32>,
-    released: &mut Vec<bool>,
-    names: &mut HashSet<Name>,
-    history: &mut Vec<Command>,
-) -> Result<(), AllocError>
-    ensures ids { ids.new.items ≡ ids.old.items }
-    ensures released { released.new.items ≡ released.old.items }
-    ensures names { (name : List ℕ) → list_any (bytes_eq name) names.new.keys ≡ list_any (bytes_eq name) names.old.keys }
-    ensures history { history.new.items ≡ history.old.items }
-    ensures id_room { OnOk result (vec_len ids.new + 1 ≤ vec_capacity ids.new) }
-    ensures released_room { OnOk result (vec_len released.new + 1 ≤ vec_capacity released.new) }
-    ensures name_room { OnOk result (1 ≤ spare names.new) }
-    ensures command_room { OnOk result (vec_len history.new + 1 ≤ vec_capacity history.new) }
-{
-    ids.reserve(1)?;
-    released.reserve(1)?;
-    names.reserve(1)?;
-    history.reserve(1)?;
-    Ok(())
 }
 
 /// The same contract, to begin at a moment; `AllocError` where memory runs out.

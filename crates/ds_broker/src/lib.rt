@@ -9,6 +9,7 @@ pub mod entry;
 pub mod laws;
 pub mod limits;
 pub mod refusal;
+pub mod shared;
 
 pub use book::{Book, Next};
 pub use change::{Change, Step};
@@ -16,3 +17,4 @@ pub use command::Command;
 pub use entry::{Entry, Grant, Room, Serial};
 pub use limits::Limits;
 pub use refusal::BrokerRefusal;
+pub use shared::SharedTable;

@@ -67,16 +67,3 @@ impl From<AllocError> for BrokerRefusal {
         BrokerRefusal::NoMemory
     }
 }
-
-impl From<Refusal> for BrokerRefusal {
-    ghost use Rattle.ds_broker.specs.Faults.{told};
-
-    ghost from_gives = { λ refusal broker. broker ≡ told refusal };
-
-    fn from(refusal: Refusal) -> Self {
-        match refusal {
-            Refusal::NoMemory => BrokerRefusal::NoMemory,
-            _ => BrokerRefusal::Checker(refusal),
-        }
-    }
-}

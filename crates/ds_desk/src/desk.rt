@@ -3,7 +3,7 @@ ghost use Rattle.std.specs.Prelude.{◌≡◌, ◌<◌, ◌≤◌, [], None, IfE
 ghost use Rattle.ds_checker.specs.Acceptance.{IsAcceptable};
 ghost use Rattle.ds_broker.specs.Books.{table_of, with_command};
 ghost use Rattle.ds_broker.specs.Entries.{grant_of, next_serial};
-ghost use Rattle.ds_broker.specs.Refusals.{IsRefusal, release_refusal, reserve_refusal, retire_refusal};
+ghost use Rattle.ds_broker.specs.Refusals.{IsRefusal, refusal_in, release_refusal, reserve_refusal, retire_refusal};
 ghost use Rattle.ds_broker.specs.Timelines.{timeline_behind, timeline_of};
 ghost use Rattle.ds_desk.specs.Histories.{book_behind};
 
@@ -108,7 +108,7 @@ impl<J: Naming, R: Wait + Drop> Desk<J, R> {
         ensures opened { IfOk result (λ made. made.0 ≡ J.opening) }
         ensures feeds { IfOk result (λ made. vec_len made.1 ≡ feeds) }
     {
-        let book = empty_book(alloc, domain, limits)?;
+        let book = Book::of(alloc, domain, limits)?;
         let press = Press::new(alloc, opened, &book, feeds)?;
         let desk = Desk {
             book,
@@ -135,25 +135,19 @@ impl<J: Naming, R: Wait + Drop> Desk<J, R> {
         ensures unchanged { OnErr result (self.new ≡ self.old) }
         ensures named { self.old ≡ book_behind J.opening self.old.history }
     {
-        let command = Command::Reserve(contract);
-        let announced = self.press.announce(self.alloc, &self.book, &command);
-        let Command::Reserve(contract) = command else {
-            unreachable!()
-        };
-        let (page, change) = match announced {
-            Ok(laid) => laid,
-            Err(refusal) => return Err((contract, self.refused(refusal))),
-        };
-        match self.book.reserve_by(contract, &change) {
-            Ok(grant) => {
-                self.press.keep(&self.rt, &page, change);
-                Ok(Granted {
-                    grant,
-                    front: self.front(),
-                })
+        let done = match self.accept(Command::Reserve(contract)) {
+            Ok(done) => done,
+            Err((command, refused)) => {
+                let Command::Reserve(contract) = command else {
+                    unreachable!()
+                };
+                return Err((contract, refused));
             }
-            Err(contract) => Err((contract, self.refused(BrokerRefusal::NoMemory))),
-        }
+        };
+        Ok(Granted {
+            grant: self.book.last_grant(),
+            front: done.front,
+        })
     }
 
     /// Ends the contract of an id, as its book does, and shows the table to the feeds. Refused as the book refuses it:
@@ -168,20 +162,9 @@ impl<J: Naming, R: Wait + Drop> Desk<J, R> {
         ensures unchanged { OnErr result (self.new ≡ self.old) }
         ensures named { self.old ≡ book_behind J.opening self.old.history }
     {
-        let command = Command::Release { id, at };
-        let (page, change) = match self.press.announce(self.alloc, &self.book, &command) {
-            Ok(laid) => laid,
-            Err(refusal) => return Err(self.refused(refusal)),
-        };
-        match self.book.release(id, at) {
-            Ok(serial) => {
-                self.press.keep(&self.rt, &page, change);
-                Ok(Done {
-                    serial,
-                    front: self.front(),
-                })
-            }
-            Err(refusal) => Err(self.refused(refusal)),
+        match self.accept(Command::Release { id, at }) {
+            Ok(done) => Ok(done),
+            Err((_command, refused)) => Err(refused),
         }
     }
 
@@ -197,20 +180,9 @@ impl<J: Naming, R: Wait + Drop> Desk<J, R> {
         ensures unchanged { OnErr result (self.new ≡ self.old) }
         ensures named { self.old ≡ book_behind J.opening self.old.history }
     {
-        let command = Command::Retire { id, moment };
-        let (page, change) = match self.press.announce(self.alloc, &self.book, &command) {
-            Ok(laid) => laid,
-            Err(refusal) => return Err(self.refused(refusal)),
-        };
-        match self.book.retire(id, moment) {
-            Ok(serial) => {
-                self.press.keep(&self.rt, &page, change);
-                Ok(Done {
-                    serial,
-                    front: self.front(),
-                })
-            }
-            Err(refusal) => Err(self.refused(refusal)),
+        match self.accept(Command::Retire { id, moment }) {
+            Ok(done) => Ok(done),
+            Err((_command, refused)) => Err(refused),
         }
     }
 
@@ -227,9 +199,7 @@ impl<J: Naming, R: Wait + Drop> Desk<J, R> {
         ensures value { result.now ≡ table_of self.now }
         ensures acceptable { IsAcceptable result.now }
     {
-        let table = &self.press.tables.published().page.table;
-        let _domain = table.domain();
-        table
+        self.press.tables.published().page.table.accepted()
     }
 
     /// Every contract that its book ever granted, in order of admission, and what became of each; `AllocError` where
@@ -273,6 +243,40 @@ impl<J: Naming, R: Wait + Drop> Desk<J, R> {
         Some(Feed::new(reader, self.front()))
     }
 
+    /// Takes in a command, as its book does, over the table of the page that it shows to the feeds.
+    ///
+    /// Refused as the book refuses it: with the command handed back, the book unchanged, and feeds seeing what they
+    /// saw.
+    fn accept(&mut self, command: Command) -> Result<Done<J>, (Command, Refused<J>)>
+        ensures told { IfOk result (λ done. done.serial ≡ next_serial self.old) }
+        ensures accepted { OnOk result (self.new ≡ with_command self.old command) }
+        ensures unrefused { OnOk result (refusal_in self.old command ≡ None) }
+        ensures stands { IfOk result (λ done. done.front ≡ self.new.history) }
+        ensures back { IfErr result (λ refused. refused.0 ≡ command) }
+        ensures refused { IfErr result (λ refused. IsRefusal (refusal_in self.old command) refused.1.refusal) }
+        ensures front { IfErr result (λ refused. refused.1.front ≡ self.old.history) }
+        ensures unchanged { OnErr result (self.new ≡ self.old) }
+        ensures named { self.old ≡ book_behind J.opening self.old.history }
+    {
+        let (page, change) = match self.press.announce(self.alloc, &self.book, &command) {
+            Ok(laid) => laid,
+            Err(refusal) => return Err((command, self.refused(refusal))),
+        };
+        let Ok(table) = page.table.again() else {
+            return Err((command, self.refused(BrokerRefusal::NoMemory)));
+        };
+        match self.book.adopt(command, &change, table) {
+            Ok(serial) => {
+                self.press.keep(&self.rt, &page, change);
+                Ok(Done {
+                    serial,
+                    front: self.front(),
+                })
+            }
+            Err(command) => Err((command, self.refused(BrokerRefusal::NoMemory))),
+        }
+    }
+
     /// A refusal, beside the history up to now.
     fn refused(&self, refusal: BrokerRefusal) -> Refused<J>
         ensures { (result.refusal ≡ refusal) × (result.front ≡ self.now.history) }
@@ -295,18 +299,5 @@ impl<J: Naming, R: Wait + Drop> Desk<J, R> {
             feeds.push(feed)?;
         }
         Ok(feeds)
-    }
-}
-
-/// The book of a copy of a domain, with no contract in it; `AllocError` where memory runs out.
-fn empty_book(alloc: Global, domain: &Domain, limits: Limits) -> Result<Book, AllocError>
-    ensures { IfOk result (λ book. book ≡ record { domain = domain.now; limits = limits; history = [] }) }
-{
-    let Ok(own) = domain.copy(alloc) else {
-        return Err(AllocError);
-    };
-    match Book::new(alloc, own, limits) {
-        Ok(book) => Ok(book),
-        Err(_) => Err(AllocError),
     }
 }

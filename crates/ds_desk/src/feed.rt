@@ -112,9 +112,7 @@ impl<J: Naming> Seen<J> {
         ensures value { result.now ≡ table_behind J.opening.domain self.now }
         ensures acceptable { IsAcceptable result.now }
     {
-        let table = &self.reading.get().page.table;
-        let _domain = table.domain();
-        table
+        self.reading.get().page.table.accepted()
     }
 
     /// The flows of its contracts, in order: each is the contract's id less 1.

@@ -8,8 +8,7 @@ ghost use Rattle.ds_desk.specs.Histories.{book_behind, flows_behind, table_behin
 
 use crate::log::{Act, End, Front, Law, Naming};
 use crossbeam_utils::rule::{Outcome, Protocol};
-use ds_broker::{Next, Serial};
-use ds_checker::Accepted;
+use ds_broker::{Next, Serial, SharedTable};
 use left_right::Absorb;
 use logbook::Word;
 use std::alloc::{AllocError, Global};
@@ -19,7 +18,7 @@ use std::sync::Arc;
 /// A table, and which commands it stands for: those that are accepted once the one that was tried last is kept.
 #[derive(Drop)]
 pub struct Page {
-    pub(crate) table: Accepted,
+    pub(crate) table: SharedTable,
     pub(crate) flows: Vec<u32>,
     pub(crate) serial: Serial,
     pub(crate) tried: End,
@@ -33,7 +32,7 @@ pub struct Page {
 
 impl Page {
     /// A page that is not kept yet.
-    pub(crate) fn new(table: Accepted, flows: Vec<u32>, serial: Serial, tried: End) -> Page
+    pub(crate) fn new(table: SharedTable, flows: Vec<u32>, serial: Serial, tried: End) -> Page
         requires table { table ≡ table_behind table.domain (story_in tried.seen.log) }
         requires flows { flows.items ≡ flows_behind (story_in tried.seen.log) }
         requires serial { serial ≡ length (story_in tried.seen.log) }

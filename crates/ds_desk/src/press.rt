@@ -53,7 +53,7 @@ impl<J: Naming> Press<J> {
             (arc_value press.tables.desk.shown.value.page).flows.items ≡ flows_of book.now) }
         ensures alone { IfOk result (λ press. (press.older ≡ None) × (press.oldest ≡ None)) }
     {
-        let table = book.table().copy(alloc)?;
+        let table = book.share()?;
         let (log, start) = opened.named::<J>();
         let Some(end) = log.add::<(), Keeping>(&start, &()) else {
             return Err(AllocError);

@@ -88,7 +88,7 @@ fn brought_up(alloc: Global, oldest: Older, older: &Older, change: &Change) -> O
         return None;
     };
     let next = page.into_next();
-    if next.table.is_roomy() {
+    if next.table.accepted().is_roomy() {
         return None;
     }
     match taken_in(alloc, next, &first, &older.change, change) {
@@ -123,7 +123,7 @@ fn taken_in(
     Ok(next)
 }
 
-/// The page of another owner; None where it can have no owner more.
+/// The page once more, for another owner; None where it can have no owner more.
 pub(crate) fn again(page: &Arc<Page, Global>) -> Option<Arc<Page, Global>>
     ensures { IfSome result (λ again. arc_value again ≡ arc_value page.now) }
 {

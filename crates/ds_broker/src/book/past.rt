@@ -46,14 +46,15 @@ impl Book {
     pub fn timeline(&self, alloc: Global) -> Result<Timeline, AllocError>
         ensures { IfOk result (λ timeline. timeline ≡ timeline_of self.now) }
     {
+        let table = self.table.accepted();
         let mut routes = Vec::new(alloc);
         let Past { newest: _, granted } = Past::of(
             alloc,
-            self.table.domain(),
+            table.domain(),
             &mut routes,
             self.history.as_slice(),
         )?;
-        let Ok(domain) = self.table.domain().copy(alloc) else {
+        let Ok(domain) = table.domain().copy(alloc) else {
             return Err(AllocError);
         };
         Ok(Timeline::new(domain, granted, routes))

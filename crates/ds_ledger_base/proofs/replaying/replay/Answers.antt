@@ -10,7 +10,7 @@ pub commands-preserved : goal.commands-preserved
 commands-preserved c =
     let at = c.commands in
     let steps : into_iter_items at.command-iterator ≡ c.in-Some.command ∷ into_iter_items c.next.new.self = c.in-Some.ensures.steps.0 in (
-      replay-accepted _ at.book _ _ c.in-Some.command at.invariant.0 steps c.accept.new.book c.in-Ok.ensures.unrefused c.in-Ok.ensures.accepted,
+      replay-accepted _ at.book _ _ c.in-Some.command at.invariant.0 steps c.accept.new.self c.in-Ok.ensures.unrefused c.in-Ok.ensures.accepted,
       let was = at.invariant.1 in
           let gone = c.in-Some.ensures.steps.1 in
           let short = ap length steps in

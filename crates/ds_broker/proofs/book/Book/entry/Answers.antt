@@ -7,7 +7,7 @@ use Rattle.ds_broker.proofs.book.Book.entry.Goals as goal
 pub returns : goal.returns
 returns c =
     let found = c.in_ok-place.ensures.found in
-    let is = contract-placed c.self.inside c.args.self.now c.self.view_is c.self.invariant c.contracts.result.now c.contracts.ensures.value c.in_ok-place.place found.holding c.index-contracts-place.result found.at in
+    let is = contract-placed c.args.self.now c.contracts.result.now (c.contracts.ensures.value ∙ ap (λ t. t.contracts) c.table.ensures.value) c.in_ok-place.place found.holding c.index-contracts-place.result found.at in
     let here = c.index-contracts-place.is ∙ is in
     let k = found.holding.contract in
     let told : record { id = c.args.id; name = k.name; since = k.lifetime.since; until = k.lifetime.until } ≡ entry_of found.holding = ap (λ n. record { id = n; name = k.name; since = k.lifetime.since; until = k.lifetime.until }) (sym found.named) in

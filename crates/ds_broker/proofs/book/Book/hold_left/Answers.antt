@@ -1,6 +1,7 @@
 use Rattle.std.proofs.Common.{arith, ap, sym, ◌∙◌}
 use Rattle.std.proofs.lemmas.Option.{same_Some}
 use Rattle.std.specs.Prelude.{unwrap_or}
+use Rattle.ds_checker.specs.Holds.{hold_at}
 use Rattle.ds_broker.proofs.BookLaws.{contract-placed, hold-placed}
 use Rattle.ds_broker.proofs.HoldingLaws.{holding-at}
 use Rattle.ds_broker.proofs.book.Book.hold_left.Goals as goal
@@ -8,14 +9,14 @@ use Rattle.ds_broker.proofs.book.Book.hold_left.Goals as goal
 pub overflow_sub-get : goal.overflow_sub-get
 overflow_sub-get c =
     let at = holding-at _ c.args.place c.requires.place in
-    let is = contract-placed c.self.inside c.args.self.now c.self.view_is c.self.invariant c.contracts.result.now c.contracts.ensures.value c.args.place at.0 c.index-contracts-place.result at.1 in
+    let is = contract-placed c.args.self.now c.contracts.result.now (c.contracts.ensures.value ∙ ap (λ t. t.contracts) c.table.ensures.value) c.args.place at.0 c.index-contracts-place.result at.1 in
     let a = c.end_of-end.ensures in let b = c.get.ensures in let d = ap (λ x. unwrap_or x.lifetime.until 0) is in let e = c.requires.over at.0 at.1 in
     omega (arith, a, b.value, d, e)
 
 pub returns : goal.returns
 returns c h at =
-    let is = contract-placed c.self.inside c.args.self.now c.self.view_is c.self.invariant c.contracts.result.now c.contracts.ensures.value c.args.place h c.index-contracts-place.result at in
-    let hold = same_Some c.unwrap-hold.result _ (sym c.unwrap-hold.ensures ∙ c.hold.ensures ∙ hold-placed c.self.inside c.args.self.now c.self.view_is c.self.invariant c.args.place h at) in
+    let is = contract-placed c.args.self.now c.contracts.result.now (c.contracts.ensures.value ∙ ap (λ t. t.contracts) c.table.ensures.value) c.args.place h c.index-contracts-place.result at in
+    let hold = same_Some c.unwrap-hold.result _ (sym c.unwrap-hold.ensures ∙ c.hold.ensures ∙ ap (λ t. hold_at t c.args.place) c.table-2.ensures.value ∙ hold-placed c.args.self.now c.args.place h at) in
     let a = c.end_of-end.ensures in let b = c.get.ensures in let d = ap (λ x. unwrap_or x.lifetime.until 0) is in let e = c.requires.over h at in
     let f = c.from-passed.ensures in let k = c.saturating_sub.ensures in
     omega (arith, a, b.value, d, e, f, k, hold)

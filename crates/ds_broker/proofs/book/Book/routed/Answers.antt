@@ -18,14 +18,14 @@ returns-then-ends_early-clause-faulty c =
 
 pub returns-in-Ok-clause-route : goal.returns-in-Ok-clause-route
 returns-in-Ok-clause-route c =
-    let domain : c.domain.result.now ≡ c.args.self.now.domain = c.domain.ensures.value ∙ ap (λ b. b.domain) c.self.view_is in
+    let domain : c.domain.result.now ≡ c.args.self.now.domain = c.domain.ensures.value ∙ ap (λ t. t.domain) c.table.ensures.value in
     c.in-Ok.ensures.1 ∙ ap (λ (d : Domain). route_of d c.args.contract.now) domain
 
 pub returns-in-Ok-clause-good : goal.returns-in-Ok-clause-good
 returns-in-Ok-clause-good c =
     let k = c.args.contract.now in
     let new = sym (names-held c.self.inside c.args.self.now c.self.view_is c.self.invariant k.name) ∙ sym c.contains.ensures ∙ c.if-contains.false in
-    let domain : c.domain.result.now ≡ c.args.self.now.domain = c.domain.ensures.value ∙ ap (λ b. b.domain) c.self.view_is in
+    let domain : c.domain.result.now ≡ c.args.self.now.domain = c.domain.ensures.value ∙ ap (λ t. t.domain) c.table.ensures.value in
     fault-way c.args.self.now k new (sym c.ends_early.ensures ∙ c.if-ends_early.false)
     ∙ sym (ap (λ (d : Domain). way_fault 0 d k.port k.path) domain) ∙ c.in-Ok.ensures.0
 
@@ -33,6 +33,6 @@ pub returns-in-Err-clause-faulty : goal.returns-in-Err-clause-faulty
 returns-in-Err-clause-faulty c =
     let k = c.args.contract.now in
     let new = sym (names-held c.self.inside c.args.self.now c.self.view_is c.self.invariant k.name) ∙ sym c.contains.ensures ∙ c.if-contains.false in
-    let domain : c.domain.result.now ≡ c.args.self.now.domain = c.domain.ensures.value ∙ ap (λ b. b.domain) c.self.view_is in
+    let domain : c.domain.result.now ≡ c.args.self.now.domain = c.domain.ensures.value ∙ ap (λ t. t.domain) c.table.ensures.value in
     fault-way c.args.self.now k new (sym c.ends_early.ensures ∙ c.if-ends_early.false)
     ∙ sym (ap (λ (d : Domain). way_fault 0 d k.port k.path) domain) ∙ c.in-Err.ensures

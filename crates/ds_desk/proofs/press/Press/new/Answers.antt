@@ -13,7 +13,7 @@ use Rattle.ds_desk.proofs.press.Press.new.Goals as goal
 
 pub new-page-requires-clause-table : goal.new-page-requires-clause-table
 new-page-requires-clause-table g c =
-    table_told c.in_ok-table.table c.args.book.now (story_in c.named-log.result.1.seen.log) (c.in_ok-table.ensures ∙ c.table.ensures.value)
+    table_told c.in_ok-table.table c.args.book.now (story_in c.named-log.result.1.seen.log) c.in_ok-table.ensures
     (story_opening c.named-log.result.1.seen.log c.named-log.ensures.0 ∙ sym c.requires.empty)
 
 pub new-page-requires-clause-flows : goal.new-page-requires-clause-flows
@@ -32,7 +32,7 @@ new-requires-3-clause-rule g c =
     let first = of_opening c.new-page.result g.J.Naming.opening g.J.Naming.log
     (ap (λ (e : End). e.seen.log) c.new-page.ensures.1 ∙ c.named-log.ensures.0)
     (ap (λ (e : End). e.seen.book) c.new-page.ensures.1 ∙ c.named-log.ensures.1)
-    (ap (λ (t : Table). t.domain) (c.new-page.ensures.0 ∙ c.in_ok-table.ensures ∙ c.table.ensures.value) ∙ c.requires.domain) in
+    (ap (λ (t : Table). t.domain) (c.new-page.ensures.0 ∙ c.in_ok-table.ensures) ∙ c.requires.domain) in
     let is : arc_value c.in_ok-try_clone.field-0 ≡ c.new-page.result = search rules in
     subst (λ (p : Page). IsOfDesk g.J.Naming.log g.J.Naming.opening p) (sym is) first
 

@@ -1,4 +1,4 @@
-use Rattle.ds_broker.proofs.book.make_room.Goals as goal
+use Rattle.ds_broker.proofs.book.taking.make_room.Goals as goal
 
 pub returns-clause-id_room : goal.returns-clause-id_room
 returns-clause-id_room c = c.in_ok-reserve.ensures.ok

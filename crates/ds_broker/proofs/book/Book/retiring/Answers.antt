@@ -1,10 +1,12 @@
-use Rattle.std.proofs.Common.{true, refl, sym, arith}
+use Rattle.std.proofs.Common.{true, refl, sym, ap, ◌∙◌, arith}
 use Rattle.std.proofs.lemmas.List.{length-map}
 use Rattle.ds_broker.specs.Books.{held_of, table_of}
 use Rattle.ds_broker.specs.Entries.{flows_of}
+use Rattle.ds_broker.specs.declared.command.Command.TheVariants.{Retire}
 use Rattle.ds_broker.proofs.HoldingLaws.{first-below}
+use Rattle.ds_broker.proofs.StandingLaws.{standing-push}
 use Rattle.ds_broker.proofs.NextLaws.{flow_of, flows-after-retire, table-after-retire}
-use Rattle.ds_broker.proofs.book.Book.shrinking.Goals as goal
+use Rattle.ds_broker.proofs.book.Book.retiring.Goals as goal
 
 pub returns-clause-change : goal.returns-clause-change
 returns-clause-change c =
@@ -16,7 +18,9 @@ returns-clause-change c =
         table = sym (table-after-retire b c.args.id c.args.moment c.in_ok-place.place true (table_of b) _ refl found refl);
         flows = sym (flows-after-retire b c.args.id c.args.moment c.in_ok-place.place true (flows_of b) _ refl found refl);
       };
-      serial = c.next_serial-serial.ensures;
+      placed = found;
+      serial = c.next_serial.ensures;
+      newest = c.moment_of-newest.ensures ∙ ap (λ s. s.newest) (sym (standing-push b.history (Retire c.args.id c.args.moment)));
       unrefused = c.in_ok-place.ensures.unrefused;
       room = c.in_ok-place.ensures.room;
     }
