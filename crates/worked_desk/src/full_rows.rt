@@ -117,7 +117,7 @@ fn filled<J: Naming, R: Wait + Abort + Copy + Drop>(
     let mut out = Vec::new(alloc);
     let full = command.line(1, b"release 1 0", &mut out);
     assert!(rt; full.expect(&rt, "memory").is_none());
-    assert_eq!(rt; out.as_slice(), b"refused 6 HistoryFull\n");
+    assert_eq!(rt; out.as_slice(), "refused 6 HistoryFull\n".as_bytes());
     drop(out);
     drop(command);
 }
