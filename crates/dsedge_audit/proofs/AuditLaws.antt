@@ -1,11 +1,13 @@
 -- The answer of `audit`, a line at a time.
-use Rattle.std.proofs.Common.{◌≡◌, ℕ, ◌+◌, List, ◌∷◌, [], None, Some, Ok, Err, refl}
+use Rattle.std.proofs.Common.{◌≡◌, ℕ, ◌+◌, List, ◌∷◌, [], None, Some, Ok, Err, Result, ◌⊎◌, inl, inr, ap, refl, sym}
+use Rattle.std.specs.Prelude.{IfErr}
 use Rattle.std.proofs.lemmas.List.{append-nil}
 use Rattle.ds_checker.specs.Acceptance.{Table}
 use Rattle.ds_conductor_base.specs.Conducting.{run_so_far}
-use Rattle.ds_conductor_base.specs.Steps.{Stage, stepped}
+use Rattle.ds_conductor_base.specs.Steps.{Stage, refusal_of, stepped}
 use Rattle.ds_conductor_base.specs.declared.step.Step.{Step}
-use Rattle.ds_conductor_base.specs.declared.fault.StepFault.TheVariants.{BadStep, JournalFull}
+use Rattle.ds_conductor_base.specs.declared.fault.StepFault.{StepFault}
+use Rattle.ds_conductor_base.specs.declared.fault.StepFault.TheVariants.{BadStep, JournalFull, NoMemory}
 use Rattle.dsedge_lines.specs.Answers.{Answer, behind}
 use Rattle.dsedge_lines.specs.declared.command.Ending.{Ending}
 use Rattle.dsedge_lines.specs.declared.command.Ending.TheVariants.{BadLine, Full}
@@ -28,6 +30,13 @@ pub made_line : (t : Table) (g h : Stage) (number : ℕ) (line : List ℕ) (late
     → audit_from t h (number + 1) later ≡ audit_from t g number (line ∷ later)
 unfolding audit_from
 made_line t g h number line later s e f = rw (e, f) refl
+
+-- what a step is refused with is want of memory, or stands against it
+pub refused_told : {A : Type 0} (result : Result A StepFault) (r : Result Stage StepFault) → IfErr result (λ fault. fault ≡ refusal_of r)
+    → IfErr result (λ fault. (fault ≡ NoMemory) ⊎ (r ≡ Err fault))
+refused_told (Ok done) r told = told
+refused_told (Err fault) (Ok h) told = inl told
+refused_told (Err fault) (Err own) told = inr (ap (λ (f : StepFault). Err f) (sym told))
 
 -- a line of a step that cannot be made
 pub bad_step : (t : Table) (g : Stage) (number : ℕ) (line : List ℕ) (later : List (List ℕ)) (out : List ℕ) (s : Step)

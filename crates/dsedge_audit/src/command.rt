@@ -53,10 +53,12 @@ impl<'a> AuditCommand<'a> {
     }
 
     /// Makes a step, as `Conductor::step`, which also says what is refused.
+    #[tactic(auto, using(crate::proofs::AuditLaws::refused_told))]
     fn make(&mut self, step: Step) -> Result<(), StepFault>
         ensures table { self.new.table ≡ self.old.table }
         ensures done { OnOk result (stepped self.old.table self.old.stage step ≡ Ok self.new.stage) }
-        ensures refused { IfErr result (λ fault. fault ≡ refusal_of (stepped self.old.table self.old.stage step)) }
+        ensures refused { IfErr result (λ fault. (fault ≡ StepFault.NoMemory)
+            ⊎ (stepped self.old.table self.old.stage step ≡ Err fault)) }
     {
         match &mut self.conductor {
             Some(conductor) => conductor.step(step),
