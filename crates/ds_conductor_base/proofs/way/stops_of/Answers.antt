@@ -26,8 +26,16 @@ loop-leg-preserved c = record {
   counted = omega arith;
   reached = omega (arith, c.loop-leg.invariant.reached, c.longer-delay.ensures, c.gap.ensures.range);
   near = All-same AreNearAt _ _ c.in_ok-push-2.ensures.items (All-push AreNearAt c.loop-leg.stops.items _ c.loop-leg.invariant.near
-      (omega (arith, ap (λ (s : Stop). s.delay) c.new-in-loop-leg.ensures, c.loop-leg.invariant.reached, c.longer-delay.ensures, c.gap.ensures.range, c.legs-legs.ensures.kept.few,
-      ap length c.legs-legs.ensures.value, c.loop-leg-test.true)));
+      (omega (
+        arith,
+        ap (λ (s : Stop). s.delay) c.new-in-loop-leg.ensures,
+        c.loop-leg.invariant.reached,
+        c.longer-delay.ensures,
+        c.gap.ensures.range,
+        c.legs-legs.ensures.kept.few,
+        ap length c.legs-legs.ensures.value,
+        c.loop-leg-test.true,
+      )));
   value = stop_more c.loop-leg.stops.items c.push-in-loop-leg.new.self.items _ (c.loop-leg.number + 1) c.loop-leg.leg-index c.leg-item.result c.loop-leg.delay c.longer-delay.result
       c.legs-legs.result.now c.loop-leg-test.true c.leg-item.is (c.longer-delay.ensures ∙ ap (λ floor. c.loop-leg.delay + floor) c.gap.ensures.value)
       (c.in_ok-push-2.ensures.items ∙ ap (λ (s : Stop). c.loop-leg.stops.items ++ s ∷ []) c.new-in-loop-leg.ensures) c.loop-leg.invariant.value;
