@@ -1,15 +1,12 @@
-ghost use Rattle.std.specs.Prelude.{◌≡◌, []};
-
-use crate::desks::{Plan, contract, full, looked, opened, released, reserved, retired, tight};
+use crate::desks::{Row, contract, full, looked, released, reserved, retired, run_over, tight};
 use af_marker::Dscp;
-use ds_broker::{BrokerRefusal, Limits};
-use ds_desk::{Broker, Feed, Front, Granted, LookFault, Naming, Opened};
-use ds_domain_base::{Contract, Domain};
+use ds_broker::BrokerRefusal;
+use ds_desk::{Broker, Feed, Front, Granted, LookFault, Naming};
+use ds_domain_base::Contract;
 use ds_timeline::Timeline;
 use meter_fabric_base::{Numbered, Traveller, Ways};
 use moment_core::{Moment, PacketSize};
 use std::alloc::Global;
-use std::marker::Brand;
 use std::process::Abort;
 use std::sync::Wait;
 
@@ -121,60 +118,29 @@ fn told_of_both<J: Naming, R: Wait + Drop, W: Wait + Abort>(
     drop(told);
 }
 
-/// The two contracts of a broker are sold one after the other, as a feed of it sees.
-fn expect_sales<J: Naming, R: Wait + Drop, W: Wait + Abort>(
-    rt: &W,
+/// The two contracts of a broker are sold one after the other, as a feed of it sees: each refusal stands beside the
+/// newest front, and the feed sees each table once it is there.
+pub fn sold_anew<J: Naming, R: Wait + Abort + Drop>(
+    rt: &R,
     alloc: Global,
-    broker: &Broker<J, R>,
+    broker: Broker<J, R>,
     feed: Feed<J>,
     contracts: &[Contract],
 ) {
-    let feed = first_sold(rt, broker, feed, contract(rt, alloc, contracts, 0));
-    assert_eq!(rt; released(rt, broker, 1, 1_000_000_000), Ok((2, 2)));
-    refused_meanwhile(rt, broker, contract(rt, alloc, contracts, 1));
-    sold_again(rt, broker, contract(rt, alloc, contracts, 1));
-    told_of_both(rt, alloc, broker);
+    let feed = first_sold(rt, &broker, feed, contract(rt, alloc, contracts, 0));
+    assert_eq!(rt; released(rt, &broker, 1, 1_000_000_000), Ok((2, 2)));
+    refused_meanwhile(rt, &broker, contract(rt, alloc, contracts, 1));
+    sold_again(rt, &broker, contract(rt, alloc, contracts, 1));
+    told_of_both(rt, alloc, &broker);
     let (seen, feed) = looked(rt, feed);
     assert_eq!(rt; seen, (4, 1, 1));
     assert_eq!(rt; begun(rt, alloc, feed), (false, true));
-}
-
-/// Each refusal stands beside the newest front, and a feed sees each table once it is there.
-fn sold_anew<J: Naming, R: Wait + Abort + Copy + Drop>(
-    rt: R,
-    alloc: Global,
-    log: Opened,
-    domain: Domain,
-    limits: Limits,
-    contracts: &[Contract],
-)
-    requires log { log ≡ J.log }
-    requires opening { J.opening ≡ record { domain = domain; limits = limits; history = [] } }
-{
-    let (broker, mut feeds) = opened::<J, R>(rt, alloc, log, domain, limits, 1);
-    let feed = feeds.pop().expect(&rt, "one feed");
-    drop(feeds);
-    expect_sales(&rt, alloc, &broker, feed, contracts);
     drop(broker);
 }
 
 #[test]
 fn refusals_stand_beside_the_newest_front(rt: HostRuntime) {
-    let alloc = rt.alloc();
-    let Plan {
-        domain,
-        limits,
-        contracts,
-    } = tight(&rt, alloc);
-    sold_anew::<Brand, _>(
-        rt,
-        alloc,
-        Opened::new(),
-        domain,
-        limits,
-        contracts.as_slice(),
-    );
-    drop(contracts);
+    run_over(rt, rt.alloc(), tight(&rt, rt.alloc()), 1, Row::SoldAnew);
 }
 
 /// A feed sees nothing, and hands itself back, since its desk is gone.
@@ -192,33 +158,14 @@ fn expect_unseen<J: Naming>(rt: &impl Abort, feed: Feed<J>) {
 }
 
 /// A feed outlives its desk, and then hands itself back.
-fn outlived<J: Naming, R: Wait + Abort + Copy + Drop>(
-    rt: R,
-    alloc: Global,
-    log: Opened,
-    domain: Domain,
-    limits: Limits,
-)
-    requires log { log ≡ J.log }
-    requires opening { J.opening ≡ record { domain = domain; limits = limits; history = [] } }
-{
-    let (broker, mut feeds) = opened::<J, R>(rt, alloc, log, domain, limits, 1);
-    let feed = feeds.pop().expect(&rt, "one feed");
-    drop(feeds);
+pub fn outlived<J: Naming, R: Wait + Abort + Drop>(rt: &R, broker: Broker<J, R>, feed: Feed<J>) {
     drop(broker);
-    expect_unseen(&rt, feed);
+    expect_unseen(rt, feed);
 }
 
 #[test]
 fn a_feed_sees_nothing_once_its_desk_is_gone(rt: HostRuntime) {
-    let alloc = rt.alloc();
-    let Plan {
-        domain,
-        limits,
-        contracts,
-    } = tight(&rt, alloc);
-    outlived::<Brand, _>(rt, alloc, Opened::new(), domain, limits);
-    drop(contracts);
+    run_over(rt, rt.alloc(), tight(&rt, rt.alloc()), 1, Row::Outlived);
 }
 
 /// A feed that is taken once a place is free, which knows of the first contract from the beginning.
@@ -237,37 +184,21 @@ fn expect_another<J: Naming, R: Wait + Drop, W: Wait + Abort>(
 }
 
 /// A broker gives another feed once one is gone, and at last its desk.
-fn taken_apart<J: Naming, R: Wait + Abort + Copy + Drop>(
-    rt: R,
-    alloc: Global,
-    log: Opened,
-    domain: Domain,
-    limits: Limits,
-    a: Contract,
-)
-    requires log { log ≡ J.log }
-    requires opening { J.opening ≡ record { domain = domain; limits = limits; history = [] } }
-{
-    let (broker, mut feeds) = opened::<J, R>(rt, alloc, log, domain, limits, 1);
-    let feed = feeds.pop().expect(&rt, "one feed");
-    drop(feeds);
-    assert_eq!(rt; reserved(&rt, &broker, a), Ok((1, 1, 0, 1)));
-    let feed = expect_another(&rt, &broker, feed);
+pub fn taken_apart<J: Naming, R: Wait + Abort + Drop>(
+    rt: &R,
+    broker: Broker<J, R>,
+    feed: Feed<J>,
+    first: Contract,
+) {
+    assert_eq!(rt; reserved(rt, &broker, first), Ok((1, 1, 0, 1)));
+    let feed = expect_another(rt, &broker, feed);
     let desk = broker.into_desk();
     assert_eq!(rt; desk.front().serial().get(), 1);
     drop(desk);
-    expect_unseen(&rt, feed);
+    expect_unseen(rt, feed);
 }
 
 #[test]
 fn a_broker_gives_another_feed_and_its_desk(rt: HostRuntime) {
-    let alloc = rt.alloc();
-    let Plan {
-        domain,
-        limits,
-        contracts,
-    } = tight(&rt, alloc);
-    let a = contract(&rt, alloc, contracts.as_slice(), 0);
-    taken_apart::<Brand, _>(rt, alloc, Opened::new(), domain, limits, a);
-    drop(contracts);
+    run_over(rt, rt.alloc(), tight(&rt, rt.alloc()), 1, Row::TakenApart);
 }

@@ -1,15 +1,11 @@
 //! Packets of contracts whose flows are not their places: others have gone.
-ghost use Rattle.std.specs.Prelude.{◌≡◌, []};
-
-use crate::desks::{Plan, contract, mixed, opened, released, reserved, retired};
+use crate::desks::{Row, contract, mixed, released, reserved, retired, run_over};
 use af_marker::Dscp;
-use ds_broker::Limits;
-use ds_desk::{Broker, Feed, Naming, Opened};
-use ds_domain_base::{Contract, Domain};
+use ds_desk::{Broker, Feed, Naming};
+use ds_domain_base::Contract;
 use meter_fabric_base::{BeginFault, Numbered, Traveller, Ways};
 use moment_core::{Moment, PacketSize};
 use std::alloc::Global;
-use std::marker::Brand;
 use std::process::Abort;
 use std::sync::Wait;
 
@@ -97,40 +93,19 @@ fn expect_seen<J: Naming>(rt: &impl Abort, alloc: Global, feed: Feed<J>) {
 }
 
 /// Packets of the two contracts that stay begin by their flows, and no others.
-fn begun_by_flows<J: Naming, R: Wait + Abort + Copy + Drop>(
-    rt: R,
+pub fn begun_by_flows<J: Naming, R: Wait + Abort + Drop>(
+    rt: &R,
     alloc: Global,
-    log: Opened,
-    domain: Domain,
-    limits: Limits,
+    broker: Broker<J, R>,
+    feed: Feed<J>,
     contracts: &[Contract],
-)
-    requires log { log ≡ J.log }
-    requires opening { J.opening ≡ record { domain = domain; limits = limits; history = [] } }
-{
-    let (broker, mut feeds) = opened::<J, R>(rt, alloc, log, domain, limits, 1);
-    let feed = feeds.pop().expect(&rt, "one feed");
-    drop(feeds);
-    two_stay(&rt, alloc, &broker, contracts);
-    expect_seen(&rt, alloc, feed);
+) {
+    two_stay(rt, alloc, &broker, contracts);
+    expect_seen(rt, alloc, feed);
     drop(broker);
 }
 
 #[test]
 fn packets_begin_by_flows_that_are_not_places(rt: HostRuntime) {
-    let alloc = rt.alloc();
-    let Plan {
-        domain,
-        limits,
-        contracts,
-    } = mixed(&rt, alloc);
-    begun_by_flows::<Brand, _>(
-        rt,
-        alloc,
-        Opened::new(),
-        domain,
-        limits,
-        contracts.as_slice(),
-    );
-    drop(contracts);
+    run_over(rt, rt.alloc(), mixed(&rt, rt.alloc()), 1, Row::BegunByFlows);
 }

@@ -1,7 +1,7 @@
 //! What is answered where a table or a history is full: by a broker, and by `drive`.
 ghost use Rattle.std.specs.Prelude.{◌≡◌, []};
 
-use crate::desks::{Plan, Sold, contract, opened, released, reserved, retired, wide};
+use crate::desks::{Plan, Row, contract, released, reserved, retired, run_over, wide};
 use ds_broker::{BrokerRefusal, Limits};
 use ds_desk::{Broker, Naming, Opened};
 use ds_domain_base::{Contract, Domain};
@@ -12,101 +12,72 @@ use std::marker::Brand;
 use std::process::Abort;
 use std::sync::Wait;
 
-/// The first contract of a broker is granted.
-const GRANTED: Sold = Ok((1, 1, 0, 1));
-
-/// A table of one contract is full: another is refused beside the front of the first.
-fn expect_table_full<J: Naming, R: Wait + Drop, W: Wait + Abort>(
-    rt: &W,
-    alloc: Global,
-    broker: &Broker<J, R>,
-    contracts: &[Contract],
-) {
-    assert_eq!(rt;
-        reserved(rt, broker, contract(rt, alloc, contracts, 0)),
-        GRANTED
-    );
-    let full = reserved(rt, broker, contract(rt, alloc, contracts, 1));
-    assert_eq!(rt; full, Err((BrokerRefusal::TableFull, 1)));
+/// What a broker is full by: its table, or else its history, in which it has room for one or two commands.
+#[derive(Clone, Copy)]
+pub enum Limit {
+    /// By a table of one contract: another is refused beside the front of the first.
+    Table,
+    /// By a history of one command: what was granted is not released any more.
+    OneCommand,
+    /// By a history of two commands: what is refused for itself is told so first.
+    TwoCommands,
 }
 
-/// A history of two commands is full: what is refused for itself is told so first.
-fn expect_history_full<J: Naming, R: Wait + Drop, W: Wait + Abort>(
+/// What a broker answers behind the grant of the first contract, as its limit is: `other` is the second one.
+fn expect_full<J: Naming, R: Wait + Drop, W: Wait + Abort>(
     rt: &W,
-    alloc: Global,
     broker: &Broker<J, R>,
-    contracts: &[Contract],
+    limit: Limit,
+    other: Contract,
 ) {
-    assert_eq!(rt;
-        reserved(rt, broker, contract(rt, alloc, contracts, 0)),
-        GRANTED
-    );
-    assert_eq!(rt; released(rt, broker, 1, 0), Ok((2, 2)));
-    let full = Err((BrokerRefusal::HistoryFull, 2));
-    assert_eq!(rt; retired(rt, broker, 1, 1_000_000_000), full);
-    let again = released(rt, broker, 1, 0);
-    assert_eq!(rt; again, Err((BrokerRefusal::AlreadyReleased, 2)));
-    let other = reserved(rt, broker, contract(rt, alloc, contracts, 1));
-    assert_eq!(rt; other, Err((BrokerRefusal::HistoryFull, 2)));
-}
-
-/// A history of one command is full: what was granted is not released any more.
-fn expect_no_release<J: Naming, R: Wait + Drop, W: Wait + Abort>(
-    rt: &W,
-    alloc: Global,
-    broker: &Broker<J, R>,
-    contracts: &[Contract],
-) {
-    assert_eq!(rt;
-        reserved(rt, broker, contract(rt, alloc, contracts, 0)),
-        GRANTED
-    );
-    let full = released(rt, broker, 1, 0);
-    assert_eq!(rt; full, Err((BrokerRefusal::HistoryFull, 1)));
-    let unknown = released(rt, broker, 9, 0);
-    assert_eq!(rt; unknown, Err((BrokerRefusal::UnknownId, 1)));
-}
-
-/// A broker of the domain is full by its table, or else by its history, in which it has room for one or two commands.
-fn filled<J: Naming, R: Wait + Abort + Copy + Drop>(
-    rt: R,
-    alloc: Global,
-    log: Opened,
-    domain: Domain,
-    limits: Limits,
-    contracts: &[Contract],
-)
-    requires log { log ≡ J.log }
-    requires opening { J.opening ≡ record { domain = domain; limits = limits; history = [] } }
-{
-    let (broker, feeds) = opened::<J, R>(rt, alloc, log, domain, limits, 1);
-    drop(feeds);
-    match (limits.table(), limits.history()) {
-        (1, _) => expect_table_full(&rt, alloc, &broker, contracts),
-        (_, 1) => expect_no_release(&rt, alloc, &broker, contracts),
-        _ => expect_history_full(&rt, alloc, &broker, contracts),
+    match limit {
+        Limit::Table => {
+            let full = reserved(rt, broker, other);
+            assert_eq!(rt; full, Err((BrokerRefusal::TableFull, 1)));
+        }
+        Limit::OneCommand => {
+            drop(other);
+            let full = released(rt, broker, 1, 0);
+            assert_eq!(rt; full, Err((BrokerRefusal::HistoryFull, 1)));
+            let unknown = released(rt, broker, 9, 0);
+            assert_eq!(rt; unknown, Err((BrokerRefusal::UnknownId, 1)));
+        }
+        Limit::TwoCommands => {
+            assert_eq!(rt; released(rt, broker, 1, 0), Ok((2, 2)));
+            let full = Err((BrokerRefusal::HistoryFull, 2));
+            assert_eq!(rt; retired(rt, broker, 1, 1_000_000_000), full);
+            let again = released(rt, broker, 1, 0);
+            assert_eq!(rt; again, Err((BrokerRefusal::AlreadyReleased, 2)));
+            let other = reserved(rt, broker, other);
+            assert_eq!(rt; other, Err((BrokerRefusal::HistoryFull, 2)));
+        }
     }
+}
+
+/// Expects what a broker answers behind the grant of the first contract, as its limit is.
+pub fn filled<J: Naming, R: Wait + Abort + Drop>(
+    rt: &R,
+    alloc: Global,
+    broker: Broker<J, R>,
+    contracts: &[Contract],
+    limit: Limit,
+) {
+    let first = contract(rt, alloc, contracts, 0);
+    let other = contract(rt, alloc, contracts, 1);
+    assert_eq!(rt; reserved(rt, &broker, first), Ok((1, 1, 0, 1)));
+    expect_full(rt, &broker, limit, other);
     drop(broker);
 }
 
 #[test]
 fn full_tables_and_histories_refuse(rt: HostRuntime) {
     let alloc = rt.alloc();
-    for most in [(1, 65_536), (4096, 1), (4096, 2)] {
-        let Plan {
-            domain,
-            limits,
-            contracts,
-        } = wide(&rt, alloc, most);
-        filled::<Brand, _>(
-            rt,
-            alloc,
-            Opened::new(),
-            domain,
-            limits,
-            contracts.as_slice(),
-        );
-        drop(contracts);
+    for (most, limit) in [
+        ((1, 65_536), Limit::Table),
+        ((4096, 1), Limit::OneCommand),
+        ((4096, 2), Limit::TwoCommands),
+    ] {
+        run_over(rt, alloc, wide(&rt, alloc, most), 1, Row::Full(limit));
     }
 }
 
@@ -135,9 +106,9 @@ fn driven<J: Naming, R: Wait + Abort + Copy + Drop>(
 }
 
 /// How many contracts and commands there is room for, lines, and what `drive` answers.
-type Row = ((u32, u32), &'static [&'static str], &'static str);
+type Talk = ((u32, u32), &'static [&'static str], &'static str);
 
-static DRIVEN: [Row; 2] = [
+static DRIVEN: [Talk; 2] = [
     (
         (1, 65_536),
         &["reserve a", "reserve b", "look"],

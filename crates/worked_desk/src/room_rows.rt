@@ -1,12 +1,8 @@
 //! What a broker keeps once most of its contracts are retired.
-ghost use Rattle.std.specs.Prelude.{◌≡◌, []};
-
-use crate::desks::{Plan, contract, many, opened, released, reserved, retired};
-use ds_broker::Limits;
-use ds_desk::{Broker, Naming, Opened};
-use ds_domain_base::{Contract, Domain};
+use crate::desks::{Row, contract, many, released, reserved, retired, run_over};
+use ds_desk::{Broker, Naming};
+use ds_domain_base::Contract;
 use std::alloc::Global;
-use std::marker::Brand;
 use std::process::Abort;
 use std::sync::Wait;
 
@@ -74,42 +70,21 @@ fn expect_much_room<J: Naming, R: Wait + Drop, W: Wait + Abort>(
 }
 
 /// A broker of the domain sells contracts and retires most of them.
-fn shrunk<J: Naming, R: Wait + Abort + Copy + Drop>(
-    rt: R,
+pub fn shrunk<J: Naming, R: Wait + Abort + Drop>(
+    rt: &R,
     alloc: Global,
-    log: Opened,
-    domain: Domain,
-    limits: Limits,
+    broker: Broker<J, R>,
     contracts: &[Contract],
-)
-    requires log { log ≡ J.log }
-    requires opening { J.opening ≡ record { domain = domain; limits = limits; history = [] } }
-{
-    let (broker, feeds) = opened::<J, R>(rt, alloc, log, domain, limits, 1);
-    drop(feeds);
-    sell_all(&rt, alloc, &broker, contracts);
-    expect_little_room(&rt, &broker, 200);
-    expect_much_room(&rt, alloc, &broker);
-    retire_most(&rt, &broker);
-    expect_little_room(&rt, &broker, 3);
+) {
+    sell_all(rt, alloc, &broker, contracts);
+    expect_little_room(rt, &broker, 200);
+    expect_much_room(rt, alloc, &broker);
+    retire_most(rt, &broker);
+    expect_little_room(rt, &broker, 3);
     drop(broker);
 }
 
 #[test]
 fn a_table_that_shrank_far_gives_its_room_back(rt: HostRuntime) {
-    let alloc = rt.alloc();
-    let Plan {
-        domain,
-        limits,
-        contracts,
-    } = many(&rt, alloc);
-    shrunk::<Brand, _>(
-        rt,
-        alloc,
-        Opened::new(),
-        domain,
-        limits,
-        contracts.as_slice(),
-    );
-    drop(contracts);
+    run_over(rt, rt.alloc(), many(&rt, rt.alloc()), 1, Row::Shrunk);
 }

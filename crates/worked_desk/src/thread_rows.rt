@@ -1,12 +1,9 @@
-ghost use Rattle.std.specs.Prelude.{◌≡◌, []};
-
-use crate::desks::{Plan, contract, four, full, opened, tight};
-use ds_broker::{BrokerRefusal, Grant, Limits};
-use ds_desk::{Broker, Feed, Front, Naming, Opened};
-use ds_domain_base::{Contract, Domain};
+use crate::desks::{Row, contract, four, full, run_over, tight};
+use ds_broker::{BrokerRefusal, Grant};
+use ds_desk::{Broker, Feed, Front, Naming};
+use ds_domain_base::Contract;
 use moment_core::Moment;
 use std::alloc::Global;
-use std::marker::Brand;
 use std::process::Abort;
 use std::sync::Wait;
 use std::thread::{Threads, join, map_vec};
@@ -78,59 +75,24 @@ fn expect_one_seen<J: Naming>(rt: &impl Abort, feed: Feed<J>) {
 }
 
 /// Two callers reserve at once what the domain can carry one of: one is granted, and a feed that learns it sees it.
-fn expect_one_grant<J: Naming + Send + Sync, R: Wait + Drop + Send + Sync, W>(
-    rt: &W,
+pub fn one_of_two<J: Naming + Send + Sync, R: Threads + Wait + Abort + Drop + Send + Sync>(
+    rt: &R,
     alloc: Global,
-    broker: &Broker<J, R>,
+    broker: Broker<J, R>,
     feed: Feed<J>,
     contracts: &[Contract],
-)
-where
-    W: Threads + Wait + Abort + Sync,
-{
-    let (front, refusal) = sell_both(rt, alloc, broker, contracts);
+) {
+    let (front, refusal) = sell_both(rt, alloc, &broker, contracts);
     expect_one_seen(rt, feed.learn(&front));
     drop(front);
     assert_eq!(rt; refusal, full(rt));
-}
-
-/// The same at a broker of the domain.
-fn one_of_two<J: Naming + Send + Sync, R: Threads + Wait + Abort + Copy + Drop + Send + Sync>(
-    rt: R,
-    alloc: Global,
-    log: Opened,
-    domain: Domain,
-    limits: Limits,
-    contracts: &[Contract],
-)
-    requires log { log ≡ J.log }
-    requires opening { J.opening ≡ record { domain = domain; limits = limits; history = [] } }
-{
-    let (broker, mut feeds) = opened::<J, R>(rt, alloc, log, domain, limits, 1);
-    let feed = feeds.pop().expect(&rt, "one feed");
-    drop(feeds);
-    expect_one_grant(&rt, alloc, &broker, feed, contracts);
     drop(broker);
 }
 
 #[test]
 fn of_two_callers_one_is_granted(rt: HostRuntime) {
-    let alloc = rt.alloc();
     for _ in 0..50 {
-        let Plan {
-            domain,
-            limits,
-            contracts,
-        } = tight(&rt, alloc);
-        one_of_two::<Brand, _>(
-            rt,
-            alloc,
-            Opened::new(),
-            domain,
-            limits,
-            contracts.as_slice(),
-        );
-        drop(contracts);
+        run_over(rt, rt.alloc(), tight(&rt, rt.alloc()), 1, Row::OneOfTwo);
     }
 }
 
@@ -374,38 +336,25 @@ fn expect_gathered<J: Naming>(rt: &impl Abort, gathered: Gathered<J>) {
 }
 
 /// Four callers sell beside four feeds: all ids differ, and each feed sees all that was accepted.
-fn four_beside_four<J: Naming + Send + Sync, R: Threads + Wait + Abort + Copy + Drop + Send + Sync>(
-    rt: R,
+pub fn four_beside_four<J: Naming + Send + Sync, R: Threads + Wait + Abort + Drop + Send + Sync>(
+    rt: &R,
     alloc: Global,
-    log: Opened,
-    domain: Domain,
-    limits: Limits,
+    broker: Broker<J, R>,
+    feeds: Vec<Feed<J>>,
     contracts: &[Contract],
-)
-    requires log { log ≡ J.log }
-    requires opening { J.opening ≡ record { domain = domain; limits = limits; history = [] } }
-{
-    let (broker, feeds) = opened::<J, R>(rt, alloc, log, domain, limits, 4);
-    let gathered = sell_beside(&rt, alloc, &broker, contracts, feeds);
-    expect_gathered(&rt, gathered);
+) {
+    let gathered = sell_beside(rt, alloc, &broker, contracts, feeds);
+    expect_gathered(rt, gathered);
     drop(broker);
 }
 
 #[test]
 fn four_callers_sell_beside_four_feeds(rt: HostRuntime) {
-    let alloc = rt.alloc();
-    let Plan {
-        domain,
-        limits,
-        contracts,
-    } = four(&rt, alloc);
-    four_beside_four::<Brand, _>(
+    run_over(
         rt,
-        alloc,
-        Opened::new(),
-        domain,
-        limits,
-        contracts.as_slice(),
+        rt.alloc(),
+        four(&rt, rt.alloc()),
+        4,
+        Row::FourBesideFour,
     );
-    drop(contracts);
 }
