@@ -1,4 +1,4 @@
-use crate::rows::{Done, run};
+use crate::rows::{Done, Wanted, expect_done, run};
 use dsedge_texts::MemoryFolder;
 use pcap_capture::{SliceIntake, VecOutlet};
 use std::alloc::{AllocError, Global};
@@ -21,20 +21,37 @@ fn run_drive(
     run(rt, alloc, "drive domain.toml", folder, intake, output)
 }
 
-/// Expects of `drive` on lines, over a domain, an output, what is told, and a status.
+/// Expects of `drive` on lines, over a domain, what it leaves behind.
 pub(crate) fn expect_of_drive(
     rt: &(impl Abort + Wait + Threads + Sync),
     alloc: Global,
     (domain, lines): (&str, &str),
-    (output, told, status): (&str, &str, u8),
+    wanted: Wanted<'_>,
 ) -> Result<(), Fail> {
     let intake = SliceIntake::new(lines.as_bytes());
     let outlet = VecOutlet::new(Vec::new(alloc));
     let done = run_drive(rt, alloc, domain, intake, outlet)?;
-    assert_eq!(rt; done.output.as_slice(), output.as_bytes(), "{lines}");
-    assert_eq!(rt; done.told.as_slice(), told.as_bytes(), "{lines}");
-    assert_eq!(rt; done.status, status, "{lines}");
+    expect_done(rt, ("drive", lines), &done, wanted);
     Ok(())
+}
+
+/// Expects of `drive`, over a domain, an answer to each line.
+pub(crate) fn expect_answers(
+    rt: &(impl Abort + Wait + Threads + Sync),
+    alloc: Global,
+    domain: &str,
+    answered: &[(&str, &str)],
+) -> Result<(), Fail> {
+    let mut lines = String::new(alloc);
+    let mut answers = String::new(alloc);
+    for (line, answer) in answered {
+        lines.push_str(line)?;
+        lines.push('\n')?;
+        answers.push_str(answer)?;
+        answers.push('\n')?;
+    }
+    let wanted = (answers.as_str(), "", 0);
+    expect_of_drive(rt, alloc, (domain, lines.as_str()), wanted)
 }
 
 #[test]
@@ -65,22 +82,8 @@ const SOLD_AGAIN: [(&str, &str); 14] = [
 
 #[test]
 fn a_share_is_sold_again_once_its_hold_has_passed(rt: HostRuntime) -> Result<(), Fail> {
-    let alloc = rt.alloc();
-    let mut lines = String::new(alloc);
-    let mut answers = String::new(alloc);
-    for (line, answer) in SOLD_AGAIN {
-        lines.push_str(line)?;
-        lines.push('\n')?;
-        answers.push_str(answer)?;
-        answers.push('\n')?;
-    }
-    let domain = tight(alloc)?;
-    expect_of_drive(
-        &rt,
-        alloc,
-        (domain.as_str(), lines.as_str()),
-        (answers.as_str(), "", 0),
-    )
+    let domain = tight(rt.alloc())?;
+    expect_answers(&rt, rt.alloc(), domain.as_str(), &SOLD_AGAIN)
 }
 
 /// Lines that ask for nothing, the empty one first.
@@ -132,10 +135,8 @@ fn answers_before_a_read_that_fails(rt: HostRuntime) -> Result<(), Fail> {
     };
     let outlet = VecOutlet::new(Vec::new(rt.alloc()));
     let done = run_drive(&rt, rt.alloc(), domain.as_str(), intake, outlet)?;
-    let answers = b"granted 1 1 0\ngranted 2 2 0\n";
-    assert_eq!(rt; done.output.as_slice(), answers.as_slice());
-    assert_eq!(rt; done.told.as_slice(), b"dsedge: read\n".as_slice());
-    assert_eq!(rt; done.status, 4);
+    let wanted = ("granted 1 1 0\ngranted 2 2 0\n", "dsedge: read\n", 4);
+    expect_done(&rt, ("drive", "three lines"), &done, wanted);
     Ok(())
 }
 
@@ -161,10 +162,6 @@ fn a_table_is_seen_however_long_it_is(rt: HostRuntime) -> Result<(), Fail> {
     let mut lines = String::new(rt.alloc());
     let mut answers = String::new(rt.alloc());
     most_sales(&mut lines, &mut answers)?;
-    expect_of_drive(
-        &rt,
-        rt.alloc(),
-        (domain.as_str(), lines.as_str()),
-        (answers.as_str(), "", 0),
-    )
+    let asked = (domain.as_str(), lines.as_str());
+    expect_of_drive(&rt, rt.alloc(), asked, (answers.as_str(), "", 0))
 }

@@ -1,4 +1,4 @@
-use crate::rows::{expect_of_audit, expect_of_check, run_on_domain};
+use crate::rows::{expect_of_audit, expect_of_check, expect_on_domain};
 use std::alloc::{AllocError, Global};
 use std::process::Abort;
 use std::sync::Wait;
@@ -27,10 +27,8 @@ fn expect_least(
     certificate: &str,
     (output, status): (&str, u8),
 ) -> Result<(), Fail> {
-    let done = run_on_domain(rt, alloc, "certify domain.toml", domain)?;
-    assert_eq!(rt; done.output.as_slice(), certificate.as_bytes());
-    assert!(rt; done.told.is_empty());
-    assert_eq!(rt; done.status, 0);
+    let asked = ("certify domain.toml", domain);
+    expect_on_domain(rt, alloc, asked, (certificate, "", 0))?;
     expect_of_check(rt, alloc, (domain, certificate), (output, "", status))
 }
 

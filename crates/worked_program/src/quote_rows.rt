@@ -1,25 +1,7 @@
-use crate::drive_rows::expect_of_drive;
-use crate::rows::run_on_domain;
-use std::alloc::Global;
-use std::process::Abort;
-use std::sync::Wait;
+use crate::drive_rows::expect_answers;
+use crate::rows::expect_on_domain;
 use std::test::Fail;
-use std::thread::Threads;
 use worked_texts::{tight, wide};
-
-/// Expects of words on a domain an output, what is told, and a status.
-fn expect_on_domain(
-    rt: &(impl Abort + Wait + Threads + Sync),
-    alloc: Global,
-    (words, domain): (&str, &str),
-    (output, told, status): (&str, &str, u8),
-) -> Result<(), Fail> {
-    let done = run_on_domain(rt, alloc, words, domain)?;
-    assert_eq!(rt; done.output.as_slice(), output.as_bytes(), "{words}");
-    assert_eq!(rt; done.told.as_slice(), told.as_bytes(), "{words}");
-    assert_eq!(rt; done.status, status, "{words}");
-    Ok(())
-}
 
 #[test]
 fn what_is_left_at_the_meters(rt: HostRuntime) -> Result<(), Fail> {
@@ -87,20 +69,6 @@ const QUOTED: [(&str, &str); 10] = [
 
 #[test]
 fn quotes_of_a_broker(rt: HostRuntime) -> Result<(), Fail> {
-    let alloc = rt.alloc();
-    let mut lines = String::new(alloc);
-    let mut answers = String::new(alloc);
-    for (line, answer) in QUOTED {
-        lines.push_str(line)?;
-        lines.push('\n')?;
-        answers.push_str(answer)?;
-        answers.push('\n')?;
-    }
-    let domain = tight(alloc)?;
-    expect_of_drive(
-        &rt,
-        alloc,
-        (domain.as_str(), lines.as_str()),
-        (answers.as_str(), "", 0),
-    )
+    let domain = tight(rt.alloc())?;
+    expect_answers(&rt, rt.alloc(), domain.as_str(), &QUOTED)
 }

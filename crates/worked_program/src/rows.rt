@@ -1,6 +1,6 @@
 use dsedge_serve::{Advice, start};
 use dsedge_texts::MemoryFolder;
-use pcap_capture::{SliceIntake, VecOutlet};
+use pcap_capture::{MOST_CALLS, SliceIntake, VecOutlet};
 use std::alloc::{AllocError, Global};
 use std::process::Abort;
 use std::sync::Wait;
@@ -56,29 +56,41 @@ pub(crate) fn run(
     })
 }
 
-/// Expects of the program on words and an input an output, what is told, and a status.
+/// What is wanted of the program: an output, what is told, and a status.
+pub(crate) type Wanted<'a> = (&'a str, &'a str, u8);
+
+/// Expects of the program, by what it was asked, what it left behind.
+pub(crate) fn expect_done(
+    rt: &impl Abort,
+    asked: (&str, &str),
+    done: &Done,
+    (output, told, status): Wanted<'_>,
+) {
+    assert_eq!(rt; (asked, done.output.as_slice()), (asked, output.as_bytes()));
+    assert_eq!(rt; (asked, done.told.as_slice()), (asked, told.as_bytes()));
+    assert_eq!(rt; (asked, done.status), (asked, status));
+}
+
+/// The program on words and an input, without files.
+fn run_bare(
+    rt: &(impl Wait + Threads + Sync),
+    alloc: Global,
+    words: &str,
+    intake: SliceIntake,
+) -> Result<Done, Fail> {
+    let output = VecOutlet::new(Vec::new(alloc));
+    run(rt, alloc, words, NO_FILES, intake, output)
+}
+
+/// Expects of the program on words and an input what it leaves behind.
 fn expect(
     rt: &(impl Abort + Wait + Threads + Sync),
     alloc: Global,
     (words, input): (&str, &str),
-    (output, told, status): (&str, &str, u8),
+    wanted: Wanted<'_>,
 ) -> Result<(), Fail> {
-    let intake = SliceIntake::new(input.as_bytes());
-    let done = run(
-        rt,
-        alloc,
-        words,
-        NO_FILES,
-        intake,
-        VecOutlet::new(Vec::new(alloc)),
-    )?;
-    assert_eq!(rt;
-        done.output.as_slice(),
-        output.as_bytes(),
-        "{words}: {input}"
-    );
-    assert_eq!(rt; done.told.as_slice(), told.as_bytes(), "{words}: {input}");
-    assert_eq!(rt; done.status, status, "{words}: {input}");
+    let done = run_bare(rt, alloc, words, SliceIntake::new(input.as_bytes()))?;
+    expect_done(rt, (words, input), &done, wanted);
     Ok(())
 }
 
@@ -118,9 +130,7 @@ fn many_arrivals(rt: &impl Abort, alloc: Global) -> String {
 #[test]
 fn a_meter_keeps_no_row_and_has_no_end(rt: HostRuntime) -> Result<(), Fail> {
     let text = many_arrivals(&rt, rt.alloc());
-    let intake = SliceIntake::new(text.as_bytes());
-    let output = VecOutlet::new(Vec::new(rt.alloc()));
-    let done = run(&rt, rt.alloc(), BLIND, NO_FILES, intake, output)?;
+    let done = run_bare(&rt, rt.alloc(), BLIND, SliceIntake::new(text.as_bytes()))?;
     let accounts = b"red\ngreen 1500 1500\nyellow 1500 1500\nred 1045577 1045577\n";
     assert!(rt; done.output.ends_with(accounts));
     assert_eq!(rt; done.status, 0);
@@ -138,19 +148,11 @@ fn expect_no_arrival(
     line: &str,
 ) -> Result<(), Fail> {
     let first = format!(in alloc; "{line}\n0 1 g\n")?;
-    expect(
-        rt,
-        alloc,
-        (BLIND, first.as_str()),
-        ("", "dsedge: line 1\n", 3),
-    )?;
+    let none = ("", "dsedge: line 1\n", 3);
+    expect(rt, alloc, (BLIND, first.as_str()), none)?;
     let second = format!(in alloc; "0 1 g\n{line}\n")?;
-    expect(
-        rt,
-        alloc,
-        (BLIND, second.as_str()),
-        ("green\n", "dsedge: line 2\n", 3),
-    )
+    let one = ("green\n", "dsedge: line 2\n", 3);
+    expect(rt, alloc, (BLIND, second.as_str()), one)
 }
 
 #[test]
@@ -258,46 +260,32 @@ fn words_on_the_first_line(rt: HostRuntime) -> Result<(), Fail> {
     Ok(())
 }
 
-#[test]
-fn a_read_that_fails(rt: HostRuntime) -> Result<(), Fail> {
+/// Expects of three arrivals that a device gives two of, that these are answered, and that the fault is told.
+fn expect_two_read(
+    rt: &(impl Abort + Wait + Threads + Sync),
+    alloc: Global,
+    (fails_at, calls): (Option<u64>, u64),
+) -> Result<(), Fail> {
     let intake = SliceIntake {
         most: 9,
-        fails_at: Some(3),
+        fails_at,
+        calls,
         ..SliceIntake::new(b"0 1500 g\n0 1500 g\n0 1500 g\n")
     };
-    let done = run(
-        &rt,
-        rt.alloc(),
-        BLIND,
-        NO_FILES,
-        intake,
-        VecOutlet::new(Vec::new(rt.alloc())),
-    )?;
-    assert_eq!(rt; done.output.as_slice(), b"green\nyellow\n".as_slice());
-    assert_eq!(rt; done.told.as_slice(), b"dsedge: read\n".as_slice());
-    assert_eq!(rt; done.status, 4);
+    let done = run_bare(rt, alloc, BLIND, intake)?;
+    let wanted = ("green\nyellow\n", "dsedge: read\n", 4);
+    expect_done(rt, (BLIND, "three arrivals"), &done, wanted);
     Ok(())
 }
 
 #[test]
+fn a_read_that_fails(rt: HostRuntime) -> Result<(), Fail> {
+    expect_two_read(&rt, rt.alloc(), (Some(3), MOST_CALLS))
+}
+
+#[test]
 fn an_input_that_is_spent(rt: HostRuntime) -> Result<(), Fail> {
-    let intake = SliceIntake {
-        most: 9,
-        calls: 2,
-        ..SliceIntake::new(b"0 1500 g\n0 1500 g\n0 1500 g\n")
-    };
-    let done = run(
-        &rt,
-        rt.alloc(),
-        BLIND,
-        NO_FILES,
-        intake,
-        VecOutlet::new(Vec::new(rt.alloc())),
-    )?;
-    assert_eq!(rt; done.output.as_slice(), b"green\nyellow\n".as_slice());
-    assert_eq!(rt; done.told.as_slice(), b"dsedge: read\n".as_slice());
-    assert_eq!(rt; done.status, 4);
-    Ok(())
+    expect_two_read(&rt, rt.alloc(), (None, 2))
 }
 
 #[test]
@@ -311,17 +299,9 @@ fn a_write_that_fails(rt: HostRuntime) -> Result<(), Fail> {
             fails_at: Some(2),
             ..VecOutlet::new(Vec::new(rt.alloc()))
         };
-        let done = run(
-            &rt,
-            rt.alloc(),
-            words,
-            NO_FILES,
-            SliceIntake::new(input.as_bytes()),
-            output,
-        )?;
-        assert_eq!(rt; done.output.as_slice(), front.as_bytes());
-        assert_eq!(rt; done.told.as_slice(), b"dsedge: write\n".as_slice());
-        assert_eq!(rt; done.status, 4);
+        let intake = SliceIntake::new(input.as_bytes());
+        let done = run(&rt, rt.alloc(), words, NO_FILES, intake, output)?;
+        expect_done(&rt, (words, input), &done, (front, "dsedge: write\n", 4));
     }
     Ok(())
 }
@@ -366,6 +346,18 @@ pub(crate) fn run_on_domain(
     run(rt, alloc, words, folder, SliceIntake::new(b""), output)
 }
 
+/// Expects of the program on words, with that file, what it leaves behind.
+pub(crate) fn expect_on_domain(
+    rt: &(impl Abort + Wait + Threads + Sync),
+    alloc: Global,
+    (words, domain): (&str, &str),
+    wanted: Wanted<'_>,
+) -> Result<(), Fail> {
+    let done = run_on_domain(rt, alloc, words, domain)?;
+    expect_done(rt, (words, domain), &done, wanted);
+    Ok(())
+}
+
 #[test]
 fn least_certificates(rt: HostRuntime) -> Result<(), Fail> {
     let trusted: &[&str] = &ALONE;
@@ -382,17 +374,15 @@ fn least_certificates(rt: HostRuntime) -> Result<(), Fail> {
         ),
     ] {
         let domain = domain_text(rt.alloc(), (500_000, skew), jitter, contract)?;
-        let done = run_on_domain(&rt, rt.alloc(), "certify domain.toml", domain.as_str())?;
-        assert_eq!(rt; done.output.as_slice(), certificate.as_bytes());
-        assert!(rt; done.told.is_empty());
-        assert_eq!(rt; done.status, 0);
+        let asked = ("certify domain.toml", domain.as_str());
+        expect_on_domain(&rt, rt.alloc(), asked, (certificate, "", 0))?;
     }
     Ok(())
 }
 
 #[test]
 fn faults_of_domains_and_files(rt: HostRuntime) -> Result<(), Fail> {
-    for (words, domain, (output, told, status)) in [
+    for (words, domain, wanted) in [
         ("certify domain.toml", "", ("dscert 1\n", "", 0)),
         (
             "certify domain.toml",
@@ -411,10 +401,7 @@ fn faults_of_domains_and_files(rt: HostRuntime) -> Result<(), Fail> {
         ),
         ("certify other.toml [", "[", ("", "dsedge: usage\n", 2)),
     ] {
-        let done = run_on_domain(&rt, rt.alloc(), words, domain)?;
-        assert_eq!(rt; done.output.as_slice(), output.as_bytes(), "{words}");
-        assert_eq!(rt; done.told.as_slice(), told.as_bytes(), "{words}");
-        assert_eq!(rt; done.status, status, "{words}");
+        expect_on_domain(&rt, rt.alloc(), (words, domain), wanted)?;
     }
     Ok(())
 }
@@ -440,24 +427,16 @@ const ALL_BUT_THE_LAST: &str =
 const LEAST_OF_THREE: &str =
     "dscert 1\na 0 3000 3000\na 1 4000 4000\nb 0 3000 3000\nb 1 4000 4000\nc 0 3000 3000\nc 1 4000 4000";
 
-/// Expects of `check` on a domain and a certificate an output, what is told, and a status.
+/// Expects of `check` on a domain and a certificate what it leaves behind.
 pub(crate) fn expect_of_check(
     rt: &(impl Abort + Wait + Threads + Sync),
     alloc: Global,
     (domain, certificate): (&str, &str),
-    (output, told, status): (&str, &str, u8),
+    wanted: Wanted<'_>,
 ) -> Result<(), Fail> {
-    let files = [
-        ("domain.toml", domain.as_bytes()),
-        ("domain.cert", certificate.as_bytes()),
-    ];
-    let folder = MemoryFolder { files: &files };
-    let outlet = VecOutlet::new(Vec::new(alloc));
     let words = "check domain.toml domain.cert";
-    let done = run(rt, alloc, words, folder, SliceIntake::new(b""), outlet)?;
-    assert_eq!(rt; done.output.as_slice(), output.as_bytes());
-    assert_eq!(rt; done.told.as_slice(), told.as_bytes());
-    assert_eq!(rt; done.status, status);
+    let done = run_on_table(rt, alloc, words, domain, certificate.as_bytes(), b"")?;
+    expect_done(rt, (words, certificate), &done, wanted);
     Ok(())
 }
 
@@ -574,56 +553,72 @@ fn run_audit(
 }
 
 /// Expects of `audit` on steps, over a domain with its least certificate, how the output begins, what is told, and a
-/// status.
-pub(crate) fn expect_of_audit(
+/// status. The name says what the row is about.
+fn expect_named_audit(
     rt: &(impl Abort + Wait + Threads + Sync),
     alloc: Global,
+    name: &str,
     (domain, steps): (&str, &str),
-    (beginning, told, status): (&str, &str, u8),
+    (beginning, told, status): Wanted<'_>,
 ) -> Result<(), Fail> {
     let least = run_on_domain(rt, alloc, "certify domain.toml", domain)?;
     let done = run_audit(rt, alloc, domain, least.output.as_slice(), steps)?;
-    assert!(rt; done.output.as_slice().starts_with(beginning.as_bytes()));
-    assert_eq!(rt; done.told.as_slice(), told.as_bytes());
-    assert_eq!(rt; done.status, status);
+    let begins = done.output.as_slice().starts_with(beginning.as_bytes());
+    assert_eq!(rt; (name, begins), (name, true));
+    assert_eq!(rt; (name, done.told.as_slice()), (name, told.as_bytes()));
+    assert_eq!(rt; (name, done.status), (name, status));
     Ok(())
 }
 
-/// A domain of a trusted contract, with a meter that keeps time within 100 ns.
-fn close_clock(alloc: Global) -> Result<String, AllocError> {
-    domain_text(alloc, (100, 0), 0, &ALONE)
+/// The same of a row that its steps name.
+pub(crate) fn expect_of_audit(
+    rt: &(impl Abort + Wait + Threads + Sync),
+    alloc: Global,
+    asked: (&str, &str),
+    wanted: Wanted<'_>,
+) -> Result<(), Fail> {
+    expect_named_audit(rt, alloc, asked.1, asked, wanted)
 }
 
-#[test]
-fn a_visit_late_by_the_skew_is_kept(rt: HostRuntime) -> Result<(), Fail> {
-    let domain = close_clock(rt.alloc())?;
-    let steps = "send a 1 100 10 1000\nvisit 1 1000\nsend a 2 100 10 900\nvisit 2 900\n";
-    let kept = ("kept\nm green 2 200 yellow 0 0 red 0 0\n", "", 0);
-    expect_of_audit(&rt, rt.alloc(), (domain.as_str(), steps), kept)
-}
+/// What a row is about, steps over a domain of a trusted contract, how what comes of them begins, and the status.
+type Audited = (&'static str, &'static str, &'static str, u8);
+
+/// The meter of these keeps time within 100 ns, and its link takes no longer.
+static WITHIN_A_CLOSE_SKEW: [Audited; 4] = [
+    (
+        "a visit late by the skew is kept",
+        "send a 1 100 10 1000\nvisit 1 1000\nsend a 2 100 10 900\nvisit 2 900\n",
+        "kept\nm green 2 200 yellow 0 0 red 0 0\n",
+        0,
+    ),
+    (
+        "a visit later than the skew is late",
+        "send a 1 100 10 1000\nvisit 1 1000\nsend a 2 100 10 899\nvisit 2 899\n",
+        "late m 1 101\n",
+        1,
+    ),
+    (
+        "a link that takes too long",
+        "send a 1 100 10 1000\nvisit 1 1001\n",
+        "delay-over 1 1\n",
+        1,
+    ),
+    (
+        "a source over its contract",
+        "send a 1 1500 10 0\nsend a 2 1500 10 0\nsend a 3 1 10 0\n",
+        "source-over a green 3\n",
+        1,
+    ),
+];
 
 #[test]
-fn a_visit_later_than_the_skew_is_late(rt: HostRuntime) -> Result<(), Fail> {
-    let domain = close_clock(rt.alloc())?;
-    let steps = "send a 1 100 10 1000\nvisit 1 1000\nsend a 2 100 10 899\nvisit 2 899\n";
-    let late = ("late m 1 101\n", "", 1);
-    expect_of_audit(&rt, rt.alloc(), (domain.as_str(), steps), late)
-}
-
-#[test]
-fn a_link_that_takes_too_long(rt: HostRuntime) -> Result<(), Fail> {
-    let domain = close_clock(rt.alloc())?;
-    let steps = "send a 1 100 10 1000\nvisit 1 1001\n";
-    let over = ("delay-over 1 1\n", "", 1);
-    expect_of_audit(&rt, rt.alloc(), (domain.as_str(), steps), over)
-}
-
-#[test]
-fn a_source_over_its_contract(rt: HostRuntime) -> Result<(), Fail> {
-    let domain = close_clock(rt.alloc())?;
-    let steps = "send a 1 1500 10 0\nsend a 2 1500 10 0\nsend a 3 1 10 0\n";
-    let over = ("source-over a green 3\n", "", 1);
-    expect_of_audit(&rt, rt.alloc(), (domain.as_str(), steps), over)
+fn visits_within_a_close_skew(rt: HostRuntime) -> Result<(), Fail> {
+    let domain = domain_text(rt.alloc(), (100, 0), 0, &ALONE)?;
+    for (name, steps, beginning, status) in &WITHIN_A_CLOSE_SKEW {
+        let asked = (domain.as_str(), *steps);
+        expect_named_audit(&rt, rt.alloc(), name, asked, (beginning, "", *status))?;
+    }
+    Ok(())
 }
 
 #[test]
