@@ -121,3 +121,16 @@ pub(crate) fn ask_of_table(
     ];
     ask(rt, alloc, words, &files, input, output, digest)
 }
+
+/// What `certify` answers on a domain.
+pub(crate) fn certify(
+    rt: &(impl Wait + Threads + Sync),
+    alloc: Global,
+    domain: &str,
+    digest: &mut Digest,
+) -> Result<Vec<u8>, AllocError> {
+    let words = "certify domain.toml";
+    let mut output = Vec::new(alloc);
+    ask_of_domain(rt, alloc, words, domain, b"", &mut output, digest)?;
+    Ok(output)
+}

@@ -1,9 +1,9 @@
 //! Runs of packets along paths of one to four meters, some of them policed at their edge, told step by step.
 ghost use Rattle.std.specs.Prelude.{◌≤◌};
 
-use crate::asking::{ask_of_domain, ask_of_table};
+use crate::asking::{ask_of_table, certify};
 use crate::digest::Digest;
-use crate::domains::{path_from, push_link, push_meter, push_port, push_trusted, push_way};
+use crate::domains::{path_from, push_link, push_sites, push_trusted, push_way};
 use crate::numbers::{Numbers, shuffled};
 use line_text::push_number;
 use std::alloc::{AllocError, Global};
@@ -13,6 +13,9 @@ use std::thread::Threads;
 const METERS: u64 = 10;
 
 const CONTRACTS: u64 = 100;
+
+/// The floor and the jitter of each link, in nanoseconds.
+const DELAYS: [u64; 2] = [2_000, 2_000];
 
 /// How far apart packets are sent, in nanoseconds.
 const GAP: u64 = 1_000;
@@ -39,20 +42,15 @@ fn push_name(text: &mut Vec<u8>, contract: u64) -> Result<(), AllocError> {
 
 fn push_links(text: &mut String) -> Result<(), AllocError> {
     for meter in 0..METERS {
-        push_link(text, ("p", 0), meter, [2_000, 2_000])?;
+        push_link(text, ("p", 0), meter, DELAYS)?;
         for stride in 1..=3 {
-            push_link(
-                text,
-                ("m", meter),
-                (meter + stride) % METERS,
-                [2_000, 2_000],
-            )?;
+            push_link(text, ("m", meter), (meter + stride) % METERS, DELAYS)?;
         }
     }
     Ok(())
 }
 
-fn push_contract(
+fn push_site_contract(
     text: &mut String,
     path: &mut Vec<u64>,
     numbers: &mut Numbers,
@@ -77,18 +75,11 @@ fn push_contract(
 fn domain_of(alloc: Global, numbers: &mut Numbers) -> Result<String, AllocError> {
     let mut text = String::new(alloc);
     let mut path = Vec::new(alloc);
-    for meter in 0..METERS {
-        push_meter(
-            &mut text,
-            meter,
-            [20_000_000_000, 4_000_000, 20_000_000_000, 4_000_000],
-            20_000,
-        )?;
-    }
-    push_port(&mut text, 0, 1_000)?;
+    let figures = [20_000_000_000, 4_000_000, 20_000_000_000, 4_000_000];
+    push_sites(&mut text, METERS, figures, 20_000)?;
     push_links(&mut text)?;
     for contract in 0..CONTRACTS {
-        push_contract(&mut text, &mut path, numbers, contract)?;
+        push_site_contract(&mut text, &mut path, numbers, contract)?;
     }
     Ok(text)
 }
@@ -238,16 +229,7 @@ pub(crate) fn audit(
 ) -> Result<(), AllocError> {
     for run in 0..runs {
         let domain = domain_of(alloc, numbers)?;
-        let mut certificate = Vec::new(alloc);
-        ask_of_domain(
-            rt,
-            alloc,
-            "certify domain.toml",
-            domain.as_str(),
-            b"",
-            &mut certificate,
-            digest,
-        )?;
+        let certificate = certify(rt, alloc, domain.as_str(), digest)?;
         let steps = steps_of(alloc, numbers, packets, run % 2 == 1)?;
         let mut output = Vec::new(alloc);
         let table = (domain.as_str(), certificate.as_slice());

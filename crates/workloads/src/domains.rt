@@ -21,6 +21,19 @@ pub(crate) fn push_port(text: &mut String, port: u64, skew: u64) -> Result<(), A
     writeln!(text, "[[port]]\nname = \"p{port}\"\nskew = {skew}\n")
 }
 
+/// So many meters that are alike, and one port.
+pub(crate) fn push_sites(
+    text: &mut String,
+    meters: u64,
+    figures: [u64; 4],
+    skew: u64,
+) -> Result<(), AllocError> {
+    for meter in 0..meters {
+        push_meter(text, meter, figures, skew)?;
+    }
+    push_port(text, 0, 1_000)
+}
+
 /// A link from a port (`p`) or a meter (`m`).
 pub(crate) fn push_link(
     text: &mut String,

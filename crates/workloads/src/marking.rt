@@ -2,10 +2,10 @@
 //! held.
 ghost use Rattle.std.specs.Prelude.{◌<◌};
 
-use crate::asking::{ask_of_domain, ask_of_table};
+use crate::asking::{ask_of_table, certify};
 use crate::capturing::{Stamps, Traffic, capture};
 use crate::digest::Digest;
-use crate::domains::{push_link, push_meter, push_port, push_trusted, push_way};
+use crate::domains::{push_link, push_sites, push_trusted, push_way};
 use crate::numbers::Numbers;
 use std::alloc::{AllocError, Global};
 use std::sync::Wait;
@@ -76,15 +76,8 @@ fn push_rule(text: &mut String, contract: u64) -> Result<(), AllocError> {
 /// The text of a domain of a hundred contracts over ten meters, each over two.
 fn hundred(alloc: Global) -> Result<String, AllocError> {
     let mut text = String::new(alloc);
-    for meter in 0..METERS {
-        push_meter(
-            &mut text,
-            meter,
-            [200_000_000, 200_000, 300_000_000, 400_000],
-            1_000,
-        )?;
-    }
-    push_port(&mut text, 0, 1_000)?;
+    let figures = [200_000_000, 200_000, 300_000_000, 400_000];
+    push_sites(&mut text, METERS, figures, 1_000)?;
     push_links(&mut text)?;
     for contract in 0..CONTRACTS {
         let first = contract % METERS;
@@ -106,13 +99,8 @@ fn hundred(alloc: Global) -> Result<String, AllocError> {
 /// The text of a domain of many contracts of one port over one meter, each with one source.
 fn many(alloc: Global) -> Result<String, AllocError> {
     let mut text = String::new(alloc);
-    push_meter(
-        &mut text,
-        0,
-        [820_000_000, 10_000_000, 1_230_000_000, 15_000_000],
-        1_000,
-    )?;
-    push_port(&mut text, 0, 1_000)?;
+    let figures = [820_000_000, 10_000_000, 1_230_000_000, 15_000_000];
+    push_sites(&mut text, 1, figures, 1_000)?;
     push_link(&mut text, ("p", 0), 0, [100_000, 10_000])?;
     for contract in 0..MANY {
         let name = format!(in alloc; "customer-{contract}")?;
@@ -139,19 +127,9 @@ fn certified(
     domain: String,
     digest: &mut Digest,
 ) -> Result<Table, AllocError> {
-    let mut certificate = Vec::new(alloc);
-    ask_of_domain(
-        rt,
-        alloc,
-        "certify domain.toml",
-        domain.as_str(),
-        b"",
-        &mut certificate,
-        digest,
-    )?;
     Ok(Table {
+        certificate: certify(rt, alloc, domain.as_str(), digest)?,
         domain,
-        certificate,
         output: Vec::new(alloc),
     })
 }

@@ -1,7 +1,7 @@
 //! A domain at its limits, certified, checked, asked for headroom and for a quote; and one with a fault at its end.
 ghost use Rattle.std.specs.Prelude.{◌<◌};
 
-use crate::asking::{ask_of_domain, ask_of_table};
+use crate::asking::{ask_of_domain, ask_of_table, certify};
 use crate::digest::Digest;
 use crate::domains::{path_from, push_link, push_meter, push_port, push_trusted, push_way};
 use crate::numbers::Numbers;
@@ -105,17 +105,8 @@ fn answer_all(
     domain: &str,
     digest: &mut Digest,
 ) -> Result<(), AllocError> {
-    let mut certificate = Vec::new(alloc);
+    let certificate = certify(rt, alloc, domain, digest)?;
     let mut output = Vec::new(alloc);
-    ask_of_domain(
-        rt,
-        alloc,
-        "certify domain.toml",
-        domain,
-        b"",
-        &mut certificate,
-        digest,
-    )?;
     let table = (domain, certificate.as_slice());
     ask_of_table(
         rt,
@@ -148,16 +139,8 @@ fn answer_fault(
 ) -> Result<(), AllocError> {
     push_way(&mut domain, "astray", 0, &[0, 1, 0], 1)?;
     push_trusted(&mut domain, [1_000_000, 1_500], None)?;
-    let mut output = Vec::new(alloc);
-    ask_of_domain(
-        rt,
-        alloc,
-        "certify domain.toml",
-        domain.as_str(),
-        b"",
-        &mut output,
-        digest,
-    )
+    drop(certify(rt, alloc, domain.as_str(), digest)?);
+    Ok(())
 }
 
 /// Answers the commands on a domain of so many meters, links and contracts, and on one more.
