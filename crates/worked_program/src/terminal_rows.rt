@@ -11,6 +11,7 @@ use std::thread::Threads;
 use worked_texts::LEAST_OF_TRUSTED;
 
 /// What faults are written to, which is a terminal, or a pipe.
+#[derive(Drop)]
 struct Faults {
     at_terminal: bool,
 }
