@@ -15,9 +15,6 @@ use Rattle.ds_certificate.specs.Sources.{jitters_along, jitters_of, source_of}
 use Rattle.ds_certificate.specs.declared.source.Source.{Source}
 use Rattle.ds_certificate.proofs.ColumnLaws.{each_of, in_column}
 
--- a path that fits has at most 16 meters
-pub fits-short : (d : Domain) (c : Contract) → IsTrue (fits d c) → length c.path ≤ 16
-fits-short d c good = grind (arith, nat_tests)
 
 pub length-jitters_along : (d : Domain) (from : List ℕ) (path : List (List ℕ)) → length (jitters_along d from path) ≡ length path
 unfolding jitters_along

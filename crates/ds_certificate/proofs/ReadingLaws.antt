@@ -1,8 +1,7 @@
 -- What a reader of a certificate's lines needs.
-use Rattle.std.proofs.Common.{rules, append_assoc, append-nil, get_or, take, ◌≡◌, ◌≢◌, ℕ, suc, ◌+◌, ◌-◌, ◌≤◌, ◌<◌, Bool, false, List, [], ◌∷◌, ◌++◌, drop, length, None, Some, Result, Ok, Err, refl, sym, ap, ◌∙◌, arith, if◌then◌else◌}
+use Rattle.std.proofs.Common.{rules, append_assoc, append-nil, get_or, take, ◌≡◌, ◌≢◌, ℕ, suc, ◌+◌, ◌-◌, ◌≤◌, ◌<◌, Bool, false, List, [], ◌∷◌, ◌++◌, drop, length, None, Some, Result, Ok, Err, refl, sym, ap, ◌∙◌, arith, if◌then◌else◌, IsTrue, MatchOption, Option}
 use Rattle.std.proofs.lemmas.Bool.Decides.{nat_tests}
 use Rattle.std.proofs.lemmas.List.{drop_all, drop_more}
-use Rattle.std.specs.Prelude.{IsTrue, MatchOption, Option}
 use Rattle.std.specs.Result.{is_ok, result_err}
 use Rattle.line_text.specs.Lines.{fields_of, has_byte, lines_of}
 use Rattle.line_text.specs.Numbers.{number_of}
@@ -206,10 +205,6 @@ fault-ended form contracts i lines whole None all end same =
     sym (ap result_err (rows_in-ended form [] contracts i lines all end)) ∙ fault_ahead [] (rows_in form (drop i contracts) lines) ∙ same
 fault-ended form contracts i lines whole (Some fault) all end same =
     fault-bad (rows_in form (drop i contracts) lines) whole fault (rows_in-excess form [] contracts i lines fault all end) same
-
-pub is_fault : (rows : Result (List (List Bound)) CertificateFault) (fault : CertificateFault) → Some fault ≡ result_err rows → rows ≡ Err fault
-is_fault (Err other) fault is = cc
-is_fault (Ok rows) fault is = cc
 
 pub is_read : (rows : Result (List (List Bound)) CertificateFault) → None ≡ result_err rows → IsTrue (is_ok rows)
 is_read (Err fault) is = cc

@@ -1,6 +1,5 @@
 -- How many bytes a rate can give over a gap.
-use Rattle.std.proofs.Common.{ℕ, ◌*◌, ◌≤◌, ◌^◌, arith}
-use Rattle.std.proofs.Math.Nat.{mul-le-mul}
+use Rattle.std.proofs.Common.{ℕ, ◌*◌, ◌≤◌, ◌^◌, arith, mul-le-mul}
 use Rattle.std.proofs.lemmas.Grind.{div_ceil_times}
 use Rattle.moment_core.specs.Volume.{bytes_over}
 

@@ -1,6 +1,5 @@
 -- Where a certificate's text is at fault.
-use Rattle.std.specs.Prelude.{ℕ, zero, suc, ◌+◌, nat_lt, is_ok, List, [], ◌∷◌, drop, length, Option, None, Some}
-use Rattle.std.specs.Prelude.{if◌then◌else◌}
+use Rattle.std.specs.Prelude.{ℕ, zero, suc, ◌+◌, nat_lt, is_ok, List, [], ◌∷◌, drop, length, Option, None, Some, if◌then◌else◌}
 use Rattle.line_text.specs.Lines.{lines_of}
 use Rattle.ds_domain_base.specs.declared.contract.Contract.{Contract}
 use Rattle.ds_certificate.specs.Readings.{bound_in}

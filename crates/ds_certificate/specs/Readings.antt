@@ -1,7 +1,5 @@
 -- What a certificate's text says of contracts, or its first fault.
-use Rattle.std.specs.Prelude.{ℕ, Bool, zero, suc, ◌+◌, ◌^◌, ◌&&◌, nat_eq, is_some, List, [], ◌∷◌, length, Option}
-use Rattle.std.specs.Prelude.{None, Some, Result, Ok, Err, if◌then◌else◌}
-use Rattle.std.specs.Str.{bytes_eq}
+use Rattle.std.specs.Prelude.{ℕ, Bool, zero, suc, ◌+◌, ◌^◌, ◌&&◌, nat_eq, is_some, List, [], ◌∷◌, length, Option, None, Some, Result, Ok, Err, if◌then◌else◌, bytes_eq}
 use Rattle.line_text.specs.Lines.{fields_of, lines_of}
 use Rattle.line_text.specs.Numbers.{is_number, number_of, value_of}
 use Rattle.ds_domain_base.specs.Names.{is_name}

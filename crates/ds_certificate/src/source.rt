@@ -1,12 +1,11 @@
 ghost use Rattle.std.specs.Prelude.{◌≡◌, ◌*◌, ◌≤◌, ◌^◌};
 ghost use Rattle.envelope_core.specs.Curve.{widened};
 ghost use Rattle.ds_domain_base.specs.Envelopes.{all_output, green_output, output_in};
-ghost use Rattle.ds_domain_base.specs.Domains.{port_of, skew_of};
 ghost use Rattle.ds_certificate.specs.Columns.{InEach, envelope_in};
 ghost use Rattle.ds_certificate.specs.Ranges.{IsModerate, IsModest};
-ghost use Rattle.ds_certificate.specs.Sources.{curve_of, edge_column, source_by, source_of, source_on};
+ghost use Rattle.ds_certificate.specs.Sources.{curve_of, edge_column, source_by, source_on};
 
-use ds_domain_base::{Contract, Domain, Name, Parameters, Profile, Route, Terms, Version};
+use ds_domain_base::{Domain, Parameters, Profile, Route, Terms, Version};
 use envelope_core::{Envelope, widen};
 use moment_core::{Column, Gap};
 
@@ -22,29 +21,9 @@ pub struct Source {
 }
 
 impl Source {
-    /// What a contract's traffic keeps where it enters a domain (Cruz 1991, section II): for a trusted contract what it
-    /// is trusted with, for a policed one what leaves the meter at its edge, widened by the port's skew. A port that
-    /// the domain lacks counts as one without skew.
-    #[tactic(auto, unfolding(crate::specs::Sources::source_of))]
-    pub fn of(domain: &Domain, contract: &Contract) -> Self
-        ensures value { result ≡ source_of domain.now contract.now }
-        ensures moderate { IsModerate result }
-        ensures least { InEach (λ column. 1 ≤ (envelope_in column result).rate) }
-    {
-        Self::on(domain, contract.port, &contract.terms)
-    }
-
-    /// What traffic on these terms keeps where it enters a domain at the port of a name, as `of` tells it of a contract.
-    pub fn on(domain: &Domain, port: Name, terms: &Terms) -> Self
-        ensures value { result ≡ source_by domain.now.version (skew_of (port_of domain.now port)) terms.now }
-        ensures moderate { IsModerate result }
-        ensures least { InEach (λ column. 1 ≤ (envelope_in column result).rate) }
-    {
-        source_by(domain.version(), domain.port_skew(port), terms)
-    }
-
-    /// What traffic on these terms keeps where it enters a domain by a route: what `of` tells of a contract by its route.
-    /// No name is looked up.
+    /// What traffic on these terms keeps where it enters a domain by a route (Cruz 1991, section II): trusted traffic what
+    /// it is trusted with, policed traffic what leaves the meter at its edge, widened by the skew of the route's port. No
+    /// name is looked up.
     pub fn along(domain: &Domain, route: &Route, terms: &Terms) -> Self
         ensures value { result ≡ source_on domain.now route.now terms.now }
         ensures moderate { IsModerate result }

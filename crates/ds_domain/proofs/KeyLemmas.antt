@@ -1,5 +1,5 @@
 -- The keys of a table as its map has them.
-use Rattle.std.proofs.Common.{◌≡◌, ℕ, Bool, true, false, ◌||◌, List, [], ◌∷◌, ◌++◌, String, Global, string_bytes, refl, ap, sym, ◌∙◌}
+use Rattle.std.proofs.Common.{◌≡◌, ℕ, Bool, true, false, ◌||◌, List, [], ◌∷◌, ◌++◌, String, Global, string_bytes, refl, ap, sym, ◌∙◌, bytes_eq}
 use Rattle.std.specs.List.{list_all}
 use Rattle.std.specs.Map.{keys_of}
 use Rattle.toml.specs.View.{members_view}
@@ -7,7 +7,6 @@ use Rattle.toml.specs.declared.value.Value.{Value}
 use Rattle.ds_domain_base.specs.Faults.{field_text}
 use Rattle.ds_domain_base.specs.declared.fault.Field.{Field}
 use Rattle.ds_domain.specs.Keys.{is_key_of, keys_in}
-use Rattle.std.specs.Str.{bytes_eq}
 
 or_or : (x y z : Bool) → x || (y || z) ≡ (x || y) || z
 or_or true y z = refl

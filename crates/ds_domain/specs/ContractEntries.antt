@@ -1,7 +1,6 @@
 -- The entries of contracts, one after the other.
-use Rattle.std.specs.Prelude.{ℕ, Bool, false, List, [], ◌∷◌, ◌++◌, length, nat_lt, Option, None, Some, Result, Ok}
+use Rattle.std.specs.Prelude.{ℕ, Bool, false, List, [], ◌∷◌, ◌++◌, length, nat_lt, Option, None, Some, Result, Ok, bytes_eq}
 use Rattle.std.specs.List.{list_any}
-use Rattle.std.specs.Str.{bytes_eq}
 use Rattle.toml.specs.Data.{Members}
 use Rattle.ds_domain_base.specs.Domains.{Domain}
 use Rattle.ds_domain_base.specs.Faults.{field_text}
@@ -16,8 +15,7 @@ use Rattle.ds_domain_base.specs.declared.parts.Version.{Version}
 use Rattle.ds_domain_base.specs.declared.terms.Terms.{Terms}
 use Rattle.ds_domain_text.specs.Steps.{◌>>=◌}
 use Rattle.ds_domain_text.specs.Values.{required, texts_in}
-use Rattle.ds_domain.specs.Keys.{fault_here, refused_if, told}
-use Rattle.ds_domain.specs.Keys.{moment_at, name_at, number_at, only, optional_moment_at, text_at}
+use Rattle.ds_domain.specs.Keys.{fault_here, refused_if, told, moment_at, name_at, number_at, only, optional_moment_at, text_at}
 use Rattle.ds_domain.specs.Kinds.{contract_fields, contract_kind_at, terms_fields}
 use Rattle.ds_domain.specs.Parts.{refused_by}
 use Rattle.ds_domain.specs.Rules.{rule_at}

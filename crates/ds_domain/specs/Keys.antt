@@ -1,7 +1,6 @@
 -- What the keys of an entry say; a flaw of a key is a fault at its field.
-use Rattle.std.specs.Prelude.{ℕ, ◌-◌, ◌^◌, Bool, true, false, not, List, [], ◌∷◌, Option, Result, Ok, Err, unwrap_or}
+use Rattle.std.specs.Prelude.{ℕ, ◌-◌, ◌^◌, Bool, true, false, not, List, [], ◌∷◌, Option, Result, Ok, Err, unwrap_or, bytes_eq}
 use Rattle.std.specs.List.{list_any, list_all}
-use Rattle.std.specs.Str.{bytes_eq}
 use Rattle.toml.specs.Data.{Members, no_members, member}
 use Rattle.ds_domain_base.specs.Faults.{fault_at, field_text, no_memory}
 use Rattle.ds_domain_base.specs.Names.{is_name}

@@ -1,6 +1,5 @@
 -- The kinds of meters and of contracts, the modes, and the keys that entries of each kind have.
-use Rattle.std.specs.Prelude.{ℕ, List, [], ◌∷◌, Option, None, Some, Result, Ok, codes, if◌then◌else◌, option_map}
-use Rattle.std.specs.Str.{bytes_eq}
+use Rattle.std.specs.Prelude.{ℕ, List, [], ◌∷◌, Option, None, Some, Result, Ok, codes, if◌then◌else◌, option_map, bytes_eq}
 use Rattle.toml.specs.Data.{Members}
 use Rattle.moment_core.specs.declared.colour.Mode.{Mode}
 use Rattle.moment_core.specs.declared.colour.Mode.TheVariants as modes

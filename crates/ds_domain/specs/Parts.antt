@@ -3,16 +3,14 @@ use Rattle.std.specs.Prelude.{Bool, true, false, ◌++◌, length, Option, None,
 use Rattle.toml.specs.Data.{Members}
 use Rattle.moment_core.specs.declared.colour.Mode.{Mode}
 use Rattle.moment_core.specs.declared.colour.Mode.TheVariants.{Aware, Blind}
-use Rattle.ds_domain_base.specs.Domains.{Domain, is_taken, with_link, with_meter, with_port}
-use Rattle.ds_domain_base.specs.Domains.{link_fault, meter_fault, port_fault}
+use Rattle.ds_domain_base.specs.Domains.{Domain, is_taken, with_link, with_meter, with_port, link_fault, meter_fault, port_fault}
 use Rattle.ds_domain_base.specs.declared.fault.DomainFault.{DomainFault}
 use Rattle.ds_domain_base.specs.declared.fault.Field.TheVariants as fields
 use Rattle.ds_domain_base.specs.declared.fault.Kind.TheVariants as kinds
 use Rattle.ds_domain_base.specs.declared.fault.Section.TheVariants as sections
 use Rattle.ds_domain_text.specs.Steps.{◌>>=◌}
 use Rattle.ds_domain.specs.Keys.{delay_at, fault_here, moment_at, name_at, only, refused_if, text_at}
-use Rattle.ds_domain.specs.Kinds.{meter_kind_at, optional_mode_at}
-use Rattle.ds_domain.specs.Kinds.{link_fields, meter_fields, parameter_fields, port_fields}
+use Rattle.ds_domain.specs.Kinds.{meter_kind_at, optional_mode_at, link_fields, meter_fields, parameter_fields, port_fields}
 use Rattle.ds_domain.specs.Terms.{parameters_at, sound}
 use Rattle.ds_domain.specs.declared.parts.MeterKeys.{MeterKeys}
 use Rattle.ds_domain.specs.declared.place.Place.{Place}

@@ -1,11 +1,10 @@
 -- Entries of a map: one more behind the others, and what a look-up then finds.
-use Rattle.std.proofs.Common.{rules, ◌≡◌, Bool, true, false, List, [], ◌∷◌, ◌++◌, None, is_some, refl, sym, subst, ◌∙◌, ap}
+use Rattle.std.proofs.Common.{rules, ◌≡◌, Bool, true, false, List, [], ◌∷◌, ◌++◌, None, is_some, refl, sym, subst, ◌∙◌, ap, append_assoc}
 use Rattle.std.specs.Cmp.{IsEquivalence}
 use Rattle.std.specs.List.{AllByRecursion, IsDistinct}
 use Rattle.std.specs.Map.{keys_of, lookup}
 use Rattle.std.proofs.lemmas.Map.Keys.{IsDistinct-head, IsDistinct-tail, IsDistinct-push}
 use Rattle.std.proofs.lemmas.Map.Made.{is_some-lookup}
-use Rattle.std.proofs.lemmas.List.{append_assoc}
 use Rattle.indexmap.specs.IndexMap.{insert_entry}
 
 module _ {K V : Type 0} where

@@ -1,8 +1,7 @@
 -- The route of a path: what each of its legs is, and that it comes to no meter twice.
-use Rattle.std.proofs.Common.{arith, ◌≡◌, ℕ, suc, ◌+◌, ◌≤◌, ◌<◌, Bool, true, false, ◌||◌, List, [], ◌∷◌, ◌++◌, append-nil, length, drop, get_or, Option, None, Some, is_none, is_some, nat_eq, unwrap_or, refl, sym, ap, subst, ◌∙◌}
+use Rattle.std.proofs.Common.{arith, ◌≡◌, ℕ, suc, ◌+◌, ◌≤◌, ◌<◌, Bool, true, false, ◌||◌, List, [], ◌∷◌, ◌++◌, append-nil, length, drop, get_or, Option, None, Some, is_none, is_some, nat_eq, unwrap_or, refl, sym, ap, subst, ◌∙◌, bytes_eq}
 use Rattle.std.specs.List.{AllByRecursion, IsDistinct, list_any, position}
 use Rattle.std.specs.Map.{keys_of}
-use Rattle.std.specs.Str.{bytes_eq}
 use Rattle.std.proofs.lemmas.Bool.{or_parts}
 use Rattle.std.proofs.lemmas.Bool.Decides.{nat_tests}
 use Rattle.std.proofs.lemmas.List.{append_assoc, drop_more}

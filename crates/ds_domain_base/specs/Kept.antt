@@ -1,8 +1,7 @@
 -- What the types of names and of domains keep.
-use Rattle.std.specs.Prelude.{◌≡◌, ℕ, ◌≤◌, List, length, IsTrue, IsSome, None}
+use Rattle.std.specs.Prelude.{◌≡◌, ℕ, ◌≤◌, List, length, IsTrue, IsSome, None, bytes_eq}
 use Rattle.std.specs.List.{IsDistinct}
 use Rattle.std.specs.Map.{keys_of}
-use Rattle.std.specs.Str.{bytes_eq}
 use Rattle.ds_domain_base.specs.Domains.{Domain, is_meter, is_taken, link_of, port_of, same_ends}
 use Rattle.ds_domain_base.specs.Names.{is_name}
 

@@ -1,6 +1,5 @@
 -- What a name may be.
-use Rattle.std.specs.Prelude.{◌≡◌, ℕ, Bool, ◌-◌, List, ◌++◌, ◌&&◌, ◌||◌, nat_eq, nat_le, length, take, replicate}
-use Rattle.std.specs.Prelude.{IsTrue}
+use Rattle.std.specs.Prelude.{◌≡◌, ℕ, Bool, ◌-◌, List, ◌++◌, ◌&&◌, ◌||◌, nat_eq, nat_le, length, take, replicate, IsTrue}
 use Rattle.std.specs.List.{list_all}
 
 -- a to z, 0 to 9, - and _

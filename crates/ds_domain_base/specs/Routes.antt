@@ -1,9 +1,8 @@
 -- The route of a contract: its port and its path, once each name of it is looked up in a domain. What is said of a
 -- route speaks of places among the meters, and of no names.
-use Rattle.std.specs.Prelude.{ℕ, ◌≤◌, ◌<◌, List, [], ◌∷◌, length, map, nat_eq, position, unwrap_or, Option, None, Some}
+use Rattle.std.specs.Prelude.{ℕ, ◌≤◌, ◌<◌, List, [], ◌∷◌, length, map, nat_eq, position, unwrap_or, Option, None, Some, bytes_eq}
 use Rattle.std.specs.List.{AllByRecursion, IsDistinct}
 use Rattle.std.specs.Map.{keys_of}
-use Rattle.std.specs.Str.{bytes_eq}
 use Rattle.ds_domain_base.specs.Domains.{Domain, floor_of, jitter_of, link_of, meter_of, port_of, skew_of}
 use Rattle.ds_domain_base.specs.declared.contract.Contract.{Contract}
 use Rattle.ds_domain_base.specs.declared.parts.Meter.{Meter}

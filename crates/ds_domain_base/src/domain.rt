@@ -1,7 +1,5 @@
-ghost use Rattle.std.specs.Prelude.{◌≡◌, ◌≤◌, ◌^◌, ◌⊎◌, ◌++◌, List, ℕ, None, Some, position, IfOk, IfErr, OnOk, OnErr};
+ghost use Rattle.std.specs.Prelude.{◌≡◌, ◌≤◌, ◌^◌, ◌⊎◌, ◌++◌, None, Some, IfOk, IfErr, OnOk, OnErr};
 ghost use Rattle.std.specs.Prelude.{if◌then◌else◌};
-ghost use Rattle.std.specs.Map.{keys_of};
-ghost use Rattle.std.specs.Str.{bytes_eq};
 ghost use Rattle.ds_domain_base.specs.Domains.{bare, floor_of, is_meter, is_port, is_taken, link_fault};
 ghost use Rattle.ds_domain_base.specs.Domains.{link_of, meter_fault, meter_of, port_fault, port_of, skew_of, with_link};
 ghost use Rattle.ds_domain_base.specs.Domains.{with_meter, with_port};
@@ -121,13 +119,6 @@ impl Domain {
             Some(port) => port.skew.gap(),
             None => Gap::NONE,
         }
-    }
-
-    /// The place of the meter of a name among the meters, from 0.
-    pub fn meter_index(&self, name: Name) -> Option<usize>
-        ensures { result ≡ position (bytes_eq name) (keys_of self.now.meters) }
-    {
-        self.meters.get_index_of(&name)
     }
 
     /// Whether a name is that of a meter or a port.

@@ -1,6 +1,5 @@
 -- Terms with a lower value of a field: traffic keeps no more on them.
-use Rattle.std.proofs.Common.{arith, ◌≡◌, ℕ, ◌≤◌, Bool, true, false, Option, None, Some, refl}
-use Rattle.std.specs.Prelude.{is_none, option_and_then, option_map, unwrap_or, if◌then◌else◌}
+use Rattle.std.proofs.Common.{arith, ◌≡◌, ℕ, ◌≤◌, Bool, true, false, Option, None, Some, refl, is_none, option_and_then, option_map, unwrap_or, if◌then◌else◌}
 use Rattle.moment_core.specs.declared.colour.Mode.{Mode}
 use Rattle.srtcm_core.specs.declared.parameters.SrTcmParameters.{SrTcmParameters}
 use Rattle.trtcm_core.specs.declared.parameters.TrTcmParameters.{TrTcmParameters}

@@ -1,6 +1,5 @@
 -- What is found by trying values is the greatest that can be sold.
-use Rattle.std.proofs.Common.{arith, ◌≡◌, ℕ, ◌+◌, ◌-◌, ◌≤◌, ◌<◌, ◌^◌, zero, suc, Bool, true, false, if◌then◌else◌, Option, None, Some, nat_lt, ◌⊎◌, inl, inr, refl, sym, length, subst, ap, ◌∙◌}
-use Rattle.std.specs.Prelude.{IfNone, IfSome, IsSomeAnd, is_none, is_some, nat_eq, option_and_then}
+use Rattle.std.proofs.Common.{arith, ◌≡◌, ℕ, ◌+◌, ◌-◌, ◌≤◌, ◌<◌, ◌^◌, zero, suc, Bool, true, false, if◌then◌else◌, Option, None, Some, nat_lt, ◌⊎◌, inl, inr, refl, sym, length, subst, ap, ◌∙◌, IfNone, IfSome, IsSomeAnd, is_none, is_some, nat_eq, option_and_then}
 use Rattle.std.specs.Option.{option_map_or}
 use Rattle.std.proofs.lemmas.Bool.Decides.{nat_tests}
 use Rattle.ds_domain_base.specs.declared.contract.Contract.{Contract}

@@ -1,6 +1,5 @@
 -- The rates and bursts of a contract's terms, and which other values each may have.
-use Rattle.std.specs.Prelude.{◌≡◌, ℕ, ◌^◌, ◌≤◌, ◌&&◌, Bool, true, nat_le, nat_lt, is_none, is_some, option_and_then}
-use Rattle.std.specs.Prelude.{option_map, Option, None, Some, if◌then◌else◌}
+use Rattle.std.specs.Prelude.{◌≡◌, ℕ, ◌^◌, ◌≤◌, ◌&&◌, Bool, true, nat_le, nat_lt, is_none, is_some, option_and_then, option_map, Option, None, Some, if◌then◌else◌}
 use Rattle.moment_core.specs.declared.colour.Mode.{Mode}
 use Rattle.srtcm_core.specs.declared.parameters.SrTcmParameters.{SrTcmParameters}
 use Rattle.trtcm_core.specs.declared.parameters.TrTcmParameters.{TrTcmParameters}

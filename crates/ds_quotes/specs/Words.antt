@@ -1,6 +1,5 @@
 -- The words that name rates and bursts, as the keys of a contract's text do.
-use Rattle.std.specs.Prelude.{ℕ, List, codes, Option, None, Some, if◌then◌else◌}
-use Rattle.std.specs.Str.{bytes_eq}
+use Rattle.std.specs.Prelude.{ℕ, List, codes, Option, None, Some, if◌then◌else◌, bytes_eq}
 use Rattle.ds_quotes.specs.declared.field.Field.{Field}
 use Rattle.ds_quotes.specs.declared.field.Field.TheVariants as fields
 

@@ -1,7 +1,6 @@
 -- What is known of a contract of a covered timeline: where it is found, that it is acceptable while its share is
 -- reserved, and that its share is held until its rate has paid for its burst.
-use Rattle.std.proofs.Common.{◌≡◌, ◌≤◌, ◌<◌, ◌+◌, ◌-◌, ◌*◌, ℕ, zero, suc, Bool, true, false, cond, List, [], ◌∷◌, map, get_or, Option, None, Some, refl, sym, ap, subst, ◌∙◌, arith}
-use Rattle.std.specs.Prelude.{◌&&◌, All, AllPairs, drop, filter, find, nat_eq, nat_le, not, option_map, slice_get}
+use Rattle.std.proofs.Common.{◌≡◌, ◌≤◌, ◌<◌, ◌+◌, ◌-◌, ◌*◌, ℕ, zero, suc, Bool, true, false, cond, List, [], ◌∷◌, map, get_or, Option, None, Some, refl, sym, ap, subst, ◌∙◌, arith, ◌&&◌, All, AllPairs, drop, filter, find, nat_eq, nat_le, not, option_map, slice_get}
 use Rattle.std.specs.List.{AllZip}
 use Rattle.std.specs.Option.{ForSome, IsSomeAnd}
 use Rattle.std.proofs.lemmas.Bool.{false≢true}

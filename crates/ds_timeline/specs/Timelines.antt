@@ -1,6 +1,5 @@
 -- Contracts that come and go: every contract that was ever granted in a domain, and which are reserved at a moment.
-use Rattle.std.specs.Prelude.{◌≡◌, ℕ, ◌+◌, ◌≤◌, Bool, false, not, ◌&&◌, nat_eq, nat_le, List, map, filter, find, All}
-use Rattle.std.specs.Prelude.{AllPairs, Option, None, Some, IsSomeAnd}
+use Rattle.std.specs.Prelude.{◌≡◌, ℕ, ◌+◌, ◌≤◌, Bool, false, not, ◌&&◌, nat_eq, nat_le, List, map, filter, find, All, AllPairs, Option, None, Some, IsSomeAnd}
 use Rattle.std.specs.Option.{ForSome}
 use Rattle.ds_certificate.specs.Rates.{HasRates}
 use Rattle.ds_domain_base.specs.Domains.{Domain}

@@ -1,6 +1,5 @@
-use Rattle.std.proofs.Common.{◌∙◌, ap}
+use Rattle.std.proofs.Common.{◌∙◌, ap, bytes_eq}
 use Rattle.std.specs.List.{list_any}
-use Rattle.std.specs.Str.{bytes_eq}
 use Rattle.ds_domain.proofs.ListLemmas.{has_name-names}
 use Rattle.ds_domain.proofs.contract_list.ContractList.has_name.Goals as goal
 

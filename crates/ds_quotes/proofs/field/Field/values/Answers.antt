@@ -1,6 +1,5 @@
-use Rattle.std.proofs.Common.{subst}
+use Rattle.std.proofs.Common.{subst, is_some}
 use Rattle.std.proofs.lemmas.Option.{IfSome_then}
-use Rattle.std.specs.Prelude.{is_some}
 use Rattle.ds_domain_base.specs.Parameters.{Parameters}
 use Rattle.ds_quotes.specs.Fields.{AreThose, policed_with, terms_with}
 use Rattle.ds_quotes.proofs.field.Field.values.Goals as goal

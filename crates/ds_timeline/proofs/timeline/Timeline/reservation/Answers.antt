@@ -1,5 +1,4 @@
-use Rattle.std.proofs.Common.{sym, ap, ◌∙◌}
-use Rattle.std.specs.Prelude.{slice_get}
+use Rattle.std.proofs.Common.{sym, ap, ◌∙◌, slice_get}
 use Rattle.ds_timeline.specs.Timelines.{reservation_of}
 use Rattle.ds_timeline.proofs.NumberedLaws.{numbered-found}
 use Rattle.ds_timeline.proofs.timeline.Timeline.reservation.Goals as goal

@@ -1,5 +1,4 @@
-use Rattle.std.proofs.Common.{sym, ap, ◌∙◌}
-use Rattle.std.specs.Prelude.{option_map, slice_get}
+use Rattle.std.proofs.Common.{sym, ap, ◌∙◌, option_map, slice_get}
 use Rattle.std.proofs.lemmas.Option.{slice_get-map}
 use Rattle.ds_timeline.specs.Timelines.{reservation_of, route_in}
 use Rattle.ds_timeline.proofs.NumberedLaws.{numbered-found}
