@@ -2,8 +2,9 @@
 use Rattle.std.proofs.Common.{◌≡◌, ◌≤◌, ℕ, suc, Bool, true, false, List, [], ◌∷◌, ◌++◌, length, Option, None, Some, refl, sym, ap, ◌∙◌, arith, inl, inr}
 use Rattle.std.specs.Prelude.{◌&&◌, All, map, nat_eq, nat_le}
 use Rattle.std.specs.List.{AllByRecursion}
-use Rattle.std.proofs.lemmas.Bool.{cases_Bool, and_parts, and_from}
-use Rattle.std.proofs.lemmas.Bool.Decides.{nat_tests}
+use Rattle.std.specs.Option.{option_or}
+use Rattle.std.proofs.lemmas.Bool.{cases_Bool, and_parts, and_from, eq-eqb, eqb-true, le-leb, leb-true}
+use Rattle.std.proofs.lemmas.Option.{none-some}
 use Rattle.std.proofs.lemmas.List.Elements.{All-nil, All-cons, All-head, All-tail}
 use Rattle.moment_core.specs.Columns.{each_column}
 use Rattle.moment_core.specs.declared.column.Column.{Column}
@@ -20,15 +21,7 @@ use Rattle.ds_checker.specs.Loads.{Share, shares_at}
 use Rattle.ds_checker.specs.TableTests.{meter_tests, table_tests}
 use Rattle.ds_checker.specs.Tests.{IsPassed, Test, first_failed}
 use Rattle.ds_certificate.proofs.ColumnLaws.{each_of, in_column}
-
-some_is_not_none : {A : Type 0} (x : A) → Some x ≡ None → ⊥
-some_is_not_none x is = absurd cc
-
-test_holds : (needed given : ℕ) → nat_le needed given ≡ true → needed ≤ given
-test_holds needed given holds = grind (arith, nat_tests)
-
-holds_test : (needed given : ℕ) → needed ≤ given → nat_le needed given ≡ true
-holds_test needed given low = grind (arith, nat_tests)
+use Rattle.ds_checker.proofs.BoundLaws.{both_none, first_failed-append, none_failed}
 
 pub first_failed-passed : (t : Test) (tests : List Test) → nat_le t.needed t.given ≡ true → first_failed (t ∷ tests) ≡ first_failed tests
 unfolding first_failed
@@ -41,29 +34,18 @@ first_failed-failed t tests fails = rw fails refl
 -- none fails: the first passes, and none of the others fails
 passes : (t : Test) (tests : List Test) → first_failed (t ∷ tests) ≡ None → IsPassed t × (first_failed tests ≡ None)
 passes t tests is = elim (cases_Bool (nat_le t.needed t.given)) [
-  | inl holds ↦ (test_holds t.needed t.given holds, sym (first_failed-passed t tests holds) ∙ is)
-  | inr fails ↦ absurd (some_is_not_none (t.refused t.needed t.given) (sym (first_failed-failed t tests fails) ∙ is))
+  | inl holds ↦ (leb-true t.needed t.given holds, sym (first_failed-passed t tests holds) ∙ is)
+  | inr fails ↦ absurd (none-some (t.refused t.needed t.given) (sym is ∙ first_failed-failed t tests fails))
 ]
 
 passed : (t : Test) (tests : List Test) → IsPassed t → first_failed tests ≡ None → first_failed (t ∷ tests) ≡ None
-passed t tests low none = first_failed-passed t tests (holds_test t.needed t.given low) ∙ none
-
-none_nil : first_failed [] ≡ None
-unfolding first_failed
-none_nil = refl
+passed t tests low none = first_failed-passed t tests (le-leb t.needed t.given low) ∙ none
 
 parts : (xs ys : List Test) → first_failed (xs ++ ys) ≡ None → (first_failed xs ≡ None) × (first_failed ys ≡ None)
-parts [] ys is = (none_nil, is)
-parts (x ∷ xs) ys is =
-    let both = passes x (xs ++ ys) is in
-    let later = parts xs ys both.1 in
-    (passed x xs both.0 later.0, later.1)
+parts xs ys is = both_none (first_failed xs) (first_failed ys) (sym (first_failed-append xs ys) ∙ is)
 
 together : (xs ys : List Test) → first_failed xs ≡ None → first_failed ys ≡ None → first_failed (xs ++ ys) ≡ None
-together [] ys left right = right
-together (x ∷ xs) ys left right =
-    let both = passes x xs left in
-    passed x (xs ++ ys) both.0 (together xs ys both.1 right)
+together xs ys left right = first_failed-append xs ys ∙ ap (λ f. option_or f (first_failed ys)) left ∙ right
 
 -- a test in each column
 each_passes : (columns : List Column) (test : Column → Test) (rest : List Test) → first_failed (map test columns ++ rest) ≡ None
@@ -93,8 +75,8 @@ grows number hop s (jitter ∷ jitters) before (bound ∷ bounds) is column =
 grown : (number hop : ℕ) (s : Source) (jitters : List ℕ) (before : Bound) (bounds : List Bound) → ((column : Column) → Grows column s jitters before bounds)
     → first_failed (hop_tests number hop s jitters before bounds) ≡ None
 unfolding Grows hop_tests
-grown number hop s [] before bounds met = none_nil
-grown number hop s (jitter ∷ jitters) before [] met = none_nil
+grown number hop s [] before bounds met = none_failed
+grown number hop s (jitter ∷ jitters) before [] met = none_failed
 grown number hop s (jitter ∷ jitters) before (bound ∷ bounds) met =
     let test = hop_test number hop s jitter before bound in
     each_passed each_column test (hop_tests number (suc hop) s jitters bound bounds) (each_of (λ k. IsPassed (test k)) (λ k. (met k).0))
@@ -111,7 +93,7 @@ meets number s jitters (first ∷ bounds) is column =
 
 pub met_by : (number : ℕ) (s : Source) (jitters : List ℕ) (bounds : List Bound) → ((column : Column) → MeetsIn column s jitters bounds)
     → first_failed (tests_along number s jitters bounds) ≡ None
-met_by number s jitters [] met = none_nil
+met_by number s jitters [] met = none_failed
 met_by number s jitters (first ∷ bounds) met =
     let test = first_test number s first in
     each_passed each_column test (hop_tests number 1 s jitters first bounds) (each_of (λ k. IsPassed (test k)) (λ k. (met k).0))
@@ -121,21 +103,15 @@ met_by number s jitters (first ∷ bounds) met =
 unfoldable pub is_shaped : Domain → Contract → List Bound → Bool
 is_shaped d c bounds = fits d c && nat_eq (length bounds) (suc (length c.path))
 
-long_enough : (n m : ℕ) → nat_eq n m ≡ true → n ≡ m
-long_enough n m same = grind (arith, nat_tests)
-
-as_long : (n m : ℕ) → n ≡ m → nat_eq n m ≡ true
-as_long n m same = grind (arith, nat_tests)
-
 shaped : (d : Domain) (c : Contract) (bounds : List Bound) → is_shaped d c bounds ≡ true → HasShape d c bounds
 unfolding is_shaped
 shaped d c bounds holds =
     let both = and_parts (fits d c) (nat_eq (length bounds) (suc (length c.path))) holds in
-    (both.0, long_enough (length bounds) (suc (length c.path)) both.1)
+    (both.0, eqb-true (length bounds) (suc (length c.path)) both.1)
 
 pub has_shape : (d : Domain) (c : Contract) (bounds : List Bound) → HasShape d c bounds → is_shaped d c bounds ≡ true
 unfolding is_shaped
-has_shape d c bounds shape = and_from (fits d c) (nat_eq (length bounds) (suc (length c.path))) shape.0 (as_long (length bounds) (suc (length c.path)) shape.1)
+has_shape d c bounds shape = and_from (fits d c) (nat_eq (length bounds) (suc (length c.path))) shape.0 (eq-eqb (length bounds) (suc (length c.path)) shape.1)
 
 pub misfit-shaped : (number : ℕ) (d : Domain) (c : Contract) (contracts : List Contract) (bounds : List Bound) (rows : List (List Bound)) → is_shaped d c bounds ≡ true
     → misfit number d (c ∷ contracts) (bounds ∷ rows) ≡ misfit (suc number) d contracts rows
@@ -152,8 +128,8 @@ certified : (number : ℕ) (d : Domain) (contracts : List Contract) (rows : List
     → first_failed (bound_tests number d contracts rows) ≡ None → IsCertificate d contracts rows
 unfolding misfit bound_tests
 certified number d [] [] fit is = tt
-certified number d [] (bounds ∷ rows) fit is = absurd (some_is_not_none number fit)
-certified number d (c ∷ contracts) [] fit is = absurd (some_is_not_none number fit)
+certified number d [] (bounds ∷ rows) fit is = absurd (none-some number (sym fit))
+certified number d (c ∷ contracts) [] fit is = absurd (none-some number (sym fit))
 certified number d (c ∷ contracts) (bounds ∷ rows) fit is = elim (cases_Bool (is_shaped d c bounds)) [
   | inl holds ↦
       let both = parts (tests_along number (source_of d c) (jitters_of d c) bounds) (bound_tests (suc number) d contracts rows) is in (
@@ -163,7 +139,7 @@ certified number d (c ∷ contracts) (bounds ∷ rows) fit is = elim (cases_Bool
         ),
         certified (suc number) d contracts rows (sym (misfit-shaped number d c contracts bounds rows holds) ∙ fit) both.1,
       )
-  | inr fails ↦ absurd (some_is_not_none number (sym (misfit-unshaped number d c contracts bounds rows fails) ∙ fit))
+  | inr fails ↦ absurd (none-some number (sym fit ∙ misfit-unshaped number d c contracts bounds rows fails))
 ]
 
 fitting : (number : ℕ) (d : Domain) (contracts : List Contract) (rows : List (List Bound)) → IsCertificate d contracts rows → misfit number d contracts rows ≡ None
@@ -177,7 +153,7 @@ fitting number d (c ∷ contracts) (bounds ∷ rows) met =
 pub bounded : (number : ℕ) (d : Domain) (contracts : List Contract) (rows : List (List Bound)) → IsCertificate d contracts rows
     → first_failed (bound_tests number d contracts rows) ≡ None
 unfolding bound_tests
-bounded number d [] [] met = none_nil
+bounded number d [] [] met = none_failed
 bounded number d [] (bounds ∷ rows) met = absurd met
 bounded number d (c ∷ contracts) [] met = absurd met
 bounded number d (c ∷ contracts) (bounds ∷ rows) met =
@@ -194,10 +170,10 @@ carries name m shares is =
     ((one.0, two.0), (three.0, four.0))
 
 pub carried : (name : List ℕ) (m : Meter) (shares : List Share) → Carries m shares → first_failed (meter_tests name m shares) ≡ None
-carried name m shares met = passed _ _ met.0.0 (passed _ _ met.0.1 (passed _ _ met.1.0 (passed _ _ met.1.1 none_nil)))
+carried name m shares met = passed _ _ met.0.0 (passed _ _ met.0.1 (passed _ _ met.1.0 (passed _ _ met.1.1 none_failed)))
 
 -- the meters of a domain
-abbrev CarriesAt : Domain → List Contract → List (List Bound) → List ℕ × Meter → Type 0
+abbrev pub CarriesAt : Domain → List Contract → List (List Bound) → List ℕ × Meter → Type 0
 CarriesAt d contracts rows entry = Carries entry.1 (shares_at d entry.0 contracts rows)
 
 all_carry : (d : Domain) (contracts : List Contract) (rows : List (List Bound)) (meters : List (List ℕ × Meter))
@@ -211,7 +187,7 @@ all_carry d contracts rows (entry ∷ meters) is =
 pub all_carried : (d : Domain) (contracts : List Contract) (rows : List (List Bound)) (meters : List (List ℕ × Meter))
     → All (CarriesAt d contracts rows) meters → first_failed (table_tests d contracts rows meters) ≡ None
 unfolding table_tests
-all_carried d contracts rows [] met = none_nil
+all_carried d contracts rows [] met = none_failed
 all_carried d contracts rows (entry ∷ meters) met =
     together (meter_tests entry.0 entry.1 (shares_at d entry.0 contracts rows)) (table_tests d contracts rows meters)
     (carried entry.0 entry.1 (shares_at d entry.0 contracts rows) (All-head (CarriesAt d contracts rows) entry meters met))

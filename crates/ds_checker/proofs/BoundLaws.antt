@@ -23,6 +23,7 @@ use Rattle.ds_certificate.proofs.RouteLaws.{jitters-legs}
 use Rattle.ds_checker.specs.BoundTests.{bound_tests, first_test, hop_test, hop_tests, in_columns, misfit, tests_along}
 use Rattle.ds_checker.specs.Tests.{Test, first_failed}
 use Rattle.ds_checker.specs.declared.refusal.Refusal.{Refusal}
+use Rattle.moment_core.specs.Columns.{each_column}
 
 -- what a rate gives over a gap is far below 2^128
 pub bytes_over_fits : (rate gap : ℕ) → rate < 2 ^ 64 → gap < 2 ^ 64 → bytes_over rate gap < 2 ^ 97
@@ -30,6 +31,10 @@ bytes_over_fits rate gap slow short =
     let product : rate * gap ≤ 2 ^ 64 * 2 ^ 64 = mul-le-mul {n₁ = rate} {m₁ = gap} {n₂ = 2 ^ 64} {m₂ = 2 ^ 64} (omega arith) (omega arith) in
     let times = div_ceil_times (rate * gap) 8000000000 (omega arith) in
     omega (arith, times)
+
+pub none_failed : first_failed [] ≡ None
+unfolding first_failed
+none_failed = refl
 
 -- an item, and those behind it
 pub item_ahead : {X : Type 0} (xs : List X) (i : ℕ) (x : X) → i < length xs → x ≡ get_or xs i x → drop i xs ≡ x ∷ drop (i + 1) xs
@@ -57,18 +62,20 @@ unfolding first_failed
 first_failed-alone t needed given refusal is_needed is_given same =
     rw (sym is_needed) (rw (sym is_given) (ap (then_some (nat_lt given needed)) same ∙ alone_by needed given (t.refused needed given)))
 
--- a test in a column, and those in the columns behind it
-pub first_failed-column : (test : Column → Test) (columns : List Column) (i : ℕ) (d : Column) (refusal : Option Refusal) → i < length columns
-    → refusal ≡ first_failed (test (get_or columns i d) ∷ [])
-    → first_failed (map test (drop i columns)) ≡ option_or refusal (first_failed (map test (drop (i + 1) columns)))
-first_failed-column test columns i d refusal inside is_refusal =
+-- the first test of the columns that fails is that in the column at an index, or one in the columns behind it
+pub column-next : (test : Column → Test) (columns : List Column) (i : ℕ) (d : Column) (refusal : Option Refusal) → columns ≡ each_column → i < length columns
+    → refusal ≡ first_failed (test (get_or columns i d) ∷ []) → first_failed (map test (drop i each_column)) ≡ first_failed (in_columns test)
+    → option_or refusal (first_failed (map test (drop (i + 1) each_column))) ≡ first_failed (in_columns test)
+column-next test columns i d refusal are inside is_refusal left =
     rw is_refusal
-    (ap (λ left. first_failed (map test left)) (drop_more columns i d inside)
-    ∙ first_failed-append (test (get_or columns i d) ∷ []) (map test (drop (i + 1) columns)))
+    (ap (λ own. option_or (first_failed (test (get_or columns i d) ∷ [])) (first_failed (map test (drop (i + 1) own)))) (sym are)
+    ∙ sym (first_failed-append (test (get_or columns i d) ∷ []) (map test (drop (i + 1) columns)))
+    ∙ ap (λ own. first_failed (map test own)) (sym (drop_more columns i d inside)) ∙ ap (λ own. first_failed (map test (drop i own))) are ∙ left)
 
-pub first_failed-columns : (test : Column → Test) (columns : List Column) (i : ℕ) → length columns ≤ i → first_failed (map test (drop i columns)) ≡ None
-unfolding first_failed
-first_failed-columns test columns i ended = ap (λ left. first_failed (map test left)) (drop_all i columns ended)
+pub columns-ended : (test : Column → Test) (columns : List Column) (i : ℕ) → columns ≡ each_column → length columns ≤ i
+    → first_failed (map test (drop i each_column)) ≡ first_failed (in_columns test) → None ≡ first_failed (in_columns test)
+columns-ended test columns i are ended left =
+    sym none_failed ∙ ap (λ own. first_failed (map test own)) (sym (drop_all i columns ended)) ∙ ap (λ own. first_failed (map test (drop i own))) are ∙ left
 
 -- where a refusal stands before others it is the first, and else the first is among the others
 pub found : (refusal other whole : Option Refusal) → is_some refusal ≡ true → option_or refusal other ≡ whole → refusal ≡ whole
@@ -84,13 +91,17 @@ pub or_else_is : {P : Type 0} (first rest result : Option Refusal) → MatchOpti
 or_else_is None rest result which called = called which
 or_else_is (Some refusal) rest result which called = which
 
-pub or_assoc : (a b c : Option Refusal) → option_or (option_or a b) c ≡ option_or a (option_or b c)
-or_assoc None b c = refl
-or_assoc (Some a) b c = refl
-
 pub or_none : (a : Option Refusal) → option_or a None ≡ a
 or_none None = refl
 or_none (Some a) = refl
+
+pub both_none : (a b : Option Refusal) → option_or a b ≡ None → (a ≡ None) × (b ≡ None)
+both_none None b none = (refl, none)
+both_none (Some a) b none = absurd cc
+
+pub or_assoc : (a b c : Option Refusal) → option_or (option_or a b) c ≡ option_or a (option_or b c)
+or_assoc None b c = refl
+or_assoc (Some a) b c = refl
 
 next_is : (i : ℕ) → suc i ≡ i + 1
 next_is i = omega arith
@@ -152,10 +163,6 @@ hops_none : (number hop : ℕ) (s : Source) (jitters : List ℕ) (before : Bound
 unfolding hop_tests
 hops_none number hop s [] before = refl
 hops_none number hop s (jitter ∷ jitters) before = refl
-
-none_failed : first_failed [] ≡ None
-unfolding first_failed
-none_failed = refl
 
 pub hops-ended : (number hop : ℕ) (s : Source) (legs : List Leg) (before : Bound) (bounds : List Bound) → (legs ≡ []) ⊎ (bounds ≡ [])
     → first_failed (hop_tests number hop s (jitters_in legs) before bounds) ≡ None

@@ -6,8 +6,8 @@ use Rattle.std.specs.Str.{bytes_eq}
 use Rattle.std.specs.Map.{keys_of}
 use Rattle.std.specs.Option.{option_or}
 use Rattle.std.proofs.lemmas.Bool.Decides.{nat_tests}
-use Rattle.std.proofs.lemmas.List.Elements.{All-nil, All-cons, All-head, All-tail}
-use Rattle.std.proofs.lemmas.List.{length-map}
+use Rattle.std.proofs.lemmas.List.Elements.{All-head, All-tail, All-weaker}
+use Rattle.std.proofs.lemmas.List.{append_assoc, get_or_push, length-append, length-map, length-take-le, take_all, take_more}
 use Rattle.std.proofs.lemmas.List.Sums.{fold-append}
 use Rattle.envelope_core.specs.Curve.{Curve, widened}
 use Rattle.ds_domain_base.specs.Limits.{all_limit, green_limit}
@@ -35,19 +35,16 @@ use Rattle.ds_checker.specs.Tests.{first_failed}
 use Rattle.ds_checker.specs.declared.load.Loads.{Loads}
 use Rattle.ds_checker.specs.declared.refusal.Refusal.{Refusal}
 use Rattle.ds_checker.specs.declared.refusal.Refusal.TheVariants.{Shape}
-use Rattle.ds_checker.proofs.AcceptanceLaws.{acceptable, all_carried, bounded, carried, has_shape, is_shaped, met_by, misfit-shaped, misfit-unshaped}
+use Rattle.ds_checker.proofs.AcceptanceLaws.{acceptable, all_carried, bounded, carried, has_shape, is_shaped, met_by, misfit-shaped, misfit-unshaped, CarriesAt}
 use Rattle.ds_checker.proofs.BoundLaws.{first_failed-append, found}
 use Rattle.ds_checker.proofs.PlaceLaws.{same_loads}
 use Rattle.ds_checker.proofs.LoadLaws.{AreBelow-more, bound_into-absent, counted_is, green_is, places_kept, same_curve, sums_tests-are, with_share-below, written}
+use Rattle.std.proofs.lemmas.Slice.Zip.{AllZip-long}
 
 -- ---- one contract more
 last_shares : (d : Domain) (name : List ℕ) (c : Contract) (bounds : List Bound) → shares_at d name (c ∷ []) (bounds ∷ []) ≡ share_of d name c bounds
 unfolding shares_at
 last_shares d name c bounds = append-nil (share_of d name c bounds)
-
-append_assoc : {X : Type 0} (xs ys zs : List X) → (xs ++ ys) ++ zs ≡ xs ++ (ys ++ zs)
-append_assoc [] ys zs = refl
-append_assoc (x ∷ xs) ys zs = ap (λ rest. x ∷ rest) (append_assoc xs ys zs)
 
 pub shares_at-append : (d : Domain) (name : List ℕ) (contracts : List Contract) (rows : List (List Bound)) (c : Contract) (bounds : List Bound) → length rows ≡ length contracts
     → shares_at d name (contracts ++ c ∷ []) (rows ++ bounds ∷ []) ≡ shares_at d name contracts rows ++ share_of d name c bounds
@@ -124,10 +121,7 @@ bound_tests-append number next d (own ∷ contracts) (row ∷ rows) c bounds lon
     (tests_along next (source_of d c) (jitters_of d c) bounds))
 
 pub rows_long : (d : Domain) (contracts : List Contract) (rows : List (List Bound)) → IsCertificate d contracts rows → length rows ≡ length contracts
-rows_long d [] [] met = refl
-rows_long d [] (row ∷ rows) met = absurd met
-rows_long d (c ∷ contracts) [] met = absurd met
-rows_long d (c ∷ contracts) (row ∷ rows) met = ap suc (rows_long d contracts rows met.1)
+rows_long d contracts rows met = AllZip-long (λ c bounds. HasShape d c bounds × Meets d c bounds) contracts rows met
 
 -- the sums of an acceptable table pass
 pub sums_pass : (t : Table) (sums : List Loads) → IsAcceptable t → sums ≡ loads_of t → first_failed (sums_tests t.domain.meters sums) ≡ None
@@ -183,17 +177,13 @@ one_share : {X : Type 0} (xs : List X) (f : Option Bound) (share : Bound → X) 
 one_share xs None share is = omega (arith, ap length is)
 one_share xs (Some b) share is = omega (arith, ap length is)
 
-length-both : {X : Type 0} (xs ys : List X) → length (xs ++ ys) ≡ length xs + length ys
-length-both [] ys = omega arith
-length-both (x ∷ xs) ys = omega (arith, length-both xs ys)
-
 few_shares : (d : Domain) (name : List ℕ) (contracts : List Contract) (rows : List (List Bound)) → length (shares_at d name contracts rows) ≤ length contracts
 unfolding shares_at
 few_shares d name [] rows = omega arith
 few_shares d name (c ∷ contracts) [] = omega arith
 few_shares d name (c ∷ contracts) (row ∷ rows) =
     let own = one_share (share_of d name c row) (bound_into name c.path (drop 1 row)) (λ bound. record { source = source_of d c; bound = bound; has_peak = has_peak c.terms }) refl in
-    omega (arith, own, few_shares d name contracts rows, length-both (share_of d name c row) (shares_at d name contracts rows))
+    omega (arith, own, few_shares d name contracts rows, length-append (share_of d name c row) (shares_at d name contracts rows))
 
 sums-below : (d : Domain) (contracts : List Contract) (rows : List (List Bound)) (meters : List (List ℕ × Meter)) → length contracts < 2 ^ 64
     → AreSmall (λ name. shares_at d name contracts rows) meters → AllByRecursion (λ entry. entry.1.skew ≤ 10 ^ 10) meters
@@ -378,20 +368,15 @@ fewer_carried m shares fewer under carries = (
       (subst (IsWithin (all_limit m.parameters)) (sym (counted_is m.parameters m.skew shares)) carries.1)),
 )
 
-abbrev CarriesAt : Domain → List Contract → List (List Bound) → List ℕ × Meter → Type 0
-CarriesAt d contracts rows entry = Carries entry.1 (shares_at d entry.0 contracts rows)
-
 all_carried_without : (d : Domain) (contracts : List Contract) (rows : List (List Bound)) (i : ℕ) (c : Contract) (bounds : List Bound) (meters : List (List ℕ × Meter)) → i < length contracts
     → length rows ≡ length contracts → All (CarriesAt d contracts rows) meters → All (CarriesAt d (remove contracts i) (remove rows i)) meters
-all_carried_without d contracts rows i c bounds [] inside long met = All-nil (CarriesAt d (remove contracts i) (remove rows i))
-all_carried_without d contracts rows i c bounds (entry ∷ meters) inside long met =
+all_carried_without d contracts rows i c bounds meters inside long =
+    All-weaker (CarriesAt d contracts rows) (CarriesAt d (remove contracts i) (remove rows i)) (λ entry.
     let fewer = shares_at d entry.0 (remove contracts i) (remove rows i) in
     let own = share_of d entry.0 (get_or contracts i c) (get_or rows i bounds) in
-    let under = subst (IsUnder (sums_of entry.1.skew fewer)) (sym (shares-taken d entry.0 contracts rows i c bounds (no_loads entry.1.skew) inside long))
-    (fold_under (sums_of entry.1.skew fewer) own) in
-    All-cons (CarriesAt d (remove contracts i) (remove rows i)) entry meters
-    (fewer_carried entry.1 (shares_at d entry.0 contracts rows) fewer under (All-head (CarriesAt d contracts rows) entry meters met))
-    (all_carried_without d contracts rows i c bounds meters inside long (All-tail (CarriesAt d contracts rows) entry meters met))
+    fewer_carried entry.1 (shares_at d entry.0 contracts rows) fewer
+    (subst (IsUnder (sums_of entry.1.skew fewer)) (sym (shares-taken d entry.0 contracts rows i c bounds (no_loads entry.1.skew) inside long))
+    (fold_under (sums_of entry.1.skew fewer) own))) meters
 
 certified_without : (d : Domain) (contracts : List Contract) (rows : List (List Bound)) (i : ℕ) → IsCertificate d contracts rows → IsCertificate d (remove contracts i) (remove rows i)
 certified_without d [] [] zero met = tt
@@ -503,18 +488,50 @@ shape-more d contracts rows sums self c bounds hops sound is_self none is_hops =
 pub last-inside : (d : Domain) (contracts : List Contract) (rows list : List (List Bound)) (sums : List Loads) (bounds : List Bound) (number : ℕ) → IsSound (table d contracts rows) sums
     → number ≡ length contracts → list ≡ rows ++ bounds ∷ [] → number < length list
 last-inside d contracts rows list sums bounds number sound is_number is =
-    omega (arith, is_number, ap length is, length-both rows (bounds ∷ []), rows_long d contracts rows sound.acceptable.0)
-
-last_of : (rows : List (List Bound)) (bounds d : List Bound) (number : ℕ) → number ≡ length rows → get_or (rows ++ bounds ∷ []) number d ≡ bounds
-last_of [] bounds d zero is = refl
-last_of [] bounds d (suc number) is = absurd (omega (arith, is))
-last_of (row ∷ rows) bounds d zero is = absurd (omega (arith, is))
-last_of (row ∷ rows) bounds d (suc number) is = last_of rows bounds d number (omega (arith, is))
+    omega (arith, is_number, ap length is, length-append rows (bounds ∷ []), rows_long d contracts rows sound.acceptable.0)
 
 pub last-row : (d : Domain) (contracts : List Contract) (rows list : List (List Bound)) (sums : List Loads) (bounds row : List Bound) (number : ℕ) → IsSound (table d contracts rows) sums
     → number ≡ length contracts → list ≡ rows ++ bounds ∷ [] → row ≡ get_or list number row → row ≡ bounds
 last-row d contracts rows list sums bounds row number sound is_number is is_row =
-    is_row ∙ ap (λ l. get_or l number row) is ∙ last_of rows bounds row number (is_number ∙ sym (rows_long d contracts rows sound.acceptable.0))
+    is_row ∙ ap (λ l. get_or l number row) is ∙ get_or_push rows bounds row number (sym (is_number ∙ sym (rows_long d contracts rows sound.acceptable.0)))
+
+-- sums that a contract was added to, where they were lent
+pub kept-more : (t : Table) (c : Contract) (bounds hops : List Bound) (sums given made after : List Loads) (len : ℕ) → length t.certificate ≡ length t.contracts → IsKept t sums
+    → hops ≡ bounds → given ≡ sums → length given ≡ len → made ≡ with_brought (λ name. share_of t.domain name c hops) (keys_of t.domain.meters) given
+    → AreSmall (λ name. share_of t.domain name c hops) t.domain.meters → after ≡ take len (made ++ drop (length made) sums) → IsKept (with_contract t c bounds) after
+kept-more t c bounds hops sums given made after len level kept is_hops is_given is_len is_made small is_after =
+    let said = is_made ∙ ap (λ b. with_brought (λ name. share_of t.domain name c b) (keys_of t.domain.meters) given) is_hops
+    ∙ ap (with_brought (λ name. share_of t.domain name c bounds) (keys_of t.domain.meters)) is_given in
+    let long = kept-long t sums kept in
+    let made_long = places_kept (λ name. share_of t.domain name c bounds) t.domain.meters sums made said long in
+    subst (IsKept (with_contract t c bounds)) (sym (is_after ∙ written len made sums given is_given is_len (made_long ∙ sym (ap length is_given ∙ long))))
+    (kept-grown t c bounds sums made level kept said (subst (λ b. AreSmall (λ name. share_of t.domain name c b) t.domain.meters) is_hops small))
+
+-- ---- a loop over contracts: the sums of none, of one more, and of all
+pub kept-none : (d : Domain) (sums : List Loads) → sums ≡ map (λ entry. no_loads entry.1.skew) d.meters → AllByRecursion (λ entry. entry.1.skew ≤ 10 ^ 10) d.meters
+    → IsKept (table d [] []) sums
+unfolding shares_at
+kept-none d sums is short = record { sums = is; small = none_small d.meters; short = short }
+  where
+    none_small : (meters : List (List ℕ × Meter)) → AreSmall (λ name. shares_at d name [] []) meters
+    none_small [] = tt
+    none_small (entry ∷ meters) = (tt, none_small meters)
+
+pub kept-next : (d : Domain) (contracts : List Contract) (rows : List (List Bound)) (i : ℕ) (c : Contract) (bounds hops : List Bound) (sums given made after : List Loads) (len : ℕ)
+    → i < length contracts → i < length rows → c ≡ get_or contracts i c → bounds ≡ get_or rows i bounds → IsKept (table d (take i contracts) (take i rows)) sums
+    → hops ≡ bounds → given ≡ sums → length given ≡ len → made ≡ with_brought (λ name. share_of d name c hops) (keys_of d.meters) given
+    → AreSmall (λ name. share_of d name c hops) d.meters → after ≡ take len (made ++ drop (length made) sums) → IsKept (table d (take (i + 1) contracts) (take (i + 1) rows)) after
+kept-next d contracts rows i c bounds hops sums given made after len inside within is_contract is_row kept is_hops is_given is_len is_made small is_after =
+    subst (λ list. IsKept (table d list (take (i + 1) rows)) after) (sym (take_more contracts i c inside ∙ ap (λ x. take i contracts ++ x ∷ []) (sym is_contract)))
+    (subst (λ list. IsKept (table d (take i contracts ++ c ∷ []) list) after) (sym (take_more rows i bounds within ∙ ap (λ x. take i rows ++ x ∷ []) (sym is_row)))
+    (kept-more (table d (take i contracts) (take i rows)) c bounds hops sums given made after len
+    (length-take-le i rows (omega (arith, within)) ∙ sym (length-take-le i contracts (omega (arith, inside)))) kept is_hops is_given is_len is_made small is_after))
+
+pub kept-whole : (t : Table) (contracts : List Contract) (rows : List (List Bound)) (sums : List Loads) (i : ℕ) → contracts ≡ t.contracts → rows ≡ t.certificate → length contracts ≤ i
+    → length rows ≤ i → IsKept (table t.domain (take i contracts) (take i rows)) sums → IsKept t sums
+kept-whole t contracts rows sums i is_contracts is_rows ended over kept =
+    subst (λ list. IsKept (table t.domain list t.certificate) sums) (take_all i contracts ended ∙ is_contracts)
+    (subst (λ list. IsKept (table t.domain (take i contracts) list) sums) (take_all i rows over ∙ is_rows) kept)
 
 pub sound-more : (d : Domain) (contracts new : List Contract) (rows new_rows : List (List Bound)) (sums given made after : List Loads) (self : Table) (c : Contract) (bounds hops : List Bound) (len : ℕ)
     → IsSound (table d contracts rows) sums → table d contracts rows ≡ self → refusal_of (with_contract self c bounds) ≡ None
@@ -523,17 +540,10 @@ pub sound-more : (d : Domain) (contracts new : List Contract) (rows new_rows : L
     → after ≡ take len (made ++ drop (length made) sums)
     → IsSound (table d new new_rows) after
 sound-more d contracts new rows new_rows sums given made after self c bounds hops len sound is_self none is_new is_rows is_hops is_given is_len is_made small is_after =
-    let t = table d contracts rows in
-    let said : made ≡ with_brought (λ name. share_of d name c bounds) (keys_of d.meters) sums =
-    is_made ∙ ap (λ b. with_brought (λ name. share_of d name c b) (keys_of d.meters) given) is_hops ∙ ap (with_brought (λ name. share_of d name c bounds) (keys_of d.meters)) is_given in
-    let long = kept-long t sums sound.kept in
-    let made_long = places_kept (λ name. share_of d name c bounds) d.meters sums made said long in
-    let is : after ≡ made = is_after ∙ written len made sums given is_given is_len (made_long ∙ sym (ap length is_given ∙ long)) in
-    let kept = kept-grown t c bounds sums made (rows_long d contracts rows sound.acceptable.0) sound.kept said
-    (subst (λ b. AreSmall (λ name. share_of d name c b) d.meters) is_hops small) in
+    let kept = kept-more (table d contracts rows) c bounds hops sums given made after len (rows_long d contracts rows sound.acceptable.0) sound.kept is_hops is_given is_len is_made small is_after in
     subst (λ list. IsSound (table d list new_rows) after) (sym is_new)
     (subst (λ list. IsSound (table d (contracts ++ c ∷ []) list) after) (sym is_rows)
-    (subst (IsSound (with_contract t c bounds)) (sym is) (record { acceptable = larger d contracts rows self c bounds is_self none; kept = kept })))
+    (record { acceptable = larger d contracts rows self c bounds is_self none; kept = kept }))
 
 pub row-inside : (d : Domain) (contracts : List Contract) (rows : List (List Bound)) (sums : List Loads) (i : ℕ) → IsSound (table d contracts rows) sums → i < length contracts → i < length rows
 row-inside d contracts rows sums i sound inside = omega (arith, inside, rows_long d contracts rows sound.acceptable.0)
@@ -570,11 +580,6 @@ sound-less d contracts new rows new_rows sums given made after i c bounds len so
     (subst (λ list. IsSound (table d (remove contracts i) list) after) (sym is_rows)
     (subst (IsSound (without_contract t i)) (sym is)
     (record { acceptable = acceptable-taken t i c bounds inside sound.acceptable; kept = kept-taken t i sums made rows_are sound.kept is_made })))
-
-pub got : {X : Type 0} (xs : List X) (i : ℕ) (x : X) → i < length xs → x ≡ get_or xs i x → slice_get xs i ≡ Some x
-got [] i x inside is = absurd (omega (arith, inside))
-got (y ∷ xs) zero x inside is = ap Some (sym is)
-got (y ∷ xs) (suc i) x inside is = got xs i x (omega (arith, inside)) is
 
 -- ---- one contract more is refused for its own tests alone
 off_path : (d : Domain) (contracts : List Contract) (rows : List (List Bound)) (c : Contract) (bounds : List Bound) (name : List ℕ) → length rows ≡ length contracts

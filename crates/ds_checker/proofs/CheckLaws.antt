@@ -2,7 +2,6 @@
 use Rattle.std.proofs.Common.{arith, ◌≡◌, ◌∙◌, ℕ, ◌+◌, ◌≤◌, ◌<◌, true, false, inl, nat_lt, List, drop, get_or, length, Option, None, Some, refl, ap, sym}
 use Rattle.std.specs.Bool.{then_some}
 use Rattle.std.specs.Option.{option_or}
-use Rattle.std.proofs.lemmas.Bool.Decides.{nat_tests}
 use Rattle.std.proofs.lemmas.List.{drop_all}
 use Rattle.ds_domain_base.specs.Domains.{Domain}
 use Rattle.ds_domain_base.specs.declared.contract.Contract.{Contract}
@@ -18,6 +17,7 @@ use Rattle.ds_checker.specs.Sums.{loads_of, sums_tests}
 use Rattle.ds_checker.specs.declared.load.Loads.{Loads}
 use Rattle.ds_checker.proofs.BoundLaws.{contracts-ended, contracts-step, first_failed-append, item_ahead, misfit-behind, or_assoc, or_none}
 use Rattle.ds_checker.proofs.LoadLaws.{sums_tests-are}
+use Rattle.std.proofs.lemmas.Bool.{le-ltb, lt-ltb}
 
 behind_is : (t : Table) (m : Option ℕ) → refusal_behind t m ≡ option_or (bounds_refusal_behind t m) (first_failed (table_tests t.domain t.contracts t.certificate t.domain.meters))
 behind_is t (Some number) = refl
@@ -59,23 +59,17 @@ pub bounds_ended : (t : Table) (contracts : List Contract) (rows : List (List Bo
 bounds_ended t contracts rows i low is_contracts is_rows ended level shape bounds =
     let d = t.domain in
     let unfitting : misfit 0 d contracts rows ≡ None =
-    sym shape ∙ misfit-behind d contracts rows i ended ∙ ap (λ more. then_some more (length contracts)) (not_less (length contracts) (length rows) level) in
+    sym shape ∙ misfit-behind d contracts rows i ended ∙ ap (λ more. then_some more (length contracts)) (le-ltb (length contracts) (length rows) level) in
     let none = contracts-ended i d (drop i contracts) (drop i rows) (inl (drop_all i contracts (omega (arith, ended)))) in
     ap (bounds_refusal_behind t) (sym (ap (λ list. misfit 0 d list rows) is_contracts ∙ ap (misfit 0 d t.contracts) is_rows) ∙ unfitting)
     ∙ sym (ap (λ list. first_failed (bound_tests 0 d list rows)) is_contracts ∙ ap (λ list. first_failed (bound_tests 0 d t.contracts list)) is_rows)
     ∙ sym bounds ∙ ap (option_or low) none ∙ or_none low
-  where
-    not_less : (a b : ℕ) → b ≤ a → nat_lt a b ≡ false
-    not_less a b level = grind (arith, nat_tests, level)
 
 -- where there are more rows than contracts
 pub over : (d : Domain) (contracts : List Contract) (rows : List (List Bound)) (i : ℕ) → i ≡ length contracts → length contracts < length rows
     → misfit i d (drop i contracts) (drop i rows) ≡ misfit 0 d contracts rows → misfit 0 d contracts rows ≡ Some (length contracts)
 over d contracts rows i ended more shape =
-    sym shape ∙ misfit-behind d contracts rows i ended ∙ ap (λ some. then_some some (length contracts)) (less (length contracts) (length rows) more)
-  where
-    less : (a b : ℕ) → a < b → nat_lt a b ≡ true
-    less a b more = grind (arith, nat_tests, more)
+    sym shape ∙ misfit-behind d contracts rows i ended ∙ ap (λ some. then_some some (length contracts)) (lt-ltb (length contracts) (length rows) more)
 
 -- one contract more is gone over
 pub bounds_step : (d : Domain) (contracts : List Contract) (rows : List (List Bound)) (i : ℕ) (contract : Contract) (bounds : List Bound) (low refusal next whole : Option Refusal)

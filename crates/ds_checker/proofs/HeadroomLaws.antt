@@ -17,19 +17,7 @@ use Rattle.ds_checker.specs.Sums.{IsSound, counted_load, loads_of, sums_of}
 use Rattle.ds_checker.specs.TableTests.{green_load}
 use Rattle.ds_checker.specs.declared.headroom.Headroom.{Headroom}
 use Rattle.ds_checker.specs.declared.load.Loads.{Loads}
-use Rattle.ds_checker.proofs.LoadLaws.{counted_is, green_is, none_passes}
-
--- a name that no meter has
-lookup-absent : (name : List ℕ) (meters : List (List ℕ × Meter)) → AllByRecursion (λ other. bytes_eq name other ≡ false) (keys_of meters) → lookup (bytes_eq name) meters ≡ None
-lookup-absent name [] absent = refl
-lookup-absent name (entry ∷ meters) absent = rw absent.0 (lookup-absent name meters absent.1)
-
--- a meter that is found by its name has a place
-pub placed : (name : List ℕ) (meters : List (List ℕ × Meter)) (m : Meter) → lookup (bytes_eq name) meters ≡ Some m → position (bytes_eq name) (keys_of meters) ≡ None → ⊥
-placed name meters m is nowhere =
-    let absent = lookup-absent name meters (none_passes (bytes_eq name) (keys_of meters) nowhere) in
-    let no : Some m ≡ None = sym is ∙ absent in
-    absurd cc
+use Rattle.ds_checker.proofs.LoadLaws.{counted_is, green_is}
 
 place_is : (found : Bool) (j i : ℕ) → cond found (Some j) None ≡ Some i → j ≡ i
 place_is true j i is = cc

@@ -1,7 +1,6 @@
 -- The greatest hold.
 use Rattle.std.proofs.Common.{arith, ◌≡◌, ℕ, ◌+◌, ◌≤◌, Bool, true, false, ◌||◌, nat_eq, ◌⊎◌, inl, inr, List, [], ◌∷◌, ◌++◌, length, max, refl, sym, ap, ◌∙◌}
 use Rattle.std.specs.List.{AllByRecursion, list_any}
-use Rattle.std.proofs.lemmas.Bool.Decides.{nat_tests}
 use Rattle.std.proofs.Math.Nat.{max-zero, le-max_left, le-max_right}
 use Rattle.ds_domain_base.specs.Domains.{Domain, meter_of}
 use Rattle.ds_domain_base.specs.declared.contract.Contract.{Contract}
@@ -10,6 +9,7 @@ use Rattle.ds_certificate.specs.Sources.{source_of}
 use Rattle.ds_certificate.specs.declared.source.Source.{Source}
 use Rattle.ds_domain_base.specs.Routes.{meter_skew}
 use Rattle.ds_checker.specs.Holds.{greatest, hold_of, holds_along, holds_at_hop, link_delay}
+use Rattle.std.proofs.lemmas.Bool.{eq-eqb, or_left, or_right}
 
 pub greatest-three : (a b c x y z inner outer : ℕ) → x ≡ a → y ≡ b → z ≡ c → inner ≡ max y z → outer ≡ max x inner → outer ≡ greatest (a ∷ b ∷ c ∷ [])
 unfolding greatest
@@ -56,24 +56,13 @@ no_less numbers = below_all (greatest numbers) numbers (omega arith)
 is_either : (a b : ℕ) → (max a b ≡ a) ⊎ (max a b ≡ b)
 is_either a b = grind arith
 
-equal_test : (a b : ℕ) → a ≡ b → nat_eq a b ≡ true
-equal_test a b same = grind (arith, same, nat_tests)
-
-or_true : (a b : Bool) → b ≡ true → (a || b) ≡ true
-or_true true b holds = refl
-or_true false b holds = holds
-
-first_true : (a b : Bool) → a ≡ true → (a || b) ≡ true
-first_true true b holds = refl
-first_true false b holds = absurd cc
-
 pub one_of : (n : ℕ) (numbers : List ℕ) → list_any (nat_eq (greatest (n ∷ numbers))) (n ∷ numbers) ≡ true
 unfolding greatest
-one_of n [] = first_true (nat_eq (max n 0) n) false (equal_test (max n 0) n (max-zero n))
+one_of n [] = or_left (nat_eq (max n 0) n) false (eq-eqb (max n 0) n (max-zero n))
 one_of n (m ∷ numbers) = elim (is_either n (greatest (m ∷ numbers))) [
-  | inl first ↦ first_true (nat_eq (max n (greatest (m ∷ numbers))) n) (list_any (nat_eq (max n (greatest (m ∷ numbers)))) (m ∷ numbers))
-      (equal_test (max n (greatest (m ∷ numbers))) n first)
-  | inr later ↦ or_true (nat_eq (max n (greatest (m ∷ numbers))) n) (list_any (nat_eq (max n (greatest (m ∷ numbers)))) (m ∷ numbers))
+  | inl first ↦ or_left (nat_eq (max n (greatest (m ∷ numbers))) n) (list_any (nat_eq (max n (greatest (m ∷ numbers)))) (m ∷ numbers))
+      (eq-eqb (max n (greatest (m ∷ numbers))) n first)
+  | inr later ↦ or_right (nat_eq (max n (greatest (m ∷ numbers))) n) (list_any (nat_eq (max n (greatest (m ∷ numbers)))) (m ∷ numbers))
       (ap (λ g. list_any (nat_eq g) (m ∷ numbers)) later ∙ one_of m numbers)
 ]
 

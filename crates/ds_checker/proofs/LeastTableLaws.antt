@@ -1,6 +1,6 @@
 -- Where any certificate is acceptable, the least one is: lower bounds bring less to each meter.
 use Rattle.std.proofs.Common.{◌≡◌, ◌≤◌, ℕ, Bool, true, List, [], ◌∷◌, ◌++◌, Option, refl, sym, subst, ◌∙◌, arith, inl, inr}
-use Rattle.std.specs.Prelude.{drop, filter, map, option_map, option_to_list, sum_by}
+use Rattle.std.specs.Prelude.{drop, filter, map, sum_by}
 use Rattle.std.specs.List.{AllZip, list_all, list_any}
 use Rattle.std.specs.Str.{bytes_eq}
 use Rattle.std.proofs.lemmas.Bool.{cases_Bool, and_from}
@@ -26,6 +26,7 @@ use Rattle.ds_certificate.proofs.LesserLaws.{IsUnder, KeepsLess, KeepsLess-itsel
 use Rattle.ds_certificate.proofs.Volumes.{bytes_over-rate}
 use Rattle.ds_checker.specs.Acceptance.{Carries, IsAcceptable}
 use Rattle.ds_checker.specs.Loads.{Share, bound_into, counted, kept, load, share_of, shares_at}
+use Rattle.ds_checker.specs.Sums.{share_by}
 
 -- a share that brings no more than another
 pub record IsLess (a b : Share) : Type 0 where
@@ -42,12 +43,8 @@ AreLess-append [] (y ∷ ys) more others low lower = absurd low
 AreLess-append (x ∷ xs) [] more others low lower = absurd low
 AreLess-append (x ∷ xs) (y ∷ ys) more others low lower = (low.0, AreLess-append xs ys more others low.1 lower)
 
--- the share of a bound, if there is one
-abbrev pub share_with : Source → Bool → Option Bound → List Share
-share_with source peak bound = option_to_list (option_map (λ b. record { source = source; bound = b; has_peak = peak }) bound)
-
 share_into : (source more : Source) (peak : Bool) (name : List ℕ) (path : List (List ℕ)) (low high : List Bound) → KeepsLess source more → AllZip IsAtMost low high
-    → AreLess (share_with source peak (bound_into name path low)) (share_with more peak (bound_into name path high))
+    → AreLess (share_by source peak (bound_into name path low)) (share_by more peak (bound_into name path high))
 unfolding bound_into
 share_into source more peak name [] low high keeps less = tt
 share_into source more peak name (to ∷ path) [] [] keeps less = tt
@@ -93,8 +90,8 @@ pub share_less : (d : Domain) (name : List ℕ) (a b : Contract) → IsLesser d 
 share_less d name a b lesser =
     let low = drop 1 (least_of d a) in
     let high = drop 1 (least_of d b) in
-    subst (λ path. AreLess (share_of d name a (least_of d a)) (share_with (source_of d b) (has_peak b.terms) (bound_into name path high))) lesser.path
-    (subst (λ peak. AreLess (share_of d name a (least_of d a)) (share_with (source_of d b) peak (bound_into name a.path high))) lesser.peak
+    subst (λ path. AreLess (share_of d name a (least_of d a)) (share_by (source_of d b) (has_peak b.terms) (bound_into name path high))) lesser.path
+    (subst (λ peak. AreLess (share_of d name a (least_of d a)) (share_by (source_of d b) peak (bound_into name a.path high))) lesser.peak
     (share_into (source_of d a) (source_of d b) (has_peak a.terms) name a.path low high lesser.source (behind_first (least_of d a) (least_of d b) (least_bounds_less d a b lesser))))
 
 sums_less : (f : Curve → ℕ) (g : Share → Curve) → ((a b : Share) → IsLess a b → f (g a) ≤ f (g b)) → (xs ys : List Share) → AreLess xs ys

@@ -2,7 +2,7 @@
 use Rattle.std.proofs.Common.{arith, ◌≡◌, ℕ, zero, suc, ◌<◌, List, [], ◌∷◌, ◌++◌, length, map, get_or, set, refl, sym, ap, subst, ◌∙◌}
 use Rattle.std.specs.Prelude.{All}
 use Rattle.std.specs.List.{AllByRecursion}
-use Rattle.std.proofs.lemmas.List.Elements.{All-nil, All-cons, All-head, All-tail}
+use Rattle.std.proofs.lemmas.List.Elements.{All-weaker}
 use Rattle.ds_domain_base.specs.Domains.{Domain}
 use Rattle.ds_domain_base.specs.Lifetimes.{Span}
 use Rattle.ds_domain_base.specs.declared.contract.Contract.{Contract}
@@ -15,9 +15,8 @@ use Rattle.ds_checker.specs.Changes.{lasting, lasting_at, with_lifetime}
 use Rattle.ds_checker.specs.Loads.{shares_at, share_of}
 use Rattle.ds_checker.specs.Sums.{AreSmall, IsKept, IsSmall, IsSound, sums_of}
 use Rattle.ds_checker.specs.declared.load.Loads.{Loads}
-
-abbrev table : Domain → List Contract → List (List Bound) → Table
-table d contracts rows = record { domain = d; contracts = contracts; certificate = rows }
+use Rattle.ds_checker.proofs.ChangeLaws.{table}
+use Rattle.ds_checker.proofs.AcceptanceLaws.{CarriesAt}
 
 -- a contract that is written over
 pub lasting-set : (contracts : List Contract) (i : ℕ) (lifetime : Span) (c : Contract) → i < length contracts → c ≡ get_or contracts i c
@@ -48,11 +47,8 @@ certified-lasting d (c ∷ contracts) (row ∷ rows) (suc i) lifetime met = (met
 
 carried-lasting : (d : Domain) (contracts : List Contract) (rows : List (List Bound)) (i : ℕ) (lifetime : Span) (meters : List (List ℕ × Meter))
     → All (λ entry. Carries entry.1 (shares_at d entry.0 contracts rows)) meters → All (λ entry. Carries entry.1 (shares_at d entry.0 (lasting_at i lifetime contracts) rows)) meters
-carried-lasting d contracts rows i lifetime [] met = All-nil (λ entry. Carries entry.1 (shares_at d entry.0 (lasting_at i lifetime contracts) rows))
-carried-lasting d contracts rows i lifetime (entry ∷ meters) met =
-    All-cons (λ other. Carries other.1 (shares_at d other.0 (lasting_at i lifetime contracts) rows)) entry meters
-    (subst (Carries entry.1) (sym (shares-lasting d entry.0 contracts rows i lifetime)) (All-head (λ other. Carries other.1 (shares_at d other.0 contracts rows)) entry meters met))
-    (carried-lasting d contracts rows i lifetime meters (All-tail (λ other. Carries other.1 (shares_at d other.0 contracts rows)) entry meters met))
+carried-lasting d contracts rows i lifetime =
+    All-weaker (CarriesAt d contracts rows) (CarriesAt d (lasting_at i lifetime contracts) rows) (λ entry. subst (Carries entry.1) (sym (shares-lasting d entry.0 contracts rows i lifetime)))
 
 pub acceptable-lasting : (t : Table) (i : ℕ) (lifetime : Span) → IsAcceptable t → IsAcceptable (with_lifetime t i lifetime)
 acceptable-lasting t i lifetime met =

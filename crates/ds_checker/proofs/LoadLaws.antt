@@ -9,7 +9,9 @@ use Rattle.std.proofs.lemmas.Bool.Decides.{nat_tests, same_from_decides}
 use Rattle.std.proofs.lemmas.List.{drop_all, length-drop, take_all}
 use Rattle.std.proofs.lemmas.List.Sums.{fold-append, sum_by-cons}
 use Rattle.std.proofs.lemmas.List.Quantifiers.{position-Some}
-use Rattle.std.proofs.lemmas.Bool.{and_parts}
+use Rattle.std.proofs.lemmas.Bool.{and_parts, eqb-true, or_parts}
+use Rattle.std.proofs.Math.Bool.{and-false, and-true}
+use Rattle.std.proofs.lemmas.Slice.Zip.{AllZip-long}
 use Rattle.std.proofs.lemmas.Map.Entries.{length-keys_of}
 use Rattle.std.specs.Map.{keys_of}
 use Rattle.ds_domain_base.specs.Domains.{Domain}
@@ -56,16 +58,6 @@ with_brought-nothing brought (name ∷ names) [] long none = absurd (omega (arit
 with_brought-nothing brought (name ∷ names) (l ∷ loads) long none =
     rw (none name) (ap (λ rest. l ∷ rest) (with_brought-nothing brought names loads (omega (arith, long)) none))
 
--- one after the other
-pub with_brought-twice : (first later : List ℕ → List Share) (names : List (List ℕ)) (loads : List Loads)
-    → with_brought later names (with_brought first names loads) ≡ with_brought (λ name. first name ++ later name) names loads
-unfolding with_brought
-with_brought-twice first later [] loads = refl
-with_brought-twice first later (name ∷ names) [] = refl
-with_brought-twice first later (name ∷ names) (l ∷ loads) =
-    rw (fold-append with_share l (first name) (later name))
-    (ap (λ rest. fold with_share (fold with_share l (first name)) (later name) ∷ rest) (with_brought-twice first later names loads))
-
 -- what is brought to no name of these does not matter
 pub with_brought-apart : (to : List ℕ) (first later : List ℕ → List Share) (names : List (List ℕ)) (loads : List Loads)
     → AllByRecursion (λ name. bytes_eq to name ≡ false) names → ((name : List ℕ) → bytes_eq to name ≡ false → later name ≡ first name)
@@ -98,10 +90,6 @@ with_brought-at to share first later (name ∷ names) (own ∷ loads) (suc i) d 
     (ap (λ rest. fold with_share own (first name) ∷ rest)
     (with_brought-at to share first later names loads i d l distinct.1 (omega (arith, long)) (omega (arith, inside)) is same one none))
 
-pub or_parts : (p q : Bool) → (p || q) ≡ false → (p ≡ false) × (q ≡ false)
-or_parts true q neither = absurd cc
-or_parts false q neither = (refl, neither)
-
 -- a path that does not lead to a name
 pub bound_into-absent : (name : List ℕ) (path : List (List ℕ)) (bounds : List Bound) → list_any (bytes_eq name) path ≡ false → bound_into name path bounds ≡ None
 unfolding bound_into
@@ -130,22 +118,6 @@ bound_into-other name to path b bounds other = rw (bytes_eq-flip name to ∙ oth
 -- along a path
 abbrev pub brought_along : Source → Bool → List (List ℕ) → List Bound → List ℕ → List Share
 brought_along source has_peak path bounds name = share_by source has_peak (bound_into name path bounds)
-
-is_found : (b : Bool) (i : ℕ) → cond b (Some i) None ≡ None → b ≡ false
-is_found true i nowhere = absurd cc
-is_found false i nowhere = refl
-
-passes_none_by : {X : Type 0} (p : X → Bool) (x : X) (xs : List X) (b : Bool) → p x ≡ b → (nat_lt (position_or_len p xs) (length xs) ≡ false → AllByRecursion (λ x. p x ≡ false) xs)
-    → nat_lt (position_or_len p (x ∷ xs)) (length (x ∷ xs)) ≡ false → AllByRecursion (λ x. p x ≡ false) (x ∷ xs)
-passes_none_by p x xs true is behind long = absurd (grind (arith, is, long, nat_tests))
-passes_none_by p x xs false is behind long = (is, behind (grind (arith, is, long, nat_tests)))
-
-passes_none : {X : Type 0} (p : X → Bool) (xs : List X) → nat_lt (position_or_len p xs) (length xs) ≡ false → AllByRecursion (λ x. p x ≡ false) xs
-passes_none p [] long = tt
-passes_none p (x ∷ xs) long = passes_none_by p x xs (p x) refl (passes_none p xs) long
-
-pub none_passes : {X : Type 0} (p : X → Bool) (xs : List X) → position p xs ≡ None → AllByRecursion (λ x. p x ≡ false) xs
-none_passes p xs nowhere = passes_none p xs (is_found (nat_lt (position_or_len p xs) (length xs)) (position_or_len p xs) nowhere)
 
 -- with one hop more
 pub with_brought-hop : (source : Source) (has_peak : Bool) (to : List ℕ) (path : List (List ℕ)) (b : Bound) (bounds : List Bound) (names : List (List ℕ))
@@ -217,12 +189,6 @@ AreBelow-at most [] i d inside below = absurd (omega (arith, inside))
 AreBelow-at most (l ∷ loads) zero d inside below = below.0
 AreBelow-at most (l ∷ loads) (suc i) d inside below = AreBelow-at most loads i d (omega (arith, inside)) below.1
 
--- ---- a loop over the meters of a path
-pub range_past : (xs path : List (List ℕ)) (to : List ℕ) (loads : List Loads) (most : ℕ) → xs ≡ to ∷ path → length xs ≤ 16
-    → AllByRecursion (AreBelow (most + 2 * 10 ^ 15 * (16 - length xs))) loads → AllByRecursion (AreBelow (most + 2 * 10 ^ 15 * (16 - length path))) loads
-range_past xs path to loads most next short below =
-    AreBelow-more (most + 2 * 10 ^ 15 * (16 - length xs)) (most + 2 * 10 ^ 15 * (16 - length path)) loads (omega (arith, ap length next, short)) below
-
 -- ---- what is added is small
 small_by : (x : Bool) (source : Source) (has_peak : Bool) (b : Bound) (rest : Option Bound) → IsModerate source → IsInRange b
     → AllByRecursion IsSmall (share_by source has_peak rest) → AllByRecursion IsSmall (share_by source has_peak (if x then Some b else rest))
@@ -236,15 +202,6 @@ small-next source has_peak to path b bounds [] moderate small behind = tt
 small-next source has_peak to path b bounds (entry ∷ meters) moderate small behind = (
   small_by (bytes_eq entry.0 to) source has_peak b (bound_into entry.0 path bounds) moderate small behind.0,
   small-next source has_peak to path b bounds meters moderate small behind.1,
-)
-
-small-elsewhere : (source : Source) (has_peak : Bool) (to : List ℕ) (path : List (List ℕ)) (b : Bound) (bounds : List Bound) (meters : List (List ℕ × Meter))
-    → AllByRecursion (λ name. bytes_eq to name ≡ false) (keys_of meters)
-    → AreSmall (brought_along source has_peak path bounds) meters → AreSmall (brought_along source has_peak (to ∷ path) (b ∷ bounds)) meters
-small-elsewhere source has_peak to path b bounds [] apart behind = tt
-small-elsewhere source has_peak to path b bounds (entry ∷ meters) apart behind = (
-  subst (λ f. AllByRecursion IsSmall (share_by source has_peak f)) (bound_into-other entry.0 to path b bounds apart.0) behind.0,
-  small-elsewhere source has_peak to path b bounds meters apart.1 behind.1,
 )
 
 pub small-hop : (source : Source) (has_peak : Bool) (xs path : List (List ℕ)) (to : List ℕ) (ys bounds : List Bound) (b : Bound) (meters : List (List ℕ × Meter))
@@ -265,9 +222,6 @@ by_test : (test : Bool) (number : ℕ) (rest : Option ℕ) → (if test then res
 by_test true number rest whole = (refl, whole)
 by_test false number rest whole = absurd cc
 
-same_long : (n m : ℕ) → nat_eq n m ≡ true → n ≡ m
-same_long n m same = grind (arith, same, nat_tests)
-
 -- where none is amiss, each contract and its bounds have the shape
 pub shaped : (number : ℕ) (d : Domain) (contracts : List Contract) (rows : List (List Bound)) → misfit number d contracts rows ≡ None → AllZip (HasShape d) contracts rows
 unfolding misfit
@@ -277,95 +231,21 @@ shaped number d (c ∷ contracts) [] whole = absurd cc
 shaped number d (c ∷ contracts) (bounds ∷ rows) whole =
     let tested = by_test (fits d c && nat_eq (length bounds) (suc (length c.path))) number (misfit (suc number) d contracts rows) whole in
     let parts = and_parts (fits d c) (nat_eq (length bounds) (suc (length c.path))) tested.0 in
-    ((parts.0, same_long (length bounds) (suc (length c.path)) parts.1), shaped (suc number) d contracts rows tested.1)
+    ((parts.0, eqb-true (length bounds) (suc (length c.path)) parts.1), shaped (suc number) d contracts rows tested.1)
 
 pub shaped_behind : (d : Domain) (xs contracts : List Contract) (c : Contract) (ys rows : List (List Bound)) (bounds : List Bound) → xs ≡ c ∷ contracts → ys ≡ bounds ∷ rows
     → AllZip (HasShape d) xs ys → HasShape d c bounds × AllZip (HasShape d) contracts rows
 shaped_behind d xs contracts c ys rows bounds is_contracts is_rows all =
     subst (λ list. AllZip (HasShape d) (c ∷ contracts) list) is_rows (subst (λ list. AllZip (HasShape d) list ys) is_contracts all)
 
-pub shares_at-ended : (d : Domain) (name : List ℕ) (xs : List Contract) (ys : List (List Bound)) → (xs ≡ []) ⊎ (ys ≡ []) → shares_at d name xs ys ≡ []
-unfolding shares_at
-shares_at-ended d name [] ys ended = refl
-shares_at-ended d name (c ∷ xs) [] ended = refl
-shares_at-ended d name (c ∷ xs) (bounds ∷ ys) (inl ended) = absurd cc
-shares_at-ended d name (c ∷ xs) (bounds ∷ ys) (inr ended) = absurd cc
-
-with_brought-contract : (d : Domain) (c : Contract) (contracts : List Contract) (bounds : List Bound) (rows : List (List Bound)) (names : List (List ℕ)) (loads : List Loads)
-    → with_brought (λ name. share_of d name c bounds ++ shares_at d name contracts rows) names loads ≡ with_brought (λ name. shares_at d name (c ∷ contracts) (bounds ∷ rows)) names loads
-unfolding shares_at
-with_brought-contract d c contracts bounds rows names loads = refl
-
 -- where what holds of each pair is left, both lists go on
-zip_long : {X Y : Type 0} (P : X → Y → Type 0) (xs : List X) (ys : List Y) → AllZip P xs ys → length xs ≡ length ys
-zip_long P [] [] all = refl
-zip_long P [] (y ∷ ys) all = absurd all
-zip_long P (x ∷ xs) [] all = absurd all
-zip_long P (x ∷ xs) (y ∷ ys) all = ap suc (zip_long P xs ys all.1)
-
 pub zip_inside : {X Y : Type 0} (P : X → Y → Type 0) (xs : List X) (ys : List Y) (i : ℕ) → AllZip P (drop i xs) (drop i ys) → i < length xs → i < length ys
-zip_inside P xs ys i all inside = omega (arith, inside, zip_long P (drop i xs) (drop i ys) all, length-drop i xs, length-drop i ys)
-
-pub contract_kept : (d : Domain) (xs contracts : List Contract) (c : Contract) (ys rows : List (List Bound)) (bounds : List Bound) (names : List (List ℕ)) (loads new whole : List Loads)
-    → xs ≡ c ∷ contracts → ys ≡ bounds ∷ rows → new ≡ with_brought (λ name. share_of d name c bounds) names loads
-    → with_brought (λ name. shares_at d name xs ys) names loads ≡ whole → with_brought (λ name. shares_at d name contracts rows) names new ≡ whole
-contract_kept d xs contracts c ys rows bounds names loads new whole is_contracts is_rows is_new kept =
-    ap (with_brought (λ name. shares_at d name contracts rows) names) is_new
-    ∙ with_brought-twice (λ name. share_of d name c bounds) (λ name. shares_at d name contracts rows) names loads
-    ∙ with_brought-contract d c contracts bounds rows names loads
-    ∙ sym (ap (λ list. with_brought (λ name. shares_at d name list ys) names loads) is_contracts
-    ∙ ap (λ list. with_brought (λ name. shares_at d name (c ∷ contracts) list) names loads) is_rows)
-    ∙ kept
-
-small_both : (xs ys : List Share) → AllByRecursion IsSmall xs → AllByRecursion IsSmall ys → AllByRecursion IsSmall (xs ++ ys)
-small_both [] ys left right = right
-small_both (x ∷ xs) ys left right = (left.0, small_both xs ys left.1 right)
-
-small_contract : (d : Domain) (c : Contract) (contracts : List Contract) (bounds : List Bound) (rows : List (List Bound)) (meters : List (List ℕ × Meter))
-    → AreSmall (λ name. share_of d name c bounds) meters → AreSmall (λ name. shares_at d name contracts rows) meters
-    → AreSmall (λ name. shares_at d name (c ∷ contracts) (bounds ∷ rows)) meters
-unfolding shares_at
-small_contract d c contracts bounds rows [] own behind = tt
-small_contract d c contracts bounds rows (entry ∷ meters) own behind =
-    (small_both (share_of d entry.0 c bounds) (shares_at d entry.0 contracts rows) own.0 behind.0, small_contract d c contracts bounds rows meters own.1 behind.1)
-
-pub contract_small : (d : Domain) (xs contracts : List Contract) (c : Contract) (ys rows : List (List Bound)) (bounds : List Bound) (meters : List (List ℕ × Meter))
-    → xs ≡ c ∷ contracts → ys ≡ bounds ∷ rows → AreSmall (λ name. share_of d name c bounds) meters → AreSmall (λ name. shares_at d name contracts rows) meters
-    → AreSmall (λ name. shares_at d name xs ys) meters
-contract_small d xs contracts c ys rows bounds meters is_contracts is_rows own behind =
-    subst (λ list. AreSmall (λ name. shares_at d name list ys) meters) (sym is_contracts)
-    (subst (λ list. AreSmall (λ name. shares_at d name (c ∷ contracts) list) meters) (sym is_rows) (small_contract d c contracts bounds rows meters own behind))
-
-pub small-first : (d : Domain) (xs contracts : List Contract) (ys rows : List (List Bound)) (meters : List (List ℕ × Meter)) → xs ≡ contracts → ys ≡ rows
-    → AreSmall (λ name. shares_at d name xs ys) meters → AreSmall (λ name. shares_at d name contracts rows) meters
-small-first d xs contracts ys rows meters is_contracts is_rows small =
-    subst (λ list. AreSmall (λ name. shares_at d name list rows) meters) is_contracts (subst (λ list. AreSmall (λ name. shares_at d name xs list) meters) is_rows small)
-
-pub contracts_small : (d : Domain) (xs : List Contract) (ys : List (List Bound)) (meters : List (List ℕ × Meter)) → (xs ≡ []) ⊎ (ys ≡ [])
-    → AreSmall (λ name. shares_at d name xs ys) meters
-contracts_small d xs ys [] ended = tt
-contracts_small d xs ys (entry ∷ meters) ended =
-    (subst (AllByRecursion IsSmall) (sym (shares_at-ended d entry.0 xs ys ended)) tt, contracts_small d xs ys meters ended)
-
-pub contracts_ended : (d : Domain) (xs : List Contract) (ys : List (List Bound)) (names : List (List ℕ)) (loads whole : List Loads) → length loads ≡ length names
-    → (xs ≡ []) ⊎ (ys ≡ []) → with_brought (λ name. shares_at d name xs ys) names loads ≡ whole → loads ≡ whole
-contracts_ended d xs ys names loads whole long ended kept =
-    sym (with_brought-nothing (λ name. shares_at d name xs ys) names loads long (λ name. shares_at-ended d name xs ys ended)) ∙ kept
+zip_inside P xs ys i all inside = omega (arith, inside, AllZip-long P (drop i xs) (drop i ys) all, length-drop i xs, length-drop i ys)
 
 pub places_kept : (brought : List ℕ → List Share) (meters : List (List ℕ × Meter)) (loads new : List Loads) → new ≡ with_brought brought (keys_of meters) loads
     → length loads ≡ length meters → length new ≡ length meters
 places_kept brought meters loads new is_new long =
     ap length is_new ∙ length-with_brought brought (keys_of meters) loads (long ∙ sym (length-keys_of meters)) ∙ length-keys_of meters
-
-pub contracts_room : (n : ℕ) (loads : List Loads) → AllByRecursion (AreBelow (32 * 10 ^ 15 * (2 ^ 64 - n))) loads → AllByRecursion (AreBelow (2 ^ 120)) loads
-contracts_room n loads below = AreBelow-more (32 * 10 ^ 15 * (2 ^ 64 - n)) (2 ^ 120) loads (omega arith) below
-
-pub contracts_range : (xs contracts : List Contract) (c : Contract) (loads new : List Loads) → xs ≡ c ∷ contracts → length xs ≤ 2 ^ 64
-    → ((most : ℕ) → AllByRecursion (AreBelow most) loads → AllByRecursion (AreBelow (most + 32 * 10 ^ 15)) new)
-    → AllByRecursion (AreBelow (32 * 10 ^ 15 * (2 ^ 64 - length xs))) loads → AllByRecursion (AreBelow (32 * 10 ^ 15 * (2 ^ 64 - length contracts))) new
-contracts_range xs contracts c loads new is few grows below =
-    AreBelow-more (32 * 10 ^ 15 * (2 ^ 64 - length xs) + 32 * 10 ^ 15) (32 * 10 ^ 15 * (2 ^ 64 - length contracts)) new (omega (arith, ap length is, few))
-    (grows (32 * 10 ^ 15 * (2 ^ 64 - length xs)) below)
 
 pub shaped_all : (d : Domain) (xs contracts : List Contract) (ys rows : List (List Bound)) → xs ≡ contracts → ys ≡ rows → misfit 0 d contracts rows ≡ None → AllZip (HasShape d) xs ys
 shaped_all d xs contracts ys rows is_contracts is_rows whole = shaped 0 d xs ys (ap (λ list. misfit 0 d list ys) is_contracts ∙ ap (misfit 0 d contracts) is_rows ∙ whole)
@@ -417,14 +297,6 @@ peaked_is : (l : Loads) (shares : List Share) → (fold with_share l shares).pea
 peaked_is l [] = sym (nothing-plus l.peaked)
 peaked_is l (share ∷ shares) = peaked_is (with_share l share) shares ∙ peaked_by share.has_peak l share shares refl
 
-and-false : (b : Bool) → (b && false) ≡ false
-and-false true = refl
-and-false false = refl
-
-and-true : (b : Bool) → (b && true) ≡ b
-and-true true = refl
-and-true false = refl
-
 one_more : (n : ℕ) → nat_eq (n + 1) 0 ≡ false
 one_more n = grind (arith, nat_tests)
 
@@ -466,14 +338,6 @@ tests_are name m shares l is =
     ∙ ap (λ green. load_tests name m green (counted_load m.parameters (sums_of m.skew shares))) (green_is m.skew shares)
     ∙ ap (load_tests name m (load Green m.skew shares)) (counted_is m.parameters m.skew shares)
 
--- the sums of a table
-pub sums_are : (d : Domain) (contracts : List Contract) (rows : List (List Bound)) (meters : List (List ℕ × Meter))
-    → with_brought (λ name. shares_at d name contracts rows) (keys_of meters) (map (λ entry. no_loads entry.1.skew) meters)
-    ≡ map (λ entry. sums_of entry.1.skew (shares_at d entry.0 contracts rows)) meters
-unfolding with_brought
-sums_are d contracts rows [] = refl
-sums_are d contracts rows (entry ∷ meters) = ap (λ rest. sums_of entry.1.skew (shares_at d entry.0 contracts rows) ∷ rest) (sums_are d contracts rows meters)
-
 -- their tests are those of the table
 pub sums_tests-are : (d : Domain) (contracts : List Contract) (rows : List (List Bound)) (meters : List (List ℕ × Meter))
     → sums_tests meters (map (λ entry. sums_of entry.1.skew (shares_at d entry.0 contracts rows)) meters) ≡ table_tests d contracts rows meters
@@ -499,7 +363,3 @@ tests_ended [] ys ended = refl
 tests_ended (entry ∷ meters) [] ended = refl
 tests_ended (entry ∷ meters) (l ∷ sums) (inl ended) = absurd cc
 tests_ended (entry ∷ meters) (l ∷ sums) (inr ended) = absurd cc
-
-pub none_long : {X : Type 0} (xs : List X) → length xs ≡ 0 → xs ≡ []
-none_long [] short = refl
-none_long (x ∷ xs) short = absurd (omega (arith, short))

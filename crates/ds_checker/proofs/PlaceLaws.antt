@@ -13,28 +13,8 @@ use Rattle.ds_checker.specs.Sums.{IsCounted, IsPeakCounted, less, plus, sum_test
 use Rattle.ds_checker.specs.Tests.{first_failed}
 use Rattle.ds_checker.specs.declared.load.Loads.{Loads}
 use Rattle.ds_checker.specs.declared.refusal.Refusal.{Refusal}
-use Rattle.ds_checker.proofs.BoundLaws.{first_failed-append}
+use Rattle.ds_checker.proofs.BoundLaws.{first_failed-append, none_failed}
 use Rattle.ds_checker.proofs.LoadLaws.{apart_at, same_curve, with_brought-apart}
-
--- what is brought to one name alone more than to the others
-pub brought-at : (to : List ℕ) (share : Share) (first later : List ℕ → List Share) (names : List (List ℕ)) (loads : List Loads) (i : ℕ) (d : List ℕ) (l : Loads)
-    → IsDistinct bytes_eq names → length loads ≡ length names → i < length names → get_or names i d ≡ to
-    → ((name : List ℕ) → bytes_eq to name ≡ false → later name ≡ first name) → first to ≡ share ∷ [] → later to ≡ []
-    → (with_brought first names loads ≡ set (with_brought later names loads) i (with_share (get_or loads i l) share))
-    × (get_or (with_brought later names loads) i l ≡ get_or loads i l)
-unfolding with_brought IsDistinct
-brought-at to share first later [] loads i d l distinct long inside is same one none = absurd (omega (arith, inside))
-brought-at to share first later (name ∷ names) [] i d l distinct long inside is same one none = absurd (omega (arith, long))
-brought-at to share first later (name ∷ names) (own ∷ loads) zero d l distinct long inside is same one none = (
-  rw is (rw one (ap (λ rest. with_share own share ∷ rest)
-      (sym (with_brought-apart to first later names loads (subst (λ n. AllByRecursion (λ y. bytes_eq n y ≡ false) names) is distinct.0) same)))),
-  rw is (rw none refl),
-)
-brought-at to share first later (name ∷ names) (own ∷ loads) (suc i) d l distinct long inside is same one none =
-    let behind = brought-at to share first later names loads i d l distinct.1 (omega (arith, long)) (omega (arith, inside)) is same one none in (
-      rw (same name (apart_at name to names i d distinct.0 (omega (arith, inside)) is)) (ap (λ rest. fold with_share own (first name) ∷ rest) behind.0),
-      behind.1,
-    )
 
 -- ---- a share that is taken back
 abbrev pub loads_with : ℕ → Curve → Curve → Curve → ℕ → Loads
@@ -88,23 +68,14 @@ unfolding first_at
 second_by place None rest others behind = behind
 second_by place (Some refusal) rest others behind = refl
 
-none_nil : first_failed [] ≡ None
-unfolding first_failed
-none_nil = refl
-
 pub first-failed-at : (place : ℕ) (meters : List (List ℕ × Meter)) (loads : List Loads)
     → option_map (λ f. f.1) (first_at place (answers meters loads)) ≡ first_failed (sums_tests meters loads)
 unfolding answers sums_tests first_at
-first-failed-at place [] loads = sym none_nil
-first-failed-at place (entry ∷ meters) [] = sym none_nil
+first-failed-at place [] loads = sym none_failed
+first-failed-at place (entry ∷ meters) [] = sym none_failed
 first-failed-at place (entry ∷ meters) (l ∷ loads) =
     second_by place (first_failed (sum_tests entry l)) (answers meters loads) (first_failed (sums_tests meters loads)) (first-failed-at (suc place) meters loads)
     ∙ sym (first_failed-append (sum_tests entry l) (sums_tests meters loads))
-
-none_by : (place : ℕ) (found : Option Refusal) (rest : List (Option Refusal)) → option_or found (option_map (λ f. f.1) (first_at (suc place) rest)) ≡ None
-    → (found ≡ None) × (option_map (λ f. f.1) (first_at (suc place) rest) ≡ None)
-none_by place None rest none = (refl, none)
-none_by place (Some refusal) rest none = absurd cc
 
 pub some_first : (found : Option (ℕ × Refusal)) → option_map (λ f. f.1) found ≡ None → found ≡ None
 some_first None none = refl

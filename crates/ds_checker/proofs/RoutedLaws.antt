@@ -26,7 +26,8 @@ use Rattle.ds_checker.specs.Loads.{share_of}
 use Rattle.ds_checker.specs.Routed.{AreBounds, share_with, with_legs}
 use Rattle.ds_checker.specs.Sums.{AreBelow, AreSmall, IsBefore, no_loads, share_by, with_brought, with_share}
 use Rattle.ds_checker.specs.declared.load.Loads.{Loads}
-use Rattle.ds_checker.proofs.LoadLaws.{AreBelow-at, AreBelow-more, bound_into-ended, brought_along, or_parts, set-below, small-ended, small-hop, with_brought-hop, with_brought-nothing}
+use Rattle.ds_checker.proofs.LoadLaws.{AreBelow-at, AreBelow-more, bound_into-ended, brought_along, set-below, small-ended, small-hop, with_brought-hop, with_brought-nothing}
+use Rattle.std.proofs.lemmas.Bool.{or_parts}
 
 -- ---- one leg more
 pub legs-hop : (source : Source) (peaked : Bool) (xs legs : List Leg) (leg : Leg) (ys bounds : List Bound) (b : Bound) (sums whole : List Loads) (l new : Loads)

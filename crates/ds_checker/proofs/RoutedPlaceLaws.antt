@@ -1,7 +1,6 @@
 -- Legs that lead to places that all differ: each share can be added first or last, and is taken back by its place.
 use Rattle.std.proofs.Common.{arith, ◌≡◌, ◌≢◌, ℕ, ◌<◌, Bool, false, nat_eq, ◌⊎◌, inl, inr, List, [], ◌∷◌, length, set, get_or, Option, None, refl, sym, ap, subst, ◌∙◌}
 use Rattle.std.specs.List.{AllByRecursion, IsDistinct}
-use Rattle.std.proofs.lemmas.Bool.Decides.{nat_tests}
 use Rattle.std.proofs.lemmas.List.{get_or_default, get_or-set_other, get_or-set_same, length-set, set-get_or, set-set, set_comm}
 use Rattle.ds_domain_base.specs.Routes.{places_of}
 use Rattle.ds_domain_base.specs.declared.parts.Meter.{Meter}
@@ -15,13 +14,11 @@ use Rattle.ds_checker.specs.Tests.{first_failed}
 use Rattle.ds_checker.specs.declared.load.Loads.{Loads}
 use Rattle.ds_checker.specs.declared.refusal.Refusal.{Refusal}
 use Rattle.ds_checker.proofs.PlaceLaws.{answers, answers-at, answers-set, counted-with, earlier-assoc, entry_of, first_at, first_at-set, length-answers, none-at, none_of, without-with, zero_plus}
+use Rattle.std.proofs.lemmas.Bool.{eqb-false}
 
 -- no leg leads to a place
 abbrev pub AreApart : ℕ → List Leg → Type 0
 AreApart place legs = AllByRecursion (λ other. nat_eq place other ≡ false) (places_of legs)
-
-differ : (a b : ℕ) → nat_eq a b ≡ false → a ≢ b
-differ a b apart same = grind (arith, nat_tests, apart, same)
 
 pub length-with_legs : (source : Source) (peaked : Bool) (legs : List Leg) (bounds : List Bound) (sums : List Loads) → length (with_legs source peaked legs bounds sums) ≡ length sums
 unfolding with_legs
@@ -40,7 +37,7 @@ apart-get source peaked (leg ∷ legs) [] sums place l apart = refl
 apart-get source peaked (leg ∷ legs) (b ∷ bounds) sums place l apart =
     let own = with_share (get_or sums leg.place (no_loads 0)) (share_with source peaked b) in
     apart-get source peaked legs bounds (set sums leg.place own) place l apart.1
-    ∙ get_or-set_other sums leg.place place own l (differ place leg.place apart.0)
+    ∙ get_or-set_other sums leg.place place own l (eqb-false place leg.place apart.0)
 
 -- and may be written before or after
 pub apart-set : (source : Source) (peaked : Bool) (legs : List Leg) (bounds : List Bound) (sums : List Loads) (place : ℕ) (new : Loads) → AreApart place legs
@@ -49,7 +46,7 @@ unfolding with_legs
 apart-set source peaked [] bounds sums place new apart = refl
 apart-set source peaked (leg ∷ legs) [] sums place new apart = refl
 apart-set source peaked (leg ∷ legs) (b ∷ bounds) sums place new apart =
-    let other = differ place leg.place apart.0 in
+    let other = eqb-false place leg.place apart.0 in
     let share = share_with source peaked b in
     let own = with_share (get_or sums leg.place (no_loads 0)) share in
     apart-set source peaked legs bounds (set sums leg.place own) place new apart.1

@@ -157,12 +157,6 @@ at-none place (leg ∷ legs) [] ended = refl
 at-none place (leg ∷ legs) (b ∷ bounds) (inl ended) = absurd cc
 at-none place (leg ∷ legs) (b ∷ bounds) (inr ended) = absurd cc
 
-pub same : (a b : ℕ) → a ≡ b → nat_eq a b ≡ true
-same a b is = grind (arith, nat_tests, is)
-
-pub differs : (a b : ℕ) → (a ≡ b → ⊥) → nat_eq a b ≡ false
-differs a b other = grind (arith, nat_tests, other)
-
 -- a leg leads to one of the meters
 pub inside-at : (n : ℕ) (legs : List Leg) (i : ℕ) (leg : Leg) → AreInside n legs → i < length legs → leg ≡ get_or legs i leg → leg.place < n
 inside-at n [] i leg inside within is = absurd (omega (arith, within))

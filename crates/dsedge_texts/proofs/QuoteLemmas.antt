@@ -5,7 +5,7 @@ use Rattle.std.proofs.lemmas.Bool.{and_from, and_parts}
 use Rattle.std.proofs.lemmas.List.Edits.{length-remove}
 use Rattle.std.proofs.lemmas.Bool.Decides.{nat_tests}
 use Rattle.std.specs.Str.{bytes_eq}
-use Rattle.ds_checker.proofs.ChangeLaws.{got}
+use Rattle.std.proofs.lemmas.Option.{slice_get_read}
 use Rattle.std.specs.Prelude.{IfSome, IsSome}
 use Rattle.ds_checker.specs.Acceptance.{Table, refusal_of}
 use Rattle.ds_checker.specs.Besides.{IsNameless}
@@ -61,7 +61,7 @@ pub quote-found : (d : Domain) (contracts others : List Contract) (name : List �
     → quote_at d contracts field (place_named contracts name) ≡ quote_on d others place c field (least_terms field c.terms)
 quote-found d contracts others name place c field is_place is_others is_contract =
     ap (quote_at d contracts field) (sym is_place)
-    ∙ ap (quote_of_contract d contracts place field) (got contracts place c (place-inside contracts name place is_place) is_contract)
+    ∙ ap (quote_of_contract d contracts place field) (slice_get_read contracts (length contracts) place c refl (place-inside contracts name place is_place) is_contract)
     ∙ ap (λ xs. quote_on d xs place c field (least_terms field c.terms)) (sym is_others)
 
 -- ---- beside the others, which the checker accepts

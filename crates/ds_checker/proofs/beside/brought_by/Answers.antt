@@ -1,12 +1,12 @@
-use Rattle.std.proofs.Common.{length, drop, get_or, ap, subst, ◌∙◌}
+use Rattle.std.proofs.Common.{length, drop, get_or, ap, subst, ◌∙◌, refl}
 use Rattle.std.specs.List.{IsDistinct}
 use Rattle.std.specs.Map.{keys_of}
 use Rattle.std.specs.Str.{bytes_eq}
 use Rattle.ds_domain_base.specs.Domains.{Domain}
 use Rattle.ds_certificate.specs.Sources.{source_on}
 use Rattle.ds_checker.proofs.BesideLaws.{inside_of, none-left, one-left, row-some, row-within}
-use Rattle.ds_checker.proofs.ChangeLaws.{got}
 use Rattle.ds_checker.proofs.beside.brought_by.Goals as goal
+use Rattle.std.proofs.lemmas.Option.{slice_get_read}
 
 pub returns-in_err-place : goal.returns-in_err-place
 returns-in_err-place c =
@@ -24,7 +24,7 @@ returns c =
     c.in_ok-place.was inside c.sums-sums.ensures.sound c.sums-sums.ensures.few
     (subst (λ (d : Domain). IsDistinct bytes_eq (keys_of d.meters)) c.domain-domain.ensures.value c.meters-meters.ensures.kept.meters_differ)
     own (c.index-bounds-place.is ∙ ap (λ list. get_or list place c.index-bounds-place.result) (c.bounds.ensures ∙ c.certificate.ensures.value))
-    (c.route-route.ensures contract (got t.contracts place contract inside own)) c.legs.ensures.kept
+    (c.route-route.ensures contract (slice_get_read t.contracts (length t.contracts) place contract refl inside own)) c.legs.ensures.kept
     (c.along.ensures.value ∙ ap (λ (d : Domain). source_on d route contract.terms) c.domain-domain.ensures.value) c.has_peak.ensures c.legs.ensures.value
     (c.split_at.ensures.back ∙ ap (drop 1) c.hops.ensures)
 

@@ -4,8 +4,9 @@ use Rattle.std.specs.Slice.Iter.{iter_rest}
 use Rattle.ds_checker.specs.Sums.{sums_tests}
 use Rattle.ds_checker.specs.Tests.{first_failed}
 use Rattle.ds_checker.proofs.BoundLaws.{found, not_found}
-use Rattle.ds_checker.proofs.LoadLaws.{none_long, tests_ended, tests_next}
+use Rattle.ds_checker.proofs.LoadLaws.{tests_ended, tests_next}
 use Rattle.ds_checker.proofs.table.table_refusal.Goals as goal
+use Rattle.std.proofs.lemmas.List.{nil_from_length}
 
 pub loop-name-init : goal.loop-name-init
 loop-name-init c =
@@ -30,5 +31,5 @@ pub returns : goal.returns
 returns c =
     let meters = zip_first c.loop-name.name-iterator in
     let sums = iter_rest (zip_second c.loop-name.name-iterator) in
-    let ended : (meters ≡ []) ⊎ (sums ≡ []) = elim c.in-None.ensures.steps [ inl e ↦ inl e.1.0 | inr e ↦ inr (none_long sums e.1.0) ] in
+    let ended : (meters ≡ []) ⊎ (sums ≡ []) = elim c.in-None.ensures.steps [ inl e ↦ inl e.1.0 | inr e ↦ inr (nil_from_length sums e.1.0) ] in
     sym (tests_ended meters sums ended) ∙ c.loop-name.invariant

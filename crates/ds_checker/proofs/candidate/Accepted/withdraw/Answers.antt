@@ -4,9 +4,10 @@ use Rattle.std.specs.Arc.{arc_value}
 use Rattle.ds_checker.specs.Acceptance.{Table}
 use Rattle.ds_checker.specs.Changes.{without_contract}
 use Rattle.ds_checker.specs.Sums.{loads_of}
-use Rattle.ds_checker.proofs.ChangeLaws.{before-less, got, kept-long, row-inside, shape-less, sound-less, sound-of, table}
+use Rattle.ds_checker.proofs.ChangeLaws.{before-less, kept-long, row-inside, shape-less, sound-less, sound-of, table}
 use Rattle.ds_checker.proofs.HeldLaws.{routes-less, routes-long}
 use Rattle.ds_checker.proofs.candidate.Accepted.withdraw.Goals as goal
+use Rattle.std.proofs.lemmas.Option.{slice_get_read}
 
 pub remove-bounds-requires : goal.remove-bounds-requires
 remove-bounds-requires c =
@@ -54,7 +55,7 @@ pub returns-clause-bounds : goal.returns-clause-bounds
 returns-clause-bounds c =
     let inside : c.args.index < length c.self.inside.contracts.items = search rules in
     subst (λ (t : Table). slice_get t.certificate c.args.index ≡ Some c.remove-bounds.result) c.self.view_is
-    (got c.self.inside.certificate c.args.index c.remove-bounds.result
+    (slice_get_read c.self.inside.certificate (length c.self.inside.certificate) c.args.index c.remove-bounds.result refl
     (row-inside (arc_value c.self.inside.domain) c.self.inside.contracts.items c.self.inside.certificate c.self.inside.sums.items c.args.index c.self.invariant.sound inside) c.remove-bounds.ensures.value)
 
 pub take_on_route-requires-clause-places : goal.take_on_route-requires-clause-places
