@@ -205,7 +205,3 @@ fault-ended form contracts i lines whole None all end same =
     sym (ap result_err (rows_in-ended form [] contracts i lines all end)) ∙ fault_ahead [] (rows_in form (drop i contracts) lines) ∙ same
 fault-ended form contracts i lines whole (Some fault) all end same =
     fault-bad (rows_in form (drop i contracts) lines) whole fault (rows_in-excess form [] contracts i lines fault all end) same
-
-pub is_read : (rows : Result (List (List Bound)) CertificateFault) → None ≡ result_err rows → IsTrue (is_ok rows)
-is_read (Err fault) is = cc
-is_read (Ok rows) is = search rules

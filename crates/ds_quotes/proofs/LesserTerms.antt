@@ -26,10 +26,6 @@ abbrev pub AreLower : Version → ℕ → Terms → Terms → Type 0
 AreLower version skew low high = KeepsLess (source_by version skew low) (source_by version skew high) × (has_peak low ≡ has_peak high)
 
 -- ---- what is made of a value that is in its range
-once : {X : Type 0} (f : ℕ → X) (b : Bool) (value : ℕ) (x : X) → option_map f (if b then Some value else None) ≡ Some x → x ≡ f value
-once f true value x is = cc
-once f false value x is = absurd cc
-
 twice : {X Y : Type 0} (g : Y → X) (f : ℕ → Y) (b : Bool) (value : ℕ) (x : X) → option_map g (option_map f (if b then Some value else None)) ≡ Some x → x ≡ g (f value)
 twice g f true value x is = cc
 twice g f false value x is = absurd cc

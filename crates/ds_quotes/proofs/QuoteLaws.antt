@@ -198,10 +198,6 @@ least-is field terms least most those low =
     (λ other less. not_true (is_allowed field terms other)
     (λ holds. let within = those.outside other holds in absurd (omega (arith, within.0, less)))))
 
-pub least-none : (field : Field) (terms : Terms) → ((value : ℕ) → is_allowed field terms value ≡ false) → least_terms field terms ≡ None
-least-none field terms none =
-    ap (option_and_then (λ value. terms_with field value terms)) (none-first (is_allowed field terms) value_limit (λ other less. none other))
-
 -- ---- by how many values pass
 abbrev pub counted : ℕ → ℕ → Option ℕ
 counted least count = if nat_eq count 0 then None else Some (least + (count - 1))

@@ -1,11 +1,8 @@
 -- What one visit more makes of a round.
-use Rattle.std.proofs.Common.{◌≡◌, ℕ, zero, suc, ◌+◌, ◌<◌, ◌≤◌, Bool, true, false, List, [], ◌∷◌, ◌++◌, length, map}
-use Rattle.std.proofs.Common.{take, drop, get_or, refl, sym, ap, subst, subst₂, ◌∙◌, arith}
-use Rattle.std.specs.Prelude.{nat_eq}
+use Rattle.std.proofs.Common.{◌≡◌, ℕ, zero, suc, ◌+◌, ◌<◌, ◌≤◌, Bool, true, false, List, [], ◌∷◌, ◌++◌, length, map, take, drop, get_or, refl, sym, ap, subst, subst₂, ◌∙◌, arith, nat_eq}
 use Rattle.std.specs.List.{list_any}
 use Rattle.std.proofs.lemmas.Bool.Decides.{nat_tests}
-use Rattle.std.proofs.lemmas.List.{get_or-map, get_or_append_left, get_or_push, length-map, length_push, map-append}
-use Rattle.std.proofs.lemmas.List.{take_more, take-append-drop, take-take, length-append}
+use Rattle.std.proofs.lemmas.List.{get_or-map, get_or_append_left, get_or_push, length-map, length_push, map-append, take_more, take-append-drop, take-take, length-append}
 use Rattle.std.proofs.lemmas.List.Elements.{All-push}
 use Rattle.std.proofs.lemmas.List.Folds.{Any-from_list_any, list_any_at}
 use Rattle.std.proofs.lemmas.List.Quantifiers.{all_pairs_push}
@@ -113,13 +110,6 @@ take_round skew visits k m less is =
     (subst (IsRound skew) (sym (take-append-drop k (take m visits)) ∙ ap (λ front. front ++ drop k (take m visits)) (take-take k m visits less)) is)
 
 -- ---- along visits
-
-pub nothing_yet : (skew : ℕ) → IsRound skew []
-nothing_yet skew = record {
-  within = tt;
-  once = λ i j d first below. absurd (omega (arith, below));
-  short = omega arith;
-}
 
 pub one_more : (skew : ℕ) (visits : List Visit) (i : ℕ) (d v : Visit) (keys : List ℕ) → i < length visits
     → v ≡ get_or visits i v

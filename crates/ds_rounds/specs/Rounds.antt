@@ -1,6 +1,5 @@
 -- Rounds of visits, each as long as the rule of a round allows.
-use Rattle.std.specs.Prelude.{◌≡◌, ℕ, ◌+◌, ◌^◌, ◌<◌, ◌≤◌, ⊤, false, List, [], ◌∷◌, length, take, drop, nat_eq}
-use Rattle.std.specs.Prelude.{All, AllPairs}
+use Rattle.std.specs.Prelude.{◌≡◌, ℕ, ◌+◌, ◌^◌, ◌<◌, ◌≤◌, ⊤, false, List, [], ◌∷◌, length, take, drop, nat_eq, All, AllPairs}
 use Rattle.std.specs.List.{list_any}
 use Rattle.ds_rounds.specs.declared.visit.Visit.{Visit}
 

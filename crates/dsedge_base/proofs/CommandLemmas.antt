@@ -1,6 +1,5 @@
 -- How a command gains its words and options, and a program its commands.
-use Rattle.std.proofs.Common.{◌≡◌, ◌||◌, ◌∷◌, ℕ, ◌+◌, ◌<◌, ◌≤◌, add-one, List, length, get_or, drop, false, ap, ap₂, sym, ◌∙◌}
-use Rattle.std.proofs.Math.Seq.{drop-cons}
+use Rattle.std.proofs.Common.{◌≡◌, ◌||◌, ◌∷◌, ℕ, ◌+◌, ◌<◌, ◌≤◌, add-one, List, length, get_or, drop, false, ap, ap₂, sym, ◌∙◌, drop-cons}
 use Rattle.std.proofs.lemmas.List.{drop_all}
 use Rattle.clap.specs.Words.{AddsArg, AddsSubcommand, App, app_of, rule_of, with_rule, with_subcommand}
 use Rattle.clap.specs.declared.builder.arg.Arg.{Arg}

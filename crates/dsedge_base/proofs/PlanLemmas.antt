@@ -1,8 +1,5 @@
 -- What words are answered with, from what the parser of command lines says of them.
-use Rattle.std.proofs.Common.{◌≡◌, ◌≢◌, ◌⊎◌, ℕ, codes, inl, inr, refl, ap, sym, subst, ◌∙◌, Bool, true, false, if◌then◌else◌, List, [], Option, None, Some, option_and_then, String, IfOk, IfErr, IfSome, IsSome}
-use Rattle.std.specs.declared.alloc.Global.{Global}
-use Rattle.std.specs.Option.{ok_or}
-use Rattle.std.specs.Str.{bytes_eq}
+use Rattle.std.proofs.Common.{◌≡◌, ◌≢◌, ◌⊎◌, ℕ, codes, inl, inr, refl, ap, sym, subst, ◌∙◌, Bool, true, false, if◌then◌else◌, List, [], Option, None, Some, option_and_then, String, IfOk, IfErr, IfSome, IsSome, Global, ok_or, bytes_eq}
 use Rattle.meter_book_base.specs.declared.any_meter.AnyMeter.{AnyMeter}
 use Rattle.clap.specs.Words.{App, HasKind, HasMatchesOf, IsAmong, Row, Text, fault_of, is_simple, is_simple_and_free, kind_of, subcommand_of, subcommand_rows_of}
 use Rattle.clap.specs.declared.error.Error.{Error}

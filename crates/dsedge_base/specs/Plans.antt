@@ -1,21 +1,17 @@
 -- What words ask for.
-use Rattle.std.specs.Prelude.{◌≡◌, ◌⊎◌, List, [], codes, Bool, true, false, ◌&&◌, Option, None, Some, is_none}
-use Rattle.std.specs.Prelude.{option_and_then, if◌then◌else◌}
+use Rattle.std.specs.Prelude.{◌≡◌, ◌⊎◌, List, [], codes, Bool, true, false, ◌&&◌, Option, None, Some, is_none, option_and_then, if◌then◌else◌, bytes_eq}
 use Rattle.std.specs.Option.{option_map_or}
-use Rattle.std.specs.Str.{bytes_eq}
 use Rattle.clap.specs.Words.{IsAmong, Row, Text, fault_of, first_of, subcommand_of}
 use Rattle.clap.specs.declared.error.kind.ErrorKind.{ErrorKind}
 use Rattle.clap.specs.declared.error.kind.ErrorKind.TheVariants.{DisplayHelp, DisplayVersion}
 use Rattle.dsedge_base.specs.CommandLine.{dsedge}
-use Rattle.dsedge_base.specs.Options.{Given, envelope_given, marking_given, meter_given, quote_given, table_given}
-use Rattle.dsedge_base.specs.Options.{workers_given, ◌>>=◌}
+use Rattle.dsedge_base.specs.Options.{Given, envelope_given, marking_given, meter_given, quote_given, table_given, workers_given, ◌>>=◌}
 use Rattle.dsedge_base.specs.declared.explanation.Explanation.{Explanation}
 use Rattle.dsedge_base.specs.declared.explanation.Explanation.TheVariants.{Form, Value, Workers}
 use Rattle.dsedge_base.specs.declared.fault.UsageFault.{UsageFault}
 use Rattle.dsedge_base.specs.declared.fault.UsageFault.TheVariants.{Usage, NoMemory}
 use Rattle.dsedge_base.specs.declared.work.Plan.{Plan}
-use Rattle.dsedge_base.specs.declared.work.Plan.TheVariants.{Audit, Certify, Check, Drive, Envelope, Headroom, Mark}
-use Rattle.dsedge_base.specs.declared.work.Plan.TheVariants.{Meter, Quote, Show}
+use Rattle.dsedge_base.specs.declared.work.Plan.TheVariants.{Audit, Certify, Check, Drive, Envelope, Headroom, Mark, Meter, Quote, Show}
 
 -- the texts that the options of a command were given
 abbrev pub given_by : List Row → Given

@@ -1,6 +1,5 @@
 -- The answer of `drive`, a line at a time.
-use Rattle.std.proofs.Common.{◌≡◌, ℕ, ◌+◌, List, ◌∷◌, [], ◌++◌, None, Some, refl}
-use Rattle.std.proofs.lemmas.List.{append-nil}
+use Rattle.std.proofs.Common.{◌≡◌, ℕ, ◌+◌, List, ◌∷◌, [], ◌++◌, None, Some, refl, append-nil}
 use Rattle.ds_domain_base.specs.declared.contract.Contract.{Contract}
 use Rattle.ds_broker.specs.Books.{Book}
 use Rattle.dsedge_lines.specs.Answers.{Answer, behind}

@@ -1,6 +1,5 @@
 -- Which ids a book can hold, and what a feed sees that has learned all of it.
-use Rattle.std.proofs.Common.{◌≡◌, ◌<◌, ◌≤◌, ℕ, false, List, [], ◌∷◌, length, None, Some, refl, sym, ap, subst, ◌∙◌, arith}
-use Rattle.std.specs.Prelude.{nat_eq}
+use Rattle.std.proofs.Common.{◌≡◌, ◌<◌, ◌≤◌, ℕ, false, List, [], ◌∷◌, length, None, Some, refl, sym, ap, subst, ◌∙◌, arith, nat_eq}
 use Rattle.std.specs.List.{AllByRecursion}
 use mathlib.Core.List.{IsPrefix}
 use Rattle.ds_broker.specs.Books.{Book, held_of, holding_of}
@@ -19,8 +18,3 @@ unheld granted newest id (h ∷ held) late all =
 pub never_given : (b : Book) (id : ℕ) → length b.history < id → holding_of id (held_of b) ≡ None
 never_given b id late =
     unheld (standing_of b.history).granted (standing_of b.history).newest id (held_of b) (omega (arith, granted-most b.history, late)) (standing-bounded b.history)
-
--- what goes at least as far as a history, and is as long, is that history
-pub same_history : (history old new : List Command) → IsPrefix history old → IsPrefix old new → length new ≡ length history → new ≡ history
-same_history history old new begins goes count =
-    sym (prefix_whole history new (prefix_trans history old new begins goes) (omega (arith, count)))

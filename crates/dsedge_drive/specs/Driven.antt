@@ -1,6 +1,5 @@
 -- What `drive` answers to lines: each is asked of the book of all that was accepted before it.
-use Rattle.std.specs.Prelude.{ℕ, ◌+◌, List, [], ◌∷◌, codes, option_and_then, option_map, slice_get, unwrap_or}
-use Rattle.std.specs.Prelude.{Option, None, Some}
+use Rattle.std.specs.Prelude.{ℕ, ◌+◌, List, [], ◌∷◌, codes, option_and_then, option_map, slice_get, unwrap_or, Option, None, Some}
 use Rattle.ds_domain_base.specs.Domains.{Domain}
 use Rattle.ds_domain_base.specs.declared.contract.Contract.{Contract}
 use Rattle.ds_domain_base.specs.declared.fault.Kind.TheVariants as kinds

@@ -1,7 +1,6 @@
 -- What the fields of the command stand for, and what they keep.
-use Rattle.std.specs.Prelude.{◌≡◌, ℕ, List, position}
+use Rattle.std.specs.Prelude.{◌≡◌, ℕ, List, position, bytes_eq}
 use Rattle.std.specs.Map.{lookup}
-use Rattle.std.specs.Str.{bytes_eq}
 use Rattle.ds_domain_base.specs.declared.contract.Contract.{Contract}
 use Rattle.ds_broker.specs.Books.{Book}
 use Rattle.dsedge_drive.specs.declared.offers.Offers.TheInside as offers

@@ -1,8 +1,6 @@
 -- The lines that ask something of a broker: `reserve NAME`, `release ID MOMENT`, `retire ID MOMENT`,
 -- `quote NAME FIELD`, `headroom`, `list`, `look`.
-use Rattle.std.specs.Prelude.{ℕ, ◌-◌, ◌^◌, List, [], ◌∷◌, codes, option_and_then, option_map, Option, None}
-use Rattle.std.specs.Prelude.{Some, if◌then◌else◌}
-use Rattle.std.specs.Str.{bytes_eq}
+use Rattle.std.specs.Prelude.{ℕ, ◌-◌, ◌^◌, List, [], ◌∷◌, codes, option_and_then, option_map, Option, None, Some, if◌then◌else◌, bytes_eq}
 use Rattle.line_text.specs.Lines.{fields_of, has_byte}
 use Rattle.line_text.specs.Numbers.{number_of}
 use Rattle.ds_domain_base.specs.declared.contract.Contract.{Contract}

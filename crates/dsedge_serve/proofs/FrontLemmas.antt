@@ -1,12 +1,11 @@
 -- Fronts of a text that is given in parts.
-use Rattle.std.proofs.Common.{◌≡◌, ℕ, ◌+◌, ◌<◌, List, [], ◌∷◌, ◌++◌, length, get_or, flat_map, take, drop, Result, Ok, Err, MatchResult, refl, sym, ap, ◌∙◌, append-nil, append_assoc, take-append-drop, cond, is_ok, inl, inr}
+use Rattle.std.proofs.Common.{◌≡◌, ℕ, ◌+◌, ◌<◌, List, [], ◌∷◌, ◌++◌, length, get_or, flat_map, take, drop, Result, Ok, Err, MatchResult, refl, sym, ap, ◌∙◌, append-nil, append_assoc, take-append-drop, cond, is_ok, inl, inr, codes, decimal, slice_index}
 use Rattle.std.proofs.lemmas.Grind.{flat_map-append}
 use Rattle.std.proofs.lemmas.List.{drop_more}
 use Rattle.pcap_capture.specs.Counts.{next_count}
 use Rattle.pcap_capture.specs.Fronts.{IsFrontOf}
 use Rattle.pcap_capture.proofs.FrontLaws.{IsFrontOf-first, IsFrontOf-given, IsFrontOf-second}
 use Rattle.dsedge_serve.specs.Served.{IsTold}
-use Rattle.std.specs.Prelude.{codes, decimal, slice_index}
 use Rattle.ds_conductor.specs.declared.report.Report.{Report}
 use Rattle.ds_domain_base.specs.Faults.{field_text, kind_code, section_text}
 use Rattle.ds_domain_base.specs.declared.fault.DomainFault.{DomainFault}

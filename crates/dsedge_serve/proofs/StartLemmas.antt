@@ -18,8 +18,7 @@ use Rattle.dsedge_serve.specs.declared.conclusion.Conclusion.TheVariants.{Ended,
 use Rattle.dsedge_serve.specs.declared.outcome.Outcome.{Outcome}
 use Rattle.dsedge_serve.specs.declared.outcome.Outcome.TheVariants.{Answered, Marked, Misused, Unnamed}
 use Rattle.dsedge_serve.specs.Served.{IsAnswered, is_misused, status_after}
-use Rattle.dsedge_serve.specs.Started.{Course, HasWords, IsCourseFrom, IsCourseOn, IsCourseWith, IsRefused, IsWordless, IsWritten, LacksWords}
-use Rattle.dsedge_serve.specs.Started.{fault_of_line, fault_of_words, input_from, is_broken_off, is_read, is_unread, status_in, words_from}
+use Rattle.dsedge_serve.specs.Started.{Course, HasWords, IsCourseFrom, IsCourseOn, IsCourseWith, IsRefused, IsWordless, IsWritten, LacksWords, fault_of_line, fault_of_words, input_from, is_broken_off, is_read, is_unread, status_in, words_from}
 use Rattle.dsedge_serve.specs.Started.Course.{Refused, Served, Unread}
 
 -- words that are given are some

@@ -1,6 +1,5 @@
 -- What there is to say behind the line of a fault, where it is read at a terminal.
-use Rattle.std.specs.Prelude.{◌≡◌, ◌⊎◌, Bool, true, false, List, [], ◌∷◌, ◌++◌, ℕ, Option, None, Some, Result}
-use Rattle.std.specs.Prelude.{codes, decimal, option_and_then, string_bytes}
+use Rattle.std.specs.Prelude.{◌≡◌, ◌⊎◌, Bool, true, false, List, [], ◌∷◌, ◌++◌, ℕ, Option, None, Some, Result, codes, decimal, option_and_then, string_bytes}
 use Rattle.ds_certificate.specs.declared.fault.CertificateFault.{CertificateFault}
 use Rattle.ds_certificate.specs.declared.fault.CertificateFault.TheVariants as certificates
 use Rattle.ds_conductor.specs.declared.fault.MarkFault.{MarkFault}

@@ -1,12 +1,10 @@
 -- What the program does for a plan.
-use Rattle.std.specs.Prelude.{◌≡◌, ◌⊎◌, ℕ, Bool, true, false, if◌then◌else◌, List, [], ◌∷◌, ◌++◌, Option, None}
-use Rattle.std.specs.Prelude.{⊤, Some, Result, Ok, Err, IfErr, IfOk, OnErr, codes, string_bytes}
+use Rattle.std.specs.Prelude.{◌≡◌, ◌⊎◌, ℕ, Bool, true, false, if◌then◌else◌, List, [], ◌∷◌, ◌++◌, Option, None, ⊤, Some, Result, Ok, Err, IfErr, IfOk, OnErr, codes, string_bytes}
 use Rattle.std.specs.Option.{option_map_or}
 use Rattle.line_text.specs.Lines.{lines_of}
 use Rattle.pcap_capture.specs.Counts.{next_count}
 use Rattle.dsedge_base.specs.declared.work.Plan.{Plan}
-use Rattle.dsedge_base.specs.declared.work.Plan.TheVariants.{Audit, Certify, Check, Drive, Envelope, Headroom, Mark}
-use Rattle.dsedge_base.specs.declared.work.Plan.TheVariants.{Meter, Quote, Show}
+use Rattle.dsedge_base.specs.declared.work.Plan.TheVariants.{Audit, Certify, Check, Drive, Envelope, Headroom, Mark, Meter, Quote, Show}
 use Rattle.ds_domain.specs.DomainTexts.{parse_of}
 use Rattle.ds_domain_base.specs.Domains.{Domain, is_port}
 use Rattle.ds_domain_base.specs.declared.contract.Contract.{Contract}
@@ -39,8 +37,7 @@ use Rattle.dsedge_serve.specs.declared.conclusion.Conclusion.TheVariants.{Ended,
 use Rattle.dsedge_serve.specs.declared.fault.Fault.TheVariants as faults
 use Rattle.pcap_capture.specs.Fronts.{IsFrontOf}
 use Rattle.dsedge_serve.specs.Faults.{fault_text, notice_text, status_of}
-use Rattle.dsedge_serve.specs.Marked.{IsMarkedOver, IsUnmarked, marking_answer, marking_status, marking_told, refusal_outcome}
-use Rattle.dsedge_serve.specs.Marked.{rule_said}
+use Rattle.dsedge_serve.specs.Marked.{IsMarkedOver, IsUnmarked, marking_answer, marking_status, marking_told, refusal_outcome, rule_said}
 use Rattle.dsedge_serve.specs.declared.notice.Notice.{Notice}
 use Rattle.dsedge_serve.specs.declared.notice.Notice.TheVariants as notices
 use Rattle.dsedge_serve.specs.declared.outcome.Outcome.{Outcome}

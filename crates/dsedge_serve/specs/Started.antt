@@ -1,7 +1,5 @@
 -- How the program starts: the words of its command, its input, and what becomes of them.
-use Rattle.std.specs.Prelude.{◌≡◌, ℕ, ◌<◌, ◌≤◌, ◌⊎◌, Bool, true, false, List, [], ◌∷◌, length, Option, Ok, Err}
-use Rattle.std.specs.List.{Contains}
-use Rattle.std.specs.Str.{IsUtf8}
+use Rattle.std.specs.Prelude.{◌≡◌, ℕ, ◌<◌, ◌≤◌, ◌⊎◌, Bool, true, false, List, [], ◌∷◌, length, Option, Ok, Err, Contains, IsUtf8}
 use Rattle.std.specs.declared.io.ErrorKind.{ErrorKind}
 use Rattle.std.specs.declared.io.ErrorKind.TheVariants.{OutOfMemory}
 use Rattle.line_text.specs.Lines.{fields_of}
@@ -20,8 +18,7 @@ use Rattle.dsedge_serve.specs.declared.fault.Fault.TheVariants.{File, Memory, Re
 use Rattle.dsedge_serve.specs.declared.outcome.Outcome.{Outcome}
 use Rattle.dsedge_serve.specs.Advised.{advice_after, advice_on}
 use Rattle.dsedge_serve.specs.Faults.{fault_text, status_of}
-use Rattle.dsedge_serve.specs.Served.{IsAnswered, IsForeseen, is_broken_off as is_outcome_broken_off, is_input_fault}
-use Rattle.dsedge_serve.specs.Served.{is_misused, is_output_fault, status_after, told_after}
+use Rattle.dsedge_serve.specs.Served.{IsAnswered, IsForeseen, is_broken_off as is_outcome_broken_off, is_input_fault, is_misused, is_output_fault, status_after, told_after}
 
 -- the words of a command: those given, or where there are none, those of the first line of the input
 abbrev pub words_from : List (List ℕ) → List ℕ → List (List ℕ)

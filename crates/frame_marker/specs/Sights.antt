@@ -1,6 +1,5 @@
 -- What a frame is at a port: which contract of the port it is of, if it is of any.
-use Rattle.std.specs.Prelude.{ℕ, Bool, ◌&&◌, List, take, position, Option, None, Some}
-use Rattle.std.specs.Str.{bytes_eq}
+use Rattle.std.specs.Prelude.{ℕ, Bool, ◌&&◌, List, take, position, Option, None, Some, bytes_eq}
 use Rattle.af_marker.specs.declared.ipv4.Header.{Header}
 use Rattle.flow_classifier.specs.Matching.{holds}
 use Rattle.flow_classifier.specs.declared.key.Key.{Key}

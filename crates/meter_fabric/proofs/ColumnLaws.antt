@@ -1,7 +1,5 @@
 -- The sums of columns: rows and visits, site by site.
-use Rattle.std.proofs.Common.{◌≡◌, ◌≢◌, ℕ, zero, suc, ◌+◌, ◌<◌, ◌≤◌, List, [], ◌∷◌, length, get_or, Option, None, Some, ◌⊎◌, inl, inr, refl, sym, ◌∙◌, ap, subst, arith}
-use Rattle.std.specs.Prelude.{slice_index, MatchOption}
-use Rattle.std.specs.List.{All, sum, sum_by}
+use Rattle.std.proofs.Common.{◌≡◌, ◌≢◌, ℕ, zero, suc, ◌+◌, ◌<◌, ◌≤◌, List, [], ◌∷◌, length, get_or, Option, None, Some, ◌⊎◌, inl, inr, refl, sym, ◌∙◌, ap, subst, arith, slice_index, MatchOption, All, sum, sum_by}
 use Rattle.std.proofs.lemmas.Bool.{cases_lt}
 use Rattle.std.proofs.lemmas.List.Sums.{sum_by-cons}
 use Rattle.meter_book.specs.Replay.{Book}
@@ -83,16 +81,3 @@ module _ (books : List (Option Book)) (passes : List (List ℕ)) (sized : All (�
 
   pub even_long : ((s : ℕ) → s < length books → rows_at books s ≤ visits_at passes s) → AreEven books passes
   even_long none s below = upto_even (rows_at books) (visits_at passes) (length books) none same_sums s below
-
--- no site has both fewer and more
-pub uneven_apart : (books : List (Option Book)) (passes : List (List ℕ)) (chapters : List Chapter) (fault : CloseFault) → IsUnsettled books passes chapters fault
-    → (short long : ℕ) → fault ≡ Uneven short long → short ≢ long
-uneven_apart books passes chapters PassMissing is short long e same = is
-uneven_apart books passes chapters NoMemory is short long e same = cc
-uneven_apart books passes chapters (ChapterMissing site) is short long e same = cc
-uneven_apart books passes chapters (Uneven a b) is short long e same =
-    let one : a ≡ short = cc in
-    let two : b ≡ long = cc in
-    let both : b ≡ a = two ∙ sym same ∙ sym one in
-    let more : visits_at passes a < rows_at books a = subst (λ s. visits_at passes s < rows_at books s) both is.2.1 in
-    omega (arith, is.1.1, more)

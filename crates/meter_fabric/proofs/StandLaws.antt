@@ -1,6 +1,5 @@
 -- What stands at a site stays one of what opened there.
-use Rattle.std.proofs.Common.{◌≡◌, ◌≢◌, ℕ, zero, suc, ◌+◌, ◌<◌, ◌≤◌, Bool, true, false, List, [], ◌∷◌, ◌++◌, length, Option, None, Some, ◌⊎◌, inl, inr, refl, sym, ap, subst, ◌∙◌, arith}
-use Rattle.std.specs.Prelude.{nat_eq, nat_lt, option_map, reverse, slice_get, if◌then◌else◌, IsSomeAnd, Ok}
+use Rattle.std.proofs.Common.{◌≡◌, ◌≢◌, ℕ, zero, suc, ◌+◌, ◌<◌, ◌≤◌, Bool, true, false, List, [], ◌∷◌, ◌++◌, length, Option, None, Some, ◌⊎◌, inl, inr, refl, sym, ap, subst, ◌∙◌, arith, nat_eq, nat_lt, option_map, reverse, slice_get, if◌then◌else◌, IsSomeAnd, Ok}
 use Rattle.std.proofs.lemmas.Bool.{cases_lt}
 use Rattle.std.proofs.lemmas.Bool.Decides.{nat_tests}
 use Rattle.std.proofs.lemmas.List.{reverse-append}
@@ -90,10 +89,6 @@ stands_found f site (Some entry) is = stands_fresh f site (meter_opening entry.1
 pub stands_first : (f : Fabric) (site : ℕ) → StandsAt f site (first_book f.domain f.capacity site)
 stands_first f site = stands_found f site (slice_get f.domain.meters site) refl
 
--- the edge of a contract opens in each slot
-pub opens_edge : (f : Fabric) (site : ℕ) (c : Contract) (o : Opening) → length f.domain.meters ≤ site → edge_opening f.domain c ≡ Some o → OpensAt f site o
-opens_edge f site c o slot is = record { meter = λ below. absurd (omega (arith, slot, below)); edge = λ behind. (c, is) }
-
 -- ---- visits
 
 comes : (P : ℕ → Type 0) (t : Traveller) (site : ℕ) → next_site t ≡ Some site → P site → IsSomeAnd (next_site t) P
@@ -106,43 +101,6 @@ record IsDone (t : Traveller) (b : Book) (moment : ℕ) (after : Traveller) (b' 
   in_time : last_moment t ≤ moment
   receipt : after ≡ received t hop (next_row b (arrival_at t.packet hop moment (comes_as t)))
   book : b' ≡ noted b (arrival_at t.packet hop moment (comes_as t))
-
-done_by : (fault : Option NoteFault) (t after : Traveller) (hop : Hop) (b b' : Book) (a : Arrival) → keeping t hop (unless fault (next_row b a, noted b a)) ≡ Ok (after, b')
-    → (after ≡ received t hop (next_row b a)) × (b' ≡ noted b a)
-done_by None t after hop b b' a is =
-    let same : ◌≡◌ {A = Traveller × Book} (after, b') (received t hop (next_row b a), noted b a) = cc in
-    (ap (λ (done : Traveller × Book). done.0) same, ap (λ (done : Traveller × Book). done.1) same)
-done_by (Some fault) t after hop b b' a is = absurd cc
-
-done_at : (found : Option Hop) (t : Traveller) (b : Book) (moment : ℕ) (after : Traveller) (b' : Book) → next_hop t ≡ found → visit_at found t b moment ≡ Ok (after, b') → IsDone t b moment after b'
-done_at None t b moment after b' next is = absurd cc
-done_at (Some hop) t b moment after b' next is = by_test (nat_lt moment (last_moment t)) refl
-  where
-    by_test : (early : Bool) → nat_lt moment (last_moment t) ≡ early → IsDone t b moment after b'
-    by_test true early = absurd (let fault = rw early at is in cc)
-    by_test false early =
-        let both = done_by (note_fault b moment) t after hop b b' (arrival_at t.packet hop moment (comes_as t)) (rw early at is) in
-        record { hop = hop; next = next; in_time = grind (arith, nat_tests, early); receipt = both.0; book = both.1 }
-
-pub visit_done : (f : Fabric) (t : Traveller) (site : ℕ) (b : Book) (moment : ℕ) (after : Traveller) (b' : Book) → next_site t ≡ Some site → site < sites_of f → visit t b moment ≡ Ok (after, b')
-    → IsVisited f t moment after
-visit_done f t site b moment after b' next there is =
-    let done : IsDone t b moment after b' = done_at (next_hop t) t b moment after b' refl is in
-    let same : done.hop.site ≡ site = let e : Some done.hop.site ≡ Some site = ap (λ (h : Option Hop). option_map (λ hop. hop.site) h) (sym done.next) ∙ next in cc in
-    record {
-      hop = done.hop;
-      row = next_row b (arrival_at t.packet done.hop moment (comes_as t));
-      next = done.next;
-      there = omega (arith, there, same);
-      in_time = done.in_time;
-      arrival = refl;
-      receipt = done.receipt;
-    }
-
-pub stands_visited : (f : Fabric) (site : ℕ) (t : Traveller) (b : Book) (moment : ℕ) (after : Traveller) (b' : Book) → IsBookAt f site b → visit t b moment ≡ Ok (after, b') → IsBookAt f site b'
-stands_visited f site t b moment after b' stands is =
-    let done : IsDone t b moment after b' = done_at (next_hop t) t b moment after b' refl is in
-    subst (λ (x : Book). IsBookAt f site x) (sym done.book) (stands_noted f site b stands (arrival_at t.packet done.hop moment (comes_as t)))
 
 -- what is shut has a moment at which it was
 shut_then : (shut : Option ℕ) (full : Bool) (moment : ℕ) → (if is_shut_by shut moment then Some notes.Shut else if full then Some notes.JournalFull else None) ≡ Some notes.Shut → shut ≢ None
@@ -178,25 +136,3 @@ module _ (f : Fabric) (t : Traveller) (site moment : ℕ) (next : next_site t �
   visit_refused (Some b) stands = refused_at (next_hop t) refl b stands
 
 -- ---- all sites
-
-pub stand_more : (f : Fabric) (site next : ℕ) (b : Option Book) (books new : List (Option Book)) → next ≡ suc site → StandsAt f site b → StandFrom f next (reverse books) → new ≡ books ++ b ∷ []
-    → StandFrom f site (reverse new)
-stand_more f site next b books new on here rest is =
-    let turned : reverse new ≡ b ∷ reverse books = ap reverse is ∙ reverse-append books (b ∷ []) in
-    subst (StandFrom f site) (sym turned) (here, subst (λ n. StandFrom f n (reverse books)) on rest)
-
-pub stand_less : (f : Fabric) (site next : ℕ) (b : Option Book) (books old : List (Option Book)) → next ≡ suc site → StandFrom f site (reverse old) → old ≡ books ++ b ∷ []
-    → StandsAt f site b × StandFrom f next (reverse books)
-stand_less f site next b books old on stand is =
-    let turned : reverse old ≡ b ∷ reverse books = ap reverse is ∙ reverse-append books (b ∷ []) in
-    let both : StandFrom f site (b ∷ reverse books) = subst (StandFrom f site) turned stand in
-    (both.0, subst (λ n. StandFrom f n (reverse books)) (sym on) both.1)
-
-pub stands_here : (f : Fabric) (from : ℕ) (books : List (Option Book)) (i : ℕ) → StandFrom f from books → i < length books → StandsAt f (from + i) (book_at books i)
-stands_here f from [] i stand within = absurd (omega (arith, within))
-stands_here f from (b ∷ books) zero stand within =
-    let here : from ≡ from + 0 = omega arith in
-    subst (λ n. StandsAt f n b) here stand.0
-stands_here f from (b ∷ books) (suc i) stand within =
-    let on : suc from + i ≡ from + suc i = omega arith in
-    subst (λ n. StandsAt f n (book_at books i)) on (stands_here f (suc from) books i stand.1 (omega (arith, within)))

@@ -1,6 +1,5 @@
 -- What a fabric that is closed comes to: the journals of its books, and what stands against them.
-use Rattle.std.specs.Prelude.{◌≡◌, ℕ, suc, ◌<◌, ◌≤◌, List, [], ◌∷◌, ◌++◌, length, option_to_list, Option, None, Some}
-use Rattle.std.specs.Prelude.{slice_get, sum_by, IsSomeAnd}
+use Rattle.std.specs.Prelude.{◌≡◌, ℕ, suc, ◌<◌, ◌≤◌, List, [], ◌∷◌, ◌++◌, length, option_to_list, Option, None, Some, slice_get, sum_by, IsSomeAnd}
 use Rattle.meter_book.specs.Chapters.{AreChapters, Chapter, joined}
 use Rattle.meter_book.specs.Gathering.{last_part, of_site, parts_of}
 use Rattle.meter_book.specs.Replay.{Book, Journal}

@@ -1,6 +1,5 @@
 -- What a fabric is of, what stands at its sites, and what its passes count.
-use Rattle.std.specs.Prelude.{◌≡◌, ℕ, suc, ◌+◌, ◌-◌, ◌*◌, ◌^◌, ◌<◌, ◌≤◌, List, [], ◌∷◌, length, slice_get, slice_index}
-use Rattle.std.specs.Prelude.{slice_set, sum_by, option_and_then, option_map, Option, None, Some}
+use Rattle.std.specs.Prelude.{◌≡◌, ℕ, suc, ◌+◌, ◌-◌, ◌*◌, ◌^◌, ◌<◌, ◌≤◌, List, [], ◌∷◌, length, slice_get, slice_index, slice_set, sum_by, option_and_then, option_map, Option, None, Some}
 use Rattle.meter_book_base.specs.Envelopes.{mode_of, parameters_of}
 use Rattle.meter_book.specs.Chapters.{Chapter}
 use Rattle.meter_book.specs.Replay.{Book, most_places, shut_by, standing_of}

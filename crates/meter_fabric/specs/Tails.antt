@@ -1,6 +1,5 @@
 -- How far the chapters of a site join.
-use Rattle.std.specs.Prelude.{◌≡◌, ◌≢◌, ℕ, ◌<◌, ◌≤◌, List, [], length, slice_get, slice_index_or, Option, None, Some}
-use Rattle.std.specs.Prelude.{IfSome}
+use Rattle.std.specs.Prelude.{◌≡◌, ◌≢◌, ℕ, ◌<◌, ◌≤◌, List, [], length, slice_get, slice_index_or, Option, None, Some, IfSome}
 use Rattle.meter_book.specs.Chapters.{Chapter, GoesOn, closing_of}
 use Rattle.meter_book.specs.Gathering.{AreJoint, last_in, of_site}
 use Rattle.meter_book.specs.Replay.{Book}

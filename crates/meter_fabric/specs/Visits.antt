@@ -1,6 +1,5 @@
 -- A visit of a traveller to what stands at its next site.
-use Rattle.std.specs.Prelude.{◌≡◌, ℕ, ◌<◌, ◌≤◌, Option, None, Some, IsSome, IsSomeAnd, MatchOption, Result, Ok, Err}
-use Rattle.std.specs.Prelude.{length}
+use Rattle.std.specs.Prelude.{◌≡◌, ℕ, ◌<◌, ◌≤◌, Option, None, Some, IsSome, IsSomeAnd, MatchOption, Result, Ok, Err, length}
 use Rattle.meter_book.specs.Replay.{Book}
 use Rattle.meter_book.specs.declared.row.Row.{Row}
 use Rattle.meter_fabric_base.specs.Trails.{arrival_at, arrival_of}

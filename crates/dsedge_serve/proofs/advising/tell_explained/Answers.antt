@@ -1,4 +1,4 @@
-use Rattle.std.specs.Prelude.{string_bytes}
+use Rattle.std.proofs.Common.{string_bytes}
 use Rattle.dsedge_serve.proofs.FrontLemmas.{given_as, given_or_front}
 use Rattle.dsedge_serve.proofs.advising.tell_explained.Goals as goal
 

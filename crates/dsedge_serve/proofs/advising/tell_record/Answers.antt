@@ -1,5 +1,4 @@
-use Rattle.std.proofs.Common.{codes}
-use Rattle.std.specs.Prelude.{decimal}
+use Rattle.std.proofs.Common.{codes, decimal}
 use Rattle.dsedge_serve.specs.Advised.{record_advice}
 use Rattle.dsedge_serve.proofs.FrontLemmas.{between, given_as}
 use Rattle.dsedge_serve.proofs.advising.tell_record.Goals as goal

@@ -1,5 +1,4 @@
-use Rattle.std.proofs.Common.{ap, ◌∙◌}
-use Rattle.std.specs.Prelude.{decimal}
+use Rattle.std.proofs.Common.{ap, ◌∙◌, decimal}
 use Rattle.dsedge_serve.specs.Faults.{fault_text, text_or_dash}
 use Rattle.dsedge_serve.specs.declared.fault.Fault.TheVariants.{Domain}
 use Rattle.dsedge_serve.proofs.FrontLemmas.{domain_line, given_as}

@@ -1,5 +1,4 @@
-use Rattle.std.proofs.Common.{◌∙◌, sym, inl}
-use Rattle.std.proofs.lemmas.List.{append-nil}
+use Rattle.std.proofs.Common.{◌∙◌, sym, inl, append-nil}
 use Rattle.dsedge_serve.specs.Faults.{notice_text}
 use Rattle.dsedge_serve.proofs.FrontLemmas.{told_since}
 use Rattle.dsedge_serve.proofs.serving.tell.Goals as goal

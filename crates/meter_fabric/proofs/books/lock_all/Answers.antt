@@ -1,5 +1,4 @@
-use Rattle.std.proofs.Common.{rules, ◌≡◌, ℕ, List, Option, length, ap, sym, subst, ◌∙◌, arith, vec_len}
-use Rattle.std.specs.Prelude.{reverse}
+use Rattle.std.proofs.Common.{rules, ◌≡◌, ℕ, List, Option, length, ap, sym, subst, ◌∙◌, arith, vec_len, reverse}
 use Rattle.std.proofs.lemmas.List.{reverse-reverse}
 use Rattle.std.proofs.lemmas.List.Sorted.{sum_by-IsPermutation}
 use Rattle.meter_book.specs.Replay.{Book}

@@ -1,6 +1,4 @@
-use Rattle.std.proofs.Common.{◌≡◌, ◌+◌, ◌≤◌, vec_len, vec_capacity}
-use Rattle.std.specs.Prelude.{reverse}
-use Rattle.std.specs.List.{sum_by}
+use Rattle.std.proofs.Common.{◌≡◌, ◌+◌, ◌≤◌, vec_len, vec_capacity, reverse, sum_by}
 use Rattle.meter_fabric.specs.Fabrics.{StandFrom, places_left}
 use Rattle.meter_fabric.proofs.books.lock_all.Given as goal
 

@@ -1,5 +1,4 @@
-use Rattle.std.proofs.Common.{ℕ, ◌<◌, ◌≤◌, length, List, Option, None, Some, arith, refl}
-use Rattle.std.specs.Prelude.{IsSome, MatchOption}
+use Rattle.std.proofs.Common.{ℕ, ◌<◌, ◌≤◌, length, List, Option, None, Some, arith, refl, IsSome, MatchOption}
 use Rattle.meter_book.specs.Replay.{Book}
 use Rattle.meter_fabric.specs.Closing.{AreEven, IsLong, IsShort, rows_at}
 use Rattle.meter_fabric.specs.Fabrics.{visits_at}

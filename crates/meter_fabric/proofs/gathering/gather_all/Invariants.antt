@@ -1,5 +1,4 @@
-use Rattle.std.proofs.Common.{◌≡◌, ℕ, vec_len}
-use Rattle.std.specs.Prelude.{Option, Some, slice_get}
+use Rattle.std.proofs.Common.{◌≡◌, ℕ, vec_len, Option, Some, slice_get}
 use Rattle.meter_book.specs.Gathering.{of_site}
 use Rattle.meter_book.specs.Replay.{Book, Journal}
 use Rattle.meter_fabric.specs.Gathered.{IsGathered}

@@ -1,7 +1,5 @@
-use Rattle.std.proofs.Common.{◌≡◌, ◌<◌, ◌≤◌, ◌∷◌, ◌++◌, [], Option, Some, length, set, get_or, ap, arith, sym, subst, ◌∙◌}
-use Rattle.std.specs.Prelude.{slice_get}
+use Rattle.std.proofs.Common.{◌≡◌, ◌<◌, ◌≤◌, ◌∷◌, ◌++◌, [], Option, Some, length, set, get_or, ap, arith, sym, subst, ◌∙◌, slice_get, length-set}
 use Rattle.std.specs.Vec.Iter.{into_iter_items}
-use Rattle.std.proofs.lemmas.List.{length-set}
 use Rattle.meter_book.specs.Replay.{Book, Journal}
 use Rattle.meter_fabric.specs.Gathered.{IsJournalOf}
 use Rattle.meter_fabric.proofs.JournalLaws.{head_at, journals_more, left_more, left_there, rest_at}

@@ -1,5 +1,4 @@
-use Rattle.std.proofs.Common.{◌≡◌, ℕ, ◌+◌, ◌≤◌, ◌++◌, List, drop, length, vec_len, vec_capacity}
-use Rattle.std.specs.Prelude.{slice_get}
+use Rattle.std.proofs.Common.{◌≡◌, ℕ, ◌+◌, ◌≤◌, ◌++◌, List, drop, length, vec_len, vec_capacity, slice_get}
 use Rattle.std.specs.Vec.Iter.{into_iter_items}
 use Rattle.meter_book.specs.Chapters.{Chapter}
 use Rattle.meter_fabric.specs.Closing.{journals_from}

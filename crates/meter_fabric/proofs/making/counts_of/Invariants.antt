@@ -1,5 +1,4 @@
-use Rattle.std.proofs.Common.{◌≡◌, replicate, vec_len}
-use Rattle.std.specs.Prelude.{All}
+use Rattle.std.proofs.Common.{◌≡◌, replicate, vec_len, All}
 use Rattle.meter_fabric.proofs.making.counts_of.Given as goal
 
 -- those of the passes so far

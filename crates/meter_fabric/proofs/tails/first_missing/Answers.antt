@@ -1,6 +1,5 @@
-use Rattle.std.proofs.Common.{◌≡◌, ℕ, get_or, Option, None, Some, arith, refl, subst, below_more}
+use Rattle.std.proofs.Common.{◌≡◌, ℕ, get_or, Option, None, Some, arith, refl, subst, below_more, MatchOption}
 use Rattle.std.proofs.lemmas.Bool.{false≢true}
-use Rattle.std.specs.Prelude.{MatchOption}
 use Rattle.meter_book.specs.Replay.{Book}
 use Rattle.meter_book.specs.Gathering.{of_site}
 use Rattle.meter_fabric.specs.Closing.{AreThere, IsFirstMissing, IsThere}

@@ -1,6 +1,4 @@
-use Rattle.std.proofs.Common.{◌≡◌, ◌<◌, ◌≤◌, refl, subst, ◌∙◌}
-use Rattle.std.specs.Prelude.{min, unwrap_or}
-use Rattle.std.proofs.lemmas.List.{take_all}
+use Rattle.std.proofs.Common.{◌≡◌, ◌<◌, ◌≤◌, refl, subst, ◌∙◌, min, unwrap_or, take_all}
 use Rattle.meter_fabric.specs.Tails.{IsLeastStray}
 use Rattle.meter_fabric.proofs.TailLaws.{stray_more, stray_same}
 use Rattle.meter_fabric.proofs.tails.first_stray.Goals as goal

@@ -1,5 +1,4 @@
-use Rattle.std.proofs.Common.{◌<◌, ◌≤◌, length, take, get_or, subst}
-use Rattle.std.proofs.lemmas.List.{take_all}
+use Rattle.std.proofs.Common.{◌<◌, ◌≤◌, length, take, get_or, subst, take_all}
 use Rattle.meter_book.specs.Gathering.{of_site}
 use Rattle.meter_fabric.specs.Tails.{AreTails, IsAfter}
 use Rattle.meter_fabric.specs.declared.tails.Tail.TheVariants.{Fresh}

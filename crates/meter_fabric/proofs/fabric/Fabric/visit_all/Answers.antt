@@ -1,5 +1,4 @@
-use Rattle.std.proofs.Common.{◌≡◌, ℕ, ◌+◌, ◌<◌, ◌≤◌, Option, Some, length, get_or, set, take, ap, arith, refl, sym, subst, ◌∙◌}
-use Rattle.std.specs.Prelude.{count_by, is_none, slice_index, IsSomeAnd}
+use Rattle.std.proofs.Common.{◌≡◌, ℕ, ◌+◌, ◌<◌, ◌≤◌, Option, Some, length, get_or, set, take, ap, arith, refl, sym, subst, ◌∙◌, count_by, is_none, slice_index, IsSomeAnd}
 use Rattle.std.proofs.lemmas.List.{set-get_or, take_all}
 use Rattle.meter_fabric_base.specs.Travels.{next_site}
 use Rattle.meter_fabric.specs.Fabrics.{sites_of}

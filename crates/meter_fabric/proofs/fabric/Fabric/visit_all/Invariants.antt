@@ -1,5 +1,4 @@
-use Rattle.std.proofs.Common.{◌≡◌, take, drop}
-use Rattle.std.specs.Prelude.{count_by, is_none}
+use Rattle.std.proofs.Common.{◌≡◌, take, drop, count_by, is_none}
 use Rattle.std.specs.List.{AllZip}
 use Rattle.meter_fabric.specs.Visits.{IsAnswered}
 use Rattle.meter_fabric.proofs.fabric.Fabric.visit_all.Given as goal

@@ -1,6 +1,5 @@
-use Rattle.std.proofs.Common.{◌≡◌, ◌<◌, length, get_or, Some, ap, arith, sym, subst, ◌∙◌}
+use Rattle.std.proofs.Common.{◌≡◌, ◌<◌, length, get_or, Some, ap, arith, sym, subst, ◌∙◌, MatchOption}
 use Rattle.meter_fabric_base.specs.Travels.{next_site}
-use Rattle.std.specs.Prelude.{MatchOption}
 use Rattle.meter_fabric.specs.Fabrics.{one_more}
 use Rattle.meter_fabric.specs.Visits.{IsAnswered}
 use Rattle.meter_fabric.specs.declared.visit.Visit.{Visit}
