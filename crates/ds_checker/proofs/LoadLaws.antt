@@ -37,6 +37,11 @@ use Rattle.ds_checker.specs.Tests.{first_failed}
 use Rattle.ds_checker.specs.declared.load.Loads.{Loads}
 use Rattle.ds_checker.specs.declared.refusal.Refusal.{Refusal}
 
+-- of two lists with an item neither is empty
+pub neither : {X Y P : Type 0} {x : X} {xs : List X} {y : Y} {ys : List Y} → (x ∷ xs ≡ []) ⊎ (y ∷ ys ≡ []) → P
+neither (inl ended) = absurd cc
+neither (inr ended) = absurd cc
+
 pub bytes_eq-flip : (a b : List ℕ) → bytes_eq a b ≡ bytes_eq b a
 bytes_eq-flip a b = same_from_decides (bytes_eq a b) (bytes_eq b a) (bytes_eq-Decides a b) ((λ p. sym ((bytes_eq-Decides b a).0 p)), (λ p. (bytes_eq-Decides b a).1 (sym p)))
 
@@ -103,8 +108,7 @@ pub bound_into-ended : (name : List ℕ) (path : List (List ℕ)) (bounds : List
 unfolding bound_into
 bound_into-ended name [] bounds ended = refl
 bound_into-ended name (to ∷ path) [] ended = refl
-bound_into-ended name (to ∷ path) (b ∷ bounds) (inl ended) = absurd cc
-bound_into-ended name (to ∷ path) (b ∷ bounds) (inr ended) = absurd cc
+bound_into-ended name (to ∷ path) (b ∷ bounds) ended = neither ended
 
 pub bound_into-here : (to : List ℕ) (path : List (List ℕ)) (b : Bound) (bounds : List Bound) → bound_into to (to ∷ path) (b ∷ bounds) ≡ Some b
 unfolding bound_into
@@ -361,5 +365,4 @@ pub tests_ended : (xs : List (List ℕ × Meter)) (ys : List Loads) → (xs ≡ 
 unfolding sums_tests first_failed
 tests_ended [] ys ended = refl
 tests_ended (entry ∷ meters) [] ended = refl
-tests_ended (entry ∷ meters) (l ∷ sums) (inl ended) = absurd cc
-tests_ended (entry ∷ meters) (l ∷ sums) (inr ended) = absurd cc
+tests_ended (entry ∷ meters) (l ∷ sums) ended = neither ended

@@ -12,6 +12,7 @@ use Rattle.ds_certificate.proofs.RouteLaws.{source-route}
 use Rattle.ds_checker.specs.Holds.{greatest, hold_of, holds_along, holds_at_hop, link_delay}
 use Rattle.ds_checker.specs.Routed.{holds_on}
 use Rattle.ds_checker.proofs.HoldLaws.{greatest-append, swap_max}
+use Rattle.ds_checker.proofs.LoadLaws.{neither}
 
 -- one leg more
 pub hold-leg : (s : Source) (way delay later : ℕ) (xs legs : List Leg) (leg : Leg) (ys bounds : List Bound) (b : Bound) (hold skew own new whole : ℕ) → xs ≡ leg ∷ legs → ys ≡ b ∷ bounds
@@ -32,8 +33,7 @@ pub hold-ended : (s : Source) (way : ℕ) (xs : List Leg) (ys : List Bound) (hol
 unfolding holds_on greatest
 hold-ended s way [] ys hold whole ended kept = sym (max-zero hold) ∙ kept
 hold-ended s way (leg ∷ xs) [] hold whole ended kept = sym (max-zero hold) ∙ kept
-hold-ended s way (leg ∷ xs) (b ∷ ys) hold whole (inl ended) kept = absurd cc
-hold-ended s way (leg ∷ xs) (b ∷ ys) hold whole (inr ended) kept = absurd cc
+hold-ended s way (leg ∷ xs) (b ∷ ys) hold whole ended kept = neither ended
 
 -- by places as by names
 holds-legs : (d : Domain) (s : Source) (way : ℕ) (from : List ℕ) (path : List (List ℕ)) (bounds : List Bound)

@@ -26,7 +26,7 @@ use Rattle.ds_checker.specs.Loads.{share_of}
 use Rattle.ds_checker.specs.Routed.{AreBounds, share_with, with_legs}
 use Rattle.ds_checker.specs.Sums.{AreBelow, AreSmall, IsBefore, no_loads, share_by, with_brought, with_share}
 use Rattle.ds_checker.specs.declared.load.Loads.{Loads}
-use Rattle.ds_checker.proofs.LoadLaws.{AreBelow-at, AreBelow-more, bound_into-ended, brought_along, set-below, small-ended, small-hop, with_brought-hop, with_brought-nothing}
+use Rattle.ds_checker.proofs.LoadLaws.{AreBelow-at, AreBelow-more, bound_into-ended, brought_along, set-below, small-ended, small-hop, with_brought-hop, with_brought-nothing, neither}
 use Rattle.std.proofs.lemmas.Bool.{or_parts}
 
 -- ---- one leg more
@@ -45,8 +45,7 @@ pub legs-ended : (source : Source) (peaked : Bool) (xs : List Leg) (ys : List Bo
 unfolding with_legs
 legs-ended source peaked [] ys sums whole ended kept = kept
 legs-ended source peaked (leg ∷ legs) [] sums whole ended kept = kept
-legs-ended source peaked (leg ∷ legs) (b ∷ bounds) sums whole (inl ended) kept = absurd cc
-legs-ended source peaked (leg ∷ legs) (b ∷ bounds) sums whole (inr ended) kept = absurd cc
+legs-ended source peaked (leg ∷ legs) (b ∷ bounds) sums whole ended kept = neither ended
 
 pub inside-here : (n : ℕ) (xs legs : List Leg) (leg : Leg) → xs ≡ leg ∷ legs → AreInside n xs → (leg.place < n) × AreInside n legs
 inside-here n xs legs leg is inside = subst (AreInside n) is inside
@@ -63,8 +62,7 @@ pub bounds-ended : (xs : List Leg) (ys : List Bound) → (xs ≡ []) ⊎ (ys ≡
 unfolding AreBounds
 bounds-ended [] ys ended = tt
 bounds-ended (leg ∷ legs) [] ended = tt
-bounds-ended (leg ∷ legs) (b ∷ bounds) (inl ended) = absurd cc
-bounds-ended (leg ∷ legs) (b ∷ bounds) (inr ended) = absurd cc
+bounds-ended (leg ∷ legs) (b ∷ bounds) ended = neither ended
 
 -- ---- no sum leaves its range
 pub leg_room : (n : ℕ) (sums first : List Loads) (i : ℕ) (l : Loads) → n ≤ 16 → i < length sums → l ≡ get_or sums i l → AllByRecursion (AreBelow (2 ^ 120)) first

@@ -15,6 +15,7 @@ use Rattle.ds_checker.specs.declared.load.Loads.{Loads}
 use Rattle.ds_checker.specs.declared.refusal.Refusal.{Refusal}
 use Rattle.ds_checker.proofs.PlaceLaws.{answers, answers-at, answers-set, counted-with, earlier-assoc, entry_of, first_at, first_at-set, length-answers, none-at, none_of, without-with, zero_plus}
 use Rattle.std.proofs.lemmas.Bool.{eqb-false}
+use Rattle.ds_checker.proofs.LoadLaws.{neither}
 
 -- no leg leads to a place
 abbrev pub AreApart : ℕ → List Leg → Type 0
@@ -98,8 +99,7 @@ pub taken-whole : (source : Source) (peaked : Bool) (xs : List Leg) (ys : List B
 unfolding with_legs
 taken-whole source peaked [] ys sums before ended kept = kept
 taken-whole source peaked (leg ∷ legs) [] sums before ended kept = kept
-taken-whole source peaked (leg ∷ legs) (b ∷ bounds) sums before (inl ended) kept = absurd cc
-taken-whole source peaked (leg ∷ legs) (b ∷ bounds) sums before (inr ended) kept = absurd cc
+taken-whole source peaked (leg ∷ legs) (b ∷ bounds) sums before ended kept = neither ended
 
 pub before-long : (source : Source) (peaked : Bool) (legs : List Leg) (bounds : List Bound) (sums before : List Loads) → sums ≡ with_legs source peaked legs bounds before
     → length before ≡ length sums

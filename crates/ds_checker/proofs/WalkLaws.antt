@@ -15,7 +15,7 @@ use Rattle.ds_checker.specs.Sums.{AreBelow, no_loads, share_by, sums_tests, with
 use Rattle.ds_checker.specs.Tests.{first_failed}
 use Rattle.ds_checker.specs.declared.load.Loads.{Loads}
 use Rattle.ds_checker.specs.declared.refusal.Refusal.{Refusal}
-use Rattle.ds_checker.proofs.LoadLaws.{AreBelow-at}
+use Rattle.ds_checker.proofs.LoadLaws.{AreBelow-at, neither}
 use Rattle.ds_checker.proofs.PlaceLaws.{answers, earlier-None, earlier-assoc, first-failed-at, first_at, some_first}
 use Rattle.ds_checker.proofs.RoutedPlaceLaws.{AreApart, apart-get, found-leg}
 
@@ -39,16 +39,14 @@ pub walk-ended : (meters : List (List ℕ × Meter)) (source : Source) (peaked :
 unfolding first_on
 walk-ended meters source peaked [] zs ys first whole ended held = sym (earlier-None first) ∙ held
 walk-ended meters source peaked (leg ∷ legs) [] ys first whole ended held = sym (earlier-None first) ∙ held
-walk-ended meters source peaked (leg ∷ legs) (l ∷ sums) ys first whole (inl ended) held = absurd cc
-walk-ended meters source peaked (leg ∷ legs) (l ∷ sums) ys first whole (inr ended) held = absurd cc
+walk-ended meters source peaked (leg ∷ legs) (l ∷ sums) ys first whole ended held = neither ended
 
 pub bounded-ended : (meters : List (List ℕ × Meter)) (source : Source) (peaked : Bool) (xs : List Leg) (sums : List Loads) (ys : List Bound) (first whole : Option (ℕ × Refusal)) → (xs ≡ []) ⊎ (ys ≡ [])
     → earlier first (first_on meters source peaked xs (sums_on xs sums) ys) ≡ whole → first ≡ whole
 unfolding first_on
 bounded-ended meters source peaked [] sums ys first whole ended held = sym (earlier-None first) ∙ held
 bounded-ended meters source peaked (leg ∷ legs) sums [] first whole ended held = sym (earlier-None first) ∙ held
-bounded-ended meters source peaked (leg ∷ legs) sums (b ∷ bounds) first whole (inl ended) held = absurd cc
-bounded-ended meters source peaked (leg ∷ legs) sums (b ∷ bounds) first whole (inr ended) held = absurd cc
+bounded-ended meters source peaked (leg ∷ legs) sums (b ∷ bounds) first whole ended held = neither ended
 
 -- what is found once stays found
 some_by : (p : Bool) (a b : ℕ × Refusal) → is_some (if p then Some b else Some a) ≡ true
@@ -154,8 +152,7 @@ pub at-none : (place : ℕ) (xs : List Leg) (ys : List Bound) → (xs ≡ []) �
 unfolding bound_at
 at-none place [] ys ended = refl
 at-none place (leg ∷ legs) [] ended = refl
-at-none place (leg ∷ legs) (b ∷ bounds) (inl ended) = absurd cc
-at-none place (leg ∷ legs) (b ∷ bounds) (inr ended) = absurd cc
+at-none place (leg ∷ legs) (b ∷ bounds) ended = neither ended
 
 -- a leg leads to one of the meters
 pub inside-at : (n : ℕ) (legs : List Leg) (i : ℕ) (leg : Leg) → AreInside n legs → i < length legs → leg ≡ get_or legs i leg → leg.place < n

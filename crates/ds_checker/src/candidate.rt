@@ -227,6 +227,7 @@ impl Accepted {
         );
         self.routes.push(route).unwrap();
         self.contracts.push(contract).unwrap();
+        let _acceptable = self.contracts();
         Ok(())
     }
 
@@ -284,6 +285,7 @@ impl Accepted {
             route.route(),
             bounds.hops(),
         );
+        let _acceptable = self.contracts();
         (contract, bounds)
     }
 
@@ -305,6 +307,7 @@ impl Accepted {
         ensures acceptable { IsAcceptable self.new }
     {
         self.contracts[index].lifetime = lifetime;
+        let _acceptable = self.contracts();
     }
 
     /// The route of a contract against which nothing stands once the table has it too; else the first test that fails.

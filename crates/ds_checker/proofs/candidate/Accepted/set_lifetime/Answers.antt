@@ -20,8 +20,3 @@ pub returns-clause-set : goal.returns-clause-set
 returns-clause-set c =
     table-lasting (arc_value c.self.inside.domain) c.self.inside.contracts.items _ c.self.inside.certificate c.args.index c.args.lifetime c.index_mut.result.now c.args.self.now
     (search rules) c.index_mut.ensures.value refl c.self.view_is
-
-pub returns-clause-acceptable : goal.returns-clause-acceptable
-returns-clause-acceptable c =
-    (sound-lasting (arc_value c.self.inside.domain) c.self.inside.contracts.items _ c.self.inside.certificate c.self.inside.sums.items c.args.index c.args.lifetime c.index_mut.result.now
-    (search rules) c.index_mut.ensures.value refl c.self.invariant.sound).acceptable

@@ -42,15 +42,6 @@ invariant_of-self c = record {
       c.remove-contract.ensures.items c.remove-route.ensures.items;
 }
 
-pub returns-clause-acceptable : goal.returns-clause-acceptable
-returns-clause-acceptable c =
-    let inside : c.args.index < length c.self.inside.contracts.items = search rules in
-    let before = before-less c.deref-domain.result.now c.self.inside.contracts.items c.self.inside.certificate c.self.inside.sums.items c.as_mut_slice.result.now c.args.index c.remove-contract.result
-    c.remove-bounds.result c.hops.result.now (sound-of c.deref-domain.result.now (arc_value c.self.inside.domain) c.self.inside.contracts.items c.self.inside.certificate c.self.inside.sums.items c.deref-domain.ensures c.self.invariant.sound) inside c.remove-contract.ensures.value c.remove-bounds.ensures.value c.hops.ensures c.as_mut_slice.ensures.value in
-    (sound-of (arc_value c.self.inside.domain) c.deref-domain.result.now _ _ _ (sym c.deref-domain.ensures) (sound-less c.deref-domain.result.now c.self.inside.contracts.items _ c.self.inside.certificate _ c.self.inside.sums.items c.as_mut_slice.result.now c.take_on_route.new.sums _ c.args.index
-    c.remove-contract.result c.remove-bounds.result c.self.inside.sums.len (sound-of c.deref-domain.result.now (arc_value c.self.inside.domain) c.self.inside.contracts.items c.self.inside.certificate c.self.inside.sums.items c.deref-domain.ensures c.self.invariant.sound) inside c.remove-contract.ensures.items c.remove-bounds.ensures.rest c.as_mut_slice.ensures.value
-    c.as_mut_slice.ensures.len (c.take_on_route.ensures _ before) refl)).acceptable
-
 pub returns-clause-bounds : goal.returns-clause-bounds
 returns-clause-bounds c =
     let inside : c.args.index < length c.self.inside.contracts.items = search rules in
