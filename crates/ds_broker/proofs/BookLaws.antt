@@ -83,10 +83,6 @@ pub hold-placed : (b : Book) (place : ℕ) (h : Holding) → slice_get (held_of 
 hold-placed b place h at =
     rw (slice_get-map (least_of b.domain) (map (λ g. g.contract) (held_of b)) place, slice_get-map (λ g. g.contract) (held_of b) place, at) refl
 
--- what is left until an end and a hold behind it, counted from the end
-pub left-of : (hold passed moment end : ℕ) → passed ≡ moment - end → end ≤ moment → hold - passed ≡ (end + hold) - moment
-left-of hold passed moment end is over = omega (arith, is, over)
-
 -- what is told of its ids and of its contracts is what is told of it
 pub told-listed : (i : book.Inside) (b : Book) → book_of i ≡ b → IsBook i → (contracts : List Contract) → contracts ≡ (table_of b).contracts
     → told_of i.ids.items contracts ≡ entries_of b
@@ -99,7 +95,3 @@ ids-length i b view kept = ap length kept.ids ∙ length-map (held_in i) (λ h. 
 
 pub released-length : (i : book.Inside) (b : Book) → book_of i ≡ b → IsBook i → length i.released.items ≡ length (held_of b)
 released-length i b view kept = ap length kept.released ∙ length-map (held_in i) (λ h. h.released) ∙ ap (λ x. length (held_of x)) view
-
-pub one-at : (o : Option Holding) (g h : Holding) → o ≡ Some g → o ≡ Some h → g ≡ h
-one-at None g h is also = cc
-one-at (Some other) g h is also = cc

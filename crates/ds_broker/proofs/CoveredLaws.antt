@@ -31,11 +31,11 @@ use Rattle.ds_broker.specs.declared.command.Command.{Command}
 use Rattle.ds_broker.specs.declared.command.Command.TheVariants.{Reserve, Release, Retire}
 use Rattle.ds_broker.specs.declared.refusal.BrokerRefusal.{BrokerRefusal}
 use Rattle.ds_broker.specs.declared.refusal.BrokerRefusal.TheVariants.{Checker, HistoryFull, NotReleased}
-use Rattle.ds_broker.proofs.HoldingLaws.{first-below}
-use Rattle.ds_broker.proofs.PastLaws.{IsGiven, IsOnly, IsPast, IsTold, held-only, held_as, is_unretired, past-kept, past-next, past-push}
+use Rattle.ds_broker.proofs.HoldingLaws.{first-below, AllByRecursion-push}
+use Rattle.ds_broker.proofs.PastLaws.{IsGiven, IsOnly, IsPast, IsTold, held-only, held_as, is_unretired, past-kept, past-next, past-push, holding-all}
 use Rattle.ds_broker.proofs.RatedLaws.{rated-behind}
 use Rattle.ds_broker.proofs.StandingLaws.{granted-most, standing-push}
-use Rattle.ds_broker.proofs.TableLaws.{none-acceptable, table-retired}
+use Rattle.ds_broker.proofs.TableLaws.{none-acceptable, table-retired, none-by}
 
 -- those that are reserved at a moment
 abbrev reserved : ℕ → List Reservation → List Reservation
@@ -193,33 +193,22 @@ all-retired : (d : Domain) (id moment : ℕ) (h : Holding) (rs : List Reservatio
 all-retired d id moment h [] some free only = tt
 all-retired d id moment h (r ∷ rs) some free only = ((λ same held. held-retired d moment h r (only.0 same) some free), all-retired d id moment h rs some free only.1)
 
-AllByRecursion-push : {A : Type 0} (P : A → Type 0) (xs : List A) (x : A) → AllByRecursion P xs → P x → AllByRecursion P (xs ++ x ∷ [])
-AllByRecursion-push P [] x all one = (one, tt)
-AllByRecursion-push P (y ∷ xs) x all one = (all.0, AllByRecursion-push P xs x all.1 one)
-
 never-retired : (d : Domain) (flow : ℕ) (c : Contract) → IsHeld d (granted_as d flow c)
 never-retired d flow c at some = absurd (none-some at some)
 
 -- What is known where nothing stands against a command.
 unchecked : (b : Book) (c : Contract) (o : Option BrokerRefusal) → refusal_or_checked o b c ≡ None → refusal_of (table_of (with_command b (Reserve c))) ≡ None
 unchecked b c (Some refusal) none = cc
-unchecked b c None none = of_checker (refusal_of (table_of (with_command b (Reserve c)))) none
-  where
-    of_checker : (o : Option Refusal) → option_map Checker o ≡ None → o ≡ None
-    of_checker None none = refl
-    of_checker (Some refusal) none = cc
+unchecked b c None none = none-by Checker (refusal_of (table_of (with_command b (Reserve c)))) none
 
 hold-over : (moment end : ℕ) (released full : Bool) → (if released then if full then Some HistoryFull else hold_left moment end else Some NotReleased) ≡ None
     → (released ≡ true) × (end ≤ moment)
 hold-over moment end false full none = cc
 hold-over moment end true true none = cc
 hold-over moment end true false none = elim (cases_Bool (nat_lt moment end)) [
-  | inl later ↦ absurd (some-none (rw later at none))
+  | inl later ↦ absurd (none-some _ (sym (rw later at none)))
   | inr over ↦ (refl, grind (arith, over))
 ]
-  where
-    some-none : {A : Type 0} {x : A} → Some x ≡ None → ⊥
-    some-none is = cc
 
 -- the contract that a retire takes out
 record IsOver (d : Domain) (id moment : ℕ) (held : List Holding) : Type 0 where
@@ -247,14 +236,6 @@ acceptable-retired d id held h found met =
     let first = first-of id held h found in
     let inside : first.0 < length (contracts_in held) = omega (arith, first-below id held first.0 first.1, length-map held (λ h. h.contract)) in
     subst IsAcceptable (sym (table-retired d id held first.0 first.1)) (acceptable-taken (table_in d held) first.0 h.contract [] inside met)
-
-given-of : (id : ℕ) (held : List Holding) (h : Holding) → AllByRecursion IsGiven held → holding_of id held ≡ Some h
-    → h.released ≡ true → is_some h.contract.lifetime.until ≡ true
-given-of id [] h given_ids found = absurd (none-some h found)
-given-of id (g ∷ held) h given_ids found = elim (cases_Bool (nat_eq id g.id)) [
-  | inl same ↦ let one : g ≡ h = same_Some g h (rw same at found) in subst (λ x. x.released ≡ true → is_some x.contract.lifetime.until ≡ true) one given_ids.0.1
-  | inr other ↦ given-of id held h given_ids.1 (rw other at found)
-]
 
 -- What was granted is held and acceptable.
 record IsSafe (d : Domain) (p : Past) : Type 0 where
@@ -303,7 +284,7 @@ safe-retired d s p id at past safe over =
     let met = acceptable-retired d id s.held h over.found (subst IsAcceptable (table-by_now d s p p.newest past (omega arith)) (safe.acceptable p.newest)) in
     record {
       held = held-changed d id (retired_at m) p.granted
-          (all-retired d id m h p.granted (given-of id s.held h past.given_ids over.found over.released) (omega (arith, over.free, newest)) only) safe.held;
+          (all-retired d id m h p.granted ((holding-all IsGiven id s.held h past.given_ids over.found).0.1 over.released) (omega (arith, over.free, newest)) only) safe.held;
       acceptable = λ moment. at-any d (after s (Retire id at)) (past_after d p (Retire id at)) moment (past-next d s p (Retire id at) past) met
           (λ early. subst IsAcceptable (sym (table-before d id m moment h p.granted early only)) (safe.acceptable moment));
     }

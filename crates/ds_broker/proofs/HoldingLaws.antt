@@ -1,7 +1,7 @@
 -- What is held, as lists of ids and contracts: where the contract of an id stands in them, and what becomes of them.
-use Rattle.std.proofs.Common.{◌≡◌, ◌⊎◌, ◌≤◌, ◌<◌, ℕ, zero, suc, true, List, [], ◌∷◌, Option, None, Some, refl, ap, arith, inl, inr}
+use Rattle.std.proofs.Common.{◌≡◌, ◌⊎◌, ◌≤◌, ◌<◌, ℕ, zero, suc, true, List, [], ◌∷◌, Option, None, Some, refl, ap, arith, inl, inr, ◌++◌, sym, ◌∙◌}
 use Rattle.std.specs.Prelude.{length, map, nat_eq, slice_get, slice_index_or}
-use Rattle.std.specs.List.{remove}
+use Rattle.std.specs.List.{AllByRecursion, remove}
 use Rattle.std.proofs.Math.ListN.{set}
 use Rattle.std.proofs.lemmas.Bool.{cases_Bool}
 use Rattle.ds_domain_base.specs.Domains.{Domain}
@@ -15,6 +15,13 @@ use Rattle.ds_broker.specs.Entries.{entry_of, told_of}
 use Rattle.ds_broker.specs.Found.{IsFirst}
 use Rattle.ds_broker.specs.Histories.{Holding, end_by, ended, with_released, with_retired}
 use Rattle.ds_broker.specs.Kept.{ids_in, released_in}
+use Rattle.std.proofs.lemmas.List.{length-map}
+use Rattle.ds_checker.proofs.LoadLaws.{neither}
+
+-- what holds of a list, and of one more
+pub AllByRecursion-push : {A : Type 0} (P : A → Type 0) (xs : List A) (x : A) → AllByRecursion P xs → P x → AllByRecursion P (xs ++ x ∷ [])
+AllByRecursion-push P [] x all one = (one, tt)
+AllByRecursion-push P (y ∷ xs) x all one = (all.0, AllByRecursion-push P xs x all.1 one)
 
 pub first-below : (id : ℕ) (held : List Holding) (place : ℕ) → IsFirst id held place → place < length held
 unfolding IsFirst
@@ -59,21 +66,27 @@ released-set id moment [] place first = absurd first
 released-set id moment (h ∷ held) zero first = rw first refl
 released-set id moment (h ∷ held) (suc place) first = rw first.0 (ap (λ rest. h.released ∷ rest) (released-set id moment held place first.1))
 
-pub ids-released : (id moment : ℕ) (held : List Holding) → ids_in (with_released id moment held) ≡ ids_in held
+pub map-released : {A : Type 0} (f : Holding → A) (id moment : ℕ) (held : List Holding) → ((h : Holding) → f (record { id = h.id; contract = ended moment h.contract; released = true }) ≡ f h)
+    → map f (with_released id moment held) ≡ map f held
 unfolding with_released
-ids-released id moment [] = refl
-ids-released id moment (h ∷ held) = elim (cases_Bool (nat_eq id h.id)) [
-  | inl same ↦ rw same refl
-  | inr other ↦ rw other (ap (λ rest. h.id ∷ rest) (ids-released id moment held))
+map-released f id moment [] same = refl
+map-released f id moment (h ∷ held) same = elim (cases_Bool (nat_eq id h.id)) [
+  | inl is ↦ rw is (ap (λ x. x ∷ map f held) (same h))
+  | inr other ↦ rw other (ap (λ rest. f h ∷ rest) (map-released f id moment held same))
+]
+
+pub all-released : (P : Holding → Type 0) (id moment : ℕ) (held : List Holding) → ((h : Holding) → P h → P (record { id = h.id; contract = ended moment h.contract; released = true }))
+    → AllByRecursion P held → AllByRecursion P (with_released id moment held)
+unfolding with_released
+all-released P id moment [] still all = tt
+all-released P id moment (h ∷ held) still all = elim (cases_Bool (nat_eq id h.id)) [
+  | inl same ↦ rw same (still h all.0, all.1)
+  | inr other ↦ rw other (all.0, all-released P id moment held still all.1)
 ]
 
 pub length-released : (id moment : ℕ) (held : List Holding) → length (with_released id moment held) ≡ length held
-unfolding with_released
-length-released id moment [] = refl
-length-released id moment (h ∷ held) = elim (cases_Bool (nat_eq id h.id)) [
-  | inl same ↦ rw same refl
-  | inr other ↦ rw other (ap suc (length-released id moment held))
-]
+length-released id moment held =
+    sym (length-map (with_released id moment held) (λ h. h.id)) ∙ ap length (map-released (λ h. h.id) id moment held (λ h. refl)) ∙ length-map held (λ h. h.id)
 
 -- Retired: it is taken out, whatever is looked at.
 pub map-retired : {A : Type 0} (f : Holding → A) (id : ℕ) (held : List Holding) (place : ℕ) → IsFirst id held place
@@ -83,12 +96,13 @@ map-retired f id [] place first = absurd first
 map-retired f id (h ∷ held) zero first = rw first refl
 map-retired f id (h ∷ held) (suc place) first = rw first.0 (ap (λ rest. f h ∷ rest) (map-retired f id held place first.1))
 
-pub map-map-retired : {A B : Type 0} (g : A → B) (f : Holding → A) (id : ℕ) (held : List Holding) (place : ℕ) → IsFirst id held place
-    → map g (map f (with_retired id held)) ≡ remove (map g (map f held)) place
-unfolding IsFirst with_retired
-map-map-retired g f id [] place first = absurd first
-map-map-retired g f id (h ∷ held) zero first = rw first refl
-map-map-retired g f id (h ∷ held) (suc place) first = rw first.0 (ap (λ rest. g (f h) ∷ rest) (map-map-retired g f id held place first.1))
+pub all-retired : (P : Holding → Type 0) (id : ℕ) (held : List Holding) → AllByRecursion P held → AllByRecursion P (with_retired id held)
+unfolding with_retired
+all-retired P id [] all = tt
+all-retired P id (h ∷ held) all = elim (cases_Bool (nat_eq id h.id)) [
+  | inl same ↦ rw same all.1
+  | inr other ↦ rw other (all.0, all-retired P id held all.1)
+]
 
 pub length-retired : (id : ℕ) (held : List Holding) → length (with_retired id held) ≤ length held
 unfolding with_retired
@@ -134,5 +148,4 @@ pub told-ended : (ids : List ℕ) (contracts : List Contract) → (ids ≡ []) �
 unfolding told_of
 told-ended [] contracts ended = refl
 told-ended (id ∷ ids) [] ended = refl
-told-ended (id ∷ ids) (c ∷ contracts) (inl ended) = absurd cc
-told-ended (id ∷ ids) (c ∷ contracts) (inr ended) = absurd cc
+told-ended (id ∷ ids) (c ∷ contracts) ended = neither ended

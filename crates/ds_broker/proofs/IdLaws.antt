@@ -12,7 +12,8 @@ use Rattle.ds_broker.specs.Histories.{Holding, Standing, after, begun, opening, 
 use Rattle.ds_broker.specs.Kept.{ids_in}
 use Rattle.ds_broker.specs.declared.command.Command.{Command}
 use Rattle.ds_broker.specs.declared.command.Command.TheVariants.{Reserve, Release, Retire}
-use Rattle.ds_broker.proofs.StandingLaws.{IsBounded, bounded-after}
+use Rattle.ds_broker.proofs.StandingLaws.{IsBounded, bounded-after, fold-keeps}
+use Rattle.ds_broker.proofs.HoldingLaws.{AllByRecursion-push, all-released, all-retired}
 
 -- no id is above another behind it
 unfoldable pub IsRising : List Holding → Type 0
@@ -22,34 +23,14 @@ IsRising (h ∷ held) = AllByRecursion (λ g. h.id < g.id) held × IsRising held
 rising-push : (held : List Holding) (h : Holding) → AllByRecursion (λ g. g.id < h.id) held → IsRising held → IsRising (held ++ h ∷ [])
 unfolding IsRising
 rising-push [] h below rising = (tt, tt)
-rising-push (g ∷ held) h below rising = (above-push g held h rising.0 below.0, rising-push held h below.1 rising.1)
-  where
-    above-push : (g : Holding) (held : List Holding) (h : Holding) → AllByRecursion (λ x. g.id < x.id) held → g.id < h.id → AllByRecursion (λ x. g.id < x.id) (held ++ h ∷ [])
-    above-push g [] h all one = (one, tt)
-    above-push g (x ∷ held) h all one = (all.0, above-push g held h all.1 one)
-
-above-released : (n id moment : ℕ) (held : List Holding) → AllByRecursion (λ g. n < g.id) held → AllByRecursion (λ g. n < g.id) (with_released id moment held)
-unfolding with_released
-above-released n id moment [] all = tt
-above-released n id moment (h ∷ held) all = elim (cases_Bool (nat_eq id h.id)) [
-  | inl same ↦ rw same all
-  | inr other ↦ rw other (all.0, above-released n id moment held all.1)
-]
+rising-push (g ∷ held) h below rising = (AllByRecursion-push (λ x. g.id < x.id) held h rising.0 below.0, rising-push held h below.1 rising.1)
 
 rising-released : (id moment : ℕ) (held : List Holding) → IsRising held → IsRising (with_released id moment held)
 unfolding IsRising with_released
 rising-released id moment [] rising = tt
 rising-released id moment (h ∷ held) rising = elim (cases_Bool (nat_eq id h.id)) [
   | inl same ↦ rw same rising
-  | inr other ↦ rw other (above-released h.id id moment held rising.0, rising-released id moment held rising.1)
-]
-
-above-retired : (n id : ℕ) (held : List Holding) → AllByRecursion (λ g. n < g.id) held → AllByRecursion (λ g. n < g.id) (with_retired id held)
-unfolding with_retired
-above-retired n id [] all = tt
-above-retired n id (h ∷ held) all = elim (cases_Bool (nat_eq id h.id)) [
-  | inl same ↦ rw same all.1
-  | inr other ↦ rw other (all.0, above-retired n id held all.1)
+  | inr other ↦ rw other (all-released (λ g. h.id < g.id) id moment held (λ g own. own) rising.0, rising-released id moment held rising.1)
 ]
 
 rising-retired : (id : ℕ) (held : List Holding) → IsRising held → IsRising (with_retired id held)
@@ -57,7 +38,7 @@ unfolding IsRising with_retired
 rising-retired id [] rising = tt
 rising-retired id (h ∷ held) rising = elim (cases_Bool (nat_eq id h.id)) [
   | inl same ↦ rw same rising.1
-  | inr other ↦ rw other (above-retired h.id id held rising.0, rising-retired id held rising.1)
+  | inr other ↦ rw other (all-retired (λ g. h.id < g.id) id held rising.0, rising-retired id held rising.1)
 ]
 
 below-next : (granted newest : ℕ) (held : List Holding) → AllByRecursion (IsBounded granted newest) held → AllByRecursion (λ g. g.id < granted + 1) held
@@ -70,13 +51,11 @@ rising-after s (Reserve c) bounded rising =
 rising-after s (Release id at) bounded rising = rising-released id _ s.held rising
 rising-after s (Retire id moment) bounded rising = rising-retired id s.held rising
 
-rising-fold : (s : Standing) (commands : List Command) → AllByRecursion (IsBounded s.granted s.newest) s.held → IsRising s.held → IsRising (fold after s commands).held
-rising-fold s [] bounded rising = rising
-rising-fold s (command ∷ commands) bounded rising = rising-fold (after s command) commands (bounded-after s command bounded) (rising-after s command bounded rising)
-
 pub standing-rising : (history : List Command) → IsRising (standing_of history).held
 unfolding standing_of IsRising
-standing-rising history = rising-fold opening history tt tt
+standing-rising history =
+    (fold-keeps (λ s. AllByRecursion (IsBounded s.granted s.newest) s.held × IsRising s.held)
+    (λ s command own. (bounded-after s command own.0, rising-after s command own.0 own.1)) opening history (tt, tt)).1
 
 above-at : (n : ℕ) (held : List Holding) (place : ℕ) → AllByRecursion (λ g. n < g.id) held → place < length (ids_in held) → n < get_or (ids_in held) place 0
 above-at n [] place all within = absurd (let none : ⊥ = omega (arith, within) in none)
@@ -116,22 +95,14 @@ missing-apart id (h ∷ held) none = elim (cases_Bool (nat_eq id h.id)) [
 abbrev AreGiven : List Holding → Type 0
 AreGiven held = AllByRecursion (λ h. 0 < h.id) held
 
-given-push : (held : List Holding) (h : Holding) → AreGiven held → 0 < h.id → AreGiven (held ++ h ∷ [])
-given-push [] h all one = (one, tt)
-given-push (g ∷ held) h all one = (all.0, given-push held h all.1 one)
-
 given-after : (s : Standing) (command : Command) → AreGiven s.held → AreGiven (after s command).held
-given-after s (Reserve c) all = given-push s.held (record { id = s.granted + 1; contract = begun s.newest c; released = false }) all (omega arith)
-given-after s (Release id at) all = above-released 0 id _ s.held all
-given-after s (Retire id moment) all = above-retired 0 id s.held all
-
-given-fold : (s : Standing) (commands : List Command) → AreGiven s.held → AreGiven (fold after s commands).held
-given-fold s [] all = all
-given-fold s (command ∷ commands) all = given-fold (after s command) commands (given-after s command all)
+given-after s (Reserve c) all = AllByRecursion-push (λ g. 0 < g.id) s.held (record { id = s.granted + 1; contract = begun s.newest c; released = false }) all (omega arith)
+given-after s (Release id at) all = all-released (λ g. 0 < g.id) id _ s.held (λ g own. own) all
+given-after s (Retire id moment) all = all-retired (λ g. 0 < g.id) id s.held all
 
 standing-given : (history : List Command) → AreGiven (standing_of history).held
 unfolding standing_of
-standing-given history = given-fold opening history tt
+standing-given history = fold-keeps (λ s. AreGiven s.held) given-after opening history tt
 
 id-next : (held : List Holding) (k : ℕ) → IsRising held → suc k < length (ids_in held) → get_or (ids_in held) k 0 < get_or (ids_in held) (suc k) 0
 unfolding IsRising

@@ -1,12 +1,12 @@
 -- What the fields of a book keep is kept by each command.
-use Rattle.std.proofs.Common.{◌≡◌, ◌<◌, ◌≤◌, ◌+◌, ℕ, true, false, List, [], ◌∷◌, ◌++◌, None, Some, sym, ap, subst, ◌∙◌, arith}
+use Rattle.std.proofs.Common.{◌≡◌, ◌<◌, ◌≤◌, ◌+◌, ℕ, true, false, List, [], ◌∷◌, ◌++◌, None, Some, sym, ap, subst, ◌∙◌, arith, refl}
 use Rattle.std.specs.Prelude.{cond, length, max, nat_le, slice_get}
 use Rattle.std.proofs.Common.{append-nil, append_assoc}
 use Rattle.std.proofs.Math.ListN.{set}
 use Rattle.std.specs.List.{IsDistinct, list_any, remove}
 use Rattle.std.specs.Str.{bytes_eq}
 use Rattle.std.proofs.lemmas.Cmp.{nat_list_eq_equiv}
-use Rattle.std.proofs.lemmas.List.{map-append, length-append}
+use Rattle.std.proofs.lemmas.List.{map-append, length_push}
 use Rattle.std.proofs.lemmas.Map.Keys.{IsDistinct-push}
 use Rattle.ds_domain_base.specs.Domains.{Domain}
 use Rattle.ds_domain_base.specs.declared.contract.Contract.{Contract}
@@ -22,24 +22,12 @@ use Rattle.ds_broker.specs.declared.book.Book.TheInside as book
 use Rattle.ds_broker.specs.declared.change.Change.{Change}
 use Rattle.ds_broker.specs.declared.command.Command.{Command}
 use Rattle.ds_broker.specs.declared.command.Command.TheVariants.{Reserve, Release, Retire}
-use Rattle.ds_broker.proofs.HoldingLaws.{ids-released, length-released, length-retired, map-retired, released-set}
-use Rattle.ds_broker.proofs.NameLaws.{any-names, apart-retired, held-push, held-released, held-retired, names-released}
+use Rattle.ds_broker.proofs.HoldingLaws.{length-released, length-retired, map-retired, released-set, map-released}
+use Rattle.ds_broker.proofs.NameLaws.{any-names, apart-retired, held-push, held-released, held-retired}
 use Rattle.ds_broker.proofs.RefusalLaws.{passed, roomy, unfilled}
 use Rattle.ds_broker.proofs.StandingLaws.{standing-push}
 use Rattle.ds_broker.proofs.TableLaws.{own-domain}
-
--- what stands behind it
-stands : (old new : book.Inside) (command : Command) → new.history.items ≡ old.history.items ++ command ∷ [] → standing_of new.history.items ≡ after (standing_of old.history.items) command
-stands old new command history = ap standing_of history ∙ standing-push old.history.items command
-
-below : (most n : ℕ) → nat_le most n ≡ false → n < most
-below most n is = grind (arith, is)
-
-pushed-length : (history : List Command) (command : Command) → length (history ++ command ∷ []) ≡ length history + 1
-pushed-length history command = length-append history (command ∷ [])
-
-held-length : (held : List Holding) (h : Holding) → length (held ++ h ∷ []) ≡ length held + 1
-held-length held h = length-append held (h ∷ [])
+use Rattle.std.proofs.lemmas.Bool.{leb-false}
 
 -- nothing stood against one command more
 pub AreUnrefused-push : (b : Book) (commands : List Command) (command : Command) → AreUnrefused b commands → refusal_in (record b { history = b.history ++ commands }) command ≡ None
@@ -76,11 +64,11 @@ taken : (old new : book.Inside) (command : Command) (change : Change) → IsBook
 taken old new command change kept is changed limits newest history =
     let table : new.table ≡ table_in old.table.domain (held_in new) =
     changed ∙ ap (table_changed change.step) kept.table ∙ sym is.leads.table ∙ ap (λ h. table_in old.table.domain (standing_of h).held) (sym history) in record {
-      stood = stands old new command history;
+      stood = ap standing_of history ∙ standing-push old.history.items command;
       table = own-domain old.table.domain new.table (held_in new) table;
       newest = newest ∙ is.newest ∙ ap (λ h. (standing_of h).newest) (sym history);
-      accepted = rw (limits, history) (omega (arith, pushed-length old.history.items command, below old.limits.history (length old.history.items) (unfilled (book_of old) command is.unrefused)));
-      short = rw history (omega (arith, pushed-length old.history.items command, is.room));
+      accepted = rw (limits, history) (omega (arith, length_push old.history.items command, leb-false old.limits.history (length old.history.items) (unfilled (book_of old) command is.unrefused)));
+      short = rw history (omega (arith, length_push old.history.items command, is.room));
       unrefused = unrefused-more old new command kept.unrefused is.unrefused (ap (λ t. t.domain) table) limits history;
     }
 
@@ -122,7 +110,7 @@ kept-reserved old new c change kept is table acceptable ids released names limit
           (IsDistinct-push nat_list_eq_equiv (names_in s.held) c.name kept.apart unheld);
       granted = number ∙ ap (λ x. x.granted) (sym st);
       newest = t.newest;
-      room = omega (arith, ap (λ l. l.table) limits, (let count : length (held_in new) ≡ length (s.held ++ next ∷ []) = ap (λ x. length x.held) st in count), held-length s.held next, below old.limits.table (length s.held) passes.table);
+      room = omega (arith, ap (λ l. l.table) limits, (let count : length (held_in new) ≡ length (s.held ++ next ∷ []) = ap (λ x. length x.held) st in count), length_push s.held next, leb-false old.limits.table (length s.held) passes.table);
       accepted = t.accepted;
       short = t.short;
       unrefused = t.unrefused;
@@ -147,11 +135,11 @@ kept-released old new id at change kept is table acceptable ids marked names lim
     record {
       table = t.table;
       acceptable = acceptable;
-      ids = ids ∙ kept.ids ∙ sym (ids-released id m s.held) ∙ ap (λ x. ids_in x.held) (sym st);
+      ids = ids ∙ kept.ids ∙ sym (map-released (λ h. h.id) id m s.held (λ h. refl)) ∙ ap (λ x. ids_in x.held) (sym st);
       released = marked ∙ ap (λ bs. set bs (place_in change.step) true) kept.released ∙ sym (released-set id m s.held (place_in change.step) is.placed.first)
           ∙ ap (λ x. released_in x.held) (sym st);
       names = λ name. ap (list_any (bytes_eq name)) names ∙ kept.names name ∙ sym (held-released name id m s.held) ∙ ap (λ x. is_held name x.held) (sym st);
-      apart = subst (IsDistinct bytes_eq) (sym (names-released id m s.held) ∙ ap (λ x. names_in x.held) (sym st)) kept.apart;
+      apart = subst (IsDistinct bytes_eq) (sym (map-released (λ h. h.contract.name) id m s.held (λ h. refl)) ∙ ap (λ x. names_in x.held) (sym st)) kept.apart;
       granted = granted ∙ kept.granted ∙ ap (λ x. x.granted) (sym st);
       newest = t.newest;
       room = omega (arith, ap (λ l. l.table) limits, (let count : length (held_in new) ≡ length (with_released id m s.held) = ap (λ x. length x.held) st in count), length-released id m s.held, kept.room);

@@ -5,14 +5,15 @@ use Rattle.std.specs.List.{AllByRecursion, IsDistinct, list_any, position, posit
 use Rattle.std.proofs.lemmas.Bool.Decides.{nat_tests}
 use Rattle.std.specs.Str.{bytes_eq}
 use Rattle.std.proofs.Math.Bool.{or-false, or-true}
-use Rattle.std.proofs.lemmas.Bool.{cases_Bool}
+use Rattle.std.proofs.lemmas.Bool.{cases_Bool, or_parts}
 use Rattle.std.proofs.lemmas.List.Folds.{list_any-append}
 use Rattle.std.proofs.lemmas.Slice.Eq.{bytes_eq-Decides}
-use Rattle.ds_checker.proofs.LoadLaws.{bytes_eq-flip, or_parts}
+use Rattle.ds_checker.proofs.LoadLaws.{bytes_eq-flip}
 use Rattle.ds_broker.specs.Books.{contracts_in, is_held}
 use Rattle.ds_broker.specs.Found.{IsFirst}
 use Rattle.ds_broker.specs.Histories.{Holding, with_released, with_retired}
 use Rattle.ds_broker.specs.Kept.{names_in}
+use Rattle.ds_broker.proofs.HoldingLaws.{map-released}
 
 -- a name among names is held
 pub any-names : (name : List ℕ) (held : List Holding) → list_any (bytes_eq name) (names_in held) ≡ is_held name held
@@ -73,18 +74,9 @@ apart-retired id (h ∷ held) apart = elim (cases_Bool (nat_eq id h.id)) [
       | inr other ↦ rw other (all.0, still name held all.1)
     ]
 
--- a release leaves them
-pub names-released : (id moment : ℕ) (held : List Holding) → names_in (with_released id moment held) ≡ names_in held
-unfolding with_released
-names-released id moment [] = refl
-names-released id moment (h ∷ held) = elim (cases_Bool (nat_eq id h.id)) [
-  | inl same ↦ rw same refl
-  | inr other ↦ rw other (ap (λ rest. h.contract.name ∷ rest) (names-released id moment held))
-]
-
 pub held-released : (name : List ℕ) (id moment : ℕ) (held : List Holding) → is_held name (with_released id moment held) ≡ is_held name held
 held-released name id moment held =
-    sym (any-names name (with_released id moment held)) ∙ ap (list_any (bytes_eq name)) (names-released id moment held) ∙ any-names name held
+    sym (any-names name (with_released id moment held)) ∙ ap (list_any (bytes_eq name)) (map-released (λ h. h.contract.name) id moment held (λ h. refl)) ∙ any-names name held
 
 -- a name that is not held is that of no contract
 none_first : (name : List ℕ) (held : List Holding) → is_held name held ≡ false → position_or_len (λ c. bytes_eq name c.name) (contracts_in held) ≡ length (contracts_in held)

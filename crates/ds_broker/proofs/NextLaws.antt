@@ -18,7 +18,7 @@ use Rattle.ds_broker.specs.Histories.{Holding, Standing, beginning, begun, ended
 use Rattle.ds_broker.specs.Kept.{IsBook, book_of, ids_in}
 use Rattle.ds_broker.specs.declared.book.Book.TheInside as book
 use Rattle.ds_broker.specs.declared.command.Command.TheVariants.{Reserve, Release, Retire}
-use Rattle.ds_broker.proofs.HoldingLaws.{map-retired}
+use Rattle.ds_broker.proofs.HoldingLaws.{map-retired, map-released}
 use Rattle.ds_broker.proofs.StandingLaws.{standing-push}
 use Rattle.ds_broker.proofs.TableLaws.{table-released, table-reserved, table-retired}
 
@@ -72,17 +72,9 @@ flows-after-reserve b c own next granted is number pushed =
     pushed ∙ ap (λ n. own ++ n ∷ []) flow ∙ ap (λ ns. ns ++ flow_of h ∷ []) is ∙ sym (map-append flow_of (held_of b) (h ∷ []))
     ∙ ap (λ s. map flow_of s.held) (sym (standing-push b.history (Reserve c)))
 
-flows-released : (id moment : ℕ) (held : List Holding) → map flow_of (with_released id moment held) ≡ map flow_of held
-unfolding with_released
-flows-released id moment [] = refl
-flows-released id moment (h ∷ held) = elim (cases_Bool (nat_eq id h.id)) [
-  | inl same ↦ rw same refl
-  | inr other ↦ rw other (ap (λ rest. flow_of h ∷ rest) (flows-released id moment held))
-]
-
 pub flows-after-release : (b : Book) (id at : ℕ) (next : List ℕ) → next ≡ flows_of b → next ≡ flows_of (with_command b (Release id at))
 flows-after-release b id at next is =
-    is ∙ sym (flows-released id (max (newest_of b) at) (held_of b)) ∙ ap (λ s. map flow_of s.held) (sym (standing-push b.history (Release id at)))
+    is ∙ sym (map-released flow_of id (max (newest_of b) at) (held_of b) (λ h. refl)) ∙ ap (λ s. map flow_of s.held) (sym (standing-push b.history (Release id at)))
 
 pub flows-after-retire : (b : Book) (id moment place : ℕ) (released : Bool) (own next : List ℕ) → own ≡ flows_of b → IsFound id (held_of b) place released
     → next ≡ remove own place → next ≡ flows_of (with_command b (Retire id moment))

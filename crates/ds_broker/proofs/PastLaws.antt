@@ -1,5 +1,5 @@
 -- What was ever granted behind some commands, beside what stands behind them.
-use Rattle.std.proofs.Common.{◌≡◌, ◌≤◌, ◌+◌, ◌-◌, ℕ, suc, Bool, true, false, List, [], ◌∷◌, ◌++◌, Option, None, Some, refl, sym, ap, ◌∙◌, arith, inl, inr, true≢false}
+use Rattle.std.proofs.Common.{◌≡◌, ◌≤◌, ◌+◌, ◌-◌, ℕ, suc, Bool, true, false, List, [], ◌∷◌, ◌++◌, Option, None, Some, refl, sym, ap, ◌∙◌, arith, inl, inr, true≢false, subst}
 use Rattle.std.specs.Prelude.{IfSome, filter, fold, is_none, is_some, length, map, max, nat_eq, if◌then◌else◌}
 use Rattle.std.specs.List.{AllByRecursion}
 use Rattle.std.proofs.lemmas.Bool.{cases_Bool}
@@ -18,6 +18,7 @@ use Rattle.ds_broker.specs.Histories.{Holding, Standing, after, begun, ended, op
 use Rattle.ds_broker.specs.Timelines.{Past, changed, ending_by, granted_as, id_of, no_past, past_after, past_of, retired_at}
 use Rattle.ds_broker.specs.declared.command.Command.{Command}
 use Rattle.ds_broker.specs.declared.command.Command.TheVariants.{Reserve, Release, Retire}
+use Rattle.ds_broker.proofs.HoldingLaws.{AllByRecursion-push, all-released, all-retired}
 
 -- what is held, as it was granted
 abbrev pub held_as : Domain → Holding → Reservation
@@ -43,11 +44,6 @@ pub record IsPast (d : Domain) (s : Standing) (p : Past) : Type 0 where
   pub unretired : filter is_unretired p.granted ≡ map (held_as d) s.held
   pub told : AllByRecursion (IsTold p.newest) p.granted
   pub given_ids : AllByRecursion IsGiven s.held
-
--- one more
-pub AllByRecursion-push : {A : Type 0} (P : A → Type 0) (xs : List A) (x : A) → AllByRecursion P xs → P x → AllByRecursion P (xs ++ x ∷ [])
-AllByRecursion-push P [] x all one = (one, tt)
-AllByRecursion-push P (y ∷ xs) x all one = (all.0, AllByRecursion-push P xs x all.1 one)
 
 retired-weaker : (o : Option ℕ) (newest later : ℕ) → newest ≤ later → IfSome o (λ moment. moment ≤ newest) → IfSome o (λ moment. moment ≤ later)
 retired-weaker None newest later more by = tt
@@ -130,109 +126,80 @@ ending-held : (d : Domain) (moment : ℕ) (r : Reservation) (h : Holding) → r 
 unfolding source_of
 ending-held d moment r h is = ap (ending_by moment) is
 
--- what is unretired once the contract of an id is released
-released-first : (d : Domain) (id moment number : ℕ) (r : Reservation) (rs : List Reservation) (held : List Holding) → r.flow ≡ number → IsNumbered (suc number) rs → r.retirement ≡ None
-    → ((held : List Holding) → AllByRecursion IsGiven held → filter is_unretired rs ≡ map (held_as d) held
-    → filter is_unretired (changed id (ending_by moment) rs) ≡ map (held_as d) (with_released id moment held))
-    → AllByRecursion IsGiven held → r ∷ filter is_unretired rs ≡ map (held_as d) held
-    → filter is_unretired (changed id (ending_by moment) (r ∷ rs)) ≡ map (held_as d) (with_released id moment held)
-unfolding with_released
-released-first d id moment number r rs [] flow numbered unretired again given_ids is = absurd (no-nil r (filter is_unretired rs) is)
-released-first d id moment number r rs (h ∷ held) flow numbered unretired again given_ids is =
-    let here = same-head r (held_as d h) (filter is_unretired rs) (map (held_as d) held) is in
-    let rest = same-tail r (held_as d h) (filter is_unretired rs) (map (held_as d) held) is in
-    let test = same-id d id r h here given_ids.0.0 in
-    elim (cases_Bool (nat_eq id h.id)) [
-      | inl same ↦
-          let yes : nat_eq id (id_of r) ≡ true = test ∙ same in
-          let next : id ≤ suc number = below-next id number r yes flow in
-          rw yes (rw same (filter-none (ending_by moment r) (changed id (ending_by moment) rs) unretired
-          ∙ ap (λ x. ending_by moment r ∷ filter is_unretired x) (changed-above id (ending_by moment) (suc number) rs next numbered)
-          ∙ ap (λ x. x ∷ filter is_unretired rs) (ending-held d moment r h here)
-          ∙ ap (λ xs. held_as d (record { id = h.id; contract = ended moment h.contract; released = true }) ∷ xs) rest))
-      | inr other ↦
-          let no : nat_eq id (id_of r) ≡ false = test ∙ other in
-          rw no (rw other (filter-none r (changed id (ending_by moment) rs) unretired
-          ∙ ap (λ xs. r ∷ xs) (again held given_ids.1 rest)
-          ∙ ap (λ x. x ∷ map (held_as d) (with_released id moment held)) here))
-    ]
+-- Along all that was granted, and what is held of it: what is retired is passed by, and what is not is held as it was granted.
+module _ (d : Domain) (P : ℕ → List Reservation → List Holding → Type 0) (none_left : (number : ℕ) → P number [] [])
+    (passed_by : (number : ℕ) (r : Reservation) (rs : List Reservation) (held : List Holding) (at : ℕ) → r.retirement ≡ Some at → r.flow ≡ number → P (suc number) rs held → P number (r ∷ rs) held)
+    (as_granted : (number : ℕ) (r : Reservation) (rs : List Reservation) (h : Holding) (held : List Holding) → r.retirement ≡ None → r.flow ≡ number → IsNumbered (suc number) rs
+        → r ≡ held_as d h → 1 ≤ h.id → filter is_unretired rs ≡ map (held_as d) held → P (suc number) rs held → P number (r ∷ rs) (h ∷ held)) where
+  walk-first : (number : ℕ) (r : Reservation) (rs : List Reservation) (held : List Holding) → r.retirement ≡ None → r.flow ≡ number → IsNumbered (suc number) rs
+      → ((held : List Holding) → AllByRecursion IsGiven held → filter is_unretired rs ≡ map (held_as d) held → P (suc number) rs held)
+      → AllByRecursion IsGiven held → r ∷ filter is_unretired rs ≡ map (held_as d) held → P number (r ∷ rs) held
+  walk-first number r rs [] unretired flow numbered again given_ids is = absurd (no-nil r (filter is_unretired rs) is)
+  walk-first number r rs (h ∷ held) unretired flow numbered again given_ids is =
+      let here = same-head r (held_as d h) (filter is_unretired rs) (map (held_as d) held) is in
+      let rest = same-tail r (held_as d h) (filter is_unretired rs) (map (held_as d) held) is in
+      as_granted number r rs h held unretired flow numbered here given_ids.0.0 rest (again held given_ids.1 rest)
 
+  walk : (number : ℕ) (rs : List Reservation) (held : List Holding) → IsNumbered number rs → AllByRecursion IsGiven held → filter is_unretired rs ≡ map (held_as d) held → P number rs held
+  unfolding IsNumbered
+  walk number [] [] numbered given_ids is = none_left number
+  walk number [] (h ∷ held) numbered given_ids is = absurd (no-nil (held_as d h) (map (held_as d) held) (sym is))
+  walk number (r ∷ rs) held numbered given_ids is = elim (cases_retirement r.retirement) [
+    | some at retired ↦ passed_by number r rs held at retired numbered.0 (walk (suc number) rs held numbered.1 given_ids (sym (filter-some r rs at retired) ∙ is))
+    | none unretired ↦
+        walk-first number r rs held unretired numbered.0 numbered.1
+        (λ others ids left. walk (suc number) rs others numbered.1 ids left) given_ids (sym (filter-none r rs unretired) ∙ is)
+  ]
+
+-- what is unretired once the contract of an id is released
 unretired-released : (d : Domain) (id moment number : ℕ) (rs : List Reservation) (held : List Holding) → IsNumbered number rs → AllByRecursion IsGiven held
     → filter is_unretired rs ≡ map (held_as d) held
     → filter is_unretired (changed id (ending_by moment) rs) ≡ map (held_as d) (with_released id moment held)
-unfolding IsNumbered with_released
-unretired-released d id moment number [] [] numbered given_ids is = refl
-unretired-released d id moment number [] (h ∷ held) numbered given_ids is = absurd (no-nil (held_as d h) (map (held_as d) held) (sym is))
-unretired-released d id moment number (r ∷ rs) held numbered given_ids is = elim (cases_retirement r.retirement) [
-  | some at retired ↦
-      let rest = unretired-released d id moment (suc number) rs held numbered.1 given_ids (sym (filter-some r rs at retired) ∙ is) in
-      elim (cases_Bool (nat_eq id (id_of r))) [
-        | inl same ↦ rw same (filter-some (ending_by moment r) (changed id (ending_by moment) rs) at retired ∙ rest)
-        | inr other ↦ rw other (filter-some r (changed id (ending_by moment) rs) at retired ∙ rest)
-      ]
-  | none unretired ↦
-      released-first d id moment number r rs held numbered.0 numbered.1 unretired
-      (λ others ids left. unretired-released d id moment (suc number) rs others numbered.1 ids left) given_ids (sym (filter-none r rs unretired) ∙ is)
-]
+unfolding with_released
+unretired-released d id moment =
+    walk d (λ number rs held. filter is_unretired (changed id (ending_by moment) rs) ≡ map (held_as d) (with_released id moment held)) (λ number. refl)
+    (λ number r rs held at retired flow rest. elim (cases_Bool (nat_eq id (id_of r))) [
+      | inl same ↦ rw same (filter-some (ending_by moment r) (changed id (ending_by moment) rs) at retired ∙ rest)
+      | inr other ↦ rw other (filter-some r (changed id (ending_by moment) rs) at retired ∙ rest)
+    ])
+    (λ number r rs h held unretired flow numbered here given_id left rest.
+      let test = same-id d id r h here given_id in
+      elim (cases_Bool (nat_eq id h.id)) [
+        | inl same ↦
+            let yes : nat_eq id (id_of r) ≡ true = test ∙ same in
+            rw yes (rw same (filter-none (ending_by moment r) (changed id (ending_by moment) rs) unretired
+            ∙ ap (λ x. ending_by moment r ∷ filter is_unretired x) (changed-above id (ending_by moment) (suc number) rs (below-next id number r yes flow) numbered)
+            ∙ ap (λ x. x ∷ filter is_unretired rs) (ending-held d moment r h here)
+            ∙ ap (λ xs. held_as d (record { id = h.id; contract = ended moment h.contract; released = true }) ∷ xs) left))
+        | inr other ↦
+            let no : nat_eq id (id_of r) ≡ false = test ∙ other in
+            rw no (rw other (filter-none r (changed id (ending_by moment) rs) unretired
+            ∙ ap (λ xs. r ∷ xs) rest ∙ ap (λ x. x ∷ map (held_as d) (with_released id moment held)) here))
+      ])
 
 -- what is unretired once the contract of an id is retired
-retired-first : (d : Domain) (id moment number : ℕ) (r : Reservation) (rs : List Reservation) (held : List Holding) → r.flow ≡ number → IsNumbered (suc number) rs → r.retirement ≡ None
-    → ((held : List Holding) → AllByRecursion IsGiven held → filter is_unretired rs ≡ map (held_as d) held
-    → filter is_unretired (changed id (retired_at moment) rs) ≡ map (held_as d) (with_retired id held))
-    → AllByRecursion IsGiven held → r ∷ filter is_unretired rs ≡ map (held_as d) held
-    → filter is_unretired (changed id (retired_at moment) (r ∷ rs)) ≡ map (held_as d) (with_retired id held)
-unfolding with_retired
-retired-first d id moment number r rs [] flow numbered unretired again given_ids is = absurd (no-nil r (filter is_unretired rs) is)
-retired-first d id moment number r rs (h ∷ held) flow numbered unretired again given_ids is =
-    let here = same-head r (held_as d h) (filter is_unretired rs) (map (held_as d) held) is in
-    let rest = same-tail r (held_as d h) (filter is_unretired rs) (map (held_as d) held) is in
-    let test = same-id d id r h here given_ids.0.0 in
-    elim (cases_Bool (nat_eq id h.id)) [
-      | inl same ↦
-          let yes : nat_eq id (id_of r) ≡ true = test ∙ same in
-          let next : id ≤ suc number = below-next id number r yes flow in
-          rw yes (rw same (filter-some (retired_at moment r) (changed id (retired_at moment) rs) moment refl
-          ∙ ap (λ x. filter is_unretired x) (changed-above id (retired_at moment) (suc number) rs next numbered) ∙ rest))
-      | inr other ↦
-          let no : nat_eq id (id_of r) ≡ false = test ∙ other in
-          rw no (rw other (filter-none r (changed id (retired_at moment) rs) unretired
-          ∙ ap (λ xs. r ∷ xs) (again held given_ids.1 rest)
-          ∙ ap (λ x. x ∷ map (held_as d) (with_retired id held)) here))
-    ]
-
 unretired-retired : (d : Domain) (id moment number : ℕ) (rs : List Reservation) (held : List Holding) → IsNumbered number rs → AllByRecursion IsGiven held
     → filter is_unretired rs ≡ map (held_as d) held
     → filter is_unretired (changed id (retired_at moment) rs) ≡ map (held_as d) (with_retired id held)
-unfolding IsNumbered with_retired
-unretired-retired d id moment number [] [] numbered given_ids is = refl
-unretired-retired d id moment number [] (h ∷ held) numbered given_ids is = absurd (no-nil (held_as d h) (map (held_as d) held) (sym is))
-unretired-retired d id moment number (r ∷ rs) held numbered given_ids is = elim (cases_retirement r.retirement) [
-  | some at retired ↦
-      let rest = unretired-retired d id moment (suc number) rs held numbered.1 given_ids (sym (filter-some r rs at retired) ∙ is) in
-      elim (cases_Bool (nat_eq id (id_of r))) [
-        | inl same ↦ rw same (filter-some (retired_at moment r) (changed id (retired_at moment) rs) moment refl ∙ rest)
-        | inr other ↦ rw other (filter-some r (changed id (retired_at moment) rs) at retired ∙ rest)
-      ]
-  | none unretired ↦
-      retired-first d id moment number r rs held numbered.0 numbered.1 unretired
-      (λ others ids left. unretired-retired d id moment (suc number) rs others numbered.1 ids left) given_ids (sym (filter-none r rs unretired) ∙ is)
-]
-
-given-released : (id moment : ℕ) (held : List Holding) → AllByRecursion IsGiven held → AllByRecursion IsGiven (with_released id moment held)
-unfolding with_released
-given-released id moment [] given_ids = tt
-given-released id moment (h ∷ held) given_ids = elim (cases_Bool (nat_eq id h.id)) [
-  | inl same ↦ rw same ((given_ids.0.0, λ _. refl), given_ids.1)
-  | inr other ↦ rw other (given_ids.0, given-released id moment held given_ids.1)
-]
-
-given-retired : (id : ℕ) (held : List Holding) → AllByRecursion IsGiven held → AllByRecursion IsGiven (with_retired id held)
 unfolding with_retired
-given-retired id [] given_ids = tt
-given-retired id (h ∷ held) given_ids = elim (cases_Bool (nat_eq id h.id)) [
-  | inl same ↦ rw same given_ids.1
-  | inr other ↦ rw other (given_ids.0, given-retired id held given_ids.1)
-]
+unretired-retired d id moment =
+    walk d (λ number rs held. filter is_unretired (changed id (retired_at moment) rs) ≡ map (held_as d) (with_retired id held)) (λ number. refl)
+    (λ number r rs held at retired flow rest. elim (cases_Bool (nat_eq id (id_of r))) [
+      | inl same ↦ rw same (filter-some (retired_at moment r) (changed id (retired_at moment) rs) moment refl ∙ rest)
+      | inr other ↦ rw other (filter-some r (changed id (retired_at moment) rs) at retired ∙ rest)
+    ])
+    (λ number r rs h held unretired flow numbered here given_id left rest.
+      let test = same-id d id r h here given_id in
+      elim (cases_Bool (nat_eq id h.id)) [
+        | inl same ↦
+            let yes : nat_eq id (id_of r) ≡ true = test ∙ same in
+            rw yes (rw same (filter-some (retired_at moment r) (changed id (retired_at moment) rs) moment refl
+            ∙ ap (λ x. filter is_unretired x) (changed-above id (retired_at moment) (suc number) rs (below-next id number r yes flow) numbered) ∙ left))
+        | inr other ↦
+            let no : nat_eq id (id_of r) ≡ false = test ∙ other in
+            rw no (rw other (filter-none r (changed id (retired_at moment) rs) unretired
+            ∙ ap (λ xs. r ∷ xs) rest ∙ ap (λ x. x ∷ map (held_as d) (with_retired id held)) here))
+      ])
 
 -- one command more
 past-reserved : (d : Domain) (s : Standing) (p : Past) (c : Contract) → IsPast d s p → IsPast d (after s (Reserve c)) (past_after d p (Reserve c))
@@ -269,7 +236,7 @@ past-released d s p id at past =
       unretired = ap (λ n. filter is_unretired (changed id (ending_by (max n at)) p.granted)) past.newest
           ∙ unretired-released d id (max s.newest at) 0 p.granted s.held past.numbered past.given_ids past.unretired;
       told = told-changed id (ending_by m) p.newest m p.granted (omega arith) (λ r told. told-ending m p.newest m r (omega arith) told) past.told;
-      given_ids = given-released id (max s.newest at) s.held past.given_ids;
+      given_ids = all-released IsGiven id (max s.newest at) s.held (λ h own. (own.0, λ _. refl)) past.given_ids;
     }
 
 past-retired : (d : Domain) (s : Standing) (p : Past) (id moment : ℕ) → IsPast d s p → IsPast d (after s (Retire id moment)) (past_after d p (Retire id moment))
@@ -283,7 +250,7 @@ past-retired d s p id moment past =
           ∙ unretired-retired d id (max s.newest moment) 0 p.granted s.held past.numbered past.given_ids past.unretired;
       told = told-changed id (retired_at m) p.newest m p.granted (omega arith)
           (λ r told. record { begun = told.begun; early = omega (arith, told.early); retired = omega arith }) past.told;
-      given_ids = given-retired id s.held past.given_ids;
+      given_ids = all-retired IsGiven id s.held past.given_ids;
     }
 
 pub past-next : (d : Domain) (s : Standing) (p : Past) (command : Command) → IsPast d s p → IsPast d (after s command) (past_after d p command)
@@ -306,34 +273,6 @@ pub past-push : (d : Domain) (history : List Command) (command : Command) → pa
 unfolding past_of
 past-push d history command = fold-append (past_after d) no_past history (command ∷ [])
 
--- Where the contract of an id is held, no other was granted under that id, and it is that one.
-later-first : (d : Domain) (id number : ℕ) (r : Reservation) (rs : List Reservation) (held : List Holding) (h : Holding) → r.flow ≡ number
-    → ((held : List Holding) → AllByRecursion IsGiven held → filter is_unretired rs ≡ map (held_as d) held → holding_of id held ≡ Some h → suc (suc number) ≤ id)
-    → AllByRecursion IsGiven held → r ∷ filter is_unretired rs ≡ map (held_as d) held → holding_of id held ≡ Some h → suc number ≤ id
-later-first d id number r rs [] h flow again given_ids is found = absurd (no-nil r (filter is_unretired rs) is)
-later-first d id number r rs (g ∷ held) h flow again given_ids is found =
-    let here = same-head r (held_as d g) (filter is_unretired rs) (map (held_as d) held) is in
-    let rest = same-tail r (held_as d g) (filter is_unretired rs) (map (held_as d) held) is in
-    elim (cases_Bool (nat_eq id g.id)) [
-      | inl same ↦
-          let own : id_of r ≡ g.id = ap (λ x. id_of x) here ∙ held_as-id d g given_ids.0.0 in
-          grind (arith, same, own, flow)
-      | inr other ↦ let above = again held given_ids.1 rest (rw other at found) in omega (arith, above)
-    ]
-
-held-later : (d : Domain) (id number : ℕ) (rs : List Reservation) (held : List Holding) (h : Holding) → IsNumbered number rs → AllByRecursion IsGiven held
-    → filter is_unretired rs ≡ map (held_as d) held → holding_of id held ≡ Some h → suc number ≤ id
-unfolding IsNumbered
-held-later d id number [] [] h numbered given_ids is found = absurd (none-some h found)
-held-later d id number [] (g ∷ held) h numbered given_ids is found = absurd (no-nil (held_as d g) (map (held_as d) held) (sym is))
-held-later d id number (r ∷ rs) held h numbered given_ids is found = elim (cases_retirement r.retirement) [
-  | some at retired ↦
-      let above = held-later d id (suc number) rs held h numbered.1 given_ids (sym (filter-some r rs at retired) ∙ is) found in omega (arith, above)
-  | none unretired ↦
-      later-first d id number r rs held h numbered.0
-      (λ others ids left there. held-later d id (suc number) rs others h numbered.1 ids left there) given_ids (sym (filter-none r rs unretired) ∙ is) found
-]
-
 abbrev pub IsOnly : Domain → ℕ → Holding → Reservation → Type 0
 IsOnly d id h r = nat_eq id (id_of r) ≡ true → r ≡ held_as d h
 
@@ -349,32 +288,35 @@ only-above d id number [] h above numbered = tt
 only-above d id number (r ∷ rs) h above numbered =
     ((λ same. absurd (other-above id number r above numbered.0 same)), only-above d id (suc number) rs h (omega (arith, above)) numbered.1)
 
-only-first : (d : Domain) (id number : ℕ) (r : Reservation) (rs : List Reservation) (held : List Holding) (h : Holding) → r.flow ≡ number → IsNumbered (suc number) rs
-    → ((held : List Holding) → AllByRecursion IsGiven held → filter is_unretired rs ≡ map (held_as d) held → holding_of id held ≡ Some h → AllByRecursion (IsOnly d id h) rs)
-    → AllByRecursion IsGiven held → r ∷ filter is_unretired rs ≡ map (held_as d) held → holding_of id held ≡ Some h → AllByRecursion (IsOnly d id h) (r ∷ rs)
-only-first d id number r rs [] h flow numbered again given_ids is found = absurd (no-nil r (filter is_unretired rs) is)
-only-first d id number r rs (g ∷ held) h flow numbered again given_ids is found =
-    let here = same-head r (held_as d g) (filter is_unretired rs) (map (held_as d) held) is in
-    let rest = same-tail r (held_as d g) (filter is_unretired rs) (map (held_as d) held) is in
-    let test = same-id d id r g here given_ids.0.0 in
-    elim (cases_Bool (nat_eq id g.id)) [
-      | inl same ↦
-          let one : g ≡ h = same_Some g h (rw same at found) in
-          ((λ _. here ∙ ap (held_as d) one), only-above d id (suc number) rs h (below-next id number r (test ∙ same) flow) numbered)
-      | inr other ↦
-          ((λ same. absurd (true≢false (sym same ∙ test ∙ other))), again held given_ids.1 rest (rw other at found))
-    ]
+-- Where the contract of an id is held, no other was granted under that id, and it is that one.
+held-alone : (d : Domain) (id number : ℕ) (rs : List Reservation) (held : List Holding) (h : Holding) → IsNumbered number rs → AllByRecursion IsGiven held
+    → filter is_unretired rs ≡ map (held_as d) held → holding_of id held ≡ Some h → (suc number ≤ id) × AllByRecursion (IsOnly d id h) rs
+held-alone d id from all holdings h =
+    walk d (λ number rs held. holding_of id held ≡ Some h → (suc number ≤ id) × AllByRecursion (IsOnly d id h) rs) (λ number found. absurd (none-some h found))
+    (λ number r rs held at retired flow again found.
+      let rest = again found in (omega (arith, rest.0), ((λ same. absurd (other-below id number r rest.0 flow same)), rest.1)))
+    (λ number r rs g held unretired flow numbered here given_id left again found.
+      let test = same-id d id r g here given_id in
+      elim (cases_Bool (nat_eq id g.id)) [
+        | inl same ↦
+            let one : g ≡ h = same_Some g h (rw same at found) in
+            let own : id_of r ≡ g.id = ap (λ x. id_of x) here ∙ held_as-id d g given_id in (
+              grind (arith, same, own, flow),
+              ((λ _. here ∙ ap (held_as d) one), only-above d id (suc number) rs h (below-next id number r (test ∙ same) flow) numbered),
+            )
+        | inr other ↦
+            let rest = again (rw other at found) in (omega (arith, rest.0), ((λ same. absurd (true≢false (sym same ∙ test ∙ other))), rest.1))
+      ])
+    from all holdings
 
 pub held-only : (d : Domain) (id number : ℕ) (rs : List Reservation) (held : List Holding) (h : Holding) → IsNumbered number rs → AllByRecursion IsGiven held
     → filter is_unretired rs ≡ map (held_as d) held → holding_of id held ≡ Some h → AllByRecursion (IsOnly d id h) rs
-unfolding IsNumbered
-held-only d id number [] held h numbered given_ids is found = tt
-held-only d id number (r ∷ rs) held h numbered given_ids is found = elim (cases_retirement r.retirement) [
-  | some at retired ↦
-      let left = sym (filter-some r rs at retired) ∙ is in
-      let later = held-later d id (suc number) rs held h numbered.1 given_ids left found in
-      ((λ same. absurd (other-below id number r later numbered.0 same)), held-only d id (suc number) rs held h numbered.1 given_ids left found)
-  | none unretired ↦
-      only-first d id number r rs held h numbered.0 numbered.1
-      (λ others ids left there. held-only d id (suc number) rs others h numbered.1 ids left there) given_ids (sym (filter-none r rs unretired) ∙ is) found
+held-only d id number rs held h numbered given_ids is found = (held-alone d id number rs held h numbered given_ids is found).1
+
+-- what holds of all that is held holds of what is held under an id
+pub holding-all : (P : Holding → Type 0) (id : ℕ) (held : List Holding) (h : Holding) → AllByRecursion P held → holding_of id held ≡ Some h → P h × (id ≡ h.id)
+holding-all P id [] h all found = absurd (none-some h found)
+holding-all P id (g ∷ held) h all found = elim (cases_Bool (nat_eq id g.id)) [
+  | inl same ↦ let one : g ≡ h = same_Some g h (rw same at found) in subst (λ x. P x × (id ≡ x.id)) one (all.0, grind (arith, same))
+  | inr other ↦ holding-all P id held h all.1 (rw other at found)
 ]

@@ -12,7 +12,7 @@ use Rattle.ds_broker.specs.Histories.{beginning, ended}
 use Rattle.ds_broker.specs.Timelines.{IsOfRates, Past, changed, ending_by, granted_as, id_of, past_after, past_of, retired_at}
 use Rattle.ds_broker.specs.declared.command.Command.{Command}
 use Rattle.ds_broker.specs.declared.command.Command.TheVariants.{Reserve, Release, Retire}
-use Rattle.ds_broker.proofs.PastLaws.{AllByRecursion-push}
+use Rattle.ds_broker.proofs.HoldingLaws.{AllByRecursion-push}
 
 -- when a contract begins and ends does not matter
 pub rates-beginning : (d : Domain) (since : ℕ) (c : Contract) → HasRates d c → HasRates d (beginning since c)

@@ -20,6 +20,8 @@ use Rattle.ds_broker.specs.declared.command.Command.TheVariants.{Reserve, Releas
 use Rattle.ds_broker.specs.declared.refusal.BrokerRefusal.{BrokerRefusal}
 use Rattle.ds_broker.specs.Refusals.{contract_fault, ends_early, fault_or, free_from, hold_left, refusal_in, refusal_or_checked, release_refusal, release_refusal_at, retire_refusal, retire_refusal_at, room_refusal}
 use Rattle.ds_broker.specs.declared.refusal.BrokerRefusal.TheVariants.{AlreadyReleased, HistoryFull, NotReleased, TableFull}
+use Rattle.std.proofs.lemmas.Bool.{ltb-false}
+use Rattle.std.proofs.lemmas.Option.{none-some}
 
 pub fault-twice : (b : Book) (c : Contract) → is_held c.name (held_of b) ≡ true → contract_fault b c ≡ Some (fault_at kinds.Twice sections.Contract 0 fields.Name)
 fault-twice b c held = rw held refl
@@ -31,10 +33,6 @@ fault-range b c new early = rw (new, early) refl
 pub fault-way : (b : Book) (c : Contract) → is_held c.name (held_of b) ≡ false → ends_early (moment_in b c.lifetime.since) c.lifetime.until ≡ false
     → contract_fault b c ≡ way_fault 0 b.domain c.port c.path
 fault-way b c new ordered = rw (new, ordered) refl
-
-pub match-err : {A E : Type 0} (r : Result A E) (o : Option E) → MatchResult r (λ _. o ≡ None) (λ fault. o ≡ Some fault) → result_err r ≡ o
-match-err (Ok x) o is = sym is
-match-err (Err e) o is = sym is
 
 -- where nothing stands against a contract, each test is passed
 no_fault : (held early : Bool) (twice range : DomainFault) (way : Option DomainFault) → (if held then Some twice else if early then Some range else way) ≡ None
@@ -69,20 +67,10 @@ pub roomy : (o : Option BrokerRefusal) (b : Book) (c : Contract) → refusal_or_
 roomy None b c none = refl
 roomy (Some refusal) b c none = none
 
-above : (since until : ℕ) → nat_lt until since ≡ false → since ≤ until
-above since until is = grind (arith, is)
-
 -- a contract that does not end early is in order
 pub ordered : (since : ℕ) (until : Option ℕ) → ends_early since until ≡ false → IsInOrder since until
-ordered since None is = λ last some. absurd (none-last last some)
-  where
-    none-last : (last : ℕ) → None ≡ Some last → ⊥
-    none-last last some = cc
-ordered since (Some end) is = λ last some. let same : end ≡ last = cc in omega (arith, above since end is, same)
-
--- a contract against which nothing stands fits the domain
-pub fitting : (b : Book) (c : Contract) (t : Table) → room_refusal b c ≡ None → t ≡ table_of b → fits t.domain c ≡ true
-fitting b c t none is = ap (λ (x : Table). fits x.domain c) is ∙ ap is_none (passed b c none).way
+ordered since None is = λ last some. absurd (none-some last some)
+ordered since (Some end) is = λ last some. let same : end ≡ last = cc in omega (arith, ltb-false end since is, same)
 
 -- what is held under an id is released, or retired, where each test is passed
 pub release-passed : (b : Book) (id place : ℕ) (released : Bool) → IsFound id (held_of b) place released → released ≡ false → is_history_full b ≡ false → release_refusal b id ≡ None

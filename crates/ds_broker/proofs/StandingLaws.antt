@@ -7,6 +7,7 @@ use Rattle.std.proofs.lemmas.List.Sums.{fold-append}
 use Rattle.ds_broker.specs.Histories.{Holding, Standing, after, begun, end_by, opening, standing_of, with_released, with_retired}
 use Rattle.ds_broker.specs.declared.command.Command.{Command}
 use Rattle.ds_broker.specs.declared.command.Command.TheVariants.{Reserve, Release, Retire}
+use Rattle.ds_broker.proofs.HoldingLaws.{AllByRecursion-push, all-released, all-retired}
 
 -- one command more
 pub standing-push : (history : List Command) (command : Command) → standing_of (history ++ command ∷ []) ≡ after (standing_of history) command
@@ -16,6 +17,11 @@ standing-push history command = fold-append after opening history (command ∷ [
 pub standing-append : (history commands : List Command) → standing_of (history ++ commands) ≡ fold after (standing_of history) commands
 unfolding standing_of
 standing-append history commands = fold-append after opening history commands
+
+-- what each command keeps, all commands keep
+pub fold-keeps : (P : Standing → Type 0) → ((s : Standing) (command : Command) → P s → P (after s command)) → (s : Standing) (commands : List Command) → P s → P (fold after s commands)
+fold-keeps P keeps s [] own = own
+fold-keeps P keeps s (command ∷ commands) own = fold-keeps P keeps (after s command) commands (keeps s command own)
 
 -- no contract that is held begins behind the newest moment, or has an id that was not given yet; and no released one ends
 -- behind the newest moment
@@ -31,51 +37,26 @@ AreBounded-weaker granted newest more later [] fewer earlier all = tt
 AreBounded-weaker granted newest more later (h ∷ held) fewer earlier all =
     ((omega (arith, all.0.0), omega (arith, all.0.1), λ done. omega (arith, all.0.2 done)), AreBounded-weaker granted newest more later held fewer earlier all.1)
 
-AreBounded-push : (granted newest : ℕ) (held : List Holding) (h : Holding) → AreBounded granted newest held → IsBounded granted newest h → AreBounded granted newest (held ++ h ∷ [])
-AreBounded-push granted newest [] h all one = (one, tt)
-AreBounded-push granted newest (g ∷ held) h all one = (all.0, AreBounded-push granted newest held h all.1 one)
-
 end_by-most : (moment : ℕ) (until : Option ℕ) → end_by moment until ≤ moment
 end_by-most moment None = omega arith
 end_by-most moment (Some end) = omega arith
 
-AreBounded-released : (granted newest id moment : ℕ) (held : List Holding) → moment ≤ newest → AreBounded granted newest held
-    → AreBounded granted newest (with_released id moment held)
-unfolding with_released
-AreBounded-released granted newest id moment [] early all = tt
-AreBounded-released granted newest id moment (h ∷ held) early all = elim (cases_Bool (nat_eq id h.id)) [
-  | inl same ↦ rw same ((all.0.0, all.0.1, λ _. omega (arith, early, end_by-most moment h.contract.lifetime.until)), all.1)
-  | inr other ↦ rw other (all.0, AreBounded-released granted newest id moment held early all.1)
-]
-
-AreBounded-retired : (granted newest id : ℕ) (held : List Holding) → AreBounded granted newest held → AreBounded granted newest (with_retired id held)
-unfolding with_retired
-AreBounded-retired granted newest id [] all = tt
-AreBounded-retired granted newest id (h ∷ held) all = elim (cases_Bool (nat_eq id h.id)) [
-  | inl same ↦ rw same all.1
-  | inr other ↦ rw other (all.0, AreBounded-retired granted newest id held all.1)
-]
-
 pub bounded-after : (s : Standing) (command : Command) → AreBounded s.granted s.newest s.held → AreBounded (after s command).granted (after s command).newest (after s command).held
 bounded-after s (Reserve c) all =
-    AreBounded-push (s.granted + 1) (max s.newest c.lifetime.since) s.held (record { id = s.granted + 1; contract = begun s.newest c; released = false })
+    AllByRecursion-push (IsBounded (s.granted + 1) (max s.newest c.lifetime.since)) s.held (record { id = s.granted + 1; contract = begun s.newest c; released = false })
     (AreBounded-weaker s.granted s.newest (s.granted + 1) (max s.newest c.lifetime.since) s.held (omega arith) (omega arith) all)
     (omega arith, omega arith, λ done. absurd (true≢false (sym done)))
 bounded-after s (Release id at) all =
-    AreBounded-released s.granted (max s.newest at) id (max s.newest at) s.held (omega arith)
+    all-released (IsBounded s.granted (max s.newest at)) id (max s.newest at) s.held
+    (λ h own. (own.0, own.1, λ _. end_by-most (max s.newest at) h.contract.lifetime.until))
     (AreBounded-weaker s.granted s.newest s.granted (max s.newest at) s.held (omega arith) (omega arith) all)
 bounded-after s (Retire id moment) all =
     AreBounded-weaker s.granted s.newest s.granted (max s.newest moment) (with_retired id s.held) (omega arith) (omega arith)
-    (AreBounded-retired s.granted s.newest id s.held all)
-
-bounded-fold : (s : Standing) (commands : List Command) → AreBounded s.granted s.newest s.held
-    → AreBounded (fold after s commands).granted (fold after s commands).newest (fold after s commands).held
-bounded-fold s [] all = all
-bounded-fold s (command ∷ commands) all = bounded-fold (after s command) commands (bounded-after s command all)
+    (all-retired (IsBounded s.granted s.newest) id s.held all)
 
 pub standing-bounded : (history : List Command) → AllByRecursion (IsBounded (standing_of history).granted (standing_of history).newest) (standing_of history).held
 unfolding standing_of
-standing-bounded history = bounded-fold opening history tt
+standing-bounded history = fold-keeps (λ s. AreBounded s.granted s.newest s.held) bounded-after opening history tt
 
 -- of one at a place
 pub bounded-at : (granted newest : ℕ) (held : List Holding) (place : ℕ) (h : Holding) → AllByRecursion (IsBounded granted newest) held → slice_get held place ≡ Some h

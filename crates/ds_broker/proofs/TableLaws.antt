@@ -18,8 +18,9 @@ use Rattle.ds_broker.specs.declared.command.Command.TheVariants.{Reserve}
 use Rattle.ds_broker.specs.declared.refusal.BrokerRefusal.TheVariants.{Checker}
 use Rattle.ds_broker.specs.Found.{IsFirst}
 use Rattle.ds_checker.specs.Changes.{with_lifetime, without_contract}
-use Rattle.ds_broker.proofs.HoldingLaws.{contracts-released, least-released, map-map-retired, map-retired}
+use Rattle.ds_broker.proofs.HoldingLaws.{contracts-released, least-released, map-retired}
 use Rattle.ds_broker.proofs.StandingLaws.{standing-push}
+use Rattle.ds_checker.proofs.HeldLaws.{map-remove}
 
 -- with one contract more, its least bounds stand behind the others
 pub table-push : (d : Domain) (held : List Holding) (h : Holding) (since : ℕ) (c : Contract) → h.contract ≡ beginning since c
@@ -39,7 +40,7 @@ table-released d id moment held place h first at =
 pub table-retired : (d : Domain) (id : ℕ) (held : List Holding) (place : ℕ) → IsFirst id held place
     → table_in d (with_retired id held) ≡ without_contract (table_in d held) place
 table-retired d id held place first =
-    rw (map-map-retired (least_of d) (λ h. h.contract) id held place first, map-retired (λ h. h.contract) id held place first) refl
+    rw (map-retired (λ h. h.contract) id held place first, map-remove (least_of d) (contracts_in held) place) refl
 
 -- a table of a domain is one of its own domain
 pub own-domain : (d : Domain) (t : Table) (held : List Holding) → t ≡ table_in d held → t ≡ table_in t.domain held
@@ -80,7 +81,7 @@ checked-refusal b c t since none is moment =
     ∙ ap (λ x. option_map Checker (refusal_of x))
     (table-reserved b c ∙ ap (λ m. table_with m c (table_of b)) (sym moment) ∙ ap (λ x. table_with since c x) (sym is))
 
-none-by : {A B : Type 0} (f : A → B) (o : Option A) → option_map f o ≡ None → o ≡ None
+pub none-by : {A B : Type 0} (f : A → B) (o : Option A) → option_map f o ≡ None → o ≡ None
 none-by f None is = refl
 none-by f (Some x) is = absurd (cc (is))
 

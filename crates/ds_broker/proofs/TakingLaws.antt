@@ -14,7 +14,6 @@ use Rattle.ds_timeline.specs.Timelines.{Timeline, route_in, routes_in}
 use Rattle.ds_timeline.specs.declared.reservation.Reservation.{Reservation}
 use Rattle.ds_broker.specs.Books.{Book, Limits, held_of, holding_of, moment_in, standing}
 use Rattle.ds_broker.specs.Histories.{Holding, end_by, ended}
-use Rattle.ds_broker.specs.Kept.{IsNext}
 use Rattle.ds_broker.specs.Refusals.{refusal_in, refusal_or_checked, release_refusal_at, reserve_refusal, retire_refusal_at, room_refusal}
 use Rattle.ds_broker.specs.Requests.{AreUnrefused}
 use Rattle.ds_broker.specs.Timelines.{IsOfRates, Past, changed, ending_by, id_of, past_after, past_of, retired_at, timeline_behind}
@@ -22,24 +21,15 @@ use Rattle.ds_broker.specs.declared.command.Command.{Command}
 use Rattle.ds_broker.specs.declared.command.Command.TheVariants.{Reserve, Release, Retire}
 use Rattle.ds_broker.specs.declared.refusal.BrokerRefusal.{BrokerRefusal}
 use Rattle.ds_broker.proofs.CoveredLaws.{timeline-kept}
-use Rattle.ds_broker.proofs.PastLaws.{IsGiven, IsTold, changed-above, past-kept, past-push}
-use Rattle.ds_broker.proofs.RefusalLaws.{ordered, passed}
+use Rattle.ds_broker.proofs.PastLaws.{IsGiven, IsTold, changed-above, past-kept, past-push, holding-all}
+use Rattle.ds_broker.proofs.RefusalLaws.{ordered, passed, roomy}
 use Rattle.ds_broker.proofs.StandingLaws.{IsBounded, granted-most, standing-bounded}
-
--- a contract that is reserved
-pub record IsGrantable (d : Domain) (p : Past) (c : Contract) : Type 0 where
-  pub fit : fits d c ≡ true
-  pub order : IsInOrder (max p.newest c.lifetime.since) c.lifetime.until
-  pub few : length p.granted < 65536
-
-room_free : (b : Book) (c : Contract) (o : Option BrokerRefusal) → refusal_or_checked o b c ≡ None → o ≡ None
-room_free b c None none = refl
-room_free b c (Some refusal) none = cc
+use Rattle.ds_broker.specs.Kept.{IsGrantable, IsGranted, IsNext}
 
 grantable-in : (b : Book) (c : Contract) → reserve_refusal b c ≡ None → length b.history < 65536 → IsGrantable b.domain (past_of b.domain b.history) c
 grantable-in b c none short =
     let past = past-kept b.domain b.history in
-    let pass = passed b c (room_free b c (room_refusal b c) none) in
+    let pass = passed b c (roomy (room_refusal b c) b c none) in
     record {
       fit = ap is_none pass.way;
       order = subst (λ n. IsInOrder (max n c.lifetime.since) c.lifetime.until) (sym past.newest) (ordered (moment_in b c.lifetime.since) c.lifetime.until pass.ordered);
@@ -50,20 +40,6 @@ pub grantable : (d : Domain) (p : Past) (c : Contract) → IsNext d p (Reserve c
 grantable d p c next =
     subst (λ x. IsGrantable d x c) (sym next.past)
     (subst (λ x. IsGrantable x (past_of next.book.domain next.book.history) c) next.domain (grantable-in next.book c next.unrefused next.short))
-
--- the contract of an id that is held
-pub record IsGranted (p : Past) (id : ℕ) : Type 0 where
-  pub least : 1 ≤ id
-  pub most : id ≤ length p.granted
-  pub numbered : IsNumbered 0 p.granted
-  pub begun : AllByRecursion (λ r. r.contract.lifetime.since ≤ p.newest) p.granted
-
-holding-all : (P : Holding → Type 0) (id : ℕ) (held : List Holding) (h : Holding) → AllByRecursion P held → holding_of id held ≡ Some h → P h × (id ≡ h.id)
-holding-all P id [] h all found = absurd (none-some h found)
-holding-all P id (g ∷ held) h all found = elim (cases_Bool (nat_eq id g.id)) [
-  | inl same ↦ let one : g ≡ h = same_Some g h (rw same at found) in subst (λ x. P x × (id ≡ x.id)) one (all.0, grind (arith, same))
-  | inr other ↦ holding-all P id held h all.1 (rw other at found)
-]
 
 told-since : (newest : ℕ) (rs : List Reservation) → AllByRecursion (IsTold newest) rs → AllByRecursion (λ r. r.contract.lifetime.since ≤ newest) rs
 told-since newest [] told = tt
@@ -114,12 +90,6 @@ set-from id change number (suc place) (s ∷ rs) r numbered is inside at =
 pub set-changed : (id : ℕ) (change : Reservation → Reservation) (place : ℕ) (rs : List Reservation) (r : Reservation) → IsNumbered 0 rs → id ≡ place + 1
     → place < length rs → r ≡ get_or rs place r → set rs place (change r) ≡ changed id change rs
 set-changed id change place rs r numbered is inside at = set-from id change 0 place rs r numbered (omega (arith, is)) inside at
-
--- what holds at a place
-pub at-place : (P : Reservation → Type 0) (rs : List Reservation) (place : ℕ) (r : Reservation) → AllByRecursion P rs → place < length rs → r ≡ get_or rs place r → P r
-at-place P [] place r all inside at = absurd (omega (arith, inside))
-at-place P (s ∷ rs) zero r all inside at = subst P (sym at) all.0
-at-place P (s ∷ rs) (suc place) r all inside at = at-place P rs place r all.1 (omega (arith, inside)) at
 
 -- nothing stood against a command of a history behind those before it
 unrefused-at : (b : Book) (commands : List Command) (place : ℕ) (command : Command) → AreUnrefused b commands → place < length commands → command ≡ get_or commands place command

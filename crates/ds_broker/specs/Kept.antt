@@ -1,8 +1,12 @@
 -- What the fields of a book stand for, and what they keep.
-use Rattle.std.specs.Prelude.{ℕ, Bool, ◌≡◌, ◌<◌, ◌≤◌, List, [], length, map, None}
-use Rattle.std.specs.List.{IsDistinct, list_any}
+use Rattle.std.specs.Prelude.{ℕ, Bool, true, ◌≡◌, ◌<◌, ◌≤◌, List, [], length, map, max, None}
+use Rattle.std.specs.List.{AllByRecursion, IsDistinct, list_any}
 use Rattle.std.specs.Str.{bytes_eq}
 use Rattle.ds_domain_base.specs.Domains.{Domain}
+use Rattle.ds_domain_base.specs.Lifetimes.{IsInOrder}
+use Rattle.ds_domain_base.specs.declared.contract.Contract.{Contract}
+use Rattle.ds_certificate.specs.Bounds.{fits}
+use Rattle.ds_timeline.specs.Kept.{IsNumbered}
 use Rattle.ds_checker.specs.Acceptance.{IsAcceptable}
 use Rattle.ds_broker.specs.Books.{Book, Limits, is_held, table_in}
 use Rattle.ds_broker.specs.Histories.{Holding, standing_of}
@@ -63,3 +67,16 @@ pub record IsNext (d : Domain) (p : Past) (command : Command) : Type 0 where
   pub past : p ≡ past_of book.domain book.history
   pub unrefused : refusal_in book command ≡ None
   pub short : length book.history < 65536
+
+-- a contract that a book grants next: it fits, it is in order once it begins, and there is a flow for it
+pub record IsGrantable (d : Domain) (p : Past) (c : Contract) : Type 0 where
+  pub fit : fits d c ≡ true
+  pub order : IsInOrder (max p.newest c.lifetime.since) c.lifetime.until
+  pub few : length p.granted < 65536
+
+-- the id of a contract that was granted, each under the next id and none to begin behind the newest moment
+pub record IsGranted (p : Past) (id : ℕ) : Type 0 where
+  pub least : 1 ≤ id
+  pub most : id ≤ length p.granted
+  pub numbered : IsNumbered 0 p.granted
+  pub begun : AllByRecursion (λ r. r.contract.lifetime.since ≤ p.newest) p.granted

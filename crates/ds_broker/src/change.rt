@@ -58,13 +58,8 @@ impl Step {
         ensures { result ≡ place_in self.now }
     {
         match self {
-            Step::Reserve {
-                contract: _,
-                route: _,
-                row: _,
-                flow: _,
-            } => 0,
-            Step::Release { place, lifetime: _ } => *place,
+            Step::Reserve { .. } => 0,
+            Step::Release { place, .. } => *place,
             Step::Retire { place } => *place,
         }
     }
@@ -74,17 +69,9 @@ impl Step {
         ensures { result ≡ more_by self.now }
     {
         match self {
-            Step::Reserve {
-                contract: _,
-                route: _,
-                row: _,
-                flow: _,
-            } => 1,
-            Step::Release {
-                place: _,
-                lifetime: _,
-            } => 0,
-            Step::Retire { place: _ } => 0,
+            Step::Reserve { .. } => 1,
+            Step::Release { .. } => 0,
+            Step::Retire { .. } => 0,
         }
     }
 
@@ -100,7 +87,7 @@ impl Step {
                 contract,
                 route,
                 row,
-                flow: _,
+                ..
             } => take_up(alloc, table, contract, route, row),
             Step::Release { place, lifetime } => {
                 table.set_lifetime(*place, *lifetime);
@@ -120,16 +107,8 @@ impl Step {
         ensures { flows.new.items ≡ flows_changed self.now flows.old.items }
     {
         match self {
-            Step::Reserve {
-                contract: _,
-                route: _,
-                row: _,
-                flow,
-            } => flows.push(*flow).unwrap(),
-            Step::Release {
-                place: _,
-                lifetime: _,
-            } => {}
+            Step::Reserve { flow, .. } => flows.push(*flow).unwrap(),
+            Step::Release { .. } => {}
             Step::Retire { place } => {
                 let _flow = flows.remove(*place);
             }

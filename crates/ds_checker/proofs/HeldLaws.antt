@@ -15,7 +15,7 @@ routes-more d contracts new routes more c r are is is_new is_more =
     is_more ∙ ap (λ list. list ++ r ∷ []) are ∙ ap (λ own. map (route_of d) contracts ++ own ∷ []) is
     ∙ sym (map-append (route_of d) contracts (c ∷ [])) ∙ ap (map (route_of d)) (sym is_new)
 
-map-remove : {X Y : Type 0} (f : X → Y) (xs : List X) (i : ℕ) → remove (map f xs) i ≡ map f (remove xs i)
+pub map-remove : {X Y : Type 0} (f : X → Y) (xs : List X) (i : ℕ) → remove (map f xs) i ≡ map f (remove xs i)
 map-remove f [] zero = refl
 map-remove f [] (suc i) = refl
 map-remove f (x ∷ xs) zero = refl

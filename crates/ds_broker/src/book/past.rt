@@ -1,14 +1,11 @@
 //! Every contract that a book ever granted.
-ghost use Rattle.std.specs.Prelude.{◌≡◌, ◌≤◌, ◌<◌, ◌++◌, ◌∷◌, [], IfOk, OnOk, false, length, max, true};
+ghost use Rattle.std.specs.Prelude.{◌≡◌, ◌++◌, ◌∷◌, [], IfOk, OnOk, max};
 ghost use Rattle.std.specs.List.{AllByRecursion};
-ghost use Rattle.ds_certificate.specs.Bounds.{fits};
 ghost use Rattle.ds_certificate.specs.Rates.{HasRates};
-ghost use Rattle.ds_domain_base.specs.Lifetimes.{IsInOrder};
 ghost use Rattle.ds_domain_base.specs.Routes.{route_of};
-ghost use Rattle.ds_timeline.specs.Kept.{IsNumbered};
 ghost use Rattle.ds_timeline.specs.Timelines.{routes_in};
 ghost use Rattle.ds_broker.specs.Histories.{beginning};
-ghost use Rattle.ds_broker.specs.Kept.{IsAccepted, IsNext};
+ghost use Rattle.ds_broker.specs.Kept.{IsAccepted, IsGrantable, IsGranted, IsNext};
 ghost use Rattle.ds_broker.specs.Timelines.{IsOfRates, changed, ending_by, granted_as, past_after, past_of};
 ghost use Rattle.ds_broker.specs.Timelines.{retired_at, timeline_of};
 
@@ -122,9 +119,7 @@ impl Past {
         routes: &mut Vec<Route>,
         contract: &Contract,
     ) -> Result<(), AllocError>
-        requires fit { fits domain.now contract.now ≡ true }
-        requires order { IsInOrder (max self.old.newest contract.now.lifetime.since) contract.now.lifetime.until }
-        requires few { length self.old.granted < 65536 }
+        requires { IsGrantable domain.now self.old contract.now }
         ensures value { OnOk result (self.new ≡ past_after domain.now self.old (Reserve contract.now)) }
         ensures route { OnOk result (routes.new.items ≡ routes.old.items ++ route_of domain.now contract.now ∷ []) }
         ensures rated { OnOk result (HasRates domain.now contract.now) }
@@ -144,9 +139,7 @@ impl Past {
 
     /// The contract of an id is released.
     fn release(&mut self, id: u32, at: Moment)
-        requires granted { (1 ≤ id) × (id ≤ length self.old.granted) }
-        requires numbered { IsNumbered 0 self.old.granted }
-        requires begun { AllByRecursion (λ r. r.contract.lifetime.since ≤ self.old.newest) self.old.granted }
+        requires { IsGranted self.old id }
         ensures { self.new ≡ record {
           newest = max self.old.newest at;
           granted = changed id (ending_by (max self.old.newest at)) self.old.granted;
@@ -161,8 +154,7 @@ impl Past {
 
     /// The contract of an id is retired.
     fn retire(&mut self, id: u32, moment: Moment)
-        requires granted { (1 ≤ id) × (id ≤ length self.old.granted) }
-        requires numbered { IsNumbered 0 self.old.granted }
+        requires { IsGranted self.old id }
         ensures { self.new ≡ record {
           newest = max self.old.newest moment;
           granted = changed id (retired_at (max self.old.newest moment)) self.old.granted;

@@ -2,11 +2,11 @@ use Rattle.std.proofs.Common.{◌≡◌, ◌≤◌, true, rules, arith, sym, ap,
 use Rattle.ds_broker.specs.Books.{held_of, moment_in}
 use Rattle.ds_broker.specs.Found.{IsFound}
 use Rattle.ds_broker.specs.Refusals.{free_from}
-use Rattle.ds_broker.proofs.BookLaws.{one-at}
 use Rattle.ds_broker.proofs.HoldingLaws.{first-below}
 use Rattle.ds_broker.proofs.RefusalLaws.{retire-passed}
 use Rattle.ds_broker.proofs.StandingLaws.{bounded-at, standing-bounded}
 use Rattle.ds_broker.proofs.book.Book.retirable.Goals as goal
+use Rattle.std.proofs.lemmas.Option.{same_Some}
 
 pub hold_left-left-requires-clause-place : goal.hold_left-left-requires-clause-place
 hold_left-left-requires-clause-place c = first-below _ _ _ c.in-Some.ensures.found.first
@@ -16,7 +16,7 @@ hold_left-left-requires-clause-over c h at =
     let found = c.in-Some.ensures.found in
     let done : c.in-Some.released ≡ true = search rules in
     let bounds = bounded-at _ _ _ c.in-Some.place h (standing-bounded c.args.self.now.history) at in
-    let over = bounds.2 (ap (λ x. x.released) (one-at _ h found.holding at found.at) ∙ found.is_released ∙ done) in
+    let over = bounds.2 (ap (λ x. x.released) (same_Some h found.holding (sym at ∙ found.at)) ∙ found.is_released ∙ done) in
     omega (arith, over, c.moment_of.ensures)
 
 pub returns-clause-found : goal.returns-clause-found

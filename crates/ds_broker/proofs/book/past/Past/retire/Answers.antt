@@ -10,8 +10,8 @@ returns c =
     let rs = c.self.inside.granted.items in
     let moment : c.max-self-inside.result ≡ max c.self.inside.newest c.args.moment = search rules in
     let numbered : IsNumbered 0 rs = subst (λ p. IsNumbered 0 p.granted) (sym c.self.view_is) c.requires.numbered in
-    let most : c.args.id ≤ length rs = subst (λ p. c.args.id ≤ length p.granted) (sym c.self.view_is) c.requires.granted.1 in
+    let most : c.args.id ≤ length rs = subst (λ p. c.args.id ≤ length p.granted) (sym c.self.view_is) c.requires.most in
     past-parts _ _ (moment ∙ ap (λ p. max p.newest c.args.moment) c.self.view_is)
-    (past-out rs c.self.inside.newest c.args.moment c.max-self-inside.result c.args.id _ c.index_mut.result.now moment numbered c.requires.granted.0 most
+    (past-out rs c.self.inside.newest c.args.moment c.max-self-inside.result c.args.id _ c.index_mut.result.now moment numbered c.requires.least most
     c.index_mut.ensures.value refl
     ∙ ap (λ p. changed c.args.id (retired_at (max p.newest c.args.moment)) p.granted) c.self.view_is)
