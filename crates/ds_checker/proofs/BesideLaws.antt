@@ -33,21 +33,12 @@ use Rattle.ds_checker.proofs.LoadLaws.{AreBelow-more}
 use Rattle.ds_checker.proofs.RoutedLaws.{routed-added, routed-brought, routed-inside, routed-least}
 use Rattle.ds_checker.proofs.RoutedPlaceLaws.{length-with_legs}
 use Rattle.ds_checker.proofs.WalkLaws.{below-on, held-at, walk-tests}
+use Rattle.ds_checker.proofs.CheckLaws.{told_tests}
 
 -- ---- what meters answer names no contract
-nameless_by : (p : Bool) (t : Test) (rest : Option Refusal) → IsNameless (t.refused t.needed t.given) → IfSome rest IsNameless
-    → IfSome (if p then rest else Some (t.refused t.needed t.given)) IsNameless
-nameless_by true t rest own others = others
-nameless_by false t rest own others = own
-
-nameless_tests : (tests : List Test) → AllByRecursion (λ t. (needed given : ℕ) → IsNameless (t.refused needed given)) tests → IfSome (first_failed tests) IsNameless
-unfolding first_failed
-nameless_tests [] all = tt
-nameless_tests (t ∷ tests) all = nameless_by (nat_le t.needed t.given) t (first_failed tests) (all.0 t.needed t.given) (nameless_tests tests all.1)
-
 nameless_at : (entry : List ℕ × Meter) (l : Loads) (refusal : Option Refusal) → refusal ≡ first_failed (sum_tests entry l) → IfSome refusal IsNameless
 nameless_at entry l refusal is =
-    subst (λ r. IfSome r IsNameless) (sym is) (nameless_tests (sum_tests entry l) ((λ needed given. tt), ((λ needed given. tt), ((λ needed given. tt), ((λ needed given. tt), tt)))))
+    subst (λ r. IfSome r IsNameless) (sym is) (told_tests IsNameless (sum_tests entry l) ((λ needed given. tt), ((λ needed given. tt), ((λ needed given. tt), ((λ needed given. tt), tt)))))
 
 pub nameless-by : (entry : Option (List ℕ × Meter)) (l : Loads) (refusal : Option Refusal) → refusal ≡ refusal_by entry l → IfSome refusal IsNameless
 nameless-by None l refusal is = subst (λ r. IfSome r IsNameless) (sym is) tt

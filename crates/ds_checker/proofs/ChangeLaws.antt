@@ -68,7 +68,7 @@ sums-grown d contracts rows c bounds (entry ∷ meters) long =
     ∙ ap (λ rest. sums_of entry.1.skew (shares_at d entry.0 (contracts ++ c ∷ []) (rows ++ bounds ∷ [])) ∷ rest) (sums-grown d contracts rows c bounds meters long)
 
 -- what holds of the items of two lists
-all_together : {X : Type 0} (P : X → Type 0) (xs ys : List X) → AllByRecursion P xs → AllByRecursion P ys → AllByRecursion P (xs ++ ys)
+pub all_together : {X : Type 0} (P : X → Type 0) (xs ys : List X) → AllByRecursion P xs → AllByRecursion P ys → AllByRecursion P (xs ++ ys)
 all_together P [] ys left right = right
 all_together P (x ∷ xs) ys left right = (left.0, all_together P xs ys left.1 right)
 

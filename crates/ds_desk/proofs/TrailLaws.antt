@@ -15,12 +15,6 @@ applies-same step t own flows ns is same applies =
     subst (λ x. Applies step x flows) (sym is) (subst (Applies step own) (sym same) applies)
 
 -- and leads to the same
-pub table-same : (step : Step) (t own next : Table) → t ≡ own → next ≡ table_changed step own → table_changed step t ≡ next
-table-same step t own next is leads = ap (table_changed step) is ∙ sym leads
-
-pub flows-same : (step : Step) (flows own next : List ℕ) → flows ≡ own → next ≡ flows_changed step own → flows_changed step flows ≡ next
-flows-same step flows own next is leads = ap (flows_changed step) is ∙ sym leads
-
 -- where no earlier page is left, none leads anywhere
 pub none-leads : (older oldest : Option Older) → oldest ≡ None → LeadsToOlder oldest older
 none-leads None oldest none = tt

@@ -8,10 +8,6 @@ abbrev pub behind_texts : List (List ℕ) → Result (List (List ℕ)) (List ℕ
 behind_texts front (Ok texts) = Ok (front ++ texts)
 behind_texts front (Err unread) = Err unread
 
-pub behind_nothing : (texts : Result (List (List ℕ)) (List ℕ)) → behind_texts [] texts ≡ texts
-behind_nothing (Ok texts) = refl
-behind_nothing (Err unread) = refl
-
 pub behind_more : (front more : List (List ℕ)) (texts : Result (List (List ℕ)) (List ℕ))
     → behind_texts front (behind_texts more texts) ≡ behind_texts (front ++ more) texts
 behind_more front more (Ok texts) = ap (λ t. Ok t) (simp append_assoc)

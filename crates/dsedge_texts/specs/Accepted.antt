@@ -1,9 +1,10 @@
 -- What a domain text and a certificate text say together: a table that is acceptable, or what stands against it.
-use Rattle.std.specs.Prelude.{ℕ, List, Option, None, Some, Result, Ok, Err}
+use Rattle.std.specs.Prelude.{◌≡◌, ℕ, List, Option, None, Some, Result, Ok, Err, IfErr}
 use Rattle.ds_certificate.specs.Columns.{Bound}
 use Rattle.ds_certificate.specs.Places.{fault_line}
 use Rattle.ds_certificate.specs.Readings.{certificate_in}
 use Rattle.ds_certificate.specs.declared.fault.CertificateFault.{CertificateFault}
+use Rattle.ds_certificate.specs.declared.fault.CertificateFault.TheVariants as certificates
 use Rattle.ds_checker.specs.Acceptance.{Table, refusal_of}
 use Rattle.ds_checker.specs.declared.refusal.Refusal.{Refusal}
 use Rattle.ds_domain.specs.DomainTexts.{parse_of}
@@ -13,6 +14,10 @@ use Rattle.ds_domain_base.specs.declared.fault.DomainFault.{DomainFault}
 use Rattle.dsedge_texts.specs.Refused.{refusal_line}
 use Rattle.dsedge_texts.specs.declared.accepting.TableFault.{TableFault}
 use Rattle.dsedge_texts.specs.declared.accepting.TableFault.TheVariants as faults
+
+-- a certificate's text has no fault, if not want of memory
+abbrev pub IsUnfaulty : Result (List (List Bound)) CertificateFault → Type 0
+IsUnfaulty said = IfErr said (λ fault. fault ≡ certificates.NoMemory)
 
 -- a table of which nothing stands against it, or the line of the first test that fails
 abbrev pub judged : Table → Option Refusal → Result Table TableFault

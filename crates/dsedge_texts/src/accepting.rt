@@ -1,8 +1,8 @@
-ghost use Rattle.std.specs.Prelude.{◌≡◌, ◌⊎◌, Err, IfErr, IfOk, Ok};
+ghost use Rattle.std.specs.Prelude.{◌≡◌, ◌⊎◌, Err, IfErr, IfOk, None, Ok};
 ghost use Rattle.ds_certificate.specs.Readings.{certificate_in};
-ghost use Rattle.ds_checker.specs.Acceptance.{refusal_of, table_of};
+ghost use Rattle.ds_checker.specs.Acceptance.{bounds_refusal_of, refusal_of, table_of};
 ghost use Rattle.ds_domain_base.specs.Domains.{Domain};
-ghost use Rattle.dsedge_texts.specs.Accepted.{accepted_in, judged, tabled};
+ghost use Rattle.dsedge_texts.specs.Accepted.{IsUnfaulty, accepted_in, judged, tabled};
 ghost use Rattle.dsedge_texts.specs.Refused.{refusal_line};
 
 use crate::refusing::RefusalLine;
@@ -59,7 +59,8 @@ fn accept_parsed(
 ) -> Result<Accepted, TableFault>
     ensures ok { IfOk result (λ accepted.
         tabled (domain, contracts.items) certificate.now ≡ Ok accepted) }
-    ensures refused { IfErr result (λ fault. (fault ≡ TableFault.NoMemory)
+    ensures refused { IfErr result (λ fault.
+        ((fault ≡ TableFault.NoMemory) × IsUnfaulty (certificate_in contracts.items certificate.now))
         ⊎ (tabled (domain, contracts.items) certificate.now ≡ Err fault)) }
 {
     match certificate_said(alloc, certificate, contracts.as_slice()) {
@@ -75,14 +76,15 @@ fn accept_parsed(
     }
 }
 
-/// The certificate that a text says of some contracts.
+/// The certificate that a text says of some contracts; `NoMemory` where the text has no fault and memory runs out.
 fn certificate_said(
     alloc: Global,
     text: &[u8],
     contracts: &[Contract],
 ) -> Result<Certificate, TableFault>
     ensures ok { IfOk result (λ certificate. certificate_in contracts.now text.now ≡ Ok certificate) }
-    ensures refused { IfErr result (λ fault. (fault ≡ TableFault.NoMemory)
+    ensures refused { IfErr result (λ fault.
+        ((fault ≡ TableFault.NoMemory) × IsUnfaulty (certificate_in contracts.now text.now))
         ⊎ ((domain : Domain) → tabled (domain, contracts.now) text.now ≡ Err fault)) }
 {
     match read(alloc, text, contracts) {
@@ -95,10 +97,12 @@ fn certificate_said(
     }
 }
 
-/// What the checker makes of a candidate.
+/// What the checker makes of a candidate; `NoMemory` where nothing is wrong with its shape or a bound and memory runs out.
 pub(crate) fn judge(alloc: Global, candidate: Candidate) -> Result<Accepted, TableFault>
     ensures ok { IfOk result (λ accepted. judged (table_of candidate) (refusal_of (table_of candidate)) ≡ Ok accepted) }
-    ensures refused { IfErr result (λ fault. (fault ≡ TableFault.NoMemory)
+    // What is wrong with a shape or a bound is told without memory.
+    ensures refused { IfErr result (λ fault.
+        ((fault ≡ TableFault.NoMemory) × (bounds_refusal_of (table_of candidate) ≡ None))
         ⊎ (judged (table_of candidate) (refusal_of (table_of candidate)) ≡ Err fault)) }
 {
     match check(alloc, candidate) {
