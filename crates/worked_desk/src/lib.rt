@@ -9,6 +9,8 @@ mod desks;
 #[cfg(test)]
 mod flow_rows;
 #[cfg(test)]
+mod full_rows;
+#[cfg(test)]
 mod limit_rows;
 #[cfg(test)]
 mod memory_rows;
