@@ -1,15 +1,11 @@
-ghost use Rattle.std.specs.Prelude.{◌≡◌};
-ghost use Rattle.meter_fabric.specs.Fabrics.{fabric_of, parts_of};
-
-use crate::rows::tables::{EDGE, closed, entered, fit, none, opened, policed, popped, visited};
-use ds_checker::Accepted;
+use crate::rows::tables::{
+    EDGE, Row, Stand, all_closed, closed, entered, fit, none, policed, run_over, visited,
+};
 use meter_book::{Chapter, Journal};
-use meter_fabric::{Fabric, FabricLedger, Pass, Traveller, ticket_parts};
+use meter_fabric::{Fabric, FabricLedger, Pass, Traveller};
 use std::alloc::Global;
-use std::marker::Brand;
 use std::process::Abort;
 use std::sync::Wait;
-use std::sync::ledger::Blank;
 
 /// The chapter that an edge of two rows is cut to.
 fn cut<L: FabricLedger, R: Wait + Abort>(rt: &R, fabric: &Fabric<'_, L>) -> Chapter {
@@ -31,16 +27,14 @@ fn expect_third(rt: &impl Abort, third: Traveller) {
 fn expect_cut<L: FabricLedger, R: Wait + Abort>(
     rt: &R,
     alloc: Global,
-    fabric: &Fabric<'_, L>,
-    accepted: &Accepted,
-    pass: &mut Pass<L>,
+    stand: &mut Stand<'_, '_, L>,
 ) -> Chapter {
-    assert!(rt; fit(rt, alloc, fabric, accepted, 0) == 0);
-    drop(entered(rt, alloc, fabric, accepted, pass, (1, 10, 0)));
-    drop(entered(rt, alloc, fabric, accepted, pass, (2, 10, 0)));
-    let third = entered(rt, alloc, fabric, accepted, pass, (3, 10, 2));
-    let chapter = cut(rt, fabric);
-    expect_third(rt, visited(rt, fabric, pass, third, (10, 0)));
+    assert!(rt; fit(rt, alloc, &stand.fabric, stand.accepted, 0) == 0);
+    drop(entered(rt, alloc, stand, (1, 10, 0)));
+    drop(entered(rt, alloc, stand, (2, 10, 0)));
+    let third = entered(rt, alloc, stand, (3, 10, 2));
+    let chapter = cut(rt, &stand.fabric);
+    expect_third(rt, visited(rt, stand, third, (10, 0)));
     chapter
 }
 
@@ -71,51 +65,34 @@ fn closed_with<L: FabricLedger, R: Wait + Abort>(
 }
 
 /// A fabric whose edge is cut closes with the chapter.
-fn cuts<L: FabricLedger, R: Wait + Abort>(rt: &R, alloc: Global, accepted: &Accepted, blank: Blank)
-    requires name { blank.name ≡ L.name }
-    requires parts { blank.parts ≡ L.parts }
-    requires cut { blank.parts ≡ parts_of L.fabric }
-    requires fabric { L.fabric ≡ fabric_of accepted.now.domain 1 2 2 }
-{
-    let (fabric, mut passes) = opened::<L>(alloc, accepted, blank, 2).expect(rt, "memory");
-    let mut pass = popped(rt, &mut passes);
-    let chapter = expect_cut(rt, alloc, &fabric, accepted, &mut pass);
-    passes.push(pass).expect(rt, "memory");
-    let journals = closed_with(rt, alloc, fabric, passes, chapter);
+pub fn cuts<L: FabricLedger, R: Wait + Abort>(rt: &R, alloc: Global, mut stand: Stand<'_, '_, L>) {
+    let chapter = expect_cut(rt, alloc, &mut stand);
+    let mut passes = stand.others;
+    passes.push(stand.pass).expect(rt, "memory");
+    let journals = closed_with(rt, alloc, stand.fabric, passes, chapter);
     expect_journals(rt, journals.as_slice());
     drop(journals);
 }
 
 #[test]
 fn a_fabric_closes_with_its_chapters(rt: HostRuntime) {
-    let accepted = policed(rt.alloc()).expect(&rt, "a table");
-    let blank = Blank::new(ticket_parts(accepted.domain(), 1, 2));
-    cuts::<Brand, _>(&rt, rt.alloc(), &accepted, blank);
-    drop(accepted);
+    run_over(&rt, rt.alloc(), policed(rt.alloc()), (1, 2, 2), Row::Cuts);
 }
 
 /// Expects that a fabric whose slot was never fitted closes to the journal of its meter alone.
-fn unfitted<L: FabricLedger, R: Wait + Abort>(
-    rt: &R,
-    alloc: Global,
-    accepted: &Accepted,
-    blank: Blank,
-)
-    requires name { blank.name ≡ L.name }
-    requires parts { blank.parts ≡ L.parts }
-    requires cut { blank.parts ≡ parts_of L.fabric }
-    requires fabric { L.fabric ≡ fabric_of accepted.now.domain 1 2 2 }
-{
-    let (fabric, passes) = opened::<L>(alloc, accepted, blank, 2).expect(rt, "memory");
-    let journals = closed(rt, alloc, fabric, passes, none(alloc));
+pub fn unfitted<L: FabricLedger, R: Wait + Abort>(rt: &R, alloc: Global, stand: Stand<'_, '_, L>) {
+    let journals = all_closed(rt, alloc, stand, none(alloc));
     assert!(rt; journals.len() == 1);
     drop(journals);
 }
 
 #[test]
 fn a_slot_that_was_never_fitted_gives_no_journal(rt: HostRuntime) {
-    let accepted = policed(rt.alloc()).expect(&rt, "a table");
-    let blank = Blank::new(ticket_parts(accepted.domain(), 1, 2));
-    unfitted::<Brand, _>(&rt, rt.alloc(), &accepted, blank);
-    drop(accepted);
+    run_over(
+        &rt,
+        rt.alloc(),
+        policed(rt.alloc()),
+        (1, 2, 2),
+        Row::Unfitted,
+    );
 }

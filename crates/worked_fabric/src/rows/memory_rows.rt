@@ -2,7 +2,7 @@
 ghost use Rattle.std.specs.Prelude.{◌≡◌};
 ghost use Rattle.meter_fabric.specs.Fabrics.{fabric_of, parts_of};
 
-use crate::rows::tables::{EDGE, fit, moment, none, opened, policed, popped, sent, visit, visited};
+use crate::rows::tables::{EDGE, fit, moment, none, opened, policed, popped, sent, visit};
 use ds_checker::Accepted;
 use meter_fabric::{Fabric, FabricLedger, Pass, Traveller, ticket_parts};
 use std::alloc::Global;
@@ -22,7 +22,9 @@ fn expect_visit<L: FabricLedger, R: Wait + Abort>(
     if code != 0 {
         assert!(rt; (code, pass.visits(EDGE)) == (3, 0));
         assert!(rt; behind.next_site() == Some(EDGE));
-        drop(visited(rt, fabric, pass, behind, (10, 0)));
+        let (within, code) = visit(rt, fabric, pass, behind, moment(rt, 10));
+        assert!(rt; code == 0);
+        drop(within);
     } else {
         drop(behind);
     }

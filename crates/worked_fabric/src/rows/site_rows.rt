@@ -1,12 +1,14 @@
 //! Two meters that differ in all that a meter has, and three edges behind ports of other skews.
-use crate::rows::tables::{closed, come_to, moment, none, popped, shut, visited};
+ghost use Rattle.std.specs.Prelude.{◌≤◌, ◌^◌};
+
+use crate::rows::tables::{Row, Stand, all_closed, come_to, moment, none, run_over, shut, visited};
 use af_marker::Dscp;
 use ds_checker::Accepted;
 use dsedge_texts::{accept, certify};
 use meter_book::{Chapter, Journal};
 use meter_fabric::{
-    Fabric, FabricLedger, FabricWork, Fitted, Opening, Pass, Trail, Traveller, Visit, Ways,
-    contract_of, edge_opening, opening_at, with_fabric,
+    Fabric, FabricLedger, Fitted, Opening, Trail, Traveller, Visit, Ways, contract_of,
+    edge_opening, opening_at,
 };
 use moment_core::PacketSize;
 use run_audit::{Ground, Run, Verdict, audit};
@@ -162,15 +164,14 @@ fn expect_made(rt: &impl Abort, visits: &[Visit]) {
 /// Takes packets to their next site together, which must be this one.
 fn take_to<L: FabricLedger, R: Wait + Abort>(
     rt: &R,
-    fabric: &Fabric<'_, L>,
-    pass: &mut Pass<L>,
+    stand: &mut Stand<'_, '_, L>,
     visits: &mut [Visit],
     site: u32,
 ) {
     if !come_to(visits, site) {
         panic!(rt; "another site")
     }
-    fabric.visit_all(rt, pass, site, visits);
+    stand.fabric.visit_all(rt, &mut stand.pass, site, visits);
     expect_made(rt, visits);
 }
 
@@ -178,14 +179,12 @@ fn take_to<L: FabricLedger, R: Wait + Abort>(
 fn travel<L: FabricLedger, R: Wait + Abort>(
     rt: &R,
     alloc: Global,
-    fabric: &Fabric<'_, L>,
-    accepted: &Accepted,
-    pass: &mut Pass<L>,
+    stand: &mut Stand<'_, '_, L>,
     (flow, sites): (u32, &[u32]),
 ) -> Vec<Visit> {
-    let mut visits = two_visits(rt, alloc, accepted, flow);
+    let mut visits = two_visits(rt, alloc, stand.accepted, flow);
     for site in sites {
-        take_to(rt, fabric, pass, visits.as_mut_slice(), *site);
+        take_to(rt, stand, visits.as_mut_slice(), *site);
     }
     visits
 }
@@ -218,25 +217,19 @@ static WAYS: [(u32, &[u32]); 3] = [(0, &[2, 0, 1]), (1, &[3, 0]), (2, &[4, 1])];
 fn take_all<L: FabricLedger, R: Wait + Abort>(
     rt: &R,
     alloc: Global,
-    fabric: &Fabric<'_, L>,
-    accepted: &Accepted,
-    pass: &mut Pass<L>,
+    stand: &mut Stand<'_, '_, L>,
     trails: &mut Vec<Trail>,
 ) -> Vec<Chapter> {
     let mut chapters = none(alloc);
     for way in WAYS {
-        let visits = travel(rt, alloc, fabric, accepted, pass, way);
+        let visits = travel(rt, alloc, stand, way);
         put_behind(rt, trails, visits);
-        cut(
-            rt,
-            fabric,
-            &mut chapters,
-            (way.0.wrapping_add(FIRST_EDGE), 2),
-        );
+        let edge = way.0.wrapping_add(FIRST_EDGE);
+        cut(rt, &stand.fabric, &mut chapters, (edge, 2));
     }
-    cut(rt, fabric, &mut chapters, (0, 4));
-    cut(rt, fabric, &mut chapters, (4, 0));
-    cut(rt, fabric, &mut chapters, (1, 4));
+    for row in [(0, 4), (4, 0), (1, 4)] {
+        cut(rt, &stand.fabric, &mut chapters, row);
+    }
     chapters
 }
 
@@ -254,181 +247,91 @@ fn judged(
     }
 }
 
-/// What a test does with a fabric of the three contracts' domain.
-#[derive(Drop)]
-struct CutAll<'a, R: Wait + Abort> {
-    rt: &'a R,
-    alloc: Global,
-    accepted: &'a Accepted,
+/// Runs a row over a fabric of the three contracts' table, whose books take so many open rows.
+fn run_over_three<R: Wait + Abort>(rt: &R, alloc: Global, capacity: u32, row: Row)
+    requires { (1 ≤ capacity) × (capacity ≤ 2 ^ 20) }
+{
+    run_over(rt, alloc, three(alloc), (EDGES, capacity, 1), row);
 }
 
-impl<R: Wait + Abort> FabricWork for CutAll<'_, R> {
-    type Done = ();
-
-    /// Expects that a fabric whose sites were all cut closes with the chapters to a run that is kept.
-    fn work<L: FabricLedger + Send + Sync>(self, fabric: Fabric<'_, L>, passes: Vec<Pass<L>>) {
-        cuts_all(self.rt, self.alloc, self.accepted, fabric, passes);
-    }
-}
-
-/// The same, of its parts.
-fn cuts_all<L: FabricLedger, R: Wait + Abort>(
+/// Expects that a fabric whose sites were all cut closes with the chapters to a run that is kept.
+pub fn cuts_all<L: FabricLedger, R: Wait + Abort>(
     rt: &R,
     alloc: Global,
-    accepted: &Accepted,
-    fabric: Fabric<'_, L>,
-    mut passes: Vec<Pass<L>>,
+    mut stand: Stand<'_, '_, L>,
 ) {
-    fit_all(rt, alloc, &fabric, accepted);
-    let mut pass = popped(rt, &mut passes);
+    let accepted = stand.accepted;
+    fit_all(rt, alloc, &stand.fabric, accepted);
     let mut trails = Vec::new(alloc);
-    let chapters = take_all(rt, alloc, &fabric, accepted, &mut pass, &mut trails);
-    passes.push(pass).expect(rt, "memory");
-    let journals = closed(rt, alloc, fabric, passes, chapters);
+    let chapters = take_all(rt, alloc, &mut stand, &mut trails);
+    let journals = all_closed(rt, alloc, stand, chapters);
     expect_journals(rt, accepted, journals.as_slice(), [4, 4, 2, 2, 2]);
-    assert_eq!(rt;
-        judged(rt, alloc, accepted, journals, trails),
-        Verdict::Kept
-    );
+    let verdict = judged(rt, alloc, accepted, journals, trails);
+    assert_eq!(rt; verdict, Verdict::Kept);
 }
 
 #[test]
 fn chapters_of_meters_and_edges_join(rt: HostRuntime) {
-    let alloc = rt.alloc();
-    let accepted = three(alloc).expect(&rt, "a table");
-    let work = CutAll {
-        rt: &rt,
-        alloc,
-        accepted: &accepted,
-    };
-    let done = with_fabric(alloc, accepted.domain(), EDGES, 4, 1, work);
-    assert!(rt; done.is_ok());
-    drop(accepted);
-}
-
-/// What another test does with one.
-#[derive(Drop)]
-struct ShutLate<'a, R: Wait + Abort> {
-    rt: &'a R,
-    alloc: Global,
-    accepted: &'a Accepted,
-}
-
-impl<R: Wait + Abort> FabricWork for ShutLate<'_, R> {
-    type Done = ();
-
-    /// Expects that an edge which metered at the last moment is not shut, and that the others are.
-    fn work<L: FabricLedger + Send + Sync>(self, fabric: Fabric<'_, L>, passes: Vec<Pass<L>>) {
-        shuts_late(self.rt, self.alloc, self.accepted, fabric, passes);
-    }
+    run_over_three(&rt, rt.alloc(), 4, Row::CutAll);
 }
 
 /// The last moment that there is.
 const LAST: u64 = (1 << 63) - 1;
 
-/// The same, of its parts.
-fn shuts_late<L: FabricLedger, R: Wait + Abort>(
+/// Expects that an edge which metered at the last moment is not shut, and that the others are.
+pub fn shuts_late<L: FabricLedger, R: Wait + Abort>(
     rt: &R,
     alloc: Global,
-    accepted: &Accepted,
-    fabric: Fabric<'_, L>,
-    mut passes: Vec<Pass<L>>,
+    mut stand: Stand<'_, '_, L>,
 ) {
-    fit_all(rt, alloc, &fabric, accepted);
-    let mut pass = popped(rt, &mut passes);
-    let late = packet(rt, alloc, accepted, 1, 1);
-    drop(visited(rt, &fabric, &mut pass, late, (LAST, 0)));
-    assert!(rt; shut(rt, &fabric, 0, 5) == Ok(5));
-    assert!(rt; shut(rt, &fabric, 1, 5) == Err(2));
-    assert!(rt; shut(rt, &fabric, 2, 7) == Ok(7));
-    assert!(rt; shut(rt, &fabric, 3, 7) == Err(1));
-    let shut_out = packet(rt, alloc, accepted, 0, 2);
-    drop(visited(rt, &fabric, &mut pass, shut_out, (10, 6)));
-    drop(pass);
-    drop(passes);
-    drop(fabric);
+    fit_all(rt, alloc, &stand.fabric, stand.accepted);
+    let late = packet(rt, alloc, stand.accepted, 1, 1);
+    drop(visited(rt, &mut stand, late, (LAST, 0)));
+    assert!(rt; shut(rt, &stand.fabric, 0, 5) == Ok(5));
+    assert!(rt; shut(rt, &stand.fabric, 1, 5) == Err(2));
+    assert!(rt; shut(rt, &stand.fabric, 2, 7) == Ok(7));
+    assert!(rt; shut(rt, &stand.fabric, 3, 7) == Err(1));
+    let shut_out = packet(rt, alloc, stand.accepted, 0, 2);
+    drop(visited(rt, &mut stand, shut_out, (10, 6)));
+    drop(stand);
 }
 
 #[test]
 fn an_edge_of_the_last_moment_is_not_shut(rt: HostRuntime) {
-    let alloc = rt.alloc();
-    let accepted = three(alloc).expect(&rt, "a table");
-    let work = ShutLate {
-        rt: &rt,
-        alloc,
-        accepted: &accepted,
-    };
-    let done = with_fabric(alloc, accepted.domain(), EDGES, 4, 1, work);
-    assert!(rt; done.is_ok());
-    drop(accepted);
-}
-
-/// What a third test does with one.
-#[derive(Drop)]
-struct Fill<'a, R: Wait + Abort> {
-    rt: &'a R,
-    alloc: Global,
-    accepted: &'a Accepted,
-}
-
-impl<R: Wait + Abort> FabricWork for Fill<'_, R> {
-    type Done = ();
-
-    /// Expects that a meter whose book is full takes no more until it is cut.
-    fn work<L: FabricLedger + Send + Sync>(self, fabric: Fabric<'_, L>, passes: Vec<Pass<L>>) {
-        fills(self.rt, self.alloc, self.accepted, fabric, passes);
-    }
+    run_over_three(&rt, rt.alloc(), 4, Row::ShutLate);
 }
 
 /// A packet of contract 2 behind its edge.
 fn behind_edge<L: FabricLedger, R: Wait + Abort>(
     rt: &R,
     alloc: Global,
-    fabric: &Fabric<'_, L>,
-    accepted: &Accepted,
-    pass: &mut Pass<L>,
+    stand: &mut Stand<'_, '_, L>,
     number: u64,
 ) -> Traveller {
-    let begun = packet(rt, alloc, accepted, 2, number);
-    visited(rt, fabric, pass, begun, (10, 0))
+    let begun = packet(rt, alloc, stand.accepted, 2, number);
+    visited(rt, stand, begun, (10, 0))
 }
 
-/// The same, of its parts, where books have room for one row: first at an edge, then at a meter.
-fn fills<L: FabricLedger, R: Wait + Abort>(
-    rt: &R,
-    alloc: Global,
-    accepted: &Accepted,
-    fabric: Fabric<'_, L>,
-    mut passes: Vec<Pass<L>>,
-) {
-    fit_all(rt, alloc, &fabric, accepted);
-    let mut pass = popped(rt, &mut passes);
+/// Expects that a book with room for one row takes no more until it is cut: first at an edge, then at a meter.
+pub fn fills<L: FabricLedger, R: Wait + Abort>(rt: &R, alloc: Global, mut stand: Stand<'_, '_, L>) {
+    let accepted = stand.accepted;
+    fit_all(rt, alloc, &stand.fabric, accepted);
     let mut chapters = none(alloc);
-    let one = behind_edge(rt, alloc, &fabric, accepted, &mut pass, 1);
+    let one = behind_edge(rt, alloc, &mut stand, 1);
     let full = packet(rt, alloc, accepted, 2, 2);
-    drop(visited(rt, &fabric, &mut pass, full, (10, 2)));
-    cut(rt, &fabric, &mut chapters, (4, 1));
-    let two = behind_edge(rt, alloc, &fabric, accepted, &mut pass, 3);
-    drop(visited(rt, &fabric, &mut pass, one, (10, 0)));
-    let two = visited(rt, &fabric, &mut pass, two, (10, 2));
-    cut(rt, &fabric, &mut chapters, (1, 1));
-    drop(visited(rt, &fabric, &mut pass, two, (10, 0)));
-    passes.push(pass).expect(rt, "memory");
-    let journals = closed(rt, alloc, fabric, passes, chapters);
+    drop(visited(rt, &mut stand, full, (10, 2)));
+    cut(rt, &stand.fabric, &mut chapters, (4, 1));
+    let two = behind_edge(rt, alloc, &mut stand, 3);
+    drop(visited(rt, &mut stand, one, (10, 0)));
+    let two = visited(rt, &mut stand, two, (10, 2));
+    cut(rt, &stand.fabric, &mut chapters, (1, 1));
+    drop(visited(rt, &mut stand, two, (10, 0)));
+    let journals = all_closed(rt, alloc, stand, chapters);
     expect_journals(rt, accepted, journals.as_slice(), [0, 2, 0, 0, 2]);
     drop(journals);
 }
 
 #[test]
 fn a_full_book_takes_no_more_until_it_is_cut(rt: HostRuntime) {
-    let alloc = rt.alloc();
-    let accepted = three(alloc).expect(&rt, "a table");
-    let work = Fill {
-        rt: &rt,
-        alloc,
-        accepted: &accepted,
-    };
-    let done = with_fabric(alloc, accepted.domain(), EDGES, 1, 1, work);
-    assert!(rt; done.is_ok());
-    drop(accepted);
+    run_over_three(&rt, rt.alloc(), 1, Row::Fill);
 }

@@ -1,28 +1,22 @@
-ghost use Rattle.std.specs.Prelude.{◌≡◌};
-ghost use Rattle.meter_fabric.specs.Fabrics.{fabric_of, parts_of};
-
 use crate::rows::tables::{
-    EDGE, METER, come_to, entered, fit, moment, opened, packet, policed, popped, shut, visited,
+    EDGE, METER, Row, Stand, come_to, entered, fit, moment, packet, policed, run_over, shut,
+    visited,
 };
 use ds_checker::Accepted;
-use meter_fabric::{Fabric, FabricLedger, Pass, Traveller, Visit, ticket_parts};
+use meter_fabric::{Fabric, FabricLedger, Pass, Traveller, Visit};
 use std::alloc::Global;
-use std::marker::Brand;
 use std::process::Abort;
 use std::sync::Wait;
-use std::sync::ledger::Blank;
 
 /// Expects what is refused of a slot that is not fitted: a visit, which leaves its packet where it is, and a cut.
 fn expect_unfitted<L: FabricLedger, R: Wait + Abort>(
     rt: &R,
     alloc: Global,
-    fabric: &Fabric<'_, L>,
-    accepted: &Accepted,
-    pass: &mut Pass<L>,
+    stand: &mut Stand<'_, '_, L>,
 ) -> Traveller {
-    let early = entered(rt, alloc, fabric, accepted, pass, (1, 10, 5));
-    assert!(rt; pass.visits(EDGE) == 0);
-    let early_cut = fabric.cut(rt, EDGE).err();
+    let early = entered(rt, alloc, stand, (1, 10, 5));
+    assert!(rt; stand.pass.visits(EDGE) == 0);
+    let early_cut = stand.fabric.cut(rt, EDGE).err();
     assert!(rt; early_cut.map(|fault| fault.code()) == Some(1));
     early
 }
@@ -42,14 +36,13 @@ fn expect_fitted<L: FabricLedger, R: Wait + Abort>(
 /// Expects that a packet goes through edge and meter at moment 10, and neither earlier nor any further.
 fn expect_way<L: FabricLedger, R: Wait + Abort>(
     rt: &R,
-    fabric: &Fabric<'_, L>,
-    pass: &mut Pass<L>,
+    stand: &mut Stand<'_, '_, L>,
     sent: Traveller,
 ) {
-    let early = visited(rt, fabric, pass, sent, (9, 4));
-    let within = visited(rt, fabric, pass, early, (10, 0));
-    let ended = visited(rt, fabric, pass, within, (10, 0));
-    let ended = visited(rt, fabric, pass, ended, (10, 1));
+    let early = visited(rt, stand, sent, (9, 4));
+    let within = visited(rt, stand, early, (10, 0));
+    let ended = visited(rt, stand, within, (10, 0));
+    let ended = visited(rt, stand, ended, (10, 1));
     let trail = ended.into_trail();
     assert!(rt; trail.receipts.len() == 2);
     drop(trail);
@@ -63,74 +56,35 @@ fn expect_visits<L: FabricLedger>(rt: &impl Abort, pass: &Pass<L>) {
 }
 
 /// Expects what comes of a slot before and after it is fitted, and of one that is not there.
-fn expect_slots<L: FabricLedger, R: Wait + Abort>(
-    rt: &R,
-    alloc: Global,
-    accepted: &Accepted,
-    blank: Blank,
-)
-    requires name { blank.name ≡ L.name }
-    requires parts { blank.parts ≡ L.parts }
-    requires cut { blank.parts ≡ parts_of L.fabric }
-    requires fabric { L.fabric ≡ fabric_of accepted.now.domain 1 8 2 }
-{
-    let (fabric, mut passes) = opened::<L>(alloc, accepted, blank, 8).expect(rt, "memory");
-    let mut pass = popped(rt, &mut passes);
-    let early = expect_unfitted(rt, alloc, &fabric, accepted, &mut pass);
-    expect_fitted(rt, alloc, &fabric, accepted);
-    expect_way(rt, &fabric, &mut pass, early);
-    expect_visits(rt, &pass);
-    drop(pass);
-    drop(passes);
-    drop(fabric);
+pub fn slots<L: FabricLedger, R: Wait + Abort>(rt: &R, alloc: Global, mut stand: Stand<'_, '_, L>) {
+    let early = expect_unfitted(rt, alloc, &mut stand);
+    expect_fitted(rt, alloc, &stand.fabric, stand.accepted);
+    expect_way(rt, &mut stand, early);
+    expect_visits(rt, &stand.pass);
+    drop(stand);
 }
 
 #[test]
 fn a_slot_is_fitted_once(rt: HostRuntime) {
-    let accepted = policed(rt.alloc()).expect(&rt, "a table");
-    let blank = Blank::new(ticket_parts(accepted.domain(), 1, 2));
-    expect_slots::<Brand, _>(&rt, rt.alloc(), &accepted, blank);
-    drop(accepted);
+    run_over(&rt, rt.alloc(), policed(rt.alloc()), (1, 8, 2), Row::Slots);
 }
 
-/// Expects that an edge, once it is fitted, is shut behind a packet of moment 10, and at no other moment afterwards.
-fn expect_shut<L: FabricLedger, R: Wait + Abort>(
-    rt: &R,
-    alloc: Global,
-    fabric: &Fabric<'_, L>,
-    accepted: &Accepted,
-    pass: &mut Pass<L>,
-) {
-    assert!(rt; shut(rt, fabric, 0, 5) == Err(1));
-    assert!(rt; fit(rt, alloc, fabric, accepted, 0) == 0);
-    drop(entered(rt, alloc, fabric, accepted, pass, (1, 10, 0)));
-    assert!(rt; shut(rt, fabric, 0, 5) == Ok(11));
-    assert!(rt; shut(rt, fabric, 0, 99) == Ok(11));
-}
-
-/// Expects what comes of shutting an edge at moment 5 behind a packet of moment 10.
-fn shuts<L: FabricLedger, R: Wait + Abort>(rt: &R, alloc: Global, accepted: &Accepted, blank: Blank)
-    requires name { blank.name ≡ L.name }
-    requires parts { blank.parts ≡ L.parts }
-    requires cut { blank.parts ≡ parts_of L.fabric }
-    requires fabric { L.fabric ≡ fabric_of accepted.now.domain 1 8 2 }
-{
-    let (fabric, mut passes) = opened::<L>(alloc, accepted, blank, 8).expect(rt, "memory");
-    let mut pass = popped(rt, &mut passes);
-    expect_shut(rt, alloc, &fabric, accepted, &mut pass);
-    let back = entered(rt, alloc, &fabric, accepted, &mut pass, (2, 11, 6));
-    drop(visited(rt, &fabric, &mut pass, back, (10, 0)));
-    drop(pass);
-    drop(passes);
-    drop(fabric);
+/// Expects that an edge, once it is fitted, is shut at moment 5 behind a packet of moment 10, and at no other moment
+/// afterwards.
+pub fn shuts<L: FabricLedger, R: Wait + Abort>(rt: &R, alloc: Global, mut stand: Stand<'_, '_, L>) {
+    assert!(rt; shut(rt, &stand.fabric, 0, 5) == Err(1));
+    assert!(rt; fit(rt, alloc, &stand.fabric, stand.accepted, 0) == 0);
+    drop(entered(rt, alloc, &mut stand, (1, 10, 0)));
+    assert!(rt; shut(rt, &stand.fabric, 0, 5) == Ok(11));
+    assert!(rt; shut(rt, &stand.fabric, 0, 99) == Ok(11));
+    let back = entered(rt, alloc, &mut stand, (2, 11, 6));
+    drop(visited(rt, &mut stand, back, (10, 0)));
+    drop(stand);
 }
 
 #[test]
 fn an_edge_is_shut(rt: HostRuntime) {
-    let accepted = policed(rt.alloc()).expect(&rt, "a table");
-    let blank = Blank::new(ticket_parts(accepted.domain(), 1, 2));
-    shuts::<Brand, _>(&rt, rt.alloc(), &accepted, blank);
-    drop(accepted);
+    run_over(&rt, rt.alloc(), policed(rt.alloc()), (1, 8, 2), Row::Shuts);
 }
 
 /// A packet of a number, and when it comes.
@@ -166,49 +120,39 @@ fn expect_codes(rt: &impl Abort, visits: &[Visit]) {
     assert!(rt; code_of(&visits[2]) == 2);
 }
 
-/// Expects what comes of three visits under one lock.
-fn expect_several<L: FabricLedger, R: Wait + Abort>(
+/// Expects what comes of three visits under one lock, where books have room for one row.
+pub fn several<L: FabricLedger, R: Wait + Abort>(
     rt: &R,
     alloc: Global,
-    fabric: &Fabric<'_, L>,
-    accepted: &Accepted,
-    pass: &mut Pass<L>,
+    stand: Stand<'_, '_, L>,
 ) {
-    assert!(rt; fit(rt, alloc, fabric, accepted, 0) == 0);
+    let Stand {
+        mut pass,
+        others,
+        fabric,
+        accepted,
+    } = stand;
+    assert!(rt; fit(rt, alloc, &fabric, accepted, 0) == 0);
     let mut visits = three_visits(rt, alloc, accepted);
     if !come_to(visits.as_slice(), EDGE) {
         panic!(rt; "another site")
     }
-    fabric.visit_all(rt, pass, EDGE, visits.as_mut_slice());
+    fabric.visit_all(rt, &mut pass, EDGE, visits.as_mut_slice());
     expect_codes(rt, visits.as_slice());
     drop(visits);
     assert!(rt; pass.visits(EDGE) == 1);
-}
-
-/// The same at a fabric whose books have room for one row.
-fn several<L: FabricLedger, R: Wait + Abort>(
-    rt: &R,
-    alloc: Global,
-    accepted: &Accepted,
-    blank: Blank,
-)
-    requires name { blank.name ≡ L.name }
-    requires parts { blank.parts ≡ L.parts }
-    requires cut { blank.parts ≡ parts_of L.fabric }
-    requires fabric { L.fabric ≡ fabric_of accepted.now.domain 1 1 2 }
-{
-    let (fabric, mut passes) = opened::<L>(alloc, accepted, blank, 1).expect(rt, "memory");
-    let mut pass = popped(rt, &mut passes);
-    expect_several(rt, alloc, &fabric, accepted, &mut pass);
     drop(pass);
-    drop(passes);
+    drop(others);
     drop(fabric);
 }
 
 #[test]
 fn several_visits_under_one_lock(rt: HostRuntime) {
-    let accepted = policed(rt.alloc()).expect(&rt, "a table");
-    let blank = Blank::new(ticket_parts(accepted.domain(), 1, 2));
-    several::<Brand, _>(&rt, rt.alloc(), &accepted, blank);
-    drop(accepted);
+    run_over(
+        &rt,
+        rt.alloc(),
+        policed(rt.alloc()),
+        (1, 1, 2),
+        Row::Several,
+    );
 }

@@ -2,11 +2,16 @@ ghost use Rattle.std.specs.Prelude.{◌≡◌, ◌≤◌, ◌^◌, All, IsTrue, 
 ghost use Rattle.meter_fabric_base.specs.Travels.{next_site};
 ghost use Rattle.meter_fabric.specs.Fabrics.{fabric_of, parts_of};
 
+use crate::rows::closing_rows::{cuts, unfitted};
+use crate::rows::site_rows::{cuts_all, fills, shuts_late};
+use crate::rows::slot_rows::{several, shuts, slots};
 use af_marker::Dscp;
 use ds_checker::Accepted;
 use dsedge_texts::accept;
 use meter_book::{Chapter, Journal};
-use meter_fabric::{Fabric, FabricLedger, Pass, Traveller, Visit, Ways, contract_of};
+use meter_fabric::{
+    Fabric, FabricLedger, FabricWork, Pass, Traveller, Visit, Ways, contract_of, with_fabric,
+};
 use moment_core::{Moment, PacketSize};
 use std::alloc::Global;
 use std::process::Abort;
@@ -39,6 +44,100 @@ pub fn opened<'a, L: FabricLedger>(
     requires room { (1 ≤ capacity) × (capacity ≤ 2 ^ 20) }
 {
     Fabric::new(alloc, blank, accepted.domain(), 1, capacity, 2).ok()
+}
+
+/// A fabric over a table as a row finds it: with the pass that the row takes, and the others.
+#[derive(Drop)]
+pub struct Stand<'t, 'f, L: FabricLedger> {
+    pub pass: Pass<L>,
+    pub others: Vec<Pass<L>>,
+    pub fabric: Fabric<'f, L>,
+    pub accepted: &'t Accepted,
+}
+
+/// What is done with a fabric to which no visit was made.
+#[derive(Clone, Copy)]
+pub enum Row {
+    Cuts,
+    Unfitted,
+    Slots,
+    Shuts,
+    Several,
+    CutAll,
+    ShutLate,
+    Fill,
+}
+
+/// The work of a row over a table.
+#[derive(Drop)]
+struct Work<'a, R: Wait + Abort> {
+    rt: &'a R,
+    alloc: Global,
+    accepted: &'a Accepted,
+    row: Row,
+}
+
+impl<R: Wait + Abort> FabricWork for Work<'_, R> {
+    type Done = ();
+
+    fn work<L: FabricLedger + Send + Sync>(self, fabric: Fabric<'_, L>, passes: Vec<Pass<L>>) {
+        run(self.rt, self.alloc, self.accepted, fabric, passes, self.row);
+    }
+}
+
+/// Does what a row says.
+fn run<L: FabricLedger, R: Wait + Abort>(
+    rt: &R,
+    alloc: Global,
+    accepted: &Accepted,
+    fabric: Fabric<'_, L>,
+    passes: Vec<Pass<L>>,
+    row: Row,
+) {
+    let mut others = passes;
+    let pass = popped(rt, &mut others);
+    let stand = Stand {
+        pass,
+        others,
+        fabric,
+        accepted,
+    };
+    match row {
+        Row::Cuts => cuts(rt, alloc, stand),
+        Row::Unfitted => unfitted(rt, alloc, stand),
+        Row::Slots => slots(rt, alloc, stand),
+        Row::Shuts => shuts(rt, alloc, stand),
+        Row::Several => several(rt, alloc, stand),
+        Row::CutAll => cuts_all(rt, alloc, stand),
+        Row::ShutLate => shuts_late(rt, alloc, stand),
+        Row::Fill => fills(rt, alloc, stand),
+    }
+}
+
+/// Runs a row over a fabric of a table, which has so many slots, whose books take so many open rows, and which has so
+/// many passes.
+pub fn run_over<R: Wait + Abort>(
+    rt: &R,
+    alloc: Global,
+    accepted: Option<Accepted>,
+    size: (u32, u32, u32),
+    row: Row,
+)
+    requires edges { size.0 ≤ 65536 }
+    requires room { (1 ≤ size.1) × (size.1 ≤ 2 ^ 20) }
+    requires passes { (1 ≤ size.2) × (size.2 ≤ 64) }
+{
+    let (edges, capacity, passes) = size;
+    let accepted = accepted.expect(rt, "a table");
+    let work = Work {
+        rt,
+        alloc,
+        accepted: &accepted,
+        row,
+    };
+    let done = with_fabric(alloc, accepted.domain(), edges, capacity, passes, work);
+    assert!(rt; done.is_ok());
+    drop(accepted);
 }
 
 /// A moment.
@@ -92,42 +191,26 @@ pub fn visit<L: FabricLedger, R: Wait>(
     }
 }
 
-/// The first visit of a packet of a number, at a moment.
-pub fn enter<L: FabricLedger, R: Wait + Abort>(
-    rt: &R,
-    alloc: Global,
-    fabric: &Fabric<'_, L>,
-    accepted: &Accepted,
-    pass: &mut Pass<L>,
-    (number, nanoseconds): (u64, u64),
-) -> (Traveller, u8) {
-    let packet = packet(rt, alloc, accepted, number);
-    visit(rt, fabric, pass, packet, moment(rt, nanoseconds))
-}
-
 /// Expects of the first visit of a packet of a number, at a moment, the number of its fault or 0: the traveller.
 pub fn entered<L: FabricLedger, R: Wait + Abort>(
     rt: &R,
     alloc: Global,
-    fabric: &Fabric<'_, L>,
-    accepted: &Accepted,
-    pass: &mut Pass<L>,
+    stand: &mut Stand<'_, '_, L>,
     (number, nanoseconds, wanted): (u64, u64, u8),
 ) -> Traveller {
-    let (traveller, code) = enter(rt, alloc, fabric, accepted, pass, (number, nanoseconds));
-    assert!(rt; code == wanted);
-    traveller
+    let packet = packet(rt, alloc, stand.accepted, number);
+    visited(rt, stand, packet, (nanoseconds, wanted))
 }
 
 /// Expects of a traveller's visit at a moment the number of its fault or 0: the traveller.
 pub fn visited<L: FabricLedger, R: Wait + Abort>(
     rt: &R,
-    fabric: &Fabric<'_, L>,
-    pass: &mut Pass<L>,
+    stand: &mut Stand<'_, '_, L>,
     traveller: Traveller,
     (nanoseconds, wanted): (u64, u8),
 ) -> Traveller {
-    let (traveller, code) = visit(rt, fabric, pass, traveller, moment(rt, nanoseconds));
+    let moment = moment(rt, nanoseconds);
+    let (traveller, code) = visit(rt, &stand.fabric, &mut stand.pass, traveller, moment);
     assert!(rt; code == wanted);
     traveller
 }
@@ -160,6 +243,18 @@ pub fn shut<L: FabricLedger, R: Wait + Abort>(
         Ok(ended) => Ok(ended.end().get()),
         Err(fault) => Err(fault.code()),
     }
+}
+
+/// The journals that a row's fabric closes to.
+pub fn all_closed<L: FabricLedger, R: Wait + Abort>(
+    rt: &R,
+    alloc: Global,
+    stand: Stand<'_, '_, L>,
+    chapters: Vec<Chapter>,
+) -> Vec<Journal> {
+    let mut passes = stand.others;
+    passes.push(stand.pass).expect(rt, "memory");
+    closed(rt, alloc, stand.fabric, passes, chapters)
 }
 
 /// The journals that a fabric closes to.
