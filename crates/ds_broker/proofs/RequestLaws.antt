@@ -12,36 +12,18 @@ AreSomeOf-more [] command asked some = tt
 AreSomeOf-more (first ∷ accepted) command asked some = inr some
 
 -- the accepted ones, and where they lead
-record Accepts (b : Book) (asked : List Command) (end : Book) : Type 0 where
-  pub accepted : List Command
-  pub some : AreSomeOf accepted asked
-  pub unrefused : AreUnrefused b accepted
-  pub history : end ≡ record b { history = b.history ++ accepted }
-
-accepts : (b : Book) (asked : List Command) (end : Book) → LeadsTo b asked end → Accepts b asked end
-unfolding LeadsTo AreSomeOf AreUnrefused
-accepts b [] end leads = record { accepted = []; some = tt; unrefused = tt; history = leads ∙ ap (λ history. record b { history = history }) (sym (append-nil b.history)) }
-accepts b (command ∷ asked) end (inl taken) =
-    let rest = accepts (with_command b command) asked end taken.1 in record {
-      accepted = command ∷ rest.accepted;
-      some = inl (refl, rest.some);
-      unrefused = (taken.0, rest.unrefused);
-      history = rest.history ∙ ap (λ history. record b { history = history }) (append_assoc b.history (command ∷ []) rest.accepted);
-    }
-accepts b (command ∷ asked) end (inr refused) =
-    let rest = accepts b asked end refused in record {
-      accepted = rest.accepted;
-      some = AreSomeOf-more rest.accepted command asked rest.some;
-      unrefused = rest.unrefused;
-      history = rest.history;
-    }
+fold_of : (b : Book) (asked : List Command) (end : Book) (accepted : List Command) → AreSomeOf accepted asked → AreUnrefused b accepted → end ≡ record b { history = b.history ++ accepted }
+    → IsFoldOfAccepted b asked end
+fold_of b asked end accepted some unrefused history =
+    record { accepted = accepted; some = some; unrefused = unrefused; history = history; stands = ap standing history ∙ standing-append b.history accepted }
 
 pub accepted_fold : (b : Book) (asked : List Command) (end : Book) → LeadsTo b asked end → IsFoldOfAccepted b asked end
-accepted_fold b asked end leads =
-    let found = accepts b asked end leads in record {
-      accepted = found.accepted;
-      some = found.some;
-      unrefused = found.unrefused;
-      history = found.history;
-      stands = ap standing found.history ∙ standing-append b.history found.accepted;
-    }
+unfolding LeadsTo AreSomeOf AreUnrefused
+accepted_fold b [] end leads = fold_of b [] end [] tt tt (leads ∙ ap (λ history. record b { history = history }) (sym (append-nil b.history)))
+accepted_fold b (command ∷ asked) end (inl taken) =
+    let rest = accepted_fold (with_command b command) asked end taken.1 in
+    fold_of b (command ∷ asked) end (command ∷ rest.accepted) (inl (refl, rest.some)) (taken.0, rest.unrefused)
+    (rest.history ∙ ap (λ history. record b { history = history }) (append_assoc b.history (command ∷ []) rest.accepted))
+accepted_fold b (command ∷ asked) end (inr refused) =
+    let rest = accepted_fold b asked end refused in
+    fold_of b (command ∷ asked) end rest.accepted (AreSomeOf-more rest.accepted command asked rest.some) rest.unrefused rest.history
