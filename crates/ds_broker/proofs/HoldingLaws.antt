@@ -1,8 +1,6 @@
 -- What is held, as lists of ids and contracts: where the contract of an id stands in them, and what becomes of them.
-use Rattle.std.proofs.Common.{◌≡◌, ◌⊎◌, ◌≤◌, ◌<◌, ℕ, zero, suc, true, List, [], ◌∷◌, Option, None, Some, refl, ap, arith, inl, inr, ◌++◌, sym, ◌∙◌}
-use Rattle.std.specs.Prelude.{length, map, nat_eq, slice_get, slice_index_or}
+use Rattle.std.proofs.Common.{◌≡◌, ◌⊎◌, ◌≤◌, ◌<◌, ℕ, zero, suc, true, List, [], ◌∷◌, Option, None, Some, refl, ap, arith, inl, inr, ◌++◌, sym, ◌∙◌, length, map, nat_eq, slice_get, slice_index_or, set}
 use Rattle.std.specs.List.{AllByRecursion, remove}
-use Rattle.std.proofs.Math.ListN.{set}
 use Rattle.std.proofs.lemmas.Bool.{cases_Bool}
 use Rattle.ds_domain_base.specs.Domains.{Domain}
 use Rattle.ds_domain_base.specs.Lifetimes.{IsInOrder}

@@ -1,6 +1,5 @@
 -- A contract that the checker refuses beside the others cannot be carried by any certificate.
-use Rattle.std.proofs.Common.{◌≡◌, Bool, true, false, List, Option, None, Some}
-use Rattle.std.specs.Prelude.{option_map, if◌then◌else◌}
+use Rattle.std.proofs.Common.{◌≡◌, Bool, true, false, List, Option, None, Some, option_map, if◌then◌else◌}
 use Rattle.ds_domain_base.specs.declared.contract.Contract.{Contract}
 use Rattle.ds_domain_base.specs.declared.fault.DomainFault.{DomainFault}
 use Rattle.ds_certificate.specs.Columns.{Bound}

@@ -1,10 +1,6 @@
 -- What the fields of a book keep is kept by each command.
-use Rattle.std.proofs.Common.{◌≡◌, ◌<◌, ◌≤◌, ◌+◌, ℕ, true, false, List, [], ◌∷◌, ◌++◌, None, Some, sym, ap, subst, ◌∙◌, arith, refl}
-use Rattle.std.specs.Prelude.{cond, length, max, nat_le, slice_get}
-use Rattle.std.proofs.Common.{append-nil, append_assoc}
-use Rattle.std.proofs.Math.ListN.{set}
+use Rattle.std.proofs.Common.{◌≡◌, ◌<◌, ◌≤◌, ◌+◌, ℕ, true, false, List, [], ◌∷◌, ◌++◌, None, Some, sym, ap, subst, ◌∙◌, arith, refl, cond, length, max, nat_le, slice_get, append-nil, append_assoc, set, bytes_eq, leb-false}
 use Rattle.std.specs.List.{IsDistinct, list_any, remove}
-use Rattle.std.specs.Str.{bytes_eq}
 use Rattle.std.proofs.lemmas.Cmp.{nat_list_eq_equiv}
 use Rattle.std.proofs.lemmas.List.{map-append, length_push}
 use Rattle.std.proofs.lemmas.Map.Keys.{IsDistinct-push}
@@ -27,7 +23,6 @@ use Rattle.ds_broker.proofs.NameLaws.{any-names, apart-retired, held-push, held-
 use Rattle.ds_broker.proofs.RefusalLaws.{passed, roomy, unfilled}
 use Rattle.ds_broker.proofs.StandingLaws.{standing-push}
 use Rattle.ds_broker.proofs.TableLaws.{own-domain}
-use Rattle.std.proofs.lemmas.Bool.{leb-false}
 
 -- nothing stood against one command more
 pub AreUnrefused-push : (b : Book) (commands : List Command) (command : Command) → AreUnrefused b commands → refusal_in (record b { history = b.history ++ commands }) command ≡ None

@@ -1,6 +1,5 @@
 -- Where each contract that is reserved has its rates, each that was ever granted has them: they do not change.
-use Rattle.std.proofs.Common.{Bool, true, false, List, [], ◌∷◌, ℕ}
-use Rattle.std.specs.Prelude.{cond, fold, nat_eq}
+use Rattle.std.proofs.Common.{Bool, true, false, List, [], ◌∷◌, ℕ, cond, fold, nat_eq}
 use Rattle.std.specs.List.{AllByRecursion}
 use Rattle.ds_domain_base.specs.Domains.{Domain}
 use Rattle.ds_domain_base.specs.declared.contract.Contract.{Contract}

@@ -1,6 +1,5 @@
 -- What stands against a command, test by test.
-use Rattle.std.proofs.Common.{◌≡◌, ◌≤◌, ℕ, Bool, true, false, Option, None, Some, Result, Ok, Err, refl, sym, ap, ◌∙◌, arith}
-use Rattle.std.specs.Prelude.{MatchResult, is_none, nat_lt, if◌then◌else◌}
+use Rattle.std.proofs.Common.{◌≡◌, ◌≤◌, ℕ, Bool, true, false, Option, None, Some, Result, Ok, Err, refl, sym, ap, ◌∙◌, arith, MatchResult, is_none, nat_lt, if◌then◌else◌, ltb-false}
 use Rattle.std.specs.Result.{result_err}
 use Rattle.ds_domain_base.specs.Faults.{fault_at}
 use Rattle.ds_domain_base.specs.Fitting.{way_fault}
@@ -20,7 +19,6 @@ use Rattle.ds_broker.specs.declared.command.Command.TheVariants.{Reserve, Releas
 use Rattle.ds_broker.specs.declared.refusal.BrokerRefusal.{BrokerRefusal}
 use Rattle.ds_broker.specs.Refusals.{contract_fault, ends_early, fault_or, free_from, hold_left, refusal_in, refusal_or_checked, release_refusal, release_refusal_at, retire_refusal, retire_refusal_at, room_refusal}
 use Rattle.ds_broker.specs.declared.refusal.BrokerRefusal.TheVariants.{AlreadyReleased, HistoryFull, NotReleased, TableFull}
-use Rattle.std.proofs.lemmas.Bool.{ltb-false}
 use Rattle.std.proofs.lemmas.Option.{none-some}
 
 pub fault-twice : (b : Book) (c : Contract) → is_held c.name (held_of b) ≡ true → contract_fault b c ≡ Some (fault_at kinds.Twice sections.Contract 0 fields.Name)

@@ -1,6 +1,5 @@
 -- What an accepted command changes in the table of its book, and in the flows of its contracts.
-use Rattle.std.specs.Prelude.{ℕ, ◌≡◌, ◌<◌, ⊤, false, true, List, [], ◌∷◌, ◌++◌, length, None}
-use Rattle.std.specs.List.{remove}
+use Rattle.std.specs.Prelude.{ℕ, ◌≡◌, ◌<◌, ⊤, false, true, List, [], ◌∷◌, ◌++◌, length, None, remove}
 use Rattle.ds_domain_base.specs.Routes.{route_of}
 use Rattle.ds_checker.specs.Acceptance.{Table, refusal_of}
 use Rattle.ds_checker.specs.Changes.{with_contract, with_lifetime, without_contract}

@@ -1,6 +1,5 @@
 -- The accepted commands of a broker's book, one after the other, and what stands in the book behind them.
-use Rattle.std.specs.Prelude.{ℕ, ◌+◌, Bool, true, false, max, min, List, [], ◌∷◌, ◌++◌, fold, nat_eq, Option, None}
-use Rattle.std.specs.Prelude.{Some, if◌then◌else◌}
+use Rattle.std.specs.Prelude.{ℕ, ◌+◌, Bool, true, false, max, min, List, [], ◌∷◌, ◌++◌, fold, nat_eq, Option, None, Some, if◌then◌else◌}
 use Rattle.ds_domain_base.specs.declared.contract.Contract.{Contract}
 use Rattle.ds_broker.specs.declared.command.Command.{Command}
 use Rattle.ds_broker.specs.declared.command.Command.TheVariants.{Reserve, Release, Retire}

@@ -1,7 +1,6 @@
 -- What the fields of a book stand for, and what they keep.
-use Rattle.std.specs.Prelude.{ℕ, Bool, true, ◌≡◌, ◌<◌, ◌≤◌, List, [], length, map, max, None}
+use Rattle.std.specs.Prelude.{ℕ, Bool, true, ◌≡◌, ◌<◌, ◌≤◌, List, [], length, map, max, None, bytes_eq}
 use Rattle.std.specs.List.{AllByRecursion, IsDistinct, list_any}
-use Rattle.std.specs.Str.{bytes_eq}
 use Rattle.ds_domain_base.specs.Domains.{Domain}
 use Rattle.ds_domain_base.specs.Lifetimes.{IsInOrder}
 use Rattle.ds_domain_base.specs.declared.contract.Contract.{Contract}

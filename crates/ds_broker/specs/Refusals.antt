@@ -1,6 +1,5 @@
 -- Why a broker's book refuses a command, memory aside: the first that stands against it.
-use Rattle.std.specs.Prelude.{◌≡◌, ◌⊎◌, ℕ, Bool, false, ◌+◌, ◌-◌, nat_lt, option_map, Option, None, Some, unwrap_or}
-use Rattle.std.specs.Prelude.{if◌then◌else◌}
+use Rattle.std.specs.Prelude.{◌≡◌, ◌⊎◌, ℕ, Bool, false, ◌+◌, ◌-◌, nat_lt, option_map, Option, None, Some, unwrap_or, if◌then◌else◌}
 use Rattle.ds_domain_base.specs.Domains.{Domain}
 use Rattle.ds_domain_base.specs.Faults.{fault_at}
 use Rattle.ds_domain_base.specs.Fitting.{way_fault}
@@ -12,8 +11,7 @@ use Rattle.ds_domain_base.specs.declared.fault.Field.TheVariants as fields
 use Rattle.ds_certificate.specs.Bounds.{least_of}
 use Rattle.ds_checker.specs.Acceptance.{refusal_of}
 use Rattle.ds_checker.specs.Holds.{hold_of}
-use Rattle.ds_broker.specs.Books.{Book, held_of, holding_of, is_held, is_history_full, is_table_full, moment_in}
-use Rattle.ds_broker.specs.Books.{table_of, with_command}
+use Rattle.ds_broker.specs.Books.{Book, held_of, holding_of, is_held, is_history_full, is_table_full, moment_in, table_of, with_command}
 use Rattle.ds_broker.specs.Histories.{Holding}
 use Rattle.ds_broker.specs.declared.command.Command.{Command}
 use Rattle.ds_broker.specs.declared.command.Command.TheVariants.{Reserve, Release, Retire}

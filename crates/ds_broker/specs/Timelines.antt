@@ -1,6 +1,5 @@
 -- Every contract that a broker's book ever granted, and for how long its share is reserved.
-use Rattle.std.specs.Prelude.{ℕ, ◌+◌, ⊤, max, nat_eq, List, [], ◌∷◌, ◌++◌, length, map, fold, None, Some}
-use Rattle.std.specs.Prelude.{if◌then◌else◌}
+use Rattle.std.specs.Prelude.{ℕ, ◌+◌, ⊤, max, nat_eq, List, [], ◌∷◌, ◌++◌, length, map, fold, None, Some, if◌then◌else◌}
 use Rattle.ds_domain_base.specs.Domains.{Domain}
 use Rattle.ds_domain_base.specs.declared.contract.Contract.{Contract}
 use Rattle.ds_certificate.specs.Bounds.{least_of}

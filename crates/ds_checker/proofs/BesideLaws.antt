@@ -1,7 +1,6 @@
 -- A table without one of its contracts, as one contract more sees it along its route.
-use Rattle.std.proofs.Common.{arith, ◌≡◌, ℕ, ◌^◌, ◌<◌, ◌≤◌, Bool, true, false, List, [], ◌∷◌, length, get_or, drop, if◌then◌else◌, nat_eq, nat_le, nat_lt, not, Option, None, Some, option_map, refl, sym, ap, subst, ◌∙◌}
+use Rattle.std.proofs.Common.{arith, ◌≡◌, ℕ, ◌^◌, ◌<◌, ◌≤◌, Bool, true, false, List, [], ◌∷◌, length, get_or, drop, if◌then◌else◌, nat_eq, nat_le, nat_lt, not, Option, None, Some, option_map, refl, sym, ap, subst, ◌∙◌, IfSome, IsTrue, is_none, is_some, bytes_eq}
 use Rattle.std.specs.List.{AllByRecursion, IsDistinct, fold}
-use Rattle.std.specs.Prelude.{IfSome, IsTrue, is_none, is_some}
 use Rattle.std.proofs.lemmas.List.{get_or_default, length-map}
 use Rattle.std.proofs.lemmas.List.Edits.{length-remove}
 use Rattle.ds_domain_base.specs.Domains.{Domain}
@@ -17,7 +16,6 @@ use Rattle.ds_certificate.specs.Columns.{Bound}
 use Rattle.ds_certificate.specs.Sources.{source_on}
 use Rattle.ds_certificate.specs.declared.source.Source.{Source}
 use Rattle.std.specs.Map.{keys_of}
-use Rattle.std.specs.Str.{bytes_eq}
 use Rattle.ds_checker.specs.Acceptance.{IsAcceptable, Table, refusal_of}
 use Rattle.ds_checker.specs.Besides.{Brought, IsBeside, IsLeft, IsNameless, Offer, brought_at, rest_of, with_held}
 use Rattle.ds_checker.specs.Changes.{lasting, on_terms, with_contract, without_contract}

@@ -1,11 +1,9 @@
 -- Laws of the tests of bounds.
-use Rattle.std.proofs.Common.{◌≡◌, ℕ, suc, ◌+◌, ◌-◌, ◌*◌, ◌<◌, ◌≤◌, ◌^◌, ◌++◌, ◌&&◌, nat_eq, length, drop, get_or, map, List, [], ◌∷◌, Bool, true, false, is_none, is_some, Option, None, Some, if◌then◌else◌, nat_le, nat_lt, ◌⊎◌, inl, inr, refl, sym, ap, ◌∙◌, arith}
+use Rattle.std.proofs.Common.{◌≡◌, ℕ, suc, ◌+◌, ◌-◌, ◌*◌, ◌<◌, ◌≤◌, ◌^◌, ◌++◌, ◌&&◌, nat_eq, length, drop, get_or, map, List, [], ◌∷◌, Bool, true, false, is_none, is_some, Option, None, Some, if◌then◌else◌, nat_le, nat_lt, ◌⊎◌, inl, inr, refl, sym, ap, ◌∙◌, arith, IfSome, mul-le-mul}
 use Rattle.std.proofs.lemmas.List.{drop_all, drop_more, length-drop}
 use Rattle.std.specs.Bool.{then_some}
-use Rattle.std.specs.Prelude.{IfSome}
 use Rattle.std.specs.Option.{MatchOption, option_or}
 use Rattle.std.proofs.lemmas.Bool.Decides.{nat_tests}
-use Rattle.std.proofs.Math.Nat.{mul-le-mul}
 use Rattle.std.proofs.lemmas.Grind.{div_ceil_times}
 use Rattle.moment_core.specs.Volume.{bytes_over}
 use Rattle.moment_core.specs.declared.column.Column.{Column}

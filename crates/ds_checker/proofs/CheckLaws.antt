@@ -1,5 +1,5 @@
 -- What stands against a table, part by part.
-use Rattle.std.proofs.Common.{arith, ◌≡◌, ◌∙◌, ℕ, ◌+◌, ◌≤◌, ◌<◌, true, false, inl, nat_lt, List, drop, get_or, length, Option, None, Some, refl, ap, sym, Bool, suc, [], ◌∷◌, ◌++◌, nat_le, if◌then◌else◌, subst}
+use Rattle.std.proofs.Common.{arith, ◌≡◌, ◌∙◌, ℕ, ◌+◌, ◌≤◌, ◌<◌, true, false, inl, nat_lt, List, drop, get_or, length, Option, None, Some, refl, ap, sym, Bool, suc, [], ◌∷◌, ◌++◌, nat_le, if◌then◌else◌, subst, le-ltb, lt-ltb}
 use Rattle.std.specs.Bool.{then_some}
 use Rattle.std.specs.Option.{option_or}
 use Rattle.std.proofs.lemmas.List.{drop_all}
@@ -17,7 +17,6 @@ use Rattle.ds_checker.specs.Sums.{loads_of, sums_tests}
 use Rattle.ds_checker.specs.declared.load.Loads.{Loads}
 use Rattle.ds_checker.proofs.BoundLaws.{contracts-ended, contracts-step, first_failed-append, item_ahead, misfit-behind, or_assoc, or_none}
 use Rattle.ds_checker.proofs.LoadLaws.{sums_tests-are}
-use Rattle.std.proofs.lemmas.Bool.{le-ltb, lt-ltb}
 use Rattle.std.specs.Prelude.{IfSome, ⊤}
 use Rattle.std.specs.List.{AllByRecursion}
 use Rattle.ds_domain_base.specs.declared.parts.Meter.{Meter}

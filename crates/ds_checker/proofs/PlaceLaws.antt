@@ -1,8 +1,7 @@
 -- What sums are at the place of a name, and the first place at which a meter has too little.
-use Rattle.std.proofs.Common.{arith, ◌≡◌, ℕ, zero, suc, ◌+◌, ◌-◌, ◌<◌, ◌≤◌, Bool, true, false, nat_lt, List, [], ◌∷◌, length, set, get_or, if◌then◌else◌, Option, None, Some, option_map, refl, sym, ap, subst, ◌∙◌}
+use Rattle.std.proofs.Common.{arith, ◌≡◌, ℕ, zero, suc, ◌+◌, ◌-◌, ◌<◌, ◌≤◌, Bool, true, false, nat_lt, List, [], ◌∷◌, length, set, get_or, if◌then◌else◌, Option, None, Some, option_map, refl, sym, ap, subst, ◌∙◌, bytes_eq}
 use Rattle.std.specs.List.{AllByRecursion, IsDistinct, fold}
 use Rattle.std.specs.Option.{option_or}
-use Rattle.std.specs.Str.{bytes_eq}
 use Rattle.std.proofs.lemmas.Bool.Decides.{nat_tests}
 use Rattle.envelope_core.specs.Curve.{Curve, widened}
 use Rattle.moment_core.specs.declared.column.Column.TheVariants.{Green, All, Excess}

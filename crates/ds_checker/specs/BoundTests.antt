@@ -1,6 +1,5 @@
 -- The tests of a certificate's shape and of its bounds, contract by contract (Cruz 1991, section II).
-use Rattle.std.specs.Prelude.{ℕ, suc, ◌+◌, ◌&&◌, nat_eq, List, [], ◌∷◌, ◌++◌, length, map, Option, None}
-use Rattle.std.specs.Prelude.{Some, if◌then◌else◌}
+use Rattle.std.specs.Prelude.{ℕ, suc, ◌+◌, ◌&&◌, nat_eq, List, [], ◌∷◌, ◌++◌, length, map, Option, None, Some, if◌then◌else◌}
 use Rattle.moment_core.specs.Columns.{each_column}
 use Rattle.moment_core.specs.Volume.{bytes_over}
 use Rattle.moment_core.specs.declared.column.Column.{Column}

@@ -1,8 +1,6 @@
 -- What contracts bring to a meter, and what of it is held against what the meter has.
-use Rattle.std.specs.Prelude.{ℕ, Bool, List, [], ◌∷◌, ◌++◌, drop, filter, map, option_map, option_to_list, Option, None}
-use Rattle.std.specs.Prelude.{Some, if◌then◌else◌}
+use Rattle.std.specs.Prelude.{ℕ, Bool, List, [], ◌∷◌, ◌++◌, drop, filter, map, option_map, option_to_list, Option, None, Some, if◌then◌else◌, bytes_eq}
 use Rattle.std.specs.List.{list_any}
-use Rattle.std.specs.Str.{bytes_eq}
 use Rattle.moment_core.specs.declared.column.Column.{Column}
 use Rattle.envelope_core.specs.Curve.{Curve, total, widened}
 use Rattle.ds_domain_base.specs.Parameters.{Parameters}

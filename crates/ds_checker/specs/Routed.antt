@@ -1,6 +1,5 @@
 -- What a contract brings along a route: a share at the place of each leg. It speaks of places alone.
-use Rattle.std.specs.Prelude.{⊤, ℕ, ◌+◌, Bool, List, [], ◌∷◌, ◌++◌, map, nat_eq, slice_get, slice_index_or, slice_set}
-use Rattle.std.specs.Prelude.{Option, None, Some, if◌then◌else◌}
+use Rattle.std.specs.Prelude.{⊤, ℕ, ◌+◌, Bool, List, [], ◌∷◌, ◌++◌, map, nat_eq, slice_get, slice_index_or, slice_set, Option, None, Some, if◌then◌else◌}
 use Rattle.ds_domain_base.specs.declared.parts.Meter.{Meter}
 use Rattle.ds_domain_base.specs.declared.route.Leg.{Leg}
 use Rattle.ds_certificate.specs.Columns.{Bound, IsInRange}

@@ -1,6 +1,5 @@
 -- What is added up for each meter, share by share.
-use Rattle.std.specs.Prelude.{◌≡◌, ℕ, Bool, true, false, ⊤, ◌+◌, ◌-◌, ◌^◌, ◌≤◌, nat_eq, List, [], ◌∷◌, ◌++◌, fold, map}
-use Rattle.std.specs.Prelude.{length, option_map, option_to_list, Option, if◌then◌else◌}
+use Rattle.std.specs.Prelude.{◌≡◌, ℕ, Bool, true, false, ⊤, ◌+◌, ◌-◌, ◌^◌, ◌≤◌, nat_eq, List, [], ◌∷◌, ◌++◌, fold, map, length, option_map, option_to_list, Option, if◌then◌else◌}
 use Rattle.std.specs.List.{AllByRecursion}
 use Rattle.moment_core.specs.declared.column.Column.TheVariants.{Green, All, Excess}
 use Rattle.envelope_core.specs.Curve.{Curve, widened}

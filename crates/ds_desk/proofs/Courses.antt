@@ -1,6 +1,5 @@
 -- What acts do to a history.
-use Rattle.std.proofs.Common.{◌≡◌, ℕ, List, [], ◌∷◌, ◌++◌, fold, refl, ap, sym, option_to_list}
-use Rattle.std.proofs.Common.{subst, arith, ◌≤◌, Bool, true, false, length, take, nat_le, MatchBool}
+use Rattle.std.proofs.Common.{◌≡◌, ℕ, List, [], ◌∷◌, ◌++◌, fold, refl, ap, sym, option_to_list, subst, arith, ◌≤◌, Bool, true, false, length, take, nat_le, MatchBool}
 use Rattle.std.proofs.lemmas.Bool.Decides.{nat_tests}
 use mathlib.Core.List.{IsPrefix}
 use Rattle.ds_broker.specs.declared.command.Command.{Command}

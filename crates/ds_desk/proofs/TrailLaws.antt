@@ -1,6 +1,5 @@
 -- How older pages lead to what a book holds with a command more.
-use Rattle.std.proofs.Common.{◌≡◌, ℕ, List, Option, None, Some, ap, subst, sym, ◌∙◌}
-use Rattle.std.specs.Prelude.{IfSome}
+use Rattle.std.proofs.Common.{◌≡◌, ℕ, List, Option, None, Some, ap, subst, sym, ◌∙◌, IfSome}
 use Rattle.std.specs.Arc.{arc_value}
 use Rattle.ds_checker.specs.Acceptance.{Table}
 use Rattle.ds_broker.specs.Changes.{Applies, flows_changed, table_changed}

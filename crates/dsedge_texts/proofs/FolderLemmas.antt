@@ -1,7 +1,6 @@
 -- Files in memory, one after the other.
-use Rattle.std.proofs.Common.{◌≡◌, ℕ, ◌+◌, ◌<◌, ◌≤◌, true, false, List, length, drop, get_or, Bor, None, Some, refl, ap, ◌∙◌, sym}
+use Rattle.std.proofs.Common.{◌≡◌, ℕ, ◌+◌, ◌<◌, ◌≤◌, true, false, List, length, drop, get_or, Bor, None, Some, refl, ap, ◌∙◌, sym, bytes_eq}
 use Rattle.std.proofs.lemmas.List.{at_drop_all, drop_more}
-use Rattle.std.specs.Str.{bytes_eq}
 use Rattle.dsedge_texts.specs.Readable.{held_by}
 
 -- the next file has the name

@@ -1,7 +1,5 @@
 -- The greatest value of a contract's rate or burst beside the other contracts of a domain text, and how it is written.
-use Rattle.std.specs.Prelude.{ℕ, Bool, true, false, List, [], ◌++◌, codes, insert, slice_get, Option, None, Some}
-use Rattle.std.specs.Prelude.{Result, Ok, Err}
-use Rattle.std.specs.List.{remove}
+use Rattle.std.specs.Prelude.{ℕ, Bool, true, false, List, [], ◌++◌, codes, insert, slice_get, Option, None, Some, Result, Ok, Err, remove}
 use Rattle.std.specs.Option.{option_map_or}
 use Rattle.ds_checker.specs.Acceptance.{Table, refusal_of}
 use Rattle.ds_checker.specs.Changes.{on_terms}

@@ -1,9 +1,6 @@
 -- Which files can be read whole, and the texts of several.
-use Rattle.std.specs.Prelude.{◌≡◌, ℕ, ◌^◌, nat_le, List, [], ◌∷◌, Option, None, Some, Result, Ok, Err, length}
-use Rattle.std.specs.Prelude.{if◌then◌else◌}
+use Rattle.std.specs.Prelude.{◌≡◌, ℕ, ◌^◌, nat_le, List, [], ◌∷◌, Option, None, Some, Result, Ok, Err, length, if◌then◌else◌, Contains, bytes_eq}
 use Rattle.std.specs.Borrow.{Bor}
-use Rattle.std.specs.List.{Contains}
-use Rattle.std.specs.Str.{bytes_eq}
 use Rattle.dsedge_texts.specs.declared.fault.TextFault.{TextFault}
 use Rattle.dsedge_texts.specs.declared.fault.TextFault.TheVariants.{File, NoMemory}
 

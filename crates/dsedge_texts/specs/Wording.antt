@@ -1,7 +1,6 @@
 -- How contracts, kinds of faults, columns and figures are written in what is told of them.
-use Rattle.std.specs.Prelude.{ℕ, List, [], ◌++◌, codes, decimal, position, slice_get, Option}
+use Rattle.std.specs.Prelude.{ℕ, List, [], ◌++◌, codes, decimal, position, slice_get, Option, bytes_eq}
 use Rattle.std.specs.Option.{option_map_or}
-use Rattle.std.specs.Str.{bytes_eq}
 use Rattle.ds_domain_base.specs.declared.contract.Contract.{Contract}
 use Rattle.ds_domain_base.specs.declared.fault.Kind.{Kind}
 use Rattle.ds_domain_base.specs.declared.fault.Kind.TheVariants as kinds

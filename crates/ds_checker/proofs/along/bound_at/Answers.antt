@@ -1,8 +1,7 @@
-use Rattle.std.proofs.Common.{sym, ◌∙◌}
+use Rattle.std.proofs.Common.{sym, ◌∙◌, eq-eqb, ne_eqb}
 use Rattle.std.proofs.lemmas.Slice.Zip.{Zip-more, either_empty_from_Zip}
 use Rattle.ds_checker.proofs.WalkLaws.{at-behind, at-leg, at-none}
 use Rattle.ds_checker.proofs.along.bound_at.Goals as goal
-use Rattle.std.proofs.lemmas.Bool.{eq-eqb, ne_eqb}
 
 pub returns-then-place-leg : goal.returns-then-place-leg
 returns-then-place-leg c =

@@ -1,7 +1,6 @@
-use Rattle.std.proofs.Common.{length, drop, get_or, ap, subst, ◌∙◌, refl}
+use Rattle.std.proofs.Common.{length, drop, get_or, ap, subst, ◌∙◌, refl, bytes_eq}
 use Rattle.std.specs.List.{IsDistinct}
 use Rattle.std.specs.Map.{keys_of}
-use Rattle.std.specs.Str.{bytes_eq}
 use Rattle.ds_domain_base.specs.Domains.{Domain}
 use Rattle.ds_certificate.specs.Sources.{source_on}
 use Rattle.ds_checker.proofs.BesideLaws.{inside_of, none-left, one-left, row-some, row-within}

@@ -1,6 +1,5 @@
-use Rattle.std.proofs.Common.{arith, ap, length, option_map, refl, slice_get, subst, sym, ◌∙◌}
+use Rattle.std.proofs.Common.{arith, ap, length, option_map, refl, slice_get, subst, sym, ◌∙◌, is_some}
 use Rattle.std.specs.List.{AllByRecursion}
-use Rattle.std.specs.Prelude.{is_some}
 use Rattle.std.proofs.lemmas.Slice.Zip.{Zip-more, either_empty_from_Zip}
 use Rattle.ds_certificate.specs.Bounds.{delayed}
 use Rattle.ds_checker.specs.Sums.{AreBelow}

@@ -1,5 +1,4 @@
-use Rattle.std.proofs.Common.{◌≡◌, is_none, refl, subst, sym, ap, ◌∙◌}
-use Rattle.std.specs.Prelude.{IfSome, is_some}
+use Rattle.std.proofs.Common.{◌≡◌, is_none, refl, subst, sym, ap, ◌∙◌, IfSome, is_some}
 use Rattle.ds_domain_base.specs.Routes.{route_of}
 use Rattle.ds_checker.proofs.BoundLaws.{shaped-none, shaped-route, some-if, some-then}
 use Rattle.ds_checker.proofs.bounds.shaped.Goals as goal

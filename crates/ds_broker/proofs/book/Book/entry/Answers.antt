@@ -1,5 +1,4 @@
-use Rattle.std.proofs.Common.{◌≡◌, Some, sym, ap, ◌∙◌}
-use Rattle.std.specs.Prelude.{option_map}
+use Rattle.std.proofs.Common.{◌≡◌, Some, sym, ap, ◌∙◌, option_map}
 use Rattle.ds_broker.specs.Entries.{entry_of}
 use Rattle.ds_broker.proofs.BookLaws.{contract-placed}
 use Rattle.ds_broker.proofs.book.Book.entry.Goals as goal

@@ -1,6 +1,5 @@
-use Rattle.std.proofs.Common.{arith, ap, sym, ◌∙◌}
+use Rattle.std.proofs.Common.{arith, ap, sym, ◌∙◌, unwrap_or}
 use Rattle.std.proofs.lemmas.Option.{same_Some}
-use Rattle.std.specs.Prelude.{unwrap_or}
 use Rattle.ds_checker.specs.Holds.{hold_at}
 use Rattle.ds_broker.proofs.BookLaws.{contract-placed, hold-placed}
 use Rattle.ds_broker.proofs.HoldingLaws.{holding-at}

@@ -1,5 +1,4 @@
-use Rattle.std.proofs.Common.{◌≡◌, ap, subst, ◌∙◌}
-use Rattle.std.specs.Prelude.{IfOk}
+use Rattle.std.proofs.Common.{◌≡◌, ap, subst, ◌∙◌, IfOk}
 use Rattle.ds_broker.proofs.BookLaws.{told-listed}
 use Rattle.ds_broker.proofs.book.Book.list.Goals as goal
 

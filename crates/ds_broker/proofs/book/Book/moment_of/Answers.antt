@@ -1,5 +1,4 @@
-use Rattle.std.proofs.Common.{◌≡◌, rules, ap, ◌∙◌}
-use Rattle.std.specs.Prelude.{max}
+use Rattle.std.proofs.Common.{◌≡◌, rules, ap, ◌∙◌, max}
 use Rattle.ds_broker.specs.Books.{newest_of}
 use Rattle.ds_broker.proofs.book.Book.moment_of.Goals as goal
 

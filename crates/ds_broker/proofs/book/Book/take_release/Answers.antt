@@ -1,5 +1,4 @@
-use Rattle.std.proofs.Common.{true, arith, refl, sym, ap, subst, ◌∙◌}
-use Rattle.std.proofs.Math.ListN.{set}
+use Rattle.std.proofs.Common.{true, arith, refl, sym, ap, subst, ◌∙◌, set}
 use Rattle.ds_broker.specs.Changes.{IsChange}
 use Rattle.ds_broker.specs.declared.command.Command.TheVariants.{Release}
 use Rattle.ds_broker.proofs.BookLaws.{released-length}

@@ -1,6 +1,4 @@
-use Rattle.std.proofs.Common.{true, arith, refl, sym, ap, subst, ◌∙◌}
-use Rattle.std.specs.Prelude.{cond}
-use Rattle.std.specs.Str.{bytes_eq}
+use Rattle.std.proofs.Common.{true, arith, refl, sym, ap, subst, ◌∙◌, cond, bytes_eq}
 use Rattle.ds_broker.specs.Changes.{IsChange}
 use Rattle.ds_broker.specs.declared.command.Command.TheVariants.{Reserve}
 use Rattle.ds_broker.proofs.KeptLaws.{applied, kept-reserved}

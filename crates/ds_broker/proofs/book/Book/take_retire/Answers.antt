@@ -1,6 +1,4 @@
-use Rattle.std.proofs.Common.{◌≡◌, Some, arith, get_or, refl, sym, ap, subst, ◌∙◌}
-use Rattle.std.specs.List.{remove}
-use Rattle.std.specs.Prelude.{slice_get}
+use Rattle.std.proofs.Common.{◌≡◌, Some, arith, get_or, refl, sym, ap, subst, ◌∙◌, remove, slice_get}
 use Rattle.ds_broker.specs.Books.{held_of}
 use Rattle.ds_broker.specs.Changes.{IsChange, place_in}
 use Rattle.ds_broker.specs.Histories.{Holding}

@@ -1,5 +1,4 @@
-use Rattle.std.proofs.Common.{ap, sym, ◌∙◌}
-use Rattle.std.specs.Prelude.{is_some}
+use Rattle.std.proofs.Common.{ap, sym, ◌∙◌, is_some}
 use Rattle.ds_checker.proofs.BesideLaws.{beside-first}
 use Rattle.ds_checker.proofs.WalkLaws.{some-map}
 use Rattle.ds_checker.proofs.beside.Beside.tried.Goals as goal

@@ -1,7 +1,6 @@
-use Rattle.std.proofs.Common.{rules, ◌≡◌, Some, position}
+use Rattle.std.proofs.Common.{rules, ◌≡◌, Some, position, bytes_eq}
 use Rattle.std.specs.Arc.{arc_value}
 use Rattle.std.specs.Map.{keys_of}
-use Rattle.std.specs.Str.{bytes_eq}
 use Rattle.ds_domain_base.specs.Domains.{meter_of}
 use Rattle.ds_checker.proofs.ChangeLaws.{self-of, sound-of, table}
 use Rattle.ds_checker.proofs.HeadroomLaws.{headroom-covered, headroom-found}

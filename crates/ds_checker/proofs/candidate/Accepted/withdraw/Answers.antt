@@ -1,5 +1,4 @@
-use Rattle.std.proofs.Common.{arith, rules, ◌≡◌, ◌<◌, Some, length, ap, refl, subst, sym, ◌∙◌}
-use Rattle.std.specs.List.{slice_get}
+use Rattle.std.proofs.Common.{arith, rules, ◌≡◌, ◌<◌, Some, length, ap, refl, subst, sym, ◌∙◌, slice_get}
 use Rattle.std.specs.Arc.{arc_value}
 use Rattle.ds_checker.specs.Acceptance.{Table}
 use Rattle.ds_checker.specs.Changes.{without_contract}

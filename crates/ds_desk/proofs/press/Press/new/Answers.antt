@@ -1,5 +1,4 @@
-use Rattle.std.proofs.Common.{◌≡◌, ap, rules, subst, sym, ◌∙◌}
-use Rattle.std.specs.Prelude.{length}
+use Rattle.std.proofs.Common.{◌≡◌, ap, rules, subst, sym, ◌∙◌, length}
 use Rattle.std.specs.Arc.{arc_value}
 use Rattle.ds_checker.specs.Acceptance.{Table}
 use Rattle.ds_desk.specs.Acts.{story_in}

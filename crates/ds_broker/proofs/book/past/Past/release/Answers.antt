@@ -1,5 +1,4 @@
-use Rattle.std.proofs.Common.{◌≡◌, ◌≤◌, length, rules, refl, sym, ap, subst, ◌∙◌}
-use Rattle.std.specs.Prelude.{max}
+use Rattle.std.proofs.Common.{◌≡◌, ◌≤◌, length, rules, refl, sym, ap, subst, ◌∙◌, max}
 use Rattle.ds_timeline.specs.Kept.{IsNumbered}
 use Rattle.ds_broker.specs.Timelines.{changed, ending_by}
 use Rattle.ds_broker.proofs.TakingLaws.{past-ended, past-parts}

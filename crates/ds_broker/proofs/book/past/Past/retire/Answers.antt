@@ -1,5 +1,4 @@
-use Rattle.std.proofs.Common.{◌≡◌, ◌≤◌, length, rules, refl, sym, ap, subst, ◌∙◌}
-use Rattle.std.specs.Prelude.{max}
+use Rattle.std.proofs.Common.{◌≡◌, ◌≤◌, length, rules, refl, sym, ap, subst, ◌∙◌, max}
 use Rattle.ds_timeline.specs.Kept.{IsNumbered}
 use Rattle.ds_broker.specs.Timelines.{changed, retired_at}
 use Rattle.ds_broker.proofs.TakingLaws.{past-out, past-parts}

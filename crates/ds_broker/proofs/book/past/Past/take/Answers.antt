@@ -1,5 +1,4 @@
-use Rattle.std.proofs.Common.{ap, refl, subst, sym, ◌∙◌}
-use Rattle.std.specs.Prelude.{max}
+use Rattle.std.proofs.Common.{ap, refl, subst, sym, ◌∙◌, max}
 use Rattle.ds_timeline.specs.Timelines.{routes_in}
 use Rattle.ds_broker.specs.Kept.{IsNext}
 use Rattle.ds_broker.specs.Timelines.{ending_by, retired_at}
