@@ -20,15 +20,14 @@ use Rattle.ds_conductor_base.specs.Passing.{colours_of}
 use Rattle.ds_conductor_base.specs.Streams.{ComeFrom, Stream, begun, colours_left}
 use Rattle.ds_conductor_base.proofs.HeadStartLaws.{come_both, come_none, come_sooner}
 use Rattle.ds_conductor_base.specs.declared.sent.Sent.{Sent}
-use Rattle.ds_checker.specs.Acceptance.{IsAcceptable, Table}
+use Rattle.ds_checker.specs.Acceptance.{IsAcceptable}
 use Rattle.ds_conductor_base.specs.Ways.{AreInReach}
-use Rattle.ds_visits.specs.Behind.{AreSendable}
-use Rattle.ds_visits.specs.Making.{run_behind}
-use Rattle.ds_visits.proofs.JudgingLaws.{made_run_judged}
-use Rattle.ds_visits.proofs.MarkLaws.{kept_marks}
-use Rattle.ds_visits.proofs.RunLaws.{the_run_is_behind}
-use Rattle.ds_visits.specs.Judging.{Judging, unjudged, verdict_with}
-use Rattle.pcap_capture.specs.declared.heading.Heading.{Heading}
+use Rattle.ds_runs.specs.Behind.{AreSendable}
+use Rattle.ds_runs.specs.Making.{run_behind}
+use Rattle.ds_runs.proofs.JudgingLaws.{made_run_judged}
+use Rattle.ds_runs.proofs.MarkLaws.{kept_marks}
+use Rattle.ds_runs.proofs.RunLaws.{the_run_is_behind}
+use Rattle.ds_runs.specs.Judging.{Judging, unjudged, verdict_with}
 use Rattle.ds_conductor.proofs.SendableLaws.{frames_can_be_sent}
 use Rattle.ds_conductor.specs.Markings.{IsVerdictOn, see}
 use Rattle.ds_conductor.specs.Conditionings.{IsConditioned, IsJudging, IsSeeing, IsUndecided, MayCome, held_from, newest_after, see_at}
@@ -486,14 +485,6 @@ undecided_by None c none is = is
 undecided_by (Some it) c none is = absurd cc
 
 -- ---- the verdict
-
--- the rules of a port that was made of a table's contracts at the port of a name
-pub seeing_by : (p : Port) (t : Table) (name : List ℕ) (heading : Heading) → p.accepted.now ≡ t → p.heading ≡ heading
-    → ((bytes : List ℕ) → see_at p bytes ≡ see t name heading.link bytes) → IsSeeing p
-seeing_by p t name heading table head sees = (
-  name,
-  λ bytes. sees bytes ∙ ap (λ u. see u name heading.link bytes) (sym table) ∙ ap (λ (h : Heading). see p.accepted.now name h.link bytes) (sym head),
-)
 
 -- What a judge keeps tells the verdict on a run behind what frames send.
 pub judged_by : (p : Port) (frames : List FrameValue) (judge : Judging) → IsJudging p frames judge → length frames ≤ 2 ^ 44

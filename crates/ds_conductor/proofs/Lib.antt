@@ -12,5 +12,4 @@ pub mod SeenLaws
 pub mod SendableLaws
 pub mod SizeLaws
 pub mod StampLaws
-pub mod TallyLaws
 pub mod WritingLaws

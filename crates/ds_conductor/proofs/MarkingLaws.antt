@@ -376,10 +376,6 @@ pub port_found : (is : Bool) (text name : List ℕ) → Some name ≡ cond is (S
 port_found true text name e = (refl, cc)
 port_found false text name e = absurd cc
 
-pub port_missed : (is : Bool) (text : List ℕ) → None ≡ cond is (Some text) None → is ≡ false
-port_missed true text e = absurd cc
-port_missed false text e = refl
-
 -- a port that is found is one, by its own name
 pub marked_at : (t : Table) (d : Domain) (port name : List ℕ) (red : RedRule) (bytes more before after : List ℕ) (answer : Result Report (Report × MarkFault)) → d ≡ t.domain
     → Some name ≡ cond (is_port d port) (Some port) None → IsMarkedAs t name red bytes more before after answer → IsMarked t port red bytes more before after answer

@@ -11,7 +11,7 @@ use Rattle.pcap_capture.specs.declared.heading.Endianness.TheVariants.{Big, Litt
 use Rattle.pcap_capture.specs.declared.heading.Heading.{Heading}
 use Rattle.pcap_capture.specs.declared.heading.TimeUnit.{TimeUnit}
 use Rattle.pcap_capture.specs.declared.heading.TimeUnit.TheVariants.{Microseconds, Nanoseconds}
-use Rattle.ds_visits.proofs.RunLaws.{the_run_is_behind}
+use Rattle.ds_runs.proofs.RunLaws.{the_run_is_behind}
 use Rattle.ds_conductor.specs.Laws.{ARunIsBehindEachCapture, StampsAreEarly, sent_in}
 use Rattle.ds_conductor.proofs.SendableLaws.{frames_can_be_sent}
 

@@ -13,7 +13,7 @@ use Rattle.ds_conductor_base.specs.Passing.{colours_of}
 use Rattle.ds_conductor_base.specs.Streams.{ComeFrom, colours_left, decided, next_place}
 use Rattle.ds_checker.specs.Acceptance.{IsAcceptable}
 use Rattle.ds_conductor_base.specs.Ways.{AreInReach}
-use Rattle.ds_visits.specs.Judging.{Judging, unjudged, verdict_with}
+use Rattle.ds_runs.specs.Judging.{Judging, unjudged, verdict_with}
 use Rattle.ds_conductor_base.specs.declared.sent.Sent.{Sent}
 use Rattle.ds_conductor.specs.Markings.{see}
 use Rattle.ds_conductor.specs.Seens.{seen_at}

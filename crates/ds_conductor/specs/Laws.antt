@@ -5,8 +5,8 @@ use Rattle.pcap_capture.specs.Grammar.{capture}
 use Rattle.pcap_capture.specs.declared.heading.LinkType.{LinkType}
 use Rattle.ds_checker.specs.Acceptance.{IsAcceptable, Table}
 use Rattle.ds_conductor_base.specs.declared.sent.Sent.{Sent}
-use Rattle.ds_visits.specs.Behind.{AreSendable, IsBehind}
-use Rattle.ds_visits.specs.Making.{run_behind}
+use Rattle.ds_runs.specs.Behind.{AreSendable, IsBehind}
+use Rattle.ds_runs.specs.Making.{run_behind}
 use Rattle.ds_conductor.specs.Markings.{see}
 use Rattle.ds_conductor.specs.Sendings.{sent_of}
 

@@ -13,4 +13,4 @@ pub mod Texts
 pub mod Turnings
 pub mod Writings
 -- what the clauses here cite of the crates below
-pub use Rattle.ds_conductor_base.specs.Steps
+pub use Rattle.ds_runs.specs.Steps

@@ -18,8 +18,8 @@ use Rattle.run_audit.specs.declared.verdict.Verdict.TheVariants.{Kept}
 use Rattle.frame_marker.specs.Sights.{sight_of}
 use Rattle.frame_marker.specs.declared.sight.Sight.{Sight}
 use Rattle.ds_conductor_base.specs.Passing.{colours_of}
-use Rattle.ds_visits.specs.Behind.{IsBehind}
-use Rattle.ds_visits.specs.Laws.{MarksAreSentColours}
+use Rattle.ds_runs.specs.Behind.{IsBehind}
+use Rattle.ds_runs.specs.Laws.{MarksAreSentColours}
 use Rattle.ds_conductor_base.specs.declared.sent.Sent.{Sent}
 use Rattle.ds_conductor.specs.Reports.{nothing_read, report_of, with_verdict}
 use Rattle.ds_conductor.specs.Sendings.{sent_of}

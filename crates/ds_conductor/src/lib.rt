@@ -1,7 +1,8 @@
 //! Captures whose frames are marked by the colours that their packets leave a domain's meters with (RFC 2475 section
 //! 2.3.3, RFC 2597).
 //!
-//! The calls of steps and of the gate round visits (`ds_conductor_base`) stand here too, by one name for all callers.
+//! The calls of steps (`ds_runs`) and the gate round visits (`ds_conductor_base`) stand here too, by one name for all
+//! callers.
 #![tactic(auto)]
 
 mod conditioner;
@@ -19,7 +20,8 @@ mod tally;
 pub mod turning;
 pub mod writing;
 
-pub use ds_conductor_base::{ConductFault, Conductor, Gate, OpenGate, Step, StepFault, conduct};
+pub use ds_conductor_base::{Gate, OpenGate};
+pub use ds_runs::{ConductFault, Conductor, Step, StepFault, conduct};
 pub use fault::MarkFault;
 pub use marking::mark;
 pub use report::Report;

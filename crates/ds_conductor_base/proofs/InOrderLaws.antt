@@ -2,7 +2,7 @@
 use Rattle.std.proofs.Common.{◌≡◌, ℕ, inl, inr, Bool, true, false, refl, arith}
 use Rattle.std.specs.Prelude.{◌||◌, ◌&&◌, nat_eq, nat_lt}
 use Rattle.std.proofs.lemmas.Bool.Decides.{nat_tests}
-use Rattle.run_audit.proofs.OrderLaws.{AreApart, IsOrder}
+use Rattle.meter_fabric_base.proofs.OrderLaws.{AreApart, IsOrder}
 use Rattle.ds_conductor_base.proofs.JoinLaws.{IsOrderOf}
 use Rattle.ds_conductor_base.specs.Visits.{is_before, is_same}
 use Rattle.ds_conductor_base.specs.declared.visit.Visit.{Visit}

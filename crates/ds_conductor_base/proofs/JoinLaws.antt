@@ -5,8 +5,8 @@ use Rattle.std.specs.List.{All, IsDistinct, filter}
 use Rattle.std.proofs.lemmas.List.Elements.{All-append, All-filter, All-head, All-tail}
 use Rattle.std.proofs.lemmas.List.Sorted.{All-permutation, Contains-permutation, IsPermutation-append, IsPermutation-sym, IsPermutation-trans}
 use Rattle.std.proofs.lemmas.Map.Keys.{IsDistinct-IsPermutation, apart_from_distinct}
-use Rattle.run_audit.specs.Orders.{in_order}
-use Rattle.run_audit.proofs.OrderLaws.{AreApart, Ascends, IsOrder, in_order-ascends, in_order-is, in_order-permutes}
+use Rattle.meter_fabric_base.specs.Orders.{in_order}
+use Rattle.meter_fabric_base.proofs.OrderLaws.{AreApart, Ascends, IsOrder, in_order-ascends, in_order-is, in_order-permutes}
 
 -- ---- lists that ascend
 

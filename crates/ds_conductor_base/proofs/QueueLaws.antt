@@ -9,8 +9,8 @@ use Rattle.std.proofs.lemmas.Bool.Decides.{nat_tests}
 use Rattle.std.proofs.lemmas.List.Elements.{All-from_recursion}
 use Rattle.std.proofs.lemmas.List.Sorted.{All-permutation, IsPermutation-append_left, IsPermutation-cons, IsPermutation-map, IsPermutation-refl, IsPermutation-sym, IsPermutation-trans}
 use Rattle.std.proofs.lemmas.Map.Keys.{IsDistinct-IsPermutation}
-use Rattle.run_audit.specs.Orders.{in_order}
-use Rattle.run_audit.proofs.OrderLaws.{Ascends, in_order-permutes}
+use Rattle.meter_fabric_base.specs.Orders.{in_order}
+use Rattle.meter_fabric_base.proofs.OrderLaws.{Ascends, in_order-permutes}
 use Rattle.ds_conductor_base.proofs.InOrderLaws.{visit_order}
 use Rattle.ds_conductor_base.proofs.JoinLaws.{in_order-rises, in_order-same, in_order-told}
 use Rattle.ds_conductor_base.specs.Visits.{is_before, is_same}

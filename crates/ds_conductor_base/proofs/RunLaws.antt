@@ -118,9 +118,6 @@ pub other_behind : (out run : List (Reverse Waiting)) (i : ℕ) (r s : Reverse W
 other_behind out run i r s is last d there short =
     subst (λ q. is_later (get_or run i d) q ≡ false) (sym (last_pushed out r d)) (subst (λ q. is_later q r ≡ false) (get_or_read run i s short is d) last)
 
-pub none_behind : (out run : List (Reverse Waiting)) (i : ℕ) → length out ≡ 0 → IsBehind out run i
-none_behind out run i empty d there short = absurd (omega (arith, empty, there))
-
 pub none_sorted : (out : List (Reverse Waiting)) → length out ≤ 1 → IsSorted first_on_top out
 none_sorted out empty k d low high = absurd (omega (arith, empty, high))
 

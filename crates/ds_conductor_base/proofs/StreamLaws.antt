@@ -7,8 +7,8 @@ use Rattle.std.proofs.lemmas.List.Elements.{All-append, All-nil, All-filter, All
 use Rattle.std.proofs.lemmas.List.Sorted.{All-permutation, IsPermutation-append_left, IsPermutation-filter_both, IsPermutation-refl}
 use Rattle.std.proofs.lemmas.Map.Keys.{IsDistinct-IsPermutation}
 use Rattle.meter_book_base.specs.declared.any_meter.AnyMeter.{AnyMeter}
-use Rattle.run_audit.specs.Orders.{in_order}
-use Rattle.run_audit.proofs.OrderLaws.{Ascends, in_order-permutes}
+use Rattle.meter_fabric_base.specs.Orders.{in_order}
+use Rattle.meter_fabric_base.proofs.OrderLaws.{Ascends, in_order-permutes}
 use Rattle.ds_checker.specs.Acceptance.{Table}
 use Rattle.ds_conductor_base.proofs.ApartLaws.{distinct_both, visits_differ}
 use Rattle.ds_conductor_base.proofs.InOrderLaws.{visit_order}

@@ -238,9 +238,6 @@ pub told_put : (v : Reverse Waiting) (trains : List Train) (k : ℕ) (l m : Trai
 told_put v trains k l m short is tag true put = (rows_put trains k l m v short is put.visits, (λ heap are. trains_put heap v trains k l m short is tag put are))
 told_put v trains k l m short is tag false left = (rows_kept trains k l m short is left.visits, (λ heap are. trains_left heap v trains k l m short is tag left are))
 
-pub kept_itself : (trains : List Train) → IsKept trains trains
-kept_itself trains = record { rows = refl; behind = λ heap are. are }
-
 -- one train more, which is empty
 pub kept_more : (trains before after : List Train) (l : Train) → l.visits.items ≡ [] → l.last ≡ None → after ≡ before ++ l ∷ [] → IsKept trains before → IsKept trains after
 kept_more trains before after l none last is kept = record {
@@ -272,9 +269,6 @@ trains_bound t heap trains are bound =
 pub held_none : (heap : List (Reverse Waiting)) (trains : List Train) → heap ≡ [] → trains ≡ [] → heap ++ rows_in trains ≡ []
 unfolding rows_in
 held_none heap trains first next = ap (λ us. us ++ rows_in trains) first ∙ ap (λ (ls : List Train). rows_in ls) next
-
-pub trains_none : (heap : List (Reverse Waiting)) (trains : List Train) → trains ≡ [] → AreTrains heap trains
-trains_none heap trains none k d short = absurd (omega (arith, short, ap (λ (ls : List Train). length ls) none))
 
 pub held_put : (heap after rows now : List (Reverse Waiting)) (v : Reverse Waiting) → now ≡ rows → IsPermutation (v ∷ heap) after → IsPermutation (v ∷ (heap ++ rows)) (after ++ now)
 held_put heap after rows now v same moved =

@@ -7,8 +7,8 @@ use Rattle.std.proofs.lemmas.List.{length-map}
 use Rattle.std.proofs.lemmas.List.Elements.{All-head}
 use Rattle.moment_core.specs.declared.colour.Colour.{Colour}
 use Rattle.meter_book_base.specs.declared.any_meter.AnyMeter.{AnyMeter}
-use Rattle.run_audit.specs.Orders.{in_order}
-use Rattle.run_audit.proofs.OrderLaws.{in_order-permutes}
+use Rattle.meter_fabric_base.specs.Orders.{in_order}
+use Rattle.meter_fabric_base.proofs.OrderLaws.{in_order-permutes}
 use Rattle.ds_checker.specs.Acceptance.{Table}
 use Rattle.ds_conductor_base.proofs.CountLaws.{counted_behind, counted_first, counted_left, counted_made, counted_sent}
 use Rattle.ds_conductor_base.proofs.StreamLaws.{handed_comes, handed_stream, made_more, made_stream, own_apart, sent_comes, sent_stream}

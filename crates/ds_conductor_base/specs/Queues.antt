@@ -4,7 +4,7 @@ use Rattle.std.specs.List.{IsDistinct}
 use Rattle.std.specs.List.Sorted.{IsSorted}
 use Rattle.std.specs.Vec.{vec_capacity, vec_len}
 use Rattle.std.specs.declared.cmp.Reverse.{Reverse}
-use Rattle.run_audit.specs.Orders.{in_order}
+use Rattle.meter_fabric_base.specs.Orders.{in_order}
 use Rattle.ds_conductor_base.specs.Visits.{is_before, is_same}
 use Rattle.ds_conductor_base.specs.declared.waiting.Waiting.{Waiting}
 use Rattle.ds_conductor_base.specs.declared.visit.Visit.{Visit}

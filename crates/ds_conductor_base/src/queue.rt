@@ -5,7 +5,7 @@ ghost use Rattle.std.specs.Vec.{vec_capacity, vec_len};
 ghost use Rattle.std.specs.List.{All, IsDistinct};
 ghost use Rattle.std.specs.List.Sorted.{IsSorted};
 ghost use Rattle.std.specs.declared.cmp.Reverse.{Reverse};
-ghost use Rattle.run_audit.specs.Orders.{in_order};
+ghost use Rattle.meter_fabric_base.specs.Orders.{in_order};
 ghost use Rattle.ds_conductor_base.specs.Trains.{IsFirst};
 ghost use Rattle.ds_conductor_base.specs.Visits.{is_before, is_same, visit_to};
 ghost use Rattle.ds_conductor_base.specs.Waits.{first_on_top, visits_in};

@@ -3,11 +3,11 @@ use Rattle.std.proofs.Common.{◌≡◌, ℕ, ◌+◌, List, ◌∷◌, [], None
 use Rattle.std.specs.Prelude.{IfErr}
 use Rattle.std.proofs.lemmas.List.{append-nil}
 use Rattle.ds_checker.specs.Acceptance.{Table}
-use Rattle.ds_conductor_base.specs.Conducting.{run_so_far}
-use Rattle.ds_conductor_base.specs.Steps.{Stage, refusal_of, stepped}
-use Rattle.ds_conductor_base.specs.declared.step.Step.{Step}
-use Rattle.ds_conductor_base.specs.declared.fault.StepFault.{StepFault}
-use Rattle.ds_conductor_base.specs.declared.fault.StepFault.TheVariants.{BadStep, JournalFull, NoMemory}
+use Rattle.ds_runs.specs.Conducting.{run_so_far}
+use Rattle.ds_runs.specs.Steps.{Stage, refusal_of, stepped}
+use Rattle.ds_runs.specs.declared.step.Step.{Step}
+use Rattle.ds_runs.specs.declared.fault.StepFault.{StepFault}
+use Rattle.ds_runs.specs.declared.fault.StepFault.TheVariants.{BadStep, JournalFull, NoMemory}
 use Rattle.dsedge_lines.specs.Answers.{Answer, behind}
 use Rattle.dsedge_lines.specs.declared.command.Ending.{Ending}
 use Rattle.dsedge_lines.specs.declared.command.Ending.TheVariants.{BadLine, Full}

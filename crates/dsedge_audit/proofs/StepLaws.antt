@@ -10,8 +10,8 @@ use Rattle.line_text.specs.Numbers.{leading_number_of, number_of}
 use Rattle.line_text.proofs.LineLemmas.{fields_of-some, fields_of-uncut}
 use Rattle.line_text.proofs.NumberLemmas.{number_of-other}
 use Rattle.ds_domain_base.specs.declared.contract.Contract.{Contract}
-use Rattle.ds_conductor_base.specs.declared.step.Step.{Step}
-use Rattle.ds_conductor_base.specs.declared.step.Step.TheVariants.{Send, Visit}
+use Rattle.ds_runs.specs.declared.step.Step.{Step}
+use Rattle.ds_runs.specs.declared.step.Step.TheVariants.{Send, Visit}
 use Rattle.dsedge_lines.specs.Quantities.{leading_size_of, size_in}
 use Rattle.dsedge_audit.specs.StepLines.{flow_named, step_of_fields}
 

@@ -13,10 +13,10 @@ use Rattle.run_audit.specs.Runs.{Run}
 use Rattle.run_audit.specs.Verdicts.{verdict_of}
 use Rattle.run_audit.specs.declared.verdict.Verdict.{Verdict}
 use Rattle.run_audit.specs.declared.verdict.Verdict.TheVariants.{Kept, OutsideContract, SourceOver, DelayOver, Late}
-use Rattle.ds_conductor_base.specs.Conducting.{run_so_far}
-use Rattle.ds_conductor_base.specs.Steps.{Stage, stepped}
-use Rattle.ds_conductor_base.specs.declared.fault.StepFault.{StepFault}
-use Rattle.ds_conductor_base.specs.declared.fault.StepFault.TheVariants.{BadStep, JournalFull, NoMemory}
+use Rattle.ds_runs.specs.Conducting.{run_so_far}
+use Rattle.ds_runs.specs.Steps.{Stage, stepped}
+use Rattle.ds_runs.specs.declared.fault.StepFault.{StepFault}
+use Rattle.ds_runs.specs.declared.fault.StepFault.TheVariants.{BadStep, JournalFull, NoMemory}
 use Rattle.dsedge_audit.specs.StepLines.{step_in}
 
 -- the name of a site: the meter's, or behind the meters that of the contract whose edge it is

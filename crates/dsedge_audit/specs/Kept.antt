@@ -1,8 +1,8 @@
 -- What the fields of the command stand for, and what they keep.
 use Rattle.std.specs.Prelude.{◌≡◌, Option, None, Some, IfSome}
 use Rattle.ds_checker.specs.Acceptance.{Table}
-use Rattle.ds_conductor_base.specs.Kept.{Conduct}
-use Rattle.ds_conductor_base.specs.Steps.{Stage, opened}
+use Rattle.ds_runs.specs.KeptConductors.{Conduct}
+use Rattle.ds_runs.specs.Steps.{Stage, opened}
 use Rattle.dsedge_audit.specs.declared.command.AuditCommand.TheInside as commands
 
 -- before the first step there need be no conductor

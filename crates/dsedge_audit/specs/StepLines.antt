@@ -7,8 +7,8 @@ use Rattle.line_text.specs.Numbers.{number_of}
 use Rattle.dsedge_lines.specs.Quantities.{size_in}
 use Rattle.ds_domain_base.specs.declared.contract.Contract.{Contract}
 use Rattle.meter_fabric_base.specs.Grounds.{most_flows}
-use Rattle.ds_conductor_base.specs.declared.step.Step.{Step}
-use Rattle.ds_conductor_base.specs.declared.step.Step.TheVariants.{Send, Visit}
+use Rattle.ds_runs.specs.declared.step.Step.{Step}
+use Rattle.ds_runs.specs.declared.step.Step.TheVariants.{Send, Visit}
 
 -- the number of the contract of a name, among those of which packets can be
 abbrev pub flow_named : List Contract → List ℕ → Option ℕ

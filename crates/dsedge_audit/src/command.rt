@@ -1,7 +1,7 @@
 ghost use Rattle.std.specs.Prelude.{◌≡◌, ◌++◌, ◌⊎◌, flat_map, Ok, Err, IfErr, IfOk, OnOk};
 ghost use Rattle.meter_fabric_base.specs.Grounds.{ground_of};
-ghost use Rattle.ds_conductor_base.specs.Conducting.{run_so_far};
-ghost use Rattle.ds_conductor_base.specs.Steps.{opened, stepped};
+ghost use Rattle.ds_runs.specs.Conducting.{run_so_far};
+ghost use Rattle.ds_runs.specs.Steps.{opened, stepped};
 ghost use Rattle.dsedge_lines.specs.Answers.{AnswersAll, behind};
 ghost use Rattle.dsedge_audit.specs.Audited.{accounts_line, audit_from, audit_of, ending_by, verdict_line};
 
@@ -10,7 +10,7 @@ use crate::flows::Flows;
 use crate::step_line::step;
 use crate::verdict_text::push_verdict;
 use ds_checker::Accepted;
-use ds_conductor_base::{Conductor, Step, StepFault};
+use ds_runs::{Conductor, Step, StepFault};
 use dsedge_lines::{Command, Ending};
 use run_audit::{Run, Verdict, audit};
 use std::alloc::{AllocError, Global};
@@ -28,7 +28,7 @@ pub struct AuditCommand<'a> {
 }
 
 impl<'a> Model for AuditCommand<'a> {
-    ghost use Rattle.ds_conductor_base.specs.Kept.{Conduct};
+    ghost use Rattle.ds_runs.specs.KeptConductors.{Conduct};
 
     ghost Value = { Conduct };
 

@@ -6,7 +6,7 @@ ghost use Rattle.dsedge_audit.specs.StepLines.{flow_named, step_in, step_of_fiel
 
 use crate::flows::Flows;
 use af_marker::Dscp;
-use ds_conductor_base::Step;
+use ds_runs::Step;
 use dsedge_lines::{leading_size, moment};
 use line_text::{leading_number, split_field};
 

@@ -69,22 +69,6 @@ found_inside (own ∷ flows) (x ∷ contracts) flow c is = by_test (nat_eq own f
     by_test true same behind = (0, (rw same at is))
     by_test false other behind = let more = behind (rw other at is) in (suc more.0, more.1)
 
-pub numbered_inside : (t : Table) (flows : List ℕ) (flow : ℕ) (c : Contract) → contract_of (numbered_ground t flows) flow ≡ Some c
-    → (flow < most_flows) × ((place : ℕ) × (slice_get t.contracts place ≡ Some c))
-numbered_inside t flows flow c is = by_test (nat_lt flow most_flows) refl
-  where
-    by_test : (low : Bool) → nat_lt flow most_flows ≡ low
-        → (flow < most_flows) × ((place : ℕ) × (slice_get t.contracts place ≡ Some c))
-    by_test true low =
-        let below : flow < most_flows = grind (arith, nat_tests, low) in
-        (below, found_inside flows t.contracts flow c (sym (numbered_low t flows flow below) ∙ is))
-    by_test false high =
-        let past : most_flows ≤ flow = grind (arith, nat_tests, high) in
-        absurd (none_some (numbered_past t flows flow past ∙ is))
-      where
-        none_some : None ≡ Some c → ⊥
-        none_some e = cc
-
 -- ---- flows that rise
 
 -- flows that rise do so from any place to any behind it

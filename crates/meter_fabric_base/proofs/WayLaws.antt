@@ -7,7 +7,7 @@ use Rattle.std.specs.Map.{keys_of}
 use Rattle.std.specs.Str.{bytes_eq}
 use Rattle.std.proofs.lemmas.Bool.Decides.{nat_tests}
 use Rattle.std.proofs.lemmas.List.FromFn.{length-map-range_with_len}
-use Rattle.std.proofs.lemmas.List.{drop_all, drop_more, get_or-take, length-take, map-append, take_more, take_more_set}
+use Rattle.std.proofs.lemmas.List.{drop_all, drop_more, get_or-take, length-take, take_more_set}
 use Rattle.std.proofs.lemmas.List.Quantifiers.{position-Some}
 use Rattle.std.proofs.lemmas.Map.Entries.{length-keys_of}
 use Rattle.std.proofs.lemmas.Option.{get_or_from_slice_get, slice_get-get_or, slice_get-map, slice_get_past}
@@ -179,16 +179,6 @@ way_numbered t flows flow place c kept way own at is read =
     let here : slice_get kept place ≡ Some (way_at g flow) =
     ap (λ (all : List (List Hop)). slice_get all place) own ∙ slice_get-map (way_at g) flows place ∙ ap (option_map (way_at g)) there in
     kept_at kept place way (way_at g flow) here read ∙ way_known g flow c is
-
--- one way more
-pub ways_more : (g : Ground) (flows : List ℕ) (kept next : List (List Hop)) (way : List Hop) (place : ℕ) → place < length flows → kept ≡ map (way_at g) (take place flows)
-    → next ≡ kept ++ way ∷ [] → way ≡ way_at g (get_or flows place 0) → next ≡ map (way_at g) (take (place + 1) flows)
-ways_more g flows kept next way place within so_far is own =
-    is
-    ∙ ap (λ (all : List (List Hop)). all ++ way ∷ []) so_far
-    ∙ ap (λ (w : List Hop). map (way_at g) (take place flows) ++ w ∷ []) own
-    ∙ sym (map-append (way_at g) (take place flows) (get_or flows place 0 ∷ []))
-    ∙ sym (ap (map (way_at g)) (take_more flows place 0 within))
 
 -- the way of the contract at a place
 pub way_there : (t : Table) (flows : List ℕ) (flow place : ℕ) (c : Contract) (way : List Hop) → IsStrictlyIncreasing flows → flow < most_flows

@@ -3,6 +3,7 @@ pub mod Grounds
 pub mod Kept
 pub mod Numbered
 pub mod Openings
+pub mod Orders
 pub mod Sites
 pub mod Trails
 pub mod Travels

@@ -20,7 +20,7 @@ use Rattle.run_audit.specs.Hops.{delayed_hop, is_over_leg, untimely_on}
 use Rattle.run_audit.specs.Verdicts.{against_sent, by_number, delayed, first_found, first_of, is_numbered_before, link_of_run, untimely}
 use Rattle.run_audit.specs.declared.verdict.Verdict.{Verdict}
 use Rattle.run_audit.specs.declared.verdict.Verdict.TheVariants.{DelayOver}
-use Rattle.run_audit.proofs.OrderLaws.{in_order-permutes}
+use Rattle.meter_fabric_base.proofs.OrderLaws.{in_order-permutes}
 
 pub legs_ended : (legs : List Leg) (moment : ℕ) (rs : List Receipt) → (legs ≡ []) ⊎ (rs ≡ []) → untimely_on legs moment rs ≡ None
 unfolding untimely_on

@@ -7,9 +7,9 @@ use Rattle.std.proofs.lemmas.List.{map_more, take_all}
 use Rattle.std.proofs.lemmas.List.Elements.{All-contains, All-push, All-tail, All-weaker}
 use Rattle.std.proofs.lemmas.List.Sorted.{All-permutation, Contains-permutation}
 use Rattle.run_audit.specs.Leasts.{lesser, told}
-use Rattle.run_audit.specs.Orders.{in_order}
+use Rattle.meter_fabric_base.specs.Orders.{in_order}
 use Rattle.run_audit.specs.Verdicts.{first_found, first_of}
-use Rattle.run_audit.proofs.OrderLaws.{Ascends, in_order-ascends, in_order-permutes}
+use Rattle.meter_fabric_base.proofs.OrderLaws.{Ascends, in_order-ascends, in_order-permutes}
 use Rattle.run_audit.proofs.PremiseFoundLaws.{first_found-none}
 use Rattle.run_audit.proofs.SortLaws.{Differ, either_way, key_order}
 

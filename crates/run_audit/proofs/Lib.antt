@@ -11,7 +11,6 @@ pub mod Journals
 pub mod LeastLaws
 pub mod Loads
 pub mod MemberLaws
-pub mod OrderLaws
 pub mod Passages
 pub mod Peaks
 pub mod Places
@@ -19,12 +18,12 @@ pub mod PolicedExampleLaws
 pub mod PremiseFoundLaws
 pub mod PremiseLaws
 pub mod PremiseSourceLaws
+pub mod Senders
 pub mod SoldTwiceLaws
 pub mod SortLaws
 pub mod SoundLaws
 pub mod SourceLaws
 pub mod SourceOverLaws
-pub mod Senders
 pub mod SpillLaws
 pub mod TrailTests
 pub mod Ways

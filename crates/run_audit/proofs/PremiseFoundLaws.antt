@@ -7,11 +7,11 @@ use Rattle.std.proofs.lemmas.Bool.{le-leb, leb-true, lt-ltb, ltb-true}
 use Rattle.std.proofs.lemmas.List.Elements.{All-cons, All-head, All-tail, All-weaker}
 use Rattle.std.proofs.lemmas.List.Sorted.{All-permutation, IsPermutation-sym}
 use Rattle.std.proofs.lemmas.Option.{same_Some}
-use Rattle.run_audit.specs.Orders.{in_order}
+use Rattle.meter_fabric_base.specs.Orders.{in_order}
 use Rattle.run_audit.specs.Verdicts.{first_found, first_of}
 use Rattle.run_audit.specs.declared.verdict.Verdict.{Verdict}
 use Rattle.run_audit.specs.declared.verdict.Verdict.TheVariants.{DelayOver, Kept, Late, OutsideContract, SourceOver}
-use Rattle.run_audit.proofs.OrderLaws.{in_order-permutes}
+use Rattle.meter_fabric_base.proofs.OrderLaws.{in_order-permutes}
 
 -- ---- what tests tell
 

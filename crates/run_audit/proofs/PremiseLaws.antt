@@ -19,12 +19,12 @@ use Rattle.run_audit.specs.Premises.{IsInTime, IsOver, IsTimely, KeepsLinks, Kee
 use Rattle.run_audit.specs.Runs.{IsRun, Passage, Run}
 use Rattle.run_audit.specs.Sendings.{ForSent, Sending, sending_of}
 use Rattle.run_audit.specs.Laws.{IsLeastWithout, IsSentSo}
-use Rattle.run_audit.specs.Orders.{in_order}
+use Rattle.meter_fabric_base.specs.Orders.{in_order}
 use Rattle.run_audit.specs.Verdicts.{against_sent, delayed, first_found, first_of, is_numbered_before, is_over, late_row, link_of_run, may_send, outside, skew_of_run, source_of_run, time_of, untimely, verdict_of}
 use Rattle.run_audit.specs.declared.verdict.Verdict.{Verdict}
 use Rattle.run_audit.specs.declared.verdict.Verdict.TheVariants.{Kept, OutsideContract, SourceOver, DelayOver, Late}
 use Rattle.run_audit.proofs.MemberLaws.{front_or_rest, in_front, in_rest}
-use Rattle.run_audit.proofs.OrderLaws.{Ascends, in_order-ascends, in_order-permutes}
+use Rattle.meter_fabric_base.proofs.OrderLaws.{Ascends, in_order-ascends, in_order-permutes}
 use Rattle.run_audit.proofs.SortLaws.{either_way, key_order}
 use Rattle.run_audit.proofs.PremiseFoundLaws.{Gives, IsOf, and_tells, and_then-gives, and_then-none, first_found-gives, first_gave, first_of-gives, first_of-none, if_tells, iff_trans, kept_is_none, le_tells, lt_tells, map-gives, map-none, none_along, none_in_order, of_another, premise_of, rest_gave, some_tells, unless-gives, unless_tells, verdict_found}
 use Rattle.run_audit.proofs.PremiseSourceLaws.{source-gives, source_tells}

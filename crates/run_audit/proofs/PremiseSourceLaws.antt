@@ -30,11 +30,11 @@ use Rattle.meter_fabric_base.specs.declared.trail.Receipt.{Receipt}
 use Rattle.run_audit.specs.Premises.{IsTrusted, KeepsIn, KeepsSource, KeepsSources}
 use Rattle.run_audit.specs.Runs.{Passage, Run}
 use Rattle.run_audit.specs.Sendings.{Sending, passages_of, sending_by, sending_of, sent_item, sent_items}
-use Rattle.run_audit.specs.Orders.{in_order, placed}
+use Rattle.meter_fabric_base.specs.Orders.{in_order, placed}
 use Rattle.run_audit.specs.Verdicts.{first_found, is_begun_before, over_by, over_in, overflowing, sent_in, source_of_run, over_at, was_sent_as}
 use Rattle.run_audit.specs.declared.verdict.Verdict.TheVariants.{SourceOver}
 use Rattle.run_audit.proofs.FoundLaws.{is_there}
-use Rattle.run_audit.proofs.OrderLaws.{in_order-permutes}
+use Rattle.meter_fabric_base.proofs.OrderLaws.{in_order-permutes}
 use Rattle.run_audit.proofs.PremiseFoundLaws.{IsOf, and_then-gives, and_then-none, first_found-gives, first_of-none, iff_trans, map-gives, map-none, none_along, premise_of}
 
 -- ---- a list in an order that follows a key does not fall in that key

@@ -9,7 +9,7 @@ use Rattle.std.proofs.lemmas.List.Sorted.{Contains-permutation, IsPermutation-ma
 use Rattle.std.proofs.lemmas.Map.Keys.{IsDistinct-IsPermutation}
 use Rattle.run_audit.specs.Runs.{Passage}
 use Rattle.run_audit.specs.Standings.{by_contract, stands_before}
-use Rattle.run_audit.proofs.OrderLaws.{AreApart, Ascends, IsOrder, in_order-is}
+use Rattle.meter_fabric_base.proofs.OrderLaws.{AreApart, Ascends, IsOrder, in_order-is}
 
 -- ---- elements with keys that differ
 

@@ -31,7 +31,7 @@ use Rattle.run_audit.specs.Verdicts.{first_of, is_begun_before, over_by, over_in
 use Rattle.run_audit.specs.declared.verdict.Verdict.TheVariants.{SourceOver}
 use Rattle.run_audit.proofs.BasisLaws.{counted_at}
 use Rattle.run_audit.proofs.MemberLaws.{in_filter, of_filter}
-use Rattle.run_audit.proofs.OrderLaws.{AreApart, Ascends, HasAllOf, IsOrder, in_order-ascends, in_order-is, in_order-permutes}
+use Rattle.meter_fabric_base.proofs.OrderLaws.{AreApart, Ascends, HasAllOf, IsOrder, in_order-ascends, in_order-is, in_order-permutes}
 use Rattle.run_audit.proofs.PremiseSourceLaws.{item_of, items_sent}
 use Rattle.run_audit.proofs.SortLaws.{either_stands, standing_order}
 

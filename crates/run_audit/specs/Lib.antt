@@ -9,7 +9,6 @@ pub mod Kept
 pub mod KeptColours
 pub mod Laws
 pub mod Leasts
-pub mod Orders
 pub mod PolicedExample
 pub mod Premises
 pub mod Runs

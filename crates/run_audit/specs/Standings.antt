@@ -1,7 +1,7 @@
 -- Packets contract by contract, each contract's as they are sent.
 use Rattle.std.specs.Prelude.{◌&&◌, ◌||◌, nat_eq, nat_lt, Bool, List}
 use Rattle.run_audit.specs.Runs.{Passage}
-use Rattle.run_audit.specs.Orders.{in_order}
+use Rattle.meter_fabric_base.specs.Orders.{in_order}
 use Rattle.run_audit.specs.Verdicts.{is_begun_before}
 
 abbrev pub stands_before : Passage → Passage → Bool

@@ -22,7 +22,7 @@ use Rattle.meter_fabric_base.specs.Grounds.{Ground, contract_of}
 use Rattle.meter_fabric_base.specs.declared.trail.Receipt.{Receipt}
 use Rattle.run_audit.specs.Runs.{Passage, Run}
 use Rattle.run_audit.specs.Sendings.{Sending, passages_of, sending_of, sent_items}
-use Rattle.run_audit.specs.Orders.{in_order}
+use Rattle.meter_fabric_base.specs.Orders.{in_order}
 use Rattle.run_audit.specs.declared.verdict.Verdict.{Verdict}
 use Rattle.run_audit.specs.declared.verdict.Verdict.TheVariants.{Kept, OutsideContract, SourceOver, DelayOver, Late}
 

@@ -5,7 +5,7 @@ use af_marker::Dscp;
 use ds_checker::Accepted;
 use ds_conductor::{RedRule, Report};
 use ds_conductor_base::Sent;
-use ds_visits::Judge;
+use ds_runs::Judge;
 use moment_core::{Column, Gap, Moment, PacketSize};
 use pcap_capture::SliceIntake;
 use run_audit::Verdict;

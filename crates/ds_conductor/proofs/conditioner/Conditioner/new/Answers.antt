@@ -2,7 +2,7 @@ use Rattle.std.proofs.Common.{ap, sym, subst, ◌∙◌}
 use Rattle.std.proofs.lemmas.Result.{OkIff-at_ok}
 use Rattle.ds_checker.specs.Acceptance.{IsAcceptable}
 use Rattle.ds_conductor_base.specs.Ways.{AreInReach}
-use Rattle.ds_visits.specs.Judging.{unjudged}
+use Rattle.ds_runs.specs.Judging.{unjudged}
 use Rattle.ds_conductor_base.specs.Streams.{begun}
 use Rattle.ds_conductor.proofs.ConditionLaws.{begins}
 use Rattle.ds_conductor.proofs.conditioner.Conditioner.new.Goals as goal

@@ -1,6 +1,6 @@
 use Rattle.std.proofs.Common.{List, ◌++◌, map, ap, subst, sym, ◌∙◌, arith}
 use Rattle.std.specs.List.{IsDistinct}
-use Rattle.run_audit.specs.Orders.{in_order}
+use Rattle.meter_fabric_base.specs.Orders.{in_order}
 use Rattle.ds_conductor_base.specs.Queues.{stored_in}
 use Rattle.ds_conductor_base.specs.Visits.{is_before, is_same, visit_to}
 use Rattle.ds_conductor_base.specs.declared.visit.Visit.{Visit}

@@ -1,7 +1,7 @@
 use Rattle.std.proofs.Common.{List, ap, length, subst, sym, arith}
 use Rattle.std.specs.List.{IsDistinct}
 use Rattle.std.specs.declared.cmp.Reverse.{Reverse}
-use Rattle.run_audit.specs.Orders.{in_order}
+use Rattle.meter_fabric_base.specs.Orders.{in_order}
 use Rattle.ds_conductor_base.specs.Visits.{is_before, is_same}
 use Rattle.ds_conductor_base.specs.Waits.{visits_in}
 use Rattle.ds_conductor_base.specs.declared.waiting.Waiting.{Waiting}

@@ -2,7 +2,7 @@ use Rattle.std.proofs.Common.{◌≡◌, ◌<◌, ◌++◌, ◌∷◌, List, len
 use Rattle.std.specs.List.{All, IsDistinct}
 use Rattle.std.specs.declared.cmp.Reverse.{Reverse}
 use Rattle.std.proofs.lemmas.List.Sorted.{IsPermutation-trans}
-use Rattle.run_audit.specs.Orders.{in_order}
+use Rattle.meter_fabric_base.specs.Orders.{in_order}
 use Rattle.ds_conductor_base.specs.Queues.{stored_in}
 use Rattle.ds_conductor_base.specs.Visits.{is_before, is_same}
 use Rattle.ds_conductor_base.specs.Waits.{visits_in}

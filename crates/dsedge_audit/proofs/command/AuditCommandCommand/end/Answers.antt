@@ -1,5 +1,5 @@
 use Rattle.std.proofs.Common.{◌≡◌, ap, subst, sym, ◌∙◌}
-use Rattle.ds_conductor_base.specs.Conducting.{run_so_far}
+use Rattle.ds_runs.specs.Conducting.{run_so_far}
 use Rattle.dsedge_lines.specs.Answers.{AnswersAll, behind}
 use Rattle.dsedge_audit.specs.Audited.{audit_of}
 use Rattle.dsedge_audit.proofs.AuditLaws.{last_line}

@@ -1,5 +1,0 @@
-use Rattle.ds_conductor_base.proofs.ConductedLaws.{conducted_is_run}
-use Rattle.ds_conductor_base.proofs.laws.steps_make_runs.Goals as goal
-
-pub returns : goal.returns
-returns c = conducted_is_run

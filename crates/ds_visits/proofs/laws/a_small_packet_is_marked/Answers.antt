@@ -1,5 +1,0 @@
-use Rattle.ds_visits.proofs.ExampleLaws.{small_marked}
-use Rattle.ds_visits.proofs.laws.a_small_packet_is_marked.Goals as goal
-
-pub returns : goal.returns
-returns c = small_marked

@@ -1,5 +1,0 @@
-use Rattle.ds_visits.proofs.MarkLaws.{kept_marks}
-use Rattle.ds_visits.proofs.laws.kept_marks_are_sent_colours.Goals as goal
-
-pub returns : goal.returns
-returns c = kept_marks
