@@ -7,7 +7,9 @@ use Rattle.std.proofs.lemmas.Option.{same_Some, slice_get_read, slice_get_within
 use Rattle.moment_core.specs.declared.colour.Mode.{Mode}
 use Rattle.meter_book_base.specs.declared.any_meter.Parameters.{Parameters}
 use Rattle.ds_domain_base.specs.Domains.{Domain, floor_of, link_of}
+use Rattle.ds_domain_base.specs.Routes.{leg_of, legs_along, route_of}
 use Rattle.ds_domain_base.specs.declared.contract.Contract.{Contract}
+use Rattle.ds_domain_base.specs.declared.route.Leg.{Leg}
 use Rattle.ds_domain_base.specs.declared.terms.Peak.{Peak}
 use Rattle.ds_domain_base.specs.declared.terms.Profile.{Profile}
 use Rattle.ds_domain_base.specs.declared.terms.Terms.{Terms}
@@ -50,17 +52,20 @@ none_there : (delay : ℕ) (d : Domain) (from : List ℕ) → NoneNearer delay (
 unfolding stops_along
 none_there delay d from = All-nil (IsFrom delay)
 
-path_nearest : (d : Domain) (from to : List ℕ) (path : List (List ℕ)) → slice_get path 0 ≡ Some to → NoneNearer (floor_of (link_of d from to)) (stops_along d 1 from 0 path)
-path_nearest d from to [] is = absurd cc
-path_nearest d from to (x ∷ path) is = subst (λ y. NoneNearer (floor_of (link_of d from y)) (stops_along d 1 from 0 (x ∷ path))) (same_Some x to is) (first_nearest d from x path)
+path_nearest : (d : Domain) (from : List ℕ) (path : List (List ℕ)) (leg : Leg) → slice_get (legs_along d from path) 0 ≡ Some leg → NoneNearer leg.floor (stops_along d 1 from 0 path)
+unfolding legs_along
+path_nearest d from [] leg is = absurd cc
+path_nearest d from (to ∷ path) leg is = subst (λ (l : Leg). NoneNearer l.floor (stops_along d 1 from 0 (to ∷ path))) (same_Some (leg_of d from to) leg is) (first_nearest d from to path)
 
-path_there : (delay : ℕ) (d : Domain) (from to : List ℕ) (path : List (List ℕ)) → slice_get path 0 ≡ Some to → NoneNearer delay (stops_along d 1 from 0 path) → delay ≤ floor_of (link_of d from to)
-path_there delay d from to [] is near = absurd cc
-path_there delay d from to (x ∷ path) is near = subst (λ y. delay ≤ floor_of (link_of d from y)) (same_Some x to is) (first_there delay d from x path near)
+path_there : (delay : ℕ) (d : Domain) (from : List ℕ) (path : List (List ℕ)) (leg : Leg) → slice_get (legs_along d from path) 0 ≡ Some leg → NoneNearer delay (stops_along d 1 from 0 path) → delay ≤ leg.floor
+unfolding legs_along
+path_there delay d from [] leg is near = absurd cc
+path_there delay d from (to ∷ path) leg is near = subst (λ (l : Leg). delay ≤ l.floor) (same_Some (leg_of d from to) leg is) (first_there delay d from to path near)
 
-path_none : (delay : ℕ) (d : Domain) (from : List ℕ) (path : List (List ℕ)) → slice_get path 0 ≡ None → NoneNearer delay (stops_along d 1 from 0 path)
+path_none : (delay : ℕ) (d : Domain) (from : List ℕ) (path : List (List ℕ)) → slice_get (legs_along d from path) 0 ≡ None → NoneNearer delay (stops_along d 1 from 0 path)
+unfolding legs_along
 path_none delay d from [] is = none_there delay d from
-path_none delay d from (x ∷ path) is = absurd cc
+path_none delay d from (to ∷ path) is = absurd cc
 
 -- what is policed comes to its edge at once
 edge_there : (delay : ℕ) (d : Domain) (flow : ℕ) (terms : Terms) (stops : List Stop) (parameters : Parameters) (mode : Mode) → terms ≡ Policed parameters mode
@@ -80,13 +85,13 @@ module _ (d : Domain) (flow : ℕ) (c : Contract) (committed : Profile) (peak : 
   only_path : stops_of d flow c ≡ stops_along d 1 c.port 0 c.path
   only_path = no_edge d flow c.terms (stops_along d 1 c.port 0 c.path) committed peak is
 
-  pub trusted_nearest : (to : List ℕ) → slice_get c.path 0 ≡ Some to → NoneNearer (floor_of (link_of d c.port to)) (stops_of d flow c)
-  trusted_nearest to there = subst (λ stops. NoneNearer (floor_of (link_of d c.port to)) stops) (sym only_path) (path_nearest d c.port to c.path there)
+  pub trusted_nearest : (leg : Leg) → slice_get (route_of d c).legs 0 ≡ Some leg → NoneNearer leg.floor (stops_of d flow c)
+  trusted_nearest leg there = subst (λ stops. NoneNearer leg.floor stops) (sym only_path) (path_nearest d c.port c.path leg there)
 
-  pub trusted_there : (delay : ℕ) (to : List ℕ) → slice_get c.path 0 ≡ Some to → NoneNearer delay (stops_of d flow c) → delay ≤ floor_of (link_of d c.port to)
-  trusted_there delay to there near = path_there delay d c.port to c.path there (subst (λ stops. NoneNearer delay stops) only_path near)
+  pub trusted_there : (delay : ℕ) (leg : Leg) → slice_get (route_of d c).legs 0 ≡ Some leg → NoneNearer delay (stops_of d flow c) → delay ≤ leg.floor
+  trusted_there delay leg there near = path_there delay d c.port c.path leg there (subst (λ stops. NoneNearer delay stops) only_path near)
 
-  pub trusted_none : (delay : ℕ) → slice_get c.path 0 ≡ None → NoneNearer delay (stops_of d flow c)
+  pub trusted_none : (delay : ℕ) → slice_get (route_of d c).legs 0 ≡ None → NoneNearer delay (stops_of d flow c)
   trusted_none delay none = subst (λ stops. NoneNearer delay stops) (sym only_path) (path_none delay d c.port c.path none)
 
 -- ---- the contracts of a port

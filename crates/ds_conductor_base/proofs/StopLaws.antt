@@ -2,7 +2,7 @@
 use Rattle.std.proofs.Common.{◌≡◌, ◌<◌, ◌+◌, ℕ, suc, List, [], ◌∷◌, ◌++◌, length, drop, get_or, refl, sym, ap, ◌∙◌, append_assoc, add-one, rules}
 use Rattle.std.proofs.lemmas.List.{drop_more}
 use Rattle.ds_domain_base.specs.Domains.{Domain}
-use Rattle.ds_domain_base.specs.Routes.{leg_of, legs_along}
+use Rattle.ds_domain_base.specs.Routes.{legs_along}
 use Rattle.ds_domain_base.specs.declared.route.Leg.{Leg}
 use Rattle.meter_fabric_base.specs.Sites.{site_of}
 use Rattle.ds_conductor_base.specs.Ways.{Stop, delay_over, stops_along, stops_on}

@@ -1,5 +1,6 @@
 ghost use Rattle.std.specs.Prelude.{◌≡◌, ℕ, ◌+◌, ◌*◌, ◌<◌, ◌≤◌, ◌^◌, [], IfOk, IfSome, length, min, slice_get};
 ghost use Rattle.std.specs.Prelude.{unwrap_or};
+ghost use Rattle.ds_domain_base.specs.Domains as domains;
 ghost use Rattle.ds_domain_base.specs.Routes.{route_of};
 ghost use Rattle.ds_conductor_base.specs.Ways.{AreInReach, AreNear, AreWays, IsHeadStart, NoneNearer, stops_at};
 ghost use Rattle.ds_conductor_base.specs.Ways.{stops_of};
@@ -232,42 +233,44 @@ pub fn head_start(accepted: &Accepted, port: Name) -> Gap
     ensures holds { IsHeadStart accepted.now port result }
     ensures greatest { (delay : ℕ) → delay ≤ 16 * 10 ^ 10 → IsHeadStart accepted.now port delay → delay ≤ result }
 {
-    let domain = accepted.domain();
     let contracts = flows_of(accepted);
     let mut least = furthest();
-    for contract in contracts {
-        least = lesser(least, delay_at(domain, port, contract));
+    for (place, contract) in contracts.iter().enumerate() {
+        let route = accepted.route(place);
+        least = lesser(least, delay_at(port, contract, route));
     }
     least
 }
 
-/// How long after it was sent a packet of a contract comes to its first stop, if the contract is of the port; the
-/// furthest that there is where it is not.
-fn delay_at(domain: &Domain, port: Name, contract: &Contract) -> Gap
-    ensures holds { (flow : ℕ) → contract.now.port ≡ port → NoneNearer result
-        (stops_of domain.now flow contract.now) }
-    ensures greatest { (flow delay : ℕ) → delay ≤ 16 * 10 ^ 10
-        → (contract.now.port ≡ port → NoneNearer delay (stops_of domain.now flow contract.now)) → delay ≤ result }
+/// How long after it was sent a packet of a contract with this route comes to its first stop, if the contract is of the
+/// port; the furthest that there is where it is not.
+fn delay_at(port: Name, contract: &Contract, route: &Route) -> Gap
+    ensures holds { (d : domains.Domain) (flow : ℕ) → route.now ≡ route_of d contract.now → contract.now.port ≡ port
+        → NoneNearer result (stops_of d flow contract.now) }
+    ensures greatest { (d : domains.Domain) (flow delay : ℕ) → route.now ≡ route_of d contract.now
+        → delay ≤ 16 * 10 ^ 10 → (contract.now.port ≡ port → NoneNearer delay (stops_of d flow contract.now))
+        → delay ≤ result }
 {
     if port == contract.port {
-        first_delay(domain, contract)
+        first_delay(contract, route)
     } else {
         furthest()
     }
 }
 
-/// How long after it was sent a packet of a contract comes to its first stop; the furthest that there is where it comes
-/// to none.
-fn first_delay(domain: &Domain, contract: &Contract) -> Gap
-    ensures holds { (flow : ℕ) → NoneNearer result (stops_of domain.now flow contract.now) }
-    ensures greatest { (flow delay : ℕ) → delay ≤ 16 * 10 ^ 10
-        → NoneNearer delay (stops_of domain.now flow contract.now) → delay ≤ result }
+/// How long after it was sent a packet of a contract with this route comes to its first stop; the furthest that there
+/// is where it comes to none.
+fn first_delay(contract: &Contract, route: &Route) -> Gap
+    ensures holds { (d : domains.Domain) (flow : ℕ) → route.now ≡ route_of d contract.now
+        → NoneNearer result (stops_of d flow contract.now) }
+    ensures greatest { (d : domains.Domain) (flow delay : ℕ) → route.now ≡ route_of d contract.now
+        → delay ≤ 16 * 10 ^ 10 → NoneNearer delay (stops_of d flow contract.now) → delay ≤ result }
 {
     if let Terms::Policed { .. } = contract.terms {
         return Gap::NONE;
     }
-    match contract.path.meters().first() {
-        Some(to) => domain.floor(contract.port, *to),
+    match route.legs().first() {
+        Some(leg) => leg.floor.gap(),
         None => furthest(),
     }
 }

@@ -1,11 +1,10 @@
 -- When the first packet comes to each site.
-use Rattle.std.proofs.Common.{◌≡◌, ◌⊎◌, inl, inr, ◌<◌, ◌≤◌, ◌+◌, ◌-◌, ◌^◌, ℕ, zero, suc, Bool, true, false, cond, List, [], ◌∷◌, ◌++◌, length, map, get_or, min, Option, None, Some, refl, sym, ap, subst, ◌∙◌, arith, append_assoc}
-use Rattle.std.specs.Prelude.{⊤, ◌&&◌, Contains, nat_eq, nat_le, not, slice_get, slice_set, option_map, if◌then◌else◌}
+use Rattle.std.proofs.Common.{◌≡◌, ◌⊎◌, inl, inr, ◌≤◌, ◌+◌, ◌-◌, ℕ, zero, suc, Bool, true, false, cond, List, [], ◌∷◌, ◌++◌, map, get_or, min, Option, None, Some, refl, sym, ap, subst, ◌∙◌, arith}
+use Rattle.std.specs.Prelude.{◌&&◌, Contains, nat_eq, nat_le, not, slice_get, option_map, if◌then◌else◌}
 use Rattle.std.specs.List.{All, filter}
 use Rattle.std.proofs.lemmas.Bool.Decides.{nat_tests}
 use Rattle.std.proofs.lemmas.List.Elements.{All-cons, All-contains, All-head, All-nil, All-tail, All-weaker, Contains-get_or}
 use Rattle.std.proofs.lemmas.List.Sorted.{Contains-permutation, IsPermutation-sym}
-use Rattle.ds_domain_base.specs.declared.contract.Contract.{Contract}
 use Rattle.ds_checker.specs.Acceptance.{Table}
 use Rattle.meter_fabric_base.specs.Grounds.{contract_of, ground_of}
 use Rattle.run_audit.proofs.MemberLaws.{front_or_rest, in_filter, in_front, in_map, in_none, in_rest, of_filter, of_map}
@@ -18,9 +17,10 @@ use Rattle.ds_conductor_base.specs.declared.visit.Visit.{Visit}
 use Rattle.ds_conductor_base.specs.Ways.{Stop}
 use Rattle.ds_runs.specs.Behind.{visits_at}
 use Rattle.ds_runs.specs.Judged.{first_moment}
-use Rattle.ds_runs.specs.Judging.{Judging, earliest, is_first, noted, reached, reached_along, reached_at, reached_by, spoken_at, spoken_by}
+use Rattle.ds_runs.specs.Judging.{Judging, earliest, is_first, noted, reached, reached_along, reached_at, reached_by}
 use Rattle.ds_runs.specs.declared.sender.Sender.{Sender}
-use Rattle.ds_runs.proofs.NotedLaws.{is_equal, noted_all, set_here, set_there, spoken_there}
+use Rattle.ds_runs.proofs.ListLaws.{set_here, set_there}
+use Rattle.ds_runs.proofs.NotedLaws.{is_equal, noted_all, spoken_there}
 use Rattle.ds_runs.proofs.VerdictLaws.{Climbs, visits_climb}
 
 -- ---- the earliest of numbers

@@ -1,9 +1,14 @@
 -- What the steps of a judge make of what it keeps.
-use Rattle.std.proofs.Common.{◌≡◌, ◌<◌, ◌≤◌, ◌+◌, ℕ, Bool, true, false, List, [], ◌∷◌, length, drop, get_or, Option, None, Some, refl, sym, ap, ◌∙◌}
+use Rattle.std.proofs.Common.{◌≡◌, ◌<◌, ◌≤◌, ◌+◌, ℕ, Bool, true, false, List, [], ◌∷◌, ◌++◌, length, drop, take, get_or, map, Option, None, Some, refl, sym, ap, ◌∙◌}
 use Rattle.std.specs.Prelude.{slice_get, option_and_then, option_map, unwrap_or, if◌then◌else◌}
 use Rattle.std.specs.List.{range_with_len}
-use Rattle.std.proofs.lemmas.List.{drop_all, drop_more}
+use Rattle.std.proofs.lemmas.List.{drop_all, drop_more, map_push, take_more}
+use Rattle.ds_domain_base.specs.Domains.{Domain}
+use Rattle.ds_domain_base.specs.Routes.{Route, route_of}
 use Rattle.ds_domain_base.specs.declared.contract.Contract.{Contract}
+use Rattle.ds_certificate.specs.Sources.{source_on}
+use Rattle.ds_certificate.specs.declared.source.Source.{Source}
+use Rattle.ds_certificate.proofs.RouteLaws.{source-route}
 use Rattle.ds_checker.specs.Acceptance.{Table}
 use Rattle.meter_fabric_base.specs.Grounds.{contract_of, flow_count, ground_of}
 use Rattle.meter_fabric_base.specs.Openings.{site_count}
@@ -15,7 +20,8 @@ use Rattle.ds_conductor_base.specs.Ways.{AreWays, stops_at, stops_by}
 use Rattle.ds_conductor_base.specs.declared.sent.Sent.{Sent}
 use Rattle.ds_conductor_base.specs.Ways.{Stop}
 use Rattle.ds_runs.specs.Judged.{outside_by, outside_in}
-use Rattle.ds_runs.specs.Judging.{Judging, is_first, late_told, noted, reached, reached_along, reached_by, spoken_by, told_at, verdict_now, verdict_with}
+use Rattle.ds_runs.specs.Judging.{Judging, buckets_by, is_first, late_told, noted, reached, reached_along, reached_by, silent, spoken_by, told_at, verdict_now, verdict_with}
+use Rattle.ds_runs.specs.declared.sender.Buckets.{Buckets}
 use Rattle.ds_runs.specs.declared.sender.Sender.{Sender}
 
 -- ---- stops one by one
@@ -132,3 +138,20 @@ told_late j verdict found late shown moments inside same seen is none told told_
     not_over : (o : Option Verdict) → ((over : Verdict) → o ≡ Some over → ⊥) → o ≡ None
     not_over None none = refl
     not_over (Some over) none = absurd (none over refl)
+
+-- ---- before the first packet
+
+-- one contract more, by its route
+pub silent_more : (d : Domain) (contracts : List Contract) (before after : List Sender) (place : ℕ) (c : Contract) (route : Route) (source : Source) (buckets : Option Buckets)
+    → place < length contracts → c ≡ get_or contracts place c → route ≡ route_of d c → source ≡ source_on d route c.terms → buckets ≡ buckets_by c.terms source
+    → after ≡ before ++ record { sent = false; buckets = buckets } ∷ [] → before ≡ map (silent d) (take place contracts) → after ≡ map (silent d) (take (place + 1) contracts)
+silent_more d contracts before after place c route source buckets inside is on_route along filled pushed kept =
+    let made : ◌≡◌ {A = Sender} (record { sent = false; buckets = buckets }) (silent d c) =
+    ap (λ (b : Option Buckets). let s : Sender = record { sent = false; buckets = b } in s) (filled ∙ ap (buckets_by c.terms) (along ∙ source-route d c route on_route))
+    in
+    pushed
+    ∙ ap (λ (ss : List Sender). ss ++ record { sent = false; buckets = buckets } ∷ []) kept
+    ∙ ap (λ (s : Sender). map (silent d) (take place contracts) ++ s ∷ []) made
+    ∙ sym (map_push (silent d) (take place contracts) c)
+    ∙ ap (λ (x : Contract). map (silent d) (take place contracts ++ x ∷ [])) is
+    ∙ sym (ap (map (silent d)) (take_more contracts place c inside))

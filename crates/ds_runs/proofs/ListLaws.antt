@@ -1,8 +1,9 @@
 -- Pairs of a list, a list of which one thing is put in place of another, what a test keeps of one, and elements at their
 -- places.
 use Rattle.std.proofs.Common.{◌≡◌, ◌<◌, ◌-◌, ℕ, zero, suc, Bool, true, false, cond, List, [], ◌∷◌, ◌++◌, length, length-append, get_or, map, set, Option, None, Some, refl, sym, ap, ◌∙◌, subst, subst₂, append_assoc, arith}
-use Rattle.std.specs.Prelude.{IsPermutation, slice_get, Result, Ok}
+use Rattle.std.specs.Prelude.{IsPermutation, nat_eq, slice_get, Result, Ok}
 use Rattle.std.specs.List.{All, AllPairs, filter, flat_map}
+use Rattle.std.proofs.lemmas.Bool.Decides.{nat_tests}
 use Rattle.std.proofs.lemmas.List.{get_or-map, length-map}
 use Rattle.std.proofs.lemmas.List.Elements.{All-head, All-tail}
 use Rattle.std.proofs.lemmas.List.Sorted.{IsPermutation-append_right, IsPermutation-sym, IsPermutation-to_front, sum_by-IsPermutation}
@@ -39,6 +40,12 @@ set_elsewhere (z ∷ xs) zero zero y other = absurd (other refl)
 set_elsewhere (z ∷ xs) zero (suc j) y other = refl
 set_elsewhere (z ∷ xs) (suc i) zero y other = refl
 set_elsewhere (z ∷ xs) (suc i) (suc j) y other = set_elsewhere xs i j y (λ same. other (ap suc same))
+
+pub set_there : {X : Type 0} (xs : List X) (i j : ℕ) (y : X) → nat_eq i j ≡ false → slice_get (set xs i y) j ≡ slice_get xs j
+set_there xs i j y other = set_elsewhere xs i j y (are_apart i j other)
+  where
+    are_apart : (m n : ℕ) → nat_eq m n ≡ false → ¬ (m ≡ n)
+    are_apart m n test same = grind (arith, nat_tests)
 
 pub set_same : {X : Type 0} (xs : List X) (i : ℕ) (x : X) → slice_get xs i ≡ Some x → set xs i x ≡ xs
 set_same [] i x there = refl

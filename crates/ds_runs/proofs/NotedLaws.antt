@@ -1,10 +1,9 @@
 -- What is kept of packets that are sent tells their verdict.
-use Rattle.std.proofs.Common.{◌≡◌, ◌⊎◌, inl, inr, ◌<◌, ◌≤◌, ◌+◌, ◌-◌, ◌*◌, ◌^◌, ℕ, zero, suc, Bool, true, false, cond, List, [], ◌∷◌, ◌++◌, length, map, get_or, min, take, Option, None, Some, refl, sym, ap, subst, ◌∙◌, arith}
-use Rattle.std.specs.Prelude.{⊤, ◌&&◌, AllPairs, Contains, IsPermutation, nat_eq, nat_le, nat_lt, replicate, slice_get, slice_set, option_map, option_and_then, unwrap_or, if◌then◌else◌}
-use Rattle.std.specs.List.{All, enumerate_from, filter, range_with_len}
-use Rattle.std.specs.Option.{option_flatten}
+use Rattle.std.proofs.Common.{◌≡◌, ◌≤◌, ◌+◌, ◌-◌, ◌*◌, ℕ, zero, suc, Bool, true, false, cond, List, [], ◌∷◌, map, take, Option, None, Some, refl, sym, ap, subst, ◌∙◌, arith}
+use Rattle.std.specs.Prelude.{◌&&◌, AllPairs, nat_eq, nat_lt, slice_get, slice_set, option_map, option_and_then, if◌then◌else◌}
+use Rattle.std.specs.List.{All, enumerate_from}
 use Rattle.std.proofs.lemmas.Bool.Decides.{nat_tests}
-use Rattle.std.proofs.lemmas.List.Elements.{All-cons, All-head, All-nil, All-tail, All-weaker}
+use Rattle.std.proofs.lemmas.List.Elements.{All-head}
 use Rattle.std.proofs.lemmas.List.Kept.{AllPairs-filter}
 use Rattle.std.proofs.lemmas.Option.{slice_get-map}
 use Rattle.moment_core.specs.Columns.{counts, each_column}
@@ -13,8 +12,7 @@ use Rattle.moment_core.specs.declared.column.Column.{Column}
 use Rattle.moment_core.specs.declared.column.Column.TheVariants.{Green, Excess}
 use Rattle.moment_core.specs.declared.column.Column.TheVariants as columns
 use Rattle.envelope_core.specs.Curve.{Curve}
-use Rattle.envelope_core.specs.LeakyBucket.{filled, level_with, overflow_from, overflow_of}
-use Rattle.ds_domain_base.specs.Domains.{Domain}
+use Rattle.envelope_core.specs.LeakyBucket.{filled, overflow_from}
 use Rattle.ds_domain_base.specs.Sent.{came}
 use Rattle.ds_domain_base.specs.declared.contract.Contract.{Contract}
 use Rattle.ds_domain_base.specs.declared.terms.Terms.{Terms}
@@ -24,27 +22,19 @@ use Rattle.ds_certificate.specs.Sources.{source_of}
 use Rattle.ds_certificate.specs.declared.source.Source.{Source}
 use Rattle.ds_checker.specs.Acceptance.{Table}
 use Rattle.meter_fabric_base.proofs.GroundLaws.{found_at}
-use Rattle.meter_fabric_base.specs.Grounds.{contract_of, flow_count, ground_of, most_flows}
-use Rattle.meter_fabric_base.specs.Openings.{site_count}
-use Rattle.meter_fabric_base.proofs.OrderLaws.{in_order-permutes}
+use Rattle.meter_fabric_base.specs.Grounds.{contract_of, ground_of, most_flows}
 use Rattle.run_audit.proofs.SourceLaws.{found-next, overflow-next}
 use Rattle.run_audit.specs.Verdicts.{first_found, first_of}
-use Rattle.run_audit.specs.declared.verdict.Verdict.{Verdict}
-use Rattle.run_audit.specs.declared.verdict.Verdict.TheVariants.{Kept, OutsideContract, SourceOver}
+use Rattle.run_audit.specs.declared.verdict.Verdict.TheVariants.{SourceOver}
 use Rattle.ds_conductor_base.specs.Streams.{rise_from}
-use Rattle.ds_conductor_base.specs.Visits.{is_before, later, visit_to, visits_from, visits_of}
-use Rattle.ds_conductor_base.specs.Ways.{stops_at}
 use Rattle.ds_conductor_base.specs.declared.sent.Sent.{Sent}
-use Rattle.ds_conductor_base.specs.declared.visit.Visit.{Visit}
-use Rattle.ds_conductor_base.specs.Ways.{Stop}
-use Rattle.ds_runs.specs.Behind.{visits_at}
-use Rattle.ds_runs.specs.Judged.{first_moment, is_counted, item_of, judged, late_at, late_by, outside_in, over_at, over_by, over_in, overflowing, sent_in, skew_in, source_in, time_in}
-use Rattle.ds_runs.specs.Judging.{Judging, buckets_by, earliest, empty, empty_each, is_first, late_told, noted, reached, reached_along, reached_at, reached_by, silent, spoken, spoken_at, spoken_by, told_at, told_in, told_of, unjudged, verdict_now, verdict_with, watch_in, watched, watched_by, watched_each, watched_with}
-use Rattle.ds_runs.specs.JudgedLaws.{TheJudgeTells}
+use Rattle.ds_runs.specs.Judged.{is_counted, item_of, outside_in, over_at, over_by, over_in, sent_in}
+use Rattle.ds_runs.specs.Judging.{Judging, buckets_by, empty, empty_each, noted, silent, spoken, spoken_at, spoken_by, told_at, told_in, told_of, unjudged, verdict_now, verdict_with, watch_in, watched, watched_by, watched_each, watched_with}
 use Rattle.ds_runs.specs.declared.sender.Buckets.{Buckets}
 use Rattle.ds_runs.specs.declared.sender.Sender.{Sender}
 use Rattle.ds_runs.specs.declared.watch.Watch.{Watch}
-use Rattle.ds_runs.proofs.PairLaws.{found_each, found_range, found_told}
+use Rattle.ds_runs.proofs.ListLaws.{set_here, set_there}
+use Rattle.ds_runs.proofs.PairLaws.{found_each}
 use Rattle.ds_runs.proofs.VerdictLaws.{moments_rise}
 
 -- ---- packets one after the other
@@ -79,24 +69,6 @@ outside_noted j [] = nothing_behind j.outside
 outside_noted j (s ∷ sent) = outside_noted (noted j s) sent ∙ first_again j.outside (outside_in j.table s) (first_found (outside_in j.table) sent)
 
 -- ---- an element of a list in which another is set
-
-pub set_here : {A : Type 0} (xs : List A) (i : ℕ) (x v : A) → slice_get xs i ≡ Some x → slice_get (slice_set xs i v) i ≡ Some v
-set_here [] i x v at = absurd cc
-set_here (y ∷ ys) zero x v at = refl
-set_here (y ∷ ys) (suc i) x v at = set_here ys i x v at
-
-pub set_there : {A : Type 0} (xs : List A) (i k : ℕ) (v : A) → nat_eq i k ≡ false → slice_get (slice_set xs i v) k ≡ slice_get xs k
-set_there [] i k v apart = refl
-set_there (y ∷ ys) zero zero v apart = absurd (not_itself apart)
-  where
-    not_itself : nat_eq 0 0 ≡ false → ⊥
-    not_itself same = cc
-set_there (y ∷ ys) zero (suc k) v apart = refl
-set_there (y ∷ ys) (suc i) zero v apart = refl
-set_there (y ∷ ys) (suc i) (suc k) v apart = set_there ys i k v (lower i k apart)
-  where
-    lower : (m n : ℕ) → nat_eq (suc m) (suc n) ≡ false → nat_eq m n ≡ false
-    lower m n apart = grind (arith, nat_tests)
 
 set_nowhere : {A : Type 0} (xs : List A) (i k : ℕ) (v : A) → slice_get xs k ≡ None → slice_get (slice_set xs i v) k ≡ None
 set_nowhere [] i k v none = refl

@@ -1,36 +1,14 @@
 -- Pairs of a list, and what a test finds first along one.
-use Rattle.std.proofs.Common.{◌≡◌, ◌<◌, ◌≤◌, ◌+◌, ◌-◌, ℕ, zero, suc, Bool, true, false, cond, List, [], ◌∷◌, length, map, get_or, Option, None, Some, refl, sym, ap, subst, ◌∙◌, inl, arith}
+use Rattle.std.proofs.Common.{◌≡◌, ◌<◌, ◌≤◌, ◌+◌, ◌-◌, ℕ, zero, suc, Bool, true, false, cond, List, [], ◌∷◌, length, map, get_or, Option, None, Some, refl, sym, ap, ◌∙◌, inl, arith}
 use Rattle.std.specs.Prelude.{◌&&◌, AllPairs, is_some, slice_get, option_map, option_and_then}
 use Rattle.std.specs.List.{All, enumerate_from, filter, range_with_len}
 use Rattle.std.specs.Map.{keys_of}
-use Rattle.std.proofs.lemmas.Bool.{false≢true}
-use Rattle.std.proofs.lemmas.List.{length-map}
 use Rattle.std.proofs.lemmas.List.Elements.{All-head, All-tail}
 use Rattle.std.proofs.lemmas.List.FromFn.{get_or-range_with_len, length-range_with_len}
-use Rattle.std.proofs.Math.ListN.{get_or-map}
 use Rattle.meter_fabric_base.specs.Orders.{in_order}
 use Rattle.run_audit.specs.Verdicts.{first_found, first_of}
 use Rattle.run_audit.proofs.FoundLaws.{found, not_found}
 use Rattle.meter_fabric_base.proofs.OrderLaws.{IsOrder, ascends-from_pairs, in_order-is}
-
--- ---- pairs
-
-pub pairs_from_map : {A B : Type 0} (R : B → B → Type 0) (f : A → B) (xs : List A) → AllPairs R (map f xs) → AllPairs (λ x y. R (f x) (f y)) xs
-pairs_from_map R f xs pairs i j d below short =
-    let fits : j < length (map f xs) = omega (arith, short, length-map xs f) in
-    subst (λ x. R x (f (get_or xs j d))) (get_or-map f xs i d) (subst (λ y. R (get_or (map f xs) i (f d)) y) (get_or-map f xs j d) (pairs i j (f d) below fits))
-
-pub pairs_to_map : {A B : Type 0} (R : B → B → Type 0) (f : A → B) (xs : List A) → AllPairs (λ x y. R (f x) (f y)) xs → AllPairs R (map f xs)
-pairs_to_map R f [] pairs i j d below short = absurd (omega (arith, short))
-pairs_to_map R f (x ∷ xs) pairs i j d below short =
-    let fits : j < length (x ∷ xs) = omega (arith, short, length-map (x ∷ xs) f) in
-    subst (λ u. R u (get_or (map f (x ∷ xs)) j d)) (sym (shown f (x ∷ xs) i x d (omega (arith, below, fits))))
-    (subst (λ v. R (f (get_or (x ∷ xs) i x)) v) (sym (shown f (x ∷ xs) j x d fits)) (pairs i j x below fits))
-  where
-    shown : {A B : Type 0} (f : A → B) (xs : List A) (i : ℕ) (d : A) (e : B) → i < length xs → get_or (map f xs) i e ≡ f (get_or xs i d)
-    shown f [] i d e short = absurd (omega (arith, short))
-    shown f (x ∷ xs) zero d e short = refl
-    shown f (x ∷ xs) (suc i) d e short = shown f xs i d e (omega (arith, short))
 
 -- a list of which each stands before those behind it is in order
 pub in_order-kept : {A : Type 0} (before : A → A → Bool) → IsOrder before → (xs : List A) → AllPairs (λ x y. before x y ≡ true) xs → in_order before xs ≡ xs

@@ -1,5 +1,5 @@
 -- What an audit finds of the run behind packets that are sent is found of the packets alone.
-use Rattle.std.proofs.Common.{◌≡◌, ◌<◌, ◌≤◌, ◌+◌, ◌-◌, ◌*◌, ◌^◌, ℕ, zero, suc, Bool, true, false, cond, List, [], ◌∷◌, ◌++◌, length, map, get_or, take, Option, None, Some, refl, sym, ap, subst, ◌∙◌, arith}
+use Rattle.std.proofs.Common.{◌≡◌, ◌<◌, ◌≤◌, ◌+◌, ◌-◌, ◌*◌, ◌^◌, ℕ, zero, suc, Bool, true, false, List, [], ◌∷◌, length, map, get_or, take, Option, None, Some, refl, sym, ap, subst, ◌∙◌, arith}
 use Rattle.std.specs.Prelude.{⊤, ◌&&◌, ◌||◌, AllPairs, is_some, nat_eq, nat_le, nat_lt, slice_get, option_map, option_and_then, unwrap_or, if◌then◌else◌}
 use Rattle.std.specs.List.{All, filter, range_with_len}
 use Rattle.std.proofs.lemmas.Bool.Decides.{nat_tests}
@@ -7,10 +7,8 @@ use Rattle.std.proofs.lemmas.List.{length-take}
 use Rattle.std.proofs.lemmas.List.Elements.{All-head, All-map, All-tail, All-weaker}
 use Rattle.std.proofs.lemmas.List.Kept.{AllPairs-filter}
 use Rattle.moment_core.specs.Columns.{counts, each_column}
-use Rattle.moment_core.specs.declared.colour.Colour.{Colour}
 use Rattle.moment_core.specs.declared.column.Column.{Column}
 use Rattle.moment_core.specs.Metering.{used}
-use Rattle.envelope_core.specs.Curve.{Curve}
 use Rattle.envelope_core.specs.LeakyBucket.{overflow_of}
 use Rattle.meter_book_base.specs.AnyMeter.{after_any, newest_of}
 use Rattle.meter_book_base.specs.OutputLaws.{goes_on-any}
@@ -25,7 +23,7 @@ use Rattle.ds_domain_base.specs.declared.terms.Terms.TheVariants.{Trusted, Polic
 use Rattle.ds_certificate.specs.Columns.{envelope_in}
 use Rattle.ds_certificate.specs.Sources.{source_of}
 use Rattle.ds_checker.specs.Acceptance.{Table}
-use Rattle.meter_fabric_base.specs.Grounds.{Ground, contract_of, flow_count, ground_of, most_flows}
+use Rattle.meter_fabric_base.specs.Grounds.{contract_of, flow_count, ground_of, most_flows}
 use Rattle.meter_fabric_base.specs.Openings.{opening_at, site_count}
 use Rattle.meter_fabric_base.specs.Sites.{site_of}
 use Rattle.meter_fabric_base.specs.Trails.{Packet}
@@ -33,14 +31,13 @@ use Rattle.meter_fabric_base.specs.declared.site.Opening.{Opening}
 use Rattle.meter_fabric_base.specs.declared.trail.Receipt.{Receipt}
 use Rattle.run_audit.specs.Premises.{IsTrusted}
 use Rattle.run_audit.specs.Runs.{Passage, Run}
-use Rattle.run_audit.specs.Sendings.{Sending, passages_of, sending_by, sending_of, sent_items}
-use Rattle.run_audit.proofs.BasisLaws.{table_length}
+use Rattle.run_audit.specs.Sendings.{passages_of, sending_of, sent_items}
 use Rattle.meter_fabric_base.proofs.OrderLaws.{Ascends}
 use Rattle.run_audit.proofs.PremiseSourceLaws.{item_of, items_sent}
 use Rattle.run_audit.proofs.SortLaws.{key_order}
 use Rattle.run_audit.proofs.SourceLaws.{begun_order, counts-sent}
 use Rattle.run_audit.specs.Verdicts as audits
-use Rattle.run_audit.specs.Verdicts.{against_sent, by_number, by_site, first_found, first_of, is_begun_before, is_over, may_send, outside, delayed, time_of, source_of_run, link_of_run, skew_of_run, late_row, untimely, verdict_of, was_sent_as}
+use Rattle.run_audit.specs.Verdicts.{against_sent, by_number, by_site, first_found, first_of, is_begun_before, may_send, outside, delayed, time_of, source_of_run, link_of_run, skew_of_run, late_row, untimely, was_sent_as}
 use Rattle.run_audit.specs.declared.verdict.Verdict.{Verdict}
 use Rattle.run_audit.specs.declared.verdict.Verdict.TheVariants.{Kept, OutsideContract, SourceOver, DelayOver, Late}
 use Rattle.ds_conductor_base.proofs.ApartLaws.{visits_differ}
@@ -53,11 +50,12 @@ use Rattle.ds_conductor_base.specs.declared.sent.Sent.{Sent}
 use Rattle.ds_conductor_base.specs.declared.visit.Visit.{Visit}
 use Rattle.ds_conductor_base.specs.Ways.{Stop}
 use Rattle.ds_runs.specs.Behind.{AreSendable, IsBehind, MadeItsVisits, packet_sent, visit_told, visits_at}
-use Rattle.ds_runs.specs.Judged.{first_moment, is_counted, judged, late_at, late_by, late_with, outside_by, outside_in, over_at, over_by, over_in, overflowing, sent_in, skew_in, source_in, time_in}
+use Rattle.ds_runs.specs.Judged.{first_moment, is_counted, late_at, late_with, outside_by, outside_in, over_at, over_by, over_in, sent_in, skew_in, source_in, time_in}
 use Rattle.ds_runs.specs.Judged as judgings
 use Rattle.ds_runs.specs.JudgedLaws.{TheRunIsJudged}
-use Rattle.ds_runs.proofs.PairLaws.{filter_both, found_each, found_filter, found_same, found_shown, found_told, get_through, in_order-kept, keys_counted, map_through, none_found, pairs_from_map, pairs_to_map, range_rises}
-use Rattle.ds_runs.proofs.PassageLaws.{AreMade, IsTimed, MadeOf, SentSo, are_made, filter_made, found_made, near_along, sent_so}
+use Rattle.ds_runs.proofs.ListLaws.{AllPairs-map, AllPairs-of_map}
+use Rattle.ds_runs.proofs.PairLaws.{filter_both, found_each, found_filter, found_same, found_shown, found_told, get_through, in_order-kept, keys_counted, map_through, none_found, range_rises}
+use Rattle.ds_runs.proofs.PassageLaws.{AreMade, IsTimed, MadeOf, are_made, filter_made, found_made, near_along, sent_so}
 
 -- ---- the order in which packets stand
 
@@ -103,9 +101,9 @@ moments_rise moment (s ∷ sent) rises (suc i) (suc j) d below short =
 
 passages_stand : (t : Table) (sent : List Sent) (run : Run) → AreSendable t sent → IsBehind t sent run → AllPairs (λ p q. IsSentBefore p.packet q.packet) run.passages
 passages_stand t sent run sendable behind =
-    pairs_from_map IsSentBefore (λ (p : Passage). p.packet) run.passages
+    AllPairs-of_map IsSentBefore (λ (p : Passage). p.packet) run.passages
     (subst (AllPairs IsSentBefore) (sym behind.packets)
-    (pairs_to_map IsSentBefore packet_sent sent
+    (AllPairs-map IsSentBefore packet_sent sent
     (λ i j d below short. (moments_rise 0 sent sendable.rising i j d below short, sendable.numbered i j d below short))))
 
 number_stands : (p q : Passage) → IsSentBefore p.packet q.packet → nat_lt p.packet.number q.packet.number ≡ true
@@ -369,7 +367,7 @@ sites_kept : (t : Table) (sent : List Sent) (run : Run) → IsBehind t sent run 
 sites_kept t sent run behind =
     in_order-kept (λ (j k : Journal). nat_lt j.site k.site) (key_order (λ (j : Journal). j.site)) run.journals
     (λ i j d below short. is_less (get_or run.journals i d).site (get_or run.journals j d).site
-    (pairs_from_map (λ (m n : ℕ). m < n) (λ (k : Journal). k.site) run.journals
+    (AllPairs-of_map (λ (m n : ℕ). m < n) (λ (k : Journal). k.site) run.journals
     (subst (AllPairs (λ (m n : ℕ). m < n)) (sym behind.sites)
     (AllPairs-filter (λ (m n : ℕ). m < n) (λ site. is_some (opening_at (ground_of t) site)) (range_with_len 0 (site_count t)) (range_rises 0 (site_count t)))) i j d below short))
   where

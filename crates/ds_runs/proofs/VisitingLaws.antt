@@ -27,7 +27,7 @@ use Rattle.meter_fabric_base.specs.Openings.{opening_at}
 use Rattle.ds_runs.specs.Conducting.{passage_of}
 use Rattle.ds_runs.specs.Steps.{Stage, as_step, book_at, numbers_of, put_back, some_of, visit_there, visited_at, visited_by, visited_from, with_books}
 use Rattle.ds_runs.specs.OnTheWay.{IsOnItsWay, IsUnderWay, opened_by}
-use Rattle.ds_runs.proofs.ListLaws.{AllPairs-set, flat_map-set_more, flat_map-set_same, map-set_same, same_Ok, set_elsewhere, set_here, some_of-some}
+use Rattle.ds_runs.proofs.ListLaws.{AllPairs-set, flat_map-set_more, flat_map-set_same, map-set_same, same_Ok, set_here, set_there, some_of-some}
 
 -- the packets of travellers
 abbrev pub packets_in : List Traveller → List Packet
@@ -94,13 +94,10 @@ book_here g place p hop b moment visits =
 pub same_site : (m n : ℕ) → nat_eq m n ≡ true → m ≡ n
 same_site m n test = grind (arith, nat_tests)
 
-other_site : (m n : ℕ) → nat_eq m n ≡ false → ¬ (m ≡ n)
-other_site m n test same = grind (arith, nat_tests)
-
 pub book_elsewhere : (g : Stage) (place : ℕ) (p : Traveller) (hop : Hop) (b : Book) (moment site : ℕ) → nat_eq hop.site site ≡ false
     → book_at (stage_behind g place p hop b moment) site ≡ book_at g site
 book_elsewhere g place p hop b moment site other =
-    ap some_of (set_elsewhere g.books hop.site site (Some (noted b (coming p hop moment))) (other_site hop.site site other))
+    ap some_of (set_there g.books hop.site site (Some (noted b (coming p hop moment))) other)
 
 abbrev opening_in : Book → Standing
 opening_in b = b.opening

@@ -138,11 +138,11 @@ pub(crate) fn silent_senders(alloc: Global, accepted: &Accepted) -> Result<Vec<S
 {
     let contracts = flows_of(accepted);
     let mut senders = Vec::with_capacity(alloc, contracts.len())?;
-    for contract in contracts {
-        let buckets = buckets_of(&contract.terms, Source::of(accepted.domain(), contract));
+    for (place, contract) in contracts.iter().enumerate() {
+        let source = Source::along(accepted.domain(), accepted.route(place), &contract.terms);
         senders.push(Sender {
             sent: false,
-            buckets,
+            buckets: buckets_of(&contract.terms, source),
         })?;
     }
     Ok(senders)

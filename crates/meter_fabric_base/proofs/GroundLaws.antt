@@ -1,5 +1,5 @@
 -- The contract of a flow of a table is the one at its place.
-use Rattle.std.proofs.Common.{◌≡◌, ◌+◌, ◌-◌, ◌<◌, ◌≤◌, ℕ, zero, suc, Bool, true, false, cond, List, [], ◌∷◌, length, min, take, Option, None, Some, refl, sym, ap, ◌∙◌, arith}
+use Rattle.std.proofs.Common.{◌≡◌, ◌+◌, ◌-◌, ◌<◌, ◌≤◌, ℕ, zero, suc, Bool, true, false, List, [], ◌∷◌, length, min, take, Option, None, Some, refl, sym, ap, ◌∙◌, arith}
 use Rattle.std.specs.Prelude.{nat_eq, nat_lt, ◌↔◌, is_some, IsSome, option_and_then, option_map, slice_get, if◌then◌else◌}
 use Rattle.std.specs.List.{enumerate_from, find}
 use Rattle.std.proofs.lemmas.Bool.{false≢true}

@@ -52,7 +52,10 @@ fn edge_at(accepted: &Accepted, flow: u32) -> Option<Opening>
     ensures { result ≡ option_and_then (edge_opening accepted.now.domain) (contract_of (ground_of accepted.now) flow) }
 {
     let contract = contract_of(accepted, flow)?;
-    edge_opening(accepted.domain(), contract)
+    let meter = contract.edge()?;
+    let route = accepted.route(flow as usize);
+    let skew = route.skew().gap();
+    Some(Opening { meter, skew })
 }
 
 /// What stands at the edge of a contract, if it is policed.

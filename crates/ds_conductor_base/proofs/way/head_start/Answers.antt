@@ -1,34 +1,36 @@
 use Rattle.std.proofs.Common.{◌+◌, sym, subst, arith}
-use Rattle.ds_domain_base.specs.Domains.{Domain}
+use Rattle.meter_fabric_base.proofs.PathLaws.{read_contract}
 use Rattle.ds_conductor_base.proofs.HeadStartLaws.{AreAhead, ahead_all, ahead_before, ahead_last, ahead_more, all_ahead}
 use Rattle.ds_conductor_base.proofs.way.head_start.Goals as goal
 
-pub loop-contract-preserved : goal.loop-contract-preserved
-loop-contract-preserved c =
-    let d = c.domain-domain.result.now in
+pub route-route-requires : goal.route-route-requires
+route-route-requires c =
+    (read_contract c.args.accepted.now c.flows_of-contracts.result.now c.loop-place.place c.index-contracts-place.result c.flows_of-contracts.ensures c.loop-place-test.true c.index-contracts-place.is).0
+
+pub loop-place-preserved : goal.loop-place-preserved
+loop-place-preserved c =
+    let d = c.args.accepted.now.domain in
     let contracts = c.flows_of-contracts.result.now in
     let port = c.args.port in
-    let count = c.loop-contract.contract-index in
-    let here = c.contract-item.result in
-    let inside = c.loop-contract-test.true in
+    let count = c.loop-place.place in
+    let here = c.index-contracts-place.result in
+    let inside = c.loop-place-test.true in
+    let is = c.index-contracts-place.is in
+    let own = c.route-route.ensures here (read_contract c.args.accepted.now contracts count here c.flows_of-contracts.ensures inside is).1 in
     record {
       holds = subst (λ least. AreAhead d contracts port (count + 1) least) (sym c.lesser-least.ensures)
-          (ahead_more d contracts port count c.loop-contract.least c.delay_at.result here inside c.contract-item.is c.loop-contract.invariant.holds c.delay_at.ensures.holds);
+          (ahead_more d contracts port count c.loop-place.least c.delay_at.result here inside is c.loop-place.invariant.holds (λ flow. c.delay_at.ensures.holds d flow own));
       greatest = λ delay low all.
-          let before = c.loop-contract.invariant.greatest delay low (ahead_before d contracts port count delay all) in
-          let last = c.delay_at.ensures.greatest count delay low (ahead_last d contracts port count delay here inside c.contract-item.is all) in
+          let before = c.loop-place.invariant.greatest delay low (ahead_before d contracts port count delay all) in
+          let last = c.delay_at.ensures.greatest d count delay own low (ahead_last d contracts port count delay here inside is all) in
           omega (arith, before, last, c.lesser-least.ensures);
     }
 
 pub returns-clause-holds : goal.returns-clause-holds
 returns-clause-holds c =
-    let contracts = c.flows_of-contracts.result.now in
-    ahead_all c.args.accepted.now contracts c.args.port c.loop-contract.contract-index c.loop-contract.least c.flows_of-contracts.ensures c.loop-contract-test.false
-    (subst (λ (d : Domain). AreAhead d contracts c.args.port c.loop-contract.contract-index c.loop-contract.least) c.domain-domain.ensures.value c.loop-contract.invariant.holds)
+    ahead_all c.args.accepted.now c.flows_of-contracts.result.now c.args.port c.loop-place.place c.loop-place.least c.flows_of-contracts.ensures c.loop-place-test.false c.loop-place.invariant.holds
 
 pub returns-clause-greatest : goal.returns-clause-greatest
 returns-clause-greatest c delay low ahead =
-    let contracts = c.flows_of-contracts.result.now in
-    c.loop-contract.invariant.greatest delay low
-    (subst (λ (d : Domain). AreAhead d contracts c.args.port c.loop-contract.contract-index delay) (sym c.domain-domain.ensures.value)
-    (all_ahead c.args.accepted.now contracts c.args.port c.loop-contract.contract-index delay c.flows_of-contracts.ensures ahead))
+    c.loop-place.invariant.greatest delay low
+    (all_ahead c.args.accepted.now c.flows_of-contracts.result.now c.args.port c.loop-place.place delay c.flows_of-contracts.ensures ahead)

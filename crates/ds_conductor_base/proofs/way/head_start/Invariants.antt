@@ -3,8 +3,8 @@ use Rattle.ds_conductor_base.proofs.HeadStartLaws.{AreAhead}
 use Rattle.ds_conductor_base.proofs.way.head_start.Given as goal
 
 -- the greatest head start of the contracts so far
-abbrev pub invariant-loop-contract : goal.invariant-loop-contract
-invariant-loop-contract l = record {
-  holds : AreAhead l.domain l.contracts l.port l.contract-index l.least;
-  greatest : (delay : ℕ) → delay ≤ 16 * 10 ^ 10 → AreAhead l.domain l.contracts l.port l.contract-index delay → delay ≤ l.least;
+abbrev pub invariant-loop-place : goal.invariant-loop-place
+invariant-loop-place l = record {
+  holds : AreAhead l.accepted.domain l.contracts l.port l.place l.least;
+  greatest : (delay : ℕ) → delay ≤ 16 * 10 ^ 10 → AreAhead l.accepted.domain l.contracts l.port l.place delay → delay ≤ l.least;
 }

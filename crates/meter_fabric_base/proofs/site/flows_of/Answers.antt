@@ -1,4 +1,4 @@
-use Rattle.std.proofs.Common.{ap, length, min, take, ◌∙◌}
+use Rattle.std.proofs.Common.{ap, take, ◌∙◌}
 use Rattle.meter_fabric_base.specs.Grounds.{most_flows}
 use Rattle.meter_fabric_base.proofs.GroundLaws.{take_least}
 use Rattle.meter_fabric_base.proofs.site.flows_of.Goals as goal

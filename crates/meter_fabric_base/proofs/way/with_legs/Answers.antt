@@ -1,5 +1,4 @@
-use Rattle.std.proofs.Common.{◌^◌, arith, refl, rules}
-use Rattle.ds_checker.proofs.WalkLaws.{inside-at}
+use Rattle.std.proofs.Common.{arith, refl, rules}
 use Rattle.meter_fabric_base.proofs.WayLaws.{legs_placed, site_more}
 use Rattle.meter_fabric_base.proofs.way.with_legs.Goals as goal
 

@@ -1,4 +1,4 @@
-use Rattle.std.proofs.Common.{◌≡◌, ◌∙◌, ◌^◌, ap, subst, sym}
+use Rattle.std.proofs.Common.{◌∙◌, ◌^◌, ap, subst, sym}
 use Rattle.ds_domain_base.specs.Routes.{AreInside, Route}
 use Rattle.meter_fabric_base.proofs.WayLaws.{legs_low, policed_way, trusted_way}
 use Rattle.meter_fabric_base.proofs.way.Way.of.Goals as goal
