@@ -129,7 +129,7 @@ ending-held d moment r h is = ap (ending_by moment) is
 module _ (d : Domain) (P : ℕ → List Reservation → List Holding → Type 0) (none_left : (number : ℕ) → P number [] [])
     (passed_by : (number : ℕ) (r : Reservation) (rs : List Reservation) (held : List Holding) (at : ℕ) → r.retirement ≡ Some at → r.flow ≡ number → P (suc number) rs held → P number (r ∷ rs) held)
     (as_granted : (number : ℕ) (r : Reservation) (rs : List Reservation) (h : Holding) (held : List Holding) → r.retirement ≡ None → r.flow ≡ number → IsNumbered (suc number) rs
-        → r ≡ held_as d h → 1 ≤ h.id → filter is_unretired rs ≡ map (held_as d) held → P (suc number) rs held → P number (r ∷ rs) (h ∷ held)) where
+    → r ≡ held_as d h → 1 ≤ h.id → filter is_unretired rs ≡ map (held_as d) held → P (suc number) rs held → P number (r ∷ rs) (h ∷ held)) where
   walk-first : (number : ℕ) (r : Reservation) (rs : List Reservation) (held : List Holding) → r.retirement ≡ None → r.flow ≡ number → IsNumbered (suc number) rs
       → ((held : List Holding) → AllByRecursion IsGiven held → filter is_unretired rs ≡ map (held_as d) held → P (suc number) rs held)
       → AllByRecursion IsGiven held → r ∷ filter is_unretired rs ≡ map (held_as d) held → P number (r ∷ rs) held
@@ -162,19 +162,19 @@ unretired-released d id moment =
       | inr other ↦ rw other (filter-some r (changed id (ending_by moment) rs) at retired ∙ rest)
     ])
     (λ number r rs h held unretired flow numbered here given_id left rest.
-      let test = same-id d id r h here given_id in
-      elim (cases_Bool (nat_eq id h.id)) [
-        | inl same ↦
-            let yes : nat_eq id (id_of r) ≡ true = test ∙ same in
-            rw yes (rw same (filter-none (ending_by moment r) (changed id (ending_by moment) rs) unretired
-            ∙ ap (λ x. ending_by moment r ∷ filter is_unretired x) (changed-above id (ending_by moment) (suc number) rs (below-next id number r yes flow) numbered)
-            ∙ ap (λ x. x ∷ filter is_unretired rs) (ending-held d moment r h here)
-            ∙ ap (λ xs. held_as d (record { id = h.id; contract = ended moment h.contract; released = true }) ∷ xs) left))
-        | inr other ↦
-            let no : nat_eq id (id_of r) ≡ false = test ∙ other in
-            rw no (rw other (filter-none r (changed id (ending_by moment) rs) unretired
-            ∙ ap (λ xs. r ∷ xs) rest ∙ ap (λ x. x ∷ map (held_as d) (with_released id moment held)) here))
-      ])
+    let test = same-id d id r h here given_id in
+    elim (cases_Bool (nat_eq id h.id)) [
+      | inl same ↦
+          let yes : nat_eq id (id_of r) ≡ true = test ∙ same in
+          rw yes (rw same (filter-none (ending_by moment r) (changed id (ending_by moment) rs) unretired
+          ∙ ap (λ x. ending_by moment r ∷ filter is_unretired x) (changed-above id (ending_by moment) (suc number) rs (below-next id number r yes flow) numbered)
+          ∙ ap (λ x. x ∷ filter is_unretired rs) (ending-held d moment r h here)
+          ∙ ap (λ xs. held_as d (record { id = h.id; contract = ended moment h.contract; released = true }) ∷ xs) left))
+      | inr other ↦
+          let no : nat_eq id (id_of r) ≡ false = test ∙ other in
+          rw no (rw other (filter-none r (changed id (ending_by moment) rs) unretired
+          ∙ ap (λ xs. r ∷ xs) rest ∙ ap (λ x. x ∷ map (held_as d) (with_released id moment held)) here))
+    ])
 
 -- what is unretired once the contract of an id is retired
 unretired-retired : (d : Domain) (id moment number : ℕ) (rs : List Reservation) (held : List Holding) → IsNumbered number rs → AllByRecursion IsGiven held
@@ -188,17 +188,17 @@ unretired-retired d id moment =
       | inr other ↦ rw other (filter-some r (changed id (retired_at moment) rs) at retired ∙ rest)
     ])
     (λ number r rs h held unretired flow numbered here given_id left rest.
-      let test = same-id d id r h here given_id in
-      elim (cases_Bool (nat_eq id h.id)) [
-        | inl same ↦
-            let yes : nat_eq id (id_of r) ≡ true = test ∙ same in
-            rw yes (rw same (filter-some (retired_at moment r) (changed id (retired_at moment) rs) moment refl
-            ∙ ap (λ x. filter is_unretired x) (changed-above id (retired_at moment) (suc number) rs (below-next id number r yes flow) numbered) ∙ left))
-        | inr other ↦
-            let no : nat_eq id (id_of r) ≡ false = test ∙ other in
-            rw no (rw other (filter-none r (changed id (retired_at moment) rs) unretired
-            ∙ ap (λ xs. r ∷ xs) rest ∙ ap (λ x. x ∷ map (held_as d) (with_retired id held)) here))
-      ])
+    let test = same-id d id r h here given_id in
+    elim (cases_Bool (nat_eq id h.id)) [
+      | inl same ↦
+          let yes : nat_eq id (id_of r) ≡ true = test ∙ same in
+          rw yes (rw same (filter-some (retired_at moment r) (changed id (retired_at moment) rs) moment refl
+          ∙ ap (λ x. filter is_unretired x) (changed-above id (retired_at moment) (suc number) rs (below-next id number r yes flow) numbered) ∙ left))
+      | inr other ↦
+          let no : nat_eq id (id_of r) ≡ false = test ∙ other in
+          rw no (rw other (filter-none r (changed id (retired_at moment) rs) unretired
+          ∙ ap (λ xs. r ∷ xs) rest ∙ ap (λ x. x ∷ map (held_as d) (with_retired id held)) here))
+    ])
 
 -- one command more
 past-reserved : (d : Domain) (s : Standing) (p : Past) (c : Contract) → IsPast d s p → IsPast d (after s (Reserve c)) (past_after d p (Reserve c))
@@ -293,19 +293,19 @@ held-alone : (d : Domain) (id number : ℕ) (rs : List Reservation) (held : List
 held-alone d id from all holdings h =
     walk d (λ number rs held. holding_of id held ≡ Some h → (suc number ≤ id) × AllByRecursion (IsOnly d id h) rs) (λ number found. absurd (none-some h found))
     (λ number r rs held at retired flow again found.
-      let rest = again found in (omega (arith, rest.0), ((λ same. absurd (other-below id number r rest.0 flow same)), rest.1)))
+    let rest = again found in (omega (arith, rest.0), ((λ same. absurd (other-below id number r rest.0 flow same)), rest.1)))
     (λ number r rs g held unretired flow numbered here given_id left again found.
-      let test = same-id d id r g here given_id in
-      elim (cases_Bool (nat_eq id g.id)) [
-        | inl same ↦
-            let one : g ≡ h = same_Some g h (rw same at found) in
-            let own : id_of r ≡ g.id = ap (λ x. id_of x) here ∙ held_as-id d g given_id in (
-              grind (arith, same, own, flow),
-              ((λ _. here ∙ ap (held_as d) one), only-above d id (suc number) rs h (below-next id number r (test ∙ same) flow) numbered),
-            )
-        | inr other ↦
-            let rest = again (rw other at found) in (omega (arith, rest.0), ((λ same. absurd (true≢false (sym same ∙ test ∙ other))), rest.1))
-      ])
+    let test = same-id d id r g here given_id in
+    elim (cases_Bool (nat_eq id g.id)) [
+      | inl same ↦
+          let one : g ≡ h = same_Some g h (rw same at found) in
+          let own : id_of r ≡ g.id = ap (λ x. id_of x) here ∙ held_as-id d g given_id in (
+            grind (arith, same, own, flow),
+            ((λ _. here ∙ ap (held_as d) one), only-above d id (suc number) rs h (below-next id number r (test ∙ same) flow) numbered),
+          )
+      | inr other ↦
+          let rest = again (rw other at found) in (omega (arith, rest.0), ((λ same. absurd (true≢false (sym same ∙ test ∙ other))), rest.1))
+    ])
     from all holdings
 
 pub held-only : (d : Domain) (id number : ℕ) (rs : List Reservation) (held : List Holding) (h : Holding) → IsNumbered number rs → AllByRecursion IsGiven held

@@ -15,7 +15,6 @@ use Rattle.ds_certificate.specs.Sources.{jitters_along, jitters_of, source_of}
 use Rattle.ds_certificate.specs.declared.source.Source.{Source}
 use Rattle.ds_certificate.proofs.ColumnLaws.{each_of, in_column}
 
-
 pub length-jitters_along : (d : Domain) (from : List ℕ) (path : List (List ℕ)) → length (jitters_along d from path) ≡ length path
 unfolding jitters_along
 length-jitters_along d from [] = refl

@@ -118,10 +118,17 @@ unfolding bound_tests
 bounds_told number d [] rows = tt
 bounds_told number d (c ∷ contracts) [] = tt
 bounds_told number d (c ∷ contracts) ([] ∷ rows) = bounds_told (suc number) d contracts rows
-bounds_told number d (c ∷ contracts) ((first ∷ bounds) ∷ rows) =
-    ((λ needed given. tt), ((λ needed given. tt), ((λ needed given. tt),
-    all_together Tells (hop_tests number 1 (source_of d c) (jitters_of d c) first bounds) (bound_tests (suc number) d contracts rows)
-    (hops_told number 1 (source_of d c) (jitters_of d c) first bounds) (bounds_told (suc number) d contracts rows))))
+bounds_told number d (c ∷ contracts) ((first ∷ bounds) ∷ rows) = (
+  (λ needed given. tt),
+  (
+    (λ needed given. tt),
+    (
+      (λ needed given. tt),
+      all_together Tells (hop_tests number 1 (source_of d c) (jitters_of d c) first bounds) (bound_tests (suc number) d contracts rows)
+          (hops_told number 1 (source_of d c) (jitters_of d c) first bounds) (bounds_told (suc number) d contracts rows),
+    ),
+  ),
+)
 
 tables_told : (d : Domain) (contracts : List Contract) (rows : List (List Bound)) (meters : List (List ℕ × Meter)) → AllByRecursion Tells (table_tests d contracts rows meters)
 unfolding table_tests

@@ -1,8 +1,5 @@
 -- Frames that are parted: what they send, how they are held, and the text of their records.
-use Rattle.std.proofs.Common.{◌≡◌, ℕ, suc, ◌+◌, ◌≤◌, cond, List, [], ◌∷◌, ◌++◌, length, zip, Option, None, Some, refl, sym, ap, ◌∙◌, append_assoc, append-nil, arith}
-use Rattle.std.specs.Prelude.{max}
-use Rattle.std.specs.List.{All}
-use Rattle.std.proofs.lemmas.Bool.{eq-eqb, ne_eqb}
+use Rattle.std.proofs.Common.{◌≡◌, ℕ, suc, ◌+◌, ◌≤◌, cond, List, [], ◌∷◌, ◌++◌, length, zip, Option, None, Some, refl, sym, ap, ◌∙◌, append_assoc, append-nil, arith, max, All, eq-eqb, ne_eqb}
 use Rattle.std.proofs.lemmas.List.Elements.{All-append, All-cons, All-head, All-nil, All-weaker}
 use Rattle.moment_core.specs.declared.colour.Colour.{Colour}
 use Rattle.pcap_capture.specs.Frames.{FrameValue}

@@ -1,6 +1,5 @@
 -- How a reading ended, and what the device that gave the bytes counted.
-use Rattle.std.proofs.Common.{◌≡◌, ◌⊎◌, ℕ, true, false, Result, Ok, Err, IfErr, IsErr, inl, inr, sym, ap, subst, ◌∙◌}
-use Rattle.std.specs.Prelude.{OnOk}
+use Rattle.std.proofs.Common.{◌≡◌, ◌⊎◌, ℕ, true, false, Result, Ok, Err, IfErr, IsErr, inl, inr, sym, ap, subst, ◌∙◌, OnOk}
 use Rattle.pcap_capture.specs.Counts.{IsOfReads}
 use Rattle.pcap_capture.specs.declared.fault.PcapFault.{PcapFault}
 use Rattle.pcap_capture.specs.declared.fault.PcapFault.TheVariants.{WriteFault}

@@ -1,6 +1,5 @@
 -- What was read of a capture, as far as it was read.
-use Rattle.std.proofs.Common.{◌≡◌, ◌⊎◌, ℕ, zero, suc, ◌-◌, ◌<◌, ◌≤◌, Bool, true, false, List, [], ◌∷◌, ◌++◌, length, drop, Option, None, Some, Result, Ok, Err, append_assoc, append-nil, length-append, refl, subst, sym, ◌∙◌, ap, inl, inr, arith}
-use Rattle.std.proofs.Math.ListN.{drop_of_length-le}
+use Rattle.std.proofs.Common.{◌≡◌, ◌⊎◌, ℕ, zero, suc, ◌-◌, ◌<◌, ◌≤◌, Bool, true, false, List, [], ◌∷◌, ◌++◌, length, drop, Option, None, Some, Result, Ok, Err, append_assoc, append-nil, length-append, refl, subst, sym, ◌∙◌, ap, inl, inr, arith, drop_of_length-le}
 use Rattle.pcap_capture.specs.Frames.{FrameValue}
 use Rattle.pcap_capture.specs.Grammar.{CaptureState, IsSoFar, Next, Partial, TooLong, Whole, Reading, Stops, after_heading, capture, continued_from, fault_after, fault_in, from_next, heading_of, next_of, prepend, read_on, reading, records, records_within}
 use Rattle.pcap_capture.specs.declared.fault.PcapFault.{PcapFault}
@@ -208,23 +207,6 @@ cut gone bytes progress fault at found = record {
         inl refl,
       ));
 }
-
--- frames that are taken out
-pub taken : (gone : List FrameValue) (bytes more : List ℕ) (before after : Progress) → after.capture ≡ before.capture → after.heading ≡ before.heading → after.missing ≡ before.missing
-    → after.frames.items ≡ [] → IsUnderway gone bytes more before → IsUnderway (gone ++ before.frames.items) bytes more after
-taken gone bytes more before after same heading missing none at = record {
-  read = at.read;
-  front = at.front;
-  so_far = taken_frames gone at.read before.capture after.capture before.frames.items after.frames.items same none at.so_far;
-  known = heading ∙ at.known ∙ ap (λ (s : CaptureState). heading_at s.stage) (sym same);
-  to_come = missing ∙ at.to_come;
-}
-  where
-    taken_frames : (gone : List FrameValue) (read : List ℕ) (before after : CaptureState) (old new : List FrameValue) → after ≡ before → new ≡ [] → IsSoFar read [] before (gone ++ old)
-        → IsSoFar read [] after ((gone ++ old) ++ new)
-    taken_frames gone read before after old new same none at =
-        subst (λ (s : CaptureState). IsSoFar read [] s ((gone ++ old) ++ new)) (sym same)
-        (subst (λ (fs : List FrameValue). IsSoFar read [] before fs) (sym (ap (λ fs. (gone ++ old) ++ fs) none ∙ append-nil (gone ++ old))) at)
 
 cut_by : (read : List ℕ) (found : Option (Result Heading PcapFault)) → heading_of read ≡ found → (after_heading read found).fault ≡ None → heading_in read None
     → fault_after (after_heading read found).fault (after_heading read found).state ≡ Some Truncated

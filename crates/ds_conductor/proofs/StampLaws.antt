@@ -1,7 +1,5 @@
 -- The stamps of a capture's records are early, and a run stands behind what it sends.
-use Rattle.std.proofs.Common.{◌<◌, ◌+◌, ◌-◌, ◌*◌, ◌^◌, ℕ, zero, suc, Bool, true, false, List, [], ◌∷◌, length, drop, Option, None, Some, arith}
-use Rattle.std.specs.Prelude.{nat_lt, slice_index, Result, Ok, Err, if◌then◌else◌}
-use Rattle.std.specs.List.{All}
+use Rattle.std.proofs.Common.{◌<◌, ◌+◌, ◌-◌, ◌*◌, ◌^◌, ℕ, zero, suc, Bool, true, false, List, [], ◌∷◌, length, drop, Option, None, Some, arith, nat_lt, slice_index, Result, Ok, Err, if◌then◌else◌, All}
 use Rattle.std.proofs.lemmas.List.Elements.{All-cons, All-drop, All-nil}
 use Rattle.pcap_capture.specs.Frames.{FrameValue}
 use Rattle.pcap_capture.specs.Grammar.{Partial, TooLong, Whole, after_heading, capture, captured, frame_of, from_next, heading_of, moment_of, nanoseconds, next_of, number, records, records_within}

@@ -1,7 +1,5 @@
 -- What is written of a text that grows.
-use Rattle.std.proofs.Common.{◌≡◌, ℕ, List, [], ◌++◌, Result, Ok, Err, MatchResult, sym, ap, ◌∙◌, append_assoc, append-nil, arith, drop, length, length-append, take, ◌+◌, subst}
-use Rattle.std.proofs.lemmas.List.{drop_at, take_at}
-use Rattle.std.specs.Prelude.{OnOk}
+use Rattle.std.proofs.Common.{◌≡◌, ℕ, List, [], ◌++◌, Result, Ok, Err, MatchResult, sym, ap, ◌∙◌, append_assoc, append-nil, arith, drop, length, length-append, take, ◌+◌, subst, drop_at, take_at, OnOk}
 use Rattle.pcap_capture.proofs.FrontLaws.{IsFrontOf-first}
 use Rattle.pcap_capture.specs.Fronts.{IsFrontOf}
 use Rattle.ds_conductor.specs.Writings.{IsWrittenTo}

@@ -1,6 +1,5 @@
 -- Frames between their reading and their writing: seen, held until their colours are decided, and handed out.
-use Rattle.std.specs.Prelude.{◌≡◌, ◌⊎◌, ℕ, suc, ◌+◌, ◌≤◌, ◌^◌, Bool, true, false, List, [], ◌∷◌, ◌++◌, length, max, zip, None}
-use Rattle.std.specs.Prelude.{◌-◌, ◌<◌, All, IsSome, OnErr, OnOk, Result}
+use Rattle.std.specs.Prelude.{◌≡◌, ◌⊎◌, ℕ, suc, ◌+◌, ◌≤◌, ◌^◌, Bool, true, false, List, [], ◌∷◌, ◌++◌, length, max, zip, None, ◌-◌, ◌<◌, All, IsSome, OnErr, OnOk, Result}
 use Rattle.std.specs.List.{AllZip}
 use Rattle.moment_core.specs.declared.colour.Colour.{Colour}
 use Rattle.pcap_capture.specs.Frames.{FrameValue}

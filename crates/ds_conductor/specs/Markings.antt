@@ -1,6 +1,5 @@
 -- The marked capture, as a function of the bytes of a capture.
-use Rattle.std.specs.Prelude.{◌≡◌, ◌⊎◌, ℕ, List, [], ◌++◌, zip, Bool, true, false, Option, None, Some, Result, Ok}
-use Rattle.std.specs.Prelude.{Err}
+use Rattle.std.specs.Prelude.{◌≡◌, ◌⊎◌, ℕ, List, [], ◌++◌, zip, Bool, true, false, Option, None, Some, Result, Ok, Err}
 use Rattle.moment_core.specs.declared.colour.Colour.{Colour}
 use Rattle.pcap_capture.specs.Frames.{FrameValue}
 use Rattle.pcap_capture.specs.Grammar.{capture, fault_in, heading_of}

@@ -1,6 +1,5 @@
 -- What is told of a marked capture.
-use Rattle.std.specs.Prelude.{ℕ, Bool, true, false, not, List, [], ◌∷◌, length, count_by, sum_by, if◌then◌else◌}
-use Rattle.std.specs.Prelude.{None, Some}
+use Rattle.std.specs.Prelude.{ℕ, Bool, true, false, not, List, [], ◌∷◌, length, count_by, sum_by, if◌then◌else◌, None, Some}
 use Rattle.moment_core.specs.declared.colour.Colour.{Colour}
 use Rattle.moment_core.specs.Colours.{is_green, is_red, is_yellow}
 use Rattle.pcap_capture.specs.Frames.{FrameValue}

@@ -1,7 +1,5 @@
 -- Head starts: how near the first stops of contracts are.
-use Rattle.std.proofs.Common.{◌≡◌, ◌⊎◌, inl, inr, ◌<◌, ◌≤◌, ◌+◌, ℕ, suc, List, [], ◌∷◌, ◌++◌, length, min, take, get_or, Option, None, Some, refl, sym, ap, ◌∙◌, subst, arith}
-use Rattle.std.specs.Prelude.{IfSome, slice_get}
-use Rattle.std.specs.List.{All}
+use Rattle.std.proofs.Common.{◌≡◌, ◌⊎◌, inl, inr, ◌<◌, ◌≤◌, ◌+◌, ℕ, suc, List, [], ◌∷◌, ◌++◌, length, min, take, get_or, Option, None, Some, refl, sym, ap, ◌∙◌, subst, arith, IfSome, slice_get, All}
 use Rattle.std.proofs.lemmas.List.Elements.{All-append, All-cons, All-head, All-nil, All-weaker}
 use Rattle.std.proofs.lemmas.Option.{same_Some, slice_get_read, slice_get_within}
 use Rattle.moment_core.specs.declared.colour.Mode.{Mode}
@@ -19,9 +17,8 @@ use Rattle.meter_fabric_base.specs.Grounds.{contract_of, ground_of, most_flows}
 use Rattle.meter_fabric_base.proofs.GroundLaws.{found_at}
 use Rattle.ds_conductor_base.specs.Laws.{HeadStartsHold}
 use Rattle.ds_conductor_base.specs.Streams.{ComeFrom}
-use Rattle.ds_conductor_base.specs.Ways.{IsHeadStart, NoneNearer, delay_over, edge_stops, stops_along, stops_by, stops_of}
+use Rattle.ds_conductor_base.specs.Ways.{IsHeadStart, NoneNearer, delay_over, edge_stops, stops_along, stops_by, stops_of, Stop}
 use Rattle.ds_conductor_base.specs.declared.sent.Sent.{Sent}
-use Rattle.ds_conductor_base.specs.Ways.{Stop}
 
 abbrev IsFrom : ℕ → Stop → Type 0
 IsFrom delay stop = delay ≤ stop.delay

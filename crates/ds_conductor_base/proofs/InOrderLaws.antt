@@ -1,6 +1,5 @@
 -- The order of visits.
-use Rattle.std.proofs.Common.{◌≡◌, ℕ, inl, inr, Bool, true, false, refl, arith}
-use Rattle.std.specs.Prelude.{◌||◌, ◌&&◌, nat_eq, nat_lt}
+use Rattle.std.proofs.Common.{◌≡◌, ℕ, inl, inr, Bool, true, false, refl, arith, ◌||◌, ◌&&◌, nat_eq, nat_lt}
 use Rattle.std.proofs.lemmas.Bool.Decides.{nat_tests}
 use Rattle.meter_fabric_base.proofs.OrderLaws.{AreApart, IsOrder}
 use Rattle.ds_conductor_base.proofs.JoinLaws.{IsOrderOf}

@@ -1,6 +1,5 @@
 -- Lists in order, where of each two elements that differ one stands before the other.
-use Rattle.std.proofs.Common.{◌≡◌, Bool, true, false, List, [], ◌∷◌, ◌++◌, get_or, sym}
-use Rattle.std.specs.Prelude.{AllPairs, IsPermutation, cond}
+use Rattle.std.proofs.Common.{◌≡◌, Bool, true, false, List, [], ◌∷◌, ◌++◌, get_or, sym, AllPairs, IsPermutation, cond}
 use Rattle.std.specs.List.{All, IsDistinct, filter}
 use Rattle.std.proofs.lemmas.List.Elements.{All-append, All-filter, All-head, All-tail}
 use Rattle.std.proofs.lemmas.List.Sorted.{All-permutation, Contains-permutation, IsPermutation-append, IsPermutation-sym, IsPermutation-trans}

@@ -1,6 +1,5 @@
 -- Packets on their way, as they are kept.
-use Rattle.std.proofs.Common.{◌≡◌, ◌<◌, ◌-◌, ℕ, zero, suc, List, [], ◌∷◌, length, get_or, Some, refl, sym, ap, ◌∙◌, Option, arith}
-use Rattle.std.specs.Prelude.{option_map, slice_get, slice_index, slice_set}
+use Rattle.std.proofs.Common.{◌≡◌, ◌<◌, ◌-◌, ℕ, zero, suc, List, [], ◌∷◌, length, get_or, Some, refl, sym, ap, ◌∙◌, Option, arith, option_map, slice_get, slice_index, slice_set}
 use Rattle.std.proofs.lemmas.Option.{slice_get-map, slice_get_read}
 use Rattle.moment_core.specs.declared.colour.Colour.{Colour}
 use Rattle.meter_book_base.specs.declared.any_meter.AnyMeter.{AnyMeter}

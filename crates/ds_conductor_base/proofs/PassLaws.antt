@@ -1,7 +1,5 @@
 -- What visits make of packets that stand before or behind others.
-use Rattle.std.proofs.Common.{◌≡◌, ◌<◌, ◌≤◌, ◌-◌, ℕ, zero, suc, List, [], ◌∷◌, ◌++◌, length, length-set, map, Option, None, Some, refl, ap, ◌∙◌, arith}
-use Rattle.std.specs.Prelude.{slice_get, slice_set}
-use Rattle.std.specs.List.{All}
+use Rattle.std.proofs.Common.{◌≡◌, ◌<◌, ◌≤◌, ◌-◌, ℕ, zero, suc, List, [], ◌∷◌, ◌++◌, length, length-set, map, Option, None, Some, refl, ap, ◌∙◌, arith, slice_get, slice_set, All}
 use Rattle.std.proofs.lemmas.List.{set-append_left}
 use Rattle.std.proofs.lemmas.List.Elements.{All-head, All-tail}
 use Rattle.meter_book_base.specs.declared.any_meter.AnyMeter.{AnyMeter}
@@ -111,12 +109,6 @@ passed_all-behind g first q (v ∷ visits) next behind =
     ∙ passed_all-behind (passed g v) first q visits (passed-first g v ∙ next) (All-tail (λ v. suc first ≤ v.place) v visits behind)
 
 -- ---- what a visit writes
-
--- without a site
-pub set_past : {A : Type 0} (xs : List A) (i : ℕ) (x : A) → length xs ≤ i → slice_set xs i x ≡ xs
-set_past [] i x past = refl
-set_past (z ∷ xs) zero x past = absurd (omega (arith, past))
-set_past (z ∷ xs) (suc i) x past = ap (λ ys. z ∷ ys) (set_past xs i x (omega (arith, past)))
 
 pub map_set : {A B : Type 0} (f : A → B) (xs : List A) (i : ℕ) (x : A) → map f (slice_set xs i x) ≡ slice_set (map f xs) i (f x)
 map_set f [] i x = refl

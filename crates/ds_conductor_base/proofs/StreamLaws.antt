@@ -1,6 +1,5 @@
 -- What making visits, sending a packet and handing one out change of the colours that are still to come.
-use Rattle.std.proofs.Common.{◌≡◌, ◌⊎◌, inl, inr, ◌<◌, ◌≤◌, ◌+◌, ◌^◌, ℕ, suc, Bool, true, false, List, [], ◌∷◌, ◌++◌, length, length-append, get_or, map, Option, refl, sym, ap, ◌∙◌, subst, arith, append_assoc, append-nil, cond, ◌-◌}
-use Rattle.std.specs.Prelude.{◌||◌, ◌&&◌, IsPermutation, nat_eq, nat_le, nat_lt, not}
+use Rattle.std.proofs.Common.{◌≡◌, ◌⊎◌, inl, inr, ◌<◌, ◌≤◌, ◌+◌, ◌^◌, ℕ, suc, Bool, true, false, List, [], ◌∷◌, ◌++◌, length, length-append, get_or, map, Option, refl, sym, ap, ◌∙◌, subst, arith, append_assoc, append-nil, cond, ◌-◌, ◌||◌, ◌&&◌, IsPermutation, nat_eq, nat_le, nat_lt, not}
 use Rattle.std.specs.List.{All, AllByRecursion, IsDistinct, list_any}
 use Rattle.std.proofs.lemmas.Bool.Decides.{nat_tests}
 use Rattle.std.proofs.lemmas.List.Elements.{All-append, All-nil, All-filter, All-from_recursion, All-head, All-tail, All-weaker, filter_passes}

@@ -1,6 +1,5 @@
 -- What the fields of packets under way keep.
-use Rattle.std.proofs.Common.{◌≡◌, ◌<◌, ◌≤◌, ◌+◌, ◌-◌, ℕ, suc, Bool, true, false, List, [], ◌∷◌, ◌++◌, length, length-append, length-set, get_or, map, Option, None, Some, refl, sym, ap, ◌∙◌, subst, arith}
-use Rattle.std.specs.Prelude.{IsPermutation, nat_eq, nat_lt, slice_get, slice_index, slice_set, unwrap_or, if◌then◌else◌}
+use Rattle.std.proofs.Common.{◌≡◌, ◌<◌, ◌≤◌, ◌+◌, ◌-◌, ℕ, suc, Bool, true, false, List, [], ◌∷◌, ◌++◌, length, length-append, length-set, get_or, map, Option, None, Some, refl, sym, ap, ◌∙◌, subst, arith, IsPermutation, nat_eq, nat_lt, slice_get, slice_index, slice_set, unwrap_or, if◌then◌else◌}
 use Rattle.std.specs.List.{IsDistinct, list_any}
 use Rattle.std.proofs.lemmas.Bool.Decides.{nat_tests}
 use Rattle.std.proofs.lemmas.List.{length-map}
@@ -17,11 +16,10 @@ use Rattle.ds_conductor_base.specs.Streams.{IsAmong, IsStream, Stream, colours_l
 use Rattle.ds_conductor_base.specs.Packets.{carried_in, carried_of, lefts_of}
 use Rattle.ds_conductor_base.specs.Passing.{Carried, Traffic, came_in, came_of, passed}
 use Rattle.ds_conductor_base.specs.Visits.{is_before, is_same, visit_to}
-use Rattle.ds_conductor_base.specs.Ways.{stops_at}
+use Rattle.ds_conductor_base.specs.Ways.{stops_at, Stop}
 use Rattle.ds_conductor_base.specs.declared.passing.OnTheWay.{OnTheWay}
 use Rattle.ds_conductor_base.specs.declared.sent.Sent.{Sent}
 use Rattle.ds_conductor_base.specs.declared.visit.Visit.{Visit}
-use Rattle.ds_conductor_base.specs.Ways.{Stop}
 
 abbrev pub stream : Table → List (Option AnyMeter) → ℕ → List OnTheWay → List Visit → Stream
 stream t meters first packets waiting = record { table = t; traffic = record { meters = meters; first = first; packets = carried_in packets }; waiting = waiting }

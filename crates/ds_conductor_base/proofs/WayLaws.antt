@@ -1,14 +1,12 @@
 -- The stops of each contract at its number.
-use Rattle.std.proofs.Common.{◌≡◌, ◌⊎◌, inl, inr, ◌<◌, ◌≤◌, ◌*◌, ◌^◌, ℕ, List, [], map, sym, ap, ◌∙◌, arith}
-use Rattle.std.specs.Prelude.{slice_get, unwrap_or}
+use Rattle.std.proofs.Common.{◌≡◌, ◌⊎◌, inl, inr, ◌<◌, ◌≤◌, ◌*◌, ◌^◌, ℕ, List, [], map, sym, ap, ◌∙◌, arith, slice_get, unwrap_or}
 use Rattle.std.specs.List.{range_with_len}
 use Rattle.std.proofs.lemmas.List.Elements.{All-nil, All-same}
 use Rattle.ds_checker.specs.Acceptance.{Table}
 use Rattle.meter_fabric_base.specs.Grounds.{flow_count}
 use Rattle.meter_fabric_base.proofs.GroundLaws.{contract_past}
 use Rattle.meter_fabric_base.proofs.RangeLaws.{range_past, range_within}
-use Rattle.ds_conductor_base.specs.Ways.{AreInReach, AreNear, AreWays, stops_at, stops_by}
-use Rattle.ds_conductor_base.specs.Ways.{Stop}
+use Rattle.ds_conductor_base.specs.Ways.{AreInReach, AreNear, AreWays, stops_at, stops_by, Stop}
 
 stops_past : (t : Table) (flow : ℕ) → flow_count t ≤ flow → stops_at t flow ≡ []
 stops_past t flow past = ap (stops_by t.domain flow) (contract_past t flow past)

@@ -1,8 +1,6 @@
 -- What the fields of a queue of visits stand for, and what they keep.
-use Rattle.std.specs.Prelude.{◌≡◌, ◌+◌, ◌<◌, ◌≤◌, ◌++◌, List}
+use Rattle.std.specs.Prelude.{◌≡◌, ◌+◌, ◌<◌, ◌≤◌, ◌++◌, List, IsSorted, vec_capacity, vec_len}
 use Rattle.std.specs.List.{IsDistinct}
-use Rattle.std.specs.List.Sorted.{IsSorted}
-use Rattle.std.specs.Vec.{vec_capacity, vec_len}
 use Rattle.std.specs.declared.cmp.Reverse.{Reverse}
 use Rattle.meter_fabric_base.specs.Orders.{in_order}
 use Rattle.ds_conductor_base.specs.Visits.{is_before, is_same}

@@ -1,7 +1,5 @@
 -- Packets under way: those that were sent and whose colours were not handed out, and the visits that they still make.
-use Rattle.std.specs.Prelude.{◌≡◌, ◌<◌, ◌^◌, Bool, true, ◌&&◌}
-use Rattle.std.specs.Prelude.{ℕ, suc, ◌+◌, ◌≤◌, nat_eq, nat_le, nat_lt, List, [], ◌∷◌, ◌++◌, length, map, Option}
-use Rattle.std.specs.Prelude.{None, Some, IfSome, if◌then◌else◌}
+use Rattle.std.specs.Prelude.{◌≡◌, ◌<◌, ◌^◌, Bool, true, ◌&&◌, ℕ, suc, ◌+◌, ◌≤◌, nat_eq, nat_le, nat_lt, List, [], ◌∷◌, ◌++◌, length, map, Option, None, Some, IfSome, if◌then◌else◌}
 use Rattle.std.specs.List.{All, IsDistinct, filter, list_any}
 use Rattle.moment_core.specs.declared.colour.Colour.{Colour}
 use Rattle.meter_fabric_base.specs.Orders.{in_order}

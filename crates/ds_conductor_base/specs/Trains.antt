@@ -1,8 +1,6 @@
 -- Visits that wait in trains behind a heap.
-use Rattle.std.specs.Prelude.{◌≡◌, ℕ, ◌<◌, ◌++◌, ◌⊎◌, false, List, [], ◌∷◌, length, slice_index_or}
-use Rattle.std.specs.Prelude.{Bool, IsPermutation, IsSome, MatchBool, None, Some, Option, option_to_list}
+use Rattle.std.specs.Prelude.{◌≡◌, ℕ, ◌<◌, ◌++◌, ◌⊎◌, false, List, [], ◌∷◌, length, slice_index_or, Bool, IsPermutation, IsSome, MatchBool, None, Some, Option, option_to_list, All}
 use Rattle.std.specs.BinaryHeap.{IsUpperBound}
-use Rattle.std.specs.List.{All}
 use Rattle.std.specs.Ordering.{is_lt}
 use Rattle.std.specs.declared.cmp.Reverse.{Reverse}
 use Rattle.ds_conductor_base.specs.Waits.{first_on_top}

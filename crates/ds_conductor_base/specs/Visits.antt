@@ -1,12 +1,10 @@
 -- The visits that packets make, in order.
-use Rattle.std.specs.Prelude.{ℕ, suc, ◌+◌, ◌-◌, ◌^◌, min, nat_eq, nat_lt, Bool, ◌&&◌, ◌||◌, List, [], ◌∷◌, ◌++◌}
-use Rattle.std.specs.Prelude.{map}
+use Rattle.std.specs.Prelude.{ℕ, suc, ◌+◌, ◌-◌, ◌^◌, min, nat_eq, nat_lt, Bool, ◌&&◌, ◌||◌, List, [], ◌∷◌, ◌++◌, map}
 use Rattle.ds_checker.specs.Acceptance.{Table}
 use Rattle.meter_fabric_base.specs.Orders.{in_order}
-use Rattle.ds_conductor_base.specs.Ways.{stops_at}
+use Rattle.ds_conductor_base.specs.Ways.{stops_at, Stop}
 use Rattle.ds_conductor_base.specs.declared.sent.Sent.{Sent}
 use Rattle.ds_conductor_base.specs.declared.visit.Visit.{Visit}
-use Rattle.ds_conductor_base.specs.Ways.{Stop}
 
 -- so long after a moment, but not behind the last moment that there is
 abbrev pub later : ℕ → ℕ → ℕ

@@ -1,6 +1,5 @@
 -- The way of a contract's packets where each link takes its floor.
-use Rattle.std.specs.Prelude.{◌≡◌, ℕ, suc, ◌+◌, ◌*◌, ◌^◌, ◌≤◌, List, [], ◌∷◌, ◌++◌, All, map, slice_get, unwrap_or, Option}
-use Rattle.std.specs.Prelude.{None, Some, IfSome}
+use Rattle.std.specs.Prelude.{◌≡◌, ℕ, suc, ◌+◌, ◌*◌, ◌^◌, ◌≤◌, List, [], ◌∷◌, ◌++◌, All, map, slice_get, unwrap_or, Option, None, Some, IfSome}
 use Rattle.ds_domain_base.specs.Domains.{Domain, floor_of, link_of}
 use Rattle.ds_domain_base.specs.declared.contract.Contract.{Contract}
 use Rattle.ds_domain_base.specs.declared.route.Leg.{Leg}

@@ -1,6 +1,6 @@
 ghost use Rattle.std.specs.Prelude.{◌≡◌, ◌≤◌, ◌^◌, ◌⊎◌, ◌++◌, None, Some, IfOk, IfErr, OnOk, OnErr};
 ghost use Rattle.std.specs.Prelude.{if◌then◌else◌};
-ghost use Rattle.ds_domain_base.specs.Domains.{bare, floor_of, is_meter, is_port, is_taken, link_fault};
+ghost use Rattle.ds_domain_base.specs.Domains.{bare, is_meter, is_port, is_taken, link_fault};
 ghost use Rattle.ds_domain_base.specs.Domains.{link_of, meter_fault, meter_of, port_fault, port_of, skew_of, with_link};
 ghost use Rattle.ds_domain_base.specs.Domains.{with_meter, with_port};
 ghost use Rattle.ds_domain_base.specs.Faults.{no_memory};
@@ -97,17 +97,6 @@ impl Domain {
         ensures { result ≡ link_of self.now from to }
     {
         self.links.get(&(from, to)).copied()
-    }
-
-    /// What delays of the link from a name to a name are at least; none where there is no such link.
-    pub fn floor(&self, from: Name, to: Name) -> Gap
-        ensures value { result ≡ floor_of (link_of self.now from to) }
-        ensures range { result ≤ 10 ^ 10 }
-    {
-        match self.link(from, to) {
-            Some(link) => link.floor.gap(),
-            None => Gap::NONE,
-        }
     }
 
     /// The skew of the port of a name; none where there is no such port.

@@ -1,6 +1,5 @@
 -- What steps bring to the books of the sites.
-use Rattle.std.proofs.Common.{◌≡◌, ◌+◌, ℕ, suc, nat_eq, Bool, true, false, List, [], ◌∷◌, ◌++◌, Option, None, Some, refl, sym, ap, subst, subst₂, ◌∙◌, append-nil, append_assoc, arith}
-use Rattle.std.specs.Prelude.{Result, Ok, Err, position, slice_get, if◌then◌else◌}
+use Rattle.std.proofs.Common.{◌≡◌, ◌+◌, ℕ, suc, nat_eq, Bool, true, false, List, [], ◌∷◌, ◌++◌, Option, None, Some, refl, sym, ap, subst, subst₂, ◌∙◌, append-nil, append_assoc, arith, Result, Ok, Err, position, slice_get, if◌then◌else◌}
 use Rattle.std.specs.List.{All, list_any}
 use Rattle.std.proofs.lemmas.Option.{same_Some}
 use Rattle.meter_book.specs.Replay.{Book, noted}

@@ -1,7 +1,5 @@
 -- When the first packet comes to each site.
-use Rattle.std.proofs.Common.{◌≡◌, ◌⊎◌, inl, inr, ◌≤◌, ◌+◌, ◌-◌, ℕ, zero, suc, Bool, true, false, cond, List, [], ◌∷◌, ◌++◌, map, get_or, min, Option, None, Some, refl, sym, ap, subst, ◌∙◌, arith}
-use Rattle.std.specs.Prelude.{◌&&◌, Contains, nat_eq, nat_le, not, slice_get, option_map, if◌then◌else◌}
-use Rattle.std.specs.List.{All, filter}
+use Rattle.std.proofs.Common.{◌≡◌, ◌⊎◌, inl, inr, ◌≤◌, ◌+◌, ◌-◌, ℕ, zero, suc, Bool, true, false, cond, List, [], ◌∷◌, ◌++◌, map, get_or, min, Option, None, Some, refl, sym, ap, subst, ◌∙◌, arith, ◌&&◌, Contains, nat_eq, nat_le, not, slice_get, option_map, if◌then◌else◌, All, filter}
 use Rattle.std.proofs.lemmas.Bool.Decides.{nat_tests}
 use Rattle.std.proofs.lemmas.List.Elements.{All-cons, All-contains, All-head, All-nil, All-tail, All-weaker, Contains-get_or}
 use Rattle.std.proofs.lemmas.List.Sorted.{Contains-permutation, IsPermutation-sym}
@@ -11,10 +9,9 @@ use Rattle.run_audit.proofs.MemberLaws.{front_or_rest, in_filter, in_front, in_m
 use Rattle.meter_fabric_base.proofs.OrderLaws.{HasAllOf, in_order-permutes}
 use Rattle.ds_conductor_base.specs.Streams.{rise_from}
 use Rattle.ds_conductor_base.specs.Visits.{is_before, later, visit_to, visits_from, visits_of}
-use Rattle.ds_conductor_base.specs.Ways.{stops_at}
+use Rattle.ds_conductor_base.specs.Ways.{stops_at, Stop}
 use Rattle.ds_conductor_base.specs.declared.sent.Sent.{Sent}
 use Rattle.ds_conductor_base.specs.declared.visit.Visit.{Visit}
-use Rattle.ds_conductor_base.specs.Ways.{Stop}
 use Rattle.ds_runs.specs.Behind.{visits_at}
 use Rattle.ds_runs.specs.Judged.{first_moment}
 use Rattle.ds_runs.specs.Judging.{Judging, earliest, is_first, noted, reached, reached_along, reached_at, reached_by}

@@ -1,6 +1,5 @@
 -- What the steps of a judge make of what it keeps.
-use Rattle.std.proofs.Common.{◌≡◌, ◌<◌, ◌≤◌, ◌+◌, ℕ, Bool, true, false, List, [], ◌∷◌, ◌++◌, length, drop, take, get_or, map, Option, None, Some, refl, sym, ap, ◌∙◌}
-use Rattle.std.specs.Prelude.{slice_get, option_and_then, option_map, unwrap_or, if◌then◌else◌}
+use Rattle.std.proofs.Common.{◌≡◌, ◌<◌, ◌≤◌, ◌+◌, ℕ, Bool, true, false, List, [], ◌∷◌, ◌++◌, length, drop, take, get_or, map, Option, None, Some, refl, sym, ap, ◌∙◌, slice_get, option_and_then, option_map, unwrap_or, if◌then◌else◌}
 use Rattle.std.specs.List.{range_with_len}
 use Rattle.std.proofs.lemmas.List.{drop_all, drop_more, map_push, take_more}
 use Rattle.ds_domain_base.specs.Domains.{Domain}
@@ -16,9 +15,8 @@ use Rattle.run_audit.specs.Verdicts.{first_found, first_of}
 use Rattle.run_audit.specs.declared.verdict.Verdict.{Verdict}
 use Rattle.run_audit.specs.declared.verdict.Verdict.TheVariants.{Kept, OutsideContract}
 use Rattle.ds_conductor_base.specs.Visits.{later}
-use Rattle.ds_conductor_base.specs.Ways.{AreWays, stops_at, stops_by}
+use Rattle.ds_conductor_base.specs.Ways.{AreWays, stops_at, stops_by, Stop}
 use Rattle.ds_conductor_base.specs.declared.sent.Sent.{Sent}
-use Rattle.ds_conductor_base.specs.Ways.{Stop}
 use Rattle.ds_runs.specs.Judged.{outside_by, outside_in}
 use Rattle.ds_runs.specs.Judging.{Judging, buckets_by, is_first, late_told, noted, reached, reached_along, reached_by, silent, spoken_by, told_at, verdict_now, verdict_with}
 use Rattle.ds_runs.specs.declared.sender.Buckets.{Buckets}

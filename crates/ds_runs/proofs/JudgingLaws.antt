@@ -1,6 +1,5 @@
 -- The verdict that is told of what is kept is that on the packets.
-use Rattle.std.proofs.Common.{◌≡◌, ◌<◌, ℕ, zero, suc, Bool, true, false, List, Option, None, Some, refl, sym, ap, subst, ◌∙◌, arith}
-use Rattle.std.specs.Prelude.{replicate, slice_get, option_map, unwrap_or}
+use Rattle.std.proofs.Common.{◌≡◌, ◌<◌, ℕ, zero, suc, Bool, true, false, List, Option, None, Some, refl, sym, ap, subst, ◌∙◌, arith, replicate, slice_get, option_map, unwrap_or}
 use Rattle.std.specs.List.{range_with_len}
 use Rattle.std.specs.Option.{option_flatten}
 use Rattle.ds_domain_base.specs.declared.contract.Contract.{Contract}

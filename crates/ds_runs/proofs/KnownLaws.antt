@@ -1,7 +1,5 @@
 -- What is known of the contracts of an acceptable table and of the stops of their packets.
-use Rattle.std.proofs.Common.{◌≡◌, ◌≤◌, ℕ, zero, suc, Bool, true, false, List, [], ◌∷◌, length, length-append, Option, None, Some, refl, ap, subst, arith}
-use Rattle.std.specs.Prelude.{◌||◌, is_none, nat_eq, nat_lt, slice_get, IsSome, if◌then◌else◌}
-use Rattle.std.specs.List.{All, filter}
+use Rattle.std.proofs.Common.{◌≡◌, ◌≤◌, ℕ, zero, suc, Bool, true, false, List, [], ◌∷◌, length, length-append, Option, None, Some, refl, ap, subst, arith, ◌||◌, is_none, nat_eq, nat_lt, slice_get, IsSome, if◌then◌else◌, All, filter}
 use Rattle.std.proofs.lemmas.Bool.Decides.{nat_tests}
 use Rattle.std.proofs.lemmas.List.Elements.{All-nil}
 use Rattle.ds_domain_base.specs.Domains.{Domain}
@@ -14,9 +12,8 @@ use Rattle.meter_fabric_base.specs.Grounds.{contract_of, ground_of}
 use Rattle.meter_fabric_base.specs.Openings.{opening_at}
 use Rattle.meter_fabric_base.proofs.GroundLaws.{place_of}
 use Rattle.run_audit.proofs.Places.{fits_names, meters_known}
-use Rattle.ds_conductor_base.specs.Ways.{delay_over, edge_stops, stops_along, stops_at, stops_by, stops_of}
+use Rattle.ds_conductor_base.specs.Ways.{delay_over, edge_stops, stops_along, stops_at, stops_by, stops_of, Stop}
 use Rattle.ds_conductor_base.specs.declared.sent.Sent.{Sent}
-use Rattle.ds_conductor_base.specs.Ways.{Stop}
 use Rattle.ds_runs.specs.Behind.{AreSendable}
 use Rattle.ds_runs.proofs.MadeLaws.{AreKnown}
 use Rattle.ds_runs.proofs.StopLaws.{at_site, stops-once, stops-there}

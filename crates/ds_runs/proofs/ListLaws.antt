@@ -1,8 +1,6 @@
 -- Pairs of a list, a list of which one thing is put in place of another, what a test keeps of one, and elements at their
 -- places.
-use Rattle.std.proofs.Common.{◌≡◌, ◌<◌, ◌-◌, ℕ, zero, suc, Bool, true, false, cond, List, [], ◌∷◌, ◌++◌, length, length-append, get_or, map, set, Option, None, Some, refl, sym, ap, ◌∙◌, subst, subst₂, append_assoc, arith}
-use Rattle.std.specs.Prelude.{IsPermutation, nat_eq, slice_get, Result, Ok}
-use Rattle.std.specs.List.{All, AllPairs, filter, flat_map}
+use Rattle.std.proofs.Common.{◌≡◌, ◌<◌, ◌-◌, ℕ, zero, suc, Bool, true, false, cond, List, [], ◌∷◌, ◌++◌, length, length-append, get_or, map, set, Option, None, Some, refl, sym, ap, ◌∙◌, subst, subst₂, append_assoc, arith, IsPermutation, nat_eq, slice_get, Result, Ok, All, AllPairs, filter, flat_map}
 use Rattle.std.proofs.lemmas.Bool.Decides.{nat_tests}
 use Rattle.std.proofs.lemmas.List.{get_or-map, length-map}
 use Rattle.std.proofs.lemmas.List.Elements.{All-head, All-tail}

@@ -1,7 +1,5 @@
 -- What the steps up to a visit have made, and that the visit can be made then.
-use Rattle.std.proofs.Common.{◌≡◌, ◌<◌, ◌≤◌, ◌-◌, ◌^◌, ℕ, suc, Bool, true, false, List, [], ◌∷◌, ◌++◌, append_assoc, length, length-append, map, nat_eq, Option, None, Some, refl, sym, ap, ◌∙◌, subst, arith, inl, inr}
-use Rattle.std.specs.Prelude.{◌⊎◌, ◌&&◌, ◌||◌, nat_lt, option_map, position, slice_get, unwrap_or, IsSome, Ok}
-use Rattle.std.specs.List.{All, filter}
+use Rattle.std.proofs.Common.{◌≡◌, ◌<◌, ◌≤◌, ◌-◌, ◌^◌, ℕ, suc, Bool, true, false, List, [], ◌∷◌, ◌++◌, append_assoc, length, length-append, map, nat_eq, Option, None, Some, refl, sym, ap, ◌∙◌, subst, arith, inl, inr, ◌⊎◌, ◌&&◌, ◌||◌, nat_lt, option_map, position, slice_get, unwrap_or, IsSome, Ok, All, filter}
 use Rattle.std.proofs.lemmas.Bool.{cases_eq, eq-eqb, ne_eqb}
 use Rattle.std.proofs.lemmas.Bool.Decides.{nat_tests}
 use Rattle.std.proofs.lemmas.List.{length-map, map_push}
@@ -20,19 +18,17 @@ use Rattle.meter_fabric_base.proofs.OrderLaws.{Ascends}
 use Rattle.ds_runs.specs.Conducting.{IsWhole, conducted_from, going_on}
 use Rattle.ds_runs.specs.Steps.{Stage, book_at, numbers_of, stepped}
 use Rattle.ds_runs.specs.OnTheWay.{IsOnItsWay, IsUnderWay}
-use Rattle.ds_runs.proofs.ListLaws.{map-set_same, set_elsewhere, set_here, some_of-some}
+use Rattle.ds_runs.proofs.ListLaws.{map-set_same, set_elsewhere, set_here, some_of-some, is_there, keep_no, keep_yes, of_seam, there_too, told_same}
 use Rattle.ds_runs.proofs.OnTheWayLaws.{book_there, stepped_under_way, whole_under_way}
 use Rattle.ds_runs.proofs.VisitingLaws.{Visits, at_place, behind, book_elsewhere, book_here, coming, same_site, stage_behind}
 use Rattle.ds_conductor_base.specs.Passing.{passed_all}
 use Rattle.ds_conductor_base.specs.Visits.{is_before, later, visit_to}
-use Rattle.ds_conductor_base.specs.Ways.{stops_at, stops_by}
+use Rattle.ds_conductor_base.specs.Ways.{stops_at, stops_by, Stop}
 use Rattle.ds_conductor_base.specs.declared.sent.Sent.{Sent}
 use Rattle.ds_conductor_base.specs.declared.visit.Visit.{Visit}
-use Rattle.ds_conductor_base.specs.Ways.{Stop}
 use Rattle.ds_runs.specs.Behind.{AreSendable, arrival_told, number_at, packet_sent, visit_noted, visit_told, visits_at}
 use Rattle.ds_runs.specs.Making.{visit_step}
 use Rattle.ds_runs.proofs.GoingLaws.{no_fault, place_of, visit_goes}
-use Rattle.ds_runs.proofs.ListLaws.{is_there, keep_no, keep_yes, of_seam, there_too, told_same}
 use Rattle.ds_runs.proofs.MeetLaws.{passes, traffic_of}
 use Rattle.ds_runs.proofs.StopLaws.{hop_in, stops-ascend, stops_of-hops}
 use Rattle.ds_runs.proofs.VisitLaws.{ComesOnce, few_visits, of_place, to_site}

@@ -1,7 +1,6 @@
 -- A visit makes of the meters and of the colours that packets carry what its step makes of books and of packets on their
 -- way.
-use Rattle.std.proofs.Common.{◌≡◌, ◌-◌, ℕ, List, map, Option, Some, sym, ap, ◌∙◌, arith}
-use Rattle.std.specs.Prelude.{option_map, slice_get, slice_set, unwrap_or}
+use Rattle.std.proofs.Common.{◌≡◌, ◌-◌, ℕ, List, map, Option, Some, sym, ap, ◌∙◌, arith, option_map, slice_get, slice_set, unwrap_or}
 use Rattle.std.specs.Option.{option_flatten}
 use Rattle.std.proofs.lemmas.Option.{slice_get-map}
 use Rattle.meter_book_base.specs.AnyMeter.{after_any, left_of}
@@ -11,12 +10,11 @@ use Rattle.meter_book.proofs.ReplayLaws.{meter_after-push}
 use Rattle.meter_fabric_base.specs.Travels.{Traveller, comes_as}
 use Rattle.meter_fabric_base.specs.declared.trail.Receipt.{Receipt}
 use Rattle.ds_runs.specs.Steps.{Stage}
-use Rattle.ds_runs.proofs.ListLaws.{some_of-some}
+use Rattle.ds_runs.proofs.ListLaws.{some_of-some, last_pushed}
 use Rattle.ds_runs.proofs.VisitingLaws.{Visits, behind, coming, stage_behind}
 use Rattle.ds_conductor_base.specs.Passing.{Carried, Traffic, met, meter_in, offer_of, passed}
 use Rattle.ds_conductor_base.specs.declared.visit.Visit.{Visit}
 use Rattle.ds_conductor_base.proofs.PassLaws.{map_set, passed_found}
-use Rattle.ds_runs.proofs.ListLaws.{last_pushed}
 
 -- the meter of a book as it stands behind its arrivals
 abbrev pub meter_now : Book → AnyMeter

@@ -1,6 +1,5 @@
 -- The books before the first step: one for each site where something stands.
-use Rattle.std.proofs.Common.{◌≡◌, ◌<◌, ◌≤◌, ◌-◌, ℕ, false, [], length, Option, None, Some, refl, sym, ◌∙◌, ap, arith, inl, inr}
-use Rattle.std.specs.Prelude.{◌⊎◌, nat_lt, option_map}
+use Rattle.std.proofs.Common.{◌≡◌, ◌<◌, ◌≤◌, ◌-◌, ℕ, false, [], length, Option, None, Some, refl, sym, ◌∙◌, ap, arith, inl, inr, ◌⊎◌, nat_lt, option_map}
 use Rattle.std.proofs.lemmas.Bool.Decides.{nat_tests}
 use Rattle.std.proofs.lemmas.Option.{none-some, same_Some}
 use Rattle.meter_fabric_base.specs.Grounds.{flow_count, ground_of}

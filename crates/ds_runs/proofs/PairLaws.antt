@@ -1,6 +1,5 @@
 -- Pairs of a list, and what a test finds first along one.
-use Rattle.std.proofs.Common.{◌≡◌, ◌<◌, ◌≤◌, ◌+◌, ◌-◌, ℕ, zero, suc, Bool, true, false, cond, List, [], ◌∷◌, length, map, get_or, Option, None, Some, refl, sym, ap, ◌∙◌, inl, arith}
-use Rattle.std.specs.Prelude.{◌&&◌, AllPairs, is_some, slice_get, option_map, option_and_then}
+use Rattle.std.proofs.Common.{◌≡◌, ◌<◌, ◌≤◌, ◌+◌, ◌-◌, ℕ, zero, suc, Bool, true, false, cond, List, [], ◌∷◌, length, map, get_or, Option, None, Some, refl, sym, ap, ◌∙◌, inl, arith, ◌&&◌, AllPairs, is_some, slice_get, option_map, option_and_then}
 use Rattle.std.specs.List.{All, enumerate_from, filter, range_with_len}
 use Rattle.std.specs.Map.{keys_of}
 use Rattle.std.proofs.lemmas.List.Elements.{All-head, All-tail}

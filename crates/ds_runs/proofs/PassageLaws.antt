@@ -1,7 +1,6 @@
 -- The passages of a run behind packets that are sent, one by one.
-use Rattle.std.proofs.Common.{◌≡◌, ◌<◌, ◌≤◌, ◌+◌, ◌-◌, ◌*◌, ◌^◌, ℕ, zero, suc, Bool, true, false, cond, List, [], ◌∷◌, ◌++◌, length, map, get_or, Option, None, Some, refl, sym, ap, subst, ◌∙◌, arith}
+use Rattle.std.proofs.Common.{◌≡◌, ◌<◌, ◌≤◌, ◌+◌, ◌-◌, ◌*◌, ◌^◌, ℕ, zero, suc, Bool, true, false, cond, List, [], ◌∷◌, ◌++◌, length, map, get_or, Option, None, Some, refl, sym, ap, subst, ◌∙◌, arith, All, filter}
 use Rattle.std.specs.Prelude.{⊤, slice_get}
-use Rattle.std.specs.List.{All, filter}
 use Rattle.std.proofs.lemmas.List.Elements.{All-head, All-tail}
 use Rattle.moment_core.specs.declared.colour.Colour.{Colour}
 use Rattle.ds_domain_base.specs.Domains.{Domain}
@@ -17,10 +16,9 @@ use Rattle.run_audit.specs.Runs.{Passage}
 use Rattle.run_audit.specs.Sendings.{Sending, sending_by, sending_of}
 use Rattle.run_audit.specs.Verdicts.{first_found, first_of}
 use Rattle.ds_conductor_base.specs.Visits.{later, visit_to}
-use Rattle.ds_conductor_base.specs.Ways.{AreNear, edge_stops, stops_along, stops_by}
+use Rattle.ds_conductor_base.specs.Ways.{AreNear, edge_stops, stops_along, stops_by, Stop}
 use Rattle.ds_conductor_base.specs.declared.sent.Sent.{Sent}
 use Rattle.ds_conductor_base.specs.declared.visit.Visit.{Visit}
-use Rattle.ds_conductor_base.specs.Ways.{Stop}
 use Rattle.ds_runs.specs.Behind.{MadeItsVisits, packet_sent, visit_told}
 
 -- no visit of a packet is later than the last moment that there is

@@ -1,8 +1,6 @@
 -- Packets that are sent, one after the other, before the first visit.
-use Rattle.std.proofs.Common.{◌≡◌, ◌<◌, ℕ, suc, false, List, [], ◌∷◌, ◌++◌, append-nil, append_assoc, get_or, map, nat_eq, Option, None, Some, refl, sym, ap, ◌∙◌, arith}
-use Rattle.std.specs.Prelude.{◌||◌, option_map, AllPairs, IsSome, Ok, Result}
+use Rattle.std.proofs.Common.{◌≡◌, ◌<◌, ℕ, suc, false, List, [], ◌∷◌, ◌++◌, append-nil, append_assoc, get_or, map, nat_eq, Option, None, Some, refl, sym, ap, ◌∙◌, arith, ◌||◌, option_map, AllPairs, IsSome, Ok, Result, ne_eqb}
 use Rattle.std.specs.List.{All, list_any}
-use Rattle.std.proofs.lemmas.Bool.{ne_eqb}
 use Rattle.std.proofs.lemmas.List.{map_push}
 use Rattle.std.proofs.lemmas.List.Elements.{All-head, All-push, All-tail}
 use Rattle.ds_domain_base.specs.declared.contract.Contract.{Contract}

@@ -1,8 +1,6 @@
 -- The stops of a contract's packets: their hops, their order, and what stands there.
-use Rattle.std.proofs.Common.{◌≡◌, ◌<◌, ◌≤◌, ◌+◌, ◌-◌, ℕ, suc, Bool, true, false, List, [], ◌∷◌, ◌++◌, length, map, Option, None, Some, refl, sym, ap, ◌∙◌, subst, arith}
-use Rattle.std.specs.Prelude.{◌&&◌, ◌||◌, nat_eq, nat_lt, option_and_then, slice_get, IsSome}
+use Rattle.std.proofs.Common.{◌≡◌, ◌<◌, ◌≤◌, ◌+◌, ◌-◌, ℕ, suc, Bool, true, false, List, [], ◌∷◌, ◌++◌, length, map, Option, None, Some, refl, sym, ap, ◌∙◌, subst, arith, ◌&&◌, ◌||◌, nat_eq, nat_lt, option_and_then, slice_get, IsSome, bytes_eq}
 use Rattle.std.specs.List.{All, filter, list_any}
-use Rattle.std.specs.Str.{bytes_eq}
 use Rattle.std.proofs.lemmas.Bool.{eqb-true, false≢true, ne_eqb}
 use Rattle.std.proofs.lemmas.Bool.Decides.{nat_tests}
 use Rattle.std.proofs.lemmas.List.Elements.{All-cons, All-head, All-map, All-nil, All-tail, All-weaker}
@@ -24,9 +22,8 @@ use Rattle.run_audit.proofs.Places.{IsMeter, found_at}
 use Rattle.run_audit.proofs.Ways.{neither}
 use Rattle.meter_fabric_base.proofs.OrderLaws.{Ascends}
 use Rattle.ds_conductor_base.specs.Visits.{is_before, later, visit_to}
-use Rattle.ds_conductor_base.specs.Ways.{delay_over, edge_stops, stops_along, stops_by, stops_of}
+use Rattle.ds_conductor_base.specs.Ways.{delay_over, edge_stops, stops_along, stops_by, stops_of, Stop}
 use Rattle.ds_conductor_base.specs.declared.sent.Sent.{Sent}
-use Rattle.ds_conductor_base.specs.Ways.{Stop}
 use Rattle.ds_runs.proofs.ListLaws.{keep_no, keep_none, keep_yes}
 
 -- ---- their hops

@@ -1,9 +1,8 @@
 -- What an audit finds of the run behind packets that are sent is found of the packets alone.
-use Rattle.std.proofs.Common.{◌≡◌, ◌<◌, ◌≤◌, ◌+◌, ◌-◌, ◌*◌, ◌^◌, ℕ, zero, suc, Bool, true, false, List, [], ◌∷◌, length, map, get_or, take, Option, None, Some, refl, sym, ap, subst, ◌∙◌, arith}
+use Rattle.std.proofs.Common.{◌≡◌, ◌<◌, ◌≤◌, ◌+◌, ◌-◌, ◌*◌, ◌^◌, ℕ, zero, suc, Bool, true, false, List, [], ◌∷◌, length, map, get_or, take, Option, None, Some, refl, sym, ap, subst, ◌∙◌, arith, length-take}
 use Rattle.std.specs.Prelude.{⊤, ◌&&◌, ◌||◌, AllPairs, is_some, nat_eq, nat_le, nat_lt, slice_get, option_map, option_and_then, unwrap_or, if◌then◌else◌}
 use Rattle.std.specs.List.{All, filter, range_with_len}
 use Rattle.std.proofs.lemmas.Bool.Decides.{nat_tests}
-use Rattle.std.proofs.lemmas.List.{length-take}
 use Rattle.std.proofs.lemmas.List.Elements.{All-head, All-map, All-tail, All-weaker}
 use Rattle.std.proofs.lemmas.List.Kept.{AllPairs-filter}
 use Rattle.moment_core.specs.Columns.{counts, each_column}
@@ -45,10 +44,9 @@ use Rattle.ds_conductor_base.proofs.InOrderLaws.{visit_order}
 use Rattle.ds_conductor_base.proofs.JoinLaws.{ascends-filter, in_order-rises}
 use Rattle.ds_conductor_base.specs.Streams.{rise_from}
 use Rattle.ds_conductor_base.specs.Visits.{is_before, is_same, later, visit_to, visits_from, visits_of}
-use Rattle.ds_conductor_base.specs.Ways.{AreInReach, AreNear, delay_over, stops_along}
+use Rattle.ds_conductor_base.specs.Ways.{AreInReach, AreNear, delay_over, stops_along, Stop}
 use Rattle.ds_conductor_base.specs.declared.sent.Sent.{Sent}
 use Rattle.ds_conductor_base.specs.declared.visit.Visit.{Visit}
-use Rattle.ds_conductor_base.specs.Ways.{Stop}
 use Rattle.ds_runs.specs.Behind.{AreSendable, IsBehind, MadeItsVisits, packet_sent, visit_told, visits_at}
 use Rattle.ds_runs.specs.Judged.{first_moment, is_counted, late_at, late_with, outside_by, outside_in, over_at, over_by, over_in, sent_in, skew_in, source_in, time_in}
 use Rattle.ds_runs.specs.Judged as judgings

@@ -1,7 +1,5 @@
 -- What a visit makes of the packets on their way and of the books.
-use Rattle.std.proofs.Common.{◌≡◌, ◌≤◌, ℕ, Bool, true, false, cond, List, [], ◌∷◌, ◌++◌, map, Option, None, Some, refl, sym, ◌∙◌, ap, subst, append-nil, length-set, arith}
-use Rattle.std.specs.Prelude.{nat_eq, nat_lt, option_map, slice_get, slice_set, IsPermutation, Ok, Err, if◌then◌else◌}
-use Rattle.std.specs.List.{All, filter}
+use Rattle.std.proofs.Common.{◌≡◌, ◌≤◌, ℕ, Bool, true, false, cond, List, [], ◌∷◌, ◌++◌, map, Option, None, Some, refl, sym, ◌∙◌, ap, subst, append-nil, length-set, arith, nat_eq, nat_lt, option_map, slice_get, slice_set, IsPermutation, Ok, Err, if◌then◌else◌, All, filter}
 use Rattle.std.proofs.lemmas.Bool.Decides.{nat_tests}
 use Rattle.std.proofs.lemmas.List.{map-append, map-set}
 use Rattle.std.proofs.lemmas.List.Elements.{All-set, filter-append}

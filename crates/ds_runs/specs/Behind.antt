@@ -1,6 +1,5 @@
 -- The run behind packets that are sent, where each link takes its floor and one worker makes all visits in their order.
-use Rattle.std.specs.Prelude.{◌≡◌, ℕ, ◌-◌, ◌<◌, ◌≤◌, ◌^◌, nat_eq, true, List, All, AllPairs, IsSome, filter, length}
-use Rattle.std.specs.Prelude.{is_some, map, option_map, slice_get, unwrap_or, Option, Some}
+use Rattle.std.specs.Prelude.{◌≡◌, ℕ, ◌-◌, ◌<◌, ◌≤◌, ◌^◌, nat_eq, true, List, All, AllPairs, IsSome, filter, length, is_some, map, option_map, slice_get, unwrap_or, Option, Some}
 use Rattle.std.specs.List.{range_with_len}
 use Rattle.moment_core.specs.declared.colour.Colour.{Colour}
 use Rattle.meter_book.specs.declared.row.Arrival.{Arrival}

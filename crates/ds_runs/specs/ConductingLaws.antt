@@ -1,6 +1,5 @@
 -- What steps keep, and what they make.
-use Rattle.std.specs.Prelude.{◌≡◌, ℕ, nat_eq, List, [], ◌∷◌, ◌++◌, All, flat_map, map, position, slice_get}
-use Rattle.std.specs.Prelude.{Option, None, Some, Result, Ok, Err, if◌then◌else◌}
+use Rattle.std.specs.Prelude.{◌≡◌, ℕ, nat_eq, List, [], ◌∷◌, ◌++◌, All, flat_map, map, position, slice_get, Option, None, Some, Result, Ok, Err, if◌then◌else◌}
 use Rattle.meter_book.specs.declared.row.Arrival.{Arrival}
 use Rattle.ds_checker.specs.Acceptance.{Table}
 use Rattle.meter_fabric_base.specs.Grounds.{ground_of}

@@ -1,7 +1,6 @@
 -- The verdict on packets that are sent, where each link takes its floor and one worker makes all visits in their order:
 -- the first premise that they break, in the order of time, source and skew. Each link is kept, since it takes its floor.
-use Rattle.std.specs.Prelude.{ℕ, ◌+◌, ◌-◌, ◌&&◌, nat_eq, nat_le, Bool, if◌then◌else◌, List, map, filter, slice_get}
-use Rattle.std.specs.Prelude.{option_map, option_and_then, unwrap_or, Option, None, Some}
+use Rattle.std.specs.Prelude.{ℕ, ◌+◌, ◌-◌, ◌&&◌, nat_eq, nat_le, Bool, if◌then◌else◌, List, map, filter, slice_get, option_map, option_and_then, unwrap_or, Option, None, Some}
 use Rattle.std.specs.List.{range_with_len}
 use Rattle.moment_core.specs.Columns.{counts, each_column}
 use Rattle.moment_core.specs.declared.column.Column.{Column}

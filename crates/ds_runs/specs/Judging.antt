@@ -1,6 +1,5 @@
 -- What is kept of packets that were sent, so that their verdict can be told at any time: it does not grow with them.
-use Rattle.std.specs.Prelude.{ℕ, Bool, true, false, List, [], ◌∷◌, map, length, slice_get, slice_set, if◌then◌else◌}
-use Rattle.std.specs.Prelude.{min, not, replicate, option_map, option_and_then, unwrap_or, Option, None, Some}
+use Rattle.std.specs.Prelude.{ℕ, Bool, true, false, List, [], ◌∷◌, map, length, slice_get, slice_set, if◌then◌else◌, min, not, replicate, option_map, option_and_then, unwrap_or, Option, None, Some}
 use Rattle.std.specs.List.{range_with_len}
 use Rattle.std.specs.Option.{option_flatten}
 use Rattle.moment_core.specs.Columns.{counts, each_column}
@@ -25,9 +24,8 @@ use Rattle.run_audit.specs.Verdicts.{first_found, first_of}
 use Rattle.run_audit.specs.declared.verdict.Verdict.{Verdict}
 use Rattle.run_audit.specs.declared.verdict.Verdict.TheVariants.{Kept, OutsideContract, SourceOver}
 use Rattle.ds_conductor_base.specs.Visits.{later}
-use Rattle.ds_conductor_base.specs.Ways.{stops_at}
+use Rattle.ds_conductor_base.specs.Ways.{stops_at, Stop}
 use Rattle.ds_conductor_base.specs.declared.sent.Sent.{Sent}
-use Rattle.ds_conductor_base.specs.Ways.{Stop}
 use Rattle.ds_runs.specs.Judged.{late_by, outside_in}
 use Rattle.ds_runs.specs.declared.sender.Buckets.{Buckets}
 use Rattle.ds_runs.specs.declared.sender.Sender.{Sender}

@@ -1,6 +1,5 @@
 -- What a step makes of packets on their way and of the books of the sites.
-use Rattle.std.specs.Prelude.{ℕ, ◌^◌, nat_eq, if◌then◌else◌, List, [], ◌∷◌, ◌++◌, map, position}
-use Rattle.std.specs.Prelude.{slice_get, slice_set, option_map, Option, None, Some, Result, Ok, Err}
+use Rattle.std.specs.Prelude.{ℕ, ◌^◌, nat_eq, if◌then◌else◌, List, [], ◌∷◌, ◌++◌, map, position, slice_get, slice_set, option_map, Option, None, Some, Result, Ok, Err}
 use Rattle.std.specs.List.{list_any, range_with_len}
 use Rattle.meter_book.specs.Replay.{Book}
 use Rattle.ds_checker.specs.Acceptance.{Table}

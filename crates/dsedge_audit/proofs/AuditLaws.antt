@@ -1,7 +1,5 @@
 -- The answer of `audit`, a line at a time.
-use Rattle.std.proofs.Common.{◌≡◌, ℕ, ◌+◌, List, ◌∷◌, [], None, Some, Ok, Err, Result, ◌⊎◌, inl, inr, ap, refl, sym}
-use Rattle.std.specs.Prelude.{IfErr}
-use Rattle.std.proofs.lemmas.List.{append-nil}
+use Rattle.std.proofs.Common.{◌≡◌, ℕ, ◌+◌, List, ◌∷◌, [], None, Some, Ok, Err, Result, ◌⊎◌, inl, inr, ap, refl, sym, IfErr, append-nil}
 use Rattle.ds_checker.specs.Acceptance.{Table}
 use Rattle.ds_runs.specs.Conducting.{run_so_far}
 use Rattle.ds_runs.specs.Steps.{Stage, refusal_of, stepped}

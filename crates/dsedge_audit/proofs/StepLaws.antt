@@ -1,9 +1,7 @@
 -- Steps, read field by field from the front of a line.
-use Rattle.std.proofs.Common.{◌≡◌, ◌≢◌, ℕ, ◌-◌, ◌^◌, ◌≤◌, zero, suc, Bool, true, false, ◌&&◌, ◌||◌, cond, eqb, codes, List, [], ◌∷◌, length, Option, None, Some, refl, sym, ap, ◌∙◌, arith, inl, inr}
+use Rattle.std.proofs.Common.{◌≡◌, ◌≢◌, ℕ, ◌-◌, ◌^◌, ◌≤◌, zero, suc, Bool, true, false, ◌&&◌, ◌||◌, cond, eqb, codes, List, [], ◌∷◌, length, Option, None, Some, refl, sym, ap, ◌∙◌, arith, inl, inr, option_and_then, option_map, bytes_eq}
 use Rattle.std.specs.List.{list_all, onto_first}
 use Rattle.std.specs.Char.{is_ascii_digit}
-use Rattle.std.specs.Option.{option_and_then, option_map}
-use Rattle.std.specs.Str.{bytes_eq}
 use Rattle.std.proofs.lemmas.Bool.{cases_eq, eq-eqb, ne_eqb}
 use Rattle.line_text.specs.Lines.{fields_of, has_byte}
 use Rattle.line_text.specs.Numbers.{leading_number_of, number_of}

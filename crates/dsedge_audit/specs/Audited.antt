@@ -1,6 +1,5 @@
 -- What `audit` answers to lines of steps.
-use Rattle.std.specs.Prelude.{ℕ, ◌+◌, ◌-◌, nat_lt, List, [], ◌∷◌, ◌++◌, codes, flat_map, length, option_map, slice_get}
-use Rattle.std.specs.Prelude.{slice_index, unwrap_or, Result, Ok, Err, if◌then◌else◌}
+use Rattle.std.specs.Prelude.{ℕ, ◌+◌, ◌-◌, nat_lt, List, [], ◌∷◌, ◌++◌, codes, flat_map, length, option_map, slice_get, slice_index, unwrap_or, Result, Ok, Err, if◌then◌else◌}
 use Rattle.meter_book.specs.Replay.{Journal, accounts_of, journal_rows}
 use Rattle.meter_book.specs.declared.accounts.Accounts.{Accounts}
 use Rattle.ds_checker.specs.Acceptance.{Table}

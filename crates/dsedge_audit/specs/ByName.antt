@@ -1,7 +1,6 @@
 -- What the contracts by their names keep.
-use Rattle.std.specs.Prelude.{◌≡◌, ℕ, List, position}
+use Rattle.std.specs.Prelude.{◌≡◌, ℕ, List, position, bytes_eq}
 use Rattle.std.specs.Map.{lookup}
-use Rattle.std.specs.Str.{bytes_eq}
 use Rattle.dsedge_audit.specs.declared.flows.Flows.TheInside as flows
 
 -- under each name stands the place of the first contract that has it

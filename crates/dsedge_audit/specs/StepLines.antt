@@ -1,7 +1,5 @@
 -- The lines that say a step: `send CONTRACT PACKET SIZE DSCP MOMENT` and `visit PACKET MOMENT`.
-use Rattle.std.specs.Prelude.{ℕ, ◌-◌, ◌^◌, nat_lt, List, [], ◌∷◌, codes, position, option_and_then, Option, None, Some}
-use Rattle.std.specs.Prelude.{if◌then◌else◌}
-use Rattle.std.specs.Str.{bytes_eq}
+use Rattle.std.specs.Prelude.{ℕ, ◌-◌, ◌^◌, nat_lt, List, [], ◌∷◌, codes, position, option_and_then, Option, None, Some, if◌then◌else◌, bytes_eq}
 use Rattle.line_text.specs.Lines.{fields_of}
 use Rattle.line_text.specs.Numbers.{number_of}
 use Rattle.dsedge_lines.specs.Quantities.{size_in}

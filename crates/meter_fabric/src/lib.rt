@@ -31,7 +31,7 @@ pub use fault::{CloseFault, CutFault, FitFault, ShutFault};
 pub use ledger::{FabricLedger, ticket_parts};
 pub use meter_fabric_base::{
     BeginFault, Hop, MOST_FLOWS, Numbered, Opening, Receipt, Trail, Traveller, VisitFault, Ways,
-    contract_of, edge_hop, edge_opening, flow_count, flows_of, opening_at, site_count, site_of,
+    contract_of, edge_hop, edge_opening, flow_count, flows_of, opening_at, site_count,
 };
 pub use pass::Pass;
 pub use site::{Ended, Fitted};

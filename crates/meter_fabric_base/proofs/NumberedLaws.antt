@@ -1,9 +1,6 @@
 -- The contract of a flow of a table whose contracts have flows of their own.
-use Rattle.std.proofs.Common.{◌≡◌, ◌<◌, ◌≤◌, ℕ, zero, suc, Bool, true, false, List, [], ◌∷◌, length, get_or, Option, None, Some, Result, Ok, Err, refl, sym, ap, ◌∙◌, arith}
-use Rattle.std.specs.Prelude.{nat_eq, nat_lt, option_map, slice_get, if◌then◌else◌, IfNone, IfSome}
-use Rattle.std.specs.List.{filter, find, zip}
+use Rattle.std.proofs.Common.{◌≡◌, ◌<◌, ◌≤◌, ℕ, zero, suc, Bool, true, false, List, [], ◌∷◌, length, get_or, Option, None, Some, Result, Ok, Err, refl, sym, ap, ◌∙◌, arith, nat_eq, nat_lt, option_map, slice_get, if◌then◌else◌, IfNone, IfSome, filter, find, zip, nat_cmp}
 use Rattle.std.specs.List.Sorted.{IsBinarySearchResult, IsStrictlyIncreasing}
-use Rattle.std.specs.Ordering.{nat_cmp}
 use Rattle.std.specs.Result.{result_ok}
 use Rattle.std.proofs.lemmas.Bool.Decides.{nat_tests}
 use Rattle.std.proofs.lemmas.List.Kept.{AllPairs-from_increasing}
@@ -53,21 +50,6 @@ numbered_low t flows flow low = found_numbered t flows flow true (grind (arith, 
 
 pub numbered_past : (t : Table) (flows : List ℕ) (flow : ℕ) → most_flows ≤ flow → None ≡ contract_of (numbered_ground t flows) flow
 numbered_past t flows flow past = sym (found_numbered t flows flow false (grind (arith, nat_tests, past)))
-
--- what stands behind a flow stands among the contracts
-found_inside : (flows : List ℕ) (contracts : List Contract) (flow : ℕ) (c : Contract)
-    → option_map (λ entry. entry.1) (find (λ entry. nat_eq entry.0 flow) (zip flows contracts)) ≡ Some c
-    → (place : ℕ) × (slice_get contracts place ≡ Some c)
-found_inside [] contracts flow c is = absurd cc
-found_inside (own ∷ flows) [] flow c is = absurd cc
-found_inside (own ∷ flows) (x ∷ contracts) flow c is = by_test (nat_eq own flow) refl (λ behind. found_inside flows contracts flow c behind)
-  where
-    by_test : (same : Bool) → nat_eq own flow ≡ same
-        → (option_map (λ entry. entry.1) (find (λ entry. nat_eq entry.0 flow) (zip flows contracts)) ≡ Some c
-        → (place : ℕ) × (slice_get contracts place ≡ Some c))
-        → (place : ℕ) × (slice_get (x ∷ contracts) place ≡ Some c)
-    by_test true same behind = (0, (rw same at is))
-    by_test false other behind = let more = behind (rw other at is) in (suc more.0, more.1)
 
 -- ---- flows that rise
 

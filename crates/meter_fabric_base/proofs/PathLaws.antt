@@ -1,6 +1,5 @@
 -- What is known of a contract of a table's flow.
-use Rattle.std.proofs.Common.{◌≡◌, ◌<◌, ℕ, true, List, length, take, get_or, Some, refl, sym, ap, ◌∙◌, arith}
-use Rattle.std.specs.Prelude.{nat_lt, slice_get}
+use Rattle.std.proofs.Common.{◌≡◌, ◌<◌, ℕ, true, List, length, take, get_or, Some, refl, sym, ap, ◌∙◌, arith, nat_lt, slice_get}
 use Rattle.std.proofs.lemmas.Bool.Decides.{nat_tests}
 use Rattle.std.proofs.lemmas.Option.{slice_get_read, slice_get_within}
 use Rattle.ds_domain_base.specs.declared.contract.Contract.{Contract}

@@ -1,6 +1,5 @@
 -- A trail stays one with a receipt of the next hop.
-use Rattle.std.proofs.Common.{◌≡◌, ◌-◌, ℕ, suc, List, [], ◌∷◌, ◌++◌, length, get_or, Some, refl, arith}
-use Rattle.std.specs.Prelude.{option_map, slice_get, unwrap_or}
+use Rattle.std.proofs.Common.{◌≡◌, ◌-◌, ℕ, suc, List, [], ◌∷◌, ◌++◌, length, get_or, Some, refl, arith, option_map, slice_get, unwrap_or}
 use Rattle.std.proofs.lemmas.Option.{slice_get-get_or}
 use Rattle.moment_core.specs.declared.colour.Colour.{Colour}
 use Rattle.meter_book.specs.declared.row.Row.{Row}

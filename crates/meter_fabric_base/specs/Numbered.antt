@@ -1,6 +1,5 @@
 -- What runs stand on where contracts have flows of their own.
-use Rattle.std.specs.Prelude.{◌≡◌, ◌<◌, ℕ, nat_lt, List, length, slice_index}
-use Rattle.std.specs.List.{filter, zip}
+use Rattle.std.specs.Prelude.{◌≡◌, ◌<◌, ℕ, nat_lt, List, length, slice_index, filter, zip}
 use Rattle.ds_checker.specs.Acceptance.{Table}
 use Rattle.meter_fabric_base.specs.Grounds.{Ground, most_flows}
 

@@ -1,6 +1,5 @@
 -- What stands at the sites before the first packet.
-use Rattle.std.specs.Prelude.{ℕ, ◌+◌, ◌-◌, nat_lt, [], length, slice_get, option_and_then, option_map, Option, None}
-use Rattle.std.specs.Prelude.{if◌then◌else◌}
+use Rattle.std.specs.Prelude.{ℕ, ◌+◌, ◌-◌, nat_lt, [], length, slice_get, option_and_then, option_map, Option, None, if◌then◌else◌}
 use Rattle.moment_core.specs.declared.colour.Mode.TheVariants.{Aware}
 use Rattle.meter_book.specs.AnyMeter.{opening_of}
 use Rattle.meter_book.specs.Replay.{Book, fresh}

@@ -1,9 +1,8 @@
 -- The sites of a domain and its contracts: the meters in order, then behind them an edge for each contract that is
 -- policed. A hop is a step of a packet's way: its number is that of the meters of the path that are passed, its site
 -- where it leads.
-use Rattle.std.specs.Prelude.{ℕ, suc, ◌+◌, List, [], ◌∷◌, ◌++◌, length, position, unwrap_or}
+use Rattle.std.specs.Prelude.{ℕ, suc, ◌+◌, List, [], ◌∷◌, ◌++◌, length, position, unwrap_or, bytes_eq}
 use Rattle.std.specs.Map.{keys_of}
-use Rattle.std.specs.Str.{bytes_eq}
 use Rattle.ds_domain_base.specs.Domains.{Domain}
 use Rattle.ds_domain_base.specs.declared.contract.Contract.{Contract}
 use Rattle.ds_domain_base.specs.declared.terms.Terms.{Terms}

@@ -1,6 +1,5 @@
 -- A traveller: a packet on its way, the hops of its way, and what it carried away from those that it has visited.
-use Rattle.std.specs.Prelude.{ℕ, ◌-◌, nat_lt, List, [], ◌∷◌, ◌++◌, length, slice_get, option_map, unwrap_or, Option}
-use Rattle.std.specs.Prelude.{None, Some, Result, Ok, Err, if◌then◌else◌}
+use Rattle.std.specs.Prelude.{ℕ, ◌-◌, nat_lt, List, [], ◌∷◌, ◌++◌, length, slice_get, option_map, unwrap_or, Option, None, Some, Result, Ok, Err, if◌then◌else◌}
 use Rattle.moment_core.specs.declared.colour.Colour.{Colour}
 use Rattle.meter_book.specs.Replay.{Book, note_of}
 use Rattle.meter_book.specs.declared.book.NoteFault.{NoteFault}

@@ -14,7 +14,6 @@ pub use hop::{Hop, edge_hop};
 pub use numbered::Numbered;
 pub use site::{
     MOST_FLOWS, Opening, contract_of, edge_opening, flow_count, flows_of, opening_at, site_count,
-    site_of,
 };
 pub use trail::{Receipt, Trail};
 pub use traveller::Traveller;

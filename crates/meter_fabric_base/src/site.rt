@@ -1,10 +1,9 @@
 ghost use Rattle.std.specs.Prelude.{◌≡◌, ◌≤◌, ◌^◌, length, min, option_and_then, option_copied, slice_get, take};
 ghost use Rattle.meter_fabric_base.specs.Grounds.{contract_of, flow_count, ground_of, most_flows};
 ghost use Rattle.meter_fabric_base.specs.Openings.{book_with, edge_opening, opening_at, site_count};
-ghost use Rattle.meter_fabric_base.specs.Sites.{site_of};
 
 use ds_checker::Accepted;
-use ds_domain_base::{Contract, Domain, Name};
+use ds_domain_base::{Contract, Domain};
 use meter_book::{AnyMeter, MeterBook};
 use moment_core::Gap;
 use std::alloc::Global;
@@ -103,12 +102,4 @@ fn contract_in(contracts: &[Contract], place: usize) -> Option<&Contract>
     ensures { option_copied result ≡ slice_get contracts.now place }
 {
     contracts.get(place)
-}
-
-/// The number of the site of a meter; 0 where there is no meter of that name.
-pub fn site_of(domain: &Domain, name: Name) -> u32
-    ensures { result ≡ site_of domain.now name }
-{
-    let place = domain.meters().get_index_of(&name);
-    place.map_or(0, |place| place as u32)
 }

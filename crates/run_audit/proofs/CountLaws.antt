@@ -1,8 +1,6 @@
 -- Where packets are sound, their receipts are rows of the journals, none twice. So all rows are told exactly where there are as
 -- many receipts as rows.
-use Rattle.std.proofs.Common.{◌≡◌, ⊎_elim, ℕ, ◌+◌, ◌≤◌, suc, true, List, [], ◌∷◌, ◌++◌, map, length, get_or, refl, sym, ◌∙◌, ap, subst, arith, Some}
-use Rattle.std.specs.Prelude.{nat_eq, slice_get, Contains, IsPermutation}
-use Rattle.std.specs.List.{AllPairs, filter, flat_map, sum_by}
+use Rattle.std.proofs.Common.{◌≡◌, ⊎_elim, ℕ, ◌+◌, ◌≤◌, suc, true, List, [], ◌∷◌, ◌++◌, map, length, get_or, refl, sym, ◌∙◌, ap, subst, arith, Some, nat_eq, slice_get, Contains, IsPermutation, AllPairs, filter, flat_map, sum_by}
 use Rattle.std.proofs.lemmas.Bool.Decides.{nat_tests}
 use Rattle.std.proofs.lemmas.List.{length-map, map-append}
 use Rattle.std.proofs.lemmas.List.Concat.{length-flat_map}

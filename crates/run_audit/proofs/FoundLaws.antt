@@ -1,6 +1,5 @@
 -- What is found first along a list.
-use Rattle.std.proofs.Common.{arith, ◌≡◌, ℕ, zero, suc, ◌+◌, ◌<◌, ◌≤◌, Bool, true, false, List, [], ◌∷◌, length, get_or, drop, Option, None, Some, is_some, refl, sym, ap, ◌∙◌}
-use Rattle.std.specs.Prelude.{IsSome, slice_get}
+use Rattle.std.proofs.Common.{arith, ◌≡◌, ℕ, zero, suc, ◌+◌, ◌<◌, ◌≤◌, Bool, true, false, List, [], ◌∷◌, length, get_or, drop, Option, None, Some, is_some, refl, sym, ap, ◌∙◌, IsSome, slice_get}
 use Rattle.std.proofs.lemmas.List.{drop_all, drop_more}
 use Rattle.moment_core.specs.Columns.{each_column}
 use Rattle.moment_core.specs.declared.column.Column.{Column}

@@ -1,7 +1,5 @@
 -- Lists in groups.
-use Rattle.std.proofs.Common.{◌≡◌, ℕ, zero, suc, ◌<◌, List, [], ◌∷◌, ◌++◌, arith, get_or, ap, ◌∙◌}
-use Rattle.std.specs.Prelude.{IsPermutation, flat_map, length, slice_set}
-use Rattle.std.proofs.lemmas.List.{append_assoc}
+use Rattle.std.proofs.Common.{◌≡◌, ℕ, zero, suc, ◌<◌, List, [], ◌∷◌, ◌++◌, arith, get_or, ap, ◌∙◌, IsPermutation, flat_map, length, slice_set, append_assoc}
 use Rattle.std.proofs.lemmas.List.Sorted.{IsPermutation-append_right, IsPermutation-middle, IsPermutation-sym, IsPermutation-trans}
 
 -- one more behind those of a group is one more in front of all

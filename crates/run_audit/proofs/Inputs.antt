@@ -1,7 +1,5 @@
 -- What comes to a meter keeps what the checker added up for it.
-use Rattle.std.proofs.Common.{◌≡◌, ℕ, ◌+◌, ◌-◌, ◌*◌, ◌<◌, ◌≤◌, Bool, true, false, cond, List, [], ◌∷◌, ◌++◌, map, length, refl, sym, ◌∙◌, ap, arith, get_or, Some, None}
-use Rattle.std.specs.Prelude.{find, nat_eq, slice_get, drop, option_map, option_to_list, Option}
-use Rattle.std.specs.List.{sum_by, filter, flat_map, All}
+use Rattle.std.proofs.Common.{◌≡◌, ℕ, ◌+◌, ◌-◌, ◌*◌, ◌<◌, ◌≤◌, Bool, true, false, cond, List, [], ◌∷◌, ◌++◌, map, length, refl, sym, ◌∙◌, ap, arith, get_or, Some, None, find, nat_eq, slice_get, drop, option_map, option_to_list, Option, sum_by, filter, flat_map, All}
 use Rattle.std.specs.Option.{ForSome}
 use Rattle.std.proofs.lemmas.Bool.{false≢true}
 use Rattle.std.proofs.lemmas.Bool.Decides.{nat_tests}

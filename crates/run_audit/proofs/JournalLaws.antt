@@ -1,6 +1,5 @@
 -- What is known of journals that are one for each site, and of a front of them.
-use Rattle.std.proofs.Common.{◌≡◌, ⊎_elim, inl, inr, ℕ, suc, ◌+◌, ◌<◌, not, Bool, true, false, List, [], ◌∷◌, map, length, take, get_or, refl, sym, ◌∙◌, ap, arith, Some, None}
-use Rattle.std.specs.Prelude.{◌||◌, Option, cond, is_some, nat_eq, nat_lt, slice_get, position, AllPairs, Contains, IsTrue}
+use Rattle.std.proofs.Common.{◌≡◌, ⊎_elim, inl, inr, ℕ, suc, ◌+◌, ◌<◌, not, Bool, true, false, List, [], ◌∷◌, map, length, take, get_or, refl, sym, ◌∙◌, ap, arith, Some, None, ◌||◌, Option, cond, is_some, nat_eq, nat_lt, slice_get, position, AllPairs, Contains, IsTrue}
 use Rattle.std.specs.List.{list_any, prefix_len}
 use Rattle.std.proofs.lemmas.Bool.{cases_Bool, cases_lt, cases_eq, true≢false}
 use Rattle.std.proofs.lemmas.Bool.Decides.{nat_tests}

@@ -1,6 +1,5 @@
 -- What contracts bring to a meter together, and how the packets of a run are those of its contracts.
-use Rattle.std.proofs.Common.{◌≡◌, ℕ, ◌+◌, ◌<◌, ◌≤◌, inl, inr, Bool, true, false, cond, List, [], ◌∷◌, ◌++◌, map, refl, sym, ◌∙◌, ap, arith, get_or, Some, None}
-use Rattle.std.specs.Prelude.{drop, nat_eq, find, Option, option_map, option_to_list}
+use Rattle.std.proofs.Common.{◌≡◌, ℕ, ◌+◌, ◌<◌, ◌≤◌, inl, inr, Bool, true, false, cond, List, [], ◌∷◌, ◌++◌, map, refl, sym, ◌∙◌, ap, arith, get_or, Some, None, drop, nat_eq, find, Option, option_map, option_to_list}
 use Rattle.std.specs.List.{sum_by, filter, flat_map, list_any, All, AllByRecursion}
 use Rattle.std.proofs.lemmas.Bool.{cases_lt, false≢true}
 use Rattle.std.proofs.lemmas.Bool.Decides.{nat_tests}

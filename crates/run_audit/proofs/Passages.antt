@@ -1,7 +1,5 @@
 -- The receipts of a packet from the meters on, as it was sent.
-use Rattle.std.proofs.Common.{◌≡◌, ℕ, ◌+◌, ◌≤◌, zero, suc, Bool, true, false, cond, List, [], ◌∷◌, ◌++◌, map, length, ap, arith, get_or, Some, None}
-use Rattle.std.specs.Prelude.{nat_eq, Option, if◌then◌else◌}
-use Rattle.std.specs.List.{sum_by, filter, All}
+use Rattle.std.proofs.Common.{◌≡◌, ℕ, ◌+◌, ◌≤◌, zero, suc, Bool, true, false, cond, List, [], ◌∷◌, ◌++◌, map, length, ap, arith, get_or, Some, None, nat_eq, Option, if◌then◌else◌, sum_by, filter, All}
 use Rattle.std.proofs.lemmas.List.{get_or_append_left, get_or-append-add, length-append}
 use Rattle.std.proofs.lemmas.Option.{same_Some}
 use Rattle.moment_core.specs.declared.colour.Colour.{Colour}

@@ -1,9 +1,6 @@
 -- Where nothing is found along a list, nothing is found at any of its elements, in whatever order they stand.
-use Rattle.std.proofs.Common.{arith, ◌≡◌, ℕ, ◌<◌, ◌≤◌, ◌↔◌, Bool, true, false, List, [], ◌∷◌, Option, None, Some, refl, sym, ap, subst, ◌∙◌}
-use Rattle.std.specs.Prelude.{◌&&◌, nat_le, nat_lt, option_map, option_and_then, unwrap_or, if◌then◌else◌}
-use Rattle.std.specs.List.{All}
+use Rattle.std.proofs.Common.{arith, ◌≡◌, ℕ, ◌<◌, ◌≤◌, ◌↔◌, Bool, true, false, List, [], ◌∷◌, Option, None, Some, refl, sym, ap, subst, ◌∙◌, ◌&&◌, nat_le, nat_lt, option_map, option_and_then, unwrap_or, if◌then◌else◌, All, le-leb, leb-true, lt-ltb, ltb-true}
 use Rattle.std.specs.Option.{ForSome, option_map_or}
-use Rattle.std.proofs.lemmas.Bool.{le-leb, leb-true, lt-ltb, ltb-true}
 use Rattle.std.proofs.lemmas.List.Elements.{All-cons, All-head, All-tail, All-weaker}
 use Rattle.std.proofs.lemmas.List.Sorted.{All-permutation, IsPermutation-sym}
 use Rattle.std.proofs.lemmas.Option.{same_Some}

@@ -1,12 +1,10 @@
 -- The verdict on a run is that it is kept exactly where it meets the premises.
-use Rattle.std.proofs.Common.{◌≡◌, ℕ, suc, ◌+◌, ◌<◌, ◌≤◌, ◌↔◌, true, List, [], ◌∷◌, Option, None, refl, ⊎_elim, get_or, sym, ap, ◌∙◌, arith, Some}
-use Rattle.std.specs.Prelude.{nat_le, nat_lt, option_and_then, Contains}
+use Rattle.std.proofs.Common.{◌≡◌, ℕ, suc, ◌+◌, ◌<◌, ◌≤◌, ◌↔◌, true, List, [], ◌∷◌, Option, None, refl, ⊎_elim, get_or, sym, ap, ◌∙◌, arith, Some, nat_le, nat_lt, option_and_then, Contains, All}
 use Rattle.std.proofs.lemmas.Bool.{false≢true}
 use Rattle.std.proofs.lemmas.Bool.Decides.{nat_tests}
 use Rattle.std.proofs.lemmas.List.Elements.{All-contains}
 use Rattle.std.proofs.lemmas.List.Sorted.{Contains-permutation, IsPermutation-sym}
 use Rattle.std.proofs.lemmas.Option.{none-some}
-use Rattle.std.specs.List.{All}
 use Rattle.std.specs.Option.{ForSome, option_map_or}
 use Rattle.meter_book.specs.Replay.{Journal, journal_rows}
 use Rattle.meter_book.specs.declared.row.Row.{Row}

@@ -1,8 +1,6 @@
 -- The run over a share that is sold twice meets all that is asked of it.
-use Rattle.std.proofs.Common.{◌≡◌, ℕ, ◌+◌, ◌-◌, ◌≤◌, zero, suc, Bool, true, false, [], ◌∷◌, refl, sym, ◌∙◌, ap, subst, arith, Option, Some, None, inl, inr}
+use Rattle.std.proofs.Common.{◌≡◌, ℕ, ◌+◌, ◌-◌, ◌≤◌, zero, suc, Bool, true, false, [], ◌∷◌, refl, sym, ◌∙◌, ap, subst, arith, Option, Some, None, inl, inr, nat_eq, nat_lt, filter, is_some, option_and_then, option_map, IsPermutation, IsSome, All, Contains}
 use Rattle.std.specs.Option.{ForSome}
-use Rattle.std.specs.Prelude.{nat_eq, nat_lt, filter, is_some, option_and_then, option_map, IsPermutation, IsSome}
-use Rattle.std.specs.List.{All, Contains}
 use Rattle.std.proofs.lemmas.Bool.{cases_lt, false≢true}
 use Rattle.std.proofs.lemmas.Bool.Decides.{nat_tests}
 use Rattle.std.proofs.lemmas.List.Elements.{All-cons}

@@ -1,6 +1,5 @@
 -- The overflow of sources over packets contract by contract is that of each contract by itself.
-use Rattle.std.proofs.Common.{◌≡◌, inl, inr, ℕ, zero, suc, ◌+◌, ◌*◌, ◌<◌, ◌≤◌, Bool, true, false, cond, List, [], ◌∷◌, map, get_or, take, drop, Option, None, Some, refl, sym, ap, subst, ◌∙◌, arith}
-use Rattle.std.specs.Prelude.{nat_eq, nat_le, nat_lt, ◌&&◌, ◌||◌, slice_get, option_and_then, option_map, if◌then◌else◌}
+use Rattle.std.proofs.Common.{◌≡◌, inl, inr, ℕ, zero, suc, ◌+◌, ◌*◌, ◌<◌, ◌≤◌, Bool, true, false, cond, List, [], ◌∷◌, map, get_or, take, drop, Option, None, Some, refl, sym, ap, subst, ◌∙◌, arith, nat_eq, nat_le, nat_lt, ◌&&◌, ◌||◌, slice_get, option_and_then, option_map, if◌then◌else◌}
 use Rattle.std.specs.List.{All, enumerate_from, filter}
 use Rattle.std.specs.Map.{keys_of, values_of}
 use Rattle.std.proofs.lemmas.Bool.{false≢true}

@@ -1,7 +1,6 @@
 -- What stands against journals and trails: in this order, a mismatch of the journals, then the first trail that is
 -- wrong, then rows that no trail tells.
-use Rattle.std.specs.Prelude.{◌≡◌, ◌⊎◌, ℕ, List, ◌∷◌, ◌++◌, All, AllPairs, Contains, IsPermutation, Option, Some, IfSome}
-use Rattle.std.specs.Prelude.{slice_get}
+use Rattle.std.specs.Prelude.{◌≡◌, ◌⊎◌, ℕ, List, ◌∷◌, ◌++◌, All, AllPairs, Contains, IsPermutation, Option, Some, IfSome, slice_get}
 use Rattle.indexmap.specs.IndexSet.{IndexSet}
 use Rattle.meter_book.specs.Replay.{Journal, journal_rows}
 use Rattle.meter_fabric_base.specs.Grounds.{Ground}

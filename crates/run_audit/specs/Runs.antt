@@ -1,7 +1,6 @@
 -- A run of contracts over a domain: journals of sites and packets with their receipts, which tell the same rows.
 -- There is no order over a whole run.
-use Rattle.std.specs.Prelude.{◌≡◌, ℕ, nat_eq, List, map, filter, flat_map, All, AllPairs, Contains, IsPermutation, Some}
-use Rattle.std.specs.Prelude.{IsSome}
+use Rattle.std.specs.Prelude.{◌≡◌, ℕ, nat_eq, List, map, filter, flat_map, All, AllPairs, Contains, IsPermutation, Some, IsSome}
 use Rattle.meter_book.specs.Replay.{Journal, journal_rows}
 use Rattle.meter_book.specs.declared.row.Row.{Row}
 use Rattle.ds_domain_base.specs.Sent.{came}

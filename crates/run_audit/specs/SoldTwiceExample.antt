@@ -15,8 +15,7 @@ use Rattle.ds_timeline.specs.Timelines.{AreRated, IsCovered, Timeline, table_by}
 use Rattle.ds_timeline.specs.declared.reservation.Reservation.{Reservation}
 use Rattle.meter_fabric_base.specs.Grounds.{Ground}
 use Rattle.meter_fabric_base.specs.Trails.{Packet}
-use Rattle.run_audit.specs.Examples.{contract_on, domain_with, small_bound, small_meter, small_parameters}
-use Rattle.run_audit.specs.Examples.{small_terms}
+use Rattle.run_audit.specs.Examples.{contract_on, domain_with, small_bound, small_meter, small_parameters, small_terms}
 use Rattle.run_audit.specs.KeptColours.{WasGranted}
 use Rattle.run_audit.specs.Premises.{Premises}
 use Rattle.run_audit.specs.Runs.{IsRun, Passage, Run}

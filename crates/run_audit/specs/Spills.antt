@@ -1,6 +1,5 @@
 -- The overflow of a source's bucket, over packets that stand contract by contract as they are sent.
-use Rattle.std.specs.Prelude.{ℕ, ◌+◌, ◌*◌, nat_le, nat_lt, if◌then◌else◌, List, [], ◌∷◌, take, drop, option_map, Option}
-use Rattle.std.specs.Prelude.{None, Some}
+use Rattle.std.specs.Prelude.{ℕ, ◌+◌, ◌*◌, nat_le, nat_lt, if◌then◌else◌, List, [], ◌∷◌, take, drop, option_map, Option, None, Some}
 use Rattle.std.specs.List.{prefix_len}
 use Rattle.moment_core.specs.Columns.{counts, each_column}
 use Rattle.moment_core.specs.declared.column.Column.{Column}

@@ -1,6 +1,5 @@
 -- The verdict on a run: the first premise that it broke, in the order of time, source, link and skew.
-use Rattle.std.specs.Prelude.{ℕ, suc, ◌+◌, ◌&&◌, ◌||◌, nat_eq, nat_le, nat_lt, Bool, true, false, if◌then◌else◌, List}
-use Rattle.std.specs.Prelude.{[], ◌∷◌, filter, slice_get, option_map, option_and_then, unwrap_or, Option, None, Some}
+use Rattle.std.specs.Prelude.{ℕ, suc, ◌+◌, ◌&&◌, ◌||◌, nat_eq, nat_le, nat_lt, Bool, true, false, if◌then◌else◌, List, [], ◌∷◌, filter, slice_get, option_map, option_and_then, unwrap_or, Option, None, Some}
 use Rattle.std.specs.Map.{keys_of}
 use Rattle.std.specs.Option.{option_map_or}
 use Rattle.moment_core.specs.declared.colour.Colour.{Colour}

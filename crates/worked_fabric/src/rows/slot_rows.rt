@@ -121,11 +121,7 @@ fn expect_codes(rt: &impl Abort, visits: &[Visit]) {
 }
 
 /// Expects what comes of three visits under one lock, where books have room for one row.
-pub fn several<L: FabricLedger, R: Wait + Abort>(
-    rt: &R,
-    alloc: Global,
-    stand: Stand<'_, '_, L>,
-) {
+pub fn several<L: FabricLedger, R: Wait + Abort>(rt: &R, alloc: Global, stand: Stand<'_, '_, L>) {
     let Stand {
         mut pass,
         others,

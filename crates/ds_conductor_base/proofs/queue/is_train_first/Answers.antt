@@ -1,5 +1,4 @@
-use Rattle.std.proofs.Common.{◌∙◌, ap, length, sym}
-use Rattle.std.specs.Ordering.{is_lt}
+use Rattle.std.proofs.Common.{◌∙◌, ap, length, sym, is_lt}
 use Rattle.ds_conductor_base.proofs.RunLaws.{filled, first_of_both, first_of_rows, first_of_run, unfilled}
 use Rattle.ds_conductor_base.proofs.queue.is_train_first.Goals as goal
 

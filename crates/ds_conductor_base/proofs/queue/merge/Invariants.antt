@@ -1,7 +1,4 @@
-use Rattle.std.proofs.Common.{◌≤◌, ◌+◌, ◌-◌, ◌++◌, length, drop}
-use Rattle.std.specs.Prelude.{IsPermutation}
-use Rattle.std.specs.List.Sorted.{IsSorted}
-use Rattle.std.specs.Vec.{vec_capacity, vec_len}
+use Rattle.std.proofs.Common.{◌≤◌, ◌+◌, ◌-◌, ◌++◌, length, drop, IsPermutation, IsSorted, vec_capacity, vec_len}
 use Rattle.ds_conductor_base.specs.Waits.{first_on_top}
 use Rattle.ds_conductor_base.proofs.RunLaws.{IsBehind}
 use Rattle.ds_conductor_base.proofs.queue.merge.Given as goal

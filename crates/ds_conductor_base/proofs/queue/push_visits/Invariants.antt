@@ -1,5 +1,4 @@
-use Rattle.std.proofs.Common.{◌≡◌, ◌≤◌, ◌+◌, ◌++◌, length, map, take}
-use Rattle.std.specs.Vec.{vec_capacity, vec_len}
+use Rattle.std.proofs.Common.{◌≡◌, ◌≤◌, ◌+◌, ◌++◌, length, map, take, vec_capacity, vec_len}
 use Rattle.ds_conductor_base.specs.Visits.{visit_to}
 use Rattle.ds_conductor_base.specs.Waits.{visits_in}
 use Rattle.ds_conductor_base.proofs.queue.push_visits.Given as goal

@@ -1,8 +1,7 @@
 use Rattle.std.proofs.Common.{◌≡◌, ◌+◌, ◌++◌, ◌∷◌, List, [], below_more, ap, map, sym, ◌∙◌, arith}
 use Rattle.std.specs.List.{range_with_len}
 use Rattle.std.proofs.lemmas.List.FromFn.{map-range_with_len_more}
-use Rattle.ds_conductor_base.specs.Ways.{stops_at}
-use Rattle.ds_conductor_base.specs.Ways.{Stop}
+use Rattle.ds_conductor_base.specs.Ways.{stops_at, Stop}
 use Rattle.ds_conductor_base.proofs.WayLaws.{are_near, are_ways}
 use Rattle.ds_conductor_base.proofs.way.all_stops.Goals as goal
 

@@ -1,6 +1,4 @@
-use Rattle.std.proofs.Common.{◌≡◌, List, Some, sym, ap, subst, ◌∙◌, arith}
-use Rattle.std.specs.Prelude.{None, slice_get}
-use Rattle.std.specs.Option.{option_copied}
+use Rattle.std.proofs.Common.{◌≡◌, List, Some, sym, ap, subst, ◌∙◌, arith, None, slice_get, option_copied}
 use Rattle.ds_domain_base.specs.Routes.{Route, route_of}
 use Rattle.ds_domain_base.specs.declared.route.Leg.{Leg}
 use Rattle.ds_conductor_base.specs.Ways.{NoneNearer, stops_of}

@@ -1,5 +1,4 @@
-use Rattle.std.proofs.Common.{ap, sym, ◌∙◌}
-use Rattle.std.specs.Prelude.{slice_get}
+use Rattle.std.proofs.Common.{ap, sym, ◌∙◌, slice_get}
 use Rattle.meter_fabric_base.proofs.GroundLaws.{found_at}
 use Rattle.meter_fabric_base.proofs.site.contract_of.Goals as goal
 

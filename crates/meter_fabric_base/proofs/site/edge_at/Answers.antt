@@ -1,5 +1,4 @@
-use Rattle.std.proofs.Common.{◌≡◌, ℕ, Some, ap, sym, ◌∙◌}
-use Rattle.std.specs.Prelude.{option_and_then, option_map}
+use Rattle.std.proofs.Common.{◌≡◌, ℕ, Some, ap, sym, ◌∙◌, option_and_then, option_map}
 use Rattle.ds_domain_base.specs.Domains.{port_of, skew_of}
 use Rattle.ds_domain_base.specs.Routes.{Route}
 use Rattle.meter_fabric_base.specs.Openings.{edge_opening}

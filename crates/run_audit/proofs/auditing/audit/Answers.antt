@@ -1,5 +1,4 @@
-use Rattle.std.proofs.Common.{◌≡◌, subst, sym, ◌∙◌, ap}
-use Rattle.std.specs.Prelude.{unwrap_or}
+use Rattle.std.proofs.Common.{◌≡◌, subst, sym, ◌∙◌, ap, unwrap_or}
 use Rattle.run_audit.specs.Bases.{IsGranted}
 use Rattle.run_audit.specs.Verdicts.{verdict_of}
 use Rattle.run_audit.specs.declared.verdict.Verdict.TheVariants.{Kept}

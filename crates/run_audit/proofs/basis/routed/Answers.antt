@@ -1,5 +1,4 @@
-use Rattle.std.proofs.Common.{◌∙◌, Some, ap, sym}
-use Rattle.std.specs.Prelude.{option_map}
+use Rattle.std.proofs.Common.{◌∙◌, Some, ap, sym, option_map}
 use Rattle.std.proofs.lemmas.Option.{slice_get_within}
 use Rattle.ds_domain_base.specs.Routes.{route_of}
 use Rattle.meter_fabric_base.proofs.GroundLaws.{place_of}

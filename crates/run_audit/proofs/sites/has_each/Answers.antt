@@ -1,5 +1,4 @@
-use Rattle.std.proofs.Common.{⊎_elim, map, refl, sym, subst, arith}
-use Rattle.std.specs.Prelude.{Contains, IsSome}
+use Rattle.std.proofs.Common.{⊎_elim, map, refl, sym, subst, arith, Contains, IsSome}
 use Rattle.std.proofs.lemmas.Bool.{cases_eq}
 use Rattle.run_audit.specs.Bases.{basis_of}
 use Rattle.meter_fabric_base.specs.Openings.{opening_at}

@@ -1,5 +1,4 @@
-use Rattle.std.proofs.Common.{◌<◌, ℕ, map}
-use Rattle.std.specs.Prelude.{Contains, IsSome}
+use Rattle.std.proofs.Common.{◌<◌, ℕ, map, Contains, IsSome}
 use Rattle.run_audit.specs.Bases.{basis_of}
 use Rattle.meter_fabric_base.specs.Openings.{opening_at}
 use Rattle.run_audit.proofs.sites.has_each.Given as goal

@@ -1,5 +1,4 @@
-use Rattle.std.proofs.Common.{sym, ap, map, ◌∙◌}
-use Rattle.std.specs.Prelude.{is_some, nat_eq}
+use Rattle.std.proofs.Common.{sym, ap, map, ◌∙◌, is_some, nat_eq}
 use Rattle.run_audit.proofs.JournalLaws.{is_among, place_found}
 use Rattle.run_audit.proofs.sites.is_met.Goals as goal
 

@@ -1,5 +1,4 @@
-use Rattle.std.proofs.Common.{◌∙◌, ◌++◌, ◌∷◌, [], ap, map, subst}
-use Rattle.std.specs.Prelude.{nat_eq, position}
+use Rattle.std.proofs.Common.{◌∙◌, ◌++◌, ◌∷◌, [], ap, map, subst, nat_eq, position}
 use Rattle.std.specs.List.{list_any}
 use Rattle.run_audit.specs.Assembling.{Knows}
 use Rattle.run_audit.proofs.JournalLaws.{no_place, was_new}

@@ -1,5 +1,4 @@
-use Rattle.std.proofs.Common.{◌≡◌, map, take, Some}
-use Rattle.std.specs.Prelude.{All, AllPairs}
+use Rattle.std.proofs.Common.{◌≡◌, map, take, Some, All, AllPairs}
 use Rattle.run_audit.specs.Assembling.{Knows}
 use Rattle.run_audit.specs.Bases.{basis_of}
 use Rattle.meter_fabric_base.specs.Openings.{opening_at}

@@ -1,5 +1,4 @@
-use Rattle.std.proofs.Common.{◌∙◌, ap, subst, sym}
-use Rattle.std.proofs.lemmas.List.{map-id}
+use Rattle.std.proofs.Common.{◌∙◌, ap, subst, sym, map-id}
 use Rattle.meter_book.specs.Replay.{journal_rows}
 use Rattle.run_audit.specs.Verdicts.{by_site, first_found, late_row}
 use Rattle.run_audit.proofs.LeastLaws.{least_ended, least_more, least_start}

@@ -1,5 +1,4 @@
-use Rattle.std.proofs.Common.{◌≡◌}
-use Rattle.std.specs.Prelude.{drop}
+use Rattle.std.proofs.Common.{◌≡◌, drop}
 use Rattle.meter_book.specs.Replay.{journal_rows}
 use Rattle.run_audit.specs.Verdicts.{first_found, late_row}
 use Rattle.run_audit.proofs.skews.late_in.Given as goal

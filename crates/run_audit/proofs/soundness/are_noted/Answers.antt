@@ -1,6 +1,5 @@
-use Rattle.std.proofs.Common.{refl, ap, length, arith}
+use Rattle.std.proofs.Common.{refl, ap, length, arith, take_all}
 use Rattle.std.proofs.lemmas.Bool.{false≢true}
-use Rattle.std.proofs.lemmas.List.{take_all}
 use Rattle.std.proofs.lemmas.List.Elements.{All-more}
 use Rattle.run_audit.specs.Assembling.{IsNoted}
 use Rattle.run_audit.proofs.soundness.are_noted.Goals as goal

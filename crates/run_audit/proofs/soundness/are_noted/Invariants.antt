@@ -1,5 +1,4 @@
-use Rattle.std.proofs.Common.{take}
-use Rattle.std.specs.Prelude.{All}
+use Rattle.std.proofs.Common.{take, All}
 use Rattle.run_audit.specs.Assembling.{IsNoted}
 use Rattle.run_audit.proofs.soundness.are_noted.Given as goal
 

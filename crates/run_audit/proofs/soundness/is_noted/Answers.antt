@@ -1,5 +1,4 @@
-use Rattle.std.proofs.Common.{◌∙◌, ap, map, sym}
-use Rattle.std.specs.Prelude.{is_some, nat_eq}
+use Rattle.std.proofs.Common.{◌∙◌, ap, map, sym, is_some, nat_eq}
 use Rattle.std.proofs.lemmas.Bool.{false≢true}
 use Rattle.run_audit.proofs.JournalLaws.{not_noted, noted_here, place_found}
 use Rattle.run_audit.proofs.soundness.is_noted.Goals as goal

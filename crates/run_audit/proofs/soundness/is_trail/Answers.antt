@@ -1,6 +1,4 @@
-use Rattle.std.proofs.Common.{refl, sym, ap, subst, ◌∙◌, length, arith}
-use Rattle.std.specs.Prelude.{slice_get}
-use Rattle.std.specs.Option.{option_to_list}
+use Rattle.std.proofs.Common.{refl, sym, ap, subst, ◌∙◌, length, arith, slice_get, option_to_list}
 use Rattle.std.proofs.lemmas.Bool.{true≢false, false≢true}
 use Rattle.ds_domain_base.specs.Routes.{AreInside, Route}
 use Rattle.meter_fabric_base.specs.Sites.{hops_of}

@@ -1,6 +1,5 @@
-use Rattle.std.proofs.Common.{◌∙◌, ◌≤◌, arith, ap, length, map, refl, sym, take, drop, ◌-◌}
+use Rattle.std.proofs.Common.{◌∙◌, ◌≤◌, arith, ap, length, map, refl, sym, take, drop, ◌-◌, is_some, option_copied}
 use Rattle.std.specs.Map.{values_of}
-use Rattle.std.specs.Option.{is_some, option_copied}
 use Rattle.std.proofs.lemmas.Map.Entries.{length-values_of}
 use Rattle.ds_domain_base.specs.Routes.{route_of}
 use Rattle.meter_fabric_base.specs.Grounds.{contract_of}

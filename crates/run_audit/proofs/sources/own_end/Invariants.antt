@@ -1,5 +1,4 @@
-use Rattle.std.proofs.Common.{◌≡◌, ◌+◌}
-use Rattle.std.specs.Prelude.{drop, nat_le}
+use Rattle.std.proofs.Common.{◌≡◌, ◌+◌, drop, nat_le}
 use Rattle.std.specs.List.{prefix_len}
 use Rattle.run_audit.proofs.sources.own_end.Given as goal
 

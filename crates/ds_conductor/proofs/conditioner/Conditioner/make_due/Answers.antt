@@ -1,5 +1,4 @@
-use Rattle.std.proofs.Common.{◌+◌, ◌<◌, true, ap, refl, sym, subst}
-use Rattle.std.specs.List.{All}
+use Rattle.std.proofs.Common.{◌+◌, ◌<◌, true, ap, refl, sym, subst, All}
 use Rattle.ds_conductor_base.proofs.HeadStartLaws.{come_sooner}
 use Rattle.ds_conductor_base.specs.Streams.{ComeFrom}
 use Rattle.ds_conductor_base.specs.declared.visit.Visit.{Visit}

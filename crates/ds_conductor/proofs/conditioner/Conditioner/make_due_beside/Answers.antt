@@ -1,7 +1,6 @@
-use Rattle.std.proofs.Common.{true, ◌<◌, ◌+◌, ap, refl, subst, sym}
+use Rattle.std.proofs.Common.{true, ◌<◌, ◌+◌, ap, refl, subst, sym, All}
 use Rattle.ds_conductor_base.proofs.HeadStartLaws.{come_sooner}
 use Rattle.ds_conductor_base.specs.Streams.{ComeFrom}
-use Rattle.std.specs.List.{All}
 use Rattle.ds_conductor_base.specs.declared.visit.Visit.{Visit}
 use Rattle.ds_conductor.proofs.BoundLaws.{late_all, made_bounded}
 use Rattle.ds_conductor.proofs.ConditionLaws.{made}

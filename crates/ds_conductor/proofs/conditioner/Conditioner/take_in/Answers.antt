@@ -1,5 +1,4 @@
-use Rattle.std.proofs.Common.{◌<◌, ◌-◌, ◌^◌, ℕ, arith, ◌≡◌, [], ◌∷◌, ◌++◌, if◌then◌else◌, is_ok, Option, ap, refl, ◌∙◌}
-use Rattle.std.specs.Prelude.{max, option_to_list, OnErr, Result, Ok, Err}
+use Rattle.std.proofs.Common.{◌<◌, ◌-◌, ◌^◌, ℕ, arith, ◌≡◌, [], ◌∷◌, ◌++◌, if◌then◌else◌, is_ok, Option, ap, refl, ◌∙◌, max, option_to_list, OnErr, Result, Ok, Err}
 use Rattle.ds_runs.specs.Judging.{verdict_with}
 use Rattle.frame_marker.specs.declared.mark.Mark.{Mark}
 use Rattle.ds_conductor.specs.Seens.{SeenValue}

@@ -1,6 +1,4 @@
-use Rattle.std.proofs.Common.{ap, subst}
-use Rattle.std.specs.Prelude.{MatchOption, [], ◌≡◌}
-use Rattle.std.specs.BinaryHeap.{heap_items, heap_len}
+use Rattle.std.proofs.Common.{ap, subst, MatchOption, [], ◌≡◌, heap_items, heap_len}
 use Rattle.ds_conductor_base.specs.Trains.{IsFirst, Stock}
 use Rattle.ds_conductor_base.proofs.TrainLaws.{first_told}
 use Rattle.ds_conductor_base.proofs.trains.Trains.first.Goals as goal

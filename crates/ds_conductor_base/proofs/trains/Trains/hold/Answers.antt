@@ -1,6 +1,4 @@
-use Rattle.std.proofs.Common.{rules, ◌∷◌, ◌++◌, List, ap, subst, arith}
-use Rattle.std.specs.Prelude.{IsOk, IsPermutation}
-use Rattle.std.specs.BinaryHeap.{heap_items}
+use Rattle.std.proofs.Common.{rules, ◌∷◌, ◌++◌, List, ap, subst, arith, IsOk, IsPermutation, heap_items}
 use Rattle.std.specs.declared.cmp.Reverse.{Reverse}
 use Rattle.ds_conductor_base.specs.Trains.{Stock, rows_in}
 use Rattle.ds_conductor_base.specs.declared.waiting.Waiting.{Waiting}

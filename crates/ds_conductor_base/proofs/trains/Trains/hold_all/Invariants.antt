@@ -1,5 +1,4 @@
-use Rattle.std.proofs.Common.{◌≤◌, ◌+◌, ◌++◌, length, take}
-use Rattle.std.specs.Prelude.{IsPermutation}
+use Rattle.std.proofs.Common.{◌≤◌, ◌+◌, ◌++◌, length, take, IsPermutation}
 use Rattle.ds_conductor_base.proofs.trains.Trains.hold_all.Given as goal
 
 -- there is room for the visits that are left, and the others are there

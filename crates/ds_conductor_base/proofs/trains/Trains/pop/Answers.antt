@@ -1,6 +1,4 @@
-use Rattle.std.proofs.Common.{rules, ◌∙◌, ◌∷◌, ◌++◌, List, ap, subst, sym, arith}
-use Rattle.std.specs.Prelude.{IsOk, IsPermutation, None, Some}
-use Rattle.std.specs.BinaryHeap.{heap_items}
+use Rattle.std.proofs.Common.{rules, ◌∙◌, ◌∷◌, ◌++◌, List, ap, subst, sym, arith, IsOk, IsPermutation, None, Some, heap_items}
 use Rattle.std.specs.declared.cmp.Reverse.{Reverse}
 use Rattle.std.proofs.lemmas.List.Sorted.{IsPermutation-refl}
 use Rattle.ds_conductor_base.specs.Trains.{IsFirst, Stock, rows_in}

@@ -1,4 +1,4 @@
-use Rattle.std.specs.BinaryHeap.{heap_items}
+use Rattle.std.proofs.Common.{heap_items}
 use Rattle.ds_conductor_base.proofs.trains.Trains.turn.Goals as goal
 
 pub invariant_of-self : goal.invariant_of-self

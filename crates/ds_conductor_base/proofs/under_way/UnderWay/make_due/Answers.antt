@@ -1,5 +1,4 @@
-use Rattle.std.proofs.Common.{◌≡◌, ◌<◌, ◌^◌, ap, length, subst, ◌∙◌, sym, arith}
-use Rattle.std.specs.List.{All}
+use Rattle.std.proofs.Common.{◌≡◌, ◌<◌, ◌^◌, ap, length, subst, ◌∙◌, sym, arith, All}
 use Rattle.ds_conductor_base.specs.KeptStreams.{stream_of}
 use Rattle.ds_conductor_base.specs.Streams.{IsStream, colours_left, made_due}
 use Rattle.ds_conductor_base.proofs.StreamLaws.{made_comes, made_none}

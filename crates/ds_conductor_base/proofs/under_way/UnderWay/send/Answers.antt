@@ -1,5 +1,4 @@
-use Rattle.std.proofs.Common.{◌≡◌, ◌+◌, ◌++◌, ◌∷◌, [], ap, length, refl, ◌∙◌, arith}
-use Rattle.std.specs.Prelude.{is_ok, if◌then◌else◌}
+use Rattle.std.proofs.Common.{◌≡◌, ◌+◌, ◌++◌, ◌∷◌, [], ap, length, refl, ◌∙◌, arith, is_ok, if◌then◌else◌}
 use Rattle.ds_conductor_base.specs.Streams.{colours_left, next_place}
 use Rattle.ds_conductor_base.proofs.UnderWayLaws.{length-carried, own_stops, sent_all, sent_apart, sent_count, sent_counted, sent_is}
 use Rattle.ds_conductor_base.specs.declared.passing.OnTheWay.{OnTheWay}

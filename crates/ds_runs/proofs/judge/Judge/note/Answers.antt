@@ -1,6 +1,4 @@
-use Rattle.std.proofs.Common.{◌≡◌, ◌∷◌, List, None, Some, ap, refl, sym, ◌∙◌}
-use Rattle.std.specs.Prelude.{slice_get}
-use Rattle.std.specs.Option.{option_copied}
+use Rattle.std.proofs.Common.{◌≡◌, ◌∷◌, List, None, Some, ap, refl, sym, ◌∙◌, slice_get, option_copied}
 use Rattle.ds_conductor_base.specs.declared.sent.Sent.{Sent}
 use Rattle.meter_fabric_base.specs.Grounds.{contract_of, ground_of}
 use Rattle.ds_runs.specs.Judging.{Judging, is_first, noted, reached_by, verdict_with}

@@ -1,6 +1,5 @@
-use Rattle.std.proofs.Common.{◌≡◌, ◌<◌, ◌∙◌, length, get_or, is_some, true, sym, ap, subst, arith}
+use Rattle.std.proofs.Common.{◌≡◌, ◌<◌, ◌∙◌, length, get_or, is_some, true, sym, ap, subst, arith, bytes_eq}
 use Rattle.std.specs.Map.{lookup}
-use Rattle.std.specs.Str.{bytes_eq}
 use Rattle.dsedge_texts.proofs.NamedLaws.{noted_again, noted_next}
 use Rattle.dsedge_audit.proofs.flows.Flows.new.Goals.{then-not-contains_key+in_ok-insert, else-not-contains_key}
 use Rattle.dsedge_audit.proofs.flows.Flows.new.Goals as goal

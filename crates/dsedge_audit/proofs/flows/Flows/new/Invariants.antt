@@ -1,6 +1,5 @@
-use Rattle.std.proofs.Common.{◌≡◌, ℕ, List, position, take}
+use Rattle.std.proofs.Common.{◌≡◌, ℕ, List, position, take, bytes_eq}
 use Rattle.std.specs.Map.{lookup}
-use Rattle.std.specs.Str.{bytes_eq}
 use Rattle.dsedge_audit.proofs.flows.Flows.new.Given as goal
 
 -- under each name of a contract so far stands the place of the first that has it

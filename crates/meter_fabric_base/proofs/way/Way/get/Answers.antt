@@ -1,5 +1,4 @@
-use Rattle.std.proofs.Common.{ap, ◌∙◌, arith}
-use Rattle.std.specs.Prelude.{slice_get}
+use Rattle.std.proofs.Common.{ap, ◌∙◌, arith, slice_get}
 use Rattle.meter_fabric_base.proofs.WayLaws.{found_hop, no_hop}
 use Rattle.meter_fabric_base.proofs.way.Way.get.Goals as goal
 

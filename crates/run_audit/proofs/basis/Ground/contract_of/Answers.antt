@@ -1,5 +1,4 @@
-use Rattle.std.proofs.Common.{◌∙◌, ap, sym}
-use Rattle.std.specs.Prelude.{is_some}
+use Rattle.std.proofs.Common.{◌∙◌, ap, sym, is_some}
 use Rattle.run_audit.specs.Bases.{ground_along}
 use Rattle.meter_fabric_base.specs.Grounds.{ground_of}
 use Rattle.run_audit.proofs.BasisLaws.{counted_at, numbered_some, some_copied, table_counted, table_few}

@@ -1,5 +1,4 @@
-use Rattle.std.proofs.Common.{◌-◌, length, ap, sym, ◌∙◌, arith}
-use Rattle.std.specs.Prelude.{option_and_then}
+use Rattle.std.proofs.Common.{◌-◌, length, ap, sym, ◌∙◌, arith, option_and_then}
 use Rattle.meter_fabric_base.specs.Grounds.{contract_of}
 use Rattle.meter_fabric_base.specs.Openings.{edge_opening}
 use Rattle.meter_fabric_base.proofs.GroundLaws.{none_past, opening_behind}
