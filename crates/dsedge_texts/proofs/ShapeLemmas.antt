@@ -1,16 +1,15 @@
 -- A certificate has the shape of its contracts.
-use Rattle.std.proofs.Common.{◌≡◌, ◌⊎◌, inl, inr, ℕ, suc, true, eqb, List, [], ◌∷◌, length, Option, None, Some, Result, Ok, Err, IsTrue, refl, sym, ap, ◌∙◌, arith, is_ok}
+use Rattle.std.proofs.Common.{◌≡◌, ◌⊎◌, inl, inr, ℕ, suc, true, eqb, List, [], ◌∷◌, length, None, Some, Err, refl, sym, ap, ◌∙◌, arith}
 use Rattle.std.proofs.lemmas.Bool.Decides.{nat_tests}
 use Rattle.ds_domain_base.specs.Domains.{Domain}
 use Rattle.ds_domain_base.specs.declared.contract.Contract.{Contract}
 use Rattle.ds_certificate.specs.Bounds.{IsCertificate}
 use Rattle.ds_certificate.specs.Columns.{Bound}
 use Rattle.ds_certificate.specs.Texts.{is_shaped}
-use Rattle.ds_certificate.specs.declared.fault.CertificateFault.{CertificateFault}
 use Rattle.ds_checker.specs.Acceptance.{Table, bounds_refusal_of, refusal_of}
 use Rattle.ds_checker.specs.declared.refusal.Refusal.{Refusal}
 use Rattle.ds_checker.proofs.CheckLaws.{never_memory}
-use Rattle.dsedge_texts.specs.Accepted.{IsUnfaulty, judged}
+use Rattle.dsedge_texts.specs.Accepted.{judged}
 use Rattle.dsedge_texts.specs.Refused.{refusal_line}
 use Rattle.dsedge_texts.specs.declared.accepting.TableFault.{TableFault}
 use Rattle.dsedge_texts.specs.declared.accepting.TableFault.TheVariants as faults
@@ -26,11 +25,6 @@ is_shaped-certificate d [] (bounds ∷ rows) is = absurd is
 is_shaped-certificate d (c ∷ contracts) [] is = absurd is
 is_shaped-certificate d (c ∷ contracts) (bounds ∷ rows) is =
     rw (long_test (length bounds) (length c.path) is.0.0.1) (is_shaped-certificate d contracts rows is.1)
-
--- a certificate that is said has no fault
-pub unfaulty : (said : Result (List (List Bound)) CertificateFault) → IsTrue (is_ok said) → IsUnfaulty said
-unfaulty (Ok certificate) is = tt
-unfaulty (Err fault) is = absurd is
 
 -- what is told of a refusal of a candidate
 pub judge-told : (t : Table) (contracts : List Contract) (refusal : Refusal) (fault : TableFault) → contracts ≡ t.contracts
