@@ -1,7 +1,7 @@
-ghost use Rattle.std.specs.Prelude.{◌≡◌, ◌++◌, ◌⊎◌, flat_map, Ok, Err, IfErr, IfOk, OnOk};
+ghost use Rattle.std.specs.Prelude.{◌≡◌, ◌++◌, flat_map, Ok, IfErr, IfOk, OnOk};
 ghost use Rattle.meter_fabric_base.specs.Grounds.{ground_of};
 ghost use Rattle.ds_runs.specs.Conducting.{run_so_far};
-ghost use Rattle.ds_runs.specs.Steps.{opened, stepped};
+ghost use Rattle.ds_runs.specs.Steps.{opened, refusal_of, stepped};
 ghost use Rattle.dsedge_lines.specs.Answers.{AnswersAll, behind};
 ghost use Rattle.dsedge_audit.specs.Audited.{accounts_line, audit_from, audit_of, ending_by, verdict_line};
 
@@ -12,6 +12,7 @@ use crate::verdict_text::push_verdict;
 use ds_checker::Accepted;
 use ds_runs::{Conductor, Step, StepFault};
 use dsedge_lines::{Command, Ending};
+use meter_fabric_base::contract_of;
 use run_audit::{Run, Verdict, audit};
 use std::alloc::{AllocError, Global};
 use std::marker::Model;
@@ -53,17 +54,18 @@ impl<'a> AuditCommand<'a> {
     }
 
     /// Makes a step, as `Conductor::step`, which also says what is refused.
-    #[tactic(auto, using(crate::proofs::AuditLaws::refused_told))]
     fn make(&mut self, step: Step) -> Result<(), StepFault>
         ensures table { self.new.table ≡ self.old.table }
         ensures done { OnOk result (stepped self.old.table self.old.stage step ≡ Ok self.new.stage) }
-        ensures refused { IfErr result (λ fault. (fault ≡ StepFault.NoMemory)
-            ⊎ (stepped self.old.table self.old.stage step ≡ Err fault)) }
+        ensures refused { IfErr result (λ fault. fault ≡ refusal_of (stepped self.old.table self.old.stage step)) }
     {
         match &mut self.conductor {
             Some(conductor) => conductor.step(step),
             None => {
-                let mut conductor = Conductor::new(self.alloc, self.flows.accepted())?;
+                let accepted = self.flows.accepted();
+                let Ok(mut conductor) = Conductor::new(self.alloc, accepted) else {
+                    return Err(first_refusal(accepted, step));
+                };
                 let done = conductor.step(step);
                 self.conductor = Some(conductor);
                 done
@@ -81,6 +83,20 @@ impl<'a> AuditCommand<'a> {
             None => Conductor::new(self.alloc, self.flows.accepted())?,
         };
         conductor.finish(self.alloc)
+    }
+}
+
+/// What the first step is refused with where no memory is there to make it.
+#[tactic(auto, using(crate::proofs::AuditLaws::unknown_first, crate::proofs::AuditLaws::visit_first))]
+fn first_refusal(accepted: &Accepted, step: Step) -> StepFault
+    ensures { result ≡ refusal_of (stepped accepted.now (opened accepted.now) step) }
+{
+    match step {
+        Step::Send { flow, .. } => match contract_of(accepted, flow) {
+            Some(_) => StepFault::NoMemory,
+            None => StepFault::BadStep,
+        },
+        Step::Visit { .. } => StepFault::BadStep,
     }
 }
 
