@@ -1,5 +1,5 @@
 -- A table without one of its contracts, as one contract more sees it along its route.
-use Rattle.std.proofs.Common.{arith, ◌≡◌, ℕ, ◌^◌, ◌<◌, ◌≤◌, Bool, true, false, List, [], ◌∷◌, length, get_or, drop, if◌then◌else◌, nat_eq, nat_le, nat_lt, not, Option, None, Some, option_map, refl, sym, ap, subst, ◌∙◌, IfSome, IsTrue, is_none, is_some, bytes_eq}
+use Rattle.std.proofs.Common.{arith, ◌≡◌, ℕ, ◌^◌, ◌<◌, ◌≤◌, Bool, true, false, List, [], ◌∷◌, length, get_or, drop, if◌then◌else◌, nat_eq, nat_lt, not, Option, None, Some, option_map, refl, sym, ap, subst, ◌∙◌, IfSome, IsTrue, is_none, is_some, bytes_eq}
 use Rattle.std.specs.List.{AllByRecursion, IsDistinct, fold}
 use Rattle.std.proofs.lemmas.List.{get_or_default, length-map}
 use Rattle.std.proofs.lemmas.List.Edits.{length-remove}
@@ -23,7 +23,7 @@ use Rattle.ds_checker.specs.Loads.{share_of, shares_at}
 use Rattle.ds_checker.specs.Places.{at_place, earlier}
 use Rattle.ds_checker.specs.Routed.{first_on, refusal_by, sums_at, sums_on, with_legs}
 use Rattle.ds_checker.specs.Sums.{AreBelow, IsBefore, IsKept, IsSound, loads_of, no_loads, sum_tests, sums_of, sums_tests, with_brought, with_share}
-use Rattle.ds_checker.specs.Tests.{Test, first_failed}
+use Rattle.ds_checker.specs.Tests.{first_failed}
 use Rattle.ds_checker.specs.declared.load.Loads.{Loads}
 use Rattle.ds_checker.specs.declared.refusal.Refusal.{Refusal}
 use Rattle.ds_checker.proofs.ChangeLaws.{acceptable-taken, kept-below, kept-taken, refused-lasting, rows_long, shape_at, sums-taken, sums_pass}

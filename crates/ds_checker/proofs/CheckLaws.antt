@@ -1,5 +1,5 @@
 -- What stands against a table, part by part.
-use Rattle.std.proofs.Common.{arith, ◌≡◌, ◌∙◌, ℕ, ◌+◌, ◌≤◌, ◌<◌, true, false, inl, nat_lt, List, drop, get_or, length, Option, None, Some, refl, ap, sym, Bool, suc, [], ◌∷◌, ◌++◌, nat_le, if◌then◌else◌, subst, le-ltb, lt-ltb}
+use Rattle.std.proofs.Common.{arith, ◌≡◌, ◌∙◌, ℕ, ◌+◌, ◌≤◌, ◌<◌, true, false, inl, List, drop, get_or, length, Option, None, Some, refl, ap, sym, Bool, suc, [], ◌∷◌, ◌++◌, nat_le, if◌then◌else◌, subst, le-ltb, lt-ltb}
 use Rattle.std.specs.Bool.{then_some}
 use Rattle.std.specs.Option.{option_or}
 use Rattle.std.proofs.lemmas.List.{drop_all}

@@ -1,6 +1,6 @@
 -- What is taken at the meter of a name, and that it has as much.
 use Rattle.std.proofs.Common.{arith, ◌≡◌, ℕ, suc, ◌+◌, Bool, true, false, cond, List, [], ◌∷◌, get_or, map, None, Some, option_map, refl, sym, ap, subst, ◌∙◌, All, bytes_eq}
-use Rattle.std.specs.List.{AllByRecursion, position, position_or_len}
+use Rattle.std.specs.List.{position, position_or_len}
 use Rattle.std.specs.Map.{keys_of, lookup}
 use Rattle.std.proofs.lemmas.List.Elements.{All-head, All-tail}
 use Rattle.std.proofs.lemmas.Slice.Eq.{bytes_eq-Decides}

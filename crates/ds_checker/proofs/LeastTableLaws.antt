@@ -1,5 +1,5 @@
 -- Where any certificate is acceptable, the least one is: lower bounds bring less to each meter.
-use Rattle.std.proofs.Common.{◌≡◌, ◌≤◌, ℕ, Bool, true, List, [], ◌∷◌, ◌++◌, Option, refl, sym, subst, ◌∙◌, arith, inl, inr, drop, filter, map, sum_by, bytes_eq}
+use Rattle.std.proofs.Common.{◌≡◌, ◌≤◌, ℕ, Bool, true, List, [], ◌∷◌, ◌++◌, refl, sym, subst, ◌∙◌, arith, inl, inr, drop, filter, map, sum_by, bytes_eq}
 use Rattle.std.specs.List.{AllZip, list_all, list_any}
 use Rattle.std.proofs.lemmas.Bool.{cases_Bool, and_from}
 use Rattle.std.proofs.lemmas.List.Elements.{All-weaker}

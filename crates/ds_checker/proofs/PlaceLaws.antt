@@ -1,6 +1,6 @@
 -- What sums are at the place of a name, and the first place at which a meter has too little.
-use Rattle.std.proofs.Common.{arith, ◌≡◌, ℕ, zero, suc, ◌+◌, ◌-◌, ◌<◌, ◌≤◌, Bool, true, false, nat_lt, List, [], ◌∷◌, length, set, get_or, if◌then◌else◌, Option, None, Some, option_map, refl, sym, ap, subst, ◌∙◌, bytes_eq}
-use Rattle.std.specs.List.{AllByRecursion, IsDistinct, fold}
+use Rattle.std.proofs.Common.{arith, ◌≡◌, ℕ, zero, suc, ◌+◌, ◌-◌, ◌<◌, ◌≤◌, Bool, true, false, nat_lt, List, [], ◌∷◌, length, set, get_or, if◌then◌else◌, Option, None, Some, option_map, refl, sym, ap, ◌∙◌}
+use Rattle.std.specs.List.{AllByRecursion}
 use Rattle.std.specs.Option.{option_or}
 use Rattle.std.proofs.lemmas.Bool.Decides.{nat_tests}
 use Rattle.envelope_core.specs.Curve.{Curve, widened}
@@ -8,12 +8,12 @@ use Rattle.moment_core.specs.declared.column.Column.TheVariants.{Green, All, Exc
 use Rattle.ds_domain_base.specs.declared.parts.Meter.{Meter}
 use Rattle.ds_checker.specs.Loads.{Share, kept}
 use Rattle.ds_checker.specs.Places.{at_place, earlier}
-use Rattle.ds_checker.specs.Sums.{IsCounted, IsPeakCounted, less, plus, sum_tests, sums_tests, with_brought, with_share, without_share}
+use Rattle.ds_checker.specs.Sums.{IsCounted, IsPeakCounted, less, plus, sum_tests, sums_tests, with_share, without_share}
 use Rattle.ds_checker.specs.Tests.{first_failed}
 use Rattle.ds_checker.specs.declared.load.Loads.{Loads}
 use Rattle.ds_checker.specs.declared.refusal.Refusal.{Refusal}
 use Rattle.ds_checker.proofs.BoundLaws.{first_failed-append, none_failed}
-use Rattle.ds_checker.proofs.LoadLaws.{apart_at, same_curve, with_brought-apart}
+use Rattle.ds_checker.proofs.LoadLaws.{same_curve}
 
 -- ---- a share that is taken back
 abbrev pub loads_with : ℕ → Curve → Curve → Curve → ℕ → Loads

@@ -1,5 +1,5 @@
 -- The hold of a contract, by its route.
-use Rattle.std.proofs.Common.{◌≡◌, ℕ, ◌+◌, ◌⊎◌, inl, inr, List, [], ◌∷◌, ◌++◌, max, drop, refl, sym, ap, ◌∙◌}
+use Rattle.std.proofs.Common.{◌≡◌, ℕ, ◌+◌, ◌⊎◌, List, [], ◌∷◌, ◌++◌, max, drop, refl, sym, ap, ◌∙◌}
 use Rattle.std.proofs.Math.Nat.{max-zero}
 use Rattle.ds_domain_base.specs.Domains.{Domain, meter_of}
 use Rattle.ds_domain_base.specs.Routes.{Route, legs_along, meter_skew, route_of}

@@ -1,5 +1,5 @@
 -- Legs that lead to places that all differ: each share can be added first or last, and is taken back by its place.
-use Rattle.std.proofs.Common.{arith, ◌≡◌, ◌≢◌, ℕ, ◌<◌, Bool, false, nat_eq, ◌⊎◌, inl, inr, List, [], ◌∷◌, length, set, get_or, Option, None, refl, sym, ap, subst, ◌∙◌}
+use Rattle.std.proofs.Common.{arith, ◌≡◌, ℕ, ◌<◌, Bool, false, nat_eq, ◌⊎◌, List, [], ◌∷◌, length, set, get_or, Option, None, refl, sym, ap, subst, ◌∙◌}
 use Rattle.std.specs.List.{AllByRecursion, IsDistinct}
 use Rattle.std.proofs.lemmas.List.{get_or_default, get_or-set_other, get_or-set_same, length-set, set-get_or, set-set, set_comm}
 use Rattle.ds_domain_base.specs.Routes.{places_of}

@@ -1,8 +1,8 @@
 -- A table as the route of one contract more sees it, with one of the table's own contracts left out.
-use Rattle.std.specs.Prelude.{◌≡◌, ⊤, ℕ, Bool, ◌^◌, List, [], nat_eq, IfSome, IsTrue, Option, None, Some}
+use Rattle.std.specs.Prelude.{◌≡◌, ⊤, ℕ, ◌≤◌, Bool, ◌^◌, List, [], length, nat_eq, take, IfSome, IsTrue, Option, None, Some}
 use Rattle.std.specs.List.{AllByRecursion, IsDistinct}
 use Rattle.std.specs.Option.{option_map_or}
-use Rattle.ds_domain_base.specs.Routes.{Route, places_of, route_of}
+use Rattle.ds_domain_base.specs.Routes.{AreInside, Route, places_of, route_of}
 use Rattle.ds_domain_base.specs.declared.contract.Contract.{Contract}
 use Rattle.ds_domain_base.specs.declared.route.Leg.{Leg}
 use Rattle.ds_certificate.specs.Bounds.{fits}
@@ -53,6 +53,15 @@ pub record IsLeft (held : Option Brought) (sums before : List Loads) : Type 0 wh
   pub added : sums ≡ with_held held before
   pub once : IfSome held (λ own. IsDistinct nat_eq (places_of own.legs))
   pub room : AllByRecursion (AreBelow (2 ^ 121)) before
+
+-- the sums at the meters of legs: those of a table, or what is left of them
+abbrev pub along_of : List Leg → List Loads → Option (List Loads) → List Loads
+along_of legs table None = sums_on legs table
+along_of legs table (Some left) = take (length legs) left
+
+-- there are at most 16 legs, each to a meter that the table has sums of
+abbrev pub HasPlaces : List Leg → List Loads → Type 0
+HasPlaces legs table = (length legs ≤ 16) × AreInside (length table) legs
 
 -- a contract fits the domain of a table, this is its route, and these are the sums of the rest of that table along it
 pub record IsBeside (t : Table) (left_out : Option ℕ) (c : Contract) (route : Route) (sums : List Loads) : Type 0 where

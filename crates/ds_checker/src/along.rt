@@ -1,7 +1,6 @@
 //! The sums of a table along a route, with what one of the table's own contracts brings there left out.
-ghost use Rattle.std.specs.Prelude.{◌≡◌, ◌<◌, ◌≤◌, ◌++◌, ◌∷◌, [], ℕ, List, fold, length};
-ghost use Rattle.ds_domain_base.specs.Routes.{AreInside};
-ghost use Rattle.ds_checker.specs.Besides.{IsLeft, brought_at};
+ghost use Rattle.std.specs.Prelude.{◌≡◌, ◌<◌, List, Some, fold, length, slice_index_or, take};
+ghost use Rattle.ds_checker.specs.Besides.{HasPlaces, IsLeft, brought_at};
 ghost use Rattle.ds_checker.specs.Routed.{bound_at, sums_on};
 ghost use Rattle.ds_checker.specs.Sums.{with_share};
 ghost use Rattle.ds_checker.specs.declared.load.Loads as declared_loads;
@@ -12,49 +11,37 @@ use ds_domain_base::Leg;
 use moment_core::Gap;
 use std::marker::Model;
 
-/// The sums at the meters of a route, of which there are at most 16: in the value itself, so that they take no memory.
+/// The sums at the meters of legs, of which there are at most 16, leg by leg: those of a table, or what is left of them
+/// without what one of its contracts brings. These lie in the value itself, so that they take no memory.
 #[derive(Drop)]
-pub(crate) struct Along {
-    sums: [Loads; 16],
-    count: usize,
+pub(crate) struct Along<'a> {
+    legs: &'a [Leg],
+    table: &'a [Loads],
+    left: Option<[Loads; 16]>,
 }
 
-impl Model for Along {
-    ghost use Rattle.std.specs.Prelude.{List, ◌≤◌, take};
+impl<'a> Model for Along<'a> {
+    ghost use Rattle.std.specs.Prelude.{List};
+    ghost use Rattle.ds_checker.specs.Besides.{HasPlaces, along_of};
     ghost use Rattle.ds_checker.specs.declared.load.Loads as declared_loads;
 
     ghost Value = { List declared_loads.Loads };
 
-    ghost view = { λ s. take s.count s.sums };
+    ghost view = { λ s. along_of s.legs.now s.table.now s.left };
 
-    ghost invariant = { λ s. s.count ≤ 16 };
+    ghost invariant = { λ s. HasPlaces s.legs.now s.table.now };
 }
 
-impl Along {
-    /// The sums at no meter.
-    fn new() -> Self
-        ensures { result ≡ [] }
+impl<'a> Along<'a> {
+    /// The sums at the meter of the leg of a number, from 0.
+    pub(crate) fn at(&self, number: usize) -> &Loads
+        requires { number < length self.now }
+        ensures { result.now ≡ slice_index_or self.now number result.now }
     {
-        Along {
-            sums: [Loads::new(Gap::NONE); 16],
-            count: 0,
+        match &self.left {
+            None => &self.table[self.legs[number].place],
+            Some(left) => &left[number],
         }
-    }
-
-    /// Appends the sums at one meter more, where there is room.
-    fn push(&mut self, sums: Loads)
-        requires { length self.old < 16 }
-        ensures { self.new ≡ self.old ++ sums ∷ [] }
-    {
-        self.sums[self.count] = sums;
-        self.count += 1;
-    }
-
-    /// The sums.
-    pub(crate) fn as_slice(&self) -> &[Loads]
-        ensures { result.now ≡ self.now }
-    {
-        &self.sums[..self.count]
     }
 }
 
@@ -96,15 +83,12 @@ fn bound_at(place: usize, legs: &[Leg], bounds: &[Bound]) -> Option<Bound>
     None
 }
 
-/// What is brought to the meter at a place without what one contract brings there, if one is left out.
-fn left_at(loads: Loads, place: usize, left_out: &Option<Brought<'_>>) -> Loads
-    requires { (before : declared_loads.Loads) × (loads ≡ fold with_share before (brought_at place left_out.now)) }
-    ensures { (before : declared_loads.Loads) → loads ≡ fold with_share before (brought_at place left_out.now)
+/// What is brought to the meter at a place without what one contract brings there.
+fn left_at(loads: Loads, place: usize, brought: &Brought<'_>) -> Loads
+    requires { (before : declared_loads.Loads) × (loads ≡ fold with_share before (brought_at place (Some brought.now))) }
+    ensures { (before : declared_loads.Loads) → loads ≡ fold with_share before (brought_at place (Some brought.now))
         → result ≡ before }
 {
-    let Some(brought) = left_out else {
-        return loads;
-    };
     match bound_at(place, brought.legs, brought.bounds) {
         Some(bound) => loads.without(&Share {
             source: brought.source,
@@ -115,18 +99,36 @@ fn left_at(loads: Loads, place: usize, left_out: &Option<Brought<'_>>) -> Loads
     }
 }
 
+/// The sums at the meters of legs, by the sums of each meter, without what one contract brings to them; nothing behind
+/// the last leg.
+fn left_along(sums: &[Loads], legs: &[Leg], brought: &Brought<'_>) -> [Loads; 16]
+    requires places { HasPlaces legs.now sums.now }
+    requires left { (before : List declared_loads.Loads) × IsLeft (Some brought.now) sums.now before }
+    ensures { (before : List declared_loads.Loads) → IsLeft (Some brought.now) sums.now before
+        → take (length legs.now) result ≡ sums_on legs.now before }
+{
+    let mut left = [Loads::new(Gap::NONE); 16];
+    for (number, leg) in legs.iter().enumerate() {
+        left[number] = left_at(sums[leg.place], leg.place, brought);
+    }
+    left
+}
+
 /// The sums at the meters of legs, by the sums of each meter, without what one contract brings to them, if one is left
 /// out.
-pub(crate) fn sums_along(sums: &[Loads], legs: &[Leg], left_out: &Option<Brought<'_>>) -> Along
-    requires short { length legs.now ≤ 16 }
-    requires inside { AreInside (length sums.now) legs.now }
-    requires left { (before : List declared_loads.Loads) × IsLeft left_out.now sums.now before }
-    ensures { (before : List declared_loads.Loads) → IsLeft left_out.now sums.now before
+pub(crate) fn sums_along<'a>(
+    table: &'a [Loads],
+    legs: &'a [Leg],
+    left_out: &Option<Brought<'_>>,
+) -> Along<'a>
+    requires places { HasPlaces legs.now table.now }
+    requires left { (before : List declared_loads.Loads) × IsLeft left_out.now table.now before }
+    ensures { (before : List declared_loads.Loads) → IsLeft left_out.now table.now before
         → result ≡ sums_on legs.now before }
 {
-    let mut along = Along::new();
-    for leg in legs {
-        along.push(left_at(sums[leg.place], leg.place, left_out));
-    }
-    along
+    let left = match left_out {
+        None => None,
+        Some(brought) => Some(left_along(table, legs, brought)),
+    };
+    Along { legs, table, left }
 }

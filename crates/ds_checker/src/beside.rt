@@ -15,7 +15,7 @@ ghost use Rattle.ds_checker.specs.Sums.{AreBelow, loads_of};
 use crate::admission::{earlier, place_refusal};
 use crate::along::{Along, Brought, sums_along};
 use crate::candidate::Accepted;
-use crate::load::{Loads, Share};
+use crate::load::Share;
 use crate::refusal::Refusal;
 use ds_certificate::{Source, delayed, entering};
 use ds_domain_base::{Contract, Domain, Leg, Route, Terms};
@@ -29,7 +29,7 @@ pub struct Beside<'a> {
     left_out: Option<usize>,
     contract: &'a Contract,
     route: &'a Route,
-    sums: Along,
+    sums: Along<'a>,
 }
 
 impl<'a> Model for Beside<'a> {
@@ -122,6 +122,7 @@ impl<'a> Beside<'a> {
     }
 
     /// The first test that fails on these terms; or any that does, where any one will do.
+    #[inline(always)]
     fn tried(&self, terms: &Terms, any: bool) -> Option<Refusal>
         ensures first { (lifetime : Span) → let other = lasting lifetime (on_terms terms.now self.now.contract) in
             any ≡ false → result ≡ refusal_of (with_contract self.now.table other
@@ -136,23 +137,25 @@ impl<'a> Beside<'a> {
         let _meters = domain.meters();
         let source = Source::along(domain, self.route, terms);
         let has_peak = terms.has_peak();
-        let sums = self.sums.as_slice();
-        legs_refusal(domain, self.route.legs(), sums, &source, has_peak, any)
+        let legs = self.route.legs();
+        legs_refusal(domain, legs, &self.sums, &source, has_peak, any)
     }
 }
 
 /// The first meter test that fails, in the order of the meters, once traffic that enters before the first of some legs
 /// is added by its least bounds to the sums at their meters; or any that fails, where any one will do. Each bound is
 /// made of the one before it.
+#[inline(always)]
 fn legs_refusal(
     domain: &Domain,
     legs: &[Leg],
-    sums: &[Loads],
+    sums: &Along<'_>,
     source: &Source,
     has_peak: bool,
     any: bool,
 ) -> Option<Refusal>
     requires short { length legs.now ≤ 16 }
+    requires level { length sums.now ≡ length legs.now }
     requires moderate { IsModerate source.now }
     requires room { AllByRecursion (AreBelow (2 ^ 121)) sums.now }
     ensures first { any ≡ false → result ≡ option_map (λ first. first.1)
@@ -165,14 +168,14 @@ fn legs_refusal(
 {
     let mut first = None;
     let mut bound = entering(source);
-    for (leg, loads) in legs.iter().zip(sums) {
+    for (number, leg) in legs.iter().enumerate() {
         bound = delayed(source, leg.jitter.gap(), bound);
         let share = Share {
             source: *source,
             bound,
             has_peak,
         };
-        let refusal = place_refusal(domain, leg.place, &loads.with(&share));
+        let refusal = place_refusal(domain, leg.place, &sums.at(number).with(&share));
         if any && refusal.is_some() {
             return refusal;
         }

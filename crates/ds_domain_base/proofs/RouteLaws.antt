@@ -14,7 +14,7 @@ use Rattle.ds_domain_base.specs.declared.contract.Contract.{Contract}
 use Rattle.ds_domain_base.specs.declared.parts.Port.{Port}
 use Rattle.ds_domain_base.specs.Domains.{Domain, link_of, meter_of, port_of, skew_of}
 use Rattle.ds_domain_base.specs.Fitting.{lacks_link, names_unknown, repeats}
-use Rattle.ds_domain_base.specs.Routes.{AreInside, IsRoute, leg_of, legs_along, place_of, places_of, route_of}
+use Rattle.ds_domain_base.specs.Routes.{AreInside, IsRoute, comes_back, leg_of, legs_along, place_of, places_of, route_of}
 
 pub length-legs_along : (d : Domain) (from : List ℕ) (path : List (List ℕ)) → length (legs_along d from path) ≡ length path
 unfolding legs_along
@@ -133,6 +133,39 @@ legs-once d from (to ∷ path) known once =
     let found = or_parts (is_none (meter_of d to)) (names_unknown d path) known in
     let other = or_parts (list_any (bytes_eq to) path) (repeats path) once in
     (places-apart d to to path found.0 found.1 other.0, legs-once d to path found.1 other.1)
+
+-- names that are one have one place, and others have others
+same_place : (d : Domain) (name other : List ℕ) (same : Bool) → is_none (meter_of d name) ≡ false → is_none (meter_of d other) ≡ false → bytes_eq name other ≡ same
+    → nat_eq (place_of d other) (place_of d name) ≡ same
+same_place d name other true known also is =
+    let one : place_of d other ≡ place_of d name = sym (ap (place_of d) ((bytes_eq-Decides name other).0 is)) in
+    grind (arith, nat_tests, one)
+same_place d name other false known also is =
+    let apart = places-differ d name other known also is in
+    grind (arith, nat_tests, apart)
+
+any_place : (d : Domain) (name from : List ℕ) (path : List (List ℕ)) → is_none (meter_of d name) ≡ false → names_unknown d path ≡ false
+    → list_any (λ (leg : Leg). nat_eq leg.place (place_of d name)) (legs_along d from path) ≡ list_any (bytes_eq name) path
+unfolding legs_along names_unknown
+any_place d name from [] known all = refl
+any_place d name from (to ∷ path) known all =
+    let found = or_parts (is_none (meter_of d to)) (names_unknown d path) all in
+    ap (λ b. b || list_any (λ (leg : Leg). nat_eq leg.place (place_of d name)) (legs_along d to path)) (same_place d name to (bytes_eq name to) known found.0 refl)
+    ∙ ap (λ b. bytes_eq name to || b) (any_place d name to path known found.1)
+
+-- legs come to a meter twice where the path of their meters has a name twice
+pub back-twice : (d : Domain) (from : List ℕ) (path : List (List ℕ)) → names_unknown d path ≡ false → comes_back (legs_along d from path) ≡ repeats path
+unfolding legs_along names_unknown repeats comes_back
+back-twice d from [] known = refl
+back-twice d from (to ∷ path) known =
+    let found = or_parts (is_none (meter_of d to)) (names_unknown d path) known in
+    ap (λ b. b || comes_back (legs_along d to path)) (any_place d to to path found.0 found.1)
+    ∙ ap (λ b. list_any (bytes_eq to) path || b) (back-twice d to path found.1)
+
+pub back-told : (d : Domain) (from : List ℕ) (path : List (List ℕ)) (legs found : List Leg) (told is : Bool) → found ≡ legs_along d from path → legs ≡ found
+    → told ≡ comes_back legs → names_unknown d path ≡ false → told ≡ is → repeats path ≡ is
+back-told d from path legs found told is is_found is_legs is_told known told_is =
+    sym (back-twice d from path known) ∙ sym (is_told ∙ ap comes_back (is_legs ∙ is_found)) ∙ told_is
 
 pub legs-inside : (d : Domain) (from : List ℕ) (path : List (List ℕ)) → names_unknown d path ≡ false → AreInside (length d.meters) (legs_along d from path)
 unfolding legs_along names_unknown

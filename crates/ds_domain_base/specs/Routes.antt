@@ -1,7 +1,7 @@
 -- The route of a contract: its port and its path, once each name of it is looked up in a domain. What is said of a
 -- route speaks of places among the meters, and of no names.
-use Rattle.std.specs.Prelude.{ℕ, ◌≤◌, ◌<◌, List, [], ◌∷◌, length, map, nat_eq, position, unwrap_or, Option, None, Some, bytes_eq}
-use Rattle.std.specs.List.{AllByRecursion, IsDistinct}
+use Rattle.std.specs.Prelude.{ℕ, ◌≤◌, ◌<◌, Bool, false, ◌||◌, List, [], ◌∷◌, length, map, nat_eq, position, unwrap_or, Option, None, Some, bytes_eq}
+use Rattle.std.specs.List.{AllByRecursion, IsDistinct, list_any}
 use Rattle.std.specs.Map.{keys_of}
 use Rattle.ds_domain_base.specs.Domains.{Domain, floor_of, jitter_of, link_of, meter_of, port_of, skew_of}
 use Rattle.ds_domain_base.specs.declared.contract.Contract.{Contract}
@@ -50,6 +50,11 @@ jitters_in legs = map (λ leg. leg.jitter) legs
 -- each leg leads to one of so many meters
 abbrev pub AreInside : ℕ → List Leg → Type 0
 AreInside meters legs = AllByRecursion (λ leg. leg.place < meters) legs
+
+-- legs that come to a meter twice
+unfoldable pub comes_back : List Leg → Bool
+comes_back [] = false
+comes_back (leg ∷ legs) = list_any (λ other. nat_eq other.place leg.place) legs || comes_back legs
 
 -- What every route keeps: it has 1 to 16 legs, and comes to no meter twice.
 pub record IsRoute (r : Route) : Type 0 where

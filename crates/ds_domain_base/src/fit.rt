@@ -1,11 +1,10 @@
 ghost use Rattle.std.specs.Prelude.{◌≡◌, None, Some, MatchResult};
 ghost use Rattle.ds_domain_base.specs.Faults.{fault_at};
-ghost use Rattle.ds_domain_base.specs.Fitting.{repeats, way_fault};
+ghost use Rattle.ds_domain_base.specs.Fitting.{way_fault};
 
 use crate::contract::Contract;
 use crate::domain::Domain;
 use crate::fault::{DomainFault, Field, Kind, Section};
-use crate::name::Name;
 
 /// The greatest number of meters of a path.
 pub const MOST_HOPS: usize = 16;
@@ -27,15 +26,4 @@ pub(crate) fn refusal(kind: Kind, field: Field) -> DomainFault
     ensures { result ≡ fault_at kind Section.Contract 0 field }
 {
     DomainFault::new(kind, Section::Contract, 0, field)
-}
-
-/// Whether a name stands twice.
-#[tactic(auto, unfolding(crate::specs::Fitting::repeats))]
-pub(crate) fn repeats(path: &[Name]) -> bool
-    ensures { result ≡ repeats path.now }
-{
-    match path.split_first() {
-        None => false,
-        Some((name, rest)) => rest.contains(name) || repeats(rest),
-    }
 }

@@ -1,14 +1,15 @@
 ghost use Rattle.std.specs.Prelude.{◌≡◌, ◌≤◌, ◌<◌, ◌++◌, ◌∷◌, [], None, Some, IfOk, MatchResult, is_none};
-ghost use Rattle.std.specs.Prelude.{length};
+ghost use Rattle.std.specs.Prelude.{length, nat_eq};
+ghost use Rattle.std.specs.List.{list_any};
 ghost use Rattle.ds_domain_base.specs.Domains.{floor_of, jitter_of, link_of, meter_of};
 ghost use Rattle.ds_domain_base.specs.Fitting.{lacks_link, names_unknown, way_fault};
-ghost use Rattle.ds_domain_base.specs.Routes.{AreInside, IsRoute, leg_of, legs_along, meter_skew, place_of};
-ghost use Rattle.ds_domain_base.specs.Routes.{route_of};
+ghost use Rattle.ds_domain_base.specs.Routes.{AreInside, IsRoute, comes_back, leg_of, legs_along, meter_skew};
+ghost use Rattle.ds_domain_base.specs.Routes.{place_of, route_of};
 
 use crate::contract::Contract;
 use crate::domain::Domain;
 use crate::fault::{DomainFault, Field, Kind};
-use crate::fit::{MOST_HOPS, refusal, repeats};
+use crate::fit::{MOST_HOPS, refusal};
 use crate::name::Name;
 use crate::quantity::Delay;
 use std::alloc::{AllocError, Global};
@@ -181,7 +182,7 @@ impl Domain {
         let found = found_along(self, contract.port, path);
         if found.unknown {
             Err(refusal(Kind::UnknownName, Field::Path))
-        } else if repeats(path) {
+        } else if comes_back(found.legs.as_slice()) {
             Err(refusal(Kind::PathRepeats, Field::Path))
         } else if found.unlinked {
             Err(refusal(Kind::NoLink, Field::Path))
@@ -191,6 +192,24 @@ impl Domain {
                 legs: found.legs,
             })
         }
+    }
+}
+
+/// Whether one of some legs leads to the meter at a place.
+fn lead_to(legs: &[Leg], place: usize) -> bool
+    ensures { result ≡ list_any (λ leg. nat_eq leg.place place) legs.now }
+{
+    legs.iter().any(|leg| leg.place == place)
+}
+
+/// Whether legs come to a meter twice.
+#[tactic(auto, unfolding(crate::specs::Routes::comes_back))]
+fn comes_back(legs: &[Leg]) -> bool
+    ensures { result ≡ comes_back legs.now }
+{
+    match legs.split_first() {
+        None => false,
+        Some((leg, rest)) => lead_to(rest, leg.place) || comes_back(rest),
     }
 }
 

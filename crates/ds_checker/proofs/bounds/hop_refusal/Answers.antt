@@ -1,4 +1,4 @@
-use Rattle.std.proofs.Common.{◌≤◌, length, sym, arith, ◌∙◌}
+use Rattle.std.proofs.Common.{sym, arith, ◌∙◌}
 use Rattle.moment_core.specs.declared.column.Column.TheVariants.{Green}
 use Rattle.ds_checker.specs.BoundTests.{hop_test}
 use Rattle.ds_checker.proofs.BoundLaws.{column-next, columns-ended, found, not_found}

@@ -1,4 +1,4 @@
-use Rattle.std.proofs.Common.{◌≡◌, length, subst, sym}
+use Rattle.std.proofs.Common.{◌≡◌, ◌≤◌, length, subst, sym}
 use Rattle.ds_domain_base.specs.Routes.{AreInside}
 use Rattle.ds_checker.specs.Besides.{IsLeft, rest_of}
 use Rattle.ds_checker.specs.Routed.{sums_on}
@@ -8,12 +8,14 @@ use Rattle.ds_checker.proofs.ChangeLaws.{kept-long}
 use Rattle.ds_checker.proofs.RoutedLaws.{routed-inside}
 use Rattle.ds_checker.proofs.candidate.Accepted.beside.Goals as goal
 
-pub sums_along-sums-requires-clause-inside : goal.sums_along-sums-requires-clause-inside
-sums_along-sums-requires-clause-inside c =
-    let t = c.args.self.now in
-    subst (AreInside (length c.sums.result.now)) (sym c.legs.ensures.value)
-    (subst (λ n. AreInside n c.args.route.now.legs) (sym (kept-long t c.sums.result.now c.sums.ensures.sound.kept))
-    (routed-inside t.domain c.args.contract.now c.args.route.now c.requires.route c.requires.fit))
+pub sums_along-sums-requires-clause-places : goal.sums_along-sums-requires-clause-places
+sums_along-sums-requires-clause-places c =
+    let t = c.args.self.now in (
+      subst (λ legs. length legs ≤ 16) (sym c.legs.ensures.value) c.legs.ensures.kept.few,
+      subst (AreInside (length c.sums.result.now)) (sym c.legs.ensures.value)
+          (subst (λ n. AreInside n c.args.route.now.legs) (sym (kept-long t c.sums.result.now c.sums.ensures.sound.kept))
+          (routed-inside t.domain c.args.contract.now c.args.route.now c.requires.route c.requires.fit)),
+    )
 
 pub sums_along-sums-requires-clause-left : goal.sums_along-sums-requires-clause-left
 sums_along-sums-requires-clause-left c =
