@@ -92,7 +92,8 @@ fn brought_by(accepted: &Accepted, place: Option<usize>) -> Option<Brought<'_>>
 impl<'a> Beside<'a> {
     /// The contract.
     pub fn contract(&self) -> &'a Contract
-        ensures { result.now ≡ self.now.contract }
+        ensures value { result.now ≡ self.now.contract }
+        ensures acceptable { IsAcceptable self.now.table }
     {
         self.contract
     }

@@ -2,7 +2,6 @@ ghost use Rattle.std.specs.Prelude.{◌≡◌, ◌-◌, ◌≤◌, ◌++◌, len
 ghost use Rattle.std.specs.List.{list_all};
 ghost use Rattle.std.specs.Cmp.{partial_equiv_from_equiv};
 ghost use Rattle.std.specs.Cmp.Lexicographic.{bytes_decides, nat_list_eq_equiv};
-ghost use Rattle.std.specs.Hash as fed;
 ghost use Rattle.std.specs.Result.{OkIff};
 ghost use Rattle.std.proofs.Common.{ap};
 ghost use Rattle.ds_domain_base.specs.Names.{is_name, is_name_character};
@@ -48,12 +47,15 @@ impl Eq for Name {
 }
 
 impl Hash for Name {
-    ghost hash_input = { fed.slice fed.u8 };
+    ghost use Rattle.std.specs.Prelude.{◌∷◌, []};
 
-    ghost respects_eq = { λ a b same. ap (fed.slice fed.u8) ((bytes_decides a b).0 same) };
+    ghost hash_input = { λ text. text ∷ [] };
 
+    ghost respects_eq = { λ a b same. ap (λ text. text ∷ []) ((bytes_decides a b).0 same) };
+
+    // all characters at once: the hasher multiplies once for each 16 of them, and for each byte where it is fed bytes
     fn hash<H: Hasher>(&self, state: &mut H) {
-        self.bytes().hash(state);
+        state.write(self.bytes());
     }
 }
 

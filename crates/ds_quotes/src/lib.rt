@@ -9,5 +9,5 @@ pub mod quote;
 pub mod values;
 
 pub use field::Field;
-pub use quote::{greatest, greatest_without, least_refusal_without, place_of};
+pub use quote::{greatest, greatest_without, place_of, quoted_without};
 pub use values::Values;

@@ -1,30 +1,30 @@
-ghost use Rattle.std.specs.Prelude.{◌≡◌, ◌+◌, ◌-◌, ◌<◌, ◌^◌, ℕ, IfNone, IfSome, None, Some, length, nat_eq};
-ghost use Rattle.std.specs.Prelude.{position, if◌then◌else◌};
+ghost use Rattle.std.specs.Prelude.{◌≡◌, ◌+◌, ◌-◌, ◌<◌, ◌^◌, ℕ, IfErr, IfNone, IfSome, MatchResult, None, Some, false};
+ghost use Rattle.std.specs.Prelude.{length, nat_eq, position, if◌then◌else◌};
 ghost use Rattle.std.specs.Str.{bytes_eq};
-ghost use Rattle.ds_checker.specs.Acceptance.{refusal_of};
+ghost use Rattle.ds_certificate.specs.Bounds.{fits};
 ghost use Rattle.ds_checker.specs.Besides.{IsNameless, rest_of};
-ghost use Rattle.ds_quotes.specs.Quotes.{IsGreatest, IsSaleable, least_refusal, offered, quote_of};
+ghost use Rattle.ds_quotes.specs.Quotes.{IsGreatest, IsSaleable, least_refusal, quote_of};
 
 use crate::field::Field;
 use crate::passing::{Trial, passing_below};
 use ds_checker::{Accepted, Beside, Refusal};
-use ds_domain_base::{Contract, Name, Terms};
+use ds_domain_base::{Contract, Name};
 
 /// A contract beside a table, and one of its fields, whose values are tried from a least one on.
 #[derive(Drop)]
-struct Offer<'a> {
-    beside: Beside<'a>,
+struct Offer<'a, 'b> {
+    beside: &'b Beside<'a>,
     field: Field,
     least: u64,
 }
 
-impl Trial for Offer<'_> {
+impl Trial for Offer<'_, '_> {
     ghost use Rattle.std.specs.Prelude.{◌+◌, ◌^◌, ◌<◌};
     ghost use Rattle.ds_quotes.specs.Quotes.{is_saleable};
 
     ghost takes = { λ o value. o.least + value < 2 ^ 64 };
 
-    ghost outcome = { λ o value. is_saleable o.beside.table o.beside.contract o.field (o.least + value) };
+    ghost outcome = { λ o value. is_saleable o.beside.now.table o.beside.now.contract o.field (o.least + value) };
 
     fn passes(&self, value: u64) -> bool {
         match self
@@ -69,9 +69,20 @@ pub fn greatest_without(
         Ok(route) => route,
         Err(_) => return None,
     };
+    let beside = accepted.beside(left_out, contract, &route);
+    greatest_on(&beside, field)
+}
+
+/// The greatest value of a field, as `greatest` tells it, of a contract beside a table.
+fn greatest_on(beside: &Beside<'_>, field: Field) -> Option<u64>
+    ensures value { result ≡ quote_of beside.now.table beside.now.contract field }
+    ensures some { IfSome result (IsGreatest (IsSaleable beside.now.table beside.now.contract field)) }
+    ensures none { IfNone result ((value : ℕ) → ¬ IsSaleable beside.now.table beside.now.contract field value) }
+{
+    let contract = beside.contract();
     let values = field.values(&contract.terms)?;
     let offer = Offer {
-        beside: accepted.beside(left_out, contract, &route),
+        beside,
         field,
         least: values.least,
     };
@@ -90,45 +101,64 @@ fn last_of(least: u64, count: u64) -> Option<u64>
     }
 }
 
-/// What stands against a contract with the least valid value of a field, beside what a table holds but the contract at a
-/// place, if one is left out, if anything does. None too where the contract has no such field. It names no contract of
-/// the table.
-pub fn least_refusal_without(
+/// The greatest value of a field, as `greatest_without` tells it. Where there is none, what stands against the contract
+/// with the least valid value of the field, if anything does: nothing where the contract has no such field. It names no
+/// contract of the table. The names of the contract's path are looked up once, and it takes no memory.
+pub fn quoted_without(
+    accepted: &Accepted,
+    left_out: Option<usize>,
+    contract: &Contract,
+    field: Field,
+) -> Result<u64, Option<Refusal>>
+    requires { IfSome left_out (λ place. place < length accepted.now.contracts) }
+    ensures value { MatchResult result
+        (λ value. quote_of (rest_of accepted.now left_out) contract.now field ≡ Some value)
+        (λ refusal. (quote_of (rest_of accepted.now left_out) contract.now field ≡ None)
+        × (refusal ≡ least_refusal (rest_of accepted.now left_out) contract.now field)) }
+    ensures nameless { IfErr result (λ refusal. IfSome refusal IsNameless) }
+{
+    let route = match accepted.domain().route(contract) {
+        Ok(route) => route,
+        Err(_) => return Err(unfit_refusal(accepted, left_out, contract, field)),
+    };
+    let beside = accepted.beside(left_out, contract, &route);
+    match greatest_on(&beside, field) {
+        Some(value) => Ok(value),
+        None => Err(least_refusal_on(&beside, field)),
+    }
+}
+
+/// What stands against a contract that does not fit the domain, with the least valid value of a field.
+fn unfit_refusal(
     accepted: &Accepted,
     left_out: Option<usize>,
     contract: &Contract,
     field: Field,
 ) -> Option<Refusal>
-    requires { IfSome left_out (λ place. place < length accepted.now.contracts) }
+    requires place { IfSome left_out (λ place. place < length accepted.now.contracts) }
+    requires unfit { fits accepted.now.domain contract.now ≡ false }
     ensures value { result ≡ least_refusal (rest_of accepted.now left_out) contract.now field }
     ensures nameless { IfSome result IsNameless }
 {
+    let _domain = accepted.domain();
     match field.least_terms(&contract.terms) {
-        Some(terms) => refusal_without(accepted, left_out, contract, &terms),
+        Some(_) => Some(Refusal::Shape {
+            contract: number_without(accepted, left_out),
+        }),
         None => None,
     }
 }
 
-/// What stands against a contract on these terms, beside what a table holds but the contract at a place, if one is left
-/// out.
-fn refusal_without(
-    accepted: &Accepted,
-    left_out: Option<usize>,
-    contract: &Contract,
-    terms: &Terms,
-) -> Option<Refusal>
-    requires { IfSome left_out (λ place. place < length accepted.now.contracts) }
-    ensures value { result ≡ refusal_of (offered (rest_of accepted.now left_out) contract.now terms.now) }
+/// What stands against a contract beside a table with the least valid value of a field, if anything does.
+fn least_refusal_on(beside: &Beside<'_>, field: Field) -> Option<Refusal>
+    ensures value { result ≡ least_refusal beside.now.table beside.now.contract field }
     ensures nameless { IfSome result IsNameless }
 {
-    let route = match accepted.domain().route(contract) {
-        Ok(route) => route,
-        Err(_) => return Some(Refusal::Shape {
-            contract: number_without(accepted, left_out),
-        }),
-    };
-    let beside = accepted.beside(left_out, contract, &route);
-    beside.refusal_on(terms)
+    let contract = beside.contract();
+    match field.least_terms(&contract.terms) {
+        Some(terms) => beside.refusal_on(&terms),
+        None => None,
+    }
 }
 
 /// How many contracts a table holds but the one at a place, if one is left out.

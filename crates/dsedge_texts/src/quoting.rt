@@ -14,7 +14,7 @@ use crate::refusing::RefusalLine;
 use crate::wording::push_figure;
 use ds_checker::{Accepted, Candidate, Refusal, check};
 use ds_domain::{Contract, Domain, DomainFault, Kind, Terms, parse};
-use ds_quotes::{Field, greatest_without, least_refusal_without};
+use ds_quotes::{Field, quoted_without};
 use std::alloc::{AllocError, Global};
 
 /// What is answered to a quote.
@@ -205,13 +205,12 @@ pub fn push_quote_without(
     ensures found { IfOk result (λ found.
         found ≡ (told_beside (rest_of accepted.now left_out) contract.now field).1) }
 {
-    match greatest_without(accepted, left_out, contract, field) {
-        Some(value) => {
+    match quoted_without(accepted, left_out, contract, field) {
+        Ok(value) => {
             push_value(text, field, value)?;
             Ok(true)
         }
-        None => {
-            let refusal = least_refusal_without(accepted, left_out, contract, field);
+        Err(refusal) => {
             push_none(text, accepted.contracts(), refusal)?;
             Ok(false)
         }
