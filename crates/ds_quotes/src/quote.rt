@@ -69,8 +69,7 @@ pub fn greatest_without(
         Ok(route) => route,
         Err(_) => return None,
     };
-    let beside = accepted.beside(left_out, contract, &route);
-    greatest_on(&beside, field)
+    greatest_on(&accepted.beside(left_out, contract, &route), field)
 }
 
 /// The greatest value of a field, as `greatest` tells it, of a contract beside a table.
