@@ -17,8 +17,8 @@ use Rattle.ds_broker.specs.Histories.{Holding}
 use Rattle.ds_broker.specs.declared.command.Command.{Command}
 use Rattle.ds_broker.specs.declared.command.Command.TheVariants.{Reserve, Release, Retire}
 use Rattle.ds_broker.specs.declared.refusal.BrokerRefusal.{BrokerRefusal}
-use Rattle.ds_broker.specs.Refusals.{contract_fault, ends_early, fault_or, free_from, hold_left, refusal_in, refusal_or_checked, release_refusal, release_refusal_at, retire_refusal, retire_refusal_at, room_refusal}
-use Rattle.ds_broker.specs.declared.refusal.BrokerRefusal.TheVariants.{AlreadyReleased, HistoryFull, NotReleased, TableFull}
+use Rattle.ds_broker.specs.Refusals.{contract_fault, ends_early, fault_or, free_from, hold_left, refusal_in, refusal_or_checked, release_refusal, release_refusal_at, reserve_refusal, retire_refusal, retire_refusal_at, room_refusal}
+use Rattle.ds_broker.specs.declared.refusal.BrokerRefusal.TheVariants.{AlreadyReleased, Contract as Unfit, HistoryFull, NotReleased, TableFull}
 use Rattle.std.proofs.lemmas.Option.{none-some}
 
 pub fault-twice : (b : Book) (c : Contract) → is_held c.name (held_of b) ≡ true → contract_fault b c ≡ Some (fault_at kinds.Twice sections.Contract 0 fields.Name)
@@ -31,6 +31,14 @@ fault-range b c new early = rw (new, early) refl
 pub fault-way : (b : Book) (c : Contract) → is_held c.name (held_of b) ≡ false → ends_early (moment_in b c.lifetime.since) c.lifetime.until ≡ false
     → contract_fault b c ≡ way_fault 0 b.domain c.port c.path
 fault-way b c new ordered = rw (new, ordered) refl
+
+-- and nothing stands against it before the checker is asked where there is room
+pub room-clear : (b : Book) (c : Contract) → contract_fault b c ≡ None → is_table_full b ≡ false → is_history_full b ≡ false → room_refusal b c ≡ None
+room-clear b c good table history = rw (good, table, history) refl
+
+-- what is wrong with a contract stands against its reserve
+pub fault-refused : (b : Book) (c : Contract) (fault : DomainFault) → contract_fault b c ≡ Some fault → reserve_refusal b c ≡ Some (Unfit fault)
+fault-refused b c fault is = rw is refl
 
 -- where nothing stands against a contract, each test is passed
 no_fault : (held early : Bool) (twice range : DomainFault) (way : Option DomainFault) → (if held then Some twice else if early then Some range else way) ≡ None

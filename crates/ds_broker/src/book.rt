@@ -5,13 +5,14 @@ ghost use Rattle.std.specs.Bool.{OnFalse};
 ghost use Rattle.ds_certificate.specs.Bounds.{fits, least_of};
 ghost use Rattle.ds_checker.specs.Acceptance.{IsAcceptable};
 ghost use Rattle.ds_domain_base.specs.Faults.{fault_at};
+ghost use Rattle.ds_domain_base.specs.Fitting.{way_fault};
 ghost use Rattle.ds_domain_base.specs.Lifetimes.{IsInOrder};
 ghost use Rattle.ds_domain_base.specs.Routes.{route_of};
 ghost use Rattle.std.specs.Str.{bytes_eq};
 ghost use Rattle.ds_quotes.specs.Quotes.{others_of, quote_of};
 ghost use Rattle.ds_broker.specs.Books as books;
-ghost use Rattle.ds_broker.specs.Books.{held_of, holding_of, is_history_full, moment_in, newest_of};
-ghost use Rattle.ds_broker.specs.Books.{table_of, with_command};
+ghost use Rattle.ds_broker.specs.Books.{held_of, holding_of, is_history_full, is_table_full, moment_in};
+ghost use Rattle.ds_broker.specs.Books.{newest_of, table_of, with_command};
 ghost use Rattle.ds_broker.specs.Entries.{entries_of, entry_in, grant_of, next_serial, room_of, told_of};
 ghost use Rattle.ds_broker.specs.Found.{IsFound};
 ghost use Rattle.ds_broker.specs.Histories.{Holding, beginning, end_by, ended};
@@ -293,62 +294,48 @@ impl Book {
         self.newest.max(at)
     }
 
-    /// The route of a contract against which nothing stands before the checker is asked, else the first that does.
-    fn with_room(&self, contract: &Contract) -> Result<Route, BrokerRefusal>
-        ensures route { IfOk result (λ route. route ≡ route_of self.now.domain contract.now) }
-        ensures unrefused { OnOk result (room_refusal self.now contract.now ≡ None) }
-        ensures room { OnOk result (length self.now.history < 65536) }
-        ensures refused { IfErr result (λ refusal. room_refusal self.now contract.now ≡ Some refusal) }
+    /// Whether it holds as many contracts as it may.
+    fn is_table_full(&self) -> bool
+        ensures { result ≡ is_table_full self.now }
     {
-        let route = match self.routed(contract) {
-            Ok(route) => route,
-            Err(fault) => return Err(BrokerRefusal::Contract(fault)),
-        };
-        if self.ids.len() >= self.limits.table() as usize {
-            return Err(BrokerRefusal::TableFull);
-        }
-        if self.is_history_full() {
-            return Err(BrokerRefusal::HistoryFull);
-        }
-        Ok(route)
+        self.ids.len() >= self.limits.table() as usize
     }
 
-    /// The route of a contract that may be reserved, else the first that stands against it. It takes no memory.
-    fn reservable(&self, contract: &Contract) -> Result<Route, BrokerRefusal>
-        ensures route { IfOk result (λ route. route ≡ route_of self.now.domain contract.now) }
-        ensures unrefused { OnOk result (reserve_refusal self.now contract.now ≡ None) }
-        ensures roomy { OnOk result (room_refusal self.now contract.now ≡ None) }
-        ensures room { OnOk result (length self.now.history < 65536) }
-        ensures refused { IfErr result (λ refusal. reserve_refusal self.now contract.now ≡ Some refusal) }
-    {
-        let route = match self.with_room(contract) {
-            Ok(route) => route,
-            Err(refusal) => return Err(refusal),
-        };
-        match self
-            .table()
-            .refusal_on_route(contract, &route, &contract.terms)
-        {
-            Some(refusal) => Err(BrokerRefusal::Checker(refusal)),
-            None => Ok(route),
-        }
-    }
-
-    /// The route of a contract that is to be reserved, else what is wrong with the contract.
-    fn routed(&self, contract: &Contract) -> Result<Route, DomainFault>
-        ensures route { IfOk result (λ route. route ≡ route_of self.now.domain contract.now) }
-        ensures good { OnOk result (contract_fault self.now contract.now ≡ None) }
-        ensures faulty { IfErr result (λ fault. contract_fault self.now contract.now ≡ Some fault) }
+    /// What is wrong with a contract that is to be reserved, before the names of its way are looked up.
+    fn own_fault(&self, contract: &Contract) -> Option<DomainFault>
+        ensures told { IfSome result (λ fault. contract_fault self.now contract.now ≡ Some fault) }
+        ensures none { IfNone result (contract_fault self.now contract.now
+            ≡ way_fault 0 self.now.domain contract.now.port contract.now.path) }
     {
         if self.names.contains(&contract.name) {
-            return Err(fault(Kind::Twice, Field::Name));
+            return Some(fault(Kind::Twice, Field::Name));
         }
         if self.ends_early(contract.lifetime) {
-            return Err(fault(Kind::Range, Field::Until));
+            return Some(fault(Kind::Range, Field::Until));
         }
-        match self.table().domain().route(contract) {
-            Ok(route) => Ok(route),
-            Err(fault) => Err(fault),
+        None
+    }
+
+    /// What stands against the reserve of a contract with which nothing is wrong, by its route. It takes no memory.
+    fn refusal_on_route(&self, contract: &Contract, route: &Route) -> Option<BrokerRefusal>
+        requires good { contract_fault self.now contract.now ≡ None }
+        requires route { route.now ≡ route_of self.now.domain contract.now }
+        ensures value { result ≡ reserve_refusal self.now contract.now }
+        ensures roomy { IfNone result (room_refusal self.now contract.now ≡ None) }
+        ensures room { IfNone result (length self.now.history < 65536) }
+    {
+        if self.is_table_full() {
+            return Some(BrokerRefusal::TableFull);
+        }
+        if self.is_history_full() {
+            return Some(BrokerRefusal::HistoryFull);
+        }
+        match self
+            .table()
+            .refusal_on_route(contract, route, &contract.terms)
+        {
+            Some(refusal) => Some(BrokerRefusal::Checker(refusal)),
+            None => None,
         }
     }
 

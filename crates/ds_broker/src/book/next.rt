@@ -84,10 +84,16 @@ impl Book {
         ensures change { IfOk result (λ change. IsChange self.now (Reserve contract.now) change) }
         ensures refused { IfErr result (λ refusal. IsRefusal (refusal_in self.now (Reserve contract.now)) refusal) }
     {
-        let route = match self.reservable(contract) {
+        if let Some(fault) = self.own_fault(contract) {
+            return Err(BrokerRefusal::Contract(fault));
+        }
+        let route = match self.table().domain().route(contract) {
             Ok(route) => route,
-            Err(refusal) => return Err(refusal),
+            Err(fault) => return Err(BrokerRefusal::Contract(fault)),
         };
+        if let Some(refusal) = self.refusal_on_route(contract, &route) {
+            return Err(refusal);
+        }
         let newest = self.moment_of(contract.lifetime.since());
         let Ok((contract, row)) = begun_row(alloc, self.table().domain(), contract, &route, newest)
         else {
