@@ -1,5 +1,5 @@
 -- What was granted by commands against which nothing stood is covered.
-use Rattle.std.proofs.Common.{◌≡◌, ◌≤◌, ◌<◌, ◌+◌, ℕ, zero, suc, Bool, true, false, List, [], ◌∷◌, ◌++◌, Option, None, Some, refl, sym, ap, subst, ◌∙◌, arith, inl, inr, append_assoc, append-nil, IfSome, IsSomeAnd, filter, is_none, is_some, length, map, max, nat_eq, nat_le, nat_lt, not, option_map, unwrap_or, ◌&&◌, if◌then◌else◌}
+use Rattle.std.proofs.Common.{◌≡◌, ◌≤◌, ◌<◌, ◌+◌, ℕ, zero, suc, Bool, true, false, List, [], ◌∷◌, ◌++◌, Option, None, Some, refl, sym, ap, subst, ◌∙◌, arith, inl, inr, append_assoc, append-nil, IfSome, IsSomeAnd, filter, is_none, is_some, length, map, max, nat_eq, nat_le, nat_lt, not, unwrap_or, ◌&&◌, if◌then◌else◌}
 use Rattle.std.specs.List.{AllByRecursion}
 use Rattle.std.proofs.lemmas.Bool.{cases_Bool}
 use Rattle.std.proofs.lemmas.List.{length-map}
@@ -13,7 +13,6 @@ use Rattle.ds_certificate.specs.Sources.{source_of}
 use Rattle.ds_checker.specs.Acceptance.{Carries, IsAcceptable, refusal_of}
 use Rattle.ds_checker.specs.Holds.{hold_of}
 use Rattle.ds_checker.specs.Loads.{share_of, shares_at}
-use Rattle.ds_checker.specs.declared.refusal.Refusal.{Refusal}
 use Rattle.ds_checker.proofs.AcceptanceLaws.{acceptable}
 use Rattle.ds_checker.proofs.ChangeLaws.{acceptable-taken}
 use Rattle.ds_timeline.specs.Kept.{IsTimeline}

@@ -1,6 +1,6 @@
 -- Ids that are held count up: where one stands among them, or that it does not.
 use Rattle.std.proofs.Common.{◌≡◌, ◌≤◌, ◌<◌, ◌+◌, ◌-◌, ℕ, zero, suc, false, List, [], ◌∷◌, ◌++◌, None, refl, ap, arith, inl, inr, get_or}
-use Rattle.std.specs.Prelude.{⊤, fold, length, map, nat_eq}
+use Rattle.std.specs.Prelude.{⊤, length, map, nat_eq}
 use Rattle.std.specs.List.{AllByRecursion}
 use Rattle.std.specs.List.Sorted.{IsStrictlyIncreasing}
 use Rattle.std.proofs.lemmas.Bool.{cases_Bool}

@@ -1,5 +1,5 @@
 -- What the fields of a book keep is kept by each command.
-use Rattle.std.proofs.Common.{◌≡◌, ◌<◌, ◌≤◌, ◌+◌, ℕ, true, false, List, [], ◌∷◌, ◌++◌, None, Some, sym, ap, subst, ◌∙◌, arith, refl, cond, length, max, nat_le, slice_get, append-nil, append_assoc, set, bytes_eq, leb-false}
+use Rattle.std.proofs.Common.{◌≡◌, ◌≤◌, ◌+◌, ℕ, true, false, List, [], ◌∷◌, ◌++◌, None, Some, sym, ap, subst, ◌∙◌, arith, refl, cond, length, max, slice_get, append-nil, append_assoc, set, bytes_eq, leb-false}
 use Rattle.std.specs.List.{IsDistinct, list_any, remove}
 use Rattle.std.proofs.lemmas.Cmp.{nat_list_eq_equiv}
 use Rattle.std.proofs.lemmas.List.{map-append, length_push}

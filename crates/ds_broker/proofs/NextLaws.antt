@@ -1,6 +1,5 @@
 -- What a book holds with a command more: its table, and the flows of its contracts.
-use Rattle.std.proofs.Common.{◌≡◌, ◌+◌, ◌-◌, ℕ, Bool, false, List, [], ◌∷◌, ◌++◌, refl, sym, ap, ◌∙◌, arith, inl, inr, length, map, max, nat_eq, remove}
-use Rattle.std.proofs.lemmas.Bool.{cases_Bool}
+use Rattle.std.proofs.Common.{◌≡◌, ◌+◌, ◌-◌, ℕ, Bool, false, List, [], ◌∷◌, ◌++◌, refl, sym, ap, ◌∙◌, arith, length, map, max, remove}
 use Rattle.std.proofs.lemmas.List.{length-append, map-append}
 use Rattle.ds_domain_base.specs.Lifetimes.{Span}
 use Rattle.ds_domain_base.specs.declared.contract.Contract.{Contract}
@@ -12,7 +11,7 @@ use Rattle.ds_domain_base.specs.Domains.{Domain}
 use Rattle.ds_broker.specs.Books.{Book, held_of, moment_in, newest_of, standing, table_in, table_of, table_with, with_command}
 use Rattle.ds_broker.specs.Entries.{flows_of, grant_of, last_grant_of}
 use Rattle.ds_broker.specs.Found.{IsFound}
-use Rattle.ds_broker.specs.Histories.{Holding, Standing, beginning, begun, ended, with_released}
+use Rattle.ds_broker.specs.Histories.{Holding, Standing, beginning, begun, ended}
 use Rattle.ds_broker.specs.Kept.{IsBook, book_of, ids_in}
 use Rattle.ds_broker.specs.declared.book.Book.TheInside as book
 use Rattle.ds_broker.specs.declared.command.Command.TheVariants.{Reserve, Release, Retire}

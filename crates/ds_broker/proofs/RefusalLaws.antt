@@ -1,6 +1,5 @@
 -- What stands against a command, test by test.
-use Rattle.std.proofs.Common.{◌≡◌, ◌≤◌, ℕ, Bool, true, false, Option, None, Some, Result, Ok, Err, refl, sym, ap, ◌∙◌, arith, MatchResult, is_none, nat_lt, if◌then◌else◌, ltb-false}
-use Rattle.std.specs.Result.{result_err}
+use Rattle.std.proofs.Common.{◌≡◌, ◌≤◌, ℕ, Bool, true, false, Option, None, Some, refl, ap, ◌∙◌, arith, nat_lt, if◌then◌else◌, ltb-false}
 use Rattle.ds_domain_base.specs.Faults.{fault_at}
 use Rattle.ds_domain_base.specs.Fitting.{way_fault}
 use Rattle.ds_domain_base.specs.Lifetimes.{IsInOrder}
@@ -9,9 +8,7 @@ use Rattle.ds_domain_base.specs.declared.fault.DomainFault.{DomainFault}
 use Rattle.ds_domain_base.specs.declared.fault.Kind.TheVariants as kinds
 use Rattle.ds_domain_base.specs.declared.fault.Section.TheVariants as sections
 use Rattle.ds_domain_base.specs.declared.fault.Field.TheVariants as fields
-use Rattle.ds_certificate.specs.Bounds.{fits}
-use Rattle.ds_checker.specs.Acceptance.{Table}
-use Rattle.ds_broker.specs.Books.{Book, held_of, holding_of, is_held, is_history_full, is_table_full, moment_in, table_of}
+use Rattle.ds_broker.specs.Books.{Book, held_of, holding_of, is_held, is_history_full, is_table_full, moment_in}
 use Rattle.ds_broker.specs.Found.{IsFound}
 use Rattle.ds_broker.specs.Histories.{Holding}
 use Rattle.ds_broker.specs.declared.command.Command.{Command}

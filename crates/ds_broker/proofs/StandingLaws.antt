@@ -1,9 +1,8 @@
 -- What stands after some commands: one command more, and what bounds ids, moments and numbers.
-use Rattle.std.proofs.Common.{◌≡◌, ◌≤◌, ◌+◌, ℕ, zero, suc, true, false, List, [], ◌∷◌, ◌++◌, Option, None, Some, sym, arith, inl, inr, true≢false, fold, length, max, nat_eq, slice_get, unwrap_or}
+use Rattle.std.proofs.Common.{◌≡◌, ◌≤◌, ◌+◌, ℕ, zero, suc, true, false, List, [], ◌∷◌, ◌++◌, Option, None, Some, sym, arith, true≢false, fold, length, max, slice_get, unwrap_or}
 use Rattle.std.specs.List.{AllByRecursion}
-use Rattle.std.proofs.lemmas.Bool.{cases_Bool}
 use Rattle.std.proofs.lemmas.List.Sums.{fold-append}
-use Rattle.ds_broker.specs.Histories.{Holding, Standing, after, begun, end_by, opening, standing_of, with_released, with_retired}
+use Rattle.ds_broker.specs.Histories.{Holding, Standing, after, begun, end_by, opening, standing_of, with_retired}
 use Rattle.ds_broker.specs.declared.command.Command.{Command}
 use Rattle.ds_broker.specs.declared.command.Command.TheVariants.{Reserve, Release, Retire}
 use Rattle.ds_broker.proofs.HoldingLaws.{AllByRecursion-push, all-released, all-retired}

@@ -3,22 +3,19 @@ use Rattle.std.proofs.Common.{◌≡◌, ◌≤◌, ◌<◌, ◌+◌, ◌-◌, �
 use Rattle.std.specs.List.{AllByRecursion}
 use Rattle.std.proofs.lemmas.Bool.{cases_Bool}
 use Rattle.std.proofs.lemmas.List.{get_or_default, length-take, take_more}
-use Rattle.std.proofs.lemmas.Option.{none-some, same_Some}
 use Rattle.ds_domain_base.specs.Domains.{Domain}
 use Rattle.ds_domain_base.specs.Lifetimes.{IsInOrder, Span}
 use Rattle.ds_domain_base.specs.declared.contract.Contract.{Contract}
-use Rattle.ds_certificate.specs.Bounds.{fits}
 use Rattle.ds_timeline.specs.Kept.{IsNumbered, IsTimeline}
 use Rattle.ds_timeline.specs.Timelines.{Timeline, route_in, routes_in}
 use Rattle.ds_timeline.specs.declared.reservation.Reservation.{Reservation}
 use Rattle.ds_broker.specs.Books.{Book, Limits, held_of, holding_of, moment_in, standing}
 use Rattle.ds_broker.specs.Histories.{Holding, end_by, ended}
-use Rattle.ds_broker.specs.Refusals.{refusal_in, refusal_or_checked, release_refusal_at, reserve_refusal, retire_refusal_at, room_refusal}
+use Rattle.ds_broker.specs.Refusals.{refusal_in, release_refusal_at, reserve_refusal, retire_refusal_at, room_refusal}
 use Rattle.ds_broker.specs.Requests.{AreUnrefused}
 use Rattle.ds_broker.specs.Timelines.{IsOfRates, Past, changed, ending_by, id_of, past_after, past_of, retired_at, timeline_behind}
 use Rattle.ds_broker.specs.declared.command.Command.{Command}
 use Rattle.ds_broker.specs.declared.command.Command.TheVariants.{Reserve, Release, Retire}
-use Rattle.ds_broker.specs.declared.refusal.BrokerRefusal.{BrokerRefusal}
 use Rattle.ds_broker.proofs.CoveredLaws.{timeline-kept}
 use Rattle.ds_broker.proofs.PastLaws.{IsGiven, IsTold, changed-above, past-kept, past-push, holding-all}
 use Rattle.ds_broker.proofs.RefusalLaws.{ordered, passed, roomy}
