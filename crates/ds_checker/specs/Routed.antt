@@ -2,6 +2,8 @@
 use Rattle.std.specs.Prelude.{⊤, ℕ, ◌+◌, Bool, List, [], ◌∷◌, ◌++◌, map, nat_eq, slice_get, slice_index_or, slice_set, Option, None, Some, if◌then◌else◌}
 use Rattle.ds_domain_base.specs.declared.parts.Meter.{Meter}
 use Rattle.ds_domain_base.specs.declared.route.Leg.{Leg}
+use Rattle.ds_domain_base.specs.Routes.{jitters_in}
+use Rattle.ds_certificate.specs.Bounds.{entering, least_behind}
 use Rattle.ds_certificate.specs.Columns.{Bound, IsInRange}
 use Rattle.ds_certificate.specs.declared.source.Source.{Source}
 use Rattle.ds_checker.specs.Holds.{holds_at_hop}
@@ -51,6 +53,11 @@ first_on meters source has_peak (leg ∷ legs) (loads ∷ sums) (bound ∷ bound
     earlier (at_place leg.place (refusal_by (slice_get meters leg.place) (with_share loads (share_with source has_peak bound))))
     (first_on meters source has_peak legs sums bounds)
 first_on meters source has_peak legs sums bounds = None
+
+-- the same by the least bounds of traffic that enters before the first leg
+abbrev pub first_entering : List (List ℕ × Meter) → Source → Bool → List Leg → List Loads → Option (ℕ × Refusal)
+first_entering meters source has_peak legs sums =
+    first_on meters source has_peak legs sums (least_behind source (jitters_in legs) (entering source))
 
 -- the bounds of the hops into the meters are in range
 unfoldable pub AreBounds : List Leg → List Bound → Type 0

@@ -2,14 +2,14 @@
 //! as many terms as wanted, each in the time of its path.
 ghost use Rattle.std.specs.Prelude.{◌≡◌, ◌^◌, ◌<◌, ◌≤◌, false, IfSome, IsTrue, is_none, is_some, length, option_map};
 ghost use Rattle.std.specs.List.{AllByRecursion};
-ghost use Rattle.ds_certificate.specs.Bounds.{entering, fits, least_behind, least_of};
+ghost use Rattle.ds_certificate.specs.Bounds.{fits, least_of};
 ghost use Rattle.ds_certificate.specs.Ranges.{IsModerate};
 ghost use Rattle.ds_domain_base.specs.Lifetimes.{Span};
-ghost use Rattle.ds_domain_base.specs.Routes.{jitters_in, route_of};
+ghost use Rattle.ds_domain_base.specs.Routes.{route_of};
 ghost use Rattle.ds_checker.specs.Acceptance.{IsAcceptable, refusal_of};
 ghost use Rattle.ds_checker.specs.Besides.{IsNameless, IsLeft, rest_of};
 ghost use Rattle.ds_checker.specs.Changes.{lasting, on_terms, with_contract};
-ghost use Rattle.ds_checker.specs.Routed.{first_on};
+ghost use Rattle.ds_checker.specs.Routed.{first_entering};
 ghost use Rattle.ds_checker.specs.Sums.{AreBelow, loads_of};
 
 use crate::admission::{earlier, place_refusal};
@@ -160,11 +160,9 @@ fn legs_refusal(
     requires moderate { IsModerate source.now }
     requires room { AllByRecursion (AreBelow (2 ^ 121)) sums.now }
     ensures first { any ≡ false → result ≡ option_map (λ first. first.1)
-        (first_on domain.now.meters source.now has_peak legs.now sums.now
-        (least_behind source.now (jitters_in legs.now) (entering source.now))) }
+        (first_entering domain.now.meters source.now has_peak legs.now sums.now) }
     ensures some { is_some result ≡ is_some
-        (first_on domain.now.meters source.now has_peak legs.now sums.now
-        (least_behind source.now (jitters_in legs.now) (entering source.now))) }
+        (first_entering domain.now.meters source.now has_peak legs.now sums.now) }
     ensures nameless { IfSome result IsNameless }
 {
     let mut first = None;
