@@ -17,7 +17,7 @@ use Rattle.ds_certificate.specs.Sources.{source_on}
 use Rattle.ds_certificate.specs.declared.source.Source.{Source}
 use Rattle.std.specs.Map.{keys_of}
 use Rattle.ds_checker.specs.Acceptance.{IsAcceptable, Table, refusal_of}
-use Rattle.ds_checker.specs.Besides.{Brought, IsBeside, IsLeft, IsNameless, Offer, brought_at, rest_of, with_held}
+use Rattle.ds_checker.specs.Besides.{Brought, HasPlaces, IsBeside, IsLeft, IsNameless, Offer, brought_at, rest_of, with_held}
 use Rattle.ds_checker.specs.Changes.{lasting, on_terms, with_contract, without_contract}
 use Rattle.ds_checker.specs.Loads.{share_of, shares_at}
 use Rattle.ds_checker.specs.Places.{at_place, earlier}
@@ -26,7 +26,7 @@ use Rattle.ds_checker.specs.Sums.{AreBelow, IsBefore, IsKept, IsSound, loads_of,
 use Rattle.ds_checker.specs.Tests.{first_failed}
 use Rattle.ds_checker.specs.declared.load.Loads.{Loads}
 use Rattle.ds_checker.specs.declared.refusal.Refusal.{Refusal}
-use Rattle.ds_checker.proofs.ChangeLaws.{acceptable-taken, kept-below, kept-taken, refused-lasting, rows_long, shape_at, sums-taken, sums_pass}
+use Rattle.ds_checker.proofs.ChangeLaws.{acceptable-taken, kept-below, kept-long, kept-taken, refused-lasting, rows_long, shape_at, sums-taken, sums_pass}
 use Rattle.ds_checker.proofs.LoadLaws.{AreBelow-more}
 use Rattle.ds_checker.proofs.RoutedLaws.{routed-added, routed-brought, routed-inside, routed-least}
 use Rattle.ds_checker.proofs.RoutedPlaceLaws.{length-with_legs}
@@ -152,6 +152,13 @@ left-here held sums before place l left inside is =
     ∙ ap (λ x. fold with_share x (brought_at place held)) (get_or_default before place l (no_loads 0) within)
 
 -- ---- a contract beside that rest
+-- a table has sums of each meter that a route leads to
+pub has-places : (t : Table) (sums : List Loads) (c : Contract) (route : Route) (legs : List Leg) → IsSound t sums → IsTrue (fits t.domain c) → route ≡ route_of t.domain c → IsRoute route
+    → legs ≡ route.legs → HasPlaces legs sums
+has-places t sums c route legs sound fit is_route kept is_legs =
+    subst (λ list. HasPlaces list sums) (sym is_legs)
+    (kept.few, subst (λ n. AreInside n route.legs) (sym (kept-long t sums sound.kept)) (routed-inside t.domain c route is_route fit))
+
 pub beside-made : (t : Table) (sums given along : List Loads) (left_out : Option ℕ) (c : Contract) (route : Route) (held : Option Brought) → IfSome left_out (λ i. i < length t.contracts)
     → IsSound t sums → IsTrue (fits t.domain c) → route ≡ route_of t.domain c → given ≡ loads_of t → IsLeft held given (loads_of (rest_of t left_out))
     → along ≡ sums_on route.legs (loads_of (rest_of t left_out)) → IsBeside t left_out c route along

@@ -12,12 +12,15 @@ use moment_core::Gap;
 use std::marker::Model;
 
 /// The sums at the meters of legs, of which there are at most 16, leg by leg: those of a table, or what is left of them
-/// without what one of its contracts brings. These lie in the value itself, so that they take no memory.
+/// without what one of its contracts brings.
 #[derive(Drop)]
 pub(crate) struct Along<'a> {
-    legs: &'a [Leg],
-    table: &'a [Loads],
-    left: Option<[Loads; 16]>,
+    /// The legs.
+    pub(crate) legs: &'a [Leg],
+    /// The sums of each meter.
+    pub(crate) table: &'a [Loads],
+    /// What is left of them, leg by leg, where a contract is left out.
+    pub(crate) left: Option<&'a [Loads; 16]>,
 }
 
 impl<'a> Model for Along<'a> {
@@ -27,7 +30,9 @@ impl<'a> Model for Along<'a> {
 
     ghost Value = { List declared_loads.Loads };
 
-    ghost view = { λ s. along_of s.legs.now s.table.now s.left };
+    ghost use Rattle.std.specs.Prelude.{option_map};
+
+    ghost view = { λ s. along_of s.legs.now s.table.now (option_map (λ left. left.now) s.left) };
 
     ghost invariant = { λ s. HasPlaces s.legs.now s.table.now };
 }
@@ -38,7 +43,7 @@ impl<'a> Along<'a> {
         requires { number < length self.now }
         ensures { result.now ≡ slice_index_or self.now number result.now }
     {
-        match &self.left {
+        match self.left {
             None => &self.table[self.legs[number].place],
             Some(left) => &left[number],
         }
@@ -101,7 +106,7 @@ fn left_at(loads: Loads, place: usize, brought: &Brought<'_>) -> Loads
 
 /// The sums at the meters of legs, by the sums of each meter, without what one contract brings to them; nothing behind
 /// the last leg.
-fn left_along(sums: &[Loads], legs: &[Leg], brought: &Brought<'_>) -> [Loads; 16]
+pub(crate) fn left_along(sums: &[Loads], legs: &[Leg], brought: &Brought<'_>) -> [Loads; 16]
     requires places { HasPlaces legs.now sums.now }
     requires left { (before : List declared_loads.Loads) × IsLeft (Some brought.now) sums.now before }
     ensures { (before : List declared_loads.Loads) → IsLeft (Some brought.now) sums.now before
@@ -112,23 +117,4 @@ fn left_along(sums: &[Loads], legs: &[Leg], brought: &Brought<'_>) -> [Loads; 16
         left[number] = left_at(sums[leg.place], leg.place, brought);
     }
     left
-}
-
-/// The sums at the meters of legs, by the sums of each meter, without what one contract brings to them, if one is left
-/// out.
-pub(crate) fn sums_along<'a>(
-    table: &'a [Loads],
-    legs: &'a [Leg],
-    left_out: &Option<Brought<'_>>,
-) -> Along<'a>
-    requires places { HasPlaces legs.now table.now }
-    requires left { (before : List declared_loads.Loads) × IsLeft left_out.now table.now before }
-    ensures { (before : List declared_loads.Loads) → IsLeft left_out.now table.now before
-        → result ≡ sums_on legs.now before }
-{
-    let left = match left_out {
-        None => None,
-        Some(brought) => Some(left_along(table, legs, brought)),
-    };
-    Along { legs, table, left }
 }

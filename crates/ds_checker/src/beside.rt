@@ -1,21 +1,22 @@
 //! One contract more beside an accepted table, or beside what is left of it without one of its own contracts: tried on
 //! as many terms as wanted, each in the time of its path.
-ghost use Rattle.std.specs.Prelude.{◌≡◌, ◌^◌, ◌<◌, ◌≤◌, false, IfSome, IsTrue, is_none, is_some, length, option_map};
+ghost use Rattle.std.specs.Prelude.{◌≡◌, ◌^◌, ◌<◌, ◌≤◌, false, IfSome, IsTrue, Some, is_none, is_some, length};
+ghost use Rattle.std.specs.Prelude.{option_map};
 ghost use Rattle.std.specs.List.{AllByRecursion};
 ghost use Rattle.ds_certificate.specs.Bounds.{fits, least_of};
 ghost use Rattle.ds_certificate.specs.Ranges.{IsModerate};
 ghost use Rattle.ds_domain_base.specs.Lifetimes.{Span};
 ghost use Rattle.ds_domain_base.specs.Routes.{route_of};
 ghost use Rattle.ds_checker.specs.Acceptance.{IsAcceptable, refusal_of};
-ghost use Rattle.ds_checker.specs.Besides.{IsNameless, IsLeft, rest_of};
-ghost use Rattle.ds_checker.specs.Changes.{lasting, on_terms, with_contract};
+ghost use Rattle.ds_checker.specs.Besides.{IsNameless, IsLeft};
+ghost use Rattle.ds_checker.specs.Changes.{lasting, on_terms, with_contract, without_contract};
 ghost use Rattle.ds_checker.specs.Routed.{first_entering};
 ghost use Rattle.ds_checker.specs.Sums.{AreBelow, loads_of};
 
 use crate::admission::{earlier, place_refusal};
-use crate::along::{Along, Brought, sums_along};
+use crate::along::{Along, Brought, left_along};
 use crate::candidate::Accepted;
-use crate::load::Share;
+use crate::load::{Loads, Share};
 use crate::refusal::Refusal;
 use ds_certificate::{Source, delayed, entering};
 use ds_domain_base::{Contract, Domain, Leg, Route, Terms};
@@ -43,50 +44,109 @@ impl<'a> Model for Beside<'a> {
 }
 
 impl Accepted {
-    /// A contract that fits the domain, with its route, beside what the table holds but the contract at a place, if one
-    /// is left out. It takes no memory, looks up no name, and looks at the routes of the two contracts alone.
-    pub fn beside<'a>(
-        &'a self,
-        left_out: Option<usize>,
-        contract: &'a Contract,
-        route: &'a Route,
-    ) -> Beside<'a>
+    /// A contract that fits the domain, with its route, beside all that the table holds. It takes no memory, and looks
+    /// up no name.
+    pub fn beside<'a>(&'a self, contract: &'a Contract, route: &'a Route) -> Beside<'a>
         requires fit { IsTrue (fits self.now.domain contract.now) }
         requires route { route.now ≡ route_of self.now.domain contract.now }
-        requires place { IfSome left_out (λ place. place < length self.now.contracts) }
-        ensures { result ≡ record { table = rest_of self.now left_out; contract = contract.now } }
+        ensures { result ≡ record { table = self.now; contract = contract.now } }
     {
-        let brought = brought_by(self, left_out);
-        let sums = sums_along(self.sums(), route.legs(), &brought);
+        let sums = Along {
+            legs: route.legs(),
+            table: self.sums(),
+            left: None,
+        };
         Beside {
             accepted: self,
-            left_out,
+            left_out: None,
             contract,
             route,
             sums,
         }
     }
+
+    /// A contract that fits the domain, with its route, and what is left of the table without the contract at a place.
+    /// It takes no memory, looks up no name, and looks at the routes of the two contracts alone.
+    pub fn rest<'a>(&'a self, place: usize, contract: &'a Contract, route: &'a Route) -> Rest<'a>
+        requires fit { IsTrue (fits self.now.domain contract.now) }
+        requires route { route.now ≡ route_of self.now.domain contract.now }
+        requires place { place < length self.now.contracts }
+        ensures { result ≡ record { table = without_contract self.now place; contract = contract.now } }
+    {
+        let brought = brought_by(self, place);
+        let left = left_along(self.sums(), route.legs(), &brought);
+        Rest {
+            accepted: self,
+            place,
+            contract,
+            route,
+            left,
+        }
+    }
 }
 
-/// What the contract at a place of a table brings along its route, if one is told.
-fn brought_by(accepted: &Accepted, place: Option<usize>) -> Option<Brought<'_>>
-    requires { IfSome place (λ place. place < length accepted.now.contracts) }
-    ensures { IsLeft result (loads_of accepted.now) (loads_of (rest_of accepted.now place)) }
+/// A contract that fits the domain of an accepted table, and what the table brings to the meters of its route without
+/// the contract at a place. These sums lie in the value itself, so that they take no memory.
+#[derive(Drop)]
+pub struct Rest<'a> {
+    accepted: &'a Accepted,
+    place: usize,
+    contract: &'a Contract,
+    route: &'a Route,
+    left: [Loads; 16],
+}
+
+impl<'a> Model for Rest<'a> {
+    ghost use Rattle.std.specs.Prelude.{Some, take, length};
+    ghost use Rattle.ds_checker.specs.Besides.{IsBeside, Offer};
+    ghost use Rattle.ds_checker.specs.Changes.{without_contract};
+
+    ghost Value = { Offer };
+
+    ghost view = { λ r. record { table = without_contract r.accepted.now r.place; contract = r.contract.now } };
+
+    ghost invariant = { λ r. IsBeside r.accepted.now (Some r.place) r.contract.now r.route.now
+        (take (length r.route.now.legs) r.left) };
+}
+
+impl<'a> Rest<'a> {
+    /// The contract beside that rest.
+    pub fn beside(&self) -> Beside<'_>
+        ensures { result ≡ self.now }
+    {
+        let sums = Along {
+            legs: self.route.legs(),
+            table: self.accepted.sums(),
+            left: Some(&self.left),
+        };
+        Beside {
+            accepted: self.accepted,
+            left_out: Some(self.place),
+            contract: self.contract,
+            route: self.route,
+            sums,
+        }
+    }
+}
+
+/// What the contract at a place of a table brings along its route.
+fn brought_by(accepted: &Accepted, place: usize) -> Brought<'_>
+    requires { place < length accepted.now.contracts }
+    ensures { IsLeft (Some result) (loads_of accepted.now) (loads_of (without_contract accepted.now place)) }
 {
     let domain = accepted.domain();
     let _meters = domain.meters();
     let _sums = accepted.sums();
-    let place = place?;
     let contract = &accepted.contracts()[place];
     let route = accepted.route(place);
     let bounds = &accepted.certificate().bounds()[place];
     let (_, behind) = bounds.hops().split_at(1);
-    Some(Brought {
+    Brought {
         legs: route.legs(),
         bounds: behind,
         source: Source::along(domain, route, &contract.terms),
         has_peak: contract.terms.has_peak(),
-    })
+    }
 }
 
 impl<'a> Beside<'a> {

@@ -346,7 +346,7 @@ impl Accepted {
             result ≡ refusal_of (with_contract self.now other (least_of self.now.domain other)) }
         ensures acceptable { IsAcceptable self.now }
     {
-        self.beside(None, contract, route).refusal_on(terms)
+        self.beside(contract, route).refusal_on(terms)
     }
 
     /// The table with a contract against which nothing stands; `AllocError` where memory runs out.

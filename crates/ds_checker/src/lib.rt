@@ -17,7 +17,7 @@ pub mod routed;
 pub mod table;
 
 pub use acceptance::check;
-pub use beside::Beside;
+pub use beside::{Beside, Rest};
 pub use candidate::{Accepted, Candidate};
 pub use headroom::{Headroom, Utilization};
 pub use refusal::Refusal;

@@ -69,7 +69,10 @@ pub fn greatest_without(
         Ok(route) => route,
         Err(_) => return None,
     };
-    greatest_on(&accepted.beside(left_out, contract, &route), field)
+    match left_out {
+        None => greatest_on(&accepted.beside(contract, &route), field),
+        Some(place) => greatest_on(&accepted.rest(place, contract, &route).beside(), field),
+    }
 }
 
 /// The greatest value of a field, as `greatest` tells it, of a contract beside a table.
@@ -120,10 +123,23 @@ pub fn quoted_without(
         Ok(route) => route,
         Err(_) => return Err(unfit_refusal(accepted, left_out, contract, field)),
     };
-    let beside = accepted.beside(left_out, contract, &route);
-    match greatest_on(&beside, field) {
+    match left_out {
+        None => quoted_on(&accepted.beside(contract, &route), field),
+        Some(place) => quoted_on(&accepted.rest(place, contract, &route).beside(), field),
+    }
+}
+
+/// The greatest value of a field of a contract beside a table, or what stands against the least one.
+fn quoted_on(beside: &Beside<'_>, field: Field) -> Result<u64, Option<Refusal>>
+    ensures value { MatchResult result
+        (λ value. quote_of beside.now.table beside.now.contract field ≡ Some value)
+        (λ refusal. (quote_of beside.now.table beside.now.contract field ≡ None)
+        × (refusal ≡ least_refusal beside.now.table beside.now.contract field)) }
+    ensures nameless { IfErr result (λ refusal. IfSome refusal IsNameless) }
+{
+    match greatest_on(beside, field) {
         Some(value) => Ok(value),
-        None => Err(least_refusal_on(&beside, field)),
+        None => Err(least_refusal_on(beside, field)),
     }
 }
 

@@ -1,4 +1,4 @@
-ghost use Rattle.std.specs.Prelude.{IfSome, length, ◌<◌};
+ghost use Rattle.std.specs.Prelude.{length, ◌<◌};
 
 use crate::rows::tables::{Said, parsed};
 use ds_certificate::{Bound, Certificate, bounds_of};
@@ -56,21 +56,22 @@ fn expect_no_room(rt: &impl Abort, alloc: Global, table: &Accepted, contract: &C
     assert_eq!(rt; refusal, Some(no_room(rt)));
 }
 
-/// Expects what stands against a contract on its own terms beside a table, or beside what is left of it without the
-/// contract at a place.
-fn expect_beside(
-    rt: &impl Abort,
-    table: &Accepted,
-    left_out: Option<usize>,
-    contract: &Contract,
-    wanted: Option<Refusal>,
-)
-    requires { IfSome left_out (λ place. place < length table.now.contracts) }
-{
+/// Expects what stands against a contract on its own terms beside a table.
+fn expect_beside(rt: &impl Abort, table: &Accepted, contract: &Contract, wanted: Option<Refusal>) {
     let route = table.domain().route(contract).expect(rt, "a route");
-    let beside = table.beside(left_out, contract, &route);
+    let beside = table.beside(contract, &route);
     assert_eq!(rt; beside.carries(&contract.terms), wanted.is_none());
     assert_eq!(rt; beside.refusal_on(&contract.terms), wanted);
+}
+
+/// Expects that nothing stands against a contract beside what is left of a table without the one at a place.
+fn expect_rest(rt: &impl Abort, table: &Accepted, place: usize, contract: &Contract)
+    requires { place < length table.now.contracts }
+{
+    let route = table.domain().route(contract).expect(rt, "a route");
+    let rest = table.rest(place, contract, &route);
+    assert!(rt; rest.beside().carries(&contract.terms));
+    assert_eq!(rt; rest.beside().refusal_on(&contract.terms), None);
 }
 
 /// Expects that a table without contracts has room for one.
@@ -84,8 +85,8 @@ fn expect_room_for_one(rt: &impl Abort, alloc: Global, one: &Accepted, other: &C
     assert_eq!(rt; one.contracts().len(), 1);
     assert_eq!(rt; (one.hold(0), one.hold(1)), (Some(6_000_000), None));
     expect_no_room(rt, alloc, one, other);
-    expect_beside(rt, one, None, other, Some(no_room(rt)));
-    expect_beside(rt, one, Some(0), other, None);
+    expect_beside(rt, one, other, Some(no_room(rt)));
+    expect_rest(rt, one, 0, other);
     expect_room(
         rt,
         alloc,
