@@ -181,17 +181,18 @@ impl Domain {
         }
         let found = found_along(self, contract.port, path);
         if found.unknown {
-            Err(refusal(Kind::UnknownName, Field::Path))
-        } else if comes_back(found.legs.as_slice()) {
-            Err(refusal(Kind::PathRepeats, Field::Path))
-        } else if found.unlinked {
-            Err(refusal(Kind::NoLink, Field::Path))
-        } else {
-            Ok(Route {
-                skew: port.skew,
-                legs: found.legs,
-            })
+            return Err(refusal(Kind::UnknownName, Field::Path));
         }
+        if comes_back(found.legs.as_slice()) {
+            return Err(refusal(Kind::PathRepeats, Field::Path));
+        }
+        if found.unlinked {
+            return Err(refusal(Kind::NoLink, Field::Path));
+        }
+        Ok(Route {
+            skew: port.skew,
+            legs: found.legs,
+        })
     }
 }
 

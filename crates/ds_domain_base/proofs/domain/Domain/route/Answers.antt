@@ -26,8 +26,8 @@ returns-then-found-2 c =
     let once = back-told c.args.self.now c.args.contract.now.port path _ _ c.comes_back.result false c.found_along-found.ensures.legs c.as_slice.ensures.value c.comes_back.ensures known c.if-comes_back.false in
     search (rules, once)
 
-pub returns-else-found-2 : goal.returns-else-found-2
-returns-else-found-2 c =
+pub returns : goal.returns
+returns c =
     let path = c.meters-path.result.now in
     let known : names_unknown c.args.self.now path ≡ false = sym c.found_along-found.ensures.unknown ∙ c.if-found.false in
     let once = back-told c.args.self.now c.args.contract.now.port path _ _ c.comes_back.result false c.found_along-found.ensures.legs c.as_slice.ensures.value c.comes_back.ensures known c.if-comes_back.false in (
