@@ -1,7 +1,8 @@
 -- The lines that say a step: `send CONTRACT PACKET SIZE DSCP MOMENT` and `visit PACKET MOMENT`.
-use Rattle.std.specs.Prelude.{ℕ, ◌-◌, ◌^◌, nat_lt, List, [], ◌∷◌, codes, position, option_and_then, Option, None, Some, if◌then◌else◌, bytes_eq}
+use Rattle.std.specs.Prelude.{◌≡◌, ℕ, ◌-◌, ◌^◌, nat_lt, List, [], ◌∷◌, codes, position, option_and_then, Option, None, Some, if◌then◌else◌, bytes_eq}
 use Rattle.line_text.specs.Lines.{fields_of}
 use Rattle.line_text.specs.Numbers.{number_of}
+use Rattle.dsedge_lines.specs.Fronts.{IsFirstLine}
 use Rattle.dsedge_lines.specs.Quantities.{size_in}
 use Rattle.ds_domain_base.specs.declared.contract.Contract.{Contract}
 use Rattle.meter_fabric_base.specs.Grounds.{most_flows}
@@ -39,3 +40,8 @@ step_of_fields contracts _ = None
 -- the step that a line says, with the name of one of these contracts
 unfoldable pub step_in : List Contract → List ℕ → Option Step
 step_in contracts line = step_of_fields contracts (fields_of line)
+
+-- the step that the first line of a text says, where this verb and a space stand in front of the text
+abbrev pub IsFrontStep : List Contract → List ℕ → List ℕ → Step → List ℕ → Type 0
+IsFrontStep contracts verb text step rest =
+    (line : List ℕ) × IsFirstLine text line rest × (step_of_fields contracts (verb ∷ fields_of line) ≡ Some step)

@@ -1,13 +1,14 @@
-ghost use Rattle.std.specs.Prelude.{◌≡◌, ◌++◌, flat_map, Ok, IfErr, IfOk, OnOk};
+ghost use Rattle.std.specs.Prelude.{◌≡◌, ℕ, ◌+◌, List, ◌∷◌, ◌++◌, flat_map, Ok, Some, IfErr, IfOk, OnOk};
 ghost use Rattle.meter_fabric_base.specs.Grounds.{ground_of};
 ghost use Rattle.ds_runs.specs.Conducting.{run_so_far};
 ghost use Rattle.ds_runs.specs.Steps.{opened, refusal_of, stepped};
-ghost use Rattle.dsedge_lines.specs.Answers.{AnswersAll, behind};
+ghost use Rattle.dsedge_lines.specs.Answers.{Answers, AnswersAll, behind};
 ghost use Rattle.dsedge_audit.specs.Audited.{accounts_line, audit_from, audit_of, ending_by, verdict_line};
+ghost use Rattle.dsedge_audit.specs.StepLines.{step_in};
 
 use crate::accounts_text::push_sites;
 use crate::flows::Flows;
-use crate::step_line::step;
+use crate::step_line::{front_step, step};
 use crate::verdict_text::push_verdict;
 use ds_checker::Accepted;
 use ds_runs::{Conductor, Step, StepFault};
@@ -70,6 +71,23 @@ impl<'a> AuditCommand<'a> {
                 self.conductor = Some(conductor);
                 done
             }
+        }
+    }
+
+    /// Makes the step that a line says, or says how the answer ends before that line.
+    #[inline(always)]
+    #[tactic(auto, using(crate::proofs::AuditLaws::made_line, crate::proofs::AuditLaws::bad_step, crate::proofs::AuditLaws::full_line))]
+    fn take(&mut self, number: u64, step: Step) -> Result<Option<Ending>, AllocError>
+        ensures { (line : List ℕ) (later : List (List ℕ)) (out : List ℕ)
+            → step_in self.old.table.contracts line ≡ Some step →
+            Answers (behind out (audit_from self.old.table self.old.stage number (line ∷ later)))
+            (behind out (audit_from self.new.table self.new.stage (number + 1) later)) out result }
+    {
+        match self.make(step) {
+            Ok(()) => Ok(None),
+            Err(StepFault::BadStep) => Ok(Some(Ending::BadLine(number))),
+            Err(StepFault::JournalFull) => Ok(Some(Ending::Full)),
+            Err(StepFault::NoMemory) => Err(AllocError),
         }
     }
 
@@ -146,22 +164,31 @@ fn judge(
 impl<'a> Command for AuditCommand<'a> {
     ghost answer = { λ c number lines. audit_from c.table c.stage number lines };
 
-    #[tactic(auto, using(crate::proofs::AuditLaws::bad_line, crate::proofs::AuditLaws::made_line, crate::proofs::AuditLaws::bad_step, crate::proofs::AuditLaws::full_line))]
+    #[tactic(auto, using(crate::proofs::AuditLaws::bad_line))]
     fn line(
         &mut self,
         number: u64,
         line: &[u8],
         _out: &mut Vec<u8>,
     ) -> Result<Option<Ending>, AllocError> {
-        let Some(step) = step(&self.flows, line) else {
-            return Ok(Some(Ending::BadLine(number)));
-        };
-        match self.make(step) {
-            Ok(()) => Ok(None),
-            Err(StepFault::BadStep) => Ok(Some(Ending::BadLine(number))),
-            Err(StepFault::JournalFull) => Ok(Some(Ending::Full)),
-            Err(StepFault::NoMemory) => Err(AllocError),
+        match step(&self.flows, line) {
+            Some(step) => self.take(number, step),
+            None => Ok(Some(Ending::BadLine(number))),
         }
+    }
+
+    #[inline(always)]
+    fn front_line<'b>(
+        &mut self,
+        number: u64,
+        text: &'b [u8],
+        _out: &mut Vec<u8>,
+    ) -> Result<Option<(Option<Ending>, &'b [u8])>, AllocError> {
+        let Some((step, rest)) = front_step(&self.flows, text) else {
+            return Ok(None);
+        };
+        let ended = self.take(number, step)?;
+        Ok(Some((ended, rest)))
     }
 
     fn end(&mut self, _number: u64, out: &mut Vec<u8>) -> Result<Ending, AllocError> {

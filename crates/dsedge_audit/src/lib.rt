@@ -1,4 +1,5 @@
-//! The command `audit`: steps of packets, read from lines, and the verdict on the run that they make.
+//! The command `audit`: steps of packets, read from lines (`step_line::step`, and together with the line's end
+//! `step_line::front_step`, by `StepLines.step_in`), and the verdict on the run that they make (`Audited.audit_from`).
 #![tactic(auto)]
 
 mod accounts_text;

@@ -1,14 +1,18 @@
-ghost use Rattle.std.specs.Prelude.{◌≡◌, ◌∷◌, ◌<◌, codes, List, ℕ, Some, option_map};
-ghost use Rattle.line_text.specs.Lines.{fields_of};
-ghost use Rattle.line_text.specs.Numbers.{leading_number_of};
+ghost use Rattle.std.specs.Prelude.{◌≡◌, ℕ, ◌<◌, ◌≤◌, ◌^◌, ◌∷◌, ◌++◌, codes, false, nat_le, List, IfSome, None, Some};
+ghost use Rattle.std.specs.Prelude.{if◌then◌else◌};
+ghost use Rattle.line_text.specs.Lines.{fields_of, has_byte};
+ghost use Rattle.line_text.specs.Numbers.{number_of};
 ghost use Rattle.ds_domain_base.specs.declared.contract.Contract.{Contract};
-ghost use Rattle.dsedge_audit.specs.StepLines.{flow_named, step_in, step_of_fields};
+ghost use Rattle.ds_runs.specs.declared.step.Step.TheVariants.{Send, Visit};
+ghost use Rattle.dsedge_lines.specs.Fronts.{IsFirstLine};
+ghost use Rattle.dsedge_audit.specs.StepLines.{IsFrontStep, step_in, step_of_fields};
 
 use crate::flows::Flows;
 use af_marker::Dscp;
 use ds_runs::Step;
-use dsedge_lines::{leading_size, moment};
-use line_text::{leading_number, split_field};
+use dsedge_lines::{behind, behind_word, front_numbers, moment, size, sized_of};
+use line_text::{cut, number, split_field, three_fields, two_fields};
+use moment_core::Moment;
 
 /// The greatest code point.
 const LAST_CODE_POINT: u64 = 63;
@@ -28,29 +32,106 @@ pub fn step(flows: &Flows<'_>, line: &[u8]) -> Option<Step>
 }
 
 /// The step that the fields behind `send` say.
-#[tactic(auto, using(crate::proofs::StepLaws::unnamed))]
+#[tactic(auto, using(crate::proofs::StepLaws::other_sent))]
 fn send(flows: &Flows<'_>, fields: &[u8]) -> Option<Step>
     ensures { result ≡ step_of_fields flows.now.contracts (codes "send" ∷ fields_of fields.now) }
 {
     let (name, rest) = split_field(fields);
-    let flow = flows.flow(name)?;
-    sent(flow, rest?)
+    let (packet, rest) = split_field(rest?);
+    let (bytes, point, at) = three_fields(rest?)?;
+    Some(Step::Send {
+        flow: flows.flow(name)?,
+        packet: number(packet, u64::MAX)?,
+        size: size(bytes)?,
+        dscp: code_point(point)?,
+        moment: moment(at)?,
+    })
 }
 
-/// The step by which a packet of this contract begins, where the fields behind its name say one.
-#[tactic(auto, using(crate::proofs::StepLaws::sent_on, crate::proofs::StepLaws::number_alone))]
-fn sent(flow: u32, fields: &[u8]) -> Option<Step>
-    ensures { (contracts : List Contract) (name : List ℕ) → flow_named contracts name ≡ Some flow
-        → result ≡ step_of_fields contracts (codes "send" ∷ name ∷ fields_of fields.now) }
+/// The step that the fields behind `visit` say.
+#[tactic(auto, using(crate::proofs::StepLaws::other_visited))]
+fn visit(fields: &[u8]) -> Option<Step>
+    ensures { (contracts : List Contract) → result ≡ step_of_fields contracts (codes "visit" ∷ fields_of fields.now) }
 {
-    let (packet, rest) = leading_number(fields, u64::MAX)?;
-    let Some((size, rest)) = leading_size(rest) else {
-        return None;
-    };
-    let Some((dscp, rest)) = leading_code_point(rest) else {
-        return None;
-    };
-    let moment = moment(rest)?;
+    let (packet, at) = two_fields(fields)?;
+    Some(Step::Visit {
+        packet: number(packet, u64::MAX)?,
+        moment: moment(at)?,
+    })
+}
+
+/// The code point, 0 to 63, that a field says.
+#[tactic(auto, using(dsedge_lines::proofs::QuantityLemmas::number_at_most))]
+fn code_point(field: &[u8]) -> Option<Dscp>
+    ensures { result ≡ number_of 63 field.now }
+{
+    code_point_of(number(field, LAST_CODE_POINT)?)
+}
+
+/// The code point of a value, where there is one.
+fn code_point_of(value: u64) -> Option<Dscp>
+    ensures { result ≡ (if nat_le value 63 then Some value else None) }
+{
+    Dscp::new(u8::try_from(value).ok()?).ok()
+}
+
+/// The step that the line at the front of a text says, and what stands behind its LF, where `front_numbers` reads its
+/// numbers.
+#[inline(always)]
+pub fn front_step<'a>(flows: &Flows<'_>, text: &'a [u8]) -> Option<(Step, &'a [u8])>
+    ensures { IfSome result (λ front. (line : List ℕ) × IsFirstLine text.now line front.1.now
+        × (step_in flows.now.contracts line ≡ Some front.0)) }
+{
+    if let Some(fields) = behind_word(b"visit ", text) {
+        return front_visit(fields);
+    }
+    front_send(flows, behind_word(b"send ", text)?)
+}
+
+/// The same of what stands behind `visit` and a space.
+#[inline(always)]
+fn front_visit(fields: &[u8]) -> Option<(Step, &[u8])>
+    ensures { (contracts : List Contract) → IfSome result
+        (λ front. IsFrontStep contracts (codes "visit") fields.now front.0 front.1.now) }
+{
+    let (packet, nanoseconds, end) = front_numbers(fields)?;
+    let rest = behind(b'\n', end)?;
+    Some((visit_of(packet, nanoseconds)?, rest))
+}
+
+/// The visit of a packet after so many nanoseconds, where there is such a moment.
+#[inline(always)]
+fn visit_of(packet: u64, nanoseconds: u64) -> Option<Step>
+    ensures { IfSome result
+        (λ step. (step ≡ Visit packet nanoseconds) × (packet < 2 ^ 64) × (nanoseconds < 2 ^ 63)) }
+{
+    let moment = Moment::new(nanoseconds).ok()?;
+    Some(Step::Visit { packet, moment })
+}
+
+/// The same of what stands behind `send` and a space.
+#[inline(always)]
+fn front_send<'a>(flows: &Flows<'_>, fields: &'a [u8]) -> Option<(Step, &'a [u8])>
+    ensures { IfSome result
+        (λ front. IsFrontStep flows.now.contracts (codes "send") fields.now front.0 front.1.now) }
+{
+    let (name, numbers) = front_name(fields)?;
+    let flow = flows.flow(name)?;
+    let (packet, bytes, points) = front_numbers(numbers)?;
+    let (value, nanoseconds, end) = front_numbers(behind(b' ', points)?)?;
+    let rest = behind(b'\n', end)?;
+    Some((send_of(flow, packet, bytes, value, nanoseconds)?, rest))
+}
+
+/// The step by which a packet of so many bytes begins after so many nanoseconds with the code point of a value, where
+/// there are such.
+#[inline(always)]
+fn send_of(flow: u32, packet: u64, bytes: u64, value: u64, nanoseconds: u64) -> Option<Step>
+    ensures { IfSome result (λ step. (step ≡ Send flow packet bytes value nanoseconds)
+        × (packet < 2 ^ 64) × (1 ≤ bytes) × (bytes < 2 ^ 16) × (value ≤ 63) × (nanoseconds < 2 ^ 63)) }
+{
+    let (moment, size) = sized_of(nanoseconds, bytes)?;
+    let dscp = code_point_of(value)?;
     Some(Step::Send {
         flow,
         packet,
@@ -60,30 +141,15 @@ fn sent(flow: u32, fields: &[u8]) -> Option<Step>
     })
 }
 
-/// The step that the fields behind `visit` say.
-#[tactic(auto, using(crate::proofs::StepLaws::visited_on, crate::proofs::StepLaws::number_alone))]
-fn visit(fields: &[u8]) -> Option<Step>
-    ensures { (contracts : List Contract) → result ≡ step_of_fields contracts (codes "visit" ∷ fields_of fields.now) }
+/// The field at the front of a text, and what stands behind its space, where no line ends before that.
+#[inline(always)]
+fn front_name(text: &[u8]) -> Option<(&[u8], &[u8])>
+    ensures { IfSome result (λ parts. (has_byte 10 parts.0.now ≡ false) × (has_byte 32 parts.0.now ≡ false)
+        × (text.now ≡ parts.0.now ++ 32 ∷ parts.1.now)) }
 {
-    let (packet, rest) = leading_number(fields, u64::MAX)?;
-    let moment = moment(rest)?;
-    Some(Step::Visit { packet, moment })
-}
-
-/// The code point of this value.
-fn code_point(value: u64) -> Dscp
-    requires { value < 64 }
-    ensures { result ≡ value }
-{
-    Dscp::new(value as u8).unwrap()
-}
-
-/// The code point, 0 to 63, that the first field says, and what stands behind that field's space.
-#[tactic(auto, using(dsedge_lines::proofs::QuantityLemmas::leading_at_most))]
-fn leading_code_point(fields: &[u8]) -> Option<(Dscp, &[u8])>
-    ensures { option_map (λ parts. (parts.0, fields_of parts.1.now)) result
-        ≡ leading_number_of 63 (fields_of fields.now) }
-{
-    let (value, rest) = leading_number(fields, LAST_CODE_POINT)?;
-    Some((code_point(value), rest))
+    let (name, rest) = cut(text, b' ')?;
+    match cut(name, b'\n') {
+        None => Some((name, rest)),
+        Some(_) => None,
+    }
 }

@@ -3,5 +3,6 @@ pub mod Answers
 pub mod Codes
 pub mod Faults
 pub mod FirstLine
+pub mod Fronts
 pub mod Quantities
 pub mod Underway

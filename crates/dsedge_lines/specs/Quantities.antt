@@ -1,12 +1,7 @@
 -- Moments and sizes that fields of a line say.
 use Rattle.std.specs.Prelude.{ℕ, ◌==◌, List, Option, None, Some, option_and_then, if◌then◌else◌}
-use Rattle.line_text.specs.Numbers.{leading_number_of, number_of}
+use Rattle.line_text.specs.Numbers.{number_of}
 
 -- a size is a number from 1 to 65,535
 abbrev pub size_in : List ℕ → Option ℕ
 size_in field = option_and_then (λ size. if size == 0 then None else Some size) (number_of 65535 field)
-
--- the size that the first of some fields says, and the other fields, where there are others
-abbrev pub leading_size_of : List (List ℕ) → Option (ℕ × List (List ℕ))
-leading_size_of fields =
-    option_and_then (λ leading. if leading.0 == 0 then None else Some leading) (leading_number_of 65535 fields)

@@ -4,6 +4,7 @@
 mod command;
 mod engine;
 mod fault;
+mod fronts;
 mod given_name;
 mod progress;
 mod quantities;
@@ -12,6 +13,7 @@ mod words;
 pub use command::{Command, Ending};
 pub use engine::pump;
 pub use fault::PumpFault;
+pub use fronts::{behind, behind_word, front_numbers};
 pub use given_name::GivenName;
-pub use quantities::{leading_moment, leading_size, moment, size};
+pub use quantities::{moment, size, sized_of};
 pub use words::{FirstLineFault, Words, first_line};

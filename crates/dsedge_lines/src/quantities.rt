@@ -1,9 +1,8 @@
-ghost use Rattle.std.specs.Prelude.{◌≡◌, ◌-◌, ◌<◌, ◌^◌, ◌==◌, None, Some, option_map, if◌then◌else◌};
-ghost use Rattle.line_text.specs.Lines.{fields_of};
-ghost use Rattle.line_text.specs.Numbers.{leading_number_of, number_of};
-ghost use Rattle.dsedge_lines.specs.Quantities.{leading_size_of, size_in};
+ghost use Rattle.std.specs.Prelude.{◌≡◌, ◌-◌, ◌<◌, ◌≤◌, ◌^◌, ◌==◌, ◌⊎◌, None, Some, MatchOption, if◌then◌else◌};
+ghost use Rattle.line_text.specs.Numbers.{number_of};
+ghost use Rattle.dsedge_lines.specs.Quantities.{size_in};
 
-use line_text::{leading_number, number};
+use line_text::number;
 use moment_core::{Moment, PacketSize};
 
 /// The greatest moment, in nanoseconds.
@@ -28,6 +27,18 @@ fn size_of(bytes: u64) -> Option<PacketSize>
     PacketSize::new(bytes).ok()
 }
 
+/// The moment of so many nanoseconds and the size of so many bytes, where there are such.
+#[inline(always)]
+pub fn sized_of(nanoseconds: u64, bytes: u64) -> Option<(Moment, PacketSize)>
+    ensures { MatchOption result ((2 ^ 63 ≤ nanoseconds) ⊎ (bytes ≡ 0) ⊎ (2 ^ 16 ≤ bytes))
+        (λ sized. (sized.0 ≡ nanoseconds) × (sized.1 ≡ bytes)
+        × (nanoseconds < 2 ^ 63) × (1 ≤ bytes) × (bytes < 2 ^ 16)) }
+{
+    let moment = Moment::new(nanoseconds).ok()?;
+    let size = PacketSize::new(bytes).ok()?;
+    Some((moment, size))
+}
+
 /// The moment that a field says: 0 to 2^63 - 1 nanoseconds.
 #[tactic(auto, using(crate::proofs::QuantityLemmas::number_at_most))]
 pub fn moment(field: &[u8]) -> Option<Moment>
@@ -39,17 +50,6 @@ pub fn moment(field: &[u8]) -> Option<Moment>
     }
 }
 
-/// The moment, 0 to 2^63 - 1 nanoseconds, that the first field says, and what stands behind that field's space.
-#[inline(always)]
-#[tactic(auto, using(crate::proofs::QuantityLemmas::leading_at_most))]
-pub fn leading_moment(fields: &[u8]) -> Option<(Moment, &[u8])>
-    ensures { option_map (λ parts. (parts.0, fields_of parts.1.now)) result
-        ≡ leading_number_of (2 ^ 63 - 1) (fields_of fields.now) }
-{
-    let (nanoseconds, rest) = leading_number(fields, LAST_MOMENT)?;
-    Some((moment_at(nanoseconds), rest))
-}
-
 /// The size that a field says: 1 to 65,535 bytes.
 #[tactic(auto, using(crate::proofs::QuantityLemmas::number_at_most))]
 pub fn size(field: &[u8]) -> Option<PacketSize>
@@ -59,15 +59,4 @@ pub fn size(field: &[u8]) -> Option<PacketSize>
         Some(bytes) => size_of(bytes),
         None => None,
     }
-}
-
-/// The size, 1 to 65,535 bytes, that the first field says, and what stands behind that field's space.
-#[inline(always)]
-#[tactic(auto, using(crate::proofs::QuantityLemmas::leading_at_most))]
-pub fn leading_size(fields: &[u8]) -> Option<(PacketSize, &[u8])>
-    ensures { option_map (λ parts. (parts.0, fields_of parts.1.now)) result
-        ≡ leading_size_of (fields_of fields.now) }
-{
-    let (bytes, rest) = leading_number(fields, LARGEST_SIZE)?;
-    Some((size_of(bytes)?, rest))
 }

@@ -1,5 +1,4 @@
 -- What `meter` and `envelope` answer.
 pub mod Arrivals
-pub mod Fronts
 pub mod Metered
 pub mod Verdicts

@@ -1,9 +1,9 @@
-ghost use Rattle.std.specs.Prelude.{◌≡◌, ℕ, ◌^◌, ◌<◌, ◌≤◌, List, ◌∷◌, Some, IfSome};
+ghost use Rattle.std.specs.Prelude.{◌≡◌, ℕ, List, Some, IfSome};
 ghost use Rattle.dsedge_meter.specs.Arrivals.{arrival_in, colour_named, colour_of_letter, sized_in, sized_since};
-ghost use Rattle.dsedge_meter.specs.Fronts.{IsFirstLine, IsPairFront};
+ghost use Rattle.dsedge_lines.specs.Fronts.{IsFirstLine};
 
-use dsedge_lines::{leading_moment, leading_size, size};
-use line_text::front_number;
+use dsedge_lines::{behind, front_numbers, moment, size, sized_of};
+use line_text::{three_fields, two_fields};
 use meter_book::Arrival;
 use moment_core::{Colour, Moment, PacketSize};
 
@@ -27,38 +27,6 @@ pub fn colour(field: &[u8]) -> Option<Colour>
         [letter] => letter_colour(*letter),
         _ => None,
     }
-}
-
-/// What stands behind a byte, where a text begins with it.
-#[inline(always)]
-fn behind(byte: u8, text: &[u8]) -> Option<&[u8]>
-    ensures { IfSome result (λ rest. text.now ≡ byte ∷ rest.now) }
-{
-    let (first, rest) = text.split_first()?;
-    if *first == byte { Some(rest) } else { None }
-}
-
-/// The two numbers at the front of a text, one space apart, and what stands behind them. It reads none that has more
-/// than 16 digits, nor any near the end of the text.
-#[inline(always)]
-fn front_numbers(text: &[u8]) -> Option<(u64, u64, &[u8])>
-    ensures { IfSome result (λ front. IsPairFront text.now front.0 front.1 front.2.now) }
-{
-    let (first, rest) = front_number(text)?;
-    let seconds = behind(b' ', rest)?;
-    let (second, rest) = front_number(seconds)?;
-    Some((first, second, rest))
-}
-
-/// The moment of so many nanoseconds and the size of so many bytes, where there are such.
-#[inline(always)]
-fn sized_of(nanoseconds: u64, bytes: u64) -> Option<(Moment, PacketSize)>
-    ensures { IfSome result (λ sized. (sized.0 ≡ nanoseconds) × (sized.1 ≡ bytes)
-        × (nanoseconds < 2 ^ 63) × (1 ≤ bytes) × (bytes < 2 ^ 16)) }
-{
-    let moment = Moment::new(nanoseconds).ok()?;
-    let size = PacketSize::new(bytes).ok()?;
-    Some((moment, size))
 }
 
 /// The arrival that the line at the front of a text says, and what stands behind its LF, where `front_numbers` reads
@@ -99,38 +67,31 @@ pub fn front_sized_moment(newest: Moment, text: &[u8]) -> Option<((Moment, u32),
     Some(((moment, u32::from(size.get())), rest))
 }
 
-/// The arrival that a line says, `MOMENT SIZE COLOUR`: the line's number is the packet's. Each byte is read once.
-#[inline(always)]
-#[tactic(auto, using(crate::proofs::ArrivalLemmas::arrival_by_fields, crate::proofs::ArrivalLemmas::last_letter), unfolding(crate::specs::Arrivals::arrival_in))]
+/// The arrival that a line says, `MOMENT SIZE COLOUR`: the line's number is the packet's.
+#[inline(never)]
+#[tactic(auto, using(crate::proofs::ArrivalLemmas::other_arrival), unfolding(crate::specs::Arrivals::arrival_in))]
 pub fn arrival(line_number: u64, line: &[u8]) -> Option<Arrival>
     ensures { result ≡ arrival_in line_number line.now }
 {
-    let Some((moment, rest)) = leading_moment(line) else {
-        return None;
-    };
-    let Some((size, letter)) = leading_size(rest) else {
-        return None;
-    };
+    let (at, bytes, letter) = three_fields(line)?;
     Some(Arrival {
         flow: 0,
         packet: line_number,
         hop: 0,
-        moment,
-        size,
+        moment: moment(at)?,
+        size: size(bytes)?,
         came: colour(letter)?,
     })
 }
 
-/// The sized moment that a line says, `MOMENT SIZE`, with the size in bytes. Each byte is read once.
-#[inline(always)]
-#[tactic(auto, using(crate::proofs::ArrivalLemmas::sized_by_fields, crate::proofs::ArrivalLemmas::last_size), unfolding(crate::specs::Arrivals::sized_in))]
+/// The sized moment that a line says, `MOMENT SIZE`, with the size in bytes.
+#[inline(never)]
+#[tactic(auto, using(crate::proofs::ArrivalLemmas::other_sized), unfolding(crate::specs::Arrivals::sized_in))]
 fn sized(line: &[u8]) -> Option<(Moment, u32)>
     ensures { result ≡ sized_in line.now }
 {
-    let Some((moment, bytes)) = leading_moment(line) else {
-        return None;
-    };
-    Some((moment, u32::from(size(bytes)?.get())))
+    let (at, bytes) = two_fields(line)?;
+    Some((moment(at)?, u32::from(size(bytes)?.get())))
 }
 
 /// The sized moment that a line says, `MOMENT SIZE`, where it is not before the newest moment.

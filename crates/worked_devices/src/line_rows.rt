@@ -1,4 +1,5 @@
 use crate::expecting::expect_same;
+use dsedge_lines::{behind_word, front_numbers};
 use line_text::{front_number, leading_number, number, push_number, three_fields, two_fields};
 use std::alloc::{AllocError, Global};
 
@@ -82,6 +83,56 @@ static FRONTS: [Front; 4] = [
 fn a_number_at_the_front_of_a_text(rt: HostRuntime) {
     for (name, text, wanted) in &FRONTS {
         expect_same(&rt, name, front_number(text), *wanted);
+    }
+}
+
+/// What a row is about, a text, the two numbers at its front, and what stands behind them.
+type Pair = (
+    &'static str,
+    &'static [u8],
+    Option<(u64, u64, &'static [u8])>,
+);
+
+static PAIRS: [Pair; 6] = [
+    (
+        "seven digits and four",
+        b"1234567 1500 g\n123456789",
+        Some((1_234_567, 1_500, b" g\n123456789")),
+    ),
+    (
+        "19 digits and 20",
+        b"1700000000123456789 18446744073709551615\n8",
+        Some((1_700_000_000_123_456_789, u64::MAX, b"\n8")),
+    ),
+    (
+        "beyond 64 bits",
+        b"7 18446744073709551616\n12345678",
+        None,
+    ),
+    ("no space between them", b"7,1500 g\n12345678", None),
+    ("one number", b"1234567 g 1500\n12345678", None),
+    ("fewer than 16 bytes at the second", b"1234567 1500 g\n", None),
+];
+
+#[test]
+fn two_numbers_at_the_front_of_a_text(rt: HostRuntime) {
+    for (name, text, wanted) in &PAIRS {
+        expect_same(&rt, name, front_numbers(text), *wanted);
+    }
+}
+
+/// A word, a text, and what stands behind the word, where the text begins with it.
+static WORDS: [(&[u8], &str, Option<&[u8]>); 4] = [
+    (b"visit ", "visit 7 40", Some(b"7 40")),
+    (b"visit ", "visit ", Some(b"")),
+    (b"visit ", "visit", None),
+    (b"send ", "sent 7 40", None),
+];
+
+#[test]
+fn what_stands_behind_a_word(rt: HostRuntime) {
+    for (word, text, wanted) in &WORDS {
+        expect_same(&rt, text, behind_word(word, text.as_bytes()), *wanted);
     }
 }
 

@@ -3,7 +3,7 @@ use Rattle.line_text.specs.Lines.{lines_of}
 use Rattle.dsedge_lines.specs.Answers.{behind}
 use Rattle.dsedge_meter.specs.Arrivals.{sized_since}
 use Rattle.dsedge_meter.specs.Verdicts.{Testing, verdict_behind}
-use Rattle.dsedge_meter.proofs.FrontLemmas.{first_of_lines}
+use Rattle.dsedge_lines.proofs.FrontLemmas.{first_of_lines}
 use Rattle.dsedge_meter.proofs.VerdictLaws.{sized_since_not_before, verdict_behind-good}
 use Rattle.dsedge_meter.proofs.envelope.EnvelopeCommandCommand.front_line.Goals as goal
 

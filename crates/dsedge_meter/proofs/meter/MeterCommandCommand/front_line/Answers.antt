@@ -1,7 +1,7 @@
 use Rattle.std.proofs.Common.{◌++◌}
 use Rattle.std.proofs.lemmas.Result.{err_from_is_err_and}
 use Rattle.line_text.specs.Lines.{lines_of}
-use Rattle.dsedge_meter.proofs.FrontLemmas.{first_of_lines}
+use Rattle.dsedge_lines.proofs.FrontLemmas.{first_of_lines}
 use Rattle.dsedge_meter.proofs.meter.MeterCommandCommand.front_line.Goals as goal
 
 pub returns-in_err-ended-clause-answer : goal.returns-in_err-ended-clause-answer
