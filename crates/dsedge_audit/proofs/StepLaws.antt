@@ -63,8 +63,14 @@ send_front contracts text name numbers points seconds end rest flow packet size 
     ∙ ap (λ later. name ∷ later) (pair_then_fields one (two.front ++ 32 ∷ two.back) ∙ ap (λ later. one.front ∷ one.back ∷ later) (pair_last_fields two)) in (
       name ++ 32 ∷ line,
       first_behind name endless is (pair_then one space (pair_last two ends)),
-      rw (fields, known, one.says_first (2 ^ 64 - 1) (omega (arith, in_range)), size_as size one.back (one.says_second 65535 (omega (arith, small))) least,
-      two.says_first 63 low, two.says_second (2 ^ 63 - 1) (omega (arith, early))) refl,
+      rw (
+        fields,
+        known,
+        one.says_first (2 ^ 64 - 1) (omega (arith, in_range)),
+        size_as size one.back (one.says_second 65535 (omega (arith, small))) least,
+        two.says_first 63 low,
+        two.says_second (2 ^ 63 - 1) (omega (arith, early)),
+      ) refl,
     )
 
 -- a verb and a space in front of it

@@ -1,72 +1,31 @@
 -- What stands at the front of a text of lines, where its numbers are read at once.
-use Rattle.std.proofs.Common.{◌≡◌, ◌≢◌, ℕ, ◌+◌, ◌<◌, ◌≤◌, true, false, List, [], ◌∷◌, ◌++◌, fold, take, drop, Some, refl, sym, ap, ◌∙◌, arith, append_assoc, take-append-drop}
+use Rattle.std.proofs.Common.{◌≡◌, ◌≢◌, ℕ, ◌<◌, ◌≤◌, false, List, [], ◌∷◌, ◌++◌, take, drop, Some, refl, sym, ap, ◌∙◌, arith, append_assoc, take-append-drop}
 use Rattle.std.specs.Char.{is_ascii_digit}
 use Rattle.std.proofs.lemmas.Bool.{ne_eqb}
-use Rattle.std.specs.List.{list_all}
-use Rattle.std.proofs.lemmas.List.{length-append, length-take-le}
-use Rattle.std.proofs.lemmas.List.Folds.{list_all-append}
-use Rattle.std.proofs.lemmas.List.Sums.{fold-append}
 use Rattle.line_text.specs.Lines.{fields_of, has_byte, lines_of}
-use Rattle.line_text.specs.Numbers.{front_count, number_of, value_of, with_digit}
-use Rattle.line_text.proofs.LeadingLemmas.{digits-no_byte, front_count-digits, front_count-most, number_of_some}
-use Rattle.line_text.proofs.NumberLemmas.{number_of-value}
+use Rattle.line_text.specs.Numbers.{front_count, number_of, value_of}
+use Rattle.line_text.proofs.LeadingLemmas.{digits-no_byte, front_count-number, number_of_some}
 use Rattle.line_text.proofs.LineLemmas.{fields_of-cut, fields_of-uncut, has_byte-append, lines_of-cut}
-use Rattle.dsedge_lines.specs.Fronts.{IsFirstLine, IsFurther, IsNumberFront, IsPairFront}
+use Rattle.dsedge_lines.specs.Fronts.{IsFirstLine, IsPairFront}
 use Rattle.dsedge_lines.specs.Quantities.{size_in}
 
--- one digit, and none
-pub further_digit : (value digit whole : ℕ) (text rest : List ℕ) → text ≡ digit ∷ rest → is_ascii_digit digit ≡ true → whole ≡ with_digit value digit
-    → IsFurther 1 value text whole rest
-further_digit value digit whole text rest is test says = record { digits = digit ∷ []; stands = is; few = omega arith; all = rw test refl; says = says; }
-
-pub further_none : (most value : ℕ) (text : List ℕ) → IsFurther most value text value text
-further_none most value text = record { digits = []; stands = refl; few = omega arith; all = refl; says = refl; }
-
-all_append : (xs ys : List ℕ) → list_all is_ascii_digit xs ≡ true → list_all is_ascii_digit ys ≡ true → list_all is_ascii_digit (xs ++ ys) ≡ true
-all_append xs ys front back = rw (list_all-append is_ascii_digit xs ys, front) back
-
--- digits behind digits
-pub further_then : {most later value first whole : ℕ} {text rest end : List ℕ} → IsFurther most value text first rest → IsFurther later first rest whole end
-    → IsFurther (most + later) value text whole end
-further_then {most} {later} {value} {first} {whole} {text} {rest} {end} one two = record {
-  digits = one.digits ++ two.digits;
-  stands = one.stands ∙ ap (λ more. one.digits ++ more) two.stands ∙ sym (append_assoc one.digits two.digits end);
-  few = omega (arith, one.few, two.few, length-append one.digits two.digits);
-  all = all_append one.digits two.digits one.all two.all;
-  says = two.says ∙ ap (λ n. fold with_digit n two.digits) one.says ∙ sym (fold-append with_digit value one.digits two.digits);
-}
-
--- a number that is read at once, and the digits behind it, if there are any
-pub front_further : {text rest after : List ℕ} {value whole : ℕ} → 0 < front_count text → value ≡ value_of (take (front_count text) text)
-    → rest ≡ drop (front_count text) text → IsFurther 4 value rest whole after → IsNumberFront text whole after
-unfolding value_of
-front_further {text} {rest} {after} {value} {whole} some is is_rest more =
-    let front = take (front_count text) text in
-    let within = front_count-most text in
-    let many = length-take-le (front_count text) text within.0 in
-    let says : whole ≡ fold with_digit 0 (front ++ more.digits) =
-    more.says ∙ ap (λ n. fold with_digit n more.digits) is ∙ sym (fold-append with_digit 0 front more.digits) in
-    record {
-      front = front ++ more.digits;
-      whole =
-          sym (take-append-drop (front_count text) text) ∙ ap (λ later. front ++ later) (sym is_rest ∙ more.stands)
-          ∙ sym (append_assoc front more.digits after);
-      says = λ most small.
-          number_of-value most (front ++ more.digits) (omega (arith, some, many, length-append front more.digits))
-          (omega (arith, within.1, many, more.few, length-append front more.digits))
-          (all_append front more.digits (front_count-digits text) more.all) (omega (arith, says, small))
-          ∙ ap Some (sym says);
-    }
+says_front : (text : List ℕ) (value most : ℕ) → 0 < front_count text → value ≡ value_of (take (front_count text) text) → value ≤ most
+    → number_of most (take (front_count text) text) ≡ Some value
+says_front text value most some is small = front_count-number most text some (omega (arith, is, small)) ∙ ap Some (sym is)
 
 -- two numbers with a space between them
-pub pair_front : {text behind seconds rest : List ℕ} {first second : ℕ} → IsNumberFront text first behind → behind ≡ 32 ∷ seconds
-    → IsNumberFront seconds second rest → IsPairFront text first second rest
-pair_front one space two = record {
-  front = one.front;
-  back = two.front;
-  whole = one.whole ∙ ap (λ later. one.front ++ later) (space ∙ ap (λ later. 32 ∷ later) two.whole);
-  says_first = one.says;
-  says_second = two.says;
+pub pair_front : (text seconds rest : List ℕ) (first second : ℕ) → 0 < front_count text → first ≡ value_of (take (front_count text) text)
+    → drop (front_count text) text ≡ 32 ∷ seconds → 0 < front_count seconds → second ≡ value_of (take (front_count seconds) seconds)
+    → rest ≡ drop (front_count seconds) seconds → IsPairFront text first second rest
+pair_front text seconds rest first second some is_first space more is_second is_rest = record {
+  front = take (front_count text) text;
+  back = take (front_count seconds) seconds;
+  whole =
+      sym (take-append-drop (front_count text) text)
+      ∙ ap (λ later. take (front_count text) text ++ later)
+      (space ∙ ap (λ later. 32 ∷ later) (sym (take-append-drop (front_count seconds) seconds) ∙ ap (λ later. take (front_count seconds) seconds ++ later) (sym is_rest)));
+  says_first = λ most small. says_front text first most some is_first small;
+  says_second = λ most small. says_front seconds second most more is_second small;
 }
 
 number-no_byte : (mark value : ℕ) (field : List ℕ) → is_ascii_digit mark ≡ false → number_of value field ≡ Some value → has_byte mark field ≡ false

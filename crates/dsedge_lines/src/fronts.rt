@@ -1,5 +1,5 @@
 ghost use Rattle.std.specs.Prelude.{◌≡◌, ◌≢◌, ℕ, List, ◌∷◌, ◌++◌, IfNone, IfSome};
-ghost use Rattle.dsedge_lines.specs.Fronts.{IsFurther, IsNumberFront, IsPairFront};
+ghost use Rattle.dsedge_lines.specs.Fronts.{IsPairFront};
 
 use line_text::front_number;
 
@@ -23,54 +23,14 @@ pub fn behind_word<'a>(word: &[u8], text: &'a [u8]) -> Option<&'a [u8]>
     if front == word { Some(rest) } else { None }
 }
 
-/// A number that goes on with the digit at the front of a text, and what stands behind that; the same where none stands
-/// there, `None` beyond 64 bits.
-fn one_more(value: u64, text: &[u8]) -> Option<(u64, &[u8])>
-    ensures { IfSome result (λ front. IsFurther 1 value text.now front.0 front.1.now) }
-{
-    let Some((digit, rest)) = text.split_first() else {
-        return Some((value, text));
-    };
-    if !digit.is_ascii_digit() {
-        return Some((value, text));
-    }
-    let ones = u64::from(*digit - b'0');
-    Some((value.checked_mul(10)?.checked_add(ones)?, rest))
-}
-
-/// A number that goes on with the digits at the front of a text, at most four, as a number of sixteen digits may.
-#[inline(never)]
-fn further(value: u64, text: &[u8]) -> Option<(u64, &[u8])>
-    ensures { IfSome result (λ front. IsFurther 4 value text.now front.0 front.1.now) }
-{
-    let (value, text) = one_more(value, text)?;
-    let (value, text) = one_more(value, text)?;
-    let (value, text) = one_more(value, text)?;
-    let (value, text) = one_more(value, text)?;
-    Some((value, text))
-}
-
-/// The number at the front of a text, 16 bytes at once and further digits one by one, and what stands behind it.
-#[inline(always)]
-fn whole_number(text: &[u8]) -> Option<(u64, &[u8])>
-    ensures { IfSome result (λ front. IsNumberFront text.now front.0 front.1.now) }
-{
-    let (value, rest) = front_number(text)?;
-    if text.len().wrapping_sub(rest.len()) < 16 {
-        return Some((value, rest));
-    }
-    let (value, rest) = further(value, rest)?;
-    Some((value, rest))
-}
-
-/// The two numbers at the front of a text, one space apart, and what stands behind them. It reads none near the end of
-/// the text.
+/// The two numbers at the front of a text, one space apart, and what stands behind them. It reads none that has more
+/// than 16 digits, nor any near the end of the text.
 #[inline(always)]
 pub fn front_numbers(text: &[u8]) -> Option<(u64, u64, &[u8])>
     ensures { IfSome result (λ front. IsPairFront text.now front.0 front.1 front.2.now) }
 {
-    let (first, rest) = whole_number(text)?;
+    let (first, rest) = front_number(text)?;
     let seconds = behind(b' ', rest)?;
-    let (second, rest) = whole_number(seconds)?;
+    let (second, rest) = front_number(seconds)?;
     Some((first, second, rest))
 }

@@ -1,9 +1,11 @@
 -- What the digits of a number say.
-use Rattle.std.proofs.Common.{◌≡◌, ℕ, ◌+◌, ◌<◌, ◌≤◌, Bool, true, false, ◌&&◌, List, [], ◌∷◌, length, get_or, drop, fold, None, Some, refl, ◌∙◌, arith}
+use Rattle.std.proofs.Common.{◌≡◌, ℕ, ◌+◌, ◌<◌, ◌≤◌, Bool, true, false, ◌&&◌, List, [], ◌∷◌, length, get_or, take, drop, fold, None, Some, refl, sym, ap, ◌∙◌, arith, take-append-drop}
 use Rattle.std.specs.List.{list_all}
 use Rattle.std.specs.Char.{is_ascii_digit}
 use Rattle.std.proofs.lemmas.Bool.Decides.{nat_tests}
 use Rattle.std.proofs.lemmas.List.{at_drop_more}
+use Rattle.std.proofs.lemmas.List.Folds.{list_all-append}
+use Rattle.std.proofs.lemmas.List.Sums.{fold-append}
 use Rattle.line_text.specs.Numbers.{with_digit, value_of, is_number, number_of}
 
 -- a test that fails makes the whole fail
@@ -49,3 +51,14 @@ pub value-over : (most value : ℕ) (text : List ℕ) (i : ℕ) → i < length t
 value-over most value text i h over =
     let step : fold with_digit value (drop i text) ≡ fold with_digit (with_digit value (get_or text i 0)) (drop (i + 1) text) = at_drop_more (fold with_digit value) text i 0 h in
     omega (arith, step, value-grows (with_digit value (get_or text i 0)) (drop (i + 1) text))
+
+-- digits that were read before, and those that are left
+pub value-first : (count : ℕ) (text : List ℕ) → fold with_digit (value_of (take count text)) (drop count text) ≡ fold with_digit 0 text
+unfolding value_of
+value-first count text = sym (fold-append with_digit 0 (take count text) (drop count text)) ∙ ap (fold with_digit 0) (take-append-drop count text)
+
+pub digits-first : (count : ℕ) (text : List ℕ) → list_all is_ascii_digit (take count text) ≡ true
+    → list_all is_ascii_digit (drop count text) ≡ list_all is_ascii_digit text
+digits-first count text digits =
+    ap (λ front. front && list_all is_ascii_digit (drop count text)) (sym digits)
+    ∙ sym (list_all-append is_ascii_digit (take count text) (drop count text)) ∙ ap (list_all is_ascii_digit) (take-append-drop count text)

@@ -1,6 +1,7 @@
-ghost use Rattle.std.specs.Prelude.{◌≡◌, ◌≤◌, ◌<◌, ◌-◌, ◌⊎◌, nat_lt, not, [], ◌∷◌, ◌++◌, length, take, drop};
+ghost use Rattle.std.specs.Prelude.{◌≡◌, ◌≤◌, ◌<◌, ◌-◌, ◌⊎◌, nat_lt, not, true, [], ◌∷◌, ◌++◌, length, take, drop};
 ghost use Rattle.std.specs.Prelude.{replicate, MatchOption};
-ghost use Rattle.std.specs.List.{prefix_len};
+ghost use Rattle.std.specs.Char.{is_ascii_digit};
+ghost use Rattle.std.specs.List.{list_all, prefix_len};
 ghost use Rattle.std.specs.Simd.Lanes.{chunk};
 ghost use Rattle.line_text.specs.Digits.{AreDigits, number_in};
 ghost use Rattle.line_text.specs.Numbers.{front_count, value_of};
@@ -67,7 +68,7 @@ fn count_digits(digits: u8x16) -> usize
 /// The number that the digits at the front of a text say, and how many they are among its first 16 bytes; `None` where
 /// it has fewer bytes.
 #[inline(always)]
-pub(crate) fn front_digits(text: &[u8]) -> Option<(u64, usize)>
+fn front_digits(text: &[u8]) -> Option<(u64, usize)>
     ensures { MatchOption result (length text.now < 16)
         (λ front. (front.1 ≡ front_count text.now) × (front.0 ≡ value_of (take front.1 text.now))) }
 {
@@ -77,6 +78,21 @@ pub(crate) fn front_digits(text: &[u8]) -> Option<(u64, usize)>
     let digits = u8x16::from_slice(text) - u8x16::splat(b'0');
     let count = count_digits(digits);
     Some((number_of_lanes(moved_back(digits, count)), count))
+}
+
+/// The number that the first digits of a text say, and how many they are: of its first 16 bytes, or none where it has
+/// fewer.
+#[inline(always)]
+#[tactic(auto, unfolding(crate::specs::Numbers::value_of))]
+pub(crate) fn first_digits(text: &[u8]) -> (u64, usize)
+    ensures within { result.1 ≤ length text.now }
+    ensures digits { list_all is_ascii_digit (take result.1 text.now) ≡ true }
+    ensures value { result.0 ≡ value_of (take result.1 text.now) }
+{
+    match front_digits(text) {
+        Some(digits) => digits,
+        None => (0, 0),
+    }
 }
 
 /// The number that the digits at the front of a text say, and what stands behind them; of more than 16 digits the first

@@ -1,26 +1,9 @@
-ghost use Rattle.std.specs.Prelude.{◌≡◌, ◌≤◌, ◌↔◌, true, IsTrue, length, option_map, take};
-ghost use Rattle.std.specs.Char.{is_ascii_digit};
-ghost use Rattle.std.specs.List.{list_all};
+ghost use Rattle.std.specs.Prelude.{◌≡◌, ◌≤◌, ◌↔◌, IsTrue, option_map};
 ghost use Rattle.line_text.specs.Lines.{fields_of};
-ghost use Rattle.line_text.specs.Numbers.{leading_number_of, value_of};
+ghost use Rattle.line_text.specs.Numbers.{leading_number_of};
 
-use crate::digits::front_digits;
+use crate::digits::first_digits;
 use crate::numbers::{MOST_DIGITS, with_digit};
-
-/// The number that the first digits of a line say, and how many they are: of its first 16 bytes, or none where it has
-/// fewer.
-#[inline(always)]
-#[tactic(auto, unfolding(crate::specs::Numbers::value_of))]
-fn first_digits(line: &[u8]) -> (u64, usize)
-    ensures within { result.1 ≤ length line.now }
-    ensures digits { list_all is_ascii_digit (take result.1 line.now) ≡ true }
-    ensures value { result.0 ≡ value_of (take result.1 line.now) }
-{
-    match front_digits(line) {
-        Some(digits) => digits,
-        None => (0, 0),
-    }
-}
 
 /// Whether a byte ends a number of so many digits and of this value.
 fn ends_number(byte: u8, digits: usize, value: u64, most: u64) -> bool

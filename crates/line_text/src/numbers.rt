@@ -2,6 +2,7 @@ ghost use Rattle.std.specs.Prelude.{◌≡◌, ◌≤◌, ◌<◌, ◌^◌, ◌+
 ghost use Rattle.std.specs.Option.{SomeIff};
 ghost use Rattle.line_text.specs.Numbers.{number_of, with_digit};
 
+use crate::digits::first_digits;
 use itoa::Buffer;
 use std::alloc::AllocError;
 
@@ -34,12 +35,13 @@ pub fn number(text: &[u8], most: u64) -> Option<u64>
     if text.is_empty() || text.len() > MOST_DIGITS {
         return None;
     }
-    let mut value = 0u64;
-    for byte in text {
+    let (mut value, begin) = first_digits(text);
+    for place in begin..text.len() {
+        let byte = text[place];
         if !byte.is_ascii_digit() {
             return None;
         }
-        value = with_digit(value, *byte)?;
+        value = with_digit(value, byte)?;
     }
     if value <= most { Some(value) } else { None }
 }

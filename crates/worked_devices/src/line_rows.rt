@@ -100,18 +100,22 @@ static PAIRS: [Pair; 6] = [
         Some((1_234_567, 1_500, b" g\n123456789")),
     ),
     (
-        "19 digits and 20",
-        b"1700000000123456789 18446744073709551615\n8",
-        Some((1_700_000_000_123_456_789, u64::MAX, b"\n8")),
+        "sixteen digits and one",
+        b"1700000000123456 9\n12345678901234",
+        Some((1_700_000_000_123_456, 9, b"\n12345678901234")),
     ),
     (
-        "beyond 64 bits",
-        b"7 18446744073709551616\n12345678",
+        "seventeen digits",
+        b"17000000001234567 9\n12345678901234",
         None,
     ),
     ("no space between them", b"7,1500 g\n12345678", None),
     ("one number", b"1234567 g 1500\n12345678", None),
-    ("fewer than 16 bytes at the second", b"1234567 1500 g\n", None),
+    (
+        "fewer than 16 bytes at the second",
+        b"1234567 1500 g\n",
+        None,
+    ),
 ];
 
 #[test]
