@@ -1,5 +1,5 @@
-ghost use Rattle.std.specs.Prelude.{◌≡◌, ◌≢◌, ℕ, List, ◌∷◌, ◌++◌, IfNone, IfSome};
-ghost use Rattle.dsedge_lines.specs.Fronts.{IsPairFront};
+ghost use Rattle.std.specs.Prelude.{◌≡◌, ◌≢◌, ℕ, List, ◌∷◌, ◌++◌, IfNone, IfSome, MatchOption};
+ghost use Rattle.dsedge_lines.specs.Fronts.{IsPairAtOnce, IsPairFront};
 
 use line_text::front_number;
 
@@ -27,7 +27,8 @@ pub fn behind_word<'a>(word: &[u8], text: &'a [u8]) -> Option<&'a [u8]>
 /// than 16 digits, nor any near the end of the text.
 #[inline(always)]
 pub fn front_numbers(text: &[u8]) -> Option<(u64, u64, &[u8])>
-    ensures { IfSome result (λ front. IsPairFront text.now front.0 front.1 front.2.now) }
+    ensures { MatchOption result (¬ (IsPairAtOnce text.now))
+        (λ front. IsPairFront text.now front.0 front.1 front.2.now) }
 {
     let (first, rest) = front_number(text)?;
     let seconds = behind(b' ', rest)?;
