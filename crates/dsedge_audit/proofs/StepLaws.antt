@@ -5,8 +5,8 @@ use Rattle.line_text.proofs.LineLemmas.{fields_of-cut}
 use Rattle.ds_domain_base.specs.declared.contract.Contract.{Contract}
 use Rattle.ds_runs.specs.declared.step.Step.TheVariants.{Send, Visit}
 use Rattle.ds_runs.specs.declared.step.Step.{Step}
-use Rattle.dsedge_lines.specs.Fronts.{IsFirstLine, IsPairFront}
-use Rattle.dsedge_lines.proofs.FrontLemmas.{first_behind, pair_last, pair_last_fields, pair_then, pair_then_fields, size_as}
+use Rattle.dsedge_lines.specs.Fronts.{IsFirstLine, IsNumberFront}
+use Rattle.dsedge_lines.proofs.FrontLemmas.{first_behind, number_last, number_last_fields, number_then, number_then_fields, size_as}
 use Rattle.dsedge_audit.specs.StepLines.{IsFrontStep, flow_named, step_in, step_of_fields}
 
 -- a line with other than three fields behind the number of its packet sends none
@@ -41,36 +41,36 @@ other_verb contracts verb (a ∷ b ∷ c ∷ d ∷ x ∷ y ∷ more) no_send no_
 
 -- ---- the line at the front of a text
 
--- a visit, by the two numbers there
-pub visit_front : (contracts : List Contract) (text end rest : List ℕ) (packet moment : ℕ) → IsPairFront text packet moment end → end ≡ 10 ∷ rest
-    → packet < 2 ^ 64 → moment < 2 ^ 63 → IsFrontStep contracts (codes "visit") text (Visit packet moment) rest
-visit_front contracts text end rest packet moment pair ends in_range early = (
-  pair.front ++ 32 ∷ pair.back,
-  pair_last pair ends,
-  rw (pair_last_fields pair, pair.says_first (2 ^ 64 - 1) (omega (arith, in_range)), pair.says_second (2 ^ 63 - 1) (omega (arith, early))) refl,
-)
+-- a visit, by two numbers
+pub visit_front : (contracts : List Contract) (text moments rest : List ℕ) (packet moment : ℕ) → IsNumberFront text packet (32 ∷ moments)
+    → IsNumberFront moments moment (10 ∷ rest) → packet < 2 ^ 64 → moment < 2 ^ 63 → IsFrontStep contracts (codes "visit") text (Visit packet moment) rest
+visit_front contracts text moments rest packet moment number at in_range early =
+    let fields : fields_of (number.front ++ 32 ∷ at.front) ≡ number.front ∷ at.front ∷ [] =
+    number_then_fields number at.front ∙ ap (λ later. number.front ∷ later) (number_last_fields at) in (
+      number.front ++ 32 ∷ at.front,
+      number_then number (number_last at),
+      rw (fields, number.says (2 ^ 64 - 1) (omega (arith, in_range)), at.says (2 ^ 63 - 1) (omega (arith, early))) refl,
+    )
 
--- a packet that is sent, by its contract's name and two pairs of numbers
-pub send_front : (contracts : List Contract) (text name numbers points seconds end rest : List ℕ) (flow packet size dscp moment : ℕ)
+-- a packet that is sent, by its contract's name and four numbers
+pub send_front : (contracts : List Contract) (text name numbers sizes points moments rest : List ℕ) (flow packet size dscp moment : ℕ)
     → text ≡ name ++ 32 ∷ numbers → has_byte 10 name ≡ false → has_byte 32 name ≡ false → flow_named contracts name ≡ Some flow
-    → IsPairFront numbers packet size points → points ≡ 32 ∷ seconds → IsPairFront seconds dscp moment end → end ≡ 10 ∷ rest
-    → packet < 2 ^ 64 → 1 ≤ size → size < 2 ^ 16 → dscp ≤ 63 → moment < 2 ^ 63
+    → IsNumberFront numbers packet (32 ∷ sizes) → IsNumberFront sizes size (32 ∷ points) → IsNumberFront points dscp (32 ∷ moments)
+    → IsNumberFront moments moment (10 ∷ rest) → packet < 2 ^ 64 → 1 ≤ size → size < 2 ^ 16 → dscp ≤ 63 → moment < 2 ^ 63
     → IsFrontStep contracts (codes "send") text (Send flow packet size dscp moment) rest
-send_front contracts text name numbers points seconds end rest flow packet size dscp moment is endless spaceless known one space two ends in_range least small low early =
-    let line = one.front ++ 32 ∷ (one.back ++ 32 ∷ (two.front ++ 32 ∷ two.back)) in
-    let fields : fields_of (name ++ 32 ∷ line) ≡ name ∷ one.front ∷ one.back ∷ two.front ∷ two.back ∷ [] =
-    fields_of-cut name line spaceless
-    ∙ ap (λ later. name ∷ later) (pair_then_fields one (two.front ++ 32 ∷ two.back) ∙ ap (λ later. one.front ∷ one.back ∷ later) (pair_last_fields two)) in (
+send_front contracts text name numbers sizes points moments rest flow packet size dscp moment is endless spaceless known number bytes point at in_range least small low early =
+    let behind_bytes = point.front ++ 32 ∷ at.front in
+    let line = number.front ++ 32 ∷ (bytes.front ++ 32 ∷ behind_bytes) in
+    let fields : fields_of (name ++ 32 ∷ line) ≡ name ∷ number.front ∷ bytes.front ∷ point.front ∷ at.front ∷ [] =
+    fields_of-cut name line spaceless ∙ ap (λ later. name ∷ later) (number_then_fields number (bytes.front ++ 32 ∷ behind_bytes)
+    ∙ ap (λ later. number.front ∷ later) (number_then_fields bytes behind_bytes
+    ∙ ap (λ later. bytes.front ∷ later) (number_then_fields point at.front ∙ ap (λ later. point.front ∷ later) (number_last_fields at)))) in
+    let says_packet = number.says (2 ^ 64 - 1) (omega (arith, in_range)) in
+    let says_size = size_as size bytes.front (bytes.says 65535 (omega (arith, small))) least in
+    let says_moment = at.says (2 ^ 63 - 1) (omega (arith, early)) in (
       name ++ 32 ∷ line,
-      first_behind name endless is (pair_then one space (pair_last two ends)),
-      rw (
-        fields,
-        known,
-        one.says_first (2 ^ 64 - 1) (omega (arith, in_range)),
-        size_as size one.back (one.says_second 65535 (omega (arith, small))) least,
-        two.says_first 63 low,
-        two.says_second (2 ^ 63 - 1) (omega (arith, early)),
-      ) refl,
+      first_behind name endless is (number_then number (number_then bytes (number_then point (number_last at)))),
+      rw (fields, known, says_packet, says_size, point.says 63 low, says_moment) refl,
     )
 
 -- a verb and a space in front of it

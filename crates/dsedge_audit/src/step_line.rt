@@ -10,7 +10,7 @@ ghost use Rattle.dsedge_audit.specs.StepLines.{IsFrontStep, step_in, step_of_fie
 use crate::flows::Flows;
 use af_marker::Dscp;
 use ds_runs::Step;
-use dsedge_lines::{behind, behind_word, front_numbers, moment, size, sized_of};
+use dsedge_lines::{behind_word, moment, number_before, size, sized_of};
 use line_text::{cut, number, split_field, three_fields, two_fields};
 use moment_core::Moment;
 
@@ -75,7 +75,7 @@ fn code_point_of(value: u64) -> Option<Dscp>
     Dscp::new(u8::try_from(value).ok()?).ok()
 }
 
-/// The step that the line at the front of a text says, and what stands behind its LF, where `front_numbers` reads its
+/// The step that the line at the front of a text says, and what stands behind its LF, where `number_before` reads its
 /// numbers.
 #[inline(always)]
 pub fn front_step<'a>(flows: &Flows<'_>, text: &'a [u8]) -> Option<(Step, &'a [u8])>
@@ -94,8 +94,8 @@ fn front_visit(fields: &[u8]) -> Option<(Step, &[u8])>
     ensures { (contracts : List Contract) → IfSome result
         (λ front. IsFrontStep contracts (codes "visit") fields.now front.0 front.1.now) }
 {
-    let (packet, nanoseconds, end) = front_numbers(fields)?;
-    let rest = behind(b'\n', end)?;
+    let (packet, moments) = number_before(b' ', fields)?;
+    let (nanoseconds, rest) = number_before(b'\n', moments)?;
     Some((visit_of(packet, nanoseconds)?, rest))
 }
 
@@ -117,9 +117,10 @@ fn front_send<'a>(flows: &Flows<'_>, fields: &'a [u8]) -> Option<(Step, &'a [u8]
 {
     let (name, numbers) = front_name(fields)?;
     let flow = flows.flow(name)?;
-    let (packet, bytes, points) = front_numbers(numbers)?;
-    let (value, nanoseconds, end) = front_numbers(behind(b' ', points)?)?;
-    let rest = behind(b'\n', end)?;
+    let (packet, sizes) = number_before(b' ', numbers)?;
+    let (bytes, points) = number_before(b' ', sizes)?;
+    let (value, moments) = number_before(b' ', points)?;
+    let (nanoseconds, rest) = number_before(b'\n', moments)?;
     Some((send_of(flow, packet, bytes, value, nanoseconds)?, rest))
 }
 

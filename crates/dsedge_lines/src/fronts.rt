@@ -1,5 +1,5 @@
-ghost use Rattle.std.specs.Prelude.{◌≡◌, ◌≢◌, ℕ, List, ◌∷◌, ◌++◌, IfNone, IfSome, MatchOption};
-ghost use Rattle.dsedge_lines.specs.Fronts.{IsPairAtOnce, IsPairFront};
+ghost use Rattle.std.specs.Prelude.{◌≡◌, ◌≢◌, ℕ, List, ◌∷◌, ◌++◌, IfNone, IfSome};
+ghost use Rattle.dsedge_lines.specs.Fronts.{IsAtOnce, IsFurther, IsNumberFront};
 
 use line_text::front_number;
 
@@ -23,15 +23,45 @@ pub fn behind_word<'a>(word: &[u8], text: &'a [u8]) -> Option<&'a [u8]>
     if front == word { Some(rest) } else { None }
 }
 
-/// The two numbers at the front of a text, one space apart, and what stands behind them. It reads none that has more
-/// than 16 digits, nor any near the end of the text.
-#[inline(always)]
-pub fn front_numbers(text: &[u8]) -> Option<(u64, u64, &[u8])>
-    ensures { MatchOption result (¬ (IsPairAtOnce text.now))
-        (λ front. IsPairFront text.now front.0 front.1 front.2.now) }
+/// A number that goes on with the digit at the front of a text, if one stands there, and the rest; `None` beyond 64 bits.
+fn one_more(value: u64, text: &[u8]) -> Option<(u64, &[u8])>
+    ensures { IfSome result (λ front. IsFurther 1 value text.now front.0 front.1.now) }
 {
-    let (first, rest) = front_number(text)?;
-    let seconds = behind(b' ', rest)?;
-    let (second, rest) = front_number(seconds)?;
-    Some((first, second, rest))
+    let Some((digit, rest)) = text.split_first() else {
+        return Some((value, text));
+    };
+    if !digit.is_ascii_digit() {
+        return Some((value, text));
+    }
+    let ones = u64::from(*digit - b'0');
+    Some((value.checked_mul(10)?.checked_add(ones)?, rest))
+}
+
+/// The number at the front of a text, of at most 20 digits, of which 16 are read at once, and what stands behind it.
+#[inline(never)]
+fn long_number(text: &[u8]) -> Option<(u64, &[u8])>
+    ensures { IfSome result (λ front. IsNumberFront text.now front.0 front.1.now) }
+{
+    let (value, text) = front_number(text)?;
+    let (value, text) = one_more(value, text)?;
+    let (value, text) = one_more(value, text)?;
+    let (value, text) = one_more(value, text)?;
+    let (value, text) = one_more(value, text)?;
+    Some((value, text))
+}
+
+/// The number at the front of a text, and what stands behind the byte at its end. It is read where the text has 16
+/// bytes.
+#[inline(always)]
+pub fn number_before(end: u8, text: &[u8]) -> Option<(u64, &[u8])>
+    ensures number { IfSome result (λ front. IsNumberFront text.now front.0 (end ∷ front.1.now)) }
+    ensures none { IfNone result (¬ (IsAtOnce end text.now)) }
+{
+    let (value, rest) = front_number(text)?;
+    if let Some(behind) = behind(end, rest) {
+        return Some((value, behind));
+    }
+    let (value, rest) = long_number(text)?;
+    let behind = behind(end, rest)?;
+    Some((value, behind))
 }

@@ -13,7 +13,7 @@ mod words;
 pub use command::{Command, Ending};
 pub use engine::pump;
 pub use fault::PumpFault;
-pub use fronts::{behind, behind_word, front_numbers};
+pub use fronts::{behind, behind_word, number_before};
 pub use given_name::GivenName;
 pub use quantities::{moment, size, sized_of};
 pub use words::{FirstLineFault, Words, first_line};

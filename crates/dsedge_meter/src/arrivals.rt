@@ -2,7 +2,7 @@ ghost use Rattle.std.specs.Prelude.{◌≡◌, ℕ, List, Some, IfSome};
 ghost use Rattle.dsedge_meter.specs.Arrivals.{arrival_in, colour_named, colour_of_letter, sized_in, sized_since};
 ghost use Rattle.dsedge_lines.specs.Fronts.{IsFirstLine};
 
-use dsedge_lines::{behind, front_numbers, moment, size, sized_of};
+use dsedge_lines::{behind, moment, number_before, size, sized_of};
 use line_text::{three_fields, two_fields};
 use meter_book::Arrival;
 use moment_core::{Colour, Moment, PacketSize};
@@ -29,15 +29,16 @@ pub fn colour(field: &[u8]) -> Option<Colour>
     }
 }
 
-/// The arrival that the line at the front of a text says, and what stands behind its LF, where `front_numbers` reads
+/// The arrival that the line at the front of a text says, and what stands behind its LF, where `number_before` reads
 /// its moment and its size.
 #[inline(always)]
 pub fn front_arrival(line_number: u64, text: &[u8]) -> Option<(Arrival, &[u8])>
     ensures { IfSome result (λ front. (line : List ℕ) × IsFirstLine text.now line front.1.now
         × (arrival_in line_number line ≡ Some front.0)) }
 {
-    let (nanoseconds, bytes, behind_size) = front_numbers(text)?;
-    let (letter, end) = behind(b' ', behind_size)?.split_first()?;
+    let (nanoseconds, sizes) = number_before(b' ', text)?;
+    let (bytes, letters) = number_before(b' ', sizes)?;
+    let (letter, end) = letters.split_first()?;
     let rest = behind(b'\n', end)?;
     let (moment, size) = sized_of(nanoseconds, bytes)?;
     let arrival = Arrival {
@@ -52,14 +53,14 @@ pub fn front_arrival(line_number: u64, text: &[u8]) -> Option<(Arrival, &[u8])>
 }
 
 /// The sized moment that the line at the front of a text says, where it is not before the newest moment, and what
-/// stands behind its LF, where `front_numbers` reads it.
+/// stands behind its LF, where `number_before` reads it.
 #[inline(always)]
 pub fn front_sized_moment(newest: Moment, text: &[u8]) -> Option<((Moment, u32), &[u8])>
     ensures { IfSome result (λ front. (line : List ℕ) × IsFirstLine text.now line front.1.now
         × (sized_since newest line ≡ Some front.0)) }
 {
-    let (nanoseconds, bytes, end) = front_numbers(text)?;
-    let rest = behind(b'\n', end)?;
+    let (nanoseconds, sizes) = number_before(b' ', text)?;
+    let (bytes, rest) = number_before(b'\n', sizes)?;
     let (moment, size) = sized_of(nanoseconds, bytes)?;
     if moment.get() < newest.get() {
         return None;

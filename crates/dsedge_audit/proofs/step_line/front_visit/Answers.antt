@@ -4,5 +4,5 @@ use Rattle.dsedge_audit.proofs.step_line.front_visit.Goals as goal
 pub returns : goal.returns
 returns c contracts =
     let step = c.in_ok-visit_of.ensures in
-    rw step.0 (visit_front contracts c.args.fields.now c.in_ok-packet.end.now c.in_ok-rest.rest.now c.in_ok-packet.packet c.in_ok-packet.nanoseconds
-    c.in_ok-packet.ensures c.in_ok-rest.ensures.behind step.1 step.2)
+    rw step.0 (visit_front contracts c.args.fields.now c.in_ok-packet.moments.now c.in_ok-nanoseconds.rest.now c.in_ok-packet.packet c.in_ok-nanoseconds.nanoseconds
+    c.in_ok-packet.ensures.number c.in_ok-nanoseconds.ensures.number step.1 step.2)

@@ -1,0 +1,7 @@
+use Rattle.std.proofs.Common.{sym, ◌∙◌}
+use Rattle.dsedge_lines.proofs.FrontLemmas.{front_at_once}
+use Rattle.dsedge_lines.proofs.fronts.number_before.Goals as goal
+
+pub returns-in-Some-clause-number : goal.returns-in-Some-clause-number
+returns-in-Some-clause-number c =
+    front_at_once c.in_ok-value.ensures.0 c.in_ok-value.ensures.1 (sym c.in-Some.ensures.behind ∙ c.in_ok-value.ensures.2)
