@@ -1,5 +1,5 @@
 use crate::expecting::expect_same;
-use dsedge_lines::{behind_word, front_numbers};
+use dsedge_lines::{behind_word, number_before};
 use line_text::{front_number, leading_number, number, push_number, three_fields, two_fields};
 use std::alloc::{AllocError, Global};
 
@@ -86,42 +86,55 @@ fn a_number_at_the_front_of_a_text(rt: HostRuntime) {
     }
 }
 
-/// What a row is about, a text, the two numbers at its front, and what stands behind them.
-type Pair = (
+/// What a row is about, the byte at a number's end, a text, the number at its front, and what stands behind its end.
+type NumberBefore = (
     &'static str,
+    u8,
     &'static [u8],
-    Option<(u64, u64, &'static [u8])>,
+    Option<(u64, &'static [u8])>,
 );
 
-static PAIRS: [Pair; 6] = [
+static BEFORE: [NumberBefore; 9] = [
     (
-        "seven digits and four",
-        b"1234567 1500 g\n123456789",
-        Some((1_234_567, 1_500, b" g\n123456789")),
+        "seven digits",
+        b' ',
+        b"1234567 1500 g\n8",
+        Some((1_234_567, b"1500 g\n8")),
     ),
     (
-        "sixteen digits and one",
-        b"1700000000123456 9\n12345678901234",
-        Some((1_700_000_000_123_456, 9, b"\n12345678901234")),
+        "a line's end",
+        b'\n',
+        b"1500\n12345678901",
+        Some((1_500, b"12345678901")),
+    ),
+    (
+        "sixteen digits",
+        b' ',
+        b"1700000000123456 9\n",
+        Some((1_700_000_000_123_456, b"9\n")),
     ),
     (
         "seventeen digits",
-        b"17000000001234567 9\n12345678901234",
-        None,
+        b' ',
+        b"17000000001234567 9\n",
+        Some((17_000_000_001_234_567, b"9\n")),
     ),
-    ("no space between them", b"7,1500 g\n12345678", None),
-    ("one number", b"1234567 g 1500\n12345678", None),
     (
-        "fewer than 16 bytes at the second",
-        b"1234567 1500 g\n",
-        None,
+        "the last of 64 bits",
+        b'\n',
+        b"18446744073709551615\n8",
+        Some((u64::MAX, b"8")),
     ),
+    ("beyond 64 bits", b'\n', b"18446744073709551616\n8", None),
+    ("21 digits", b' ', b"000000000000000000007 9\n", None),
+    ("another byte at its end", b' ', b"1234567,1500 g\n8", None),
+    ("fewer than 16 bytes", b' ', b"1234567 1500 g\n", None),
 ];
 
 #[test]
-fn two_numbers_at_the_front_of_a_text(rt: HostRuntime) {
-    for (name, text, wanted) in &PAIRS {
-        expect_same(&rt, name, front_numbers(text), *wanted);
+fn a_number_and_the_byte_at_its_end(rt: HostRuntime) {
+    for (name, end, text, wanted) in &BEFORE {
+        expect_same(&rt, name, number_before(*end, text), *wanted);
     }
 }
 
