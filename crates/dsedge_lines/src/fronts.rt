@@ -24,6 +24,7 @@ pub fn behind_word<'a>(word: &[u8], text: &'a [u8]) -> Option<&'a [u8]>
 }
 
 /// A number that goes on with the digit at the front of a text, if one stands there, and the rest; `None` beyond 64 bits.
+#[inline(always)]
 fn one_more(value: u64, text: &[u8]) -> Option<(u64, &[u8])>
     ensures { IfSome result (λ front. IsFurther 1 value text.now front.0 front.1.now) }
 {
@@ -38,7 +39,7 @@ fn one_more(value: u64, text: &[u8]) -> Option<(u64, &[u8])>
 }
 
 /// The number at the front of a text, of at most 20 digits, of which 16 are read at once, and what stands behind it.
-#[inline(never)]
+#[inline(always)]
 fn long_number(text: &[u8]) -> Option<(u64, &[u8])>
     ensures { IfSome result (λ front. IsNumberFront text.now front.0 front.1.now) }
 {
