@@ -1,6 +1,7 @@
 -- Trains of waiting visits beside a heap.
 use Rattle.std.proofs.Common.{◌≡◌, ◌≢◌, ◌<◌, ◌≤◌, ◌+◌, ℕ, zero, suc, ◌⊎◌, inl, inr, Bool, true, false, List, [], ◌∷◌, ◌++◌, length, get_or, set, refl, sym, ap, ◌∙◌, subst, arith, append-nil, ◌↔◌, IfNone, IfSome, IsPermutation, IsSome, MatchBool, MatchOption, None, Option, Ok, Err, Result, Some, is_err, is_ok, is_some, option_to_list, if◌then◌else◌, All}
 use Rattle.std.specs.BinaryHeap.{IsUpperBound}
+use Rattle.std.specs.Option.{option_or}
 use Rattle.std.specs.declared.cmp.Reverse.{Reverse}
 use Rattle.std.proofs.lemmas.Bool.{cases_lt, false≢true}
 use Rattle.std.proofs.lemmas.List.{append_assoc, get_or_append_left, get_or_push, length-append, get_or-set_other, get_or-set_same, length-set}
@@ -87,10 +88,15 @@ train_empty k heap l none last = record {
   led = λ t bound. rw (none, last) (All-nil (λ q. is_later t q ≡ false));
 }
 
+-- the last stays, or is the first
+last_left : (o p : Option (Reverse Waiting)) (v : Reverse Waiting) → p ≡ option_or o (Some v) → (p ≡ o) ⊎ ((o ≡ None) × (p ≡ Some v))
+last_left None p v is = inr (refl, is)
+last_left (Some last) p v is = inl is
+
 -- it was not
 train_left : (k : ℕ) (heap : List (Reverse Waiting)) (v : Reverse Waiting) (l m : Train) → v.0.train ≡ k → IsLeftOut v l m → IsTrain k heap l → IsTrain k (v ∷ heap) m
 unfolding Rises
-train_left k heap v l m tag left train = go left.last
+train_left k heap v l m tag left train = go (last_left l.last m.last v left.last)
   where
     go : (m.last ≡ l.last) ⊎ ((l.last ≡ None) × (m.last ≡ Some v)) → IsTrain k (v ∷ heap) m
     go (inl same) = record {

@@ -1,6 +1,7 @@
 -- Visits that wait in trains behind a heap.
-use Rattle.std.specs.Prelude.{◌≡◌, ℕ, ◌<◌, ◌++◌, ◌⊎◌, false, List, [], ◌∷◌, length, slice_index_or, Bool, IsPermutation, IsSome, MatchBool, None, Some, Option, option_to_list, All}
+use Rattle.std.specs.Prelude.{◌≡◌, ℕ, ◌<◌, ◌++◌, false, List, [], ◌∷◌, length, slice_index_or, Bool, IsPermutation, IsSome, MatchBool, None, Some, Option, option_to_list, All}
 use Rattle.std.specs.BinaryHeap.{IsUpperBound}
+use Rattle.std.specs.Option.{option_or}
 use Rattle.std.specs.Ordering.{is_lt}
 use Rattle.std.specs.declared.cmp.Reverse.{Reverse}
 use Rattle.ds_conductor_base.specs.Waits.{first_on_top}
@@ -45,7 +46,7 @@ pub record IsPutBehind (v : Reverse Waiting) (l m : Train) : Type 0 where
 -- it was not, and is the first of the train where that is empty
 pub record IsLeftOut (v : Reverse Waiting) (l m : Train) : Type 0 where
   pub visits : m.visits.items ≡ l.visits.items
-  pub last : (m.last ≡ l.last) ⊎ ((l.last ≡ None) × (m.last ≡ Some v))
+  pub last : m.last ≡ option_or l.last (Some v)
 
 -- trains that hold the same visits as others, and stand behind each heap behind which these do
 pub record IsKept (trains after : List Train) : Type 0 where
