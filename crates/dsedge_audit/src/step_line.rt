@@ -75,8 +75,7 @@ fn code_point_of(value: u64) -> Option<Dscp>
     Dscp::new(u8::try_from(value).ok()?).ok()
 }
 
-/// The step that the line at the front of a text says, and what stands behind its LF, where `number_before` reads its
-/// numbers.
+/// The step that the line at the front of a text says, and what stands behind its LF, where it can be read there.
 #[inline(always)]
 pub fn front_step<'a>(flows: &Flows<'_>, text: &'a [u8]) -> Option<(Step, &'a [u8])>
     ensures { IfSome result (λ front. (line : List ℕ) × IsFirstLine text.now line front.1.now
@@ -124,8 +123,7 @@ fn front_send<'a>(flows: &Flows<'_>, fields: &'a [u8]) -> Option<(Step, &'a [u8]
     Some((send_of(flow, packet, bytes, value, nanoseconds)?, rest))
 }
 
-/// The step by which a packet of so many bytes begins after so many nanoseconds with the code point of a value, where
-/// there are such.
+/// The step by which a packet begins, with so many bytes, the code point of a value, and so many nanoseconds, if any.
 #[inline(always)]
 fn send_of(flow: u32, packet: u64, bytes: u64, value: u64, nanoseconds: u64) -> Option<Step>
     ensures { IfSome result (λ step. (step ≡ Send flow packet bytes value nanoseconds)

@@ -58,11 +58,6 @@ front_further {text} {rest} {after} {value} {whole} some is is_rest more =
           ∙ ap Some (sym says);
     }
 
--- a number that is read at once
-pub front_at_once : {text rest : List ℕ} {value : ℕ} → 0 < front_count text → value ≡ value_of (take (front_count text) text)
-    → rest ≡ drop (front_count text) text → IsNumberFront text value rest
-front_at_once {text} {rest} {value} some is is_rest = front_further some is is_rest (further_none 4 value rest)
-
 -- no byte that is no digit stands in a number
 number-no_byte : (mark : ℕ) {text rest : List ℕ} {value : ℕ} (number : IsNumberFront text value rest) → is_ascii_digit mark ≡ false
     → has_byte mark number.front ≡ false

@@ -23,7 +23,7 @@ pub fn behind_word<'a>(word: &[u8], text: &'a [u8]) -> Option<&'a [u8]>
     if front == word { Some(rest) } else { None }
 }
 
-/// A number that goes on with the digit at the front of a text, if one stands there, and the rest; `None` beyond 64 bits.
+/// A number that goes on with the digit at the front of a text, if any, and the rest; `None` beyond 64 bits.
 #[inline(always)]
 fn one_more(value: u64, text: &[u8]) -> Option<(u64, &[u8])>
     ensures { IfSome result (λ front. IsFurther 1 value text.now front.0 front.1.now) }
@@ -51,8 +51,7 @@ fn long_number(text: &[u8]) -> Option<(u64, &[u8])>
     Some((value, text))
 }
 
-/// The number at the front of a text, and what stands behind the byte at its end. It is read where the text has 16
-/// bytes.
+/// The number at the front of a text of at least 16 bytes, and what stands behind the byte at its end.
 #[inline(always)]
 pub fn number_before(end: u8, text: &[u8]) -> Option<(u64, &[u8])>
     ensures number { IfSome result (λ front. IsNumberFront text.now front.0 (end ∷ front.1.now)) }

@@ -29,8 +29,7 @@ pub fn colour(field: &[u8]) -> Option<Colour>
     }
 }
 
-/// The arrival that the line at the front of a text says, and what stands behind its LF, where `number_before` reads
-/// its moment and its size.
+/// The arrival that the line at the front of a text says, and what stands behind its LF, where it can be read there.
 #[inline(always)]
 pub fn front_arrival(line_number: u64, text: &[u8]) -> Option<(Arrival, &[u8])>
     ensures { IfSome result (λ front. (line : List ℕ) × IsFirstLine text.now line front.1.now
