@@ -33,4 +33,5 @@ module _ {T : Type 0} where
 
   abbrev pub IsTaking : TakingInside T → Type 0
   IsTaking end = IsSeatAt (receives_on end.receiver) end.pass
+      × (sends_on end.sender ≡ receives_on end.receiver)
       × ((view end.pass).puts ≡ false) × ((view end.pass).takes ≡ true)

@@ -41,6 +41,8 @@ impl<T: Drop> Model for Putting<T> {
 #[derive(Drop)]
 pub struct Taking<T: Drop> {
     receiver: RuledReceiver<T, Known<T>, Ordered>,
+    // Of its own, so that whoever waits for an item sleeps, also where the putting end is gone.
+    sender: RuledSender<T, Known<T>, Ordered>,
     pass: Pass<T, Known<T>>,
 }
 
@@ -69,6 +71,7 @@ pub fn lane<T: Drop>(alloc: Global, capacity: usize) -> Result<(Putting<T>, Taki
         alloc, capacity,
     )?;
     let keeper = receiver.try_clone()?;
+    let waker = sender.try_clone()?;
     let taken = sender.another::<Roles>(&mut pass);
     let putting = Putting {
         sender,
@@ -77,6 +80,7 @@ pub fn lane<T: Drop>(alloc: Global, capacity: usize) -> Result<(Putting<T>, Taki
     };
     let taking = Taking {
         receiver,
+        sender: waker,
         pass: taken,
     };
     Ok((putting, taking))
@@ -108,6 +112,23 @@ impl<T: Drop> Putting<T> {
         }
         unreachable!()
     }
+
+    /// Puts an item behind all that were put, and waits asleep as long as the lane is full.
+    pub fn send<R: Wait>(&mut self, rt: &R, item: T)
+        ensures lane { self.new.lane ≡ self.old.lane }
+        ensures told { self.new.told_taken ≡ self.old.told_taken }
+        ensures put { self.new.put ≡ self.old.put ++ item ∷ [] }
+    {
+        let mut unsent = item;
+        for _ in rt.forever() {
+            match self.sender.send_as::<Puts, R>(rt, &mut self.pass, unsent) {
+                Ok(()) => return,
+                // An error does not come: this end keeps a receiving end, and a bounded channel takes no memory.
+                Err(back) => unsent = back.into_inner(),
+            }
+        }
+        unreachable!()
+    }
 }
 
 impl<T: Drop> Taking<T> {
@@ -126,6 +147,21 @@ impl<T: Drop> Taking<T> {
             .try_recv_as::<Takes, R>(rt, &mut self.pass)
             .ok()
     }
+
+    /// Takes the first item that was put and not taken, and waits asleep as long as the lane is empty.
+    pub fn receive<R: Wait>(&mut self, rt: &R) -> T
+        ensures lane { self.new.lane ≡ self.old.lane }
+        ensures told { self.new.told_put ≡ self.old.told_put }
+        ensures taken { self.new.taken ≡ self.old.taken ++ result ∷ [] }
+    {
+        for _ in rt.forever() {
+            // An error does not come: this end keeps a sending end.
+            if let Ok(item) = self.receiver.recv_as::<Takes, R>(rt, &mut self.pass) {
+                return item;
+            }
+        }
+        unreachable!()
+    }
 }
 
 /// Tells each end of one lane all that the other did: the putting end what was taken, the taking end what was put.
@@ -142,6 +178,7 @@ pub fn meet<T: Drop>(putting: Putting<T>, taking: Taking<T>) -> (Putting<T>, Tak
     } = putting;
     let Taking {
         receiver,
+        sender: waker,
         pass: taken,
     } = taking;
     sender.absorb::<Roles>(&mut pass, taken);
@@ -154,6 +191,7 @@ pub fn meet<T: Drop>(putting: Putting<T>, taking: Taking<T>) -> (Putting<T>, Tak
         },
         Taking {
             receiver,
+            sender: waker,
             pass: taken,
         },
     )
@@ -172,6 +210,7 @@ pub fn reunite<T: Drop>(putting: Putting<T>, taking: Taking<T>) -> Rest<T>
     } = putting;
     let Taking {
         receiver: _,
+        sender: _,
         pass: taken,
     } = taking;
     sender.absorb::<Roles>(&mut pass, taken);

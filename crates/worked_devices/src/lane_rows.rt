@@ -71,6 +71,45 @@ fn two_threads_through_a_lane(rt: HostRuntime) {
     assert!(rt; reunite(putting, taking).take(&rt).is_none());
 }
 
+/// Sends 4, 5, 6 and 7, and waits for room.
+fn send_four<R: Wait>(rt: &R, mut putting: Putting<u64>) -> Putting<u64>
+    ensures { result.lane ≡ putting.lane }
+{
+    putting.send(rt, 4);
+    putting.send(rt, 5);
+    putting.send(rt, 6);
+    putting.send(rt, 7);
+    putting
+}
+
+/// Receives three items, and waits for each.
+fn receive_three<R: Wait>(rt: &R, mut taking: Taking<u64>) -> (Taking<u64>, [u64; 3])
+    ensures { result.0.lane ≡ taking.lane }
+{
+    let first = taking.receive(rt);
+    let second = taking.receive(rt);
+    let third = taking.receive(rt);
+    (taking, [first, second, third])
+}
+
+#[test]
+fn two_threads_that_wait_for_each_other(rt: HostRuntime) {
+    let (putting, taking) = lane(rt.alloc(), 1).expect(&rt, "memory");
+    let handle = &rt;
+    let (putting, taken) = thread::join(
+        &rt,
+        move || -> Putting<u64>
+            ensures { result.lane ≡ putting.lane }
+        { send_four(handle, putting) },
+        move || -> (Taking<u64>, [u64; 3])
+            ensures { result.0.lane ≡ taking.lane }
+        { receive_three(handle, taking) },
+    );
+    let (taking, items) = taken;
+    assert!(rt; items == [4, 5, 6]);
+    assert!(rt; reunite(putting, taking).take(&rt) == Some(7));
+}
+
 /// What is done with a lane, and what comes of it.
 enum Step {
     /// An item is put, or handed back.
