@@ -7,7 +7,8 @@
 #     many     4,096 contracts of one port over one meter, each with a source of its own; all frames are of the first, of the last,
 #              or of none, and stand beside the same frames in the single domain
 #
-# Then the mixed domain by several workers, beside one. Beside the first, tcprewrite (of Debian's tcpreplay), where it is there,
+# Then the mixed domain by several workers, beside one, and captures of few records, each many times, since one is marked in a
+# few ms. Beside the first, tcprewrite (of Debian's tcpreplay), where it is there,
 # puts one code point into the same frames. Last comes the most memory on a capture of ten times as many records.
 #
 #     bench/marks.sh [RECORDS] [REPEATS] [RECORDS FOR MEMORY] [WORKERS..]
@@ -19,7 +20,7 @@ count=${1:-1000000}
 repeats=${2:-7}
 more=${3:-$((10 * count))}
 workers=("${@:4}")
-[ "${#workers[@]}" -gt 0 ] || workers=(2 4)
+[ "${#workers[@]}" -gt 0 ] || workers=(2 3 4)
 
 if [ ! -x "$proved" ]; then
     echo "marks.sh: $proved is not built: ./dsedge builds it" >&2
@@ -176,6 +177,41 @@ for number in "${workers[@]}"; do
     beside "${runs[1]}" "${runs[0]}"
     beside "${runs[3]}" "${runs[2]}"
     beside "${runs[1]}" "${runs[3]}"
+done
+
+# Short captures, by one worker and by four, each so many times in one run.
+times=100
+
+# Marks the capture so many times by so many workers, one after the other, and notes the wall and processor time of one in us.
+#
+#     repeated WORKERS
+repeated() {
+    words_of "proved:mixed:keep:$1"
+    TIMEFORMAT='%3R %3U %3S'
+    {
+        time for ((pass = 0; pass < times; pass++)); do
+            "${words[@]}" < "$folder/in.pcap" > "$folder/short.$1.out" 2> "$folder/short.$1.report"
+        done
+    } 2> "$folder/time"
+    awk -v times="$times" '{ print $1 * 1e6 / times, ($2 + $3) * 1e6 / times }' "$folder/time" >> "$folder/short.$1.times"
+}
+
+for short in 1 10 1000; do
+    "$folder/generate" capture mixed "$short" > "$folder/in.pcap"
+    rm -f "$folder"/short.*
+    turn=0
+    while [ "$turn" -lt "$repeats" ]; do
+        repeated 1
+        repeated 4
+        turn=$((turn + 1))
+    done
+    same short.4 short.1
+    for number in 1 4; do
+        awk -v short="$short" -v number="$number" -v wall="$(least "short.$number" 1)" -v processor="$(least "short.$number" 2)" 'BEGIN {
+            printf "%5d records, %d workers: wall %7.0f us  processor %7.0f us\n", short, number, wall, processor
+        }'
+    done
+    beside short.4 short.1
 done
 
 rm "$folder"/*.out

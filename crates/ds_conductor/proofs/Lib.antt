@@ -1,15 +1,6 @@
 -- Lemmas for the proofs of this crate.
-pub mod AheadLaws
-pub mod BoundLaws
-pub mod ConditionLaws
-pub mod FrameLaws
+pub mod LaningLaws
 pub mod MarkingLaws
 pub mod PassingLaws
-pub mod ReadFaultLaws
-pub mod ReadingLaws
-pub mod ReportLaws
-pub mod SeenLaws
-pub mod SendableLaws
-pub mod SizeLaws
-pub mod StampLaws
+pub mod VerdictLaws
 pub mod WritingLaws

@@ -11,28 +11,30 @@ use Rattle.run_audit.specs.declared.verdict.Verdict.{Verdict}
 use Rattle.run_audit.specs.declared.verdict.Verdict.TheVariants.{Kept}
 use Rattle.ds_checker.specs.Acceptance.{Table}
 use Rattle.ds_conductor_base.specs.Passing.{colours_of}
-use Rattle.ds_conductor.specs.Markings.{IsMarked, IsMarkedAs, IsMarkedBut, IsVerdictOn, IsWhole, IsWholeSoFar, IsWholeWith, Marking, answer_of, marking_behind, marking_in, marking_of, nothing_marked, see}
+use Rattle.ds_conductor.specs.Markings.{IsMarked, IsMarkedBeside, IsMarkedBy, answer_with, IsMarkedAs, IsMarkedBut, IsVerdictOn, IsWhole, IsWholeSoFar, IsWholeWith, Marking, answer_of, marking_behind, marking_in, marking_of, nothing_marked}
+use Rattle.ds_conditioner.specs.Sendings.{see}
 use Rattle.pcap_capture.specs.Takings.{is_own}
 use Rattle.pcap_capture.proofs.OwnLaws.{fault_in_own}
-use Rattle.ds_conductor.specs.Readings.{IsHeadingTold, IsReading, IsReadTo, heading_in}
-use Rattle.ds_conductor.specs.Conditionings.{IsPortOf, see_at}
+use Rattle.capture_reader.specs.Readings.{IsHeadingTold, IsReading, IsReadTo, heading_in}
+use Rattle.ds_conditioner.specs.Conditionings.{IsPortOf, see_at}
 use Rattle.ds_conductor.specs.Faults.{fault_of}
-use Rattle.ds_conductor.specs.Passings.{IsBrokenOff, IsFinished, IsMarkedAt, marking_at}
-use Rattle.ds_conductor.specs.Reports.{nothing_read, report_of, with_verdict}
-use Rattle.ds_conductor.specs.Texts.{text_from}
-use Rattle.ds_conductor.specs.declared.conditioner.Conditioner.{Conditioner}
-use Rattle.ds_conductor.specs.declared.port.Port.{Port}
-use Rattle.ds_conductor.proofs.ConditionLaws.{front}
+use Rattle.ds_conductor.specs.Passings.{IsBegun, IsBrokenOff, IsFinished, IsMarkedAt, marking_at}
+use Rattle.ds_conductor.specs.declared.marking.Passage.{Passage}
+use Rattle.ds_conditioner.specs.Reports.{nothing_read, report_of, with_verdict}
+use Rattle.ds_conditioner.specs.Texts.{text_from}
+use Rattle.ds_conditioner.specs.declared.conditioner.Conditioner.{Conditioner}
+use Rattle.ds_conditioner.specs.declared.port.Port.{Port}
+use Rattle.ds_conductor.proofs.VerdictLaws.{front}
 use Rattle.pcap_capture.proofs.FrontLaws.{IsFrontOf-none}
 use Rattle.frame_marker.specs.declared.sight.Sight.{Sight}
 use mathlib.Core.Path.{fun_ext}
-use Rattle.ds_conductor.specs.Sendings.{sent_from, sent_of}
+use Rattle.ds_conditioner.specs.Sendings.{sent_from, sent_of}
 use Rattle.pcap_capture.specs.Fronts.{IsFrontOf}
 use Rattle.ds_conductor.specs.declared.fault.MarkFault.{MarkFault}
 use Rattle.ds_conductor.specs.declared.fault.MarkFault.TheVariants as marks
-use Rattle.ds_conductor.specs.declared.report.Report.{Report}
-use Rattle.ds_conductor.specs.declared.rule.RedRule.{RedRule}
-use Rattle.ds_conductor.proofs.ReadingLaws.{fault_stands}
+use Rattle.ds_conditioner.specs.declared.report.Report.{Report}
+use Rattle.ds_conditioner.specs.declared.rule.RedRule.{RedRule}
+use Rattle.capture_reader.proofs.ReadingLaws.{fault_stands}
 
 -- the marking of frames whose heading is there, or not
 abbrev pub marking_told : Table → List ℕ → RedRule → Option Heading → List FrameValue → Marking
@@ -382,3 +384,37 @@ pub marked_at : (t : Table) (d : Domain) (port name : List ℕ) (red : RedRule) 
 marked_at t d port name red bytes more before after answer same found is =
     let there = port_found (is_port d port) port name found in
     inr (ap (λ e. is_port e port) (sym same) ∙ there.0, subst (λ n. IsMarkedAs t n red bytes more before after answer) there.1 is)
+
+-- what passed at a port that there is is marked there
+pub passed_at : {C : Type 0} (t : Table) (port : List ℕ) (red : RedRule) (bytes left more before after : List ℕ) (passage : Passage) (begun : IsBegun t port red bytes left before passage) (p : Port) → p ≡ passage.port
+    → (answer : Result Report (Report × MarkFault)) → (IsPortOf p port → C → IsMarkedAt p port bytes more before after answer) → C → IsMarked t port red bytes more before after answer
+passed_at t port red bytes left more before after passage begun p same answer marked come =
+    let at = begun.1 in
+    let is : IsPortOf p port = subst (λ (q : Port). IsPortOf q port) (sym same) at.port in
+    inr (
+      begun.0,
+      subst (λ u. IsMarkedAs u port red bytes more before after answer) (ap (λ (q : Port). q.accepted.now) same ∙ at.accepted)
+          (subst (λ r. IsMarkedAs p.accepted.now port r bytes more before after answer) (ap (λ (q : Port). q.red) same ∙ at.red_rule) (marked is come)),
+    )
+
+-- ---- several workers
+
+beside : (lost : Bool) (t : Table) (port : List ℕ) (red : RedRule) (bytes more before after : List ℕ) (answer : Result Report (Report × MarkFault)) → IsMarked t port red bytes more before after answer
+    → IsMarkedBeside t port red bytes more before after (answer_with lost answer)
+beside false t port red bytes more before after (Ok report) at = inl at
+beside false t port red bytes more before after (Err (report, fault)) at = inl at
+beside true t port red bytes more before after (Ok report) at = inl at
+beside true t port red bytes more before after (Err (report, marks.Capture fault)) at = inl at
+beside true t port red bytes more before after (Err (report, marks.UnknownPort)) at = inl at
+beside true t port red bytes more before after (Err (report, marks.JournalFull)) at = inl at
+beside true t port red bytes more before after (Err (report, marks.NoMemory)) at = inr (report, refl, at)
+
+pub marked_beside : (sole lost : Bool) (t : Table) (port : List ℕ) (red : RedRule) (bytes more before after : List ℕ) (answer : Result Report (Report × MarkFault)) → sole ≡ false
+    → IsMarked t port red bytes more before after answer → IsMarkedBy sole t port red bytes more before after (answer_with lost answer)
+marked_beside true lost t port red bytes more before after answer wrong at = absurd cc
+marked_beside false lost t port red bytes more before after answer is at = beside lost t port red bytes more before after answer at
+
+pub marked_alone : (sole : Bool) (t : Table) (port : List ℕ) (red : RedRule) (bytes more before after : List ℕ) (answer : Result Report (Report × MarkFault))
+    → IsMarked t port red bytes more before after answer → IsMarkedBy sole t port red bytes more before after answer
+marked_alone true t port red bytes more before after answer at = at
+marked_alone false t port red bytes more before after answer at = inl at

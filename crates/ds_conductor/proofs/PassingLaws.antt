@@ -1,25 +1,25 @@
 -- What turns come to.
-use Rattle.std.proofs.Common.{◌≡◌, ◌⊎◌, inl, inr, ℕ, Bool, true, false, List, [], ◌++◌, Option, None, Some, Result, Ok, Err, IfOk, MatchResult, if◌then◌else◌, refl, sym, ap, subst, ◌∙◌, append_assoc, append-nil, OnErr, OnOk}
-use Rattle.pcap_capture.specs.Counts.{IsOfReads}
+use Rattle.std.proofs.Common.{◌≡◌, ◌⊎◌, inl, inr, ℕ, Bool, true, false, List, [], ◌++◌, Option, None, Some, Result, Ok, Err, IfErr, IfOk, MatchResult, ◌≤◌, ◌^◌, if◌then◌else◌, is_ok, refl, sym, ap, subst, ◌∙◌, append_assoc, append-nil, OnErr, OnOk}
+use Rattle.pcap_capture.specs.Counts.{IsOfReads, next_count}
 use Rattle.pcap_capture.specs.Fronts.{IsFrontOf}
 use Rattle.pcap_capture.specs.Frames.{FrameValue}
 use Rattle.pcap_capture.specs.declared.fault.PcapFault.{PcapFault}
 use Rattle.pcap_capture.specs.declared.fault.PcapFault.TheVariants as pcaps
-use Rattle.ds_conductor.specs.Conditionings.{IsConditioned}
+use Rattle.ds_conditioner.specs.Conditionings.{IsConditioned}
 use Rattle.run_audit.specs.declared.verdict.Verdict.{Verdict}
-use Rattle.ds_conductor.specs.Markings.{answer_of, is_broken_off, is_read, is_unread}
-use Rattle.ds_conductor.specs.Passings.{IsBrokenOff, IsTurned, is_unread_by, is_unread_in, turned_by}
+use Rattle.ds_conductor.specs.Markings.{answer_of, answer_with, is_broken_off, is_read, is_unread, is_unwritten}
+use Rattle.ds_conductor.specs.Passings.{IsBrokenOff, IsEndedWell, IsToldBy, IsTurned, is_unread_by, is_unread_in, turned_by}
 use Rattle.ds_conductor.specs.Faults.{fault_of}
-use Rattle.ds_conductor.specs.Readings.{IsReading, IsUnderway, is_starved}
-use Rattle.ds_conductor.specs.Writings.{IsWrittenTo, is_write_fault}
-use Rattle.ds_conductor.specs.declared.conditioner.Conditioner.{Conditioner}
+use Rattle.capture_reader.specs.Readings.{IsReading, IsUnderway, is_starved}
+use Rattle.ds_conductor.specs.Writings.{AreFailures, IsWrittenTo, failures_with, is_memory, is_write_fault}
+use Rattle.ds_conditioner.specs.declared.conditioner.Conditioner.{Conditioner}
 use Rattle.ds_conductor.specs.declared.fault.MarkFault.{MarkFault}
 use Rattle.ds_conductor.specs.declared.fault.MarkFault.TheVariants as marks
 use Rattle.ds_conductor.specs.declared.marking.Turn.TheVariants.{Ended, More}
-use Rattle.ds_conductor.specs.declared.port.Port.{Port}
-use Rattle.ds_conductor.specs.declared.reading.Progress.{Progress}
-use Rattle.ds_conductor.specs.declared.report.Report.{Report}
-use Rattle.ds_conductor.proofs.ReadingLaws.{IsFrontRead, whole_underway}
+use Rattle.ds_conditioner.specs.declared.port.Port.{Port}
+use Rattle.capture_reader.specs.declared.reading.Progress.{Progress}
+use Rattle.ds_conditioner.specs.declared.report.Report.{Report}
+use Rattle.capture_reader.proofs.ReadingLaws.{IsFrontRead, whole_underway}
 
 -- a front of a text is written where the rest of it is collected
 pub front_written : (text out before now : List ℕ) → IsWrittenTo out before text now → IsFrontOf before text now
@@ -43,7 +43,7 @@ starved_off p bytes more before now text frames seen others c at parts condition
 
 -- the device that takes bytes failed, or memory ran out for what it was to be given
 pub unwritten_off : (p : Port) (gone : List FrameValue) (bytes more before now text : List ℕ) (progress : Progress) (frames : List FrameValue) (c : Conditioner) (fault : MarkFault)
-    → progress.heading ≡ Some p.heading → IsUnderway gone bytes more progress → frames ≡ progress.frames.items
+    → progress.heading ≡ Some p.heading → IsUnderway gone bytes more progress → frames ≡ progress.piece
     → IsConditioned p true (gone ++ frames) text c → IsFrontOf before (p.heading.bytes ++ text) now → IsBrokenOff p bytes more before now c fault
 unwritten_off p gone bytes more before now text progress frames c fault headed at taken conditioned written =
     let all = whole_underway gone bytes more progress p.heading headed at in record {
@@ -172,3 +172,91 @@ taken_in (Ok value) p gone frames text before now out old new at written all par
 taken_in (Err fault) p gone frames text before now out old new at written all part =
     let parts = part gone text at in
     (text, parts.0, parts.1, parts.2, parts.3, front_written (p.heading.bytes ++ text) out before now written)
+
+-- where a turn was taken to its end, the device that takes bytes did not fail
+pub more_failures : (lost : Bool) (before now : ℕ) → AreFailures lost (Ok More) before now → now ≡ before
+more_failures false before now same = same
+more_failures true before now starved = let no = starved.0 in absurd cc
+
+pub ended_failures : (lost : Bool) (fault : Option PcapFault) (before now : ℕ) → AreFailures lost (Ok fault) before now → now ≡ before
+ended_failures false fault before now same = same
+ended_failures true fault before now starved = let no = starved.0 in absurd cc
+
+-- ---- what is answered, by what turns came to
+
+failed_alike : (report : Report) (fault : MarkFault) → let unturned : Result (Option PcapFault) MarkFault = Err fault in is_unwritten (Err (report, fault)) ≡ is_write_fault unturned
+failed_alike report (marks.Capture fault) = refl
+failed_alike report marks.UnknownPort = refl
+failed_alike report marks.JournalFull = refl
+failed_alike report marks.NoMemory = refl
+
+-- what the device that takes bytes counted, where its fault is not lost
+pub ended_writes : (turned : Result (Option PcapFault) MarkFault) (answer : Result Report (Report × MarkFault)) (before middle now : ℕ) → middle ≡ failures_with (is_write_fault turned) before
+    → now ≡ (if is_ok turned then failures_with (is_unwritten answer) middle else middle) → IsToldBy turned answer → now ≡ failures_with (is_unwritten answer) before
+ended_writes (Ok fault) answer before middle now failures last told = last ∙ ap (failures_with (is_unwritten answer)) (ended_failures false fault before middle failures)
+ended_writes (Err fault) answer before middle now same last told =
+    last ∙ same ∙ ap (λ b. failures_with b before) (sym (ap is_unwritten told.1 ∙ failed_alike told.0 fault))
+
+lost_writes : (fault : MarkFault) (report : Report) (before middle now : ℕ) → let unturned : Result (Option PcapFault) MarkFault = Err fault in is_memory unturned ≡ true → middle ≡ next_count before → now ≡ middle
+    → now ≡ failures_with (is_unwritten (answer_with true (Err (report, fault)))) before
+lost_writes (marks.Capture fault) report before middle now wrong counted last = absurd cc
+lost_writes marks.UnknownPort report before middle now wrong counted last = absurd cc
+lost_writes marks.JournalFull report before middle now wrong counted last = absurd cc
+lost_writes marks.NoMemory report before middle now is counted last = last ∙ counted
+
+-- and where it may be
+pub writes_with : (lost : Bool) (turned : Result (Option PcapFault) MarkFault) (answer : Result Report (Report × MarkFault)) (before middle now : ℕ) → AreFailures lost turned before middle
+    → now ≡ (if is_ok turned then failures_with (is_unwritten answer) middle else middle) → IsToldBy turned answer → now ≡ failures_with (is_unwritten (answer_with lost answer)) before
+writes_with false turned (Ok report) before middle now failures last told = ended_writes turned (Ok report) before middle now failures last told
+writes_with false turned (Err (report, fault)) before middle now failures last told = ended_writes turned (Err (report, fault)) before middle now failures last told
+writes_with true (Ok fault) answer before middle now starved last told = let no = starved.0 in absurd cc
+writes_with true (Err fault) answer before middle now starved last told =
+    subst (λ (a : Result Report (Report × MarkFault)). now ≡ failures_with (is_unwritten (answer_with true a)) before) (sym told.1)
+    (lost_writes fault told.0 before middle now starved.0 starved.1 last)
+
+-- What is answered where a fault is lost says as much of the reading.
+pub off_with : (lost : Bool) (answer : Result Report (Report × MarkFault)) → is_broken_off (answer_with lost answer) ≡ is_broken_off answer
+off_with false (Ok report) = refl
+off_with false (Err (report, fault)) = refl
+off_with true (Ok report) = refl
+off_with true (Err (report, marks.Capture fault)) = refl
+off_with true (Err (report, marks.UnknownPort)) = refl
+off_with true (Err (report, marks.JournalFull)) = refl
+off_with true (Err (report, marks.NoMemory)) = refl
+
+pub unread_with : (lost : Bool) (answer : Result Report (Report × MarkFault)) → is_unread (answer_with lost answer) ≡ is_unread answer
+unread_with false (Ok report) = refl
+unread_with false (Err (report, fault)) = refl
+unread_with true (Ok report) = refl
+unread_with true (Err (report, marks.Capture fault)) = refl
+unread_with true (Err (report, marks.UnknownPort)) = refl
+unread_with true (Err (report, marks.JournalFull)) = refl
+unread_with true (Err (report, marks.NoMemory)) = refl
+
+pub known_with : (lost : Bool) (answer : Result Report (Report × MarkFault)) → IfErr answer (λ refused. ¬ (refused.1 ≡ marks.UnknownPort))
+    → IfErr (answer_with lost answer) (λ refused. ¬ (refused.1 ≡ marks.UnknownPort))
+known_with false (Ok report) known = known
+known_with false (Err (report, fault)) known = known
+known_with true (Ok report) known = known
+known_with true (Err (report, marks.Capture fault)) known = known
+known_with true (Err (report, marks.UnknownPort)) known = known
+known_with true (Err (report, marks.JournalFull)) known = known
+known_with true (Err (report, marks.NoMemory)) known = λ no. absurd cc
+
+pub few_with : (lost : Bool) (answer : Result Report (Report × MarkFault)) → IfOk answer (λ report. report.records ≤ 2 ^ 44) → IfOk (answer_with lost answer) (λ report. report.records ≤ 2 ^ 44)
+few_with false (Ok report) few = few
+few_with false (Err (report, fault)) few = few
+few_with true (Ok report) few = few
+few_with true (Err (report, marks.Capture fault)) few = few
+few_with true (Err (report, marks.UnknownPort)) few = few
+few_with true (Err (report, marks.JournalFull)) few = few
+few_with true (Err (report, marks.NoMemory)) few = few
+
+-- and what the device that gives bytes did
+pub ended_reading : (turned : Result (Option PcapFault) MarkFault) (answer : Result Report (Report × MarkFault)) (failed now calls : ℕ) → IsEndedWell turned → IsToldBy turned answer
+    → IfOk turned (λ fault. IsOfReads (is_unread_by fault) failed now calls) → is_broken_off answer ≡ false → IsOfReads (is_unread answer) failed now calls
+ended_reading (Ok fault) answer failed now calls well told reads whole = of_reads answer (is_unread_by fault) failed now calls (told whole) reads
+ended_reading (Err fault) answer failed now calls well told reads whole =
+    let off : is_broken_off answer ≡ true = ap is_broken_off told.1 ∙ broken_off told.0 fault well in
+    let no : true ≡ false = sym off ∙ whole in
+    absurd cc

@@ -1,5 +1,5 @@
 -- What is written of a text that grows.
-use Rattle.std.proofs.Common.{◌≡◌, ℕ, List, [], ◌++◌, Result, Ok, Err, MatchResult, sym, ap, ◌∙◌, append_assoc, append-nil, arith, drop, length, length-append, take, ◌+◌, subst, drop_at, take_at, OnOk}
+use Rattle.std.proofs.Common.{◌≡◌, ℕ, List, [], ◌++◌, Result, Ok, Err, MatchResult, sym, ap, ◌∙◌, append_assoc, append-nil, subst, OnOk}
 use Rattle.pcap_capture.proofs.FrontLaws.{IsFrontOf-first}
 use Rattle.pcap_capture.specs.Fronts.{IsFrontOf}
 use Rattle.ds_conductor.specs.Writings.{IsWrittenTo}
@@ -60,16 +60,6 @@ headed_out head out held collected = record {
   whole = append-nil head ∙ sym collected;
   written = sym (append-nil held);
 }
-
--- behind what stood there and a record's own bytes stand the captured ones
-pub behind_own : (out own bytes text : List ℕ) (start : ℕ) → text ≡ out ++ (own ++ bytes) → start + length bytes ≡ length text
-    → (take start text ≡ out ++ own) × (drop start text ≡ bytes)
-behind_own out own bytes text start same count =
-    let whole : text ≡ (out ++ own) ++ bytes = same ∙ sym (append_assoc out own bytes) in
-    let front : length (out ++ own) ≡ start = omega (arith, ap length whole, length-append (out ++ own) bytes, count) in (
-      ap (take start) whole ∙ take_at (out ++ own) bytes start front,
-      ap (drop start) whole ∙ drop_at (out ++ own) bytes start front,
-    )
 
 -- a text of which a front is written, and what comes behind it is collected
 pub collected_on : (head text more out left before now : List ℕ) → IsWrittenTo out before (head ++ text) now → left ≡ out ++ more → IsWrittenTo left before (head ++ (text ++ more)) now

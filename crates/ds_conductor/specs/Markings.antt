@@ -6,7 +6,6 @@ use Rattle.pcap_capture.specs.Grammar.{capture, fault_in, heading_of}
 use Rattle.pcap_capture.specs.declared.fault.PcapFault.{PcapFault}
 use Rattle.pcap_capture.specs.declared.fault.PcapFault.TheVariants as pcaps
 use Rattle.pcap_capture.specs.declared.heading.Heading.{Heading}
-use Rattle.pcap_capture.specs.declared.heading.LinkType.{LinkType}
 use Rattle.ds_domain_base.specs.Domains.{is_port}
 use Rattle.ds_checker.specs.Acceptance.{Table}
 use Rattle.meter_fabric_base.specs.Grounds.{ground_of}
@@ -14,31 +13,25 @@ use Rattle.run_audit.specs.Runs.{Run}
 use Rattle.run_audit.specs.Verdicts.{verdict_of}
 use Rattle.run_audit.specs.declared.verdict.Verdict.{Verdict}
 use Rattle.run_audit.specs.declared.verdict.Verdict.TheVariants.{Kept}
-use Rattle.frame_marker.specs.Sights.{sight_of}
-use Rattle.frame_marker.specs.declared.sight.Sight.{Sight}
 use Rattle.ds_conductor_base.specs.Passing.{colours_of}
 use Rattle.ds_runs.specs.Behind.{IsBehind}
 use Rattle.ds_runs.specs.Laws.{MarksAreSentColours}
 use Rattle.ds_conductor_base.specs.declared.sent.Sent.{Sent}
-use Rattle.ds_conductor.specs.Reports.{nothing_read, report_of, with_verdict}
-use Rattle.ds_conductor.specs.Sendings.{sent_of}
-use Rattle.ds_conductor.specs.Texts.{text_from}
+use Rattle.ds_conditioner.specs.Reports.{nothing_read, report_of, with_verdict}
+use Rattle.ds_conditioner.specs.Sendings.{see, sent_of}
+use Rattle.ds_conditioner.specs.Texts.{text_from}
 use Rattle.pcap_capture.specs.Fronts.{IsFrontOf}
 use Rattle.ds_conductor.specs.Writings.{is_write}
 use Rattle.ds_conductor.specs.declared.fault.MarkFault.{MarkFault}
 use Rattle.ds_conductor.specs.declared.fault.MarkFault.TheVariants as marks
-use Rattle.ds_conductor.specs.declared.report.Report.{Report}
-use Rattle.ds_conductor.specs.declared.rule.RedRule.{RedRule}
+use Rattle.ds_conditioner.specs.declared.report.Report.{Report}
+use Rattle.ds_conditioner.specs.declared.rule.RedRule.{RedRule}
 
 -- what is written, what is told, and what was sent
 pub record Marking : Type 0 where
   pub text : List ℕ
   pub report : Report
   pub sent : List Sent
-
--- what a frame is at a port of a table
-abbrev pub see : Table → List ℕ → LinkType → List ℕ → Sight
-see t port link bytes = sight_of t.contracts port link bytes
 
 -- frames behind their heading, marked with the colours that their packets left with
 abbrev pub marking_with : Table → List ℕ → RedRule → Heading → List FrameValue → List Sent → List Colour → Marking
@@ -185,3 +178,29 @@ is_broken_off _ = false
 abbrev pub answer_of : Verdict → Report → Option PcapFault → Result Report (Report × MarkFault)
 answer_of verdict report None = Ok (with_verdict verdict report)
 answer_of verdict report (Some fault) = Err (report, marks.Capture fault)
+
+-- what is told in the place of a fault where that of the device that takes bytes was lost, or not
+abbrev pub fault_with : Bool → MarkFault → MarkFault
+fault_with false fault = fault
+fault_with true marks.NoMemory = marks.Capture pcaps.WriteFault
+fault_with true fault = fault
+
+-- What is answered then: that fault, in the place of want of memory.
+abbrev pub answer_with : Bool → Result Report (Report × MarkFault) → Result Report (Report × MarkFault)
+answer_with lost (Ok report) = Ok report
+answer_with lost (Err (report, fault)) = Err (report, fault_with lost fault)
+
+-- What was written and answered where more goes on while it is written: as always; or, where the device that takes bytes
+-- failed and memory ran out as well, that it failed, with the report that is told where memory ran out.
+abbrev pub IsMarkedBeside : Table → List ℕ → RedRule → List ℕ → List ℕ → List ℕ → List ℕ
+    → Result Report (Report × MarkFault) → Type 0
+IsMarkedBeside t port red bytes more before after answer =
+    IsMarked t port red bytes more before after answer
+    ⊎ ((report : Report) × (answer ≡ Err (report, marks.Capture pcaps.WriteFault))
+    × IsMarked t port red bytes more before after (Err (report, marks.NoMemory)))
+
+-- What was written and answered by so many workers: one of them does nothing while it writes.
+abbrev pub IsMarkedBy : Bool → Table → List ℕ → RedRule → List ℕ → List ℕ → List ℕ → List ℕ
+    → Result Report (Report × MarkFault) → Type 0
+IsMarkedBy true t port red bytes more before after answer = IsMarked t port red bytes more before after answer
+IsMarkedBy false t port red bytes more before after answer = IsMarkedBeside t port red bytes more before after answer

@@ -1,5 +1,6 @@
 -- What stands while a capture is marked, piece by piece.
-use Rattle.std.specs.Prelude.{◌≡◌, ◌⊎◌, ℕ, List, [], ◌++◌, zip, Bool, true, false, Option, None, Some, Result, Ok, Err, if◌then◌else◌, MatchResult}
+use Rattle.std.specs.Prelude.{◌≡◌, ◌⊎◌, ◌+◌, ◌*◌, ◌<◌, ◌≤◌, ◌^◌, ℕ, List, [], ◌++◌, zip, Bool, true, false, Option, None, Some, Result, Ok, Err, IfOk, if◌then◌else◌, MatchResult}
+use Rattle.pcap_capture.specs.Counts.{IsOfReads}
 use Rattle.pcap_capture.specs.Fronts.{IsFrontOf}
 use Rattle.pcap_capture.specs.Frames.{FrameValue}
 use Rattle.pcap_capture.specs.Grammar.{capture, heading_of}
@@ -8,21 +9,24 @@ use Rattle.pcap_capture.specs.declared.fault.PcapFault.TheVariants as pcaps
 use Rattle.run_audit.specs.declared.verdict.Verdict.{Verdict}
 use Rattle.ds_checker.specs.Acceptance.{Table}
 use Rattle.ds_conductor_base.specs.Passing.{colours_of}
-use Rattle.ds_conductor.specs.Conditionings.{IsConditioned, see_at}
-use Rattle.ds_conductor.specs.Markings.{IsMarkedAs, IsVerdictOn, IsWhole, Marking, answer_of, is_read}
-use Rattle.ds_conductor.specs.Readings.{IsReading, IsUnderway, is_starved}
-use Rattle.ds_conductor.specs.Reports.{report_of}
-use Rattle.ds_conductor.specs.Sendings.{sent_of}
-use Rattle.ds_conductor.specs.Texts.{text_from}
-use Rattle.ds_conductor.specs.Writings.{IsWrittenTo}
-use Rattle.ds_conductor.specs.declared.conditioner.Conditioner.{Conditioner}
+use Rattle.ds_conditioner.specs.Conditionings.{IsBounded, IsConditioned, IsPortOf, see_at}
+use Rattle.ds_conductor.specs.Markings.{IsMarkedAs, IsVerdictOn, IsWhole, Marking, answer_of, is_broken_off, is_read, is_unread}
+use Rattle.ds_domain_base.specs.Domains.{is_port}
+use Rattle.capture_reader.specs.Readings.{IsReadOn, IsReading, IsUnderway, bytes_of, is_starved, most_bytes}
+use Rattle.ds_conditioner.specs.Reports.{report_of}
+use Rattle.ds_conditioner.specs.Sendings.{sent_of}
+use Rattle.ds_conditioner.specs.Texts.{text_from}
+use Rattle.ds_conductor.specs.Writings.{IsBreak, IsWrittenTo}
+use Rattle.ds_conditioner.specs.declared.conditioner.Conditioner.{Conditioner}
 use Rattle.ds_conductor.specs.declared.fault.MarkFault.{MarkFault}
 use Rattle.ds_conductor.specs.declared.fault.MarkFault.TheVariants as marks
+use Rattle.ds_conditioner.specs.declared.rule.RedRule.{RedRule}
+use Rattle.ds_conductor.specs.declared.marking.Passage.{Passage}
 use Rattle.ds_conductor.specs.declared.marking.Turn.{Turn}
 use Rattle.ds_conductor.specs.declared.marking.Turn.TheVariants.{Ended, More}
-use Rattle.ds_conductor.specs.declared.port.Port.{Port}
-use Rattle.ds_conductor.specs.declared.report.Report.{Report}
-use Rattle.ds_conductor.specs.declared.reading.Progress.{Progress}
+use Rattle.ds_conditioner.specs.declared.port.Port.{Port}
+use Rattle.ds_conditioner.specs.declared.report.Report.{Report}
+use Rattle.capture_reader.specs.declared.reading.Progress.{Progress}
 
 -- More may come: all frames that were read are seen, and of the text of those that were handed out a front is written
 -- and the rest is collected.
@@ -126,3 +130,103 @@ IsMarkedAt p name bytes more before after answer =
 -- What a turn comes to whose reading ended by this fault: want of memory breaks the marking off.
 abbrev pub turned_by : PcapFault → Result Turn MarkFault
 turned_by fault = if is_starved fault then Err marks.NoMemory else Ok (Ended (Some fault))
+
+-- A passage has room for all that may still come: so many calls of a device.
+pub record IsReady (passage : Passage) (calls : ℕ) : Type 0 where
+  pub missing : passage.progress.missing ≤ 24
+  pub bounded : IsBounded passage.conditioner
+  pub few : 16 * passage.conditioner.counts.records + most_bytes passage.progress calls ≤ 2 ^ 48
+
+-- and still has it, since no more came than could
+pub record IsReadyAfter (before : Passage) (calls : ℕ) (after : Passage) (left : ℕ) : Type 0 where
+  pub missing : after.progress.missing ≤ before.progress.missing
+  pub bounded : IsBounded after.conditioner
+  pub few : 16 * after.conditioner.counts.records + most_bytes after.progress left
+      ≤ 16 * before.conditioner.counts.records + most_bytes before.progress calls
+
+-- more may come through a passage
+abbrev pub IsPassing : List ℕ → List ℕ → List ℕ → List ℕ → Passage → Type 0
+IsPassing bytes more before now passage =
+    IsOnTheWay passage.port bytes more before now passage.progress passage.conditioner passage.out.items
+
+-- what a turn of a passage comes to
+abbrev pub IsTurnedTo : List ℕ → List ℕ → List ℕ → List ℕ → Passage → Result Turn MarkFault → Type 0
+IsTurnedTo bytes more before now passage result =
+    IsTurned passage.port bytes more before now passage.progress passage.conditioner passage.out.items result
+
+-- a passage at the port of a name, of which nothing is written
+pub record IsPassage (t : Table) (name : List ℕ) (red : RedRule) (bytes more held : List ℕ) (passage : Passage) : Type 0
+  where
+    pub accepted : passage.port.accepted.now ≡ t
+    pub red_rule : passage.port.red ≡ red
+    pub port : IsPortOf passage.port name
+    pub passing : IsPassing bytes more held held passage
+
+-- a capture whose heading was read, at a port that there is
+abbrev pub IsBegun : Table → List ℕ → RedRule → List ℕ → List ℕ → List ℕ → Passage → Type 0
+IsBegun t name red bytes more held passage =
+    (is_port t.domain name ≡ true) × IsPassage t name red bytes more held passage
+
+-- what turns come to that end is no want of memory, nor a fault of the writing; and what breaks them off is one of these
+abbrev pub IsEndedWell : Result (Option PcapFault) MarkFault → Type 0
+IsEndedWell turned = MatchResult turned
+    (λ fault. (¬ (fault ≡ Some pcaps.WriteFault)) × (¬ (fault ≡ Some pcaps.NoMemory)))
+    (λ fault. (fault ≡ marks.Capture pcaps.WriteFault) ⊎ (fault ≡ marks.NoMemory))
+
+-- all visits are made, and no frame comes any more
+abbrev pub IsMadeOf : Port → Conditioner → Conditioner → Type 0
+IsMadeOf p was now =
+    (frames : List FrameValue) (text : List ℕ) → IsConditioned p true frames text was → IsConditioned p false frames text now
+
+-- What is answered at the end, by what turns came to: the fault that broke them off, or what is told of the device that
+-- gives bytes.
+abbrev pub IsToldBy : Result (Option PcapFault) MarkFault → Result Report (Report × MarkFault) → Type 0
+IsToldBy turned answer = MatchResult turned
+    (λ fault. is_broken_off answer ≡ false → is_unread answer ≡ is_unread_by fault)
+    (λ fault. (report : Report) × (answer ≡ Err (report, fault)))
+
+-- A turn of a passage was taken, by what its devices tell, have or hold, still answer and count, before and after.
+pub record IsTurnTaken {A B : Type 0} (tells : A → Type 0) (left : A → List ℕ) (calls failed : A → ℕ) (old new : A)
+    (shows : B → Type 0) (held : B → List ℕ) (was now : B) (before after : Passage) (result : Result Turn MarkFault) : Type 0
+  where
+    pub ready : IsReadyAfter before (calls old) after (calls new)
+    pub port : after.port ≡ before.port
+    pub fewer : result ≡ Ok More → calls new < calls old
+    pub turned : tells old → shows was → (bytes first : List ℕ) → IsPassing bytes (left old) first (held was) before
+        → IsTurnedTo bytes (left new) first (held now) after result
+    pub reads : IfOk result (λ turn. IsOfReads (is_unread_in turn) (failed old) (failed new) (calls new))
+    pub fault : MatchResult result IsWell IsBreak
+    pub given : tells old → tells new
+    pub told : shows was → shows now
+
+-- Turns of a passage were taken to their end.
+pub record AreTurnsTaken {A B : Type 0} (tells : A → Type 0) (left : A → List ℕ) (calls failed : A → ℕ) (old new : A)
+    (shows : B → Type 0) (held : B → List ℕ) (was now : B) (before after : Passage)
+    (result : Result (Option PcapFault) MarkFault) : Type 0 where
+  pub bounded : IsBounded after.conditioner
+  pub port : after.port ≡ before.port
+  pub turned : tells old → shows was → (bytes first : List ℕ) → IsPassing bytes (left old) first (held was) before
+      → IsTurnedOut after.port bytes (left new) first (held now) after.conditioner after.out.items result
+  pub reads : IfOk result (λ fault. IsOfReads (is_unread_by fault) (failed old) (failed new) (calls new))
+  pub fault : IsEndedWell result
+  pub told : shows was → shows now
+
+-- there is room in a passage for the frames that were read
+abbrev pub IsRoomy : Passage → Type 0
+IsRoomy passage =
+    IsBounded passage.conditioner × (16 * passage.conditioner.counts.records + bytes_of passage.progress ≤ 2 ^ 48)
+
+-- nothing more came into a passage
+pub record IsNoMore (old new : Passage) : Type 0 where
+  pub missing : new.progress.missing ≡ old.progress.missing
+  pub bounded : IsBounded new.conditioner
+  pub few : 16 * new.conditioner.counts.records + bytes_of new.progress
+      ≤ 16 * old.conditioner.counts.records + bytes_of old.progress
+  pub port : new.port ≡ old.port
+
+-- A passage whose frames that were read are taken in, where nothing can be written any more: it is broken off.
+abbrev pub IsUnwrittenOff : Passage → Passage → Result Bool PcapFault → MarkFault → Type 0
+IsUnwrittenOff old new read fault = (bytes more before now text : List ℕ) (gone : List FrameValue)
+    → old.progress.heading ≡ Some old.port.heading → IsReadOn gone bytes more old.progress read
+    → IsConditioned old.port true gone text old.conditioner → IsFrontOf before (old.port.heading.bytes ++ text) now
+    → IsBrokenOff old.port bytes more before now new.conditioner fault

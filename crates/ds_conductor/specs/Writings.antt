@@ -38,3 +38,20 @@ failures_unless well before = if well then before else next_count before
 -- what breaks the marking off: the marked capture could not be written, or memory ran out
 abbrev pub IsBreak : MarkFault → Type 0
 IsBreak fault = (fault ≡ Capture pcap.WriteFault) ⊎ (fault ≡ NoMemory)
+
+-- whether memory ran out
+abbrev pub is_memory : {T : Type 0} → Result T MarkFault → Bool
+is_memory (Err NoMemory) = true
+is_memory _ = false
+
+-- What a device that takes bytes counted, by what turns came to: that it failed once more exactly where that is told.
+-- Where more goes on while it is written to, want of memory can break the turns off as well, and its fault is lost: it
+-- failed once more.
+abbrev pub AreFailures : {T : Type 0} → Bool → Result T MarkFault → ℕ → ℕ → Type 0
+AreFailures false result before now = now ≡ failures_with (is_write_fault result) before
+AreFailures true result before now = (is_memory result ≡ true) × (now ≡ next_count before)
+
+-- whether the fault of a device that takes bytes is lost: it failed, and told is that memory ran out
+abbrev pub is_lost : {T : Type 0} → Result (Unit {0}) MarkFault → Result T MarkFault → Bool
+is_lost (Err (Capture pcap.WriteFault)) result = is_memory result
+is_lost _ result = false

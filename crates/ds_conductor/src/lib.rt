@@ -5,24 +5,21 @@
 //! callers.
 #![tactic(auto)]
 
-mod conditioner;
+mod crew;
 pub mod fault;
-pub mod laws;
+mod feeding;
+mod laning;
 pub mod marking;
-mod port;
-pub mod reading;
-pub mod report;
-pub mod rule;
-mod seeing;
-mod seen;
-pub mod sending;
-mod tally;
-pub mod turning;
+mod run;
+pub mod seeing;
+mod shift;
+mod working;
 pub mod writing;
 
+pub use ds_conditioner::{RedRule, Report, laws};
 pub use ds_conductor_base::{Gate, OpenGate};
 pub use ds_runs::{ConductFault, Conductor, Step, StepFault, conduct};
 pub use fault::MarkFault;
 pub use marking::mark;
-pub use report::Report;
-pub use rule::RedRule;
+pub use seeing::see_all;
+pub use working::mark_by;

@@ -1,50 +1,44 @@
-ghost use Rattle.std.specs.Prelude.{◌≡◌, ◌⊎◌, ℕ, ◌+◌, ◌*◌, ◌<◌, ◌≤◌, ◌^◌, true, false, List, [], ◌++◌, Err, Some, IfErr};
-ghost use Rattle.std.specs.Prelude.{IfOk, MatchResult, Ok, OnErr, OnOk, if◌then◌else◌};
+ghost use Rattle.std.specs.Prelude.{◌≡◌, ◌⊎◌, ℕ, ◌+◌, ◌*◌, ◌<◌, ◌≤◌, ◌^◌, true, false, List, [], ◌++◌, Err};
+ghost use Rattle.std.specs.Prelude.{Some, IfErr};
+ghost use Rattle.std.specs.Prelude.{IfOk, MatchResult, Ok, OnErr, OnOk, if◌then◌else◌, is_ok};
 ghost use Rattle.pcap_capture.specs.Counts.{IsOfReads, next_count};
 ghost use Rattle.pcap_capture.specs.Frames.{FrameValue};
 ghost use Rattle.ds_domain_base.specs.Domains.{is_port};
 ghost use Rattle.pcap_capture.specs.Fronts.{IsFrontOf};
-ghost use Rattle.ds_conductor.specs.Conditionings.{AreSeen, AreSeenInPart, IsBounded, IsConditioned, IsPortOf};
-ghost use Rattle.ds_conductor.specs.Markings.{IsMarked, IsMarkedAs, answer_of, is_broken_off};
+ghost use Rattle.ds_conditioner.specs.Conditionings.{AreSeen, AreSeenInPart, IsBounded, IsConditioned, IsPortOf};
+ghost use Rattle.ds_conductor.specs.Markings.{IsMarked, answer_of, is_broken_off};
 ghost use Rattle.ds_conductor.specs.Markings.{is_unread, is_unwritten};
-ghost use Rattle.ds_conductor.specs.Passings.{IsFinished, IsOnTheWay, IsTurned, IsTurnedOut, IsWell, IsWrittenOn};
+ghost use Rattle.ds_conductor.specs.Passings.{IsBegun, IsEndedWell, IsFinished, IsMadeOf, IsPassage, IsPassing};
+ghost use Rattle.ds_conductor.specs.Passings.{IsReady, IsReadyAfter, IsToldBy, IsTurned, IsTurnedOut};
+ghost use Rattle.ds_conductor.specs.Passings.{IsTurnedTo, IsWell};
+ghost use Rattle.ds_conductor.specs.Passings.{IsWrittenOn};
 ghost use Rattle.ds_conductor.specs.Passings.{IsMarkedAt, is_unread_by, is_unread_in, marking_at, turned_by};
 ghost use Rattle.pcap_capture.specs.Takings.{is_read_fault};
-ghost use Rattle.ds_conductor.specs.Readings.{IsReadOn, IsUnderway, bytes_of, most_bytes};
-ghost use Rattle.ds_conductor.specs.Reports.{nothing_read};
+ghost use Rattle.capture_reader.specs.Readings.{IsReadOn, IsUnderway, bytes_of};
+ghost use Rattle.ds_conditioner.specs.Reports.{nothing_read};
+ghost use Rattle.ds_conditioner.specs.declared.conditioner.Conditioner.{Conditioner};
 ghost use Rattle.ds_conductor.specs.Writings.{IsBreak, IsWrittenTo, failures_with, is_write_fault};
 
-use crate::conditioner::Conditioner;
 use crate::fault::MarkFault;
-use crate::port::Port;
-use crate::reading::{Progress, is_starved, read_heading, read_piece};
-use crate::report::Report;
-use crate::rule::RedRule;
-use crate::turning::take_turn_beside;
 use crate::writing::write_on;
+use capture_reader::{Progress, is_starved, read_heading, read_piece};
 use ds_checker::Accepted;
+use ds_conditioner::{Conditioner, Port, RedRule, Report};
 use ds_conductor_base::Gate;
 use ds_domain_base::Name;
 use pcap_capture::{Heading, Intake, Outlet, PcapFault};
 use run_audit::Verdict;
 use std::alloc::{AllocError, Global};
-use std::thread::{Threads, available_parallelism};
 
 /// Marks a capture: each IPv4 frame that a contract of the port takes passes the meters of its contract's path, and
 /// leaves with the code point of its contract's class and the colour of its last meter (RFC 2597 section 6), or under
 /// `RedRule::Drop` not at all where that is red.
 ///
-/// The capture is read in pieces of at most 65,536 bytes. A frame is sent at the greatest stamp so far and comes to each
-/// hop after the floors of the links; the visits are made in the order of moment, record and hop, the gate being called
-/// round each with worker 0, as soon as no later record can come before them. A frame is written as soon as its colour
-/// is decided, before more is read: the heading and each record stand as they came but for the marks. What is held are
-/// the frames whose last visit is still to come, and one piece.
-///
-/// Several workers, of which there are at most as many as the machine has processors, do the same, and what is written
-/// and told is the same for every number of them: they read 16 pieces at once, make the visits that are due while the
-/// next pieces are read, and see frames while others are marked. Behind a piece that is not full, as a pipe gives them,
-/// all that is decided is written before more is read. Where no thread can be started, the work is done by the one that
-/// is there. 0 workers are one.
+/// The capture is read in pieces of at most 65,536 bytes. A frame is sent at the greatest stamp so far and comes to
+/// each hop after the floors of the links; the visits are made in the order of moment, record and hop, the gate being
+/// called round each with worker 0, as soon as no later record can come before them. A frame is written as soon as its
+/// colour is decided, before more is read: the heading and each record stand as they came but for the marks. What is
+/// held are the frames whose last visit is still to come, and one piece.
 ///
 /// At its end the report has the verdict of the audit on the run behind the capture: the visits of what was sent make
 /// it, and each packet left its last meter there with the colour that its frame is marked with. Where that is `Kept`,
@@ -57,12 +51,10 @@ use std::thread::{Threads, available_parallelism};
 /// bytes, and what it gave before cannot be written whole, that is what is answered: a read fault says that all of it
 /// stands there. The device's own count tells that it failed. A device that is spent cannot be read either. It never
 /// answers `JournalFull`: no journal is kept.
-pub fn mark<R: Threads + Sync, I: Intake, O: Outlet, G: Gate>(
-    rt: &R,
+pub fn mark<I: Intake, O: Outlet, G: Gate>(
     alloc: Global,
     accepted: &Accepted,
     port: &str,
-    workers: u32,
     red: RedRule,
     intake: &mut I,
     outlet: &mut O,
@@ -83,146 +75,116 @@ pub fn mark<R: Threads + Sync, I: Intake, O: Outlet, G: Gate>(
         → IsOfReads (is_unread result) (I.failed intake.old) (I.failed intake.new) (I.calls intake.new) }
     ensures few { IfOk result (λ report. report.records ≤ 2 ^ 44) }
 {
-    let Some(port) = accepted.domain().port_named(port) else {
+    let mut passage = match begin(alloc, accepted, port, red, intake) {
+        Ok(passage) => passage,
+        Err(refused) => return Err(refused),
+    };
+    let turned = turn_all(alloc, &mut passage, intake, outlet, gate);
+    passage.conditioner.make_all(gate);
+    end(&mut passage, turned, outlet)
+}
+
+/// A capture on its way through a port, from its heading on.
+#[derive(Drop)]
+pub(crate) struct Passage<'a> {
+    pub port: Port<'a>,
+    pub conditioner: Conditioner<'a>,
+    /// What is collected to be written.
+    pub out: Vec<u8>,
+    pub progress: Progress,
+}
+
+/// Reads the heading of a capture that is to be marked at a port, and makes ready for what stands behind it.
+pub(crate) fn begin<'a, I: Intake>(
+    alloc: Global,
+    accepted: &'a Accepted,
+    port: &str,
+    red: RedRule,
+    intake: &mut I,
+) -> Result<Passage<'a>, (Report, MarkFault)>
+    ensures begun { IfOk result (λ passage. I.tells intake.old → (held : List ℕ) → IsBegun accepted.now port.now red
+        (I.left intake.old) (I.left intake.new) held passage) }
+    ensures ready { IfOk result (λ passage. IsReady passage (I.calls intake.new)) }
+    ensures refused { IfErr result (λ refused. I.tells intake.old → (held : List ℕ) →
+        IsMarked accepted.now port.now red (I.left intake.old) (I.left intake.new) held held (Err refused)) }
+    ensures unknown { is_port accepted.now.domain port.now ≡ false
+        → (result ≡ Err (nothing_read, MarkFault.UnknownPort)) × (intake.new ≡ intake.old) }
+    ensures known { is_port accepted.now.domain port.now ≡ true
+        → IfErr result (λ refused. ¬ (refused.1 ≡ MarkFault.UnknownPort)) }
+    ensures unwritten { IfErr result (λ refused. is_unwritten (Err refused) ≡ false) }
+    ensures told { I.tells intake.old → I.tells intake.new }
+    ensures reads { MatchResult result (λ _. I.failed intake.new ≡ I.failed intake.old)
+        (λ refused. is_broken_off (Err refused) ≡ false
+        → IsOfReads (is_unread (Err refused)) (I.failed intake.old) (I.failed intake.new) (I.calls intake.new)) }
+{
+    let Some(name) = accepted.domain().port_named(port) else {
         return Err((Report::nothing(), MarkFault::UnknownPort));
     };
     let mut progress = Progress::begin(alloc);
     match read_heading(alloc, intake, &mut progress) {
-        Ok(heading) => mark_behind(
-            rt,
-            alloc,
-            workers_here(rt, workers),
-            accepted,
-            port,
-            heading,
-            red,
-            &mut progress,
-            intake,
-            outlet,
-            gate,
-        ),
+        Ok(heading) => match make_passage(alloc, accepted, name, heading, red, progress) {
+            Ok(passage) => Ok(passage),
+            Err(_) => Err((Report::nothing(), MarkFault::NoMemory)),
+        },
         Err(fault) => Err((Report::nothing(), MarkFault::of_reading(fault))),
     }
 }
 
-/// Marks the records behind a heading.
-fn mark_behind<R: Threads + Sync, I: Intake, O: Outlet, G: Gate>(
-    rt: &R,
+/// Makes ready for the records behind a heading that was read. `AllocError` where memory runs out.
+fn make_passage<'a>(
     alloc: Global,
-    workers: u32,
-    accepted: &Accepted,
+    accepted: &'a Accepted,
     name: Name,
     heading: Heading,
     red: RedRule,
-    progress: &mut Progress,
-    intake: &mut I,
-    outlet: &mut O,
-    gate: &G,
-) -> Result<Report, (Report, MarkFault)>
-    requires missing { progress.old.missing ≤ 24 }
-    requires few { most_bytes progress.old (I.calls intake.old) ≤ 2 ^ 48 }
-    ensures marked { I.tells intake.old → O.tells outlet.old → (bytes : List ℕ)
-        → IsUnderway [] bytes (I.left intake.old) progress.old → progress.old.heading ≡ Some heading
-        → IsMarkedAs accepted.now name red bytes (I.left intake.new) (O.held outlet.old) (O.held outlet.new) result }
-    ensures writes { O.failed outlet.new
-        ≡ (if is_unwritten result then next_count (O.failed outlet.old) else O.failed outlet.old) }
-    ensures known { IfErr result (λ refused. ¬ (refused.1 ≡ MarkFault.UnknownPort)) }
-    ensures few { IfOk result (λ report. report.records ≤ 2 ^ 44) }
-    ensures reads { is_broken_off result ≡ false
-        → IsOfReads (is_unread result) (I.failed intake.old) (I.failed intake.new) (I.calls intake.new) }
+    progress: Progress,
+) -> Result<Passage<'a>, AllocError>
+    ensures begun { IfOk result (λ passage. (bytes more held : List ℕ) → IsUnderway [] bytes more progress
+        → progress.heading ≡ Some heading
+        → IsPassage accepted.now name red bytes more held passage) }
+    ensures progress { IfOk result (λ passage. passage.progress ≡ progress) }
+    ensures bounded { IfOk result (λ passage. IsBounded passage.conditioner) }
+    ensures records { IfOk result (λ passage. passage.conditioner.counts.records ≡ 0) }
 {
-    let Ok(port) = Port::new(alloc, accepted, name, heading, red) else {
-        return Err((Report::nothing(), MarkFault::NoMemory));
-    };
-    mark_at(rt, alloc, workers, &port, progress, intake, outlet, gate)
-}
-
-/// Marks the records behind the heading of a port.
-fn mark_at<R: Threads + Sync, I: Intake, O: Outlet, G: Gate>(
-    rt: &R,
-    alloc: Global,
-    workers: u32,
-    port: &Port<'_>,
-    progress: &mut Progress,
-    intake: &mut I,
-    outlet: &mut O,
-    gate: &G,
-) -> Result<Report, (Report, MarkFault)>
-    requires missing { progress.old.missing ≤ 24 }
-    requires few { most_bytes progress.old (I.calls intake.old) ≤ 2 ^ 48 }
-    ensures marked { I.tells intake.old → O.tells outlet.old → (name bytes : List ℕ) → IsPortOf port.now name
-        → IsUnderway [] bytes (I.left intake.old) progress.old → progress.old.heading ≡ Some port.now.heading
-        → IsMarkedAt port.now name bytes (I.left intake.new) (O.held outlet.old) (O.held outlet.new) result }
-    ensures writes { O.failed outlet.new
-        ≡ (if is_unwritten result then next_count (O.failed outlet.old) else O.failed outlet.old) }
-    ensures known { IfErr result (λ refused. ¬ (refused.1 ≡ MarkFault.UnknownPort)) }
-    ensures few { IfOk result (λ report. report.records ≤ 2 ^ 44) }
-    ensures reads { is_broken_off result ≡ false
-        → IsOfReads (is_unread result) (I.failed intake.old) (I.failed intake.new) (I.calls intake.new) }
-{
-    let Ok(mut out) = Vec::from_array(alloc, port.heading.bytes) else {
-        return Err((Report::nothing(), MarkFault::NoMemory));
-    };
-    let Ok(mut conditioner) = Conditioner::new(alloc, port.accepted) else {
-        return Err((Report::nothing(), MarkFault::NoMemory));
-    };
-    mark_through(
-        rt,
-        alloc,
-        workers,
-        port,
-        &mut conditioner,
-        &mut out,
-        progress,
-        intake,
-        outlet,
-        gate,
-    )
-}
-
-/// Marks the records that are still to come, and tells the report of all.
-fn mark_through<R: Threads + Sync, I: Intake, O: Outlet, G: Gate>(
-    rt: &R,
-    alloc: Global,
-    workers: u32,
-    port: &Port<'_>,
-    conditioner: &mut Conditioner<'_>,
-    out: &mut Vec<u8>,
-    progress: &mut Progress,
-    intake: &mut I,
-    outlet: &mut O,
-    gate: &G,
-) -> Result<Report, (Report, MarkFault)>
-    requires missing { progress.old.missing ≤ 24 }
-    requires bounded { IsBounded conditioner.old }
-    requires few { 16 * conditioner.old.counts.records + most_bytes progress.old (I.calls intake.old) ≤ 2 ^ 48 }
-    ensures marked { I.tells intake.old → O.tells outlet.old → (name bytes before : List ℕ) → IsPortOf port.now name
-        → IsOnTheWay port.now bytes (I.left intake.old) before (O.held outlet.old) progress.old conditioner.old
-        out.old.items
-        → IsMarkedAt port.now name bytes (I.left intake.new) before (O.held outlet.new) result }
-    ensures writes { O.failed outlet.new
-        ≡ (if is_unwritten result then next_count (O.failed outlet.old) else O.failed outlet.old) }
-    ensures known { IfErr result (λ refused. ¬ (refused.1 ≡ MarkFault.UnknownPort)) }
-    ensures few { IfOk result (λ report. report.records ≤ 2 ^ 44) }
-    ensures reads { is_broken_off result ≡ false
-        → IsOfReads (is_unread result) (I.failed intake.old) (I.failed intake.new) (I.calls intake.new) }
-{
-    let turned = turn_all(
-        rt,
-        alloc,
-        workers,
+    let port = Port::new(alloc, accepted, name, heading, red)?;
+    let out = Vec::from_array(alloc, heading.bytes)?;
+    let conditioner = Conditioner::new(alloc, accepted)?;
+    Ok(Passage {
         port,
         conditioner,
         out,
         progress,
-        intake,
-        outlet,
-        gate,
-    );
-    conditioner.make_all(gate);
+    })
+}
+
+/// Ends a capture whose turns came to this, once all visits are made: writes what is left, or tells what broke it off.
+pub(crate) fn end<O: Outlet>(
+    passage: &mut Passage<'_>,
+    turned: Result<Option<PcapFault>, MarkFault>,
+    outlet: &mut O,
+) -> Result<Report, (Report, MarkFault)>
+    requires bounded { IsBounded passage.old.conditioner }
+    requires none_left { passage.old.conditioner.under_way.waiting ≡ [] }
+    requires fault { IsEndedWell turned }
+    ensures marked { O.tells outlet.old → (was : Conditioner) (name bytes more before : List ℕ)
+        → IsPortOf passage.old.port name → IsMadeOf passage.old.port was passage.old.conditioner
+        → IsTurnedOut passage.old.port bytes more before (O.held outlet.old) was passage.old.out.items turned
+        → IsMarkedAt passage.old.port name bytes more before (O.held outlet.new) result }
+    ensures writes { O.failed outlet.new
+        ≡ (if is_ok turned then failures_with (is_unwritten result) (O.failed outlet.old) else O.failed outlet.old) }
+    ensures told { IsToldBy turned result }
+    ensures known { IfErr result (λ refused. ¬ (refused.1 ≡ MarkFault.UnknownPort)) }
+    ensures few { IfOk result (λ report. report.records ≤ 2 ^ 44) }
+{
     match turned {
-        Ok(fault) => finish(port, conditioner, out, fault, outlet),
-        Err(fault) => Err((conditioner.report(port), fault)),
+        Ok(fault) => finish(
+            &passage.port,
+            &mut passage.conditioner,
+            &mut passage.out,
+            fault,
+            outlet,
+        ),
+        Err(fault) => Err((passage.conditioner.report(&passage.port), fault)),
     }
 }
 
@@ -286,139 +248,49 @@ pub(crate) enum Turn {
 
 /// Takes turns until the capture ends, or its reading does by a fault, which is answered; a fault of the other device,
 /// and want of memory, break it off.
-fn turn_all<R: Threads + Sync, I: Intake, O: Outlet, G: Gate>(
-    rt: &R,
+fn turn_all<I: Intake, O: Outlet, G: Gate>(
     alloc: Global,
-    workers: u32,
-    port: &Port<'_>,
-    conditioner: &mut Conditioner<'_>,
-    out: &mut Vec<u8>,
-    progress: &mut Progress,
+    passage: &mut Passage<'_>,
     intake: &mut I,
     outlet: &mut O,
     gate: &G,
 ) -> Result<Option<PcapFault>, MarkFault>
-    requires missing { progress.old.missing ≤ 24 }
-    requires bounded { IsBounded conditioner.old }
-    requires few { 16 * conditioner.old.counts.records + most_bytes progress.old (I.calls intake.old) ≤ 2 ^ 48 }
-    ensures bounded { IsBounded conditioner.new }
+    requires { IsReady passage.old (I.calls intake.old) }
+    ensures bounded { IsBounded passage.new.conditioner }
+    ensures port { passage.new.port ≡ passage.old.port }
     ensures turned { I.tells intake.old → O.tells outlet.old → (bytes before : List ℕ)
-        → IsOnTheWay port.now bytes (I.left intake.old) before (O.held outlet.old) progress.old conditioner.old
-        out.old.items
-        → IsTurnedOut port.now bytes (I.left intake.new) before (O.held outlet.new) conditioner.new out.new.items result }
+        → IsPassing bytes (I.left intake.old) before (O.held outlet.old) passage.old
+        → IsTurnedOut passage.new.port bytes (I.left intake.new) before (O.held outlet.new) passage.new.conditioner
+        passage.new.out.items result }
     ensures reads { IfOk result (λ fault.
         IsOfReads (is_unread_by fault) (I.failed intake.old) (I.failed intake.new) (I.calls intake.new)) }
-    ensures fault { MatchResult result
-        (λ fault. (¬ (fault ≡ Some PcapFault.WriteFault)) × (¬ (fault ≡ Some PcapFault.NoMemory)))
-        (λ fault. (fault ≡ MarkFault.Capture PcapFault.WriteFault) ⊎ (fault ≡ MarkFault.NoMemory)) }
+    ensures fault { IsEndedWell result }
     ensures told { O.tells outlet.old → O.tells outlet.new }
     ensures failures { O.failed outlet.new ≡ failures_with (is_write_fault result) (O.failed outlet.old) }
 {
     loop {
-        let turn = take_turn_by(
-            rt,
-            alloc,
-            workers,
-            port,
-            conditioner,
-            out,
-            progress,
-            intake,
-            outlet,
-            gate,
-        )?;
-        match turn {
+        match take_turn(alloc, passage, intake, outlet, gate)? {
             Turn::More => {}
             Turn::Ended(fault) => return Ok(fault),
         }
     }
 }
 
-/// Takes a turn by so many workers. Frames that are read whole already are seen by one.
-fn take_turn_by<R: Threads + Sync, I: Intake, O: Outlet, G: Gate>(
-    rt: &R,
-    alloc: Global,
-    workers: u32,
-    port: &Port<'_>,
-    conditioner: &mut Conditioner<'_>,
-    out: &mut Vec<u8>,
-    progress: &mut Progress,
-    intake: &mut I,
-    outlet: &mut O,
-    gate: &G,
-) -> Result<Turn, MarkFault>
-    requires missing { progress.old.missing ≤ 24 }
-    requires bounded { IsBounded conditioner.old }
-    requires few { 16 * conditioner.old.counts.records + most_bytes progress.old (I.calls intake.old) ≤ 2 ^ 48 }
-    ensures missing { progress.new.missing ≤ progress.old.missing }
-    ensures bounded { IsBounded conditioner.new }
-    ensures few { 16 * conditioner.new.counts.records + most_bytes progress.new (I.calls intake.new)
-        ≤ 16 * conditioner.old.counts.records + most_bytes progress.old (I.calls intake.old) }
-    ensures fewer { result ≡ Ok Turn.More → I.calls intake.new < I.calls intake.old }
-    ensures turned { I.tells intake.old → O.tells outlet.old → (bytes before : List ℕ)
-        → IsOnTheWay port.now bytes (I.left intake.old) before (O.held outlet.old) progress.old conditioner.old
-        out.old.items
-        → IsTurned port.now bytes (I.left intake.new) before (O.held outlet.new) progress.new conditioner.new
-        out.new.items result }
-    ensures reads { IfOk result (λ turn.
-        IsOfReads (is_unread_in turn) (I.failed intake.old) (I.failed intake.new) (I.calls intake.new)) }
-    ensures fault { MatchResult result IsWell IsBreak }
-    ensures taken { I.tells intake.old → I.tells intake.new }
-    ensures told { O.tells outlet.old → O.tells outlet.new }
-    ensures failures { O.failed outlet.new ≡ failures_with (is_write_fault result) (O.failed outlet.old) }
-{
-    if workers > 1 && progress.is_empty() {
-        let seers = workers as usize - 1;
-        take_turn_beside(
-            rt,
-            alloc,
-            seers,
-            port,
-            conditioner,
-            out,
-            progress,
-            intake,
-            outlet,
-            gate,
-        )
-    } else {
-        take_turn(
-            alloc,
-            port,
-            conditioner,
-            out,
-            progress,
-            intake,
-            outlet,
-            gate,
-        )
-    }
-}
-
 /// Reads a piece, sees its frames, makes the visits that are due then, and writes the frames that are decided.
-fn take_turn<I: Intake, O: Outlet, G: Gate>(
+pub(crate) fn take_turn<I: Intake, O: Outlet, G: Gate>(
     alloc: Global,
-    port: &Port<'_>,
-    conditioner: &mut Conditioner<'_>,
-    out: &mut Vec<u8>,
-    progress: &mut Progress,
+    passage: &mut Passage<'_>,
     intake: &mut I,
     outlet: &mut O,
     gate: &G,
 ) -> Result<Turn, MarkFault>
-    requires missing { progress.old.missing ≤ 24 }
-    requires bounded { IsBounded conditioner.old }
-    requires few { 16 * conditioner.old.counts.records + most_bytes progress.old (I.calls intake.old) ≤ 2 ^ 48 }
-    ensures missing { progress.new.missing ≤ progress.old.missing }
-    ensures bounded { IsBounded conditioner.new }
-    ensures few { 16 * conditioner.new.counts.records + most_bytes progress.new (I.calls intake.new)
-        ≤ 16 * conditioner.old.counts.records + most_bytes progress.old (I.calls intake.old) }
+    requires { IsReady passage.old (I.calls intake.old) }
+    ensures ready { IsReadyAfter passage.old (I.calls intake.old) passage.new (I.calls intake.new) }
+    ensures port { passage.new.port ≡ passage.old.port }
     ensures fewer { result ≡ Ok Turn.More → I.calls intake.new < I.calls intake.old }
     ensures turned { I.tells intake.old → O.tells outlet.old → (bytes before : List ℕ)
-        → IsOnTheWay port.now bytes (I.left intake.old) before (O.held outlet.old) progress.old conditioner.old
-        out.old.items
-        → IsTurned port.now bytes (I.left intake.new) before (O.held outlet.new) progress.new conditioner.new
-        out.new.items result }
+        → IsPassing bytes (I.left intake.old) before (O.held outlet.old) passage.old
+        → IsTurnedTo bytes (I.left intake.new) before (O.held outlet.new) passage.new result }
     ensures reads { IfOk result (λ turn.
         IsOfReads (is_unread_in turn) (I.failed intake.old) (I.failed intake.new) (I.calls intake.new)) }
     ensures fault { MatchResult result IsWell IsBreak }
@@ -426,8 +298,17 @@ fn take_turn<I: Intake, O: Outlet, G: Gate>(
     ensures told { O.tells outlet.old → O.tells outlet.new }
     ensures failures { O.failed outlet.new ≡ failures_with (is_write_fault result) (O.failed outlet.old) }
 {
-    let read = read_piece(alloc, intake, progress);
-    pass_on(alloc, port, conditioner, out, progress, outlet, gate, read)
+    let read = read_piece(alloc, intake, &mut passage.progress);
+    pass_on(
+        alloc,
+        &passage.port,
+        &mut passage.conditioner,
+        &mut passage.out,
+        &mut passage.progress,
+        outlet,
+        gate,
+        read,
+    )
 }
 
 /// Passes on what reading came to: sees the frames that are read whole, and as long as more may come, makes the visits
@@ -475,7 +356,7 @@ pub(crate) fn pass_on<O: Outlet, G: Gate>(
 }
 
 /// Sees the frames that are read whole and takes them out, also where memory runs out and only a front of them is seen.
-fn see_read(
+pub(crate) fn see_read(
     alloc: Global,
     port: &Port<'_>,
     conditioner: &mut Conditioner<'_>,
@@ -489,11 +370,11 @@ fn see_read(
     ensures missing { progress.new.missing ≡ progress.old.missing }
     ensures heading { progress.new.heading ≡ progress.old.heading }
     ensures read { (gone : List FrameValue) (bytes more : List ℕ) → IsUnderway gone bytes more progress.old
-        → IsUnderway (gone ++ progress.old.frames.items) bytes more progress.new }
-    ensures seen { AreSeen result port.now conditioner.old conditioner.new progress.old.frames.items }
-    ensures unseen { AreSeenInPart result port.now conditioner.old conditioner.new progress.old.frames.items }
+        → IsUnderway (gone ++ progress.old.piece) bytes more progress.new }
+    ensures seen { AreSeen result port.now conditioner.old conditioner.new progress.old.piece }
+    ensures unseen { AreSeenInPart result port.now conditioner.old conditioner.new progress.old.piece }
 {
-    conditioner.see_all(port, progress.take_frames(alloc))
+    conditioner.see_all(port, progress.take_piece(alloc))
 }
 
 /// Makes the visits that are due, and writes the frames that are decided then.
@@ -525,12 +406,4 @@ fn ended_by(fault: PcapFault) -> Result<Turn, MarkFault>
         return Err(MarkFault::NoMemory);
     }
     Ok(Turn::Ended(Some(fault)))
-}
-
-/// How many of so many workers the machine has processors for; all of them where that is not known.
-fn workers_here<R: Threads>(rt: &R, workers: u32) -> u32 {
-    match available_parallelism(rt) {
-        Ok(processors) => workers.min(u32::try_from(processors.get()).unwrap_or(u32::MAX)),
-        Err(_) => workers,
-    }
 }

@@ -60,7 +60,7 @@ audit-no_text : (files : Option (List ℕ × List ℕ)) (text : String Global) �
 audit-no_text None text e = cc
 audit-no_text (Some f) text e = cc
 
-mark_with-no_text : (files : Option (List ℕ × List ℕ)) (marking : Option (List ℕ × ℕ × Bool)) (text : String Global)
+mark_with-no_text : (files : Option (List ℕ × List ℕ)) (marking : Option (List ℕ × Option ℕ × Bool)) (text : String Global)
     → (files >>= (λ f. marking >>= (λ m. Some (Mark f.0 f.1 m.0 m.1 m.2)))) ≡ Some (Show text) → ⊥
 mark_with-no_text None marking text e = cc
 mark_with-no_text (Some f) None text e = cc

@@ -146,12 +146,13 @@ quote_given given = do
 abbrev pub workers_said : List ℕ → Option ℕ
 workers_said = number_within 1 64
 
--- and one where none are given
-abbrev pub workers_asked : Option (List ℕ) → Option ℕ
-workers_asked None = Some 1
-workers_asked (Some text) = workers_said text
+-- how many workers are asked for: none where it is left to the program
+abbrev pub workers_asked : Option (List ℕ) → Option (Option ℕ)
+workers_asked None = Some None
+workers_asked (Some text) = workers_said text >>= (λ workers. Some (Some workers))
 
-abbrev pub workers_given : Given → Option ℕ
+-- how many workers the options of `mark` ask for, likewise
+abbrev pub workers_given : Given → Option (Option ℕ)
 workers_given given = workers_asked (given (codes "workers"))
 
 -- whether red frames are kept, or dropped
@@ -161,8 +162,8 @@ red_said text =
     else if bytes_eq text (codes "drop") then Some false
     else None
 
--- the port of a marking, how many workers mark, and whether it keeps red frames
-unfoldable pub marking_given : Given → Option (List ℕ × ℕ × Bool)
+-- the port of a marking, how many workers mark, if that is said, and whether it keeps red frames
+unfoldable pub marking_given : Given → Option (List ℕ × Option ℕ × Bool)
 marking_given given = do
   port ← given (codes "port")
   workers ← workers_given given

@@ -195,7 +195,7 @@ const COMMANDS: &[CommandEntry] = &[
                 form: Form::Choice,
                 name: "workers",
                 value: "WORKERS",
-                help: "how many workers mark, 1 to 64 [default: 1]",
+                help: "how many workers mark, 1 to 64 [default: as many as gain, at most 4]",
             },
             ArgumentEntry {
                 form: Form::Needed,

@@ -83,9 +83,10 @@ fn field_in(options: &ArgMatches<'_>) -> Option<Field>
     Field::named(word.as_bytes())
 }
 
-/// The port, how many workers, and whether red frames are kept, that the options of `mark` ask for.
+/// The port, how many workers, and whether red frames are kept, that the options of `mark` ask for: workers, none where
+/// they leave that to the program.
 #[tactic(auto, unfolding(crate::specs::Options::marking_given))]
-pub(crate) fn marking_in<'a>(options: &ArgMatches<'a>) -> Option<(GivenName<'a>, u32, bool)>
+pub(crate) fn marking_in<'a>(options: &ArgMatches<'a>) -> Option<(GivenName<'a>, Option<u32>, bool)>
     ensures { result ≡ marking_given (given_by (rows_of (found_of options.now))) }
 {
     let port = name_in(options, "port")?;
@@ -94,8 +95,8 @@ pub(crate) fn marking_in<'a>(options: &ArgMatches<'a>) -> Option<(GivenName<'a>,
     Some((port, workers, keeps_red))
 }
 
-/// How many workers the options of `mark` ask for, if that is 1 to 64.
-pub(crate) fn workers_in(options: &ArgMatches<'_>) -> Option<u32>
+/// How many workers the options of `mark` ask for, if that is 1 to 64: none where they leave it to the program.
+pub(crate) fn workers_in(options: &ArgMatches<'_>) -> Option<Option<u32>>
     ensures { result ≡ workers_given (given_by (rows_of (found_of options.now))) }
 {
     workers_asked_by(text_in(options, "workers"))
@@ -207,13 +208,13 @@ fn mode_said_by(text: &str) -> Option<Mode>
     }
 }
 
-/// How many workers are asked for: 1 where none are given.
-fn workers_asked_by(text: Option<&str>) -> Option<u32>
+/// How many workers are asked for, if that is 1 to 64: none where no text says it.
+fn workers_asked_by(text: Option<&str>) -> Option<Option<u32>>
     ensures { result ≡ workers_asked (option_map (λ text. text.now) text.entry) }
 {
     match text {
-        Some(text) => workers_said_by(text),
-        None => Some(1),
+        Some(text) => Some(Some(workers_said_by(text)?)),
+        None => Some(None),
     }
 }
 

@@ -67,8 +67,8 @@ pub enum Plan<'a> {
         certificate: GivenName<'a>,
         /// The port that the frames come in at.
         port: GivenName<'a>,
-        /// How many workers mark: 1 to 64.
-        workers: u32,
+        /// How many workers mark: 1 to 64, or as many as the machine gains from where that is left out.
+        workers: Option<u32>,
         /// Whether red frames stay in the capture, or are left out.
         keeps_red: bool,
     },

@@ -6,7 +6,7 @@ use Rattle.pcap_capture.specs.Counts.{next_count}
 use Rattle.pcap_capture.specs.Fronts.{IsFrontOf}
 use Rattle.pcap_capture.proofs.FrontLaws.{IsFrontOf-first, IsFrontOf-given, IsFrontOf-second}
 use Rattle.dsedge_serve.specs.Served.{IsTold}
-use Rattle.ds_conductor.specs.declared.report.Report.{Report}
+use Rattle.ds_conditioner.specs.declared.report.Report.{Report}
 use Rattle.ds_domain_base.specs.Faults.{field_text, kind_code, section_text}
 use Rattle.ds_domain_base.specs.declared.fault.DomainFault.{DomainFault}
 use Rattle.dsedge_texts.specs.Wording.{kind_text}

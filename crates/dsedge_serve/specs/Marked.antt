@@ -1,13 +1,13 @@
 -- What `mark` writes and tells.
-use Rattle.std.specs.Prelude.{◌≡◌, ◌⊎◌, ℕ, Bool, true, false, List, [], ◌∷◌, ◌++◌, flat_map, Option, None, Some, Result, Ok, Err, codes, decimal, slice_index}
+use Rattle.std.specs.Prelude.{◌≡◌, ◌⊎◌, ℕ, Bool, true, false, List, [], ◌∷◌, ◌++◌, flat_map, nat_lt, Option, None, Some, Result, Ok, Err, codes, decimal, slice_index}
 use Rattle.pcap_capture.specs.declared.fault.PcapFault.{PcapFault}
 use Rattle.pcap_capture.specs.declared.fault.PcapFault.TheVariants as pcaps
-use Rattle.ds_conductor.specs.Markings.{IsMarked}
+use Rattle.ds_conductor.specs.Markings.{IsMarkedBy}
 use Rattle.ds_conductor.specs.declared.fault.MarkFault.{MarkFault}
 use Rattle.ds_conductor.specs.declared.fault.MarkFault.TheVariants as marks
-use Rattle.ds_conductor.specs.declared.report.Report.{Report}
-use Rattle.ds_conductor.specs.declared.rule.RedRule.{RedRule}
-use Rattle.ds_conductor.specs.declared.rule.RedRule.TheVariants.{Drop, Keep}
+use Rattle.ds_conditioner.specs.declared.report.Report.{Report}
+use Rattle.ds_conditioner.specs.declared.rule.RedRule.{RedRule}
+use Rattle.ds_conditioner.specs.declared.rule.RedRule.TheVariants.{Drop, Keep}
 use Rattle.ds_checker.specs.Acceptance.{Table}
 use Rattle.dsedge_lines.specs.declared.fault.PumpFault.{PumpFault}
 use Rattle.dsedge_lines.specs.declared.fault.PumpFault.TheVariants as pump_faults
@@ -98,11 +98,17 @@ refusal_outcome (tables.Domain fault) = Ok (Unsound fault)
 refusal_outcome (tables.Certificate fault) = Ok (Uncertified fault)
 refusal_outcome tables.NoMemory = Err pump_faults.NoMemory
 
--- The capture of an accepted table was marked, with this report and this fault.
-abbrev pub IsMarkedOver : Result Table TableFault → List ℕ → RedRule → List ℕ → List ℕ → Report → Option MarkFault
-    → List ℕ → List ℕ → Type 0
-IsMarkedOver found port red bytes more report fault before after =
-    (table : Table) × (found ≡ Ok table) × IsMarked table port red bytes more before after (marking_answer report fault)
+-- Whether one worker is asked for. Where it is left to the program how many mark, several may.
+abbrev pub is_sole : Option ℕ → Bool
+is_sole None = false
+is_sole (Some workers) = nat_lt workers 2
+
+-- The capture of an accepted table was marked, by one worker or by several, with this report and this fault.
+abbrev pub IsMarkedOver : Bool → Result Table TableFault → List ℕ → RedRule → List ℕ → List ℕ → Report
+    → Option MarkFault → List ℕ → List ℕ → Type 0
+IsMarkedOver sole found port red bytes more report fault before after =
+    (table : Table) × (found ≡ Ok table)
+    × IsMarkedBy sole table port red bytes more before after (marking_answer report fault)
 
 -- Nothing was written: no table is accepted, for what stands against it; or memory ran out.
 abbrev pub IsUnmarked : Result Table TableFault → Result Conclusion PumpFault → List ℕ → List ℕ → Type 0

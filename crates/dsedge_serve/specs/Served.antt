@@ -10,9 +10,9 @@ use Rattle.ds_domain_base.specs.Domains.{Domain, is_port}
 use Rattle.ds_domain_base.specs.declared.contract.Contract.{Contract}
 use Rattle.ds_domain_base.specs.declared.fault.DomainFault.{DomainFault}
 use Rattle.ds_conductor.specs.Markings.{is_broken_off as is_marking_broken_off, is_unread, is_unwritten}
-use Rattle.ds_conductor.specs.Reports.{nothing_read}
+use Rattle.ds_conditioner.specs.Reports.{nothing_read}
 use Rattle.ds_conductor.specs.declared.fault.MarkFault.TheVariants as marks
-use Rattle.ds_conductor.specs.declared.rule.RedRule.{RedRule}
+use Rattle.ds_conditioner.specs.declared.rule.RedRule.{RedRule}
 use Rattle.dsedge_lines.specs.Answers.{Answer}
 use Rattle.dsedge_lines.specs.declared.command.Ending.TheVariants as endings
 use Rattle.dsedge_lines.specs.declared.fault.PumpFault.{PumpFault}
@@ -37,7 +37,7 @@ use Rattle.dsedge_serve.specs.declared.conclusion.Conclusion.TheVariants.{Ended,
 use Rattle.dsedge_serve.specs.declared.fault.Fault.TheVariants as faults
 use Rattle.pcap_capture.specs.Fronts.{IsFrontOf}
 use Rattle.dsedge_serve.specs.Faults.{fault_text, notice_text, status_of}
-use Rattle.dsedge_serve.specs.Marked.{IsMarkedOver, IsUnmarked, marking_answer, marking_status, marking_told, refusal_outcome, rule_said}
+use Rattle.dsedge_serve.specs.Marked.{IsMarkedOver, IsUnmarked, is_sole, marking_answer, marking_status, marking_told, refusal_outcome, rule_said}
 use Rattle.dsedge_serve.specs.declared.notice.Notice.{Notice}
 use Rattle.dsedge_serve.specs.declared.notice.Notice.TheVariants as notices
 use Rattle.dsedge_serve.specs.declared.outcome.Outcome.{Outcome}
@@ -119,14 +119,14 @@ IsReplied reply Unnamed before after = ⊥
 IsReplied reply Misused before after = ⊥
 IsReplied reply (Marked report fault) before after = ⊥
 
--- a capture was marked at this port of a table, if that is accepted
-abbrev pub IsMarkedAt : Result Table TableFault → List ℕ → RedRule → List ℕ → List ℕ → Outcome → List ℕ → List ℕ
-    → Type 0
-IsMarkedAt found port red bytes more (Answered outcome) before after = IsUnmarked found outcome before after
-IsMarkedAt found port red bytes more Unnamed before after = ⊥
-IsMarkedAt found port red bytes more Misused before after = ⊥
-IsMarkedAt found port red bytes more (Marked report fault) before after =
-    IsMarkedOver found port red bytes more report fault before after
+-- a capture was marked at this port of a table, if that is accepted, by one worker or by several
+abbrev pub IsMarkedAt : Bool → Result Table TableFault → List ℕ → RedRule → List ℕ → List ℕ → Outcome → List ℕ
+    → List ℕ → Type 0
+IsMarkedAt sole found port red bytes more (Answered outcome) before after = IsUnmarked found outcome before after
+IsMarkedAt sole found port red bytes more Unnamed before after = ⊥
+IsMarkedAt sole found port red bytes more Misused before after = ⊥
+IsMarkedAt sole found port red bytes more (Marked report fault) before after =
+    IsMarkedOver sole found port red bytes more report fault before after
 
 -- a quote was answered, or the fault of the domain's text ended it before anything was written; for another fault memory
 -- ran out before it was found
@@ -165,8 +165,8 @@ IsAnswered (Audit domain certificate) texts bytes more outcome before after =
 IsAnswered (Drive domain) texts bytes more outcome before after =
     IsReplied (reply_sold (parse_of (first_text texts)) (lines_of bytes)) outcome before after
 IsAnswered (Mark domain certificate port workers keeps_red) texts bytes more outcome before after =
-    IsMarkedAt (accepted_in (first_text texts) (second_text texts)) port (rule_said keeps_red) bytes more outcome before
-    after
+    IsMarkedAt (is_sole workers) (accepted_in (first_text texts) (second_text texts)) port (rule_said keeps_red) bytes
+    more outcome before after
 
 -- the outcome that is known before a device is touched, or want of memory
 abbrev pub IsSettled : Outcome → Outcome → Type 0

@@ -1,9 +1,9 @@
-ghost use Rattle.std.specs.Prelude.{◌≡◌, ◌++◌, false, true, Some, Ok, MatchResult, is_ok, if◌then◌else◌};
-ghost use Rattle.ds_conductor.specs.Reports.{nothing_read};
+ghost use Rattle.std.specs.Prelude.{◌≡◌, ◌≤◌, ◌++◌, false, true, Some, Ok, IfSome, MatchResult, is_ok, if◌then◌else◌};
+ghost use Rattle.ds_conditioner.specs.Reports.{nothing_read};
 ghost use Rattle.ds_domain_base.specs.Domains.{is_port};
 ghost use Rattle.pcap_capture.specs.Fronts.{IsFrontOf};
 ghost use Rattle.dsedge_serve.specs.Advised.{marking_advice};
-ghost use Rattle.dsedge_serve.specs.Marked.{capture_fault, marking_fault, marking_fault_text, marking_status};
+ghost use Rattle.dsedge_serve.specs.Marked.{capture_fault, is_sole, marking_fault, marking_fault_text, marking_status};
 ghost use Rattle.dsedge_serve.specs.Marked.{marking_told, refusal_outcome};
 ghost use Rattle.dsedge_serve.specs.Served.{IsMarkedAt, IsOfWrites, IsPortlessBefore, IsRefusedBefore};
 ghost use Rattle.dsedge_serve.specs.Served.{is_broken_off, is_input_fault, is_misused, is_output_fault};
@@ -16,29 +16,33 @@ use crate::fault::Fault;
 use crate::outcome::Outcome;
 use crate::report::tell_report;
 use ds_checker::Accepted;
-use ds_conductor::{MarkFault, OpenGate, RedRule, Report, mark};
+use ds_conductor::{MarkFault, OpenGate, RedRule, Report, mark_by};
 use dsedge_lines::{GivenName, PumpFault};
 use dsedge_texts::{TableFault, accept};
 use pcap_capture::{DeviceFault, Intake, Outlet, PcapFault, VecOutlet, give_all};
 use std::alloc::Global;
-use std::thread::Threads;
+use std::sync::Wait;
+use std::thread::{Threads, available_parallelism};
 
-/// Answers with the capture of the input, marked at a port of the table that two texts say.
-pub(crate) fn answer_mark<R: Threads + Sync, I: Intake, O: Outlet>(
+/// The most workers that mark where it is left to the program how many.
+const MOST_UNASKED: u32 = 4;
+
+/// Answers with the capture of the input, marked at a port of the table that two texts say, by as many workers as are
+/// asked for, or where that is left open, as many as the machine gains from.
+pub(crate) fn answer_mark<R: Threads + Wait + Sync, I: Intake, O: Outlet>(
     rt: &R,
     alloc: Global,
     domain: &[u8],
     certificate: &[u8],
     port: &str,
-    workers: u32,
+    workers: Option<u32>,
     red: RedRule,
     intake: &mut I,
     output: &mut O,
 ) -> Outcome
     ensures served { I.tells intake.old → O.tells output.old →
-        IsMarkedAt (accepted_in domain.now certificate.now) port.now red (I.left intake.old) (I.left intake.new)
-        result
-        (O.held output.old) (O.held output.new) }
+        IsMarkedAt (is_sole workers) (accepted_in domain.now certificate.now) port.now red (I.left intake.old)
+        (I.left intake.new) result (O.held output.old) (O.held output.new) }
     ensures refused { IsRefusedBefore (accepted_in domain.now certificate.now) result }
     ensures unknown { IsPortlessBefore (accepted_in domain.now certificate.now) port.now result }
     ensures writes { IsOfWrites (is_output_fault result) (O.failed output.old) (O.failed output.new) }
@@ -53,19 +57,19 @@ pub(crate) fn answer_mark<R: Threads + Sync, I: Intake, O: Outlet>(
 }
 
 /// Answers with the capture of the input, marked at a port of an accepted table.
-fn mark_over<R: Threads + Sync, I: Intake, O: Outlet>(
+fn mark_over<R: Threads + Wait + Sync, I: Intake, O: Outlet>(
     rt: &R,
     alloc: Global,
     accepted: &Accepted,
     port: &str,
-    workers: u32,
+    workers: Option<u32>,
     red: RedRule,
     intake: &mut I,
     output: &mut O,
 ) -> Outcome
     ensures served { I.tells intake.old → O.tells output.old →
-        IsMarkedAt (Ok accepted.now) port.now red (I.left intake.old) (I.left intake.new) result (O.held output.old)
-        (O.held output.new) }
+        IsMarkedAt (is_sole workers) (Ok accepted.now) port.now red (I.left intake.old) (I.left intake.new) result
+        (O.held output.old) (O.held output.new) }
     ensures unknown { is_port accepted.now.domain port.now ≡ false
         → result ≡ Outcome.Marked nothing_read (Some MarkFault.UnknownPort) }
     ensures writes { IsOfWrites (is_output_fault result) (O.failed output.old) (O.failed output.new) }
@@ -73,11 +77,34 @@ fn mark_over<R: Threads + Sync, I: Intake, O: Outlet>(
         → IsOfReads (is_input_fault result) (I.failed intake.old) (I.failed intake.new) (I.calls intake.new) }
     ensures misused { is_misused result ≡ true → O.held output.new ≡ O.held output.old }
 {
-    match mark(
+    let workers = workers_for(rt, workers);
+    match mark_by(
         rt, alloc, accepted, port, workers, red, intake, output, &OpenGate,
     ) {
         Ok(report) => Outcome::Marked(report, None),
         Err((report, fault)) => Outcome::Marked(report, Some(fault)),
+    }
+}
+
+/// How many workers mark: as many as are asked for, or where that is left open, as many as the machine gains from.
+fn workers_for<R: Threads>(rt: &R, asked: Option<u32>) -> u32
+    ensures given { IfSome asked (λ workers. result ≡ workers) }
+    ensures unasked { asked ≡ None → (1 ≤ result) × (result ≤ MOST_UNASKED) }
+{
+    match asked {
+        Some(workers) => workers,
+        None => workers_here(rt),
+    }
+}
+
+/// How many workers the machine gains from: as many as it has processors, but at most 4; 1 where it cannot be told.
+fn workers_here<R: Threads>(rt: &R) -> u32
+    ensures some { 1 ≤ result }
+    ensures few { result ≤ MOST_UNASKED }
+{
+    match available_parallelism(rt) {
+        Ok(processors) => processors.get().min(MOST_UNASKED as usize) as u32,
+        Err(_) => 1,
     }
 }
 

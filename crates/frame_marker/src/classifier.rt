@@ -1,7 +1,7 @@
-ghost use Rattle.std.specs.Prelude.{◌≡◌, ℕ, List, IfOk};
+ghost use Rattle.std.specs.Prelude.{◌≡◌, ◌<◌, ℕ, List, IfOk, length, map};
 ghost use Rattle.pcap_capture.specs.declared.heading.LinkType.{LinkType};
 ghost use Rattle.flow_classifier.specs.Tables.{first_flow_of};
-ghost use Rattle.frame_marker.specs.Ports.{sight_at};
+ghost use Rattle.frame_marker.specs.Ports.{seen_by, seen_there, sight_at};
 ghost use Rattle.frame_marker.specs.Marks.{mark_in};
 ghost use Rattle.frame_marker.specs.Sights.{key_of, sight_for, sight_of};
 
@@ -10,7 +10,7 @@ use crate::sight::{Seen, Sight};
 use af_marker::{Header, header};
 use ds_domain_base::{Contract, Name};
 use flow_classifier::{FlowRule, Key, RuleTable};
-use pcap_capture::LinkType;
+use pcap_capture::{LinkType, Piece};
 use std::alloc::{AllocError, Global};
 use std::marker::Model;
 
@@ -77,6 +77,26 @@ impl PortClassifier {
             sight: self.sight_for(header),
             mark: Some(Mark { start, verified }),
         }
+    }
+
+    /// What the frames of a piece are at the port, in their order, and what marking each later needs. `AllocError` where
+    /// memory runs out.
+    pub fn see_all(
+        &self,
+        alloc: Global,
+        link: LinkType,
+        piece: &Piece,
+    ) -> Result<Vec<Seen>, AllocError>
+        ensures { IfOk result (λ seen. seen.items ≡ map (λ f. seen_by self.now link f.bytes) piece.now) }
+    {
+        (0..piece.len())
+            .map(
+                |place: usize| -> Seen
+                    requires { place < length piece.now }
+                    ensures { result ≡ seen_there self.entry.now link piece.entry.now place }
+                { self.see(link, piece.frame(place).bytes()) },
+            )
+            .collect::<Vec<Seen>>(alloc)
     }
 
     /// What a frame with this header is at the port.

@@ -253,3 +253,14 @@ size_least heading bytes size h = elim (size_cases heading bytes size h) [
   | inl short ↦ omega (arith, short.1)
   | inr known ↦ omega (arith, known.2)
 ]
+
+-- a record of just its size has the captured bytes that it tells
+pub size_captured : (heading : Heading) (bytes : List ℕ) → record_size heading bytes ≡ Ok (length bytes) → 16 + captured heading bytes ≡ length bytes
+size_captured heading bytes h = elim (size_cases heading bytes (length bytes) h) [
+  | inl short ↦ absurd (omega (arith, below (length bytes) 16 short.0, short.1))
+  | inr known ↦ sym known.2
+]
+
+-- a size that is there whole is that of a record whose own sixteen bytes are there
+pub size_there : (heading : Heading) (bytes : List ℕ) (size : ℕ) → record_size heading bytes ≡ Ok size → size ≤ length bytes → 16 ≤ length bytes
+size_there heading bytes size h there = omega (arith, size_least heading bytes size h)

@@ -1,9 +1,12 @@
 pub mod CountLaws
 pub mod CutLaws
+pub mod FrameLaws
 pub mod FrontLaws
 pub mod GrammarLaws
 pub mod HeadingLaws
 pub mod OwnLaws
 pub mod PieceLaws
+pub mod ReadingLaws
 pub mod RecordLaws
 pub mod TakingLaws
+pub mod TextLaws

@@ -5,4 +5,5 @@ pub mod Frames
 pub mod Fronts
 pub mod Grammar
 pub mod Packets
+pub mod Pieces
 pub mod Takings

@@ -3,15 +3,18 @@
 
 mod adaptor;
 mod device;
+mod entry;
 mod fault;
 mod frame;
 mod heading;
 mod memory;
 mod packet;
+mod piece;
 mod pieces;
 mod reading;
 mod record;
 mod stage;
+mod text;
 
 pub use adaptor::{ReadIntake, WriteOutlet};
 pub use device::{DeviceFault, Intake, MOST_CALLS, Outlet};
@@ -19,6 +22,7 @@ pub use fault::PcapFault;
 pub use frame::Frame;
 pub use heading::{Endianness, Heading, LinkType, TimeUnit};
 pub use memory::{SliceIntake, VecOutlet};
+pub use piece::Piece;
 pub use pieces::{PIECE, give_all, hand_over, room};
 pub use reading::{Capture, wherever_it_is_cut};
 pub use stage::Stage;

@@ -1,8 +1,8 @@
-ghost use Rattle.std.specs.Prelude.{◌≡◌, ℕ, ◌≤◌, [], ◌++◌, length, take, vec_len, MatchResult, is_ok, if◌then◌else◌};
-ghost use Rattle.std.specs.Prelude.{◌<◌, List, Ok, IfOk, OnErr, OnOk, is_err};
-ghost use Rattle.pcap_capture.specs.Counts.{IsOfReads, next_count};
+ghost use Rattle.std.specs.Prelude.{◌≡◌, ℕ, [], ◌++◌, take, vec_len, MatchResult, is_ok, if◌then◌else◌};
+ghost use Rattle.std.specs.Prelude.{IfOk, OnOk};
+ghost use Rattle.pcap_capture.specs.Counts.{next_count};
 
-use crate::device::{DeviceFault, Intake, Outlet};
+use crate::device::{DeviceFault, Outlet};
 use std::alloc::{AllocError, Global};
 
 /// The size of a piece that a device is asked for at once, in bytes.
@@ -13,44 +13,6 @@ pub fn room(alloc: Global, size: usize) -> Result<Vec<u8>, AllocError>
     ensures { IfOk result (λ bytes. vec_len bytes ≡ size) }
 {
     vec![in alloc; 0u8; size]
-}
-
-/// Takes the next piece of a device, of at most so many bytes, straight behind a text, and says how many they are: 0 only
-/// at the device's end, or where none are asked for. Where the device cannot be read the text stays as it was.
-///
-/// `AllocError` where memory runs out, before the device is asked.
-pub(crate) fn take_behind<I: Intake>(
-    intake: &mut I,
-    text: &mut Vec<u8>,
-    most: usize,
-) -> Result<Result<usize, DeviceFault>, AllocError>
-    ensures told { I.tells intake.old → I.tells intake.new }
-    ensures ok { IfOk result (λ answer. MatchResult answer
-        (λ taken. (piece : List ℕ) × (length piece ≡ taken) × (taken ≤ most)
-        × (text.new.items ≡ text.old.items ++ piece)
-        × (I.tells intake.old → I.left intake.old ≡ piece ++ I.left intake.new))
-        (λ _. (text.new.items ≡ text.old.items) × (I.tells intake.old → I.left intake.new ≡ I.left intake.old))) }
-    ensures end { I.tells intake.old → result ≡ Ok (Ok 0) → 0 < most → I.left intake.new ≡ [] }
-    ensures reads { IfOk result (λ answer.
-        IsOfReads (is_err answer) (I.failed intake.old) (I.failed intake.new) (I.calls intake.new)) }
-    ensures fewer { IfOk result (λ answer. OnOk answer (I.calls intake.new < I.calls intake.old)) }
-    ensures no_more { I.calls intake.new ≤ I.calls intake.old }
-    ensures starved { OnErr result (intake.new ≡ intake.old) }
-{
-    let front = text.len();
-    let Some(size) = front.checked_add(most) else {
-        return Err(AllocError);
-    };
-    text.resize(size, 0)?;
-    let taken = match intake.take(&mut text.as_mut_slice()[front..]) {
-        Ok(taken) => taken,
-        Err(fault) => {
-            text.truncate(front);
-            return Ok(Err(fault));
-        }
-    };
-    text.truncate(front + taken);
-    Ok(Ok(taken))
 }
 
 /// Gives an outlet a whole text.

@@ -8,11 +8,10 @@ ghost use Rattle.pcap_capture.specs.Takings.{IsTaken, is_read_fault};
 
 use crate::device::Intake;
 use crate::fault::PcapFault;
-use crate::frame::Frame;
 use crate::heading::{Heading, heading_at_front};
-use crate::pieces::take_behind;
-use crate::record::read_records;
+use crate::piece::Piece;
 use crate::stage::Stage;
+use crate::text::Text;
 use std::alloc::Global;
 use std::marker::Model;
 
@@ -20,15 +19,15 @@ use std::marker::Model;
 #[derive(Debug, Drop)]
 pub struct Capture {
     stage: Stage,
-    rest: Vec<u8>,
+    rest: Text,
 }
 
 impl Model for Capture {
     ghost Value = { CaptureState };
 
-    ghost view = { λ c. record { stage = c.stage; rest = c.rest.items } };
+    ghost view = { λ c. record { stage = c.stage; rest = c.rest } };
 
-    ghost invariant = { λ c. IsSettled c.stage c.rest.items };
+    ghost invariant = { λ c. IsSettled c.stage c.rest };
 }
 
 impl Capture {
@@ -40,7 +39,7 @@ impl Capture {
     {
         Capture {
             stage: Stage::Opening,
-            rest: Vec::new(alloc),
+            rest: Text::new(alloc),
         }
     }
 
@@ -50,42 +49,32 @@ impl Capture {
     /// by the first four bytes; `BadVersion`, then `LinkType`, once the heading is there; `RecordTooLong` once a
     /// record's own bytes are there; `NoMemory`. The frames before the fault were added. After any fault each later
     /// call answers `Failed`.
-    pub fn feed(
-        &mut self,
-        alloc: Global,
-        piece: &[u8],
-        out: &mut Vec<Frame>,
-    ) -> Result<(), PcapFault>
-        ensures ok { OnOk result (record { frames = out.new.items; fault = None; state = self.new }
-            ≡ prepend out.old.items (reading self.old piece.now)) }
+    pub fn feed(&mut self, alloc: Global, piece: &[u8], out: &mut Piece) -> Result<(), PcapFault>
+        ensures ok { OnOk result (record { frames = out.new; fault = None; state = self.new }
+            ≡ prepend out.old (reading self.old piece.now)) }
         ensures err { IfErr result
-            (λ fault. (self.new ≡ broken) × Stops (prepend out.old.items (reading self.old piece.now)) out.new.items
+            (λ fault. (self.new ≡ broken) × Stops (prepend out.old (reading self.old piece.now)) out.new
             fault) }
-        ensures so_far { (bytes : List ℕ) (before : List FrameValue) → IsSoFar bytes before self.old out.old.items
+        ensures so_far { (bytes : List ℕ) (before : List FrameValue) → IsSoFar bytes before self.old out.old
             → MatchResult result
-            (λ _. IsSoFar (bytes ++ piece.now) before self.new out.new.items)
-            (λ fault. Stops (prepend before (capture (bytes ++ piece.now))) out.new.items fault) }
+            (λ _. IsSoFar (bytes ++ piece.now) before self.new out.new)
+            (λ fault. Stops (prepend before (capture (bytes ++ piece.now))) out.new fault) }
     {
         self.advance(alloc, piece, out)
     }
 
-    fn advance(
-        &mut self,
-        alloc: Global,
-        piece: &[u8],
-        out: &mut Vec<Frame>,
-    ) -> Result<(), PcapFault>
-        ensures ok { OnOk result (record { frames = out.new.items; fault = None; state = self.new }
-            ≡ prepend out.old.items (reading self.old piece.now)) }
+    fn advance(&mut self, alloc: Global, piece: &[u8], out: &mut Piece) -> Result<(), PcapFault>
+        ensures ok { OnOk result (record { frames = out.new; fault = None; state = self.new }
+            ≡ prepend out.old (reading self.old piece.now)) }
         ensures err { IfErr result
-            (λ fault. (self.new ≡ broken) × Stops (prepend out.old.items (reading self.old piece.now)) out.new.items
+            (λ fault. (self.new ≡ broken) × Stops (prepend out.old (reading self.old piece.now)) out.new
             fault) }
     {
         if let Stage::Broken = self.stage {
             return Err(PcapFault::Failed);
         }
         let Capture { stage, mut rest } = std::mem::replace(self, Capture::broken(alloc));
-        let Ok(()) = rest.extend_from_slice(piece) else {
+        let Ok(()) = rest.append(piece) else {
             return Err(PcapFault::NoMemory);
         };
         self.go_on(alloc, stage, rest, out)
@@ -102,22 +91,22 @@ impl Capture {
         alloc: Global,
         intake: &mut I,
         most: usize,
-        out: &mut Vec<Frame>,
+        out: &mut Piece,
     ) -> Result<usize, PcapFault>
         ensures told { I.tells intake.old → I.tells intake.new }
         ensures ok { IfOk result (λ taken.
             (it : IsTaken (I.tells intake.old) most (I.left intake.old) (I.left intake.new) self.old self.new
-            out.old.items out.new.items None) × (length it.piece ≡ taken)) }
+            out.old out.new None) × (length it.piece ≡ taken)) }
         ensures err { IfErr result (λ fault.
-            ((fault ≡ PcapFault.ReadFault) × (self.new ≡ self.old) × (out.new.items ≡ out.old.items)
+            ((fault ≡ PcapFault.ReadFault) × (self.new ≡ self.old) × (out.new ≡ out.old)
             × (I.tells intake.old → I.left intake.new ≡ I.left intake.old))
             ⊎ IsTaken (I.tells intake.old) most (I.left intake.old) (I.left intake.new) self.old self.new
-            out.old.items out.new.items (Some fault)) }
+            out.old out.new (Some fault)) }
         ensures end { I.tells intake.old → result ≡ Ok 0 → 0 < most → I.left intake.new ≡ [] }
         ensures reads { IsOfReads (is_read_fault result) (I.failed intake.old) (I.failed intake.new)
             (I.calls intake.new) }
         ensures fewer { (I.calls intake.new < I.calls intake.old)
-            ⊎ (IsErr result × (out.new.items ≡ out.old.items)) }
+            ⊎ (IsErr result × (out.new ≡ out.old)) }
         ensures no_more { I.calls intake.new ≤ I.calls intake.old }
         ensures broken { self.old.stage ≡ Stage.Broken
             → (result ≡ Err PcapFault.Failed) × (intake.new ≡ intake.old) }
@@ -126,7 +115,7 @@ impl Capture {
             return Err(PcapFault::Failed);
         }
         let Capture { stage, mut rest } = std::mem::replace(self, Capture::broken(alloc));
-        let Ok(answer) = take_behind(intake, &mut rest, most) else {
+        let Ok(answer) = rest.take_behind(intake, most) else {
             return Err(PcapFault::NoMemory);
         };
         let Ok(taken) = answer else {
@@ -142,13 +131,13 @@ impl Capture {
         &mut self,
         alloc: Global,
         stage: Stage,
-        mut rest: Vec<u8>,
-        out: &mut Vec<Frame>,
+        mut rest: Text,
+        out: &mut Piece,
     ) -> Result<(), PcapFault>
-        ensures ok { OnOk result (record { frames = out.new.items; fault = None; state = self.new }
-            ≡ prepend out.old.items (read_on stage rest.items)) }
+        ensures ok { OnOk result (record { frames = out.new; fault = None; state = self.new }
+            ≡ prepend out.old (read_on stage rest)) }
         ensures err { IfErr result (λ fault. (self.new ≡ self.old)
-            × Stops (prepend out.old.items (read_on stage rest.items)) out.new.items fault) }
+            × Stops (prepend out.old (read_on stage rest)) out.new fault) }
     {
         let stage = read_stage(alloc, stage, &mut rest, out)?;
         *self = Capture { stage, rest };
@@ -161,7 +150,7 @@ impl Capture {
     {
         Capture {
             stage: Stage::Broken,
-            rest: Vec::new(alloc),
+            rest: Text::new(alloc),
         }
     }
 
@@ -186,12 +175,12 @@ impl Capture {
             (λ fault. (ending self.old ≡ Some fault) × (self.new ≡ broken)) }
     {
         let fault = match self.stage {
-            Stage::Records(_) if self.rest.is_empty() => return Ok(()),
+            Stage::Records(_) if self.rest.len() == 0 => return Ok(()),
             Stage::Opening | Stage::Records(_) => PcapFault::Truncated,
             Stage::Broken => PcapFault::Failed,
         };
         self.stage = Stage::Broken;
-        self.rest.clear();
+        self.rest.truncate(0);
         Err(fault)
     }
 
@@ -207,24 +196,24 @@ impl Capture {
 fn read_stage(
     alloc: Global,
     stage: Stage,
-    rest: &mut Vec<u8>,
-    out: &mut Vec<Frame>,
+    rest: &mut Text,
+    out: &mut Piece,
 ) -> Result<Stage, PcapFault>
     ensures ok { IfOk result
         (λ now. record {
-          frames = out.new.items;
+          frames = out.new;
           fault = None;
-          state = record { stage = now; rest = rest.new.items };
+          state = record { stage = now; rest = rest.new };
         }
-        ≡ prepend out.old.items (read_on stage rest.old.items)) }
-    ensures settled { IfOk result (λ now. IsSettled now rest.new.items) }
+        ≡ prepend out.old (read_on stage rest.old)) }
+    ensures settled { IfOk result (λ now. IsSettled now rest.new) }
     ensures err { IfErr result
-        (λ fault. Stops (prepend out.old.items (read_on stage rest.old.items)) out.new.items fault) }
+        (λ fault. Stops (prepend out.old (read_on stage rest.old)) out.new fault) }
 {
     match stage {
         Stage::Opening => read_heading(alloc, rest, out),
         Stage::Records(heading) => {
-            read_records(alloc, &heading, rest, out)?;
+            out.read(&heading, rest)?;
             Ok(stage)
         }
         Stage::Broken => Err(PcapFault::Failed),
@@ -232,27 +221,29 @@ fn read_stage(
 }
 
 /// Reads on in the bytes of a capture whose heading was not there whole so far, and answers how far it came.
-fn read_heading(alloc: Global, rest: &mut Vec<u8>, out: &mut Vec<Frame>) -> Result<Stage, PcapFault>
+fn read_heading(alloc: Global, rest: &mut Text, out: &mut Piece) -> Result<Stage, PcapFault>
     ensures ok { IfOk result
         (λ stage. record {
-          frames = out.new.items;
+          frames = out.new;
           fault = None;
-          state = record { stage = stage; rest = rest.new.items };
+          state = record { stage = stage; rest = rest.new };
         }
-        ≡ prepend out.old.items (capture rest.old.items)) }
-    ensures settled { IfOk result (λ stage. IsSettled stage rest.new.items) }
+        ≡ prepend out.old (capture rest.old)) }
+    ensures settled { IfOk result (λ stage. IsSettled stage rest.new) }
     ensures err { IfErr result
-        (λ fault. Stops (prepend out.old.items (capture rest.old.items)) out.new.items fault) }
+        (λ fault. Stops (prepend out.old (capture rest.old)) out.new fault) }
 {
-    match heading_at_front(rest) {
+    match heading_at_front(rest.as_slice()) {
         None => Ok(Stage::Opening),
         Some(Err(fault)) => Err(fault),
         Some(Ok(heading)) => {
-            let Ok(records) = rest.split_off(heading.bytes.len()) else {
+            let mut records = Text::new(alloc);
+            let (_, behind) = rest.as_slice().split_at(heading.bytes.len());
+            let Ok(()) = records.append(behind) else {
                 return Err(PcapFault::NoMemory);
             };
             *rest = records;
-            read_records(alloc, &heading, rest, out)?;
+            out.read(&heading, rest)?;
             Ok(Stage::Records(heading))
         }
     }

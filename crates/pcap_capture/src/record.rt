@@ -1,13 +1,11 @@
-ghost use Rattle.std.specs.Prelude.{◌≡◌, ◌+◌, ◌≤◌, ◌∷◌, [], ◌++◌, None, Ok, drop, length, slice_range, IfErr, IfOk, OnOk};
-ghost use Rattle.std.specs.Rc.{rc_value};
-ghost use Rattle.pcap_capture.specs.Grammar.{Partial, Stops, frame_of, next_of, prepend, record_size, records};
+ghost use Rattle.std.specs.Prelude.{◌≡◌, ◌+◌, ◌-◌, ◌^◌, ◌<◌, ◌≤◌, drop, length, IfErr, OnOk};
+ghost use Rattle.pcap_capture.specs.Grammar.{Partial, Stops, moment_of, next_of, prepend, record_size, records};
+ghost use Rattle.pcap_capture.specs.Pieces.{AreCut, frames_between};
 
+use crate::entry::Record;
 use crate::fault::PcapFault;
-use crate::frame::Frame;
-use crate::heading::Heading;
-use crate::stage::Stage;
-use std::alloc::Global;
-use std::rc::Rc;
+use crate::heading::{Heading, TimeUnit};
+use moment_core::Moment;
 
 /// The most captured bytes of a record that is read.
 const MOST_CAPTURED: u32 = 262_144;
@@ -17,7 +15,7 @@ const MOST_CAPTURED: u32 = 262_144;
 ///
 /// Refused: `RecordTooLong` for more than 262,144 captured bytes.
 #[tactic(auto, unfolding(crate::specs::Grammar::record_size))]
-fn size_of_record(heading: &Heading, bytes: &[u8]) -> Result<usize, PcapFault>
+pub(crate) fn size_of_record(heading: &Heading, bytes: &[u8]) -> Result<usize, PcapFault>
     ensures { result ≡ record_size heading.now bytes.now }
 {
     if bytes.len() < 16 {
@@ -31,87 +29,50 @@ fn size_of_record(heading: &Heading, bytes: &[u8]) -> Result<usize, PcapFault>
     }
 }
 
-/// Adds the frame of the whole record that stands at a place of a text.
-#[tactic(auto, unfolding(crate::specs::Grammar::record_size))]
-fn push_frame(
-    heading: &Heading,
-    text: &Rc<Vec<u8>>,
-    start: usize,
-    end: usize,
-    out: &mut Vec<Frame>,
-) -> Result<(), PcapFault>
-    requires within { (start + 16 ≤ end) × (end ≤ length (rc_value text.now).items) }
-    requires size { let own = slice_range (rc_value text.now).items start end in
-        record_size heading.now own ≡ Ok (length own) }
-    ensures ok { OnOk result (out.new.items
-        ≡ out.old.items ++ frame_of heading.now (slice_range (rc_value text.now).items start end) ∷ []) }
-    ensures err { IfErr result (λ fault. (fault ≡ PcapFault.NoMemory) × (out.new.items ≡ out.old.items)) }
+/// The moment of the record at the front.
+fn moment_of_record(heading: &Heading, bytes: &[u8]) -> Moment
+    requires { 16 ≤ length bytes.now }
+    ensures value { result ≡ moment_of heading.now bytes.now }
+    ensures early { result < 2 ^ 63 - 2 ^ 40 }
 {
-    match Frame::read(heading, text, start, end) {
-        Ok(frame) => match out.push(frame) {
-            Ok(()) => Ok(()),
-            Err(_) => Err(PcapFault::NoMemory),
-        },
-        Err(_) => Err(PcapFault::NoMemory),
-    }
+    let seconds = u64::from(heading.order.read_u32(bytes));
+    let fraction = u64::from(heading.order.read_u32(&bytes[4..]));
+    let scale = match heading.unit {
+        TimeUnit::Microseconds => 1_000,
+        TimeUnit::Nanoseconds => 1,
+    };
+    Moment::new(seconds * 1_000_000_000 + fraction * scale).unwrap()
 }
 
-/// Adds the frames of all whole records at the front of a text, which they share, and answers where the last of them
-/// ends.
-fn push_frames(
+/// Adds the records that stand whole in a text from the end of those before, which it moves on with each.
+pub(crate) fn read_records(
     heading: &Heading,
-    text: &Rc<Vec<u8>>,
-    out: &mut Vec<Frame>,
-) -> Result<usize, PcapFault>
-    ensures within { IfOk result (λ end. end ≤ length (rc_value text.now).items) }
-    ensures ok { IfOk result (λ end. prepend out.new.items (records heading.now (drop end (rc_value text.now).items))
-        ≡ prepend out.old.items (records heading.now (rc_value text.now).items)) }
-    ensures settled { IfOk result (λ end. next_of heading.now (drop end (rc_value text.now).items) ≡ Partial) }
-    ensures err { IfErr result
-        (λ fault. Stops (prepend out.old.items (records heading.now (rc_value text.now).items)) out.new.items fault) }
+    text: &[u8],
+    end: &mut usize,
+    entries: &mut Vec<Record>,
+) -> Result<(), PcapFault>
+    requires { AreCut text.now 0 entries.old.items end.old }
+    ensures cut { AreCut text.now 0 entries.new.items end.new }
+    ensures ok { OnOk result
+        (prepend (frames_between text.now 0 entries.new.items) (records heading.now (drop end.new text.now))
+        ≡ prepend (frames_between text.now 0 entries.old.items) (records heading.now (drop end.old text.now))) }
+    ensures settled { OnOk result (next_of heading.now (drop end.new text.now) ≡ Partial) }
+    ensures err { IfErr result (λ fault.
+        Stops (prepend (frames_between text.now 0 entries.old.items) (records heading.now (drop end.old text.now)))
+        (frames_between text.now 0 entries.new.items) fault) }
 {
-    let mut start = 0;
+    let mut start = *end;
     loop {
-        let left = &text[start..];
+        let (_, left) = text.split_at(start);
         let size = size_of_record(heading, left)?;
         if left.len() < size {
-            return Ok(start);
+            return Ok(());
         }
-        let end = start + size;
-        push_frame(heading, text, start, end, out)?;
-        start = end;
+        start += size;
+        let moment = moment_of_record(heading, left);
+        let Ok(()) = entries.push(Record { end: start, moment }) else {
+            return Err(PcapFault::NoMemory);
+        };
+        *end = start;
     }
-}
-
-/// Reads on in the records of which no frame was made: as long as the first is not there whole, they stay as they are;
-/// else they become a text that the frames at its front share, and what is less than a record is kept.
-pub(crate) fn read_records(
-    alloc: Global,
-    heading: &Heading,
-    rest: &mut Vec<u8>,
-    out: &mut Vec<Frame>,
-) -> Result<(), PcapFault>
-    ensures ok { OnOk result
-        (record {
-          frames = out.new.items;
-          fault = None;
-          state =
-              record { stage = Stage.Records heading.now; rest = rest.new.items };
-        }
-        ≡ prepend out.old.items (records heading.now rest.old.items)) }
-    ensures settled { OnOk result (next_of heading.now rest.new.items ≡ Partial) }
-    ensures err { IfErr result
-        (λ fault. Stops (prepend out.old.items (records heading.now rest.old.items)) out.new.items fault) }
-{
-    if rest.len() < size_of_record(heading, rest)? {
-        return Ok(());
-    }
-    // frames may be held long: a short piece leaves them no more room than its bytes
-    rest.shrink_to_fit();
-    let Ok(text) = Rc::new(alloc, std::mem::replace(rest, Vec::new(alloc))) else {
-        return Err(PcapFault::NoMemory);
-    };
-    let end = push_frames(heading, &text, out)?;
-    rest.extend_from_slice(&text[end..])
-        .map_err(|_| PcapFault::NoMemory)
 }

@@ -1,5 +1,5 @@
 use crate::expecting::expect_same;
-use pcap_capture::{Capture, Frame, LinkType, PcapFault, SliceIntake, Stage};
+use pcap_capture::{Capture, Frame, LinkType, PcapFault, Piece, SliceIntake, Stage};
 use std::alloc::Global;
 use std::process::Abort;
 
@@ -17,7 +17,7 @@ static TAGGED_AND_IPV6: [u8; 109] = [
 /// What a reading gives.
 #[derive(Drop)]
 struct Reading {
-    frames: Vec<Frame>,
+    frames: Piece,
     fault: Option<PcapFault>,
 }
 
@@ -26,7 +26,7 @@ fn feed(
     alloc: Global,
     capture: &mut Capture,
     (bytes, piece): (&[u8], usize),
-    frames: &mut Vec<Frame>,
+    frames: &mut Piece,
 ) -> Result<(), PcapFault> {
     for piece in bytes.chunks(piece.max(1)) {
         capture.feed(alloc, piece, frames)?;
@@ -37,7 +37,7 @@ fn feed(
 /// Reads a capture in pieces of so many bytes, of which 0 counts as 1, to its end or its first fault.
 fn read(alloc: Global, bytes: &[u8], piece: usize) -> Reading {
     let mut capture = Capture::begin(alloc);
-    let mut frames = Vec::new(alloc);
+    let mut frames = Piece::new(alloc);
     let fault = feed(alloc, &mut capture, (bytes, piece), &mut frames).err();
     Reading { frames, fault }
 }
@@ -56,20 +56,21 @@ fn expect_frame(
     assert!(rt; link.packet_start(frame.bytes()) == start);
 }
 
-/// Expects both frames of that capture.
-fn expect_two(rt: &impl Abort, frames: &[Frame]) {
+/// Expects both frames of that capture, one behind the other.
+fn expect_two(rt: &impl Abort, frames: &Piece) {
     let (tagged, other) = TAGGED_AND_IPV6[24..].split_at(54);
     assert!(rt; frames.len() == 2);
     let first = (LinkType::Ethernet, 1_500_000_000, Some(18));
-    expect_frame(rt, &frames[0], tagged, first);
+    expect_frame(rt, &frames.frame(0), tagged, first);
     let second = (LinkType::Ethernet, 2_000_000_000, None);
-    expect_frame(rt, &frames[1], other, second);
+    expect_frame(rt, &frames.frame(1), other, second);
+    assert!(rt; frames.text() == &TAGGED_AND_IPV6[24..]);
 }
 
 /// Expects both frames of that capture, and no fault.
 fn expect_both(rt: &impl Abort, reading: &Reading) {
     assert!(rt; reading.fault.is_none());
-    expect_two(rt, reading.frames.as_slice());
+    expect_two(rt, &reading.frames);
 }
 
 /// Expects the same of pieces of so many bytes.
@@ -92,7 +93,7 @@ fn take_all(
     alloc: Global,
     capture: &mut Capture,
     (mut intake, most): (SliceIntake, usize),
-    frames: &mut Vec<Frame>,
+    frames: &mut Piece,
 ) -> Result<(), PcapFault> {
     for _turn in 0..110 {
         if capture.take_from(alloc, &mut intake, most, frames)? == 0 {
@@ -105,7 +106,7 @@ fn take_all(
 /// Takes a capture from a device so.
 fn take(alloc: Global, bytes: &[u8], most: usize) -> Reading {
     let mut capture = Capture::begin(alloc);
-    let mut frames = Vec::new(alloc);
+    let mut frames = Piece::new(alloc);
     let device = (SliceIntake::new(bytes), most);
     let fault = take_all(alloc, &mut capture, device, &mut frames).err();
     Reading { frames, fault }
@@ -138,6 +139,32 @@ fn pieces_that_a_device_gives_make_the_same_frames(rt: HostRuntime) {
     expect_cut_short(&rt, rt.alloc());
 }
 
+/// How many frames come of the bytes of that capture in pieces of so many, of which 0 counts as 1, into one piece that is
+/// emptied before each, and without its room in every second.
+fn read_apart(alloc: Global, piece: usize) -> Result<usize, PcapFault> {
+    let mut capture = Capture::begin(alloc);
+    let mut frames = Piece::new(alloc);
+    let mut found = 0usize;
+    for (place, piece) in TAGGED_AND_IPV6.chunks(piece.max(1)).enumerate() {
+        frames.clear();
+        if place % 2 == 0 {
+            frames.fit();
+        }
+        capture.feed(alloc, piece, &mut frames)?;
+        found = found.saturating_add(frames.len());
+    }
+    capture.finish()?;
+    Ok(found)
+}
+
+#[test]
+fn a_piece_that_is_emptied_takes_the_next_frames(rt: HostRuntime) {
+    for piece in [1, 7, 60, 109] {
+        let found = read_apart(rt.alloc(), piece);
+        expect_same(&rt, "a piece that is emptied", found, Ok(2));
+    }
+}
+
 /// What a device gives call by call, which fails at its second.
 static TAKEN: [Result<usize, PcapFault>; 5] = [
     Ok(50),
@@ -148,7 +175,7 @@ static TAKEN: [Result<usize, PcapFault>; 5] = [
 ];
 
 /// Expects of a capture what it takes from that device.
-fn expect_taken(rt: &impl Abort, alloc: Global, capture: &mut Capture, frames: &mut Vec<Frame>) {
+fn expect_taken(rt: &impl Abort, alloc: Global, capture: &mut Capture, frames: &mut Piece) {
     let mut intake = SliceIntake::new(&TAGGED_AND_IPV6);
     intake.fails_at = Some(2);
     for wanted in &TAKEN {
@@ -159,12 +186,12 @@ fn expect_taken(rt: &impl Abort, alloc: Global, capture: &mut Capture, frames: &
 
 /// Expects that a capture goes on behind that device.
 fn expect_behind_failure(rt: &impl Abort, alloc: Global) {
-    let mut frames = Vec::new(alloc);
+    let mut frames = Piece::new(alloc);
     let mut capture = Capture::begin(alloc);
     expect_taken(rt, alloc, &mut capture, &mut frames);
     assert!(rt; capture.finish().is_ok());
     drop(capture);
-    expect_two(rt, frames.as_slice());
+    expect_two(rt, &frames);
     drop(frames);
 }
 
@@ -228,7 +255,7 @@ fn expect_moment(rt: &impl Abort, alloc: Global, magic: &[u8], (behind, moment):
     let wanted = (LinkType::RawIp, moment, Some(0));
     expect_frame(
         rt,
-        &reading.frames[0],
+        &reading.frames.frame(0),
         &behind[behind.len().min(20)..],
         wanted,
     );
@@ -331,12 +358,7 @@ fn each_fault_of_a_capture(rt: HostRuntime) {
 }
 
 /// Expects of a capture that was ended before its heading that it takes nothing from a device from then on.
-fn expect_none_taken(
-    rt: &impl Abort,
-    alloc: Global,
-    capture: &mut Capture,
-    frames: &mut Vec<Frame>,
-) {
+fn expect_none_taken(rt: &impl Abort, alloc: Global, capture: &mut Capture, frames: &mut Piece) {
     let mut intake = SliceIntake::new(&TAGGED_AND_IPV6);
     let taken = capture.take_from(alloc, &mut intake, 109, frames);
     assert!(rt; taken == Err(PcapFault::Failed));
@@ -344,7 +366,7 @@ fn expect_none_taken(
 }
 
 /// Expects of a capture that is ended before its heading that each call fails from then on.
-fn expect_failed(rt: &impl Abort, alloc: Global, capture: &mut Capture, frames: &mut Vec<Frame>) {
+fn expect_failed(rt: &impl Abort, alloc: Global, capture: &mut Capture, frames: &mut Piece) {
     assert!(rt; capture.finish() == Err(PcapFault::Truncated));
     assert!(rt; capture.finish() == Err(PcapFault::Failed));
     let fed = capture.feed(alloc, &TAGGED_AND_IPV6, frames);
@@ -354,11 +376,11 @@ fn expect_failed(rt: &impl Abort, alloc: Global, capture: &mut Capture, frames: 
 
 /// Expects that such a capture is broken.
 fn expect_broken(rt: &impl Abort, alloc: Global) {
-    let mut frames = Vec::new(alloc);
+    let mut frames = Piece::new(alloc);
     let mut capture = Capture::begin(alloc);
     expect_failed(rt, alloc, &mut capture, &mut frames);
     assert!(rt; capture.stage() == Stage::Broken);
-    assert!(rt; frames.len() == 0);
+    assert!(rt; frames.is_empty());
     drop(capture);
     drop(frames);
 }

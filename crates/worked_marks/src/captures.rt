@@ -53,7 +53,7 @@ fn digit(character: u8) -> Option<u8> {
 }
 
 /// Appends the bytes that hexadecimal digits say, two a byte. Other characters stand between them and say nothing.
-fn push_bytes(bytes: &mut Vec<u8>, text: &str) -> Result<(), AllocError> {
+pub fn push_bytes(bytes: &mut Vec<u8>, text: &str) -> Result<(), AllocError> {
     let mut high = None;
     for character in text.bytes() {
         let Some(low) = digit(character) else {

@@ -1,11 +1,13 @@
 use crate::captures::{HEADING, OTHER, TAGGED, capture};
+use crate::long_captures::long_capture;
 use crate::mark_rows::narrow;
-use crate::marking::leavings_through;
+use crate::marking::{Hands, SOME, leavings_through};
 use ds_checker::Accepted;
 use ds_conductor::{Gate, RedRule};
 use pcap_capture::SliceIntake;
 use std::alloc::Global;
 use std::process::Abort;
+use std::sync::Wait;
 use std::sync::atomic::{AtomicU64, Ordering};
 use std::thread::Threads;
 
@@ -40,36 +42,65 @@ impl Gate for Counter {
     }
 }
 
-/// Expects that a gate is called before and after each of the four visits of a capture, whatever the number of workers.
-fn expect_calls(
-    rt: &(impl Abort + Threads + Sync),
-    alloc: Global,
-    accepted: &Accepted,
-    given: &[u8],
-) {
-    for workers in [1, 2, 64] {
-        let gate = Counter {
+impl Counter {
+    /// Before the first call.
+    fn new() -> Self {
+        Counter {
             before: AtomicU64::new(0),
             after: AtomicU64::new(0),
             wrong: AtomicU64::new(0),
-        };
-        let mut intake = SliceIntake::new(given);
-        let job = ("p", workers, RedRule::Keep);
-        let marked = leavings_through(rt, alloc, accepted, job, &mut intake, &gate);
-        assert_eq!(rt; marked.fault, None);
-        drop(marked);
-        assert_eq!(rt; gate.before.load(Ordering::SeqCst), 4);
-        assert_eq!(rt; gate.after.load(Ordering::SeqCst), 4);
-        assert_eq!(rt; gate.wrong.load(Ordering::SeqCst), 0);
+        }
+    }
+
+    /// Expects that it was called before and after each of so many visits, and not otherwise.
+    fn expect_visits(&self, rt: &impl Abort, visits: u64) {
+        assert_eq!(rt; self.before.load(Ordering::SeqCst), visits);
+        assert_eq!(rt; self.after.load(Ordering::SeqCst), visits);
+        assert_eq!(rt; self.wrong.load(Ordering::SeqCst), 0);
+    }
+}
+
+/// Marks a capture past a gate, and answers how many of its packets were marked.
+fn packets_past(
+    rt: &(impl Abort + Threads + Wait + Sync),
+    alloc: Global,
+    accepted: &Accepted,
+    hands: Hands,
+    given: &[u8],
+    gate: &Counter,
+) -> u64 {
+    let mut intake = SliceIntake::new(given);
+    let job = ("p", hands, RedRule::Keep);
+    let marked = leavings_through(rt, alloc, accepted, job, &mut intake, gate);
+    assert_eq!(rt; marked.fault, None);
+    let packets = marked.report.marked;
+    drop(marked);
+    packets
+}
+
+/// Expects that a gate is called before and after each visit of a capture of so many packets, of which there are two a
+/// packet, whoever marks it.
+fn expect_calls(
+    rt: &(impl Abort + Threads + Wait + Sync),
+    alloc: Global,
+    accepted: &Accepted,
+    given: &[u8],
+    packets: u64,
+) {
+    for hands in &SOME {
+        let gate = Counter::new();
+        let marked = packets_past(rt, alloc, accepted, *hands, given, &gate);
+        assert_eq!(rt; (*hands, marked), (*hands, packets));
+        gate.expect_visits(rt, packets.saturating_mul(2));
         drop(gate);
     }
 }
 
 /// Expects those calls of a capture of three records, of which two are sent.
-fn expect_calls_of_two(rt: &(impl Abort + Threads + Sync), alloc: Global) {
+fn expect_calls_of_two(rt: &(impl Abort + Threads + Wait + Sync), alloc: Global) {
     let accepted = narrow(rt, alloc);
     let given = capture(rt, alloc, &[HEADING, TAGGED, OTHER, TAGGED]);
-    expect_calls(rt, alloc, &accepted, given.as_slice());
+    expect_calls(rt, alloc, &accepted, given.as_slice(), 2);
     drop(given);
     drop(accepted);
 }
@@ -77,4 +108,18 @@ fn expect_calls_of_two(rt: &(impl Abort + Threads + Sync), alloc: Global) {
 #[test]
 fn the_gate_is_called_round_each_visit(rt: HostRuntime) {
     expect_calls_of_two(&rt, rt.alloc());
+}
+
+/// Expects those calls of a capture that is so long that threads start, of which four records in five are sent.
+fn expect_calls_of_long(rt: &(impl Abort + Threads + Wait + Sync), alloc: Global) {
+    let accepted = narrow(rt, alloc);
+    let given = long_capture(rt, alloc, 500);
+    expect_calls(rt, alloc, &accepted, given.as_slice(), 400);
+    drop(given);
+    drop(accepted);
+}
+
+#[test]
+fn the_gate_is_called_round_each_visit_of_many(rt: HostRuntime) {
+    expect_calls_of_long(&rt, rt.alloc());
 }

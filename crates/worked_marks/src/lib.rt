@@ -5,9 +5,13 @@
 #[cfg(test)]
 mod captures;
 #[cfg(test)]
+mod fault_rows;
+#[cfg(test)]
 mod frame_rows;
 #[cfg(test)]
 mod gate_rows;
+#[cfg(test)]
+mod long_captures;
 #[cfg(test)]
 mod mark_rows;
 #[cfg(test)]

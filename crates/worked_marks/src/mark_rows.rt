@@ -1,7 +1,7 @@
 use crate::captures::{
     CUT, EARLIER, EARLIER_YELLOW, GREEN, HEADING, OTHER, OTHER_LINK, RED, TAGGED, YELLOW, capture,
 };
-use crate::marking::{Job, Marked, leavings};
+use crate::marking::{EACH, Hands, Job, Marked, SOME, leavings};
 use crate::tables::accepted;
 use ds_checker::Accepted;
 use ds_conductor::{MarkFault, RedRule, Report};
@@ -9,11 +9,12 @@ use pcap_capture::{Intake, MOST_CALLS, PcapFault, SliceIntake};
 use run_audit::Verdict;
 use std::alloc::Global;
 use std::process::Abort;
+use std::sync::Wait;
 use std::thread::Threads;
 use worked_texts::{LEAST_OF_POLICED, NARROW, POLICED, TWO_RATES, U, UDP};
 
 /// The least certificate of a policed contract of UDP packets with bursts of 150 and 300 bytes.
-const NARROW_LEAST: &str = "dscert 1\nu 0 151 301\nu 1 1151 2301\n";
+pub const NARROW_LEAST: &str = "dscert 1\nu 0 151 301\nu 1 1151 2301\n";
 
 /// The table of the contract with bursts of 1,500 and 3,000 bytes.
 fn wide(rt: &impl Abort, alloc: Global) -> Accepted {
@@ -54,9 +55,9 @@ fn kept(report: Report) -> Report {
     }
 }
 
-/// The job of so many workers at port `p` that keep red packets.
-fn by(workers: u32) -> Job<'static> {
-    ("p", workers, RedRule::Keep)
+/// The job at port `p` of hands that keep red packets.
+fn by(hands: Hands) -> Job<'static> {
+    ("p", hands, RedRule::Keep)
 }
 
 /// Expects what `mark` left behind.
@@ -81,13 +82,13 @@ struct Row<'a> {
     fault: Option<MarkFault>,
 }
 
-/// Expects what a row says of a capture at port `p`, by so many workers and at most so many bytes a call.
+/// Expects what a row says of a capture at port `p`, by hands and at most so many bytes a call.
 fn expect_pieces(
-    rt: &(impl Abort + Threads + Sync),
+    rt: &(impl Abort + Threads + Wait + Sync),
     alloc: Global,
     (accepted, red): (&Accepted, RedRule),
     row: &Row<'_>,
-    (workers, most): (u32, usize),
+    (hands, most): (Hands, usize),
 ) {
     let given = capture(rt, alloc, row.given);
     let written = capture(rt, alloc, row.written);
@@ -95,37 +96,42 @@ fn expect_pieces(
         most,
         ..SliceIntake::new(given.as_slice())
     };
-    let marked = leavings(rt, alloc, accepted, ("p", workers, red), &mut intake);
+    let marked = leavings(rt, alloc, accepted, ("p", hands, red), &mut intake);
     expect(rt, &marked, written.as_slice(), row.report, row.fault);
     drop(marked);
     drop(written);
     drop(given);
 }
 
-/// Expects the same by one byte a call, by seven, and by all that there is room for, for each number of workers.
+/// Expects the same by one byte a call, by seven, and by all that there is room for, whoever marks.
 fn expect_row(
-    rt: &(impl Abort + Threads + Sync),
+    rt: &(impl Abort + Threads + Wait + Sync),
     alloc: Global,
     accepted: &Accepted,
     red: RedRule,
     row: &Row<'_>,
 ) {
-    for workers in [1, 2, 3, 8, 64] {
+    for hands in &EACH {
         for most in [1, 7, usize::MAX] {
-            expect_pieces(rt, alloc, (accepted, red), row, (workers, most));
+            expect_pieces(rt, alloc, (accepted, red), row, (*hands, most));
         }
     }
 }
 
 /// Expects of the wide contract what a row says.
-fn expect_wide(rt: &(impl Abort + Threads + Sync), alloc: Global, row: &Row<'_>) {
+fn expect_wide(rt: &(impl Abort + Threads + Wait + Sync), alloc: Global, row: &Row<'_>) {
     let accepted = wide(rt, alloc);
     expect_row(rt, alloc, &accepted, RedRule::Keep, row);
     drop(accepted);
 }
 
 /// Expects the same of the narrow one.
-fn expect_narrow(rt: &(impl Abort + Threads + Sync), alloc: Global, red: RedRule, row: &Row<'_>) {
+fn expect_narrow(
+    rt: &(impl Abort + Threads + Wait + Sync),
+    alloc: Global,
+    red: RedRule,
+    row: &Row<'_>,
+) {
     let accepted = narrow(rt, alloc);
     expect_row(rt, alloc, &accepted, red, row);
     drop(accepted);
@@ -220,10 +226,21 @@ fn a_capture_of_another_link(rt: HostRuntime) {
 }
 
 /// Expects of a port that is not there that nothing is read or written.
-fn expect_no_port(rt: &(impl Abort + Threads + Sync), alloc: Global, accepted: &Accepted) {
+fn expect_no_port(
+    rt: &(impl Abort + Threads + Wait + Sync),
+    alloc: Global,
+    accepted: &Accepted,
+    hands: Hands,
+) {
     let given = capture(rt, alloc, &[HEADING]);
     let mut intake = SliceIntake::new(given.as_slice());
-    let marked = leavings(rt, alloc, accepted, ("q", 1, RedRule::Keep), &mut intake);
+    let marked = leavings(
+        rt,
+        alloc,
+        accepted,
+        ("q", hands, RedRule::Keep),
+        &mut intake,
+    );
     let fault = Some(MarkFault::UnknownPort);
     expect(rt, &marked, &[], Report::nothing(), fault);
     assert_eq!(rt; intake.turns, 0);
@@ -232,9 +249,11 @@ fn expect_no_port(rt: &(impl Abort + Threads + Sync), alloc: Global, accepted: &
 }
 
 /// Expects the same over the wide table.
-fn expect_no_port_of_wide(rt: &(impl Abort + Threads + Sync), alloc: Global) {
+fn expect_no_port_of_wide(rt: &(impl Abort + Threads + Wait + Sync), alloc: Global) {
     let accepted = wide(rt, alloc);
-    expect_no_port(rt, alloc, &accepted);
+    for hands in &SOME {
+        expect_no_port(rt, alloc, &accepted, *hands);
+    }
     drop(accepted);
 }
 
@@ -246,12 +265,12 @@ fn no_such_port(rt: HostRuntime) {
 /// Expects of two records, of which the second cannot be read on at the fourth call, since the device fails there or
 /// answers no more calls, that the first is marked, and how often the device failed.
 fn expect_first(
-    rt: &(impl Abort + Threads + Sync),
+    rt: &(impl Abort + Threads + Wait + Sync),
     alloc: Global,
     accepted: &Accepted,
     (fails_at, calls): (Option<u64>, u64),
     failures: u64,
-    workers: u32,
+    hands: Hands,
 ) {
     let given = capture(rt, alloc, &[HEADING, TAGGED, TAGGED]);
     let written = capture(rt, alloc, &[HEADING, GREEN]);
@@ -261,7 +280,7 @@ fn expect_first(
         calls,
         ..SliceIntake::new(given.as_slice())
     };
-    let marked = leavings(rt, alloc, accepted, by(workers), &mut intake);
+    let marked = leavings(rt, alloc, accepted, by(hands), &mut intake);
     let fault = Some(MarkFault::Capture(PcapFault::ReadFault));
     let report = report(1, 0, 0, [1, 0, 0]);
     expect(rt, &marked, written.as_slice(), report, fault);
@@ -273,14 +292,14 @@ fn expect_first(
 
 /// Expects the same over the wide table.
 fn expect_first_of_wide(
-    rt: &(impl Abort + Threads + Sync),
+    rt: &(impl Abort + Threads + Wait + Sync),
     alloc: Global,
     limits: (Option<u64>, u64),
     failures: u64,
 ) {
     let accepted = wide(rt, alloc);
-    for workers in [1, 2, 64] {
-        expect_first(rt, alloc, &accepted, limits, failures, workers);
+    for hands in &SOME {
+        expect_first(rt, alloc, &accepted, limits, failures, *hands);
     }
     drop(accepted);
 }
@@ -298,10 +317,10 @@ fn a_capture_whose_device_is_spent(rt: HostRuntime) {
 /// Expects of a device that gives one byte a call, and answers three calls, that nothing is marked, and that it did not
 /// fail.
 fn expect_spent(
-    rt: &(impl Abort + Threads + Sync),
+    rt: &(impl Abort + Threads + Wait + Sync),
     alloc: Global,
     accepted: &Accepted,
-    workers: u32,
+    hands: Hands,
 ) {
     let given = capture(rt, alloc, &[HEADING, TAGGED]);
     let mut intake = SliceIntake {
@@ -309,7 +328,7 @@ fn expect_spent(
         calls: 3,
         ..SliceIntake::new(given.as_slice())
     };
-    let marked = leavings(rt, alloc, accepted, by(workers), &mut intake);
+    let marked = leavings(rt, alloc, accepted, by(hands), &mut intake);
     let fault = Some(MarkFault::Capture(PcapFault::ReadFault));
     expect(rt, &marked, &[], Report::nothing(), fault);
     assert_eq!(rt; intake.failures(), 0);
@@ -318,10 +337,10 @@ fn expect_spent(
 }
 
 /// Expects the same over the wide table.
-fn expect_spent_of_wide(rt: &(impl Abort + Threads + Sync), alloc: Global) {
+fn expect_spent_of_wide(rt: &(impl Abort + Threads + Wait + Sync), alloc: Global) {
     let accepted = wide(rt, alloc);
-    for workers in [1, 2, 64] {
-        expect_spent(rt, alloc, &accepted, workers);
+    for hands in &SOME {
+        expect_spent(rt, alloc, &accepted, *hands);
     }
     drop(accepted);
 }
@@ -347,15 +366,15 @@ fn frames(rt: &impl Abort, alloc: Global, records: u64) -> Vec<u8> {
 /// Expects of so many frames that each is marked and written, however often its meter was visited, and that they are
 /// taken by so many calls: one for the heading, one for each piece of 65,536 bytes behind it, and one at the end.
 fn expect_all(
-    rt: &(impl Abort + Threads + Sync),
+    rt: &(impl Abort + Threads + Wait + Sync),
     alloc: Global,
     accepted: &Accepted,
-    workers: u32,
+    hands: Hands,
     (records, turns): (u64, u64),
 ) {
     let given = frames(rt, alloc, records);
     let mut intake = SliceIntake::new(given.as_slice());
-    let marked = leavings(rt, alloc, accepted, by(workers), &mut intake);
+    let marked = leavings(rt, alloc, accepted, by(hands), &mut intake);
     assert_eq!(rt; marked.fault, None);
     assert_eq!(rt; marked.report.marked, records);
     assert_eq!(rt; marked.written.len(), given.len());
@@ -366,29 +385,29 @@ fn expect_all(
 
 /// Expects the same over the narrow table.
 fn expect_all_of_narrow(
-    rt: &(impl Abort + Threads + Sync),
+    rt: &(impl Abort + Threads + Wait + Sync),
     alloc: Global,
-    workers: u32,
+    hands: Hands,
     counts: (u64, u64),
 ) {
     let accepted = narrow(rt, alloc);
-    expect_all(rt, alloc, &accepted, workers, counts);
+    expect_all(rt, alloc, &accepted, hands, counts);
     drop(accepted);
 }
 
 #[test]
 fn a_meter_that_is_visited_more_often_than_a_journal_has_rows(rt: HostRuntime) {
-    expect_all_of_narrow(&rt, rt.alloc(), 1, (1_048_577, 867));
+    expect_all_of_narrow(&rt, rt.alloc(), Hands::Alone, (1_048_577, 867));
 }
 
 #[test]
 fn two_workers_take_as_many_records(rt: HostRuntime) {
-    expect_all_of_narrow(&rt, rt.alloc(), 2, (1_048_577, 867));
+    expect_all_of_narrow(&rt, rt.alloc(), Hands::Workers(2), (1_048_577, 867));
 }
 
 #[test]
 fn a_capture_is_taken_in_pieces_as_large_as_may_be(rt: HostRuntime) {
-    for workers in [1, 2, 3, 8, 64] {
-        expect_all_of_narrow(&rt, rt.alloc(), workers, (1_214, 4));
+    for hands in &EACH {
+        expect_all_of_narrow(&rt, rt.alloc(), *hands, (1_214, 4));
     }
 }

@@ -1,5 +1,5 @@
 use crate::captures::{GREEN, HEADING, capture};
-use crate::marking::{Marked, leavings};
+use crate::marking::{EACH, Hands, Marked, leavings};
 use crate::tables::{accepted, table_of};
 use af_marker::Dscp;
 use ds_checker::Accepted;
@@ -11,6 +11,7 @@ use pcap_capture::SliceIntake;
 use run_audit::Verdict;
 use std::alloc::Global;
 use std::process::Abort;
+use std::sync::Wait;
 use std::thread::Threads;
 use worked_texts::{A, ANYWHERE, B, EXCESS, PEAK, PORT, SHARE, TRUSTED, TWO};
 
@@ -189,27 +190,27 @@ const OF_A: &str =
 const OF_B: &str =
     "00000000 00000000 14000000 14000000 4548 0014 0000 0000 4011 0000 0a00 0101 0a00 0001";
 
-/// What so many workers leave behind of a capture at port `p`.
+/// What hands leave behind of a capture at port `p`.
 fn passed(
-    rt: &(impl Threads + Sync),
+    rt: &(impl Threads + Wait + Sync),
     alloc: Global,
     accepted: &Accepted,
-    workers: u32,
+    hands: Hands,
     given: &[u8],
 ) -> Marked {
-    let job = ("p", workers, RedRule::Keep);
+    let job = ("p", hands, RedRule::Keep);
     leavings(rt, alloc, accepted, job, &mut SliceIntake::new(given))
 }
 
 /// Expects of a capture of two packets that it is written as it is, and its report.
 fn expect_two(
-    rt: &(impl Abort + Threads + Sync),
+    rt: &(impl Abort + Threads + Wait + Sync),
     alloc: Global,
     accepted: &Accepted,
-    workers: u32,
+    hands: Hands,
     given: &[u8],
 ) {
-    let marked = passed(rt, alloc, accepted, workers, given);
+    let marked = passed(rt, alloc, accepted, hands, given);
     assert_eq!(rt; marked.written.as_slice(), given);
     let expected = Report {
         records: 2,
@@ -225,11 +226,11 @@ fn expect_two(
 }
 
 /// Expects the same of a packet to each of two meters.
-fn expect_two_meters(rt: &(impl Abort + Threads + Sync), alloc: Global) {
+fn expect_two_meters(rt: &(impl Abort + Threads + Wait + Sync), alloc: Global) {
     let accepted = table_of(rt, alloc, ONE_AT_EACH, ONE_AT_EACH_LEAST);
     let given = capture(rt, alloc, &[RAW, OF_A, OF_B]);
-    for workers in [1, 2, 3, 8, 64] {
-        expect_two(rt, alloc, &accepted, workers, given.as_slice());
+    for hands in &EACH {
+        expect_two(rt, alloc, &accepted, *hands, given.as_slice());
     }
     drop(given);
     drop(accepted);
@@ -252,14 +253,14 @@ const SMALL_LEAST: &str = "dscert 1\nt 0 200 200\nt 1 1200 1200\n";
 
 /// Expects the verdict that `mark` tells of so many packets of 115 bytes, all green and at 1.5 s.
 fn expect_told(
-    rt: &(impl Abort + Threads + Sync),
+    rt: &(impl Abort + Threads + Wait + Sync),
     alloc: Global,
     accepted: &Accepted,
     records: &[&str],
     verdict: Verdict,
 ) {
     let given = capture(rt, alloc, records);
-    let marked = passed(rt, alloc, accepted, 1, given.as_slice());
+    let marked = passed(rt, alloc, accepted, Hands::Alone, given.as_slice());
     assert_eq!(rt; marked.fault, None);
     assert_eq!(rt; marked.report.verdict, Some(verdict));
     drop(marked);
@@ -268,7 +269,7 @@ fn expect_told(
 
 /// Expects the same over the table of a contract with 200 bytes.
 fn expect_of_small(
-    rt: &(impl Abort + Threads + Sync),
+    rt: &(impl Abort + Threads + Wait + Sync),
     alloc: Global,
     contract: &str,
     records: &[&str],
@@ -302,13 +303,13 @@ link = [{ from = "p", to = "m", floor = 1000000, jitter = 0 }]
 "#;
 
 /// What names a contract that is trusted without an end.
-const ENDLESS: &str = "name = \"t\"\nclass = 1\n";
+pub const ENDLESS: &str = "name = \"t\"\nclass = 1\n";
 
 /// Its least certificate over that meter.
 const ENDLESS_LEAST: &str = "dscert 1\nt 0 3000 3000\nt 1 3000 3000\n";
 
 /// Expects of a packet that comes before its meter that it is late.
-fn expect_early(rt: &(impl Abort + Threads + Sync), alloc: Global) {
+fn expect_early(rt: &(impl Abort + Threads + Wait + Sync), alloc: Global) {
     let early = table_of(
         rt,
         alloc,

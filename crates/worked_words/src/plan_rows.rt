@@ -203,8 +203,8 @@ fn audit_of_two() -> Plan<'static> {
     }
 }
 
-/// The plan of a mark over the same files by so many workers.
-fn mark_over_two(workers: u32, keeps_red: bool) -> Plan<'static> {
+/// The plan of a mark over the same files by so many workers, or by as many as the machine gains from.
+fn mark_over_two(workers: Option<u32>, keeps_red: bool) -> Plan<'static> {
     Plan::Mark {
         domain: GivenName::new("domain.toml"),
         certificate: GivenName::new("domain.cert"),
@@ -220,20 +220,24 @@ fn a_mark_names_two_files_a_port_and_a_rule(rt: HostRuntime) -> Result<(), Fail>
     for (line, workers, keeps_red) in [
         (
             "mark domain.toml domain.cert --port p --workers 1 --red keep",
-            1,
+            Some(1),
             true,
         ),
         (
             "mark domain.toml domain.cert --port p --workers 64 --red keep",
-            64,
+            Some(64),
             true,
         ),
         (
             "mark --red drop --workers 02 --port p domain.toml domain.cert",
-            2,
+            Some(2),
             false,
         ),
-        ("mark domain.toml domain.cert --port p --red keep", 1, true),
+        (
+            "mark domain.toml domain.cert --port p --red keep",
+            None,
+            true,
+        ),
     ] {
         expect_plan(&rt, alloc, line, &mark_over_two(workers, keeps_red))?;
     }

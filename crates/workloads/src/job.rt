@@ -20,6 +20,7 @@ pub(crate) enum Kind {
     Mark {
         captures: u64,
         records: u64,
+        workers: u32,
     },
     Hold {
         captures: u64,
@@ -81,6 +82,12 @@ fn of_two(name: &str, first: u64, second: u64) -> Option<Kind> {
         "mark" => Some(Kind::Mark {
             captures: first,
             records: second,
+            workers: 1,
+        }),
+        "mark4" => Some(Kind::Mark {
+            captures: first,
+            records: second,
+            workers: 4,
         }),
         "hold" => Some(Kind::Hold {
             captures: first,
@@ -135,11 +142,15 @@ pub(crate) fn perform(
             let sizes = [offered, held, commands];
             sell(rt, alloc, &mut numbers, days, sizes, digest)
         }
-        Kind::Mark { captures, records } => mark(
+        Kind::Mark {
+            captures,
+            records,
+            workers,
+        } => mark(
             rt,
             alloc,
             &mut numbers,
-            [captures, records],
+            ([captures, records], workers),
             digest,
         ),
         Kind::Hold { captures, records } => hold(

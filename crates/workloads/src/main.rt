@@ -2,6 +2,7 @@
 //! the program's commands, and prints a digest of all that these write, tell and end with. For `bench/run`.
 //!
 //! `workloads sell SEED DAYS OFFERED HELD COMMANDS`, `workloads mark SEED CAPTURES RECORDS`,
+//! `workloads mark4 SEED CAPTURES RECORDS`, which is `mark` by four workers,
 //! `workloads hold SEED CAPTURES RECORDS`, `workloads audit SEED RUNS PACKETS`,
 //! `workloads texts SEED METERS STRIDES CONTRACTS`.
 #![tactic(auto)]

@@ -134,17 +134,17 @@ fn certified(
     })
 }
 
-/// Marks a capture.
+/// Marks a capture by so many workers.
 fn mark_one(
     rt: &(impl Wait + Threads + Sync),
     alloc: Global,
     table: &mut Table,
-    red: &str,
+    (red, workers): (&str, u32),
     capture: &[u8],
     digest: &mut Digest,
 ) -> Result<(), AllocError> {
     let words = format!(in alloc;
-        "mark domain.toml domain.cert --port p0 --red {red} --workers 1"
+        "mark domain.toml domain.cert --port p0 --red {red} --workers {workers}"
     )?;
     let ground = (table.domain.as_str(), table.certificate.as_slice());
     ask_of_table(
@@ -158,18 +158,19 @@ fn mark_one(
     )
 }
 
-/// Marks so many captures of so many records: one in four over many contracts of one port, the others over a hundred.
+/// Marks so many captures of so many records by so many workers: one in four over many contracts of one port, the
+/// others over a hundred.
 pub(crate) fn mark(
     rt: &(impl Wait + Threads + Sync),
     alloc: Global,
     numbers: &mut Numbers,
-    [captures, records]: [u64; 2],
+    ([captures, records], workers): ([u64; 2], u32),
     digest: &mut Digest,
 ) -> Result<(), AllocError> {
     let mut usual = certified(rt, alloc, hundred(alloc)?, digest)?;
     let mut large = certified(rt, alloc, many(alloc)?, digest)?;
     for place in 0..captures {
-        let red = if place % 2 == 0 { "keep" } else { "drop" };
+        let how = (if place % 2 == 0 { "keep" } else { "drop" }, workers);
         if place % 4 == 3 {
             let text = capture(
                 alloc,
@@ -177,10 +178,10 @@ pub(crate) fn mark(
                 (Traffic::Many(MANY), Stamps::Onward),
                 records,
             )?;
-            mark_one(rt, alloc, &mut large, red, text.as_slice(), digest)?;
+            mark_one(rt, alloc, &mut large, how, text.as_slice(), digest)?;
         } else {
             let text = capture(alloc, numbers, (Traffic::Hundred, Stamps::Onward), records)?;
-            mark_one(rt, alloc, &mut usual, red, text.as_slice(), digest)?;
+            mark_one(rt, alloc, &mut usual, how, text.as_slice(), digest)?;
         }
     }
     Ok(())
@@ -202,7 +203,7 @@ pub(crate) fn hold(
             Stamps::FarFirst
         };
         let text = capture(alloc, numbers, (Traffic::Hundred, stamps), records)?;
-        mark_one(rt, alloc, &mut usual, "keep", text.as_slice(), digest)?;
+        mark_one(rt, alloc, &mut usual, ("keep", 1), text.as_slice(), digest)?;
     }
     Ok(())
 }

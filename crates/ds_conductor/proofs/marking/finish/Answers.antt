@@ -1,9 +1,10 @@
 use Rattle.std.proofs.Common.{◌≤◌, ◌^◌, length, arith, ◌++◌, ap, subst, sym, inl, inr, refl, Err, ◌∙◌}
-use Rattle.ds_conductor.specs.Conditionings.{see_at}
+use Rattle.ds_conditioner.specs.Conditionings.{see_at}
 use Rattle.ds_conductor.specs.Markings.{IsVerdictOn, answer_of, is_unread}
-use Rattle.ds_conductor.specs.Sendings.{sent_of}
-use Rattle.ds_conductor.specs.Texts.{text_from}
-use Rattle.ds_conductor.proofs.ConditionLaws.{ended, front_last, judged_by}
+use Rattle.ds_conditioner.specs.Sendings.{sent_of}
+use Rattle.ds_conditioner.specs.Texts.{text_from}
+use Rattle.ds_conditioner.proofs.ConditionLaws.{ended}
+use Rattle.ds_conductor.proofs.VerdictLaws.{front_last, judged_by}
 use Rattle.ds_conductor.proofs.PassingLaws.{answer_unread, broken_off}
 use Rattle.ds_conductor.proofs.WritingLaws.{written_whole}
 use Rattle.ds_conductor.proofs.marking.finish.Goals as goal

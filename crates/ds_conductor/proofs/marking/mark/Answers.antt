@@ -1,32 +1,27 @@
-use Rattle.std.proofs.Common.{refl, arith}
 use Rattle.pcap_capture.proofs.CountLaws.{reads_from}
 use Rattle.ds_conductor.specs.Markings.{is_unread}
-use Rattle.ds_conductor.proofs.MarkingLaws.{marked_at, unheaded}
-use Rattle.ds_conductor.proofs.PassingLaws.{unheaded_reads}
+use Rattle.ds_conductor.proofs.MarkingLaws.{passed_at}
+use Rattle.ds_conductor.proofs.PassingLaws.{ended_reading, ended_writes}
 use Rattle.ds_conductor.proofs.marking.mark.Goals as goal
 
-pub returns-in-Ok-clause-marked : goal.returns-in-Ok-clause-marked
-returns-in-Ok-clause-marked g c = λ given tells.
-    let bytes = g.I.Intake.left c.args.intake.now in
-    let read = c.in-Ok.ensures.read bytes given (c.begin-progress.ensures.begun bytes) in
-    marked_at c.args.accepted.now c.domain.result.now c.args.port.now c.in-Some.port c.args.red bytes _ _ _ _ c.domain.ensures.value c.in-Some.ensures
-    (c.mark_behind.ensures.marked (c.in-Ok.ensures.told given) tells bytes read.0 read.1)
-
-pub returns-in-Ok-clause-reads : goal.returns-in-Ok-clause-reads
-returns-in-Ok-clause-reads g c = λ whole. reads_from (is_unread c.mark_behind.result) _ _ _ _ c.in-Ok.ensures.reads (c.mark_behind.ensures.reads whole)
-
-pub mark_behind-requires-clause-few : goal.mark_behind-requires-clause-few
-mark_behind-requires-clause-few g c =
-    omega (arith, c.in-Ok.ensures.few, c.begin-progress.ensures.few, g.met.I.Intake.few c.args.intake.now)
+pub returns-in-Err-clause-marked : goal.returns-in-Err-clause-marked
+returns-in-Err-clause-marked g c = λ given tells. c.in-Err.ensures.refused given (g.O.Outlet.held c.args.outlet.now)
 
 pub returns-clause-marked : goal.returns-clause-marked
 returns-clause-marked g c = λ given tells.
-    let bytes = g.I.Intake.left c.args.intake.now in
     let held = g.O.Outlet.held c.args.outlet.now in
-    let read = c.in-Err.ensures.read bytes given (c.begin-progress.ensures.begun bytes) in
-    marked_at c.args.accepted.now c.domain.result.now c.args.port.now c.in-Some.port c.args.red bytes _ _ _ _ c.domain.ensures.value c.in-Some.ensures
-    (unheaded c.args.accepted.now c.in-Some.port c.args.red bytes _ held held read.0 c.in-Err.fault c.nothing-in-Err.result c.of_reading.result c.in-Err.ensures.no_write c.of_reading.ensures c.nothing-in-Err.ensures read.1 refl)
+    let bytes = g.I.Intake.left c.args.intake.now in
+    let begun = c.in-Ok.ensures.begun given held in
+    let turned = c.turn_all-turned.ensures.turned (c.in-Ok.ensures.told given) tells bytes held begun.1.passing in
+    passed_at c.args.accepted.now c.args.port.now c.args.red bytes _ _ held _ c.in-Ok.passage begun c.turn_all-turned.new.passage.port c.turn_all-turned.ensures.port c.end.result
+    (λ is at. c.end.ensures.marked (c.turn_all-turned.ensures.told tells) c.turn_all-turned.new.passage.conditioner c.args.port.now bytes _ held is
+    (λ frames text was. c.make_all.ensures.made c.turn_all-turned.new.passage.port frames text was) at)
+    turned
+
+pub returns-clause-writes : goal.returns-clause-writes
+returns-clause-writes g c = ended_writes c.turn_all-turned.result c.end.result _ _ _ c.turn_all-turned.ensures.failures c.end.ensures.writes c.end.ensures.told
 
 pub returns-clause-reads : goal.returns-clause-reads
 returns-clause-reads g c = λ whole.
-    unheaded_reads c.nothing-in-Err.result c.in-Err.fault c.of_reading.result _ _ _ c.of_reading.ensures c.in-Err.ensures.reads
+    reads_from (is_unread c.end.result) _ _ _ _ c.in-Ok.ensures.reads
+    (ended_reading c.turn_all-turned.result c.end.result _ _ _ c.turn_all-turned.ensures.fault c.end.ensures.told c.turn_all-turned.ensures.reads whole)

@@ -1,9 +1,9 @@
 use Rattle.std.proofs.Common.{◌++◌, Option, None, Some, arith, inr, refl, sym, ap, subst, ◌∙◌, append_assoc}
 use Rattle.std.proofs.lemmas.Result.{err_from_is_err_and}
 use Rattle.pcap_capture.specs.declared.heading.Heading.{Heading}
-use Rattle.ds_conductor.specs.Readings.{IsReading}
+use Rattle.capture_reader.specs.Readings.{IsReading}
 use Rattle.ds_conductor.proofs.PassingLaws.{ended_last, ended_reads, ended_turned, ended_unwritten, ended_well, front_written, starved_off, unwritten_off}
-use Rattle.ds_conductor.proofs.ReadingLaws.{front_read}
+use Rattle.capture_reader.proofs.ReadingLaws.{front_read}
 use Rattle.ds_conductor.proofs.marking.pass_on.Goals as goal
 
 pub returns-in_default-clause-turned : goal.returns-in_default-clause-turned
@@ -11,7 +11,7 @@ returns-in_default-clause-turned g c = λ tells bytes more before text gone head
     let p = c.args.port.now in
     let read = front_read gone bytes more c.args.progress.now p.heading c.args.read head at in
     let seen = c.in_default.ensures.unseen gone text conditioned in
-    starved_off p bytes more before _ text (gone ++ c.args.progress.now.frames.items) (gone ++ seen.0) seen.1 c.see_read.new.conditioner read
+    starved_off p bytes more before _ text (gone ++ c.args.progress.now.piece) (gone ++ seen.0) seen.1 c.see_read.new.conditioner read
     (ap (λ fs. gone ++ fs) seen.2 ∙ sym (append_assoc gone seen.0 seen.1)) seen.3
     (front_written _ c.args.out.now.items before _ written)
 
@@ -19,7 +19,7 @@ pub returns-in_err-write_due-in-Ok-true-clause-turned : goal.returns-in_err-writ
 returns-in_err-write_due-in-Ok-true-clause-turned g c = λ tells bytes more before text gone head at conditioned written.
     let p = c.args.port.now in
     let under = rw c.in-Ok-true.field-0-test at (rw c.in-Ok-true.is at at) in
-    let frames = c.args.progress.now.frames.items in
+    let frames = c.args.progress.now.piece in
     let last = c.in_err-write_due-in-Ok-true.ensures.bytes tells _ text before (c.in-Ok.ensures.seen gone text conditioned) written in
     let q = err_from_is_err_and c.from_residual.result c.from_residual.ensures.1 in
     rw (q.1, q.2) (unwritten_off p gone bytes more before _ last.0 c.args.progress.now frames c.write_due.new.conditioner _ head under refl last.1 last.2)
@@ -28,7 +28,7 @@ pub returns-in_ok-write_due-in-Ok-true-clause-turned : goal.returns-in_ok-write_
 returns-in_ok-write_due-in-Ok-true-clause-turned g c = λ tells bytes more before text gone head at conditioned written.
     let under = rw c.in-Ok-true.field-0-test at (rw c.in-Ok-true.is at at) in
     let last = c.in_ok-write_due-in-Ok-true.ensures.bytes tells _ text before (c.in-Ok.ensures.seen gone text conditioned) written in record {
-      frames = gone ++ c.args.progress.now.frames.items;
+      frames = gone ++ c.args.progress.now.piece;
       text = last.0;
       underway = c.see_read.ensures.read gone bytes more under;
       headed = c.see_read.ensures.heading ∙ head;
@@ -39,7 +39,7 @@ returns-in_ok-write_due-in-Ok-true-clause-turned g c = λ tells bytes more befor
 pub returns-in-Ok-false-clause-turned : goal.returns-in-Ok-false-clause-turned
 returns-in-Ok-false-clause-turned g c = λ tells bytes more before text gone head at conditioned written.
     let over = rw c.in-Ok-false.field-0-test at (rw c.in-Ok-false.is at at) in
-    let frames = gone ++ c.args.progress.now.frames.items in record {
+    let frames = gone ++ c.args.progress.now.piece in record {
       frames = frames;
       text = text;
       well = λ e. cc;
@@ -58,7 +58,7 @@ returns-in-Err-clause-turned g c = λ tells bytes more before text gone head at 
     let fault = c.in-Err.fault in
     let read = front_read gone bytes more c.args.progress.now p.heading c.args.read head at in
     let over = rw c.in-Err.is at at in
-    let frames = gone ++ c.args.progress.now.frames.items in
+    let frames = gone ++ c.args.progress.now.piece in
     rw c.ended_by.ensures (ended_turned p bytes more before _ text frames fault _ c.see_read.new.conditioner c.args.out.now.items read (λ e. c.requires.no_write (c.in-Err.is ∙ e))
     (subst (λ (h : Option Heading). IsReading bytes more h frames (Some fault)) head over)
     (c.in-Ok.ensures.seen gone text conditioned) written)

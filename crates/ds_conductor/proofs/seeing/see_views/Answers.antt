@@ -1,7 +1,7 @@
 use Rattle.std.proofs.Common.{◌∙◌}
 use Rattle.rayon.proofs.ListFacts.{IfOk-then}
 use Rattle.rayon.proofs.ToStd.{slice-AllZip}
-use Rattle.ds_conductor.specs.Conditionings.{IsSeenOf}
+use Rattle.ds_conditioner.specs.Conditionings.{IsSeenOf}
 use Rattle.ds_conductor.proofs.seeing.see_views.Goals as goal
 
 pub returns : goal.returns

@@ -1,12 +1,12 @@
 use Rattle.std.proofs.Common.{◌≡◌, ◌++◌, Bool, List, ℕ, length}
 use Rattle.pcap_capture.specs.Frames.{FrameValue}
-use Rattle.ds_conductor.specs.Conditionings.{IsBounded, IsConditioned}
+use Rattle.ds_conditioner.specs.Conditionings.{IsBounded, IsConditioned}
 use Rattle.ds_conductor.specs.Writings.{IsWrittenTo}
 use Rattle.ds_conductor.proofs.writing.write_decided.Given as goal
 
 -- what was handed out is written or collected
-abbrev pub invariant-loop-frame : goal.invariant-loop-frame
-invariant-loop-frame g l = record {
+abbrev pub invariant-loop : goal.invariant-loop
+invariant-loop g l = record {
   bounded : IsBounded l.conditioner;
   records : l.conditioner.counts.records ≡ l.initial.conditioner.counts.records;
   waiting : l.conditioner.under_way.waiting ≡ l.initial.conditioner.under_way.waiting;
@@ -18,5 +18,5 @@ invariant-loop-frame g l = record {
       × IsWrittenTo l.out.items before (l.port.heading.bytes ++ after) (g.O.Outlet.held l.outlet);
 }
 
-abbrev pub decreases-loop-frame : goal.decreases-loop-frame
-decreases-loop-frame g l = length l.conditioner.held.items
+abbrev pub decreases-loop : goal.decreases-loop
+decreases-loop g l = length l.conditioner.held.held

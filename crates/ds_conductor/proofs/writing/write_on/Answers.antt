@@ -1,6 +1,6 @@
 use Rattle.std.proofs.Common.{List, ℕ}
 use Rattle.std.proofs.lemmas.Result.{err_from_is_err_and}
-use Rattle.ds_conductor.specs.Conditionings.{IsConditioned}
+use Rattle.ds_conditioner.specs.Conditionings.{IsConditioned}
 use Rattle.ds_conductor.proofs.WritingLaws.{handed}
 use Rattle.ds_conductor.proofs.writing.write_on.Goals as goal
 

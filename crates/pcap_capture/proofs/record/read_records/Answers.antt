@@ -1,44 +1,66 @@
-use Rattle.std.proofs.Common.{◌≡◌, rules, ap, arith, drop, refl, sym, ◌∙◌}
+use Rattle.std.proofs.Common.{◌+◌, ◌≤◌, drop, length, refl, ap, arith, sym, ◌∙◌}
 use Rattle.std.proofs.lemmas.Result.{err_from_is_err_and}
-use Rattle.std.specs.Rc.{rc_value}
-use Rattle.pcap_capture.specs.Grammar.{prepend, record_size, records}
-use Rattle.pcap_capture.specs.declared.stage.Stage.TheVariants.{Records}
-use Rattle.pcap_capture.proofs.GrammarLaws.{records_partial, size_partial}
-use Rattle.pcap_capture.proofs.HeadingLaws.{kept_waiting}
-use Rattle.pcap_capture.proofs.RecordLaws.{left_from, stops_long}
+use Rattle.pcap_capture.specs.Grammar.{moment_of, record_size}
+use Rattle.pcap_capture.specs.Pieces.{frames_between}
+use Rattle.pcap_capture.proofs.GrammarLaws.{size_least, size_partial}
+use Rattle.pcap_capture.proofs.PieceLaws.{cut_within}
+use Rattle.pcap_capture.proofs.RecordLaws.{pushed, stops_long}
 use Rattle.pcap_capture.proofs.record.read_records.Goals as goal
 
-pub returns-in_err-size_of_record-clause-err : goal.returns-in_err-size_of_record-clause-err
-returns-in_err-size_of_record-clause-err c =
-    let heading = c.args.heading.now in
-    let rest = c.args.rest.now.items in
+pub loop-size-init : goal.loop-size-init
+loop-size-init c = record {
+  at = refl;
+  within = (cut_within c.args.text.now 0 c.args.entries.now.items c.args.end.now c.requires).1;
+  cut = c.requires;
+  same = refl;
+}
+
+pub returns-in_err-size-clause-err : goal.returns-in_err-size-clause-err
+returns-in_err-size-clause-err c =
+    let text = c.args.text.now in
+    let left = c.split_at.ensures.back ∙ ap (λ place. drop place text) c.loop-size.invariant.at in
     let p = err_from_is_err_and c.from_residual.result c.from_residual.ensures.1 in
-    rw (p.1, p.2) (stops_long heading rest c.args.out.now.items c.in_err-size_of_record.field-0.0 (prepend c.args.out.now.items (records heading rest))
-    (c.in_err-size_of_record.ensures ∙ ap (record_size heading) c.deref.ensures.value) refl)
+    rw (p.1, p.2) (stops_long c.args.heading.now (drop c.loop-size.end text) (frames_between text 0 c.loop-size.entries.items) c.in_err-size.field-0.0 _
+    (c.in_err-size.ensures ∙ ap (record_size c.args.heading.now) left) c.loop-size.invariant.same)
 
-pub returns-then-branch-clause-settled : goal.returns-then-branch-clause-settled
-returns-then-branch-clause-settled c =
-    let short = c.if-branch.true in
-    size_partial c.args.heading.now c.args.rest.now.items c.in_ok-size_of_record.field-0
-    (sym (c.in_ok-size_of_record.ensures ∙ ap (record_size c.args.heading.now) c.deref.ensures.value)) (omega (arith, short))
+pub returns-then-left-size-clause-settled : goal.returns-then-left-size-clause-settled
+returns-then-left-size-clause-settled c =
+    let text = c.args.text.now in
+    let left = c.split_at.ensures.back ∙ ap (λ place. drop place text) c.loop-size.invariant.at in
+    let short = c.if-left-size.true in
+    size_partial c.args.heading.now (drop c.loop-size.end text) c.in_ok-size.size
+    (sym (c.in_ok-size.ensures ∙ ap (record_size c.args.heading.now) left)) (omega (arith, ap length left, short))
 
-pub returns-then-branch-clause-ok : goal.returns-then-branch-clause-ok
-returns-then-branch-clause-ok c =
-    let heading = c.args.heading.now in
-    let rest = c.args.rest.now.items in
-    let short = c.if-branch.true in
-    let waits = size_partial heading rest c.in_ok-size_of_record.field-0
-    (sym (c.in_ok-size_of_record.ensures ∙ ap (record_size heading) c.deref.ensures.value)) (omega (arith, short)) in
-    kept_waiting (Records heading) rest c.args.out.now.items (records heading rest) (prepend c.args.out.now.items (records heading rest)) (records_partial heading rest waits) refl
+pub moment_of_record-moment-requires : goal.moment_of_record-moment-requires
+moment_of_record-moment-requires c =
+    let least = size_least c.args.heading.now _ c.in_ok-size.size (sym c.in_ok-size.ensures) in
+    let whole = c.if-left-size.false in
+    omega (arith, least, whole)
 
-pub returns-clause-ok : goal.returns-clause-ok
-returns-clause-ok c =
-    let heading = c.args.heading.now in
-    let text = (rc_value c.in-Ok.text).items in
-    let left = drop c.in_ok-end.end text in
-    let whole : text ≡ c.args.rest.now.items = rw (c.in-Ok.ensures.ok, c.replace.ensures.value) c.shrink_to_fit.ensures.items in
-    let value = rw c.deref-2.ensures at c.deref-3.ensures.value in
-    let behind = left_from c.deref-3.result.now text c.in_ok-end.end value in
-    let kept = kept_waiting (Records heading) left c.push_frames.new.out.items (records heading left) (prepend c.args.out.now.items (records heading c.args.rest.now.items))
-    (records_partial heading left c.in_ok-end.ensures.settled) (c.in_ok-end.ensures.ok ∙ ap (λ b. prepend c.args.out.now.items (records heading b)) whole) in
-    search (rules, kept, behind)
+pub loop-size-smaller : goal.loop-size-smaller
+loop-size-smaller c =
+    let least = size_least c.args.heading.now _ c.in_ok-size.size (sym c.in_ok-size.ensures) in
+    let whole = c.if-left-size.false in
+    let within = c.loop-size.invariant.within in
+    omega (arith, least, whole, within, c.split_at.ensures.back_len)
+
+pub loop-size-preserved : goal.loop-size-preserved
+loop-size-preserved c =
+    let text = c.args.text.now in
+    let left = c.split_at.ensures.back ∙ ap (λ place. drop place text) c.loop-size.invariant.at in
+    let least = size_least c.args.heading.now _ c.in_ok-size.size (sym c.in_ok-size.ensures) in
+    let whole = c.if-left-size.false in
+    let at = c.loop-size.invariant.at in
+    let within : c.loop-size.start + c.in_ok-size.size ≤ length text = omega (arith, whole, c.split_at.ensures.back_len, c.loop-size.invariant.within) in
+    let size = c.in_ok-size.ensures ∙ ap (record_size c.args.heading.now) left in
+    let made = c.moment_of_record-moment.ensures in
+    let moment = made.value ∙ ap (moment_of c.args.heading.now) left in
+    let more = pushed c.args.heading.now text c.loop-size.entries.items c.loop-size.end c.in_ok-size.size _ c.loop-size.invariant.cut size
+    (omega arith) (omega (arith, moment, made.early)) c.loop-size.invariant.same
+    (record { end = c.loop-size.start + c.in_ok-size.size; moment = c.moment_of_record-moment.result }) (ap (λ place. place + c.in_ok-size.size) at) moment in
+    record {
+      at = refl;
+      within = within;
+      cut = rw c.in-Ok.ensures.items more.0;
+      same = rw c.in-Ok.ensures.items more.1;
+    }

@@ -7,4 +7,4 @@ use Rattle.pcap_capture.proofs.reading.Capture.begin.Goals as goal
 
 pub returns-clause-so_far : goal.returns-clause-so_far
 returns-clause-so_far c before =
-    rw c.new.ensures.items (kept_waiting Opening [] before (capture []) (prepend before (capture [])) capture_empty refl)
+    rw c.new.ensures (kept_waiting Opening [] before (capture []) (prepend before (capture [])) capture_empty refl)

@@ -10,8 +10,8 @@ use Rattle.pcap_capture.proofs.reading.Capture.take_from.Goals as goal
 pub returns-in-Broken-clause-err : goal.returns-in-Broken-clause-err
 returns-in-Broken-clause-err g c =
     let left = g.I.Intake.left c.args.intake.now in
-    let again = failed_again (g.I.Intake.tells c.args.intake.now) c.args.most left (record { stage = c.self.inside.stage; rest = c.self.inside.rest.items }) c.args.out.now.items c.self.invariant c.in-Broken.is in
-    inr (subst (λ (s : CaptureState). IsTaken (g.I.Intake.tells c.args.intake.now) c.args.most left left s s c.args.out.now.items c.args.out.now.items (Some Failed)) c.self.view_is again)
+    let again = failed_again (g.I.Intake.tells c.args.intake.now) c.args.most left (record { stage = c.self.inside.stage; rest = c.self.inside.rest }) c.args.out.now c.self.invariant c.in-Broken.is in
+    inr (subst (λ (s : CaptureState). IsTaken (g.I.Intake.tells c.args.intake.now) c.args.most left left s s c.args.out.now c.args.out.now (Some Failed)) c.self.view_is again)
 
 pub returns-in_err-go_on : goal.returns-in_err-go_on
 returns-in_err-go_on g c =
@@ -20,12 +20,12 @@ returns-in_err-go_on g c =
     let more = g.I.Intake.left c.take_behind.new.intake in
     let fault = c.in_err-go_on.field-0.0 in
     let it = rw c.in-Ok-answer.is at c.in-Ok.ensures.ok in
-    let was : record { stage = c.stage.inside.stage; rest = c.stage.inside.rest.items } ≡ c.args.self.now = c.stage.view_is ∙ c.replace.ensures.value in
+    let was : record { stage = c.stage.inside.stage; rest = c.stage.inside.rest } ≡ c.args.self.now = c.stage.view_is ∙ c.replace.ensures.value in
     let over : c.go_on.new.self ≡ broken = c.in_err-go_on.ensures.err.0 ∙ c.replace.ensures.after ∙ c.broken.ensures in
-    let read : IsTaken tells c.args.most left more c.args.self.now c.go_on.new.self c.args.out.now.items c.go_on.new.out.items (Some fault) =
-    (gone_on_by tells c.args.most c.in-Ok-answer.taken left more it.0 _ _ _ c.args.self.now c.go_on.new.self c.args.out.now.items c.go_on.new.out.items (Some fault) was it.3 it.1 it.2 it.4
+    let read : IsTaken tells c.args.most left more c.args.self.now c.go_on.new.self c.args.out.now c.go_on.new.out (Some fault) =
+    (gone_on_by tells c.args.most c.in-Ok-answer.taken left more it.0 _ _ _ c.args.self.now c.go_on.new.self c.args.out.now c.go_on.new.out (Some fault) was it.3 it.1 it.2 it.4
     (over, c.in_err-go_on.ensures.err.1)).0 in
-    let unread : is_read_fault {T = ℕ} (Err fault) ≡ false = own_unread fault (taken_unread tells c.args.most left more c.args.self.now c.go_on.new.self c.args.out.now.items c.go_on.new.out.items fault read) in
+    let unread : is_read_fault {T = ℕ} (Err fault) ≡ false = own_unread fault (taken_unread tells c.args.most left more c.args.self.now c.go_on.new.self c.args.out.now c.go_on.new.out fault read) in
     let p = err_from_is_err_and c.from_residual.result c.from_residual.ensures.1 in
     rw (p.1, p.2) (record {
       told = c.in-Ok.ensures.told;
@@ -44,10 +44,10 @@ returns g c =
     let left = g.I.Intake.left c.args.intake.now in
     let more = g.I.Intake.left c.take_behind.new.intake in
     let it = rw c.in-Ok-answer.is at c.in-Ok.ensures.ok in
-    let was : record { stage = c.stage.inside.stage; rest = c.stage.inside.rest.items } ≡ c.args.self.now = c.stage.view_is ∙ c.replace.ensures.value in
+    let was : record { stage = c.stage.inside.stage; rest = c.stage.inside.rest } ≡ c.args.self.now = c.stage.view_is ∙ c.replace.ensures.value in
     record {
       told = c.in-Ok.ensures.told;
-      ok = gone_on_by tells c.args.most c.in-Ok-answer.taken left more it.0 _ _ _ c.args.self.now c.go_on.new.self c.args.out.now.items c.go_on.new.out.items None was it.3 it.1 it.2 it.4 c.in_ok-go_on.ensures.ok;
+      ok = gone_on_by tells c.args.most c.in-Ok-answer.taken left more it.0 _ _ _ c.args.self.now c.go_on.new.self c.args.out.now c.go_on.new.out None was it.3 it.1 it.2 it.4 c.in_ok-go_on.ensures.ok;
       err = tt;
       end = λ tells is. c.in-Ok.ensures.end tells cc;
       reads = rw c.in-Ok-answer.is at c.in-Ok.ensures.reads;

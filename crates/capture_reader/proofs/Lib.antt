@@ -1,0 +1,4 @@
+-- Lemmas for the proofs of this crate, and of those that stand on it.
+pub mod ReadFaultLaws
+pub mod ReadingLaws
+pub mod SizeLaws

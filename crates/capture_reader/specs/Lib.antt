@@ -1,0 +1,2 @@
+-- What is read of a capture.
+pub mod Readings

@@ -1,0 +1,97 @@
+-- What is read of a capture that a device gives.
+use Rattle.std.specs.Prelude.{◌≡◌, ◌≢◌, ◌⊎◌, ℕ, ◌+◌, ◌-◌, ◌*◌, Bool, true, false, List, [], ◌++◌, length, Option, None, Some, Result, Ok, Err}
+use Rattle.pcap_capture.specs.Frames.{FrameValue}
+use Rattle.pcap_capture.specs.Grammar.{IsSoFar, capture, fault_in, heading_of}
+use Rattle.pcap_capture.specs.declared.fault.PcapFault.{PcapFault}
+use Rattle.pcap_capture.specs.declared.fault.PcapFault.TheVariants.{NotPcap, IsPcapng, BadVersion, LinkType, RecordTooLong, Truncated, ReadFault, WriteFault, NoMemory, Failed}
+use Rattle.pcap_capture.specs.declared.heading.Heading.{Heading}
+use Rattle.pcap_capture.specs.declared.stage.Stage.{Stage}
+use Rattle.pcap_capture.specs.declared.stage.Stage.TheVariants.{Opening, Records, Broken}
+use Rattle.capture_reader.specs.declared.reading.Read.{Read}
+use Rattle.capture_reader.specs.declared.reading.Read.TheVariants.{Full, Last, Short, Failed as ReadFailed}
+use Rattle.capture_reader.specs.declared.reading.Progress.{Progress}
+
+-- the heading at the front of the bytes of a capture, if it is there whole and one that is read
+abbrev pub heading_in : List ℕ → Option Heading → Type 0
+heading_in bytes None = (heading : Heading) → heading_of bytes ≢ Some (Ok heading)
+heading_in bytes (Some heading) = heading_of bytes ≡ Some (Ok heading)
+
+-- The heading that is told of bytes that were read: the one that stands there, or none where memory ran out.
+abbrev pub IsHeadingTold : List ℕ → Option Heading → Option PcapFault → Type 0
+IsHeadingTold read heading fault = heading_in read heading ⊎ ((heading ≡ None) × (fault ≡ Some NoMemory))
+
+-- All of a capture was read, up to its end or to the first fault that stands in it; or the device failed behind some of
+-- its bytes; or memory ran out.
+abbrev pub IsReadTo : List ℕ → List ℕ → List FrameValue → Option PcapFault → Type 0
+IsReadTo read more frames None = (more ≡ []) × (frames ≡ (capture read).frames) × (fault_in read ≡ None)
+IsReadTo read more frames (Some fault) =
+    ((fault ≡ ReadFault) × (frames ≡ (capture read).frames) × ((capture read).fault ≡ None))
+    ⊎ ((fault ≡ NoMemory) × ((others : List FrameValue) × (frames ++ others ≡ (capture read).frames)))
+    ⊎ ((frames ≡ (capture (read ++ more)).frames) × (fault_in (read ++ more) ≡ Some fault)
+    × ((more ≡ []) ⊎ ((capture read).fault ≡ Some fault)))
+
+-- what was read of bytes: the front of them, its heading, its frames, and what ended the reading
+pub record IsReading (bytes more : List ℕ) (heading : Option Heading) (frames : List FrameValue)
+    (fault : Option PcapFault) : Type 0 where
+  pub read : List ℕ
+  pub front : bytes ≡ read ++ more
+  pub told : IsHeadingTold read heading fault
+  pub ended : IsReadTo read more frames fault
+
+-- the heading of a capture that is being read, once it is there
+abbrev pub heading_at : Stage → Option Heading
+heading_at Opening = None
+heading_at (Records heading) = Some heading
+heading_at Broken = None
+
+-- What was read of bytes in which no fault was found so far: the front of them, the heading once it is there, how many
+-- bytes of it are still to come, and the frames, of which these were taken out.
+pub record IsUnderway (gone : List FrameValue) (bytes more : List ℕ) (progress : Progress) : Type 0 where
+  pub read : List ℕ
+  pub front : bytes ≡ read ++ more
+  pub so_far : IsSoFar read [] progress.capture (gone ++ progress.piece)
+  pub known : progress.heading ≡ heading_at progress.capture.stage
+  pub to_come : progress.missing ≡ 24 - length read
+
+-- a reading that ended with this fault, or at the capture's end
+abbrev pub IsEnded : List FrameValue → List ℕ → List ℕ → Progress → Option PcapFault → Type 0
+IsEnded gone bytes more progress fault = IsReading bytes more progress.heading (gone ++ progress.piece) fault
+
+-- what a call that reads a piece comes to: more may come, or it ended
+abbrev pub IsReadOn : List FrameValue → List ℕ → List ℕ → Progress → Result Bool PcapFault → Type 0
+IsReadOn gone bytes more progress (Ok true) = IsUnderway gone bytes more progress
+IsReadOn gone bytes more progress (Ok false) = IsEnded gone bytes more progress None
+IsReadOn gone bytes more progress (Err fault) = IsEnded gone bytes more progress (Some fault)
+
+-- whether there was a piece
+abbrev pub read_by : Read → Result Bool PcapFault
+read_by Full = Ok true
+read_by Short = Ok true
+read_by Last = Ok false
+read_by (ReadFailed fault) = Err fault
+
+-- of how many bytes the frames and the rest are made at least: a frame has sixteen bytes of its own
+abbrev pub bytes_of : Progress → ℕ
+bytes_of progress = 16 * length progress.piece + length progress.capture.rest
+
+-- and how many there may be, where a device answers so many calls more: each gives 65,536 bytes at most
+abbrev pub most_bytes : Progress → ℕ → ℕ
+most_bytes progress calls = bytes_of progress + 65536 * calls
+
+-- whether memory ran out
+abbrev pub is_starved : PcapFault → Bool
+is_starved NotPcap = false
+is_starved IsPcapng = false
+is_starved BadVersion = false
+is_starved (LinkType number) = false
+is_starved (RecordTooLong count) = false
+is_starved Truncated = false
+is_starved ReadFault = false
+is_starved WriteFault = false
+is_starved NoMemory = true
+is_starved Failed = false
+
+-- whether memory ran out where a piece was read
+abbrev pub is_starving : Result Bool PcapFault → Bool
+is_starving (Ok more) = false
+is_starving (Err fault) = is_starved fault

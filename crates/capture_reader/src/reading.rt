@@ -1,0 +1,294 @@
+ghost use Rattle.std.specs.Prelude.{◌≡◌, ℕ, ◌≤◌, ◌<◌, List, [], ◌++◌, length, Ok};
+ghost use Rattle.std.specs.Prelude.{None, Some, Err, IfErr, MatchResult, Option, ◌+◌, ◌*◌, OnErr, OnOk, true, IsTrue};
+ghost use Rattle.pcap_capture.specs.Frames.{FrameValue};
+ghost use Rattle.capture_reader.specs.Readings.{IsEnded, IsReadOn, IsReading, IsUnderway};
+ghost use Rattle.capture_reader.specs.Readings.{bytes_of, heading_at, most_bytes, read_by};
+ghost use Rattle.capture_reader.specs.Readings.{is_starved, is_starving};
+ghost use Rattle.pcap_capture.specs.Counts.{IsOfReads};
+ghost use Rattle.pcap_capture.specs.Takings.{is_own, is_read_fault};
+ghost use Rattle.pcap_capture.specs.declared.fault.PcapFault.{PcapFault};
+ghost use Rattle.pcap_capture.specs.declared.heading.Heading.{Heading};
+
+use pcap_capture::{Capture, Heading, Intake, PIECE, PcapFault, Piece, Stage};
+use std::alloc::Global;
+
+/// The size of a heading, in bytes.
+const HEADING: usize = 24;
+
+/// How far a capture was read.
+#[derive(Drop)]
+pub struct Progress {
+    capture: Capture,
+    /// Its heading, once that is there whole.
+    heading: Option<Heading>,
+    /// How many bytes of the heading are still to come, 0 to 24.
+    missing: usize,
+    /// The frames that are there whole and were not taken out.
+    piece: Piece,
+    /// Whether the last piece was as large as may be.
+    is_full: bool,
+}
+
+/// The heading of a capture that was read so far, once it is there.
+fn heading_by(stage: Stage) -> Option<Heading>
+    ensures { result ≡ heading_at stage }
+{
+    match stage {
+        Stage::Records(heading) => Some(heading),
+        Stage::Opening | Stage::Broken => None,
+    }
+}
+
+/// How many bytes are to be taken next: those of the heading that are still to come, or else those of a piece.
+fn wanted(missing: usize) -> usize
+    ensures some { 0 < result }
+    ensures most { missing ≤ 24 → result ≤ 65536 }
+    ensures heading { 0 < missing → result ≤ missing }
+{
+    if missing > 0 { missing } else { PIECE }
+}
+
+/// Ends a capture of which no byte is left: no piece comes any more.
+fn finish(progress: &mut Progress) -> Result<bool, PcapFault>
+    ensures read { (gone : List FrameValue) (bytes : List ℕ)
+        → IsUnderway gone bytes [] progress.old → IsReadOn gone bytes [] progress.new result }
+    ensures missing { progress.new.missing ≡ progress.old.missing }
+    ensures heading { progress.new.heading ≡ progress.old.heading }
+    ensures few { bytes_of progress.new ≤ bytes_of progress.old }
+    ensures fault { IfErr result (λ fault. is_own fault ≡ true) }
+    ensures over { ¬ (result ≡ Ok true) }
+{
+    match progress.capture.finish() {
+        Ok(()) => Ok(false),
+        Err(fault) => Err(fault),
+    }
+}
+
+/// Takes a piece of a device, which has no byte behind the heading as long as that is to come, and reads it. Answers
+/// how many bytes were taken: none only where no byte is left.
+fn take_piece<I: Intake>(
+    alloc: Global,
+    intake: &mut I,
+    progress: &mut Progress,
+) -> Result<usize, PcapFault>
+    requires missing { progress.old.missing ≤ 24 }
+    ensures missing { progress.new.missing ≤ progress.old.missing }
+    ensures fewer { OnOk result (I.calls intake.new < I.calls intake.old) }
+    ensures heading { OnErr result (progress.new.heading ≡ progress.old.heading) }
+    ensures stays { (heading : Heading) → progress.old.capture.stage ≡ Stage.Records heading
+        → progress.old.heading ≡ Some heading → progress.new.heading ≡ Some heading }
+    ensures few { most_bytes progress.new (I.calls intake.new) ≤ most_bytes progress.old (I.calls intake.old) }
+    ensures told { I.tells intake.old → I.tells intake.new }
+    ensures read { (gone : List FrameValue) (bytes : List ℕ) → I.tells intake.old
+        → IsUnderway gone bytes (I.left intake.old) progress.old → MatchResult result
+        (λ _. IsUnderway gone bytes (I.left intake.new) progress.new)
+        (λ fault. IsEnded gone bytes (I.left intake.new) progress.new (Some fault)) }
+    ensures end { I.tells intake.old → result ≡ Ok 0 → I.left intake.new ≡ [] }
+    ensures still { result ≡ Ok 0 → (gone : List FrameValue) (bytes more : List ℕ)
+        → IsUnderway gone bytes more progress.old → progress.new.heading ≡ progress.old.heading }
+    ensures reads { IsOfReads (is_read_fault result) (I.failed intake.old) (I.failed intake.new) (I.calls intake.new) }
+    ensures no_write { ¬ (result ≡ Err PcapFault.WriteFault) }
+{
+    let most = wanted(progress.missing);
+    let taken = match progress
+        .capture
+        .take_from(alloc, intake, most, &mut progress.piece)
+    {
+        Ok(taken) => taken,
+        Err(fault) => return Err(fault),
+    };
+    progress.heading = heading_by(progress.capture.stage());
+    progress.missing = progress.missing.saturating_sub(taken);
+    progress.is_full = taken >= PIECE;
+    Ok(taken)
+}
+
+/// Takes a piece of a device, which has no byte behind the heading as long as that is to come, and reads it, or ends
+/// the capture where no byte is left. Answers whether there was a piece.
+pub fn read_piece<I: Intake>(
+    alloc: Global,
+    intake: &mut I,
+    progress: &mut Progress,
+) -> Result<bool, PcapFault>
+    requires missing { progress.old.missing ≤ 24 }
+    ensures missing { progress.new.missing ≤ progress.old.missing }
+    ensures fewer { OnOk result (I.calls intake.new < I.calls intake.old) }
+    ensures stays { (heading : Heading) → progress.old.capture.stage ≡ Stage.Records heading
+        → progress.old.heading ≡ Some heading → progress.new.heading ≡ Some heading }
+    ensures few { most_bytes progress.new (I.calls intake.new) ≤ most_bytes progress.old (I.calls intake.old) }
+    ensures told { I.tells intake.old → I.tells intake.new }
+    ensures read { (gone : List FrameValue) (bytes : List ℕ) → I.tells intake.old
+        → IsUnderway gone bytes (I.left intake.old) progress.old
+        → IsReadOn gone bytes (I.left intake.new) progress.new result }
+    ensures reads { IsOfReads (is_read_fault result) (I.failed intake.old) (I.failed intake.new) (I.calls intake.new) }
+    ensures no_write { ¬ (result ≡ Err PcapFault.WriteFault) }
+{
+    let taken = match take_piece(alloc, intake, progress) {
+        Ok(taken) => taken,
+        Err(fault) => return Err(fault),
+    };
+    if taken == 0 {
+        return finish(progress);
+    }
+    Ok(true)
+}
+
+/// What reading a piece comes to.
+#[derive(Clone, Copy)]
+pub enum Read {
+    /// It is as large as may be.
+    Full,
+    /// It is short: the device has no more bytes for now.
+    Short,
+    /// The capture ended.
+    Last,
+    /// The reading ended by this fault.
+    Failed(PcapFault),
+}
+
+impl Read {
+    /// Whether there was a piece.
+    pub fn read(self) -> Result<bool, PcapFault>
+        ensures { result ≡ read_by self }
+    {
+        match self {
+            Read::Full | Read::Short => Ok(true),
+            Read::Last => Ok(false),
+            Read::Failed(fault) => Err(fault),
+        }
+    }
+}
+
+/// Takes a piece of a device, and reads it, or ends the capture where no byte is left.
+pub fn read_one<I: Intake>(alloc: Global, intake: &mut I, progress: &mut Progress) -> Read
+    requires missing { progress.old.missing ≤ 24 }
+    ensures missing { progress.new.missing ≤ progress.old.missing }
+    ensures fewer { OnOk (read_by result) (I.calls intake.new < I.calls intake.old) }
+    ensures stays { (heading : Heading) → progress.old.capture.stage ≡ Stage.Records heading
+        → progress.old.heading ≡ Some heading → progress.new.heading ≡ Some heading }
+    ensures few { most_bytes progress.new (I.calls intake.new) ≤ most_bytes progress.old (I.calls intake.old) }
+    ensures told { I.tells intake.old → I.tells intake.new }
+    ensures read { (gone : List FrameValue) (bytes : List ℕ) → I.tells intake.old
+        → IsUnderway gone bytes (I.left intake.old) progress.old
+        → IsReadOn gone bytes (I.left intake.new) progress.new (read_by result) }
+    ensures reads { IsOfReads (is_read_fault (read_by result)) (I.failed intake.old) (I.failed intake.new)
+        (I.calls intake.new) }
+    ensures no_write { ¬ (read_by result ≡ Err PcapFault.WriteFault) }
+{
+    let taken = match take_piece(alloc, intake, progress) {
+        Ok(taken) => taken,
+        Err(fault) => return Read::Failed(fault),
+    };
+    if taken == 0 {
+        return ended(finish(progress));
+    }
+    if taken < PIECE {
+        Read::Short
+    } else {
+        Read::Full
+    }
+}
+
+/// What reading comes to where it ended so.
+fn ended(end: Result<bool, PcapFault>) -> Read
+    requires { ¬ (end ≡ Ok true) }
+    ensures { read_by result ≡ end }
+{
+    match end {
+        Ok(_) => Read::Last,
+        Err(fault) => Read::Failed(fault),
+    }
+}
+
+/// Reads the heading of a capture, by calls of `take` of its own, so that it is known when a record behind it is at
+/// fault.
+pub fn read_heading<I: Intake>(
+    alloc: Global,
+    intake: &mut I,
+    progress: &mut Progress,
+) -> Result<Heading, PcapFault>
+    requires missing { progress.old.missing ≤ 24 }
+    ensures missing { progress.new.missing ≤ progress.old.missing }
+    ensures few { most_bytes progress.new (I.calls intake.new) ≤ most_bytes progress.old (I.calls intake.old) }
+    ensures told { I.tells intake.old → I.tells intake.new }
+    ensures read { (bytes : List ℕ) → I.tells intake.old → IsUnderway [] bytes (I.left intake.old) progress.old
+        → MatchResult result
+        (λ heading. IsUnderway [] bytes (I.left intake.new) progress.new × (progress.new.heading ≡ Some heading))
+        (λ fault. (frames : List FrameValue) × IsReading bytes (I.left intake.new) None frames (Some fault)) }
+    ensures reads { IsOfReads (is_read_fault result) (I.failed intake.old) (I.failed intake.new) (I.calls intake.new) }
+    ensures no_write { ¬ (result ≡ Err PcapFault.WriteFault) }
+{
+    loop {
+        if let Some(heading) = progress.heading {
+            return Ok(heading);
+        }
+        let taken = match take_piece(alloc, intake, progress) {
+            Ok(taken) => taken,
+            Err(fault) => return Err(fault),
+        };
+        if taken == 0 {
+            return Err(PcapFault::Truncated);
+        }
+    }
+}
+
+/// Whether memory ran out.
+pub fn is_starved(fault: PcapFault) -> bool
+    ensures { result ≡ is_starved fault }
+{
+    matches!(fault, PcapFault::NoMemory)
+}
+
+/// Whether memory ran out where a piece was read.
+pub fn is_starving(read: Result<bool, PcapFault>) -> bool
+    ensures { result ≡ is_starving read }
+{
+    match read {
+        Ok(_) => false,
+        Err(fault) => is_starved(fault),
+    }
+}
+
+impl Progress {
+    /// Before the first byte.
+    pub fn begin(alloc: Global) -> Self
+        ensures missing { result.missing ≡ 24 }
+        ensures few { bytes_of result ≡ 0 }
+        ensures begun { (bytes : List ℕ) → IsUnderway [] bytes bytes result }
+    {
+        Progress {
+            capture: Capture::begin(alloc),
+            heading: None,
+            missing: HEADING,
+            piece: Piece::new(alloc),
+            is_full: false,
+        }
+    }
+
+    /// Whether the piece that was read last was as large as may be, so that the device may have more at once.
+    pub fn is_full(&self) -> bool {
+        self.is_full
+    }
+
+    /// Whether no frame is there whole that was not taken out.
+    pub fn is_empty(&self) -> bool
+        ensures { IsTrue result → self.now.piece ≡ [] }
+    {
+        self.piece.is_empty()
+    }
+
+    /// Takes the frames out that are there whole, in the piece that they were read in.
+    pub fn take_piece(&mut self, alloc: Global) -> Piece
+        ensures taken { result ≡ self.old.piece }
+        ensures none { self.new.piece ≡ [] }
+        ensures missing { self.new.missing ≡ self.old.missing }
+        ensures heading { self.new.heading ≡ self.old.heading }
+        ensures few { 16 * length result + bytes_of self.new ≡ bytes_of self.old }
+        ensures read { (gone : List FrameValue) (bytes more : List ℕ) → IsUnderway gone bytes more self.old
+            → IsUnderway (gone ++ result) bytes more self.new }
+        ensures ended { (gone : List FrameValue) (bytes more : List ℕ) (fault : Option PcapFault)
+            → IsEnded gone bytes more self.old fault → IsReading bytes more self.old.heading (gone ++ result) fault }
+    {
+        std::mem::replace(&mut self.piece, Piece::new(alloc))
+    }
+}

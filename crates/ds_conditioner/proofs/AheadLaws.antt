@@ -1,0 +1,60 @@
+-- What frames send at a port comes to no stop before a head start of the port.
+use Rattle.std.proofs.Common.{◌≡◌, ◌≤◌, ◌+◌, ℕ, true, List, [], ◌∷◌, take, get_or, Option, None, Some, refl, sym, ap, ◌∙◌, subst, arith, position, slice_get, IfSome, bytes_eq}
+use Rattle.std.proofs.lemmas.Bool.{and_parts}
+use Rattle.std.proofs.lemmas.List.Elements.{All-cons, All-nil}
+use Rattle.std.proofs.lemmas.List.Quantifiers.{position-Some}
+use Rattle.std.proofs.lemmas.Option.{slice_get-get_or}
+use Rattle.std.proofs.lemmas.Slice.Eq.{bytes_eq-Decides}
+use Rattle.af_marker.specs.declared.ipv4.Header.{Header}
+use Rattle.pcap_capture.specs.declared.heading.LinkType.{LinkType}
+use Rattle.ds_domain_base.specs.declared.contract.Contract.{Contract}
+use Rattle.ds_checker.specs.Acceptance.{Table}
+use Rattle.meter_fabric_base.specs.Grounds.{contract_of, ground_of, most_flows}
+use Rattle.meter_fabric_base.proofs.GroundLaws.{found_at}
+use Rattle.frame_marker.specs.Frames.{header_in}
+use Rattle.frame_marker.specs.Sights.{flow_of, key_of, sight_by, sight_for, sight_of, takes}
+use Rattle.frame_marker.specs.declared.sight.Sight.{Sight}
+use Rattle.ds_conductor_base.proofs.HeadStartLaws.{head_starts_hold}
+use Rattle.ds_conductor_base.specs.Streams.{AreSentAt, ComeFrom}
+use Rattle.ds_conductor_base.specs.Ways.{IsHeadStart}
+use Rattle.ds_conductor_base.specs.declared.sent.Sent.{Sent}
+use Rattle.ds_conditioner.specs.Sendings.{AreAhead, sent_by}
+
+module _ (t : Table) (port : List ℕ) where
+  abbrev IsOfPort : ℕ → Type 0
+  IsOfPort flow = IfSome (contract_of (ground_of t) flow) (λ c. c.port ≡ port)
+
+  -- the contract that takes a frame is of the port
+  of_port : (header : Header) (flow : ℕ) → flow_of t.contracts port (key_of header) ≡ Some flow → IsOfPort flow
+  unfolding flow_of
+  of_port header flow found = by_contracts (take most_flows t.contracts) found (found_at t flow)
+    where
+      by_contracts : (contracts : List Contract) → position (takes port (key_of header)) contracts ≡ Some flow → contract_of (ground_of t) flow ≡ slice_get contracts flow → IsOfPort flow
+      by_contracts [] place at = absurd cc
+      by_contracts (c ∷ contracts) place at =
+          let there = position-Some (takes port (key_of header)) (c ∷ contracts) flow c place in
+          let own = get_or (c ∷ contracts) flow c in
+          let named : bytes_eq port own.port ≡ true = (and_parts (bytes_eq port own.port) _ there.1).0 in
+          subst (λ (found : Option Contract). IfSome found (λ x. x.port ≡ port)) (sym (at ∙ slice_get-get_or (c ∷ contracts) flow c there.0))
+          (sym ((bytes_eq-Decides port own.port).0 named))
+
+  by_flow : (header : Header) (found : Option ℕ) (number moment : ℕ) → flow_of t.contracts port (key_of header) ≡ found → AreSentAt t port moment (sent_by (sight_for header found) number moment)
+  by_flow header None number moment none = All-nil (λ (s : Sent). (moment ≤ s.moment) × IsOfPort s.flow)
+  by_flow header (Some flow) number moment found =
+      let s : Sent = record { flow = flow; packet = number; size = header.total; dscp = header.dscp; moment = moment } in
+      All-cons (λ (s : Sent). (moment ≤ s.moment) × IsOfPort s.flow) s [] (omega arith, of_port header flow found) (All-nil (λ (s : Sent). (moment ≤ s.moment) × IsOfPort s.flow))
+
+  by_header : (found : Option Header) (number moment : ℕ) → AreSentAt t port moment (sent_by (sight_by t.contracts port found) number moment)
+  by_header None number moment = All-nil (λ (s : Sent). (moment ≤ s.moment) × IsOfPort s.flow)
+  by_header (Some header) number moment = by_flow header (flow_of t.contracts port (key_of header)) number moment refl
+
+  sent_at : (link : LinkType) (bytes : List ℕ) (number moment : ℕ) → AreSentAt t port moment (sent_by (sight_of t.contracts port link bytes) number moment)
+  unfolding sight_of
+  sent_at link bytes number moment = by_header (header_in link bytes) number moment
+
+-- the rules of a port's contracts, and a head start of the port
+pub rules_ahead : (t : Table) (contracts : List Contract) (port : List ℕ) (link : LinkType) (view : List ℕ → Sight) (delay : ℕ) → contracts ≡ t.contracts
+    → ((bytes : List ℕ) → view bytes ≡ sight_of contracts port link bytes) → IsHeadStart t port delay → AreAhead t view delay
+rules_ahead t contracts port link view delay own sees ahead bytes number moment =
+    subst (λ (sight : Sight). ComeFrom t (moment + delay) (sent_by sight number moment)) (sym (sees bytes ∙ ap (λ cs. sight_of cs port link bytes) own))
+    (head_starts_hold t port delay moment (sent_by (sight_of t.contracts port link bytes) number moment) ahead (sent_at t port link bytes number moment))

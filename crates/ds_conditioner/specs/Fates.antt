@@ -1,0 +1,25 @@
+-- What becomes of frames that are handed out.
+use Rattle.std.specs.Prelude.{ℕ, List, [], ◌++◌, take, drop, Some}
+use Rattle.af_marker.specs.Marks.{marked}
+use Rattle.pcap_capture.specs.Frames.{FrameValue}
+use Rattle.frame_marker.specs.Marks.{IsMarkOf}
+use Rattle.frame_marker.specs.declared.mark.Mark.{Mark}
+use Rattle.ds_conditioner.specs.Texts.{plain_text}
+use Rattle.ds_conditioner.specs.declared.fate.Fate.{Fate}
+use Rattle.ds_conditioner.specs.declared.fate.Fate.TheVariants.{Kept, LeftOut, Marked}
+
+-- a frame whose packet starts where its mark says, with a code point put in there
+abbrev pub put_in : Mark → ℕ → List ℕ → List ℕ
+put_in mark dscp bytes = take mark.start bytes ++ marked dscp (drop mark.start bytes)
+
+-- the text of a frame's record, by what becomes of it
+abbrev pub fate_text : FrameValue → Fate → List ℕ
+fate_text f Kept = plain_text f
+fate_text f LeftOut = []
+fate_text f (Marked mark dscp) = f.head ++ put_in mark dscp f.bytes
+
+-- this can become of a frame: where it is marked, the mark is one of its own
+abbrev pub IsFateOf : FrameValue → Fate → Type 0
+IsFateOf f Kept = Unit {0}
+IsFateOf f LeftOut = Unit {0}
+IsFateOf f (Marked mark dscp) = IsMarkOf (Some mark) f.bytes

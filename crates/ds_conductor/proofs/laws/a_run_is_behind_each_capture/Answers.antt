@@ -1,5 +1,0 @@
-use Rattle.ds_conductor.proofs.StampLaws.{run_behind_capture}
-use Rattle.ds_conductor.proofs.laws.a_run_is_behind_each_capture.Goals as goal
-
-pub returns : goal.returns
-returns c = run_behind_capture

@@ -1,5 +1,0 @@
-use Rattle.ds_conductor.proofs.StampLaws.{stamps_are_early}
-use Rattle.ds_conductor.proofs.laws.stamps_are_early.Goals as goal
-
-pub returns : goal.returns
-returns c = stamps_are_early

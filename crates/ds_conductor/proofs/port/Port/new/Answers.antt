@@ -1,9 +1,0 @@
-use Rattle.frame_marker.specs.Ports.{sight_at}
-use Rattle.ds_conductor.proofs.AheadLaws.{rules_ahead}
-use Rattle.ds_conductor.proofs.port.Port.new.Goals as goal
-
-pub invariant_of-result : goal.invariant_of-result
-invariant_of-result c = record {
-  holds = rules_ahead c.args.accepted.now c.contracts.result.now c.args.name c.args.heading.link (sight_at c.in_ok-classifier.classifier c.args.heading.link)
-      c.head_start-ahead.result c.contracts.ensures.value (c.in_ok-classifier.ensures c.args.heading.link) c.head_start-ahead.ensures.holds;
-}

@@ -1,8 +1,0 @@
-use Rattle.std.proofs.Common.{[], ap, refl}
-use Rattle.pcap_capture.specs.Grammar.{CaptureState}
-use Rattle.ds_conductor.proofs.ReadingLaws.{begun}
-use Rattle.ds_conductor.proofs.reading.Progress.begin.Goals as goal
-
-pub returns-clause-begun : goal.returns-clause-begun
-returns-clause-begun c bytes =
-    begun bytes _ (rw c.new.ensures.items (c.begin.ensures.so_far [])) (ap (λ (s : CaptureState). s.stage) c.begin.ensures.value) refl refl
