@@ -1,5 +1,5 @@
 -- How many frames stand in so many bytes.
-use Rattle.std.proofs.Common.{◌≡◌, ℕ, zero, suc, ◌+◌, ◌*◌, ◌≤◌, List, [], ◌++◌, length, drop, Option, None, Some, Result, Ok, Err, refl, ap, length-append, length-drop, inl, inr, arith}
+use Rattle.std.proofs.Common.{◌≡◌, ℕ, zero, suc, ◌+◌, ◌*◌, ◌≤◌, ◌<◌, ◌↔◌, Bool, true, false, List, [], ◌++◌, length, drop, Option, None, Some, Result, Ok, Err, refl, ap, length-append, length-drop, inl, inr, arith}
 use Rattle.pcap_capture.specs.Frames.{FrameValue}
 use Rattle.pcap_capture.specs.Grammar.{CaptureState, Next, Partial, TooLong, Whole, Reading, Stops, after_heading, broken, capture, from_next, heading_of, next_of, prepend, read_on, reading, records, records_within}
 use Rattle.pcap_capture.specs.Takings.{IsTaken}
@@ -8,6 +8,7 @@ use Rattle.pcap_capture.specs.declared.heading.Heading.{Heading}
 use Rattle.pcap_capture.specs.declared.stage.Stage.{Stage}
 use Rattle.pcap_capture.specs.declared.stage.Stage.TheVariants.{Opening, Records, Broken}
 use Rattle.pcap_capture.proofs.GrammarLaws.{after_shorter}
+use Rattle.capture_reader.specs.Readings.{IsPieceOf}
 
 -- the bytes of the frames' own heads, and those that are left over
 abbrev pub size_of : Reading → ℕ
@@ -78,3 +79,17 @@ pub taken_size : (tells : Type 0) (most : ℕ) (left more : List ℕ) (old new :
 taken_size tells most left more old new there frames None it = let all = fed_size old new it.piece there frames it.read in omega (arith, all, it.few)
 taken_size tells most left more old new there frames (Some fault) it =
     let all = stopped_size old new it.piece there frames fault it.read.0 it.read.1 in omega (arith, all, it.few)
+
+-- whether a piece is full, by how many bytes were taken
+pub full_piece : (left more piece : List ℕ) (taken : ℕ) (is_full : Bool) → ((is_full ≡ true) ↔ (65536 ≤ taken)) → left ≡ piece ++ more → length piece ≡ taken → length piece ≤ 65536
+    → IsPieceOf left more is_full
+full_piece left more piece taken is_full full front count most = record {
+  piece = piece;
+  front = front;
+  most = most;
+  full = (λ is. let some = full.0 is in omega (arith, some, count, most), λ even. full.1 (omega (arith, even, count)));
+}
+
+pub unfilled : (taken : ℕ) (is_full : Bool) → ((is_full ≡ true) ↔ (65536 ≤ taken)) → taken < 65536 → is_full ≡ false
+unfilled taken true full less = let most = full.0 refl in absurd (omega (arith, most, less))
+unfilled taken false full less = refl

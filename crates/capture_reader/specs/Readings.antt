@@ -1,7 +1,9 @@
 -- What is read of a capture that a device gives.
-use Rattle.std.specs.Prelude.{◌≡◌, ◌≢◌, ◌⊎◌, ℕ, ◌+◌, ◌-◌, ◌*◌, Bool, true, false, List, [], ◌++◌, length, Option, None, Some, Result, Ok, Err}
+use Rattle.std.specs.Prelude.{◌≡◌, ◌≢◌, ◌⊎◌, ◌↔◌, ℕ, ◌+◌, ◌-◌, ◌*◌, ◌≤◌, ◌<◌, Bool, true, false, List, [], ◌++◌, length, Option, None, Some, Result, Ok, Err, OnOk}
+use Rattle.pcap_capture.specs.Counts.{IsOfReads}
 use Rattle.pcap_capture.specs.Frames.{FrameValue}
 use Rattle.pcap_capture.specs.Grammar.{IsSoFar, capture, fault_in, heading_of}
+use Rattle.pcap_capture.specs.Takings.{is_read_fault}
 use Rattle.pcap_capture.specs.declared.fault.PcapFault.{PcapFault}
 use Rattle.pcap_capture.specs.declared.fault.PcapFault.TheVariants.{NotPcap, IsPcapng, BadVersion, LinkType, RecordTooLong, Truncated, ReadFault, WriteFault, NoMemory, Failed}
 use Rattle.pcap_capture.specs.declared.heading.Heading.{Heading}
@@ -70,6 +72,13 @@ read_by Short = Ok true
 read_by Last = Ok false
 read_by (ReadFailed fault) = Err fault
 
+-- whether the piece that was read is full
+abbrev pub is_full_by : Read → Bool
+is_full_by Full = true
+is_full_by Short = false
+is_full_by Last = false
+is_full_by (ReadFailed fault) = false
+
 -- of how many bytes the frames and the rest are made at least: a frame has sixteen bytes of its own
 abbrev pub bytes_of : Progress → ℕ
 bytes_of progress = 16 * length progress.piece + length progress.capture.rest
@@ -77,6 +86,39 @@ bytes_of progress = 16 * length progress.piece + length progress.capture.rest
 -- and how many there may be, where a device answers so many calls more: each gives 65,536 bytes at most
 abbrev pub most_bytes : Progress → ℕ → ℕ
 most_bytes progress calls = bytes_of progress + 65536 * calls
+
+-- once the heading of a capture is known, it stays
+abbrev pub IsHeadingKept : Progress → Progress → Type 0
+IsHeadingKept before after = (heading : Heading) → before.capture.stage ≡ Records heading
+    → before.heading ≡ Some heading → after.heading ≡ Some heading
+
+-- whether a piece was there, if only one of no byte
+abbrev pub piece_by : Result ℕ PcapFault → Result Bool PcapFault
+piece_by (Ok taken) = Ok true
+piece_by (Err fault) = Err fault
+
+-- A piece that a device gave of the bytes that it had left: it has 65,536 bytes at most, and is full if it has as many.
+pub record IsPieceOf (left more : List ℕ) (is_full : Bool) : Type 0 where
+  pub piece : List ℕ
+  pub front : left ≡ piece ++ more
+  pub most : length piece ≤ 65536
+  pub full : (is_full ≡ true) ↔ (length piece ≡ 65536)
+
+-- What reading a piece comes to, and whether it is full, by what a device tells, has left, still answers and counts,
+-- before and after.
+pub record IsPieceRead {A : Type 0} (tells : A → Type 0) (left : A → List ℕ) (calls failed : A → ℕ) (old new : A)
+    (before after : Progress) (result : Result Bool PcapFault) (is_full : Bool) : Type 0 where
+  pub missing : after.missing ≤ before.missing
+  pub fewer : OnOk result (calls new < calls old)
+  pub stays : IsHeadingKept before after
+  pub few : most_bytes after (calls new) ≤ most_bytes before (calls old)
+  pub told : tells old → tells new
+  pub read : (gone : List FrameValue) (bytes : List ℕ) → tells old → IsUnderway gone bytes (left old) before
+      → IsReadOn gone bytes (left new) after result
+  pub size : OnOk result (tells old → IsPieceOf (left old) (left new) is_full)
+  pub full : OnOk result (after.is_full ≡ is_full)
+  pub reads : IsOfReads (is_read_fault result) (failed old) (failed new) (calls new)
+  pub no_write : ¬ (result ≡ Err WriteFault)
 
 -- whether memory ran out
 abbrev pub is_starved : PcapFault → Bool

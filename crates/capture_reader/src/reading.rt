@@ -1,8 +1,8 @@
-ghost use Rattle.std.specs.Prelude.{◌≡◌, ℕ, ◌≤◌, ◌<◌, List, [], ◌++◌, length, Ok};
-ghost use Rattle.std.specs.Prelude.{None, Some, Err, IfErr, MatchResult, Option, ◌+◌, ◌*◌, OnErr, OnOk, true, IsTrue};
+ghost use Rattle.std.specs.Prelude.{◌≡◌, ◌↔◌, ◌≤◌, ◌<◌, ◌+◌, ◌*◌, ℕ, List, [], ◌++◌, length, false, true, IsTrue};
+ghost use Rattle.std.specs.Prelude.{None, Some, Option, Ok, Err, IfErr, IfOk, MatchResult, OnErr};
 ghost use Rattle.pcap_capture.specs.Frames.{FrameValue};
-ghost use Rattle.capture_reader.specs.Readings.{IsEnded, IsReadOn, IsReading, IsUnderway};
-ghost use Rattle.capture_reader.specs.Readings.{bytes_of, heading_at, most_bytes, read_by};
+ghost use Rattle.capture_reader.specs.Readings.{IsEnded, IsPieceRead, IsReadOn, IsReading, IsUnderway};
+ghost use Rattle.capture_reader.specs.Readings.{bytes_of, heading_at, is_full_by, most_bytes, piece_by, read_by};
 ghost use Rattle.capture_reader.specs.Readings.{is_starved, is_starving};
 ghost use Rattle.pcap_capture.specs.Counts.{IsOfReads};
 ghost use Rattle.pcap_capture.specs.Takings.{is_own, is_read_fault};
@@ -54,6 +54,7 @@ fn finish(progress: &mut Progress) -> Result<bool, PcapFault>
         → IsUnderway gone bytes [] progress.old → IsReadOn gone bytes [] progress.new result }
     ensures missing { progress.new.missing ≡ progress.old.missing }
     ensures heading { progress.new.heading ≡ progress.old.heading }
+    ensures full { progress.new.is_full ≡ progress.old.is_full }
     ensures few { bytes_of progress.new ≤ bytes_of progress.old }
     ensures fault { IfErr result (λ fault. is_own fault ≡ true) }
     ensures over { ¬ (result ≡ Ok true) }
@@ -72,22 +73,13 @@ fn take_piece<I: Intake>(
     progress: &mut Progress,
 ) -> Result<usize, PcapFault>
     requires missing { progress.old.missing ≤ 24 }
-    ensures missing { progress.new.missing ≤ progress.old.missing }
-    ensures fewer { OnOk result (I.calls intake.new < I.calls intake.old) }
+    ensures piece { IsPieceRead I.tells I.left I.calls I.failed intake.old intake.new progress.old progress.new
+        (piece_by result) progress.new.is_full }
+    ensures full { IfOk result (λ taken. (progress.new.is_full ≡ true) ↔ (65536 ≤ taken)) }
     ensures heading { OnErr result (progress.new.heading ≡ progress.old.heading) }
-    ensures stays { (heading : Heading) → progress.old.capture.stage ≡ Stage.Records heading
-        → progress.old.heading ≡ Some heading → progress.new.heading ≡ Some heading }
-    ensures few { most_bytes progress.new (I.calls intake.new) ≤ most_bytes progress.old (I.calls intake.old) }
-    ensures told { I.tells intake.old → I.tells intake.new }
-    ensures read { (gone : List FrameValue) (bytes : List ℕ) → I.tells intake.old
-        → IsUnderway gone bytes (I.left intake.old) progress.old → MatchResult result
-        (λ _. IsUnderway gone bytes (I.left intake.new) progress.new)
-        (λ fault. IsEnded gone bytes (I.left intake.new) progress.new (Some fault)) }
     ensures end { I.tells intake.old → result ≡ Ok 0 → I.left intake.new ≡ [] }
     ensures still { result ≡ Ok 0 → (gone : List FrameValue) (bytes more : List ℕ)
         → IsUnderway gone bytes more progress.old → progress.new.heading ≡ progress.old.heading }
-    ensures reads { IsOfReads (is_read_fault result) (I.failed intake.old) (I.failed intake.new) (I.calls intake.new) }
-    ensures no_write { ¬ (result ≡ Err PcapFault.WriteFault) }
 {
     let most = wanted(progress.missing);
     let taken = match progress
@@ -111,17 +103,8 @@ pub fn read_piece<I: Intake>(
     progress: &mut Progress,
 ) -> Result<bool, PcapFault>
     requires missing { progress.old.missing ≤ 24 }
-    ensures missing { progress.new.missing ≤ progress.old.missing }
-    ensures fewer { OnOk result (I.calls intake.new < I.calls intake.old) }
-    ensures stays { (heading : Heading) → progress.old.capture.stage ≡ Stage.Records heading
-        → progress.old.heading ≡ Some heading → progress.new.heading ≡ Some heading }
-    ensures few { most_bytes progress.new (I.calls intake.new) ≤ most_bytes progress.old (I.calls intake.old) }
-    ensures told { I.tells intake.old → I.tells intake.new }
-    ensures read { (gone : List FrameValue) (bytes : List ℕ) → I.tells intake.old
-        → IsUnderway gone bytes (I.left intake.old) progress.old
-        → IsReadOn gone bytes (I.left intake.new) progress.new result }
-    ensures reads { IsOfReads (is_read_fault result) (I.failed intake.old) (I.failed intake.new) (I.calls intake.new) }
-    ensures no_write { ¬ (result ≡ Err PcapFault.WriteFault) }
+    ensures { IsPieceRead I.tells I.left I.calls I.failed intake.old intake.new progress.old progress.new result
+        progress.new.is_full }
 {
     let taken = match take_piece(alloc, intake, progress) {
         Ok(taken) => taken,
@@ -162,18 +145,8 @@ impl Read {
 /// Takes a piece of a device, and reads it, or ends the capture where no byte is left.
 pub fn read_one<I: Intake>(alloc: Global, intake: &mut I, progress: &mut Progress) -> Read
     requires missing { progress.old.missing ≤ 24 }
-    ensures missing { progress.new.missing ≤ progress.old.missing }
-    ensures fewer { OnOk (read_by result) (I.calls intake.new < I.calls intake.old) }
-    ensures stays { (heading : Heading) → progress.old.capture.stage ≡ Stage.Records heading
-        → progress.old.heading ≡ Some heading → progress.new.heading ≡ Some heading }
-    ensures few { most_bytes progress.new (I.calls intake.new) ≤ most_bytes progress.old (I.calls intake.old) }
-    ensures told { I.tells intake.old → I.tells intake.new }
-    ensures read { (gone : List FrameValue) (bytes : List ℕ) → I.tells intake.old
-        → IsUnderway gone bytes (I.left intake.old) progress.old
-        → IsReadOn gone bytes (I.left intake.new) progress.new (read_by result) }
-    ensures reads { IsOfReads (is_read_fault (read_by result)) (I.failed intake.old) (I.failed intake.new)
-        (I.calls intake.new) }
-    ensures no_write { ¬ (read_by result ≡ Err PcapFault.WriteFault) }
+    ensures { IsPieceRead I.tells I.left I.calls I.failed intake.old intake.new progress.old progress.new
+        (read_by result) (is_full_by result) }
 {
     let taken = match take_piece(alloc, intake, progress) {
         Ok(taken) => taken,
@@ -192,7 +165,8 @@ pub fn read_one<I: Intake>(alloc: Global, intake: &mut I, progress: &mut Progres
 /// What reading comes to where it ended so.
 fn ended(end: Result<bool, PcapFault>) -> Read
     requires { ¬ (end ≡ Ok true) }
-    ensures { read_by result ≡ end }
+    ensures read { read_by result ≡ end }
+    ensures full { is_full_by result ≡ false }
 {
     match end {
         Ok(_) => Read::Last,
@@ -253,6 +227,7 @@ impl Progress {
     /// Before the first byte.
     pub fn begin(alloc: Global) -> Self
         ensures missing { result.missing ≡ 24 }
+        ensures full { result.is_full ≡ false }
         ensures few { bytes_of result ≡ 0 }
         ensures begun { (bytes : List ℕ) → IsUnderway [] bytes bytes result }
     {
@@ -266,13 +241,15 @@ impl Progress {
     }
 
     /// Whether the piece that was read last was as large as may be, so that the device may have more at once.
-    pub fn is_full(&self) -> bool {
+    pub fn is_full(&self) -> bool
+        ensures { result ≡ self.now.is_full }
+    {
         self.is_full
     }
 
     /// Whether no frame is there whole that was not taken out.
     pub fn is_empty(&self) -> bool
-        ensures { IsTrue result → self.now.piece ≡ [] }
+        ensures { IsTrue result ↔ (self.now.piece ≡ []) }
     {
         self.piece.is_empty()
     }
@@ -283,6 +260,7 @@ impl Progress {
         ensures none { self.new.piece ≡ [] }
         ensures missing { self.new.missing ≡ self.old.missing }
         ensures heading { self.new.heading ≡ self.old.heading }
+        ensures full { self.new.is_full ≡ self.old.is_full }
         ensures few { 16 * length result + bytes_of self.new ≡ bytes_of self.old }
         ensures read { (gone : List FrameValue) (bytes more : List ℕ) → IsUnderway gone bytes more self.old
             → IsUnderway (gone ++ result) bytes more self.new }

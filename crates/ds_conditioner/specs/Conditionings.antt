@@ -122,6 +122,10 @@ IsUndecided c =
     ⊎ ((decided c.under_way ≡ None)
     × ((first : HeldValue) × (others : List HeldValue) × (c.held.held ≡ first ∷ others) × IsSome first.packet))
 
+-- every visit that was due is made: each that waits is later than the moment before which no later packet comes to a hop
+abbrev pub IsUpToDate : Conditioner → Type 0
+IsUpToDate c = All (λ visit. c.due < visit.moment) c.under_way.waiting
+
 -- What the first frame that is held sent, if it sent a packet, is taken from what is under way, and counted with the
 -- colour that it left with.
 abbrev pub IsDecided : Option (Sent × Colour) → Conditioner → Conditioner → Type 0

@@ -1,5 +1,5 @@
 ghost use Rattle.std.specs.Prelude.{◌≡◌, ℕ, ◌+◌, ◌-◌, ◌<◌, ◌≤◌, ◌^◌, Bool, true, false, List, [], ◌++◌, length};
-ghost use Rattle.std.specs.Prelude.{All, zip, option_to_list, IfOk, IfSome, MatchOption, OnErr, OnOk};
+ghost use Rattle.std.specs.Prelude.{All, zip, option_to_list, IfOk, MatchOption, OnErr, OnOk};
 ghost use Rattle.pcap_capture.specs.Frames.{FrameValue};
 ghost use Rattle.ds_conductor_base.specs.Passing.{colours_of};
 ghost use Rattle.ds_conductor_base.specs.Streams.{colours_left, decided, next_place};
@@ -7,7 +7,8 @@ ghost use Rattle.ds_conductor_base.specs.Visits.{later};
 ghost use Rattle.ds_conditioner.specs.Conditionings.{AreMarksOf, AreSeen, AreSeenInPart, AreSeenOf};
 ghost use Rattle.ds_conditioner.specs.Conditionings.{AreUnseen, IsBounded};
 ghost use Rattle.ds_conditioner.specs.Conditionings.{IsConditioned, IsDecided, IsFirstSeen, IsFirstTakenIn};
-ghost use Rattle.ds_conditioner.specs.Conditionings.{IsOneHandedOut, IsSeeing, IsSeenAtPort, IsUndecided, see_at};
+ghost use Rattle.ds_conditioner.specs.Conditionings.{IsOneHandedOut, IsSeeing, IsSeenAtPort, IsUndecided, IsUpToDate};
+ghost use Rattle.ds_conditioner.specs.Conditionings.{see_at};
 ghost use Rattle.ds_conditioner.specs.Handings.{AreHandedOut, IsHandedOut};
 ghost use Rattle.ds_conditioner.specs.Helds.{CanBeNoted};
 ghost use Rattle.ds_runs.specs.Judging.{verdict_with};
@@ -28,7 +29,7 @@ use crate::sending::{Counts, later, packet_of};
 use crate::stretch::Stretch;
 use crate::tally::Tallies;
 use ds_checker::Accepted;
-use ds_conductor_base::{Gate, Sent, UnderWay};
+use ds_conductor_base::{Gate, OrderGuess, Sent, UnderWay};
 use ds_runs::Judge;
 use frame_marker::Seen;
 use moment_core::{Colour, Moment, PacketSize};
@@ -187,11 +188,19 @@ impl<'a> Conditioner<'a> {
         ensures seen { IsSeenAtPort port.now lot → AreSeen result port.now self.old self.new lot.frames }
         ensures unseen { IsSeenAtPort port.now lot → AreSeenInPart result port.now self.old self.new lot.frames }
     {
-        let (piece, seen) = lot.parts();
+        let (piece, seen, guess) = lot.parts();
+        self.guess(guess);
         match seen {
             Some(seen) => self.take_all(port, piece, seen.as_slice()),
             None => self.see_all(port, piece),
         }
+    }
+
+    /// Takes a guess at the order of the visits of the packets that are sent next.
+    fn guess(&mut self, guess: OrderGuess)
+        ensures { self.new ≡ self.old }
+    {
+        self.under_way.guess(guess);
     }
 
     /// How many frames were seen.
@@ -205,7 +214,7 @@ impl<'a> Conditioner<'a> {
     pub fn make_due<G: Gate>(&mut self, gate: &G)
         ensures bounded { IsBounded self.old → IsBounded self.new }
         ensures records { self.new.counts.records ≡ self.old.counts.records }
-        ensures due { All (λ visit. self.old.due < visit.moment) self.new.under_way.waiting }
+        ensures due { IsUpToDate self.new }
         ensures made { (p : Port) (frames : List FrameValue) (text : List ℕ) → IsConditioned p true frames text self.old
             → IsConditioned p true frames text self.new }
     {
@@ -247,7 +256,8 @@ impl<'a> Conditioner<'a> {
     /// The first frames that are held, those of one piece, to be handed out, if any is held; `AllocError` where memory
     /// runs out.
     pub fn stretch(&self) -> Result<Option<Stretch>, AllocError>
-        ensures { IfOk result (λ found. IfSome found (λ stretch. IsBegun self.now.held.held stretch)) }
+        ensures { IfOk result (λ found. MatchOption found (self.now.held.held ≡ [])
+            (λ stretch. IsBegun self.now.held.held stretch)) }
     {
         if self.held.first_packet().is_none() {
             return Ok(None);
@@ -264,6 +274,7 @@ impl<'a> Conditioner<'a> {
         ensures bounded { IsBounded self.new }
         ensures records { self.new.counts.records ≡ self.old.counts.records }
         ensures one { IsOneHandedOut result self.old self.new }
+        ensures still { IsUpToDate self.old → IsUpToDate self.new }
         ensures next { AreNext stretch.new.coming self.new.held.held }
         ensures handed { AreHandedOut port.now self.old self.new stretch.old.text stretch.new.text }
     {

@@ -2,7 +2,10 @@ ghost use Rattle.std.specs.Prelude.{◌≡◌, true, false, [], length, MatchOpt
 ghost use Rattle.ds_conditioner.specs.Conditionings.{AreMarksOf, IsSeenAtPort};
 
 use crate::port::Port;
-use frame_marker::Seen;
+use crate::sending::later;
+use ds_conductor_base::OrderGuess;
+use frame_marker::{Seen, Sight};
+use moment_core::Moment;
 use pcap_capture::Piece;
 use std::alloc::Global;
 use std::marker::Model;
@@ -14,6 +17,8 @@ pub struct Lot {
     piece: Piece,
     is_seen: bool,
     seen: Vec<Seen>,
+    /// A guess at the order in which the packets of the frames come to their stops.
+    guess: OrderGuess,
 }
 
 impl Model for Lot {
@@ -39,6 +44,7 @@ impl Lot {
             piece,
             is_seen: false,
             seen: Vec::new(alloc),
+            guess: OrderGuess::nothing(alloc),
         }
     }
 
@@ -63,6 +69,7 @@ impl Lot {
     {
         match port.see_all(alloc, &self.piece) {
             Ok(seen) => {
+                self.guess = guess_of(alloc, port, &self.piece, &seen);
                 self.seen = seen;
                 self.is_seen = true;
             }
@@ -70,8 +77,8 @@ impl Lot {
         }
     }
 
-    /// Its frames, and what was seen of them, if they were seen.
-    pub fn parts(self) -> (Piece, Option<Vec<Seen>>)
+    /// Its frames, what was seen of them, if they were seen, and a guess at the order of what they send.
+    pub fn parts(self) -> (Piece, Option<Vec<Seen>>, OrderGuess)
         ensures frames { result.0 ≡ self.frames }
         ensures seen { MatchOption result.1 (self.is_seen ≡ false)
             (λ seen. (self.is_seen ≡ true) × (seen.items ≡ self.seen) × AreMarksOf result.0 seen.items) }
@@ -80,11 +87,29 @@ impl Lot {
             piece,
             is_seen,
             seen,
+            guess,
         } = self;
         if is_seen {
-            (piece, Some(seen))
+            (piece, Some(seen), guess)
         } else {
-            (piece, None)
+            (piece, None, guess)
         }
     }
+}
+
+/// A guess at the order of the visits that the packets of frames make, of which this was seen; that of none where
+/// memory runs out.
+fn guess_of(alloc: Global, port: &Port<'_>, piece: &Piece, seen: &[Seen]) -> OrderGuess {
+    let mut guess = OrderGuess::nothing(alloc);
+    let mut newest = Moment::new(0).unwrap();
+    for place in 0..piece.len().min(seen.len()) {
+        newest = later(newest, piece.frame(place).moment());
+        if let Sight::Matched { flow, .. } = seen[place].sight {
+            if guess.add(newest, port.timetable.stops(flow)).is_err() {
+                return OrderGuess::nothing(alloc);
+            }
+        }
+    }
+    guess.settle();
+    guess
 }

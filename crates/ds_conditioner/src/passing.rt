@@ -1,6 +1,6 @@
 //! Lots are passed on: their frames are taken in, and what is decided then is handed out, to be written later.
-ghost use Rattle.std.specs.Prelude.{◌≡◌, ◌+◌, ◌<◌, ◌≤◌, [], true, MatchResult, length};
-ghost use Rattle.ds_conditioner.specs.Conditionings.{IsBounded, IsSeenAtPort};
+ghost use Rattle.std.specs.Prelude.{◌≡◌, ◌+◌, ◌<◌, ◌≤◌, [], true, false, MatchResult, OnOk, length};
+ghost use Rattle.ds_conditioner.specs.Conditionings.{IsBounded, IsSeenAtPort, IsUndecided, IsUpToDate};
 ghost use Rattle.ds_conditioner.specs.Handings.{AreHandedOut, IsHandedOut, IsPassedInPart, IsPassedWhole};
 ghost use Rattle.ds_conditioner.specs.Stretches.{AreNext};
 
@@ -25,6 +25,8 @@ fn hand_out_all(conditioner: &mut Conditioner<'_>, port: &Port<'_>, stretch: &mu
     ensures bounded { IsBounded conditioner.new }
     ensures records { conditioner.new.counts.records ≡ conditioner.old.counts.records }
     ensures fewer { result ≡ true → length conditioner.new.held.held < length conditioner.old.held.held }
+    ensures stuck { result ≡ false → IsUndecided conditioner.new }
+    ensures still { IsUpToDate conditioner.old → IsUpToDate conditioner.new }
     ensures handed { AreHandedOut port.now conditioner.old conditioner.new stretch.old.text stretch.new.text }
 {
     while conditioner.hand_out_to(port, stretch) {
@@ -46,6 +48,8 @@ fn hand_out_next(
     ensures bounded { IsBounded conditioner.new }
     ensures records { conditioner.new.counts.records ≡ conditioner.old.counts.records }
     ensures fewer { result ≡ Ok true → length conditioner.new.held.held < length conditioner.old.held.held }
+    ensures stuck { result ≡ Ok false → IsUndecided conditioner.new }
+    ensures still { IsUpToDate conditioner.old → IsUpToDate conditioner.new }
     ensures handed { IsHandedOut result port.now conditioner.old conditioner.new handed.old handed.new }
 {
     let Some(mut stretch) = conditioner.stretch()? else {
@@ -65,6 +69,8 @@ pub fn hand_out(
     requires { IsBounded conditioner.old }
     ensures bounded { IsBounded conditioner.new }
     ensures records { conditioner.new.counts.records ≡ conditioner.old.counts.records }
+    ensures all { OnOk result (IsUndecided conditioner.new) }
+    ensures still { IsUpToDate conditioner.old → IsUpToDate conditioner.new }
     ensures handed { IsHandedOut result port.now conditioner.old conditioner.new handed.old handed.new }
 {
     while hand_out_next(conditioner, port, handed)? {}
@@ -85,6 +91,7 @@ pub fn pass_lot<G: Gate>(
 ) -> Result<Handed, AllocError>
     requires { IsBounded conditioner.old }
     ensures bounded { IsBounded conditioner.new }
+    ensures all { OnOk result (IsUpToDate conditioner.new × IsUndecided conditioner.new) }
     ensures records { conditioner.new.counts.records ≤ conditioner.old.counts.records + length lot.frames }
     ensures passed { IsSeenAtPort port.now lot → MatchResult result
         (λ handed. IsPassedWhole port.now conditioner.old conditioner.new lot.frames handed)

@@ -7,7 +7,7 @@ ghost use Rattle.ds_conductor_base.specs.Ways.{IsHeadStart};
 
 use crate::rule::RedRule;
 use ds_checker::Accepted;
-use ds_conductor_base::{head_start, later};
+use ds_conductor_base::{Timetable, head_start, later};
 use ds_domain_base::Name;
 use frame_marker::{PortClassifier, Seen};
 use moment_core::{Gap, Moment};
@@ -27,6 +27,8 @@ pub struct Port<'a> {
     pub red: RedRule,
     /// How long after it was sent a packet comes to its first hop, at the least.
     pub ahead: Gap,
+    /// When packets come to their stops, for a guess.
+    pub timetable: Timetable,
     ghost holds: { AreAhead accepted.now (sight_at classifier heading.link) ahead },
 }
 
@@ -51,12 +53,14 @@ impl<'a> Port<'a> {
     {
         let classifier = PortClassifier::new(alloc, accepted.contracts(), name)?;
         let ahead = head_start(accepted, name);
+        let timetable = Timetable::new(alloc, accepted)?;
         Ok(Port {
             accepted,
             classifier,
             heading,
             red,
             ahead,
+            timetable,
         })
     }
 

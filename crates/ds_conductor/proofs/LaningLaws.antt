@@ -13,11 +13,11 @@ use Rattle.capture_reader.specs.Readings.{IsReadOn, read_by}
 use Rattle.pcap_capture.specs.Counts.{IsOfReads}
 use Rattle.pcap_capture.specs.Takings.{is_read_fault}
 use Rattle.pcap_capture.specs.declared.fault.PcapFault.{PcapFault}
-use Rattle.ds_conductor.specs.Passings.{is_unread_in}
-use Rattle.ds_conductor.specs.declared.marking.Turn.{Turn}
-use Rattle.ds_conductor.specs.declared.fault.MarkFault.TheVariants.{NoMemory}
-use Rattle.ds_conductor.specs.declared.fault.MarkFault.{MarkFault}
-use Rattle.ds_conductor.specs.declared.marking.Passage.{Passage}
+use Rattle.ds_marking.specs.Passings.{is_unread_in}
+use Rattle.ds_marking.specs.declared.marking.Turn.{Turn}
+use Rattle.ds_marking.specs.declared.fault.MarkFault.TheVariants.{NoMemory}
+use Rattle.ds_marking.specs.declared.fault.MarkFault.{MarkFault}
+use Rattle.ds_marking.specs.declared.marking.Passage.{Passage}
 use Rattle.ds_conductor.specs.declared.run.Run.{Run}
 use Rattle.capture_reader.specs.declared.reading.Progress.{Progress}
 use Rattle.capture_reader.specs.declared.reading.Read.{Read}

@@ -1,6 +1,4 @@
 -- Lemmas for the proofs of this crate.
 pub mod LaningLaws
-pub mod MarkingLaws
-pub mod PassingLaws
-pub mod VerdictLaws
-pub mod WritingLaws
+pub mod RunLaws
+pub mod WorkingLaws

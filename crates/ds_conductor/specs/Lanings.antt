@@ -13,15 +13,15 @@ use Rattle.ds_conditioner.specs.Lots.{LotValue}
 use Rattle.ds_conditioner.specs.declared.conditioner.Conditioner.{Conditioner}
 use Rattle.ds_conditioner.specs.declared.port.Port.{Port}
 use Rattle.capture_reader.specs.Readings.{IsReadOn, IsUnderway, most_bytes, read_by}
-use Rattle.ds_conductor.specs.Passings.{IsRoomy, IsTurnedTo}
-use Rattle.ds_conductor.specs.Writings.{IsBreak, failures_with, is_write_fault}
-use Rattle.ds_conductor.specs.declared.fault.MarkFault.{MarkFault}
-use Rattle.ds_conductor.specs.declared.fault.MarkFault.TheVariants.{NoMemory}
-use Rattle.ds_conductor.specs.declared.marking.Passage.{Passage}
-use Rattle.ds_conductor.specs.declared.marking.Turn.{Turn}
+use Rattle.ds_marking.specs.Passings.{IsRoomy, IsTurnedTo}
+use Rattle.ds_marking.specs.Writings.{IsBreak, failures_with, is_write_fault}
+use Rattle.ds_marking.specs.declared.fault.MarkFault.{MarkFault}
+use Rattle.ds_marking.specs.declared.fault.MarkFault.TheVariants.{NoMemory}
+use Rattle.ds_marking.specs.declared.marking.Passage.{Passage}
+use Rattle.ds_marking.specs.declared.marking.Turn.{Turn}
+use Rattle.ds_conductor.specs.declared.laning.Between.{Between}
 use Rattle.ds_conductor.specs.declared.run.Lanes.{Lanes}
 use Rattle.ds_conductor.specs.declared.run.Run.{Run}
-use Rattle.ds_conductor.specs.declared.run.Seers.{Seers}
 use Rattle.capture_reader.specs.declared.reading.Progress.{Progress}
 use Rattle.capture_reader.specs.declared.reading.Read.{Read}
 
@@ -180,22 +180,47 @@ IsResting passage = (passage.progress.missing ≤ 24) × (passage.progress.piece
 abbrev pub IsKept : Passage → Passage → Type 0
 IsKept old new = IsBounded new.conditioner × (new.port ≡ old.port) × (new.out ≡ old.out)
 
--- nothing was read behind what is taken out, and nothing went through lanes
-abbrev pub AreFresh : Progress → Lanes → Type 0
-AreFresh progress lanes =
-    IsIdle progress lanes.devices.from.taken lanes.devices.to.put × (lanes.core.from.taken ≡ [])
-    × (lanes.core.to.put ≡ [])
+-- What is answered of a run of threads: what they came to, or none where nothing was done.
+pub record IsRunAnswered {A B : Type 0} (tells : A → Type 0) (left : A → List ℕ) (calls failed : A → ℕ) (old new : A)
+    (shows : B → Type 0) (held : B → List ℕ) (failures : B → ℕ) (was now : B) (before after : Passage)
+    (result : Option Run) : Type 0 where
+  pub kept : IsKept before after
+  pub ran : IfSome result (λ run. IsRun tells left calls failed old new shows held failures was now before after run)
+  pub nothing : IfNone result ((after ≡ before) × (new ≡ old) × (now ≡ was))
 
-abbrev pub AreFreshSeers : Seers → Type 0
-AreFreshSeers seers =
-    (seers.first.from.taken ≡ []) × (seers.first.to.put ≡ []) × (seers.second.from.taken ≡ [])
-    × (seers.second.to.put ≡ [])
+-- nothing went through the lanes that a thread stands between
+abbrev pub IsUnused : {T U : Type 0} → Between T U → Type 0
+IsUnused between = (between.from.taken ≡ []) × (between.to.put ≡ [])
 
 -- they are still the same
-abbrev pub AreSameLanes : Lanes → Lanes → Type 0
-AreSameLanes old new =
-    (new.devices.from.lane ≡ old.devices.from.lane) × (new.devices.to.lane ≡ old.devices.to.lane)
-    × (new.core.from.lane ≡ old.core.from.lane) × (new.core.to.lane ≡ old.core.to.lane)
+abbrev pub AreSameEnds : {T U : Type 0} → Between T U → Between T U → Type 0
+AreSameEnds old new = (new.from.lane ≡ old.from.lane) × (new.to.lane ≡ old.to.lane)
+
+-- what each of two threads puts comes to the other
+abbrev pub AreJoined : Lanes → Type 0
+AreJoined lanes = (lanes.core.from.lane ≡ lanes.devices.to.lane) × (lanes.devices.from.lane ≡ lanes.core.to.lane)
+
+-- nothing was read behind what is taken out, and nothing went through lanes
+abbrev pub AreFresh : Progress → Lanes → Type 0
+AreFresh progress lanes = IsIdle progress lanes.devices.from.taken lanes.devices.to.put × IsUnused lanes.core
+
+-- A thread that sees lots passed them on through its lanes.
+pub record IsSeenAlong (p : Port) (old new : Between (Option LotValue) (Option LotValue)) : Type 0 where
+  pub ends : AreSameEnds old new
+  pub along : IsAlong p new.from.taken new.to.put
+
+-- What two threads came to: the one took in the lots that came to it, with memory for all of them or not, and the other
+-- fed lots through its lanes, or did nothing.
+pub record AreFedAndPassed {A B : Type 0} (p : Port) (tells : A → Type 0) (left : A → List ℕ) (calls failed : A → ℕ)
+    (old new : A) (shows : B → Type 0) (held : B → List ℕ) (failures : B → ℕ) (was now : B) (before after : Progress)
+    (conditioner conditioned : Conditioner) (lanes through : Lanes)
+    (result : Bool × Option (Result Read MarkFault × Result (Unit {0}) MarkFault)) : Type 0 where
+  pub bounded : IsBounded conditioned
+  pub devices : AreSameEnds lanes.devices through.devices
+  pub core : AreSameEnds lanes.core through.core
+  pub passed : AreLotsPassed result.0 p conditioner conditioned through.core.from.taken through.core.to.put
+  pub fed : AreFed p tells left calls failed old new shows held failures was now before after through.devices.to.put
+      through.devices.from.taken result.1
 
 -- what reading came to last: where it was broken off behind whole lots, more may come
 abbrev pub read_last : Result Read MarkFault → Result Bool PcapFault
@@ -213,11 +238,6 @@ IsTakenIn true p gone taken text own c = (front : List FrameValue) × (others : 
 abbrev pub IsFailingAfter : Result (Unit {0}) MarkFault → Result Turn MarkFault → ℕ → ℕ → Type 0
 IsFailingAfter (Ok done) result before now = now ≡ failures_with (is_write_fault result) before
 IsFailingAfter (Err fault) result before now = (now ≡ before) × ((result ≡ Err fault) ⊎ (result ≡ Err NoMemory))
-
-abbrev pub AreSameSeers : Seers → Seers → Type 0
-AreSameSeers old new =
-    (new.first.from.lane ≡ old.first.from.lane) × (new.first.to.lane ≡ old.first.to.lane)
-    × (new.second.from.lane ≡ old.second.from.lane) × (new.second.to.lane ≡ old.second.to.lane)
 
 -- what threads came to that can be ended: there is room for what was read, and no fault of the writing was read
 pub record IsEndable (passage : Passage) (run : Run) : Type 0 where

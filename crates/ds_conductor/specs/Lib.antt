@@ -1,8 +1,5 @@
--- What a capture becomes whose frames are marked.
-pub mod Faults
+-- What a capture becomes whose frames are marked by several threads.
 pub mod Lanings
-pub mod Markings
-pub mod Passings
-pub mod Writings
+pub mod Workings
 -- what the clauses here cite of the crates below
 pub use Rattle.ds_runs.specs.Steps

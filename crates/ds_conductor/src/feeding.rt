@@ -3,11 +3,11 @@ ghost use Rattle.std.specs.Prelude.{◌≡◌, ◌+◌, ◌++◌, Ok, Err, Some,
 ghost use Rattle.ds_conditioner.specs.Conditionings.{IsSeenAtPort};
 ghost use Rattle.ds_conductor.specs.Lanings.{IsCutWith, IsFedFrom, IsGiven, IsGivenMore, IsIdle, count_of, done_of};
 
-use crate::fault::MarkFault;
 use crate::laning::{Between, write_next};
 use crate::shift::Shift;
 use capture_reader::{Progress, Read, read_one};
 use ds_conditioner::{Handed, Lot};
+use ds_marking::MarkFault;
 use lane::Taking;
 use pcap_capture::{Intake, Outlet, Piece};
 use std::alloc::Global;

@@ -2,12 +2,12 @@
 ghost use Rattle.std.specs.Prelude.{◌≡◌, [], IfErr};
 ghost use Rattle.ds_conditioner.specs.Conditionings.{IsBounded, IsSeenAtPort};
 ghost use Rattle.ds_conductor.specs.Lanings.{AreLotsPassed, AreWritten, IsAlong, IsLotPassedOn, IsNextWritten};
-ghost use Rattle.ds_conductor.specs.Writings.{IsBreak, failures_with, is_write_fault};
+ghost use Rattle.ds_marking.specs.Writings.{IsBreak, failures_with, is_write_fault};
 
-use crate::fault::MarkFault;
 use crate::shift::Shift;
 use ds_conditioner::{Conditioner, Handed, Lot, pass_lot};
 use ds_conductor_base::Gate;
+use ds_marking::MarkFault;
 use lane::{Putting, Taking};
 use pcap_capture::{Outlet, PcapFault, hand_over};
 use std::sync::Wait;

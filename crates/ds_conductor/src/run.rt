@@ -2,19 +2,17 @@
 //! what is decided comes back.
 ghost use Rattle.std.specs.Prelude.{◌≡◌, [], IfNone, IfSome, None, Some};
 ghost use Rattle.ds_conditioner.specs.Conditionings.{IsBounded};
-ghost use Rattle.ds_conductor.specs.Lanings.{AreFed, AreFresh, AreFreshSeers, AreLotsPassed};
-ghost use Rattle.ds_conductor.specs.Lanings.{AreSameLanes, AreSameSeers};
-ghost use Rattle.ds_conductor.specs.Lanings.{IsAlong, IsIdle, IsKept, IsResting, IsRun, read_last};
+ghost use Rattle.ds_conductor.specs.Lanings.{AreFed, AreFedAndPassed, AreFresh, AreJoined, AreSameEnds, IsIdle};
+ghost use Rattle.ds_conductor.specs.Lanings.{IsResting, IsRunAnswered, IsSeenAlong, IsUnused, read_last};
 
-use crate::crew::{Fed, feed_begun, pass_beside, see_beside};
-use crate::fault::MarkFault;
+use crate::crew::{Crew, Fed, feed_begun, pass_beside, see_beside};
 use crate::laning::Between;
-use crate::marking::Passage;
 use crate::shift::Shift;
 use capture_reader::{Progress, Read};
 use ds_conditioner::{Conditioner, Handed, Lot};
 use ds_conductor_base::Gate;
-use lane::{Putting, Taking, lane, reunite};
+use ds_marking::{MarkFault, Passage};
+use lane::{lane, reunite};
 use pcap_capture::{Intake, Outlet, PcapFault};
 use std::alloc::Global;
 use std::sync::Wait;
@@ -71,208 +69,159 @@ pub(crate) struct Lanes {
 }
 
 impl Lanes {
-    /// The devices' thread puts lots and takes what is handed out; the other is given lots and hands out.
-    fn of(
-        to: Putting<Option<Lot>>,
-        from: Taking<Handed>,
-        given: Taking<Option<Lot>>,
-        handed: Putting<Handed>,
-    ) -> Self
-        ensures devices { (result.devices.to ≡ to) × (result.devices.from ≡ from) }
-        ensures core { (result.core.from ≡ given) × (result.core.to ≡ handed) }
+    /// The devices' thread puts lots and takes what is handed out; the other is given lots and hands out. None where
+    /// memory runs out.
+    fn make(alloc: Global) -> Option<Self>
+        ensures unused { IfSome result (λ lanes. IsUnused lanes.devices × IsUnused lanes.core) }
+        ensures joined { IfSome result AreJoined }
     {
-        Lanes {
+        let Ok((to, given)) = lane::<Option<Lot>>(alloc, LOTS) else {
+            return None;
+        };
+        let Ok((handed, from)) = lane::<Handed>(alloc, LOTS) else {
+            return None;
+        };
+        Some(Lanes {
             devices: Between { from, to },
             core: Between {
                 from: given,
                 to: handed,
             },
-        }
+        })
     }
-}
 
-/// The ends of lanes that two threads have which see lots, one behind the other.
-#[derive(Drop)]
-pub(crate) struct Seers {
-    pub first: Between<Option<Lot>, Option<Lot>>,
-    pub second: Between<Option<Lot>, Option<Lot>>,
-}
-
-impl Seers {
-    /// Each takes from the lane before it.
-    fn of(
-        first: Taking<Option<Lot>>,
-        second: Putting<Option<Lot>>,
-        third: Taking<Option<Lot>>,
-        fourth: Putting<Option<Lot>>,
-    ) -> Self
-        ensures first { (result.first.from ≡ first) × (result.first.to ≡ second) }
-        ensures second { (result.second.from ≡ third) × (result.second.to ≡ fourth) }
+    /// Behind a thread that sees lots: it takes them from the lane that there was, and a new one leads on. None where
+    /// memory runs out.
+    fn behind_seer(self, alloc: Global) -> Option<Behind<Lanes>>
+        ensures seer { IfSome result (λ it. (it.seer.from ≡ self.core.from) × (it.seer.to.put ≡ [])) }
+        ensures devices { IfSome result (λ it. it.lanes.devices ≡ self.devices) }
+        ensures core { IfSome result (λ it. (it.lanes.core.to ≡ self.core.to) × (it.lanes.core.from.taken ≡ [])
+            × (it.lanes.core.from.lane ≡ it.seer.to.lane)) }
     {
-        Seers {
-            first: Between {
-                from: first,
-                to: second,
+        let Ok((to, seen)) = lane::<Option<Lot>>(alloc, LOTS) else {
+            return None;
+        };
+        let Lanes { devices, core } = self;
+        Some(Behind {
+            seer: Between {
+                from: core.from,
+                to,
             },
-            second: Between {
-                from: third,
-                to: fourth,
+            lanes: Lanes {
+                devices,
+                core: Between {
+                    from: seen,
+                    to: core.to,
+                },
             },
-        }
+        })
     }
+}
+
+/// Lanes behind a thread that sees lots, and the ends of lanes that it has.
+#[derive(Drop)]
+pub(crate) struct Behind<L: Drop> {
+    pub seer: Between<Option<Lot>, Option<Lot>>,
+    pub lanes: L,
 }
 
 /// Takes in lots in another thread, while this one reads them and writes what comes of them.
 fn pass_and_feed<R: Threads + Wait + Sync, I: Intake, O: Outlet, G: Gate>(
-    rt: &R,
-    shift: &Shift<'_, '_>,
+    crew: &Crew<R, G>,
     conditioner: &mut Conditioner<'_>,
     progress: &mut Progress,
     intake: &mut I,
     outlet: &mut O,
-    gate: &G,
     lanes: &mut Lanes,
 ) -> (bool, Fed)
     requires bounded { IsBounded conditioner.old }
     requires fresh { AreFresh progress.old lanes.old }
-    ensures bounded { IsBounded conditioner.new }
-    ensures lanes { AreSameLanes lanes.old lanes.new }
-    ensures passed { AreLotsPassed result.0 shift.now.port.now conditioner.old conditioner.new
-        lanes.new.core.from.taken lanes.new.core.to.put }
-    ensures fed { AreFed shift.now.port.now I.tells I.left I.calls I.failed intake.old intake.new O.tells O.held
-        O.failed outlet.old outlet.new progress.old progress.new lanes.new.devices.to.put
-        lanes.new.devices.from.taken result.1 }
+    ensures { AreFedAndPassed crew.now.shift.port.now I.tells I.left I.calls I.failed intake.old intake.new O.tells
+        O.held O.failed outlet.old outlet.new progress.old progress.new conditioner.old conditioner.new lanes.old
+        lanes.new result }
 {
     let Lanes { devices, core } = lanes;
     pass_beside(
-        rt,
-        shift,
+        crew,
         conditioner,
-        gate,
         core,
         &mut || -> Fed
             requires { IsIdle progress.now devices.now.from.taken devices.now.to.put }
-            ensures from { devices.exit.now.from.lane ≡ devices.entry.now.from.lane }
-            ensures to { devices.exit.now.to.lane ≡ devices.entry.now.to.lane }
-            ensures fed { AreFed shift.entry.now.port.now I.tells I.left I.calls I.failed intake.entry.now
+            ensures ends { AreSameEnds devices.entry.now devices.exit.now }
+            ensures fed { AreFed crew.entry.now.shift.port.now I.tells I.left I.calls I.failed intake.entry.now
                 intake.exit.now O.tells O.held O.failed outlet.entry.now outlet.exit.now progress.entry.now
                 progress.exit.now devices.exit.now.to.put devices.exit.now.from.taken result }
-        { feed_begun(rt, shift, progress, intake, outlet, devices) },
+        { feed_begun(crew, progress, intake, outlet, devices) },
     )
 }
 
 /// Sees lots in another thread beside these two.
 fn see_and_feed<R: Threads + Wait + Sync, I: Intake, O: Outlet, G: Gate>(
-    rt: &R,
-    shift: &Shift<'_, '_>,
+    crew: &Crew<R, G>,
     conditioner: &mut Conditioner<'_>,
     progress: &mut Progress,
     intake: &mut I,
     outlet: &mut O,
-    gate: &G,
-    lanes: &mut Lanes,
-    seer: &mut Between<Option<Lot>, Option<Lot>>,
+    lanes: &mut Behind<Lanes>,
 ) -> (bool, Fed)
     requires bounded { IsBounded conditioner.old }
-    requires fresh { AreFresh progress.old lanes.old }
-    requires seer { (seer.old.from.taken ≡ []) × (seer.old.to.put ≡ []) }
-    ensures bounded { IsBounded conditioner.new }
-    ensures lanes { AreSameLanes lanes.old lanes.new }
-    ensures seer { (seer.new.from.lane ≡ seer.old.from.lane) × (seer.new.to.lane ≡ seer.old.to.lane) }
-    ensures along { IsAlong shift.now.port.now seer.new.from.taken seer.new.to.put }
-    ensures passed { AreLotsPassed result.0 shift.now.port.now conditioner.old conditioner.new
-        lanes.new.core.from.taken lanes.new.core.to.put }
-    ensures fed { AreFed shift.now.port.now I.tells I.left I.calls I.failed intake.old intake.new O.tells O.held
-        O.failed outlet.old outlet.new progress.old progress.new lanes.new.devices.to.put
-        lanes.new.devices.from.taken result.1 }
+    requires fresh { AreFresh progress.old lanes.old.lanes × IsUnused lanes.old.seer }
+    ensures run { AreFedAndPassed crew.now.shift.port.now I.tells I.left I.calls I.failed intake.old intake.new O.tells
+        O.held O.failed outlet.old outlet.new progress.old progress.new conditioner.old conditioner.new lanes.old.lanes
+        lanes.new.lanes result }
+    ensures seen { IsSeenAlong crew.now.shift.port.now lanes.old.seer lanes.new.seer }
 {
+    let Behind {
+        seer,
+        lanes: behind,
+    } = lanes;
     see_beside(
-        rt,
-        shift,
+        crew,
         1,
         seer,
         &mut || -> (bool, Fed)
-            requires { IsBounded conditioner.now × AreFresh progress.now lanes.now }
-            ensures bounded { IsBounded conditioner.exit.now }
-            ensures lanes { AreSameLanes lanes.entry.now lanes.exit.now }
-            ensures passed { AreLotsPassed result.0 shift.entry.now.port.now conditioner.entry.now conditioner.exit.now
-                lanes.exit.now.core.from.taken lanes.exit.now.core.to.put }
-            ensures fed { AreFed shift.entry.now.port.now I.tells I.left I.calls I.failed intake.entry.now
+            requires { IsBounded conditioner.now × AreFresh progress.now behind.now }
+            ensures { AreFedAndPassed crew.entry.now.shift.port.now I.tells I.left I.calls I.failed intake.entry.now
                 intake.exit.now O.tells O.held O.failed outlet.entry.now outlet.exit.now progress.entry.now
-                progress.exit.now lanes.exit.now.devices.to.put lanes.exit.now.devices.from.taken result.1 }
-        {
-            pass_and_feed(
-                rt,
-                shift,
-                conditioner,
-                progress,
-                intake,
-                outlet,
-                gate,
-                lanes,
-            )
-        },
+                progress.exit.now conditioner.entry.now conditioner.exit.now behind.entry.now behind.exit.now result }
+        { pass_and_feed(crew, conditioner, progress, intake, outlet, behind) },
     )
 }
 
 /// Sees each second lot in one thread more.
 fn see_both_and_feed<R: Threads + Wait + Sync, I: Intake, O: Outlet, G: Gate>(
-    rt: &R,
-    shift: &Shift<'_, '_>,
+    crew: &Crew<R, G>,
     conditioner: &mut Conditioner<'_>,
     progress: &mut Progress,
     intake: &mut I,
     outlet: &mut O,
-    gate: &G,
-    lanes: &mut Lanes,
-    seers: &mut Seers,
+    lanes: &mut Behind<Behind<Lanes>>,
 ) -> (bool, Fed)
     requires bounded { IsBounded conditioner.old }
-    requires fresh { AreFresh progress.old lanes.old }
-    requires seers { AreFreshSeers seers.old }
-    ensures bounded { IsBounded conditioner.new }
-    ensures lanes { AreSameLanes lanes.old lanes.new }
-    ensures seers { AreSameSeers seers.old seers.new }
-    ensures first { IsAlong shift.now.port.now seers.new.first.from.taken seers.new.first.to.put }
-    ensures second { IsAlong shift.now.port.now seers.new.second.from.taken seers.new.second.to.put }
-    ensures passed { AreLotsPassed result.0 shift.now.port.now conditioner.old conditioner.new
-        lanes.new.core.from.taken lanes.new.core.to.put }
-    ensures fed { AreFed shift.now.port.now I.tells I.left I.calls I.failed intake.old intake.new O.tells O.held
-        O.failed outlet.old outlet.new progress.old progress.new lanes.new.devices.to.put
-        lanes.new.devices.from.taken result.1 }
+    requires fresh { AreFresh progress.old lanes.old.lanes.lanes × IsUnused lanes.old.lanes.seer
+        × IsUnused lanes.old.seer }
+    ensures run { AreFedAndPassed crew.now.shift.port.now I.tells I.left I.calls I.failed intake.old intake.new O.tells
+        O.held O.failed outlet.old outlet.new progress.old progress.new conditioner.old conditioner.new
+        lanes.old.lanes.lanes lanes.new.lanes.lanes result }
+    ensures first { IsSeenAlong crew.now.shift.port.now lanes.old.seer lanes.new.seer }
+    ensures second { IsSeenAlong crew.now.shift.port.now lanes.old.lanes.seer lanes.new.lanes.seer }
 {
-    let Seers { first, second } = seers;
+    let Behind {
+        seer,
+        lanes: behind,
+    } = lanes;
     see_beside(
-        rt,
-        shift,
+        crew,
         2,
-        first,
+        seer,
         &mut || -> (bool, Fed)
-            requires { IsBounded conditioner.now × AreFresh progress.now lanes.now × (second.now.from.taken ≡ [])
-                × (second.now.to.put ≡ []) }
-            ensures bounded { IsBounded conditioner.exit.now }
-            ensures lanes { AreSameLanes lanes.entry.now lanes.exit.now }
-            ensures seer { (second.exit.now.from.lane ≡ second.entry.now.from.lane)
-                × (second.exit.now.to.lane ≡ second.entry.now.to.lane) }
-            ensures along { IsAlong shift.entry.now.port.now second.exit.now.from.taken second.exit.now.to.put }
-            ensures passed { AreLotsPassed result.0 shift.entry.now.port.now conditioner.entry.now conditioner.exit.now
-                lanes.exit.now.core.from.taken lanes.exit.now.core.to.put }
-            ensures fed { AreFed shift.entry.now.port.now I.tells I.left I.calls I.failed intake.entry.now
-                intake.exit.now O.tells O.held O.failed outlet.entry.now outlet.exit.now progress.entry.now
-                progress.exit.now lanes.exit.now.devices.to.put lanes.exit.now.devices.from.taken result.1 }
-        {
-            see_and_feed(
-                rt,
-                shift,
-                conditioner,
-                progress,
-                intake,
-                outlet,
-                gate,
-                lanes,
-                second,
-            )
-        },
+            requires { IsBounded conditioner.now × AreFresh progress.now behind.now.lanes × IsUnused behind.now.seer }
+            ensures run { AreFedAndPassed crew.entry.now.shift.port.now I.tells I.left I.calls I.failed
+                intake.entry.now intake.exit.now O.tells O.held O.failed outlet.entry.now outlet.exit.now
+                progress.entry.now progress.exit.now conditioner.entry.now conditioner.exit.now behind.entry.now.lanes
+                behind.exit.now.lanes result }
+            ensures seen { IsSeenAlong crew.entry.now.shift.port.now behind.entry.now.seer behind.exit.now.seer }
+        { see_and_feed(crew, conditioner, progress, intake, outlet, behind) },
     )
 }
 
@@ -286,33 +235,19 @@ fn run_by_two<R: Threads + Wait + Sync, I: Intake, O: Outlet, G: Gate>(
     gate: &G,
 ) -> Option<Run>
     requires { IsResting passage.old }
-    ensures kept { IsKept passage.old passage.new }
-    ensures ran { IfSome result (λ run. IsRun I.tells I.left I.calls I.failed intake.old intake.new O.tells O.held
-        O.failed outlet.old outlet.new passage.old passage.new run) }
-    ensures nothing { IfNone result ((passage.new ≡ passage.old) × (intake.new ≡ intake.old)
-        × (outlet.new ≡ outlet.old)) }
+    ensures { IsRunAnswered I.tells I.left I.calls I.failed intake.old intake.new O.tells O.held O.failed outlet.old
+        outlet.new passage.old passage.new result }
 {
-    let Ok((to, given)) = lane::<Option<Lot>>(host.alloc, LOTS) else {
-        return None;
-    };
-    let Ok((handed, from)) = lane::<Handed>(host.alloc, LOTS) else {
-        return None;
-    };
-    let mut lanes = Lanes::of(to, from, given, handed);
+    let mut lanes = Lanes::make(host.alloc)?;
     let own = Shift::new(host.alloc, &passage.port, 1);
-    let shift = &own;
+    let crew = Crew {
+        rt: host.rt,
+        gate,
+        shift: own,
+    };
     let conditioner = &mut passage.conditioner;
     let progress = &mut passage.progress;
-    let (starved, fed) = pass_and_feed(
-        host.rt,
-        shift,
-        conditioner,
-        progress,
-        intake,
-        outlet,
-        gate,
-        &mut lanes,
-    );
+    let (starved, fed) = pass_and_feed(&crew, conditioner, progress, intake, outlet, &mut lanes);
     let Lanes { devices, core } = lanes;
     let _lots = reunite(devices.to, core.from);
     let _handed = reunite(core.to, devices.from);
@@ -329,42 +264,25 @@ fn run_by_three<R: Threads + Wait + Sync, I: Intake, O: Outlet, G: Gate>(
     gate: &G,
 ) -> Option<Run>
     requires { IsResting passage.old }
-    ensures kept { IsKept passage.old passage.new }
-    ensures ran { IfSome result (λ run. IsRun I.tells I.left I.calls I.failed intake.old intake.new O.tells O.held
-        O.failed outlet.old outlet.new passage.old passage.new run) }
-    ensures nothing { IfNone result ((passage.new ≡ passage.old) × (intake.new ≡ intake.old)
-        × (outlet.new ≡ outlet.old)) }
+    ensures { IsRunAnswered I.tells I.left I.calls I.failed intake.old intake.new O.tells O.held O.failed outlet.old
+        outlet.new passage.old passage.new result }
 {
-    let Ok((to, first)) = lane::<Option<Lot>>(host.alloc, LOTS) else {
-        return None;
-    };
-    let Ok((second, given)) = lane::<Option<Lot>>(host.alloc, LOTS) else {
-        return None;
-    };
-    let Ok((handed, from)) = lane::<Handed>(host.alloc, LOTS) else {
-        return None;
-    };
-    let mut lanes = Lanes::of(to, from, given, handed);
-    let mut seer = Between {
-        from: first,
-        to: second,
-    };
+    let behind = Lanes::make(host.alloc)?;
+    let mut lanes = behind.behind_seer(host.alloc)?;
     let own = Shift::new(host.alloc, &passage.port, 2);
-    let shift = &own;
+    let crew = Crew {
+        rt: host.rt,
+        gate,
+        shift: own,
+    };
     let conditioner = &mut passage.conditioner;
     let progress = &mut passage.progress;
-    let (starved, fed) = see_and_feed(
-        host.rt,
-        shift,
-        conditioner,
-        progress,
-        intake,
-        outlet,
-        gate,
-        &mut lanes,
-        &mut seer,
-    );
-    let Lanes { devices, core } = lanes;
+    let (starved, fed) = see_and_feed(&crew, conditioner, progress, intake, outlet, &mut lanes);
+    let Behind {
+        seer,
+        lanes: behind,
+    } = lanes;
+    let Lanes { devices, core } = behind;
     let _lots = reunite(devices.to, seer.from);
     let _seen = reunite(seer.to, core.from);
     let _handed = reunite(core.to, devices.from);
@@ -381,43 +299,40 @@ fn run_by_four<R: Threads + Wait + Sync, I: Intake, O: Outlet, G: Gate>(
     gate: &G,
 ) -> Option<Run>
     requires { IsResting passage.old }
-    ensures kept { IsKept passage.old passage.new }
-    ensures ran { IfSome result (λ run. IsRun I.tells I.left I.calls I.failed intake.old intake.new O.tells O.held
-        O.failed outlet.old outlet.new passage.old passage.new run) }
-    ensures nothing { IfNone result ((passage.new ≡ passage.old) × (intake.new ≡ intake.old)
-        × (outlet.new ≡ outlet.old)) }
+    ensures { IsRunAnswered I.tells I.left I.calls I.failed intake.old intake.new O.tells O.held O.failed outlet.old
+        outlet.new passage.old passage.new result }
 {
-    let Ok((to, first)) = lane::<Option<Lot>>(host.alloc, LOTS) else {
-        return None;
+    let behind = Lanes::make(host.alloc)?;
+    let Behind { seer, lanes: seen } = behind.behind_seer(host.alloc)?;
+    let mut lanes = Behind {
+        seer,
+        lanes: seen.behind_seer(host.alloc)?,
     };
-    let Ok((second, third)) = lane::<Option<Lot>>(host.alloc, LOTS) else {
-        return None;
-    };
-    let Ok((fourth, given)) = lane::<Option<Lot>>(host.alloc, LOTS) else {
-        return None;
-    };
-    let Ok((handed, from)) = lane::<Handed>(host.alloc, LOTS) else {
-        return None;
-    };
-    let mut lanes = Lanes::of(to, from, given, handed);
-    let mut seers = Seers::of(first, second, third, fourth);
     let own = Shift::new(host.alloc, &passage.port, 3);
-    let shift = &own;
+    let crew = Crew {
+        rt: host.rt,
+        gate,
+        shift: own,
+    };
     let conditioner = &mut passage.conditioner;
     let progress = &mut passage.progress;
     let (starved, fed) = see_both_and_feed(
-        host.rt,
-        shift,
+        &crew,
         conditioner,
         progress,
         intake,
         outlet,
-        gate,
         &mut lanes,
-        &mut seers,
     );
-    let Seers { first, second } = seers;
-    let Lanes { devices, core } = lanes;
+    let Behind {
+        seer: first,
+        lanes: seen,
+    } = lanes;
+    let Behind {
+        seer: second,
+        lanes: behind,
+    } = seen;
+    let Lanes { devices, core } = behind;
     let _lots = reunite(devices.to, first.from);
     let _half = reunite(first.to, second.from);
     let _seen = reunite(second.to, core.from);
@@ -435,11 +350,8 @@ pub(crate) fn run_by<R: Threads + Wait + Sync, I: Intake, O: Outlet, G: Gate>(
     others: u64,
 ) -> Option<Run>
     requires { IsResting passage.old }
-    ensures kept { IsKept passage.old passage.new }
-    ensures ran { IfSome result (λ run. IsRun I.tells I.left I.calls I.failed intake.old intake.new O.tells O.held
-        O.failed outlet.old outlet.new passage.old passage.new run) }
-    ensures nothing { IfNone result ((passage.new ≡ passage.old) × (intake.new ≡ intake.old)
-        × (outlet.new ≡ outlet.old)) }
+    ensures { IsRunAnswered I.tells I.left I.calls I.failed intake.old intake.new O.tells O.held O.failed outlet.old
+        outlet.new passage.old passage.new result }
 {
     match others {
         1 => run_by_two(host, passage, intake, outlet, gate),

@@ -4,23 +4,24 @@ ghost use Rattle.std.specs.Prelude.{◌≡◌, ◌⊎◌, ◌+◌, ◌*◌, ◌^
 ghost use Rattle.std.specs.Prelude.{true, false, Ok, Err, IfErr, IfOk, MatchResult, if◌then◌else◌, is_ok, nat_lt};
 ghost use Rattle.pcap_capture.specs.Counts.{IsOfReads, next_count};
 ghost use Rattle.pcap_capture.specs.Takings.{is_read_fault};
-ghost use Rattle.ds_conductor.specs.Passings.{AreTurnsTaken, IsNoMore, IsReady, IsRoomy, IsTurnTaken, IsUnwrittenOff};
-ghost use Rattle.ds_conductor.specs.Passings.{IsWell, is_unread_in};
+ghost use Rattle.ds_marking.specs.Passings.{AreReadsTold, AreTurnsTaken, IsNoMore, IsReady, IsRoomy, IsTurnTaken};
+ghost use Rattle.ds_marking.specs.Passings.{IsWell};
 ghost use Rattle.ds_conditioner.specs.Reports.{nothing_read};
 ghost use Rattle.ds_domain_base.specs.Domains.{is_port};
-ghost use Rattle.ds_conductor.specs.Markings.{IsMarkedBy, answer_with, fault_with, is_broken_off, is_unread};
-ghost use Rattle.ds_conductor.specs.Markings.{is_unwritten};
-ghost use Rattle.ds_conductor.specs.Writings.{AreFailures, IsBreak, is_lost};
+ghost use Rattle.ds_marking.specs.Markings.{is_broken_off, is_unread, is_unwritten};
+ghost use Rattle.ds_marking.specs.Writings.{IsBreak};
 ghost use Rattle.ds_conductor.specs.Lanings.{IsEndable, IsFailingAfter, IsRunEnded, read_last};
+ghost use Rattle.ds_conductor.specs.Workings.{AreFailures, IsMarkedBy, IsUnwrittenOff, answer_with, fault_with};
+ghost use Rattle.ds_conductor.specs.Workings.{is_lost};
 
-use crate::fault::MarkFault;
-use crate::marking::{Passage, Turn, begin, end, mark, pass_on, see_read, take_turn};
 use crate::run::{Host, Run, run_by};
-use crate::writing::write_out;
 use capture_reader::is_starving;
 use ds_checker::Accepted;
 use ds_conditioner::{RedRule, Report};
 use ds_conductor_base::Gate;
+use ds_marking::{
+    MarkFault, Passage, Turn, begin, end, mark, pass_on, see_read, take_turn, write_out,
+};
 use pcap_capture::{Intake, Outlet, PcapFault};
 use std::alloc::Global;
 use std::sync::Wait;
@@ -39,8 +40,7 @@ fn end_run<R, O: Outlet, G: Gate>(
     ensures more { result ≡ Ok Turn.More → (read_last run.read ≡ Ok true) × (is_ok run.written ≡ true) }
     ensures turned { O.tells outlet.old → IsRunEnded (O.held outlet.old) (O.held outlet.new) passage.old passage.new
         run result }
-    ensures reads { (failed now calls : ℕ) → IsOfReads (is_read_fault (read_last run.read)) failed now calls
-        → IfOk result (λ turn. IsOfReads (is_unread_in turn) failed now calls) }
+    ensures reads { AreReadsTold (is_read_fault (read_last run.read)) result }
     ensures fault { MatchResult result IsWell IsBreak }
     ensures told { O.tells outlet.old → O.tells outlet.new }
     ensures failures { IsFailingAfter run.written result (O.failed outlet.old) (O.failed outlet.new) }
@@ -50,16 +50,7 @@ fn end_run<R, O: Outlet, G: Gate>(
     }
     let read = run.read_last();
     match run.written {
-        Ok(()) => pass_on(
-            host.alloc,
-            &passage.port,
-            &mut passage.conditioner,
-            &mut passage.out,
-            &mut passage.progress,
-            outlet,
-            gate,
-            read,
-        ),
+        Ok(()) => pass_on(host.alloc, passage, outlet, gate, read),
         Err(fault) => Err(unwritten_with(host.alloc, passage, read, fault)),
     }
 }

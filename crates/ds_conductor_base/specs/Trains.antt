@@ -1,5 +1,5 @@
 -- Visits that wait in trains behind a heap.
-use Rattle.std.specs.Prelude.{◌≡◌, ℕ, ◌<◌, ◌++◌, false, List, [], ◌∷◌, length, slice_index_or, Bool, IsPermutation, IsSome, MatchBool, None, Some, Option, option_to_list, All}
+use Rattle.std.specs.Prelude.{◌≡◌, ℕ, ◌<◌, ◌++◌, false, List, [], ◌∷◌, length, slice_index_or, Bool, IsPermutation, IsSome, MatchBool, Some, Option, option_to_list, All}
 use Rattle.std.specs.BinaryHeap.{IsUpperBound}
 use Rattle.std.specs.Option.{option_or}
 use Rattle.std.specs.Ordering.{is_lt}

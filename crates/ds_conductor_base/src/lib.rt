@@ -4,12 +4,14 @@
 //! - what is sent → `sent`; where a contract's packets come, and when → `way`; a packet at a hop → `visit`
 //! - visits that wait until they are due, in the order in which they are made → `queue`; those that come in small
 //!   lots → `trains`, and there one train → `train`; one visit → `waiting`
+//! - a guess at their order, which only saves time → `guess`
 //! - a visit is made, and the gate is called round it → `passing`, `gate`; over the meters of all sites → `meters`
 //! - packets under way, whose colours are handed out once they are decided → `under_way`
 //! - what holds of them → `laws`
 #![tactic(auto)]
 
 pub mod gate;
+pub mod guess;
 pub mod laws;
 mod meters;
 pub(crate) mod passing;
@@ -23,6 +25,7 @@ pub mod waiting;
 pub mod way;
 
 pub use gate::{Gate, OpenGate};
+pub use guess::{OrderGuess, Timetable};
 pub use queue::VisitQueue;
 pub use sent::Sent;
 pub use train::Train;

@@ -11,6 +11,7 @@ ghost use Rattle.ds_conductor_base.specs.Visits.{is_before, is_same, visit_to};
 ghost use Rattle.ds_conductor_base.specs.Waits.{first_on_top, visits_in};
 ghost use Rattle.ds_conductor_base.specs.declared.waiting.Waiting.{Waiting};
 
+use crate::guess::{OrderGuess, are_mixed};
 use crate::sent::Sent;
 use crate::trains::Trains;
 use crate::visit::{Visit, visit_to};
@@ -32,6 +33,8 @@ pub struct VisitQueue {
     fresh: Vec<Reverse<Waiting>>,
     /// Empty: room for the run and what is fresh.
     spare: Vec<Reverse<Waiting>>,
+    /// A guess at the order of what is fresh.
+    guess: OrderGuess,
 }
 
 impl Model for VisitQueue {
@@ -57,7 +60,16 @@ impl VisitQueue {
             run: Vec::new(alloc),
             fresh: Vec::new(alloc),
             spare: Vec::new(alloc),
+            guess: OrderGuess::nothing(alloc),
         }
+    }
+
+    /// Takes a guess at the order of the visits that are put among the others from the last that was taken until the
+    /// next one is.
+    pub fn guess(&mut self, guess: OrderGuess)
+        ensures { self.new ≡ self.old }
+    {
+        self.guess = guess;
     }
 
     /// Puts the visits of the packet of a place to its stops among the others.
@@ -88,6 +100,7 @@ impl VisitQueue {
             &mut self.run,
             &mut self.fresh,
             &mut self.spare,
+            &mut self.guess,
         );
         let Reverse(first) = take_due(&mut self.trains, &mut self.run, moment)?;
         Some(first.visit())
@@ -121,6 +134,7 @@ fn settle(
     run: &mut Vec<Reverse<Waiting>>,
     fresh: &mut Vec<Reverse<Waiting>>,
     spare: &mut Vec<Reverse<Waiting>>,
+    guess: &mut OrderGuess,
 )
     requires sorted { IsSorted first_on_top run.old.items }
     requires empty { vec_len spare.old ≡ 0 }
@@ -138,12 +152,26 @@ fn settle(
     if run.len() / 4 > fresh.len() {
         trains.hold_all(fresh);
     } else {
-        fresh.sort_unstable();
+        put_in_order(fresh, guess);
         merge(run, fresh, spare);
         swap(run, spare);
         spare.clear();
     }
     fresh.clear();
+}
+
+/// Puts visits in order, the latest first: where they are many, and not in order yet, first as a guess says, so that
+/// little is left to sort.
+fn put_in_order(fresh: &mut Vec<Reverse<Waiting>>, guess: &mut OrderGuess)
+    ensures same { IsPermutation fresh.old.items fresh.new.items }
+    ensures len { vec_len fresh.new ≡ vec_len fresh.old }
+    ensures sorted { IsSorted first_on_top fresh.new.items }
+{
+    if are_mixed(fresh) {
+        guess.suit(fresh);
+        guess.arrange(fresh);
+    }
+    fresh.sort_unstable();
 }
 
 /// Puts two runs together as one, where there is room for it.

@@ -5,6 +5,7 @@ ghost use Rattle.ds_conductor_base.specs.Streams.{with_sent};
 ghost use Rattle.ds_conductor_base.specs.declared.sent.Sent.{Sent};
 
 use crate::gate::Gate;
+use crate::guess::OrderGuess;
 use crate::meters::opened_meters;
 use crate::passing::{OnTheWay, pass};
 use crate::queue::VisitQueue;
@@ -85,6 +86,13 @@ impl<'a> UnderWay<'a> {
             })
             .unwrap();
         Ok(())
+    }
+
+    /// Takes a guess at the order of the visits of the packets that are sent from then on, until visits are made.
+    pub fn guess(&mut self, guess: OrderGuess)
+        ensures { self.new ≡ self.old }
+    {
+        self.waiting.guess(guess);
     }
 
     /// Makes all visits at or before a moment, in their order, with the gate called round each. What is sent from then

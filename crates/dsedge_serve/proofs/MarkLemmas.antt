@@ -3,8 +3,8 @@ use Rattle.std.proofs.Common.{◌≡◌, ℕ, List, Bool, true, false, Option, N
 use Rattle.ds_checker.specs.Acceptance.{Table}
 use Rattle.ds_conditioner.specs.declared.report.Report.{Report}
 use Rattle.ds_conditioner.specs.declared.rule.RedRule.{RedRule}
-use Rattle.ds_conductor.specs.Markings.{IsMarkedBeside, IsMarkedBy}
-use Rattle.ds_conductor.specs.declared.fault.MarkFault.{MarkFault}
+use Rattle.ds_conductor.specs.Workings.{IsMarkedBeside, IsMarkedBy}
+use Rattle.ds_marking.specs.declared.fault.MarkFault.{MarkFault}
 use Rattle.dsedge_serve.specs.Marked.{is_sole}
 
 -- what one worker leaves behind, several may leave behind

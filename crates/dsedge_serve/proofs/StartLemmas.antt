@@ -13,7 +13,7 @@ use Rattle.dsedge_lines.specs.declared.words.FirstLineFault.{FirstLineFault}
 use Rattle.dsedge_lines.specs.declared.words.FirstLineFault.TheVariants as first_line_faults
 use Rattle.dsedge_lines.specs.declared.command.Ending.TheVariants as endings
 use Rattle.dsedge_lines.specs.declared.fault.PumpFault.TheVariants as pump_faults
-use Rattle.ds_conductor.specs.declared.fault.MarkFault.TheVariants as marks
+use Rattle.ds_marking.specs.declared.fault.MarkFault.TheVariants as marks
 use Rattle.dsedge_serve.specs.declared.conclusion.Conclusion.TheVariants.{Ended, Unaccepted, Uncertified, Unsound}
 use Rattle.dsedge_serve.specs.declared.outcome.Outcome.{Outcome}
 use Rattle.dsedge_serve.specs.declared.outcome.Outcome.TheVariants.{Answered, Marked, Misused, Unnamed}

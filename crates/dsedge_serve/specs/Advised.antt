@@ -2,7 +2,7 @@
 use Rattle.std.specs.Prelude.{◌≡◌, ◌⊎◌, Bool, true, false, List, [], ◌∷◌, ◌++◌, ℕ, Option, None, Some, Result, codes, decimal, option_and_then, string_bytes}
 use Rattle.ds_certificate.specs.declared.fault.CertificateFault.{CertificateFault}
 use Rattle.ds_certificate.specs.declared.fault.CertificateFault.TheVariants as certificates
-use Rattle.ds_conductor.specs.declared.fault.MarkFault.{MarkFault}
+use Rattle.ds_marking.specs.declared.fault.MarkFault.{MarkFault}
 use Rattle.dsedge_base.specs.Plans.{IsExplanationOf}
 use Rattle.dsedge_base.specs.declared.explanation.Explanation.{Explanation}
 use Rattle.dsedge_base.specs.declared.explanation.Explanation.TheVariants.{Form, Value, Workers}

@@ -2,9 +2,9 @@
 use Rattle.std.specs.Prelude.{◌≡◌, ◌⊎◌, ℕ, Bool, true, false, List, [], ◌∷◌, ◌++◌, flat_map, nat_lt, Option, None, Some, Result, Ok, Err, codes, decimal, slice_index}
 use Rattle.pcap_capture.specs.declared.fault.PcapFault.{PcapFault}
 use Rattle.pcap_capture.specs.declared.fault.PcapFault.TheVariants as pcaps
-use Rattle.ds_conductor.specs.Markings.{IsMarkedBy}
-use Rattle.ds_conductor.specs.declared.fault.MarkFault.{MarkFault}
-use Rattle.ds_conductor.specs.declared.fault.MarkFault.TheVariants as marks
+use Rattle.ds_conductor.specs.Workings.{IsMarkedBy}
+use Rattle.ds_marking.specs.declared.fault.MarkFault.{MarkFault}
+use Rattle.ds_marking.specs.declared.fault.MarkFault.TheVariants as marks
 use Rattle.ds_conditioner.specs.declared.report.Report.{Report}
 use Rattle.ds_conditioner.specs.declared.rule.RedRule.{RedRule}
 use Rattle.ds_conditioner.specs.declared.rule.RedRule.TheVariants.{Drop, Keep}

@@ -9,9 +9,9 @@ use Rattle.ds_domain.specs.DomainTexts.{parse_of}
 use Rattle.ds_domain_base.specs.Domains.{Domain, is_port}
 use Rattle.ds_domain_base.specs.declared.contract.Contract.{Contract}
 use Rattle.ds_domain_base.specs.declared.fault.DomainFault.{DomainFault}
-use Rattle.ds_conductor.specs.Markings.{is_broken_off as is_marking_broken_off, is_unread, is_unwritten}
+use Rattle.ds_marking.specs.Markings.{is_broken_off as is_marking_broken_off, is_unread, is_unwritten}
 use Rattle.ds_conditioner.specs.Reports.{nothing_read}
-use Rattle.ds_conductor.specs.declared.fault.MarkFault.TheVariants as marks
+use Rattle.ds_marking.specs.declared.fault.MarkFault.TheVariants as marks
 use Rattle.ds_conditioner.specs.declared.rule.RedRule.{RedRule}
 use Rattle.dsedge_lines.specs.Answers.{Answer}
 use Rattle.dsedge_lines.specs.declared.command.Ending.TheVariants as endings

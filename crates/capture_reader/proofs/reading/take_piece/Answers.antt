@@ -1,4 +1,5 @@
-use Rattle.std.proofs.Common.{◌≡◌, List, ◌++◌, length, length-append, append_assoc, None, Some, Ok, sym, subst, ap, ◌∙◌, inl, inr, arith}
+use Rattle.std.proofs.Common.{◌≡◌, List, ◌++◌, length, length-append, append_assoc, None, Some, Ok, sym, subst, ap, refl, ◌∙◌, inl, inr, arith}
+use Rattle.std.proofs.lemmas.Bool.{le-leb, leb-true}
 use Rattle.pcap_capture.specs.Frames.{FrameValue}
 use Rattle.pcap_capture.specs.Grammar.{CaptureState}
 use Rattle.pcap_capture.specs.declared.fault.PcapFault.TheVariants.{WriteFault}
@@ -6,70 +7,75 @@ use Rattle.pcap_capture.proofs.TakingLaws.{taken_unread}
 use Rattle.capture_reader.specs.Readings.{IsReading, IsUnderway, heading_at}
 use Rattle.capture_reader.proofs.ReadFaultLaws.{asked_once, own_written}
 use Rattle.capture_reader.proofs.ReadingLaws.{failed, fed, stays_records, still, stopped}
-use Rattle.capture_reader.proofs.SizeLaws.{taken_size}
+use Rattle.capture_reader.proofs.SizeLaws.{full_piece, taken_size}
 use Rattle.capture_reader.proofs.reading.take_piece.Goals as goal
 
-pub returns-in-Err-clause-few : goal.returns-in-Err-clause-few
-returns-in-Err-clause-few g c =
-    elim c.in-Err.ensures.err [
-      | inl unread ↦ omega (arith, c.take_from.ensures.no_more, ap (λ (s : CaptureState). length s.rest) unread.1, ap length unread.2)
-      | inr it ↦
-          elim c.in-Err.ensures.fewer [
-            | inl fewer ↦
-                let size = taken_size _ _ _ _ c.args.progress.now.capture c.take_from.new.self c.args.progress.now.piece c.take_from.new.out (Some c.in-Err.fault) it in
-                let most = c.wanted-most.ensures.most c.requires.missing in
-                omega (arith, fewer, size, most)
-            | inr unasked ↦ omega (arith, c.take_from.ensures.no_more, ap (λ (s : CaptureState). length s.rest) it.read.0, ap length unasked.1)
-          ]
-    ]
-
-pub returns-in-Err-clause-read : goal.returns-in-Err-clause-read
-returns-in-Err-clause-read g c = λ gone bytes tells at.
+pub returns-in-Err-clause-piece : goal.returns-in-Err-clause-piece
+returns-in-Err-clause-piece g c =
     let before = c.args.progress.now in
     let more = g.I.Intake.left c.take_from.new.intake in
-    let fault = c.in-Err.fault in
-    elim c.in-Err.ensures.err [
-      | inl unread ↦
-          subst (λ (frames : List FrameValue). IsReading bytes more before.heading (gone ++ frames) (Some fault)) (sym {A = List FrameValue} unread.2)
-          (failed gone bytes _ more before fault at (unread.3 tells) unread.0)
-      | inr it ↦
-          stopped gone bytes it.piece more before c.take_from.new.out fault (subst (λ left. IsUnderway gone bytes left before) (it.given tells) at)
-          (λ some. let most = c.wanted-most.ensures.heading some in omega (arith, it.few, most)) it.read.1
-    ]
+    let fault = c.in-Err.fault in record {
+      missing = omega arith;
+      fewer = tt;
+      stays = λ heading records known. known;
+      few =
+          elim c.in-Err.ensures.err [
+            | inl unread ↦ omega (arith, c.take_from.ensures.no_more, ap (λ (s : CaptureState). length s.rest) unread.1, ap length unread.2)
+            | inr it ↦
+                elim c.in-Err.ensures.fewer [
+                  | inl fewer ↦
+                      let size = taken_size _ _ _ _ before.capture c.take_from.new.self before.piece c.take_from.new.out (Some fault) it in
+                      let most = c.wanted-most.ensures.most c.requires.missing in
+                      omega (arith, fewer, size, most)
+                  | inr unasked ↦ omega (arith, c.take_from.ensures.no_more, ap (λ (s : CaptureState). length s.rest) it.read.0, ap length unasked.1)
+                ]
+          ];
+      told = c.in-Err.ensures.told;
+      read = λ gone bytes tells at.
+          elim c.in-Err.ensures.err [
+            | inl unread ↦
+                subst (λ (frames : List FrameValue). IsReading bytes more before.heading (gone ++ frames) (Some fault)) (sym {A = List FrameValue} unread.2)
+                (failed gone bytes _ more before fault at (unread.3 tells) unread.0)
+            | inr it ↦
+                stopped gone bytes it.piece more before c.take_from.new.out fault (subst (λ left. IsUnderway gone bytes left before) (it.given tells) at)
+                (λ some. let most = c.wanted-most.ensures.heading some in omega (arith, it.few, most)) it.read.1
+          ];
+      size = tt;
+      full = tt;
+      reads = c.in-Err.ensures.reads;
+      no_write = λ is.
+          let same : fault ≡ WriteFault = cc in
+          elim c.in-Err.ensures.err [
+            | inl unread ↦ let no = sym unread.0 ∙ same in absurd cc
+            | inr it ↦ absurd (own_written fault (taken_unread _ _ _ _ before.capture c.take_from.new.self before.piece c.take_from.new.out fault it) same)
+          ];
+    }
 
-pub returns-in-Err-clause-no_write : goal.returns-in-Err-clause-no_write
-returns-in-Err-clause-no_write g c = λ is.
-    let same : c.in-Err.fault ≡ WriteFault = cc in
-    elim c.in-Err.ensures.err [
-      | inl unread ↦ let no = sym unread.0 ∙ same in absurd cc
-      | inr it ↦
-          absurd (own_written c.in-Err.fault
-          (taken_unread _ _ _ _ c.args.progress.now.capture c.take_from.new.self c.args.progress.now.piece c.take_from.new.out c.in-Err.fault it) same)
-    ]
-
-pub returns-clause-stays : goal.returns-clause-stays
-returns-clause-stays g c = λ heading records known.
+pub returns-clause-piece : goal.returns-clause-piece
+returns-clause-piece g c =
+    let before = c.args.progress.now in
     let it = c.in-Ok.ensures.ok.0 in
-    c.heading_by-progress.ensures ∙ ap heading_at (c.stage.ensures ∙ stays_records heading c.args.progress.now.capture c.take_from.new.self it.piece c.args.progress.now.piece c.take_from.new.out records it.read)
-
-pub returns-clause-few : goal.returns-clause-few
-returns-clause-few g c =
-    let fewer = asked_once _ _ c.in-Ok.taken c.in-Ok.ensures.fewer in
-    let size = taken_size _ _ _ _ c.args.progress.now.capture c.take_from.new.self c.args.progress.now.piece c.take_from.new.out None c.in-Ok.ensures.ok.0 in
-    let most = c.wanted-most.ensures.most c.requires.missing in
-    omega (arith, fewer, size, most)
-
-pub returns-clause-fewer : goal.returns-clause-fewer
-returns-clause-fewer g c = asked_once _ _ c.in-Ok.taken c.in-Ok.ensures.fewer
-
-pub returns-clause-read : goal.returns-clause-read
-returns-clause-read g c = λ gone bytes tells at.
-    let it = c.in-Ok.ensures.ok.0 in record {
-      read = at.read ++ it.piece;
-      front = at.front ∙ ap (λ left. at.read ++ left) (it.given tells) ∙ sym (append_assoc at.read it.piece (g.I.Intake.left c.take_from.new.intake));
-      so_far = fed gone at.read it.piece c.args.progress.now.capture c.take_from.new.self c.args.progress.now.piece c.take_from.new.out at.so_far it.read;
-      known = c.heading_by-progress.ensures ∙ ap heading_at c.stage.ensures;
-      to_come = omega (arith, c.saturating_sub-progress.ensures, at.to_come, length-append at.read it.piece, c.in-Ok.ensures.ok.1);
+    let most = c.wanted-most.ensures.most c.requires.missing in record {
+      missing = omega (arith, c.saturating_sub-progress.ensures);
+      fewer = asked_once _ _ c.in-Ok.taken c.in-Ok.ensures.fewer;
+      stays = λ heading records known.
+          c.heading_by-progress.ensures ∙ ap heading_at (c.stage.ensures ∙ stays_records heading before.capture c.take_from.new.self it.piece before.piece c.take_from.new.out records it.read);
+      few =
+          let fewer = asked_once _ _ c.in-Ok.taken c.in-Ok.ensures.fewer in
+          let size = taken_size _ _ _ _ before.capture c.take_from.new.self before.piece c.take_from.new.out None it in
+          omega (arith, fewer, size, most);
+      told = c.in-Ok.ensures.told;
+      read = λ gone bytes tells at. record {
+        read = at.read ++ it.piece;
+        front = at.front ∙ ap (λ left. at.read ++ left) (it.given tells) ∙ sym (append_assoc at.read it.piece (g.I.Intake.left c.take_from.new.intake));
+        so_far = fed gone at.read it.piece before.capture c.take_from.new.self before.piece c.take_from.new.out at.so_far it.read;
+        known = c.heading_by-progress.ensures ∙ ap heading_at c.stage.ensures;
+        to_come = omega (arith, c.saturating_sub-progress.ensures, at.to_come, length-append at.read it.piece, c.in-Ok.ensures.ok.1);
+      };
+      size = λ tells. full_piece _ _ it.piece c.in-Ok.taken _ (leb-true 65536 c.in-Ok.taken, le-leb 65536 c.in-Ok.taken) (it.given tells) c.in-Ok.ensures.ok.1 (omega (arith, it.few, most));
+      full = refl;
+      reads = c.in-Ok.ensures.reads;
+      no_write = λ is. absurd cc;
     }
 
 pub returns-clause-end : goal.returns-clause-end

@@ -7,6 +7,7 @@ pub loop-init : goal.loop-init
 loop-init c = record {
   bounded = c.requires;
   records = refl;
+  still = λ up. up;
   handed = λ more frames text at. ([], sym (append-nil c.args.handed.now), subst (λ (t : List ℕ). IsConditioned c.args.port.now more frames t c.args.conditioner.now) (sym (append-nil text)) at);
 }
 
@@ -17,6 +18,7 @@ loop-preserved c =
     record {
       bounded = c.hand_out_next.ensures.bounded;
       records = c.hand_out_next.ensures.records ∙ was.records;
+      still = λ up. c.hand_out_next.ensures.still (was.still up);
       handed = λ more frames text at.
           let so_far = was.handed more frames text at in
           let one = c.in_ok-hand_out_next.ensures.handed more frames (text ++ so_far.0) so_far.2 in (

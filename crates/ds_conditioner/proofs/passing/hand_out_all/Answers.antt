@@ -9,6 +9,7 @@ loop-stretch-init c = record {
   there = c.requires.there;
   next = c.requires.next;
   records = refl;
+  still = λ up. up;
   fewer = omega arith;
   handed = none_added c.args.port.now c.args.conditioner.now c.args.stretch.now.text;
 }
@@ -21,6 +22,7 @@ loop-stretch-preserved c =
       there = some_by _ _ c.is_over.ensures c.if-is_over.false;
       next = c.hand_out_to.ensures.next;
       records = c.hand_out_to.ensures.records ∙ was.records;
+      still = λ up. c.hand_out_to.ensures.still (was.still up);
       fewer = omega (arith, was.fewer, c.loop-stretch-test.ensures.one);
       handed = added_on c.args.port.now c.args.conditioner.now c.loop-stretch.conditioner c.hand_out_to.new.self c.args.stretch.now.text c.loop-stretch.stretch.text c.hand_out_to.new.stretch.text
           was.handed c.hand_out_to.ensures.handed;

@@ -1,5 +1,5 @@
 use Rattle.std.proofs.Common.{◌≡◌, ◌<◌, ◌≤◌, length}
-use Rattle.ds_conditioner.specs.Conditionings.{IsBounded}
+use Rattle.ds_conditioner.specs.Conditionings.{IsBounded, IsUpToDate}
 use Rattle.ds_conditioner.specs.Handings.{AreHandedOut}
 use Rattle.ds_conditioner.specs.Stretches.{AreNext}
 use Rattle.ds_conditioner.proofs.passing.hand_out_all.Given as goal
@@ -11,6 +11,7 @@ invariant-loop-stretch l = record {
   there : 0 < length l.stretch.coming;
   next : AreNext l.stretch.coming l.conditioner.held.held;
   records : l.conditioner.counts.records ≡ l.initial.conditioner.counts.records;
+  still : IsUpToDate l.initial.conditioner → IsUpToDate l.conditioner;
   fewer : length l.conditioner.held.held ≤ length l.initial.conditioner.held.held;
   handed : AreHandedOut l.port l.initial.conditioner l.conditioner l.initial.stretch.text l.stretch.text;
 }

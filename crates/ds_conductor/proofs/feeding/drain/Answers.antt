@@ -1,6 +1,6 @@
 use Rattle.std.proofs.Common.{◌∷◌, [], Result, Err, length, length-append, ap, ◌∙◌, arith}
-use Rattle.ds_conductor.specs.Writings.{failures_with, is_write_fault}
-use Rattle.ds_conductor.specs.declared.fault.MarkFault.{MarkFault}
+use Rattle.ds_marking.specs.Writings.{failures_with, is_write_fault}
+use Rattle.ds_marking.specs.declared.fault.MarkFault.{MarkFault}
 use Rattle.ds_conductor.proofs.LaningLaws.{text_front, text_more}
 use Rattle.ds_conductor.proofs.feeding.drain.Goals as goal
 

@@ -4,8 +4,8 @@ use Rattle.pcap_capture.specs.Frames.{FrameValue}
 use Rattle.pcap_capture.specs.Takings.{is_read_fault}
 use Rattle.ds_conductor.specs.Lanings.{count_of, frames_of}
 use Rattle.capture_reader.specs.Readings.{IsUnderway, read_by}
-use Rattle.ds_conductor.specs.Writings.{failures_with, is_write_fault}
-use Rattle.ds_conductor.specs.declared.fault.MarkFault.{MarkFault}
+use Rattle.ds_marking.specs.Writings.{failures_with, is_write_fault}
+use Rattle.ds_marking.specs.declared.fault.MarkFault.{MarkFault}
 use Rattle.ds_conductor.proofs.LaningLaws.{count_of-more, frames_of-more, right_more, sooner, text_front, text_more}
 use Rattle.capture_reader.proofs.ReadingLaws.{stage_of}
 use Rattle.ds_conductor.proofs.feeding.feed.Goals as goal

@@ -1,6 +1,6 @@
 use Rattle.std.proofs.Common.{length, length-append, ap, ◌∙◌, arith}
 use Rattle.ds_conductor.specs.Lanings.{count_of, frames_of}
-use Rattle.ds_conductor.specs.Writings.{failures_with, is_write_fault}
+use Rattle.ds_marking.specs.Writings.{failures_with, is_write_fault}
 use Rattle.ds_conductor.proofs.LaningLaws.{count_of-end, drained, fed_end, frames_of-end, front_more}
 use Rattle.ds_conductor.proofs.feeding.feed_lots.Goals as goal
 

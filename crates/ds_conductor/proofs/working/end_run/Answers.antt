@@ -1,8 +1,8 @@
 use Rattle.std.proofs.Common.{◌++◌, append-nil, append_assoc, sym, ap, ◌∙◌}
 use Rattle.ds_conductor.proofs.LaningLaws.{front_of_written}
-use Rattle.ds_conductor.proofs.PassingLaws.{starved_off}
+use Rattle.ds_marking.proofs.PassingLaws.{starved_off}
 use Rattle.capture_reader.proofs.ReadingLaws.{front_read}
-use Rattle.ds_conductor.proofs.WritingLaws.{longer_front}
+use Rattle.ds_marking.proofs.WritingLaws.{longer_front}
 use Rattle.ds_conductor.specs.Lanings.{read_last}
 use Rattle.ds_conductor.proofs.working.end_run.Goals as goal
 

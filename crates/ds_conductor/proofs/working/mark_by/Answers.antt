@@ -2,9 +2,10 @@ use Rattle.std.proofs.Common.{◌≡◌, false, nat_lt, subst, sym, ap, ◌∙�
 use Rattle.std.proofs.lemmas.Bool.Decides.{nat_tests}
 use Rattle.pcap_capture.proofs.CountLaws.{reads_from}
 use Rattle.pcap_capture.specs.Counts.{IsOfReads}
-use Rattle.ds_conductor.specs.Markings.{is_unread}
-use Rattle.ds_conductor.proofs.MarkingLaws.{marked_alone, marked_beside, passed_at}
-use Rattle.ds_conductor.proofs.PassingLaws.{ended_reading, few_with, known_with, off_with, unread_with, writes_with}
+use Rattle.ds_marking.specs.Markings.{is_unread}
+use Rattle.ds_marking.proofs.MarkingLaws.{passed_at}
+use Rattle.ds_marking.proofs.PassingLaws.{ended_reading}
+use Rattle.ds_conductor.proofs.WorkingLaws.{few_with, known_with, marked_alone, marked_beside, off_with, unread_with, writes_with}
 use Rattle.ds_conductor.proofs.working.mark_by.Goals as goal
 
 pub returns-then-workers-lt2-clause-marked : goal.returns-then-workers-lt2-clause-marked
@@ -13,7 +14,7 @@ returns-then-workers-lt2-clause-marked g c = λ given tells.
 
 pub returns-in-Err-clause-marked : goal.returns-in-Err-clause-marked
 returns-in-Err-clause-marked g c = λ given tells.
-    marked_alone (nat_lt c.args.workers 2) c.args.accepted.now c.args.port.now c.args.red _ _ _ _ _ (c.in-Err.ensures.refused given (g.O.Outlet.held c.args.outlet.now))
+    marked_alone (nat_lt c.args.workers 2) c.args.accepted.now c.args.port.now c.args.red _ _ _ _ _ (c.in-Err.ensures.begun given (g.O.Outlet.held c.args.outlet.now))
 
 pub returns-clause-marked : goal.returns-clause-marked
 returns-clause-marked g c = λ given tells.

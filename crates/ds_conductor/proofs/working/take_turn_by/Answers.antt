@@ -4,11 +4,11 @@ use Rattle.pcap_capture.specs.Frames.{FrameValue}
 use Rattle.ds_conditioner.specs.Conditionings.{IsConditioned}
 use Rattle.ds_conditioner.specs.declared.port.Port.{Port}
 use Rattle.ds_conductor.specs.Lanings.{AreWritten, IsTakenIn, frames_of, joined}
-use Rattle.ds_conductor.specs.Passings.{IsPassing, IsReadyAfter, is_unread_in}
-use Rattle.ds_conductor.specs.declared.marking.Passage.{Passage}
+use Rattle.ds_marking.specs.Passings.{IsPassing, IsReadyAfter, is_unread_in}
+use Rattle.ds_marking.specs.declared.marking.Passage.{Passage}
 use Rattle.ds_conductor.proofs.LaningLaws.{asked_by, read_fed, reads_by, taken_by, written_behind, written_same}
-use Rattle.ds_conductor.proofs.PassingLaws.{unwritten_off}
-use Rattle.ds_conductor.proofs.WritingLaws.{broken_out, written_out, written_whole}
+use Rattle.ds_marking.proofs.PassingLaws.{unwritten_off}
+use Rattle.ds_marking.proofs.WritingLaws.{broken_out, written_out, written_whole}
 use Rattle.ds_conductor.proofs.working.take_turn_by.Goals as goal
 
 pub returns-in-Err-clause-taken : goal.returns-in-Err-clause-taken
@@ -19,7 +19,7 @@ returns-in-Err-clause-taken g c =
       port = refl;
       fewer = λ is. absurd cc;
       turned = λ given tells bytes before at.
-          let none = c.if-not-is_empty.ensures (search rules) in
+          let none = c.if-not-is_empty.ensures.0 (search rules) in
           unwritten_off p at.frames bytes _ before _ at.text passage.progress [] passage.conditioner _ at.headed at.underway (sym none)
           (subst (λ (fs : List FrameValue). IsConditioned p true fs at.text passage.conditioner) (sym (append-nil at.frames)) at.conditioned)
           (broken_out (p.heading.bytes ++ at.text) _ before _ _ at.written (c.in-Err.ensures.bytes tells));
@@ -34,7 +34,7 @@ returns-in-None-clause-taken g c =
     let passage = c.args.passage.now in
     let p = passage.port in
     let n = c.in-None.ensures.nothing in
-    let one = c.take_turn-in-None.ensures in
+    let one = c.take_turn-in-None.ensures.taken in
     let after = c.take_turn-in-None.new.passage in
     let last_intake = c.take_turn-in-None.new.intake in
     let written_out_first : Passage = record passage { out = c.write_out.new.out } in
@@ -61,7 +61,7 @@ returns-in-None-clause-taken g c =
           one.turned (subst (λ i. g.I.Intake.tells i) (sym n.1) given) (subst (λ o. g.O.Outlet.tells o) (sym n.2) (c.write_out.ensures.told tells)) bytes before last;
       reads = subst (λ i. IfOk c.take_turn-in-None.result (λ turn. IsOfReads (is_unread_in turn) (g.I.Intake.failed i) (g.I.Intake.failed last_intake) (g.I.Intake.calls last_intake))) n.1 one.reads;
       fault = one.fault;
-      given = λ given. one.taken (subst (λ i. g.I.Intake.tells i) (sym n.1) given);
+      given = λ given. one.given (subst (λ i. g.I.Intake.tells i) (sym n.1) given);
       told = λ tells. one.told (subst (λ o. g.O.Outlet.tells o) (sym n.2) (c.write_out.ensures.told tells));
     }
 

@@ -1,7 +1,7 @@
 use Rattle.std.proofs.Common.{ap, ◌∙◌}
 use Rattle.pcap_capture.proofs.CountLaws.{reads_from}
-use Rattle.ds_conductor.specs.Passings.{is_unread_by}
-use Rattle.ds_conductor.specs.declared.marking.Turn.TheVariants.{Ended}
+use Rattle.ds_marking.specs.Passings.{is_unread_by}
+use Rattle.ds_marking.specs.declared.marking.Turn.TheVariants.{Ended}
 use Rattle.ds_conductor.proofs.working.turn_all_by.Goals as goal
 
 pub returns-in-Ended-clause-taken : goal.returns-in-Ended-clause-taken

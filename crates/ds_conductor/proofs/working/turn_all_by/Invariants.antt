@@ -1,5 +1,5 @@
 use Rattle.std.proofs.Common.{◌≡◌, List, ℕ}
-use Rattle.ds_conductor.specs.Passings.{IsPassing, IsReady}
+use Rattle.ds_marking.specs.Passings.{IsPassing, IsReady}
 use Rattle.ds_conductor.proofs.working.turn_all_by.Given as goal
 
 -- more may come

@@ -1,5 +1,5 @@
 use Rattle.std.proofs.Common.{◌++◌, [], append-nil, append_assoc, refl, sym, ap, ◌∙◌}
-use Rattle.ds_conductor.proofs.PassingLaws.{starved_off}
+use Rattle.ds_marking.proofs.PassingLaws.{starved_off}
 use Rattle.capture_reader.proofs.ReadingLaws.{front_read, whole_read}
 use Rattle.ds_conductor.proofs.working.unwritten_with.Goals as goal
 

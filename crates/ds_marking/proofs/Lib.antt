@@ -1,0 +1,5 @@
+-- Lemmas for the proofs of this crate.
+pub mod MarkingLaws
+pub mod PassingLaws
+pub mod VerdictLaws
+pub mod WritingLaws

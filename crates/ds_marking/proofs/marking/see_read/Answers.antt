@@ -1,0 +1,14 @@
+use Rattle.std.proofs.Common.{◌++◌, List, subst}
+use Rattle.pcap_capture.specs.Frames.{FrameValue}
+use Rattle.capture_reader.specs.Readings.{IsUnderway}
+use Rattle.ds_marking.proofs.marking.see_read.Goals as goal
+
+pub returns-clause-read : goal.returns-clause-read
+returns-clause-read c = λ gone bytes more at.
+    subst (λ (fs : List FrameValue). IsUnderway (gone ++ fs) bytes more c.take_piece.new.self) c.take_piece.ensures.taken (c.take_piece.ensures.read gone bytes more at)
+
+pub returns-clause-seen : goal.returns-clause-seen
+returns-clause-seen c = rw c.take_piece.ensures.taken at c.see_all.ensures.seen
+
+pub returns-clause-unseen : goal.returns-clause-unseen
+returns-clause-unseen c = rw c.take_piece.ensures.taken at c.see_all.ensures.unseen
