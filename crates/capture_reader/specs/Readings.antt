@@ -120,6 +120,19 @@ pub record IsPieceRead {A : Type 0} (tells : A → Type 0) (left : A → List �
   pub reads : IsOfReads (is_read_fault result) (failed old) (failed new) (calls new)
   pub no_write : ¬ (result ≡ Err WriteFault)
 
+-- The frames that were there whole are taken out, and nothing else changes.
+pub record IsTakenOut (piece : List FrameValue) (old new : Progress) : Type 0 where
+  pub taken : piece ≡ old.piece
+  pub none : new.piece ≡ []
+  pub missing : new.missing ≡ old.missing
+  pub heading : new.heading ≡ old.heading
+  pub full : new.is_full ≡ old.is_full
+  pub few : 16 * length piece + bytes_of new ≡ bytes_of old
+  pub read : (gone : List FrameValue) (bytes more : List ℕ) → IsUnderway gone bytes more old
+      → IsUnderway (gone ++ piece) bytes more new
+  pub ended : (gone : List FrameValue) (bytes more : List ℕ) (fault : Option PcapFault)
+      → IsEnded gone bytes more old fault → IsReading bytes more old.heading (gone ++ piece) fault
+
 -- whether memory ran out
 abbrev pub is_starved : PcapFault → Bool
 is_starved NotPcap = false

@@ -1,7 +1,7 @@
 ghost use Rattle.std.specs.Prelude.{◌≡◌, ◌↔◌, ◌≤◌, ◌<◌, ◌+◌, ◌*◌, ℕ, List, [], ◌++◌, length, false, true, IsTrue};
 ghost use Rattle.std.specs.Prelude.{None, Some, Option, Ok, Err, IfErr, IfOk, MatchResult, OnErr};
 ghost use Rattle.pcap_capture.specs.Frames.{FrameValue};
-ghost use Rattle.capture_reader.specs.Readings.{IsEnded, IsPieceRead, IsReadOn, IsReading, IsUnderway};
+ghost use Rattle.capture_reader.specs.Readings.{IsPieceRead, IsReadOn, IsReading, IsTakenOut, IsUnderway};
 ghost use Rattle.capture_reader.specs.Readings.{bytes_of, heading_at, is_full_by, most_bytes, piece_by, read_by};
 ghost use Rattle.capture_reader.specs.Readings.{is_starved, is_starving};
 ghost use Rattle.pcap_capture.specs.Counts.{IsOfReads};
@@ -43,7 +43,8 @@ fn heading_by(stage: Stage) -> Option<Heading>
 fn wanted(missing: usize) -> usize
     ensures some { 0 < result }
     ensures most { missing ≤ 24 → result ≤ 65536 }
-    ensures heading { 0 < missing → result ≤ missing }
+    ensures heading { 0 < missing → result ≡ missing }
+    ensures piece { missing ≡ 0 → result ≡ 65536 }
 {
     if missing > 0 { missing } else { PIECE }
 }
@@ -256,17 +257,16 @@ impl Progress {
 
     /// Takes the frames out that are there whole, in the piece that they were read in.
     pub fn take_piece(&mut self, alloc: Global) -> Piece
-        ensures taken { result ≡ self.old.piece }
-        ensures none { self.new.piece ≡ [] }
-        ensures missing { self.new.missing ≡ self.old.missing }
-        ensures heading { self.new.heading ≡ self.old.heading }
-        ensures full { self.new.is_full ≡ self.old.is_full }
-        ensures few { 16 * length result + bytes_of self.new ≡ bytes_of self.old }
-        ensures read { (gone : List FrameValue) (bytes more : List ℕ) → IsUnderway gone bytes more self.old
-            → IsUnderway (gone ++ result) bytes more self.new }
-        ensures ended { (gone : List FrameValue) (bytes more : List ℕ) (fault : Option PcapFault)
-            → IsEnded gone bytes more self.old fault → IsReading bytes more self.old.heading (gone ++ result) fault }
+        ensures { IsTakenOut result self.old self.new }
     {
-        std::mem::replace(&mut self.piece, Piece::new(alloc))
+        self.change_piece(Piece::new(alloc))
+    }
+
+    /// The same, and what is read next stands in a piece that was used before, of which no frame is left.
+    pub fn change_piece(&mut self, next: Piece) -> Piece
+        requires { next ≡ [] }
+        ensures { IsTakenOut result self.old self.new }
+    {
+        std::mem::replace(&mut self.piece, next)
     }
 }

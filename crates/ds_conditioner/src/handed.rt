@@ -1,6 +1,7 @@
-ghost use Rattle.std.specs.Prelude.{◌≡◌, ◌++◌, [], OnOk};
+ghost use Rattle.std.specs.Prelude.{◌≡◌, ◌++◌, [], IfSome, OnOk};
 
 use crate::stretch::Stretch;
+use pcap_capture::Piece;
 use std::alloc::{AllocError, Global};
 use std::marker::Model;
 
@@ -36,6 +37,19 @@ impl Handed {
     {
         self.stretches.push(stretch)?;
         Ok(())
+    }
+
+    /// A piece of which no frame is held any more, emptied so that it can be used again, if there is one.
+    pub fn spent(self) -> Option<Piece>
+        ensures { IfSome result (λ piece. piece ≡ []) }
+    {
+        let Handed { stretches } = self;
+        for stretch in stretches {
+            if let Some(piece) = stretch.spent() {
+                return Some(piece);
+            }
+        }
+        None
     }
 
     /// Adds the text of the records to another. `AllocError` where memory runs out.

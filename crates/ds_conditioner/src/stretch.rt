@@ -1,4 +1,4 @@
-ghost use Rattle.std.specs.Prelude.{◌≡◌, ◌==◌, ◌<◌, ◌≤◌, ◌++◌, [], length, IfOk, OnOk};
+ghost use Rattle.std.specs.Prelude.{◌≡◌, ◌==◌, ◌<◌, ◌≤◌, ◌++◌, [], length, IfOk, IfSome, OnOk};
 ghost use Rattle.std.specs.Arc.{arc_value};
 ghost use Rattle.ds_conditioner.specs.Fates.{IsFateOf, fate_text};
 ghost use Rattle.ds_conditioner.specs.Stretches.{CanBefall, IsFated, between};
@@ -78,6 +78,16 @@ impl Stretch {
         ensures { IsFated fate self.old self.new }
     {
         self.fates.push_reserved(fate);
+    }
+
+    /// Its piece, emptied, where no frame of it is held any more.
+    pub(crate) fn spent(self) -> Option<Piece>
+        ensures { IfSome result (λ piece. piece ≡ []) }
+    {
+        let Stretch { piece, .. } = self;
+        let mut piece = Arc::into_inner(piece)?;
+        piece.clear();
+        Some(piece)
     }
 
     /// Adds the text of the records to another. `AllocError` where memory runs out.

@@ -3,7 +3,7 @@ ghost use Rattle.std.specs.Prelude.{◌≡◌, ◌+◌, ◌++◌, Ok, Err, Some,
 ghost use Rattle.ds_conditioner.specs.Conditionings.{IsSeenAtPort};
 ghost use Rattle.ds_conductor.specs.Lanings.{IsCutWith, IsFedFrom, IsGiven, IsGivenMore, IsIdle, count_of, done_of};
 
-use crate::laning::{Between, write_next};
+use crate::laning::{Bench, Between, write_next};
 use crate::shift::Shift;
 use capture_reader::{Progress, Read, read_one};
 use ds_conditioner::{Handed, Lot};
@@ -48,11 +48,11 @@ fn drain<R: Wait, O: Outlet>(
     ensures written { IsGivenMore O.tells O.held O.failed outlet.old outlet.new taking.old.taken taking.new.taken
         result.1 }
 {
-    let mut out = Vec::new(alloc);
+    let mut bench = Bench::new(alloc);
     let mut left = way;
     while left > 0 {
         left -= 1;
-        if let Err(fault) = write_next(rt, taking, &mut out, outlet) {
+        if let Err(fault) = write_next(rt, taking, &mut bench, outlet) {
             return (left, Err(fault));
         }
     }
@@ -88,7 +88,7 @@ fn feed<R: Wait, I: Intake, O: Outlet>(
         progress.new between.new.to.put result.1 }
     ensures written { IsGiven O.tells O.held O.failed outlet.old outlet.new between.new.from.taken (done_of result.1) }
 {
-    let mut out = Vec::new(shift.alloc);
+    let mut bench = Bench::new(shift.alloc);
     let sees = shift.others == 1;
     let mut turn: u32 = 0;
     let mut way: u32 = 0;
@@ -96,7 +96,7 @@ fn feed<R: Wait, I: Intake, O: Outlet>(
     for _ in rt.forever() {
         if way == MOST_ON_WAY {
             way -= 1;
-            if let Err(fault) = write_next(rt, &mut between.from, &mut out, outlet) {
+            if let Err(fault) = write_next(rt, &mut between.from, &mut bench, outlet) {
                 return (way, Err(fault));
             }
         } else {
@@ -106,7 +106,8 @@ fn feed<R: Wait, I: Intake, O: Outlet>(
                     pieces = 0;
                     turn = turn.wrapping_add(1);
                     let is_turn = sees && turn % SEEN_THERE != 0;
-                    let lot = lot_of(shift, progress.take_piece(shift.alloc), is_turn);
+                    let piece = progress.change_piece(bench.piece(shift.alloc));
+                    let lot = lot_of(shift, piece, is_turn);
                     between.to.send(rt, Some(lot));
                     way += 1;
                 }

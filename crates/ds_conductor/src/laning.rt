@@ -1,4 +1,5 @@
 //! What threads do with lots that come and go through lanes.
+ghost use Rattle.std.specs.Option.{ForSome};
 ghost use Rattle.std.specs.Prelude.{◌≡◌, [], IfErr};
 ghost use Rattle.ds_conditioner.specs.Conditionings.{IsBounded, IsSeenAtPort};
 ghost use Rattle.ds_conductor.specs.Lanings.{AreLotsPassed, AreWritten, IsAlong, IsLotPassedOn, IsNextWritten};
@@ -9,7 +10,8 @@ use ds_conditioner::{Conditioner, Handed, Lot, pass_lot};
 use ds_conductor_base::Gate;
 use ds_marking::MarkFault;
 use lane::{Putting, Taking};
-use pcap_capture::{Outlet, PcapFault, hand_over};
+use pcap_capture::{Outlet, PcapFault, Piece, hand_over};
+use std::alloc::Global;
 use std::sync::Wait;
 
 /// What a thread has that stands between two lanes: it takes from the one, and puts into the other.
@@ -139,12 +141,42 @@ fn write_handed<O: Outlet>(
     }
 }
 
+/// What the thread that writes keeps from one lot to the next.
+#[derive(Drop)]
+pub(crate) struct Bench {
+    /// A text is put together here.
+    out: Vec<u8>,
+    /// A piece that was written, to be read into again.
+    spent: Option<Piece>,
+    ghost empty: { ForSome spent (λ piece. piece ≡ []) },
+}
+
+impl Bench {
+    /// Nothing is kept. It takes no memory yet.
+    pub(crate) fn new(alloc: Global) -> Self {
+        Bench {
+            out: Vec::new(alloc),
+            spent: None,
+        }
+    }
+
+    /// A piece without a frame: the one that is kept, if there is one.
+    pub(crate) fn piece(&mut self, alloc: Global) -> Piece
+        ensures { result ≡ [] }
+    {
+        match self.spent.take() {
+            Some(piece) => piece,
+            None => Piece::new(alloc),
+        }
+    }
+}
+
 /// Takes the next frames out of a lane that were handed out, and gives their text to a device. A fault leaves a front
 /// of it written.
 pub(crate) fn write_next<R: Wait, O: Outlet>(
     rt: &R,
     taking: &mut Taking<Handed>,
-    out: &mut Vec<u8>,
+    bench: &mut Bench,
     outlet: &mut O,
 ) -> Result<(), MarkFault>
     ensures lane { taking.new.lane ≡ taking.old.lane }
@@ -155,5 +187,7 @@ pub(crate) fn write_next<R: Wait, O: Outlet>(
     ensures failures { O.failed outlet.new ≡ failures_with (is_write_fault result) (O.failed outlet.old) }
 {
     let handed = taking.receive(rt);
-    write_handed(&handed, out, outlet)
+    let written = write_handed(&handed, &mut bench.out, outlet);
+    bench.spent = handed.spent();
+    written
 }

@@ -66,19 +66,19 @@ pub loop-preserved : goal.loop-preserved
 loop-preserved g c =
     let was = c.loop.invariant in
     let lot = c.lot_of-lot.result in
-    let items : lot.frames ≡ c.read_one.new.progress.piece = c.lot_of-lot.ensures.frames ∙ c.take_piece.ensures.taken in
+    let items : lot.frames ≡ c.read_one.new.progress.piece = c.lot_of-lot.ensures.frames ∙ c.change_piece-piece.ensures.taken in
     let more : frames_of c.send.new.self.put ≡ frames_of c.loop.between.to.put ++ lot.frames = ap frames_of c.send.ensures.put ∙ frames_of-more c.loop.between.to.put lot in record {
       next = tt;
       finite = tt;
       to = c.send.ensures.lane ∙ was.to;
       from = was.from;
-      missing = let a = c.take_piece.ensures.missing in let b = c.read_one.ensures.missing in let n = was.missing in omega (arith, a, b, n);
+      missing = let a = c.change_piece-piece.ensures.missing in let b = c.read_one.ensures.missing in let n = was.missing in omega (arith, a, b, n);
       pieces = omega arith;
       few =
           let a = ap length more in
           let b = length-append (frames_of c.loop.between.to.put) lot.frames in
           let d = ap length c.lot_of-lot.ensures.frames in
-          let e = c.take_piece.ensures.few in
+          let e = c.change_piece-piece.ensures.few in
           let f = c.read_one.ensures.few in
           let n = was.few in
           omega (arith, a, b, d, e, f, n);
@@ -91,13 +91,13 @@ loop-preserved g c =
       right = right_more c.args.shift.now.port.now c.loop.between.to.put _ lot c.send.ensures.put was.right c.lot_of-lot.ensures.seen;
       read = λ gone bytes given at.
           let under = rw c.in-Full.is at (c.read_one.ensures.read (gone ++ frames_of c.loop.between.to.put) bytes (was.given given) (was.read gone bytes given at)) in
-          subst (λ (fs : List FrameValue). IsUnderway fs bytes (g.I.Intake.left c.read_one.new.intake) c.take_piece.new.self)
-          (append_assoc gone (frames_of c.loop.between.to.put) c.take_piece.result ∙ ap (λ fs. gone ++ fs) (ap (λ fs. frames_of c.loop.between.to.put ++ fs) (sym c.lot_of-lot.ensures.frames) ∙ sym more))
-          (c.take_piece.ensures.read (gone ++ frames_of c.loop.between.to.put) bytes _ under);
+          subst (λ (fs : List FrameValue). IsUnderway fs bytes (g.I.Intake.left c.read_one.new.intake) c.change_piece-piece.new.self)
+          (append_assoc gone (frames_of c.loop.between.to.put) c.change_piece-piece.result ∙ ap (λ fs. gone ++ fs) (ap (λ fs. frames_of c.loop.between.to.put ++ fs) (sym c.lot_of-lot.ensures.frames) ∙ sym more))
+          (c.change_piece-piece.ensures.read (gone ++ frames_of c.loop.between.to.put) bytes _ under);
       stays = λ heading gone bytes given at headed.
           let under = was.read gone bytes given at in
           let head = was.stays heading gone bytes given at headed in
-          c.take_piece.ensures.heading ∙ c.read_one.ensures.stays heading (stage_of c.loop.progress.capture.stage heading (sym under.known ∙ head)) head;
+          c.change_piece-piece.ensures.heading ∙ c.read_one.ensures.stays heading (stage_of c.loop.progress.capture.stage heading (sym under.known ∙ head)) head;
       given = λ given. c.read_one.ensures.told (was.given given);
       told = was.told;
       written = was.written;
