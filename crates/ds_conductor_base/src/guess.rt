@@ -19,6 +19,9 @@ const NUMBER_BITS: u32 = 16;
 /// The greatest number that a key can have.
 const LAST_NUMBER: u64 = (1 << NUMBER_BITS) - 1;
 
+/// The order of more visits is not guessed, since there are no more numbers.
+const MOST: usize = 1 << NUMBER_BITS;
+
 /// Fewer visits are sorted as soon without a guess.
 const MANY: usize = 64;
 
@@ -59,6 +62,8 @@ impl Timetable {
 pub struct OrderGuess {
     /// One for each visit, by which the latest is first.
     keys: Vec<u64>,
+    /// The numbers of the visits in that order, once it is settled.
+    order: Vec<u16>,
     /// When the first packet is sent, in nanoseconds.
     first: u64,
 }
@@ -78,6 +83,7 @@ impl OrderGuess {
     {
         OrderGuess {
             keys: Vec::new(alloc),
+            order: Vec::new(alloc),
             first: 0,
         }
     }
@@ -97,17 +103,24 @@ impl OrderGuess {
         Ok(())
     }
 
-    /// Puts what was added in order.
+    /// Puts what was added in order. Where memory runs out, nothing is guessed.
     pub fn settle(&mut self)
         ensures { IsPermutation self.old self.new }
     {
         self.keys.sort_unstable();
+        self.order.clear();
+        if self.order.reserve(self.keys.len()).is_err() {
+            return;
+        }
+        for key in &self.keys {
+            let _ = self.order.push(number_in(*key));
+        }
     }
 
     /// Where it has not one key for each of these visits, which stand in the order of packets and hops, it becomes the
     /// guess that they make themselves; a useless one where memory runs out.
     pub(crate) fn suit(&mut self, visits: &[Reverse<Waiting>]) {
-        if self.keys.len() == visits.len() {
+        if self.order.len() == visits.len() {
             return;
         }
         self.keys.clear();
@@ -128,7 +141,7 @@ impl OrderGuess {
         ensures { IsPermutation visits.old visits.new }
     {
         let count = visits.len();
-        if self.keys.len() != count {
+        if self.order.len() != count || count > MOST {
             return;
         }
         let mut first = 0;
@@ -137,7 +150,7 @@ impl OrderGuess {
             if place >= count {
                 break;
             }
-            let from = number_in(replace(&mut self.keys[place], key_of(0, place as u64)));
+            let from = usize::from(replace(&mut self.order[place], place as u16));
             if from == first || from >= count {
                 first += 1;
                 place = first;
@@ -149,7 +162,7 @@ impl OrderGuess {
                 place = from;
             }
         }
-        self.keys.clear();
+        self.order.clear();
     }
 }
 
@@ -184,6 +197,6 @@ fn key_of(after: u64, number: u64) -> u64 {
 }
 
 /// The number in a key.
-fn number_in(key: u64) -> usize {
-    (!key & LAST_NUMBER) as usize
+fn number_in(key: u64) -> u16 {
+    (!key & LAST_NUMBER) as u16
 }

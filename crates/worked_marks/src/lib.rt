@@ -17,6 +17,8 @@ mod mark_rows;
 #[cfg(test)]
 mod marking;
 #[cfg(test)]
+mod seeing_rows;
+#[cfg(test)]
 mod stream_rows;
 #[cfg(test)]
 mod tables;

@@ -15,7 +15,7 @@ loop-preserved c = record {
         | else-from-count w ↦
             IsPermutation-trans c.args.visits.now c.loop.visits c.if-from-count.visits c.loop.invariant.moved
             (subst (λ (us : List (Reverse Waiting)). IsPermutation c.loop.visits us) (sym w.visits-is)
-            (swapped c.loop.visits c.loop.place c.number_in-from.result w.index-visits-place.result w.index-visits-from.result (omega arith) (omega arith)
+            (swapped c.loop.visits c.loop.place c.from-from.result w.index-visits-place.result w.index-visits-from.result (omega arith) (omega arith)
             w.index-visits-place.is w.index-visits-from.is))
       ];
   count = c.loop.invariant.count ∙ sym c.if-from-count.auto.visits;
