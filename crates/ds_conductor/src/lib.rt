@@ -19,7 +19,7 @@ mod working;
 
 pub use ds_conditioner::{RedRule, Report, laws};
 pub use ds_conductor_base::{Gate, OpenGate};
-pub use ds_marking::{MarkFault, mark};
+pub use ds_marking::{MarkFault, fault, mark, marking};
 pub use ds_runs::{ConductFault, Conductor, Step, StepFault, conduct};
 pub use seeing::see_all;
 pub use working::mark_by;

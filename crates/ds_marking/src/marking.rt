@@ -153,7 +153,8 @@ pub fn end<O: Outlet>(
     turned: Result<Option<PcapFault>, MarkFault>,
     outlet: &mut O,
 ) -> Result<Report, (Report, MarkFault)>
-    requires made { IsAllMade passage.old.conditioner }
+    requires bounded { IsBounded passage.old.conditioner }
+    requires none_left { passage.old.conditioner.under_way.waiting ≡ [] }
     requires fault { IsEndedWell turned }
     ensures marked { O.tells outlet.old → IsEndedAs (O.held outlet.old) (O.held outlet.new) passage.old turned result }
     ensures writes { O.failed outlet.new

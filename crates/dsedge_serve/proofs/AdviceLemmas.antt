@@ -1,5 +1,5 @@
 -- What is said of words.
-use Rattle.std.proofs.Common.{◌≡◌, [], ◌∷◌, ◌++◌, List, ℕ, String, ap, append-nil, append_assoc, inr, map, string_bytes, subst, ◌∙◌, codes, decimal, Global}
+use Rattle.std.proofs.Common.{◌≡◌, [], ◌∷◌, ◌++◌, List, ℕ, String, ap, append-nil, append_assoc, inr, map, string_bytes, subst, codes, decimal, Global}
 use Rattle.dsedge_base.specs.Plans.{IsExplanationOf}
 use Rattle.dsedge_base.specs.declared.explanation.Explanation.{Explanation}
 use Rattle.dsedge_serve.specs.Advised.{IsExplanationText, explanation_text, link_type_advice}

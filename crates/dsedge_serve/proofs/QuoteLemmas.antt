@@ -1,5 +1,5 @@
 -- What is answered to a quote where memory runs out.
-use Rattle.std.proofs.Common.{◌≡◌, ℕ, List, [], Result, Ok, Err, refl}
+use Rattle.std.proofs.Common.{ℕ, List, [], Result, Ok, Err, refl}
 use Rattle.pcap_capture.proofs.FrontLaws.{IsFrontOf-none}
 use Rattle.dsedge_lines.specs.declared.fault.PumpFault.TheVariants as pump_faults
 use Rattle.dsedge_texts.specs.Quoted.{Told}
