@@ -2,6 +2,7 @@
 pub mod ApartLaws
 pub mod ColouringLaws
 pub mod CountLaws
+pub mod GuessLaws
 pub mod HeadStartLaws
 pub mod InOrderLaws
 pub mod JoinLaws
@@ -12,6 +13,7 @@ pub mod RunLaws
 pub mod StopLaws
 pub mod StreamLaws
 pub mod TrainLaws
+pub mod TwoRunLaws
 pub mod UnderWayLaws
 pub mod VisitLaws
 pub mod WayLaws

@@ -93,6 +93,9 @@ on_ok (Err e) ok p = absurd cc
 pub all_empty : (rows run fresh : List (Reverse Waiting)) → rows ≡ [] → run ≡ [] → fresh ≡ [] → rows ++ (run ++ fresh) ≡ []
 all_empty rows run fresh first next last = ap (λ us. us ++ (run ++ fresh)) first ∙ ap (λ us. us ++ fresh) next ∙ last
 
+pub both_empty : (older newer : List (Reverse Waiting)) → older ≡ [] → newer ≡ [] → older ++ newer ≡ []
+both_empty older newer first next = ap (λ us. us ++ newer) first ∙ next
+
 no_rows : (rows : List (Reverse Waiting)) → length rows ≡ 0 → rows ≡ []
 no_rows [] empty = refl
 no_rows (r ∷ rows) empty = absurd (omega (arith, empty))

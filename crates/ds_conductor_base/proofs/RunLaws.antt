@@ -1,15 +1,15 @@
 -- Runs of waiting visits, of which the first visit is the last, and a heap beside one.
-use Rattle.std.proofs.Common.{◌≡◌, ◌<◌, ◌≤◌, ◌+◌, ◌-◌, ℕ, zero, suc, ◌⊎◌, inl, inr, Bool, true, false, List, [], ◌∷◌, ◌++◌, length, take, drop, get_or, refl, sym, ap, ◌∙◌, subst, arith, append-nil, IsPermutation, IsSome, MatchBool, MatchOption, None, Ok, Option, Result, Some, is_ok, nat_lt, if◌then◌else◌, option_to_list, slice_set, All, IsSorted, is_lt}
+use Rattle.std.proofs.Common.{◌≡◌, ◌<◌, ◌≤◌, ◌+◌, ◌-◌, ℕ, zero, suc, ◌⊎◌, inl, inr, Bool, true, false, List, [], ◌∷◌, ◌++◌, length, take, drop, get_or, refl, sym, ap, ◌∙◌, subst, arith, append-nil, IsPermutation, IsSome, MatchBool, MatchOption, None, Ok, Option, Result, Some, is_ok, nat_lt, if◌then◌else◌, option_to_list, All, IsSorted, is_lt}
 use Rattle.std.specs.BinaryHeap.{IsUpperBound}
 use Rattle.std.specs.Cmp.{IsStrictWeakOrder, IsTotalOrder}
 use Rattle.std.specs.declared.cmp.Reverse.{Reverse}
 use Rattle.std.proofs.lemmas.Bool.{cases_lt, false≢true}
 use Rattle.std.proofs.lemmas.Bool.Decides.{nat_tests}
 use Rattle.std.proofs.lemmas.Cmp.{back_total, nat_cmp_total, on_total, then_total}
-use Rattle.std.proofs.lemmas.List.{drop_all, drop_more, get_or-append_right, get_or-drop, get_or_append_left, get_or_default, get_or_push, get_or_read, append_assoc, length-append, length-drop, take-append-le, take_all, take_more}
+use Rattle.std.proofs.lemmas.List.{drop_all, drop_more, get_or-append_right, get_or-drop, get_or_append_left, get_or_push, get_or_read, append_assoc, length-append, length-drop, take_all, take_more}
 use Rattle.std.proofs.lemmas.List.Elements.{All-append, All-from_recursion, All-nil, All-tail, All-weaker, recursion_from_All}
 use Rattle.std.proofs.lemmas.List.Kept.{IsSortedBy-push}
-use Rattle.std.proofs.lemmas.List.Sorted.{All-permutation, IsPermutation-append_comm, IsPermutation-append_left, IsPermutation-append_right, IsPermutation-middle, IsPermutation-push_more, IsPermutation-swap, IsPermutation-to_front, IsPermutation-trans, length_permutation, ranks_by, sorted_far}
+use Rattle.std.proofs.lemmas.List.Sorted.{All-permutation, IsPermutation-append_comm, IsPermutation-append_left, IsPermutation-append_right, IsPermutation-middle, IsPermutation-push_more, IsPermutation-to_front, IsPermutation-trans, ranks_by, sorted_far}
 use Rattle.ds_conductor_base.specs.Trains.{IsFirst}
 use Rattle.ds_conductor_base.specs.Waits.{first_on_top, visits_in, waiting_cmp}
 use Rattle.ds_conductor_base.specs.declared.waiting.Waiting.{Waiting}
@@ -33,7 +33,7 @@ later_strict = ranks_by first_total (λ (r : Reverse Waiting). r)
 
 -- ---- the first visit of a heap and a run
 
-last_bounds : (run : List (Reverse Waiting)) (r : Reverse Waiting) → IsSorted first_on_top run → r ≡ get_or run (length run - 1) r
+pub last_bounds : (run : List (Reverse Waiting)) (r : Reverse Waiting) → IsSorted first_on_top run → r ≡ get_or run (length run - 1) r
     → All (λ s. is_later r s ≡ false) run
 last_bounds run r up is k d short =
     subst (λ x. is_later x (get_or run k d) ≡ false) (sym (get_or_read run (length run - 1) r (omega (arith, short)) is d))
@@ -192,32 +192,20 @@ settled_heap rows run fresh visits more after run' same moved is kept =
     subst (λ us. IsPermutation (rows ++ (run ++ fresh)) (after ++ us)) (sym kept)
     (IsPermutation-trans (rows ++ (run ++ fresh)) ((rows ++ fresh) ++ run) (after ++ run) turned (IsPermutation-append_left run (rows ++ fresh) after put))
 
--- two visits change their places
-pub swapped : (rows : List (Reverse Waiting)) (a b : ℕ) (r s : Reverse Waiting) → a < length rows → b < length rows → r ≡ get_or rows a r → s ≡ get_or rows b s
-    → IsPermutation rows (slice_set (slice_set rows a s) b r)
-swapped [] a b r s from into first next = absurd (omega (arith, from))
-swapped (d ∷ rows) a b r s from into first next =
-    IsPermutation-swap (d ∷ rows) (slice_set (slice_set (d ∷ rows) a s) b r) a b from into
-    (ap (λ (t : Reverse Waiting). slice_set (slice_set (d ∷ rows) a t) b r) (next ∙ get_or_default (d ∷ rows) b s d into)
-    ∙ ap (λ (t : Reverse Waiting). slice_set (slice_set (d ∷ rows) a (get_or (d ∷ rows) b d)) b t) (first ∙ get_or_default (d ∷ rows) a r d from))
-
--- what was put into another order, as it stands in its vector, and then in order
-pub arranged : (n : ℕ) (fresh given after sorted : List (Reverse Waiting)) → length fresh ≡ n → given ≡ fresh → IsPermutation given after
-    → IsPermutation (take n (after ++ drop (length after) fresh)) sorted → IsPermutation fresh sorted
-arranged n fresh given after sorted long is turned_about turned =
-    let moved : IsPermutation fresh after = subst (λ us. IsPermutation us after) is turned_about in
-    let same = length_permutation fresh after moved in
-    let whole : take n (after ++ drop (length after) fresh) ≡ after =
-    take-append-le n after (drop (length after) fresh) (omega (arith, long, same)) ∙ take_all n after (omega (arith, long, same)) in
-    IsPermutation-trans fresh after sorted moved (subst (λ us. IsPermutation us sorted) whole turned)
-
-pub settled_run : (rows run fresh sorted left right out after run' : List (Reverse Waiting)) → IsPermutation fresh sorted → left ≡ run → right ≡ sorted
-    → IsPermutation (left ++ right) out → after ≡ rows → run' ≡ out → IsPermutation (rows ++ (run ++ fresh)) (after ++ run')
-settled_run rows run fresh sorted left right out after run' turned first next merged kept is =
-    let joined : IsPermutation (run ++ sorted) out = subst (λ us. IsPermutation (us ++ sorted) out) first (subst (λ us. IsPermutation (left ++ us) out) next merged) in
-    subst (λ us. IsPermutation (rows ++ (run ++ fresh)) (us ++ run')) (sym kept)
-    (subst (λ us. IsPermutation (rows ++ (run ++ fresh)) (rows ++ us)) (sym is)
-    (IsPermutation-append_right rows (run ++ fresh) out (IsPermutation-trans (run ++ fresh) (run ++ sorted) out (IsPermutation-append_right run fresh sorted turned) joined)))
+pub settled_runs : (rows older newer fresh left right out given sorted after older' newer' : List (Reverse Waiting)) → left ≡ older → right ≡ newer
+    → IsPermutation (left ++ right) out → given ≡ fresh → IsPermutation given sorted → after ≡ rows → older' ≡ out → newer' ≡ sorted
+    → IsPermutation (rows ++ ((older ++ newer) ++ fresh)) (after ++ (older' ++ newer'))
+settled_runs rows older newer fresh left right out given sorted after older' newer' first next merged same arranged kept is last =
+    let joined : IsPermutation (older ++ newer) out =
+    subst (λ us. IsPermutation (us ++ newer) out) first (subst (λ us. IsPermutation (left ++ us) out) next merged) in
+    let put : IsPermutation fresh sorted = subst (λ us. IsPermutation us sorted) same arranged in
+    let all : IsPermutation ((older ++ newer) ++ fresh) (out ++ sorted) =
+    IsPermutation-trans ((older ++ newer) ++ fresh) (out ++ fresh) (out ++ sorted) (IsPermutation-append_left fresh (older ++ newer) out joined)
+    (IsPermutation-append_right out fresh sorted put) in
+    subst (λ us. IsPermutation (rows ++ ((older ++ newer) ++ fresh)) (us ++ (older' ++ newer'))) (sym kept)
+    (subst (λ us. IsPermutation (rows ++ ((older ++ newer) ++ fresh)) (rows ++ (us ++ newer'))) (sym is)
+    (subst (λ us. IsPermutation (rows ++ ((older ++ newer) ++ fresh)) (rows ++ (out ++ us))) (sym last)
+    (IsPermutation-append_right rows ((older ++ newer) ++ fresh) (out ++ sorted) all)))
 
 -- ---- the first visit is taken
 

@@ -11,17 +11,21 @@ use Rattle.ds_conductor_base.specs.declared.queue.VisitQueue.TheInside as queues
 
 -- all that wait, as they are stored
 abbrev pub stored_in : queues.Inside → List (Reverse Waiting)
-stored_in q = q.trains.rows ++ (q.run.items ++ q.fresh.items)
+stored_in q = q.trains.rows ++ ((q.older.items ++ q.newer.items) ++ q.fresh.items)
 
 -- in their order, however they are stored
 abbrev pub queue_of : queues.Inside → List Visit
 queue_of q = in_order is_before (visits_in (stored_in q))
 
--- the first of the run is last; no two are those of one packet to one hop; and what is fresh has room in the heap, and
--- beside the run
+-- the first of a run is last; no two are those of one packet to one hop; and what is fresh has room in the heap and in a
+-- run of its own, beside which the others have room in one
 pub record IsQueue (q : queues.Inside) : Type 0 where
-  pub sorted : IsSorted first_on_top q.run.items
+  pub older : IsSorted first_on_top q.older.items
+  pub newer : IsSorted first_on_top q.newer.items
   pub apart : IsDistinct is_same (visits_in (stored_in q))
   pub empty : vec_len q.spare ≡ 0
-  pub heap_room : 0 < vec_len q.fresh → vec_len q.fresh ≤ q.trains.room
-  pub spare_room : 0 < vec_len q.fresh → vec_len q.run + vec_len q.fresh ≤ vec_capacity q.spare
+  pub within : vec_len q.fresh ≤ q.room
+  pub heap_room : q.room ≤ q.trains.room
+  pub newer_room : q.room ≤ vec_capacity q.newer
+  pub spare_room : 0 < q.room → vec_len q.older + vec_len q.newer ≤ vec_capacity q.spare
+  pub fresh_room : q.room ≤ vec_capacity q.fresh

@@ -1,5 +1,6 @@
 -- Visits as they wait.
-use Rattle.std.specs.Prelude.{List, map}
+use Rattle.std.specs.Prelude.{◌≡◌, ◌-◌, List, length, map, slice_index_or}
+use Rattle.std.specs.BinaryHeap.{IsUpperBound}
 use Rattle.std.specs.Ordering.{nat_cmp, ordering_then}
 use Rattle.std.specs.declared.cmp.Ordering.{Ordering}
 use Rattle.std.specs.declared.cmp.Reverse.{Reverse}
@@ -26,3 +27,8 @@ waiting_cmp w z =
 -- the first is the greatest
 abbrev pub first_on_top : Reverse Waiting → Reverse Waiting → Ordering
 first_on_top r s = waiting_cmp s.0 r.0
+
+-- the last visit of a run is not later than any of another, which has none where the run has none
+abbrev pub IsLedBy : List (Reverse Waiting) → List (Reverse Waiting) → Type 0
+IsLedBy run others = (length run ≡ 0 → length others ≡ 0)
+    × ((r : Reverse Waiting) → r ≡ slice_index_or run (length run - 1) r → IsUpperBound first_on_top r others)

@@ -1,6 +1,8 @@
 //! A guess at the order of visits, made before their packets are sent: where it is right, time is saved; whatever it
 //! says, nothing else changes.
-ghost use Rattle.std.specs.Prelude.{◌≡◌, ◌+◌, [], IfOk, IsPermutation, OnOk, length, slice_get, unwrap_or};
+ghost use Rattle.std.specs.Prelude.{◌≡◌, ◌+◌, ◌<◌, ◌≤◌, [], false, true, IfOk, IsPermutation, OnOk, length, replicate};
+ghost use Rattle.std.specs.Prelude.{slice_get, unwrap_or};
+ghost use Rattle.std.specs.Vec.{vec_capacity, vec_len};
 ghost use Rattle.ds_conductor_base.specs.Ways.{AreWays};
 
 use crate::visit::later;
@@ -11,16 +13,13 @@ use moment_core::Moment;
 use std::alloc::{AllocError, Global};
 use std::cmp::Reverse;
 use std::marker::Model;
-use std::mem::replace;
-
-/// So many low bits of a key are the number of its visit.
-const NUMBER_BITS: u32 = 16;
-
-/// The greatest number that a key can have.
-const LAST_NUMBER: u64 = (1 << NUMBER_BITS) - 1;
+use std::mem::swap;
 
 /// The order of more visits is not guessed, since there are no more numbers.
-const MOST: usize = 1 << NUMBER_BITS;
+const MOST: usize = 1 << 16;
+
+/// So many bits of the keys are looked at in one pass.
+const DIGIT_BITS: u32 = 8;
 
 /// Fewer visits are sorted as soon without a guess.
 const MANY: usize = 64;
@@ -60,10 +59,14 @@ impl Timetable {
 /// A guess at the order of the visits of packets that are sent one after the other. Its value has a key for each visit.
 #[derive(Drop)]
 pub struct OrderGuess {
-    /// One for each visit, by which the latest is first.
+    /// One for each visit: how long after the first packet is sent it is made, in nanoseconds.
     keys: Vec<u64>,
-    /// The numbers of the visits in that order, once it is settled.
+    /// The numbers of the visits, the latest first, once it is settled.
     order: Vec<u16>,
+    /// Room for another order of them.
+    spare: Vec<u16>,
+    /// Which of the visits have been put where they are guessed to stand.
+    taken: Vec<bool>,
     /// When the first packet is sent, in nanoseconds.
     first: u64,
 }
@@ -84,6 +87,8 @@ impl OrderGuess {
         OrderGuess {
             keys: Vec::new(alloc),
             order: Vec::new(alloc),
+            spare: Vec::new(alloc),
+            taken: Vec::new(alloc),
             first: 0,
         }
     }
@@ -96,74 +101,151 @@ impl OrderGuess {
             self.first = moment.get();
         }
         for stop in stops {
-            let number = self.keys.len() as u64;
             let after = later(moment, stop.delay()).get().saturating_sub(self.first);
-            self.keys.push(key_of(after, number))?;
+            self.keys.push(after)?;
         }
         Ok(())
     }
 
     /// Puts what was added in order. Where memory runs out, nothing is guessed.
     pub fn settle(&mut self)
-        ensures { IsPermutation self.old self.new }
+        ensures { self.new ≡ self.old }
     {
-        self.keys.sort_unstable();
-        self.order.clear();
-        if self.order.reserve(self.keys.len()).is_err() {
+        if number_all(&mut self.order, self.keys.len()).is_err()
+            || number_all(&mut self.spare, self.keys.len()).is_err()
+        {
+            self.order.clear();
             return;
         }
-        for key in &self.keys {
-            let _ = self.order.push(number_in(*key));
+        let last = greatest(&self.keys);
+        for digit in 0..u64::BITS / DIGIT_BITS {
+            let shift = digit * DIGIT_BITS;
+            if last >> shift == 0 {
+                break;
+            }
+            sort_by_digit(&self.keys, shift, &self.order, &mut self.spare);
+            swap(&mut self.order, &mut self.spare);
         }
     }
 
     /// Where it has not one key for each of these visits, which stand in the order of packets and hops, it becomes the
     /// guess that they make themselves; a useless one where memory runs out.
-    pub(crate) fn suit(&mut self, visits: &[Reverse<Waiting>]) {
+    fn suit(&mut self, visits: &[Reverse<Waiting>]) {
         if self.order.len() == visits.len() {
             return;
         }
         self.keys.clear();
         let first = first_moment(visits);
         for Reverse(visit) in visits {
-            let number = self.keys.len() as u64;
             let after = visit.moment.get().saturating_sub(first);
-            if self.keys.push(key_of(after, number)).is_err() {
+            if self.keys.push(after).is_err() {
                 return;
             }
         }
         self.settle();
     }
 
-    /// Puts the visits of these packets, which stand in the order of packets and hops, into this order, the latest
-    /// first. It is used up then.
-    pub(crate) fn arrange(&mut self, visits: &mut [Reverse<Waiting>])
-        ensures { IsPermutation visits.old visits.new }
+    /// Puts the visits of these packets, which stand in the order of packets and hops, into an empty list in this order,
+    /// the latest first; where it has not one key for each, in the order that they make themselves. It is used up then.
+    /// False where it is no order of theirs, or where memory runs out.
+    pub(crate) fn arrange(
+        &mut self,
+        visits: &[Reverse<Waiting>],
+        out: &mut Vec<Reverse<Waiting>>,
+    ) -> bool
+        requires { vec_len out.old ≡ 0 }
+        ensures kept { vec_capacity out.old ≤ vec_capacity out.new }
+        ensures same { result ≡ true → IsPermutation visits.now out.new.items }
     {
-        let count = visits.len();
-        if self.order.len() != count || count > MOST {
-            return;
+        self.suit(visits);
+        self.taken.clear();
+        if self.taken.resize(visits.len(), false).is_err() {
+            return false;
         }
-        let mut first = 0;
-        let mut place = 0;
-        for _ in 0..count.saturating_mul(2) {
-            if place >= count {
-                break;
-            }
-            let from = usize::from(replace(&mut self.order[place], place as u16));
-            if from == first || from >= count {
-                first += 1;
-                place = first;
-            } else {
-                // no branch on which of both is first, as std's `swap` has: it would be guessed wrong each second time
-                let left = visits[place];
-                visits[place] = visits[from];
-                visits[from] = left;
-                place = from;
-            }
-        }
+        let is_whole = put_each(visits, &self.order, &mut self.taken, out);
         self.order.clear();
+        is_whole
     }
+}
+
+/// Puts visits of these numbers into an empty list, each of them once. Whether each was put there.
+fn put_each(
+    visits: &[Reverse<Waiting>],
+    order: &[u16],
+    taken: &mut [bool],
+    out: &mut Vec<Reverse<Waiting>>,
+) -> bool
+    requires none { taken.old ≡ replicate (length visits.now) false }
+    requires empty { vec_len out.old ≡ 0 }
+    ensures kept { vec_capacity out.old ≤ vec_capacity out.new }
+    ensures same { result ≡ true → IsPermutation visits.now out.new.items }
+{
+    for number in order {
+        let number = usize::from(*number);
+        if number >= visits.len() || taken[number] {
+            return false;
+        }
+        taken[number] = true;
+        if out.push(visits[number]).is_err() {
+            return false;
+        }
+    }
+    out.len() == visits.len()
+}
+
+/// Makes a list of so many numbers, the greatest first. `AllocError` where memory runs out, or where there are not so
+/// many numbers.
+fn number_all(order: &mut Vec<u16>, count: usize) -> Result<(), AllocError> {
+    order.clear();
+    if count > MOST {
+        return Err(AllocError);
+    }
+    order.reserve(count)?;
+    for place in 0..count {
+        order.push((count - 1 - place) as u16)?;
+    }
+    Ok(())
+}
+
+/// Puts numbers into another order: by one digit of their keys, the greatest first, and as they stood where it is the
+/// same.
+fn sort_by_digit(keys: &[u64], shift: u32, from: &[u16], to: &mut [u16])
+    requires { shift < 64 }
+{
+    let mut places = [0u32; 256];
+    for key in keys {
+        let place = &mut places[digit_of(*key, shift)];
+        *place = place.wrapping_add(1);
+    }
+    let mut next = 0u32;
+    for place in &mut places {
+        let count = *place;
+        *place = next;
+        next = next.wrapping_add(count);
+    }
+    for number in from {
+        let Some(key) = keys.get(usize::from(*number)) else {
+            return;
+        };
+        let place = &mut places[digit_of(*key, shift)];
+        if let Some(free) = to.get_mut(*place as usize) {
+            *free = *number;
+        }
+        *place = place.wrapping_add(1);
+    }
+}
+
+/// One digit of a key, the greater the less the key is.
+fn digit_of(key: u64, shift: u32) -> usize
+    requires { shift < 64 }
+    ensures { result < 256 }
+{
+    usize::from((!(key >> shift) & 255) as u8)
+}
+
+/// The greatest of keys; 0 where there is none.
+fn greatest(keys: &[u64]) -> u64 {
+    keys.iter().fold(0, |most, key| most | *key)
 }
 
 /// Whether of many visits one of the first is earlier than that before it, so that a guess is of use.
@@ -189,14 +271,4 @@ fn first_moment(visits: &[Reverse<Waiting>]) -> u64 {
         first = first.min(visit.moment.get());
     }
     first
-}
-
-/// The key of the visit of a number, by how long after the first packet it is made.
-fn key_of(after: u64, number: u64) -> u64 {
-    !((after.min(u64::MAX >> NUMBER_BITS) << NUMBER_BITS) | (number & LAST_NUMBER))
-}
-
-/// The number in a key.
-fn number_in(key: u64) -> u16 {
-    (!key & LAST_NUMBER) as u16
 }

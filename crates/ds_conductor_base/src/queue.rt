@@ -1,5 +1,5 @@
 ghost use Rattle.std.specs.Prelude.{◌≡◌, ◌+◌, ◌-◌, ◌<◌, ◌≤◌, ◌++◌, ◌∷◌, [], IsPermutation, MatchBool, MatchOption};
-ghost use Rattle.std.specs.Prelude.{OnErr, OnOk, length, map, slice_index_or};
+ghost use Rattle.std.specs.Prelude.{IfOk, OnErr, OnOk, length, map, slice_index_or};
 ghost use Rattle.std.specs.BinaryHeap.{IsUpperBound};
 ghost use Rattle.std.specs.Vec.{vec_capacity, vec_len};
 ghost use Rattle.std.specs.List.{All, IsDistinct};
@@ -8,7 +8,7 @@ ghost use Rattle.std.specs.declared.cmp.Reverse.{Reverse};
 ghost use Rattle.meter_fabric_base.specs.Orders.{in_order};
 ghost use Rattle.ds_conductor_base.specs.Trains.{IsFirst};
 ghost use Rattle.ds_conductor_base.specs.Visits.{is_before, is_same, visit_to};
-ghost use Rattle.ds_conductor_base.specs.Waits.{first_on_top, visits_in};
+ghost use Rattle.ds_conductor_base.specs.Waits.{IsLedBy, first_on_top, visits_in};
 ghost use Rattle.ds_conductor_base.specs.declared.waiting.Waiting.{Waiting};
 
 use crate::guess::{OrderGuess, are_mixed};
@@ -28,11 +28,15 @@ pub struct VisitQueue {
     /// Those that came in small lots.
     trains: Trains,
     /// Those that came in large lots: the first visit is the last.
-    run: Vec<Reverse<Waiting>>,
+    older: Vec<Reverse<Waiting>>,
+    /// Those of the last large lot: the first visit is the last.
+    newer: Vec<Reverse<Waiting>>,
+    /// Empty: room for both of these.
+    spare: Vec<Reverse<Waiting>>,
     /// Those that came since the last visit was taken, in no order.
     fresh: Vec<Reverse<Waiting>>,
-    /// Empty: room for the run and what is fresh.
-    spare: Vec<Reverse<Waiting>>,
+    /// For so many of these there is room wherever they are put.
+    room: usize,
     /// A guess at the order of what is fresh.
     guess: OrderGuess,
 }
@@ -57,9 +61,11 @@ impl VisitQueue {
     {
         VisitQueue {
             trains: Trains::new(alloc, delays),
-            run: Vec::new(alloc),
-            fresh: Vec::new(alloc),
+            older: Vec::new(alloc),
+            newer: Vec::new(alloc),
             spare: Vec::new(alloc),
+            fresh: Vec::new(alloc),
+            room: 0,
             guess: OrderGuess::nothing(alloc),
         }
     }
@@ -82,9 +88,16 @@ impl VisitQueue {
         ensures unchanged { OnErr result (self.new ≡ self.old) }
     {
         let coming = self.fresh.len() + stops.len();
-        self.trains.reserve(coming)?;
-        self.fresh.reserve(stops.len())?;
-        self.spare.reserve(self.run.len() + coming)?;
+        if coming > self.room {
+            self.room = make_room(
+                &mut self.trains,
+                &self.older,
+                &mut self.newer,
+                &mut self.spare,
+                &mut self.fresh,
+                coming,
+            )?;
+        }
         push_visits(&mut self.fresh, &self.trains, place, packet, stops);
         Ok(())
     }
@@ -95,14 +108,21 @@ impl VisitQueue {
             ((self.new ≡ self.old) × All (λ v. moment < v.moment) self.old)
             (λ v. (v.moment ≤ moment) × (self.old ≡ v ∷ self.new)) }
     {
+        self.room = 0;
         settle(
             &mut self.trains,
-            &mut self.run,
-            &mut self.fresh,
+            &mut self.older,
+            &mut self.newer,
             &mut self.spare,
+            &mut self.fresh,
             &mut self.guess,
         );
-        let Reverse(first) = take_due(&mut self.trains, &mut self.run, moment)?;
+        let Reverse(first) = take_first(
+            &mut self.trains,
+            &mut self.older,
+            &mut self.newer,
+            moment,
+        )?;
         Some(first.visit())
     }
 }
@@ -117,6 +137,7 @@ fn push_visits(
 )
     requires { vec_len fresh.old + length stops.now ≤ vec_capacity fresh.old }
     ensures len { vec_len fresh.new ≡ vec_len fresh.old + length stops.now }
+    ensures kept { vec_capacity fresh.old ≤ vec_capacity fresh.new }
     ensures added { visits_in fresh.new.items ≡ visits_in fresh.old.items ++ map (visit_to place packet.now) stops.now }
 {
     for stop in stops {
@@ -127,51 +148,82 @@ fn push_visits(
     }
 }
 
-/// Puts what is fresh among the others: in trains and the heap where it is little beside the run, and else in the run.
-/// So a merge moves a few visits for each that is fresh, however long the run is.
+/// Makes room for so many fresh visits, and answers for how many there is room then; `AllocError` where memory runs
+/// out.
+fn make_room(
+    trains: &mut Trains,
+    older: &[Reverse<Waiting>],
+    newer: &mut Vec<Reverse<Waiting>>,
+    spare: &mut Vec<Reverse<Waiting>>,
+    fresh: &mut Vec<Reverse<Waiting>>,
+    coming: usize,
+) -> Result<usize, AllocError>
+    requires { vec_len spare.old ≡ 0 }
+    ensures same { (trains.new.rows ≡ trains.old.rows) × (newer.new.items ≡ newer.old.items)
+        × (spare.new.items ≡ spare.old.items) × (fresh.new.items ≡ fresh.old.items) }
+    ensures kept { (trains.old.room ≤ trains.new.room) × (vec_capacity newer.old ≤ vec_capacity newer.new)
+        × (vec_capacity spare.old ≤ vec_capacity spare.new) × (vec_capacity fresh.old ≤ vec_capacity fresh.new) }
+    ensures room { IfOk result (λ room. (coming ≤ room) × (room ≤ trains.new.room)
+        × (room ≤ vec_capacity newer.new) × (room ≤ vec_capacity fresh.new)
+        × (length older.now + vec_len newer.new ≤ vec_capacity spare.new)) }
+{
+    let room = coming.saturating_mul(2);
+    trains.reserve(room)?;
+    newer.reserve(room.saturating_sub(newer.len()))?;
+    spare.reserve(older.len() + newer.len())?;
+    fresh.reserve(room.saturating_sub(fresh.len()))?;
+    Ok(room)
+}
+
+/// Puts what is fresh among the others: in trains and the heap where it is little beside the runs, and else in a run of
+/// its own. So a merge moves a few visits for each that is fresh, however long the runs are.
 fn settle(
     trains: &mut Trains,
-    run: &mut Vec<Reverse<Waiting>>,
-    fresh: &mut Vec<Reverse<Waiting>>,
+    older: &mut Vec<Reverse<Waiting>>,
+    newer: &mut Vec<Reverse<Waiting>>,
     spare: &mut Vec<Reverse<Waiting>>,
+    fresh: &mut Vec<Reverse<Waiting>>,
     guess: &mut OrderGuess,
 )
-    requires sorted { IsSorted first_on_top run.old.items }
+    requires sorted { IsSorted first_on_top older.old.items × IsSorted first_on_top newer.old.items }
     requires empty { vec_len spare.old ≡ 0 }
-    requires heap_room { 0 < vec_len fresh.old → vec_len fresh.old ≤ trains.old.room }
-    requires spare_room { 0 < vec_len fresh.old → vec_len run.old + vec_len fresh.old ≤ vec_capacity spare.old }
-    ensures same { IsPermutation (trains.old.rows ++ (run.old.items ++ fresh.old.items))
-        (trains.new.rows ++ run.new.items) }
+    requires room { 0 < vec_len fresh.old → (vec_len fresh.old ≤ trains.old.room)
+        × (vec_len fresh.old ≤ vec_capacity newer.old)
+        × (vec_len older.old + vec_len newer.old ≤ vec_capacity spare.old) }
+    ensures same { IsPermutation (trains.old.rows ++ ((older.old.items ++ newer.old.items) ++ fresh.old.items))
+        (trains.new.rows ++ (older.new.items ++ newer.new.items)) }
     ensures settled { vec_len fresh.new ≡ 0 }
     ensures empty { vec_len spare.new ≡ 0 }
-    ensures sorted { IsSorted first_on_top run.new.items }
+    ensures sorted { IsSorted first_on_top older.new.items × IsSorted first_on_top newer.new.items }
 {
     if fresh.is_empty() {
         return;
     }
-    if run.len() / 4 > fresh.len() {
+    if (older.len() + newer.len()) / 4 > fresh.len() {
         trains.hold_all(fresh);
     } else {
-        put_in_order(fresh, guess);
-        merge(run, fresh, spare);
-        swap(run, spare);
+        merge(older, newer, spare);
+        swap(older, spare);
         spare.clear();
+        newer.clear();
+        put_in_order(fresh, guess, newer);
     }
     fresh.clear();
 }
 
-/// Puts visits in order, the latest first: where they are many, and not in order yet, first as a guess says, so that
-/// little is left to sort.
-fn put_in_order(fresh: &mut Vec<Reverse<Waiting>>, guess: &mut OrderGuess)
-    ensures same { IsPermutation fresh.old.items fresh.new.items }
-    ensures len { vec_len fresh.new ≡ vec_len fresh.old }
-    ensures sorted { IsSorted first_on_top fresh.new.items }
+/// Puts visits in order, the latest first, where there is room for them: where they are many, and not in order yet,
+/// first as a guess says, so that little is left to sort.
+fn put_in_order(fresh: &[Reverse<Waiting>], guess: &mut OrderGuess, out: &mut Vec<Reverse<Waiting>>)
+    requires empty { vec_len out.old ≡ 0 }
+    requires room { length fresh.now ≤ vec_capacity out.old }
+    ensures same { IsPermutation fresh.now out.new.items }
+    ensures sorted { IsSorted first_on_top out.new.items }
 {
-    if are_mixed(fresh) {
-        guess.suit(fresh);
-        guess.arrange(fresh);
+    if !are_mixed(fresh) || !guess.arrange(fresh, out) {
+        out.clear();
+        out.extend_from_slice(fresh).unwrap();
     }
-    fresh.sort_unstable();
+    out.sort_unstable();
 }
 
 /// Puts two runs together as one, where there is room for it.
@@ -196,6 +248,44 @@ fn merge(left: &[Reverse<Waiting>], right: &[Reverse<Waiting>], out: &mut Vec<Re
     }
     out.extend_from_slice(&left[i..]).unwrap();
     out.extend_from_slice(&right[j..]).unwrap();
+}
+
+/// Takes out the first visit of trains and two runs, if it is at or before the moment at so many nanoseconds.
+fn take_first(
+    trains: &mut Trains,
+    older: &mut Vec<Reverse<Waiting>>,
+    newer: &mut Vec<Reverse<Waiting>>,
+    moment: u64,
+) -> Option<Reverse<Waiting>>
+    requires { IsSorted first_on_top older.old.items × IsSorted first_on_top newer.old.items }
+    ensures first { MatchOption result
+        ((trains.new.rows ≡ trains.old.rows) × (older.new.items ≡ older.old.items) × (newer.new.items ≡ newer.old.items)
+        × All (λ v. moment < v.moment) (visits_in (trains.old.rows ++ (older.old.items ++ newer.old.items))))
+        (λ r. (r.0.moment ≤ moment)
+        × IsPermutation (trains.old.rows ++ (older.old.items ++ newer.old.items))
+        (r ∷ (trains.new.rows ++ (older.new.items ++ newer.new.items)))
+        × IsUpperBound first_on_top r (trains.new.rows ++ (older.new.items ++ newer.new.items))) }
+    ensures sorted { IsSorted first_on_top older.new.items × IsSorted first_on_top newer.new.items }
+{
+    if is_newer_first(older, newer) {
+        take_due(trains, newer, moment)
+    } else {
+        take_due(trains, older, moment)
+    }
+}
+
+/// Whether the first visit of two runs is that of the newer one. It is not where both are empty.
+fn is_newer_first(older: &[Reverse<Waiting>], newer: &[Reverse<Waiting>]) -> bool
+    requires { IsSorted first_on_top older.now × IsSorted first_on_top newer.now }
+    ensures { MatchBool result (IsLedBy newer.now older.now) (IsLedBy older.now newer.now) }
+{
+    let Some(new) = newer.last() else {
+        return false;
+    };
+    match older.last() {
+        Some(old) => old.cmp(new).is_lt(),
+        None => true,
+    }
 }
 
 /// Takes out the first visit of trains and a run, if it is at or before the moment at so many nanoseconds.

@@ -8,5 +8,6 @@ abbrev pub invariant-loop-stop : goal.invariant-loop-stop
 invariant-loop-stop l = record {
   len : vec_len l.fresh ≡ vec_len l.fn.fresh + l.stop-index;
   room : vec_len l.fn.fresh + length l.stops ≤ vec_capacity l.fresh;
+  kept : vec_capacity l.fn.fresh ≤ vec_capacity l.fresh;
   added : visits_in l.fresh.items ≡ visits_in l.fn.fresh.items ++ map (visit_to l.place l.packet) (take l.stop-index l.stops);
 }

@@ -14,57 +14,67 @@ use Rattle.ds_conductor_base.proofs.queue.VisitQueue.pop_due.Goals as goal
 pub invariant_of-self : goal.invariant_of-self
 invariant_of-self c =
     let fresh : length c.settle.new.fresh.items ≡ 0 = omega arith in
-    let settled = c.settle.new.trains.rows ++ c.settle.new.run.items in
-    let kept : c.take_due.new.trains.rows ++ (c.take_due.new.run.items ++ c.settle.new.fresh.items) ≡ settled =
-    none_fresh c.take_due.new.trains.rows c.take_due.new.run.items c.settle.new.fresh.items fresh
-    ∙ ap (λ (us : List (Reverse Waiting)). us ++ c.take_due.new.run.items) c.in_err-first.ensures.first.0
-    ∙ ap (λ (us : List (Reverse Waiting)). c.settle.new.trains.rows ++ us) c.in_err-first.ensures.first.1 in
+    let settled = c.settle.new.trains.rows ++ (c.settle.new.older.items ++ c.settle.new.newer.items) in
+    let kept : c.take_first.new.trains.rows ++ ((c.take_first.new.older.items ++ c.take_first.new.newer.items) ++ c.settle.new.fresh.items) ≡ settled =
+    none_fresh c.take_first.new.trains.rows (c.take_first.new.older.items ++ c.take_first.new.newer.items) c.settle.new.fresh.items fresh
+    ∙ ap (λ (us : List (Reverse Waiting)). us ++ (c.take_first.new.older.items ++ c.take_first.new.newer.items)) c.in_err-first.ensures.first.0
+    ∙ ap (λ (us : List (Reverse Waiting)). c.settle.new.trains.rows ++ (us ++ c.take_first.new.newer.items)) c.in_err-first.ensures.first.1
+    ∙ ap (λ (us : List (Reverse Waiting)). c.settle.new.trains.rows ++ (c.settle.new.older.items ++ us)) c.in_err-first.ensures.first.2 in
     record {
-      sorted = c.take_due.ensures.sorted;
+      older = c.take_first.ensures.sorted.0;
+      newer = c.take_first.ensures.sorted.1;
       apart = subst (λ (us : List (Reverse Waiting)). IsDistinct is_same (visits_in us)) (sym kept)
           (same_apart (stored_in c.self.inside) settled c.settle.ensures.same c.self.invariant.apart);
       empty = c.settle.ensures.empty;
-      heap_room = λ there. absurd (omega (arith, there));
+      within = omega arith;
+      heap_room = omega arith;
+      newer_room = omega arith;
       spare_room = λ there. absurd (omega (arith, there));
+      fresh_room = omega arith;
     }
 
 pub returns-in_err-first : goal.returns-in_err-first
 returns-in_err-first c =
     let fresh : length c.settle.new.fresh.items ≡ 0 = omega arith in
-    let settled = c.settle.new.trains.rows ++ c.settle.new.run.items in
-    let kept : c.take_due.new.trains.rows ++ (c.take_due.new.run.items ++ c.settle.new.fresh.items) ≡ settled =
-    none_fresh c.take_due.new.trains.rows c.take_due.new.run.items c.settle.new.fresh.items fresh
-    ∙ ap (λ (us : List (Reverse Waiting)). us ++ c.take_due.new.run.items) c.in_err-first.ensures.first.0
-    ∙ ap (λ (us : List (Reverse Waiting)). c.settle.new.trains.rows ++ us) c.in_err-first.ensures.first.1 in
+    let settled = c.settle.new.trains.rows ++ (c.settle.new.older.items ++ c.settle.new.newer.items) in
+    let kept : c.take_first.new.trains.rows ++ ((c.take_first.new.older.items ++ c.take_first.new.newer.items) ++ c.settle.new.fresh.items) ≡ settled =
+    none_fresh c.take_first.new.trains.rows (c.take_first.new.older.items ++ c.take_first.new.newer.items) c.settle.new.fresh.items fresh
+    ∙ ap (λ (us : List (Reverse Waiting)). us ++ (c.take_first.new.older.items ++ c.take_first.new.newer.items)) c.in_err-first.ensures.first.0
+    ∙ ap (λ (us : List (Reverse Waiting)). c.settle.new.trains.rows ++ (us ++ c.take_first.new.newer.items)) c.in_err-first.ensures.first.1
+    ∙ ap (λ (us : List (Reverse Waiting)). c.settle.new.trains.rows ++ (c.settle.new.older.items ++ us)) c.in_err-first.ensures.first.2 in
     let order : in_order is_before (visits_in settled) ≡ c.args.self.now =
     sym (same_order (stored_in c.self.inside) settled c.settle.ensures.same c.self.invariant.apart) ∙ c.self.view_is in
     rw c.from_residual.ensures (
       ap (λ (us : List (Reverse Waiting)). in_order is_before (visits_in us)) kept ∙ order,
-      subst (λ (us : List Visit). All (λ v. c.args.moment < v.moment) us) order (late_order c.args.moment settled c.in_err-first.ensures.first.2),
+      subst (λ (us : List Visit). All (λ v. c.args.moment < v.moment) us) order (late_order c.args.moment settled c.in_err-first.ensures.first.3),
     )
 
 pub invariant_of-self-2 : goal.invariant_of-self-2
 invariant_of-self-2 c =
     let first = c.in_ok-first.field-0 in
     let fresh : length c.settle.new.fresh.items ≡ 0 = omega arith in
-    let left = c.take_due.new.trains.rows ++ c.take_due.new.run.items in
-    let moved = IsPermutation-trans (stored_in c.self.inside) (c.settle.new.trains.rows ++ c.settle.new.run.items) (first ∷ left) c.settle.ensures.same c.in_ok-first.ensures.first.1 in
+    let left = c.take_first.new.trains.rows ++ (c.take_first.new.older.items ++ c.take_first.new.newer.items) in
+    let moved = IsPermutation-trans (stored_in c.self.inside) (c.settle.new.trains.rows ++ (c.settle.new.older.items ++ c.settle.new.newer.items)) (first ∷ left) c.settle.ensures.same c.in_ok-first.ensures.first.1 in
     record {
-      sorted = c.take_due.ensures.sorted;
+      older = c.take_first.ensures.sorted.0;
+      newer = c.take_first.ensures.sorted.1;
       apart = subst (λ (us : List (Reverse Waiting)). IsDistinct is_same (visits_in us))
-          (sym (none_fresh c.take_due.new.trains.rows c.take_due.new.run.items c.settle.new.fresh.items fresh))
+          (sym (none_fresh c.take_first.new.trains.rows (c.take_first.new.older.items ++ c.take_first.new.newer.items) c.settle.new.fresh.items fresh))
           (popped_rest left first (popped_apart (stored_in c.self.inside) left first moved c.self.invariant.apart));
       empty = c.settle.ensures.empty;
-      heap_room = λ there. absurd (omega (arith, there));
+      within = omega arith;
+      heap_room = omega arith;
+      newer_room = omega arith;
       spare_room = λ there. absurd (omega (arith, there));
+      fresh_room = omega arith;
     }
 
 pub returns : goal.returns
 returns c =
     let first = c.in_ok-first.field-0 in
     let fresh : length c.settle.new.fresh.items ≡ 0 = omega arith in
-    let left = c.take_due.new.trains.rows ++ c.take_due.new.run.items in
-    let moved = IsPermutation-trans (stored_in c.self.inside) (c.settle.new.trains.rows ++ c.settle.new.run.items) (first ∷ left) c.settle.ensures.same c.in_ok-first.ensures.first.1 in
+    let left = c.take_first.new.trains.rows ++ (c.take_first.new.older.items ++ c.take_first.new.newer.items) in
+    let moved = IsPermutation-trans (stored_in c.self.inside) (c.settle.new.trains.rows ++ (c.settle.new.older.items ++ c.settle.new.newer.items)) (first ∷ left) c.settle.ensures.same c.in_ok-first.ensures.first.1 in
     let early = c.in_ok-first.ensures.first.0 in
     let told = ap (λ (v : Visit). v.moment) c.visit.ensures in (
       omega (arith, told, early),
@@ -72,5 +82,5 @@ returns c =
           ∙ popped_first (stored_in c.self.inside) left first moved c.self.invariant.apart c.in_ok-first.ensures.first.2
           ∙ ap (λ (v : Visit). v ∷ in_order is_before (visits_in left)) (sym c.visit.ensures)
           ∙ ap (λ (us : List (Reverse Waiting)). c.visit.result ∷ in_order is_before (visits_in us))
-          (sym (none_fresh c.take_due.new.trains.rows c.take_due.new.run.items c.settle.new.fresh.items fresh)),
+          (sym (none_fresh c.take_first.new.trains.rows (c.take_first.new.older.items ++ c.take_first.new.newer.items) c.settle.new.fresh.items fresh)),
     )
