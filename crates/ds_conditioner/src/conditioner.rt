@@ -203,6 +203,14 @@ impl<'a> Conditioner<'a> {
         self.under_way.guess(guess);
     }
 
+    /// A piece with no frame, to be read into: one that was let go, if it can be used again, or else a new one.
+    pub fn spent(&mut self) -> Piece
+        ensures none { result ≡ [] }
+        ensures same { self.new ≡ self.old }
+    {
+        self.held.spent()
+    }
+
     /// How many frames were seen.
     pub fn records(&self) -> u64
         ensures { result ≡ self.now.counts.records }

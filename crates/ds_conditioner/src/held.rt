@@ -25,6 +25,8 @@ pub struct HeldFrames {
     between: VecDeque<HeldPiece>,
     /// The newest piece.
     last: HeldPiece,
+    /// The last piece that was let go, if it can be used again.
+    spare: Option<Piece>,
 }
 
 impl Model for HeldFrames {
@@ -53,6 +55,7 @@ impl HeldFrames {
             first: HeldPiece::nothing(alloc),
             between: VecDeque::new(alloc),
             last: HeldPiece::nothing(alloc),
+            spare: None,
         }
     }
 
@@ -67,6 +70,7 @@ impl HeldFrames {
         let next = HeldPiece::new(self.alloc, piece)?;
         let before = replace(&mut self.last, next);
         if before.is_empty() {
+            keep_spent(&mut self.spare, before);
             return Ok(());
         }
         if self.first.is_empty() {
@@ -158,10 +162,28 @@ impl HeldFrames {
         }
         self.first.let_go_first();
         if self.first.is_empty() {
-            self.first = self
+            let next = self
                 .between
                 .pop_front()
                 .unwrap_or(HeldPiece::nothing(self.alloc));
+            keep_spent(&mut self.spare, replace(&mut self.first, next));
         }
+    }
+
+    /// A piece with no frame: one that was let go, if it can be used again, or else a new one.
+    pub fn spent(&mut self) -> Piece
+        ensures none { result ≡ [] }
+        ensures same { self.new ≡ self.old }
+    {
+        let mut piece = self.spare.take().unwrap_or(Piece::new(self.alloc));
+        piece.clear();
+        piece
+    }
+}
+
+/// Keeps a piece that is let go, if nobody else holds it.
+fn keep_spent(spare: &mut Option<Piece>, held: HeldPiece) {
+    if let Some(piece) = held.into_piece() {
+        *spare = Some(piece);
     }
 }

@@ -147,6 +147,12 @@ impl HeldPiece {
         }
     }
 
+    /// The piece itself, if nobody else holds it.
+    pub(crate) fn into_piece(self) -> Option<Piece> {
+        let HeldPiece { piece, .. } = self;
+        Arc::into_inner(piece?)
+    }
+
     /// Lets the first frame go that is held.
     #[inline(always)]
     pub(crate) fn let_go_first(&mut self)

@@ -28,8 +28,7 @@ use std::sync::Wait;
 use std::thread::Threads;
 
 /// Ends a turn of threads that came to this: where nothing failed, what was read last is passed on.
-fn end_run<R, O: Outlet, G: Gate>(
-    host: &Host<'_, R>,
+fn end_run<O: Outlet, G: Gate>(
     passage: &mut Passage<'_>,
     outlet: &mut O,
     gate: &G,
@@ -50,15 +49,14 @@ fn end_run<R, O: Outlet, G: Gate>(
     }
     let read = run.read_last();
     match run.written {
-        Ok(()) => pass_on(host.alloc, passage, outlet, gate, read),
-        Err(fault) => Err(unwritten_with(host.alloc, passage, read, fault)),
+        Ok(()) => pass_on(passage, outlet, gate, read),
+        Err(fault) => Err(unwritten_with(passage, read, fault)),
     }
 }
 
 /// What is answered where nothing can be written any more: that, once all frames that were read are seen, or want of
 /// memory.
 fn unwritten_with(
-    alloc: Global,
     passage: &mut Passage<'_>,
     read: Result<bool, PcapFault>,
     fault: MarkFault,
@@ -70,7 +68,6 @@ fn unwritten_with(
     ensures fault { (result ≡ fault) ⊎ (result ≡ MarkFault.NoMemory) }
 {
     let seen = see_read(
-        alloc,
         &passage.port,
         &mut passage.conditioner,
         &mut passage.progress,
@@ -122,7 +119,7 @@ pub(crate) fn take_turn_by<R: Threads + Wait + Sync, I: Intake, O: Outlet, G: Ga
     match run_by(host, passage, intake, outlet, gate, others) {
         None => (take_turn(host.alloc, passage, intake, outlet, gate), false),
         Some(run) => {
-            let turned = end_run(host, passage, outlet, gate, run);
+            let turned = end_run(passage, outlet, gate, run);
             (turned, is_lost(run.written, turned))
         }
     }

@@ -18,8 +18,11 @@ use std::mem::swap;
 /// The order of more visits is not guessed, since there are no more numbers.
 const MOST: usize = 1 << 16;
 
-/// So many bits of the keys are looked at in one pass.
+/// So many bits of the keys are looked at in one pass. Two passes look at the upper ones of all.
 const DIGIT_BITS: u32 = 8;
+
+/// So many places a number goes at most, where its key tells later than its upper bits.
+const FEW: u32 = 8;
 
 /// Fewer visits are sorted as soon without a guess.
 const MANY: usize = 64;
@@ -117,15 +120,18 @@ impl OrderGuess {
             self.order.clear();
             return;
         }
-        let last = greatest(&self.keys);
-        for digit in 0..u64::BITS / DIGIT_BITS {
-            let shift = digit * DIGIT_BITS;
-            if last >> shift == 0 {
-                break;
-            }
-            sort_by_digit(&self.keys, shift, &self.order, &mut self.spare);
+        let bits = u64::BITS - widest(&self.keys).leading_zeros();
+        let low = bits.saturating_sub(2 * DIGIT_BITS);
+        for digit in 0..2u32 {
+            sort_by_digit(
+                &self.keys,
+                low + digit * DIGIT_BITS,
+                &self.order,
+                &mut self.spare,
+            );
             swap(&mut self.order, &mut self.spare);
         }
+        mend(&self.keys, &mut self.order);
     }
 
     /// Where it has not one key for each of these visits, which stand in the order of packets and hops, it becomes the
@@ -235,6 +241,32 @@ fn sort_by_digit(keys: &[u64], shift: u32, from: &[u16], to: &mut [u16])
     }
 }
 
+/// Puts numbers that stand in order but for the low bits of their keys wholly in order, the greatest first, as far as none
+/// goes many places.
+fn mend(keys: &[u64], order: &mut [u16]) {
+    for place in 1..order.len() {
+        let number = order[place];
+        let key = key_at(keys, number);
+        let mut free = place;
+        for _ in 0..FEW {
+            if free == 0 || key <= key_at(keys, order[free - 1]) {
+                break;
+            }
+            order[free] = order[free - 1];
+            free -= 1;
+        }
+        order[free] = number;
+    }
+}
+
+/// The key of a number; 0 where there is none.
+fn key_at(keys: &[u64], number: u16) -> u64 {
+    match keys.get(usize::from(number)) {
+        Some(key) => *key,
+        None => 0,
+    }
+}
+
 /// One digit of a key, the greater the less the key is.
 fn digit_of(key: u64, shift: u32) -> usize
     requires { shift < 64 }
@@ -243,9 +275,9 @@ fn digit_of(key: u64, shift: u32) -> usize
     usize::from((!(key >> shift) & 255) as u8)
 }
 
-/// The greatest of keys; 0 where there is none.
-fn greatest(keys: &[u64]) -> u64 {
-    keys.iter().fold(0, |most, key| most | *key)
+/// A number with as many bits as the greatest of keys; 0 where there is none.
+fn widest(keys: &[u64]) -> u64 {
+    keys.iter().fold(0, |bits, key| bits | *key)
 }
 
 /// Whether of many visits one of the first is earlier than that before it, so that a guess is of use.

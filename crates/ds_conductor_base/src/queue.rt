@@ -289,6 +289,7 @@ fn is_newer_first(older: &[Reverse<Waiting>], newer: &[Reverse<Waiting>]) -> boo
 }
 
 /// Takes out the first visit of trains and a run, if it is at or before the moment at so many nanoseconds.
+#[inline(always)]
 fn take_due(
     trains: &mut Trains,
     run: &mut Vec<Reverse<Waiting>>,

@@ -266,13 +266,12 @@ pub fn take_turn<I: Intake, O: Outlet, G: Gate>(
     ensures failures { O.failed outlet.new ≡ failures_with (is_write_fault result) (O.failed outlet.old) }
 {
     let read = read_piece(alloc, intake, &mut passage.progress);
-    pass_on(alloc, passage, outlet, gate, read)
+    pass_on(passage, outlet, gate, read)
 }
 
 /// Passes on what reading came to: sees the frames that are read whole, and as long as more may come, makes the visits
 /// that are due, and writes the frames that are decided.
 pub fn pass_on<O: Outlet, G: Gate>(
-    alloc: Global,
     passage: &mut Passage<'_>,
     outlet: &mut O,
     gate: &G,
@@ -290,7 +289,6 @@ pub fn pass_on<O: Outlet, G: Gate>(
     ensures failures { O.failed outlet.new ≡ failures_with (is_write_fault result) (O.failed outlet.old) }
 {
     let Ok(()) = see_read(
-        alloc,
         &passage.port,
         &mut passage.conditioner,
         &mut passage.progress,
@@ -315,7 +313,6 @@ pub fn pass_on<O: Outlet, G: Gate>(
 
 /// Sees the frames that are read whole and takes them out, also where memory runs out and only a front of them is seen.
 pub fn see_read(
-    alloc: Global,
     port: &Port<'_>,
     conditioner: &mut Conditioner<'_>,
     progress: &mut Progress,
@@ -331,7 +328,8 @@ pub fn see_read(
     ensures seen { AreSeen result port.now conditioner.old conditioner.new progress.old.piece }
     ensures unseen { AreSeenInPart result port.now conditioner.old conditioner.new progress.old.piece }
 {
-    conditioner.see_all(port, progress.take_piece(alloc))
+    let piece = progress.change_piece(conditioner.spent());
+    conditioner.see_all(port, piece)
 }
 
 /// Makes the visits that are due, and writes the frames that are decided then.

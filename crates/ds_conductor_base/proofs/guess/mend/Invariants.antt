@@ -1,0 +1,6 @@
+use Rattle.std.proofs.Common.{◌≤◌}
+use Rattle.ds_conductor_base.proofs.guess.mend.Given as goal
+
+-- a number goes towards the front alone
+abbrev pub invariant-loop : goal.invariant-loop
+invariant-loop l = record { front : l.free ≤ l.place }
