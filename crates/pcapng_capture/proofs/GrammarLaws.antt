@@ -9,6 +9,8 @@ use Rattle.pcap_capture.specs.declared.heading.Endianness.{Endianness}
 use Rattle.pcap_capture.proofs.GrammarLaws.{number-append, number-append_at}
 use Rattle.pcapng_capture.specs.Grammar.{Next, Partial, Bad, Whole, Reading, blocks, blocks_within, from_next, least_size, magic_order, next_of, next_sized, next_whole, order_of, prepend, size_by, size_in, size_of, step_of}
 use Rattle.pcapng_capture.specs.Packets.{SectionValue, Step}
+use Rattle.pcapng_capture.specs.Pieces.{IsFront}
+use Rattle.pcapng_capture.specs.declared.place.Front.{Front}
 use Rattle.pcapng_capture.specs.declared.fault.PcapngFault.{PcapngFault}
 
 abbrev size_ok : ℕ → Result ℕ PcapngFault
@@ -127,6 +129,15 @@ size_own section bytes size h there =
     let least = size_least section bytes size h in
     let own : length (take size bytes) ≡ size = length-take-le size bytes there in
     sym (size-append section (take size bytes) (drop size bytes) (omega arith)) ∙ ap (size_of section) (take-append-drop size bytes) ∙ h ∙ ap size_ok (sym own)
+
+-- and what is known by the front of bytes is known of the block alone
+pub front_own : (section : SectionValue) (bytes : List ℕ) (size : ℕ) (front : Front) → 12 ≤ size → size ≤ length bytes → IsFront front section bytes → IsFront front section (take size bytes)
+front_own section bytes size front least there known =
+    let own : length (take size bytes) ≡ size = length-take-le size bytes there in
+    let whole = take-append-drop size bytes in (
+      sym (order-append section (take size bytes) (drop size bytes) (omega arith)) ∙ ap (order_of section) whole ∙ known.0,
+      known.1 ∙ ap (number front.order 4) (sym whole) ∙ number-append front.order 4 (take size bytes) (drop size bytes) (omega arith),
+    )
 
 -- what stands at the front, by the size
 pub next_by : (section : SectionValue) (bytes : List ℕ) (size : Result ℕ PcapngFault) → size_of section bytes ≡ size → next_of section bytes ≡ next_sized section bytes size

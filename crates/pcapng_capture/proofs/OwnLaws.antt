@@ -1,11 +1,11 @@
 -- The faults that stand in a capture are its own, or want of memory, and none of a device.
-use Rattle.std.proofs.Common.{◌≡◌, ℕ, zero, suc, Bool, true, false, cond, nat_eq, nat_lt, ◌+◌, List, [], length, drop, take, Option, None, Some, Result, Ok, Err, refl, subst, sym, ap, inl, inr}
+use Rattle.std.proofs.Common.{◌≡◌, ℕ, zero, suc, Bool, true, false, cond, ◌||◌, nat_eq, nat_lt, ◌+◌, List, [], length, drop, take, Option, None, Some, Result, Ok, Err, refl, subst, sym, ap, inl, inr}
 use Rattle.std.specs.List.{slice_get}
 use Rattle.pcap_capture.specs.Grammar.{number}
 use Rattle.pcap_capture.specs.declared.heading.Endianness.{Endianness}
 use Rattle.pcapng_capture.specs.Blocks.{BlockValue, carried}
 use Rattle.pcapng_capture.specs.Grammar.{Next, Partial, Bad, Whole, Reading, begun, blocks, blocks_within, described, ends_right, from_next, next_of, next_sized, next_whole, order_of, prepend, size_in, size_of, step_by, step_in, step_of}
-use Rattle.pcapng_capture.specs.Packets.{SectionValue, Step, captured, simple, simple_by, stamped, stamped_by}
+use Rattle.pcapng_capture.specs.Packets.{SectionValue, Step, captured, interface_number, simple, simple_by, stamped, stamped_by}
 use Rattle.pcapng_capture.specs.Readings.{Stops, is_read_fault}
 use Rattle.pcapng_capture.specs.declared.fault.PcapngFault.{PcapngFault}
 use Rattle.pcapng_capture.specs.declared.fault.PcapngFault.TheVariants.{BadVersion, BadLength, BlockTooLong, LengthsDiffer}
@@ -61,22 +61,21 @@ module _ (section : SectionValue) (order : Endianness) (own : List ℕ) where
   either_own true one other h k = h
   either_own false one other h k = k
 
-  kind_by : (a b c d e : Bool) (header old simple newer : Result Step PcapngFault) (made other : Step) → IsOwn header → IsOwn old → IsOwn simple → IsOwn newer
-      → IsOwn {T = Step} (cond a header (cond b (Ok made) (cond c old (cond d simple (cond e newer (Ok other))))))
-  kind_by true b c d e header old simple newer made other h k l m = h
-  kind_by false true c d e header old simple newer made other h k l m = tt
-  kind_by false false true d e header old simple newer made other h k l m = k
-  kind_by false false false true e header old simple newer made other h k l m = l
-  kind_by false false false false true header old simple newer made other h k l m = m
-  kind_by false false false false false header old simple newer made other h k l m = tt
+  kind_by : (a b c d : Bool) (header stamp simple : Result Step PcapngFault) (made other : Step) → IsOwn header → IsOwn stamp → IsOwn simple
+      → IsOwn {T = Step} (cond a header (cond b (Ok made) (cond c stamp (cond d simple (Ok other)))))
+  kind_by true b c d header stamp simple made other h k l = h
+  kind_by false true c d header stamp simple made other h k l = tt
+  kind_by false false true d header stamp simple made other h k l = k
+  kind_by false false false true header stamp simple made other h k l = l
+  kind_by false false false false header stamp simple made other h k l = tt
 
   kind_own : (kind : ℕ) → IsOwn (step_by section order own kind)
   kind_own kind =
-      kind_by (nat_eq kind 0x0a0d0d0a) (nat_eq kind 1) (nat_eq kind 2) (nat_eq kind 3) (nat_eq kind 6)
-      (begun section order own) (stamped section order own (number order 2 (drop 8 own))) (simple section order own) (stamped section order own (number order 4 (drop 8 own)))
+      kind_by (nat_eq kind 0x0a0d0d0a) (nat_eq kind 1) (nat_eq kind 2 || nat_eq kind 6) (nat_eq kind 3)
+      (begun section order own) (stamped section order own (interface_number order kind own)) (simple section order own)
       (described section order own) (record { section = section; block = carried own })
       (begun_by (nat_eq (number order 2 (drop 12 own)) 1) (record { section = record section { order = Some order; interfaces = [] }; block = carried own }))
-      (stamped_own (number order 2 (drop 8 own))) (simple_own (slice_get section.interfaces 0)) (stamped_own (number order 4 (drop 8 own)))
+      (stamped_own (interface_number order kind own)) (simple_own (slice_get section.interfaces 0))
 
 step_in_own : (section : SectionValue) (own : List ℕ) (order : Option Endianness) → IsOwn (step_in section own order)
 step_in_own section own None = refl

@@ -7,7 +7,7 @@ use Rattle.pcap_capture.specs.declared.heading.Endianness.{Endianness}
 use Rattle.pcap_capture.specs.declared.heading.Endianness.TheVariants.{Big, Little}
 use Rattle.pcapng_capture.specs.Blocks.{BlockValue, carried}
 use Rattle.pcapng_capture.specs.Options.{interface_in}
-use Rattle.pcapng_capture.specs.Packets.{SectionValue, Step, simple, stamped}
+use Rattle.pcapng_capture.specs.Packets.{SectionValue, Step, interface_number, simple, stamped}
 use Rattle.pcapng_capture.specs.declared.fault.PcapngFault.{PcapngFault}
 use Rattle.pcapng_capture.specs.declared.fault.PcapngFault.TheVariants.{BadMagic, BadVersion, BadLength, BlockTooLong}
 use Rattle.pcapng_capture.specs.declared.fault.PcapngFault.TheVariants.{LengthsDiffer, Truncated, Failed}
@@ -69,9 +69,8 @@ abbrev pub step_by : SectionValue → Endianness → List ℕ → ℕ → Result
 step_by section order own kind =
     if nat_eq kind 0x0a0d0d0a then begun section order own
     else if nat_eq kind 1 then Ok (described section order own)
-    else if nat_eq kind 2 then stamped section order own (number order 2 (drop 8 own))
+    else if nat_eq kind 2 || nat_eq kind 6 then stamped section order own (interface_number order kind own)
     else if nat_eq kind 3 then simple section order own
-    else if nat_eq kind 6 then stamped section order own (number order 4 (drop 8 own))
     else Ok (record { section = section; block = carried own })
 
 -- whether the length at a block's end is the block's size

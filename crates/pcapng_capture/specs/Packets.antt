@@ -22,7 +22,11 @@ pub record Step : Type 0 where
   pub section : SectionValue
   pub block : BlockValue
 
--- how many bytes of its packet a block of stamps holds
+-- the number of the interface of a block with a stamp: the old packet block has 16 bits for it
+abbrev pub interface_number : Endianness → ℕ → List ℕ → ℕ
+interface_number order kind own = if nat_eq kind 2 then number order 2 (drop 8 own) else number order 4 (drop 8 own)
+
+-- how many bytes of its packet a block with a stamp holds
 abbrev pub captured : Endianness → List ℕ → ℕ
 captured order own = number order 4 (drop 20 own)
 

@@ -27,3 +27,12 @@ pub(crate) struct Place {
     /// What the block holds.
     pub(crate) content: Content,
 }
+
+/// What is known of a block by its front.
+#[derive(Clone, Copy, Debug)]
+pub(crate) struct Front {
+    /// The order of its numbers.
+    pub(crate) order: Endianness,
+    /// Its type.
+    pub(crate) kind: u32,
+}

@@ -28,12 +28,18 @@ pub(crate) fn read_blocks(
     let mut start = *end;
     loop {
         let (_, left) = text.split_at(start);
-        let size = section.size(left)?;
+        if left.len() < 12 {
+            return Ok(());
+        }
+        let Some(front) = section.front(left) else {
+            return Err(PcapngFault::BadMagic);
+        };
+        let size = section.size_behind(front, left)?;
         if left.len() < size {
             return Ok(());
         }
         let (own, _) = left.split_at(size);
-        let place = section.read_block(own)?;
+        let place = section.read_block(front, own)?;
         start += size;
         let Ok(()) = entries.push(Entry { end: start, place }) else {
             return Err(PcapngFault::NoMemory);

@@ -1,15 +1,15 @@
 ghost use Rattle.std.specs.Prelude.{◌≡◌, ◌⊎◌, ◌+◌, ◌*◌, ◌<◌, ◌≤◌, ◌^◌, [], drop, length, Ok, Err, None};
-ghost use Rattle.std.specs.Prelude.{IfErr, IfOk, IsOk, is_some, max, slice_get};
+ghost use Rattle.std.specs.Prelude.{IfErr, IfOk, IsOk, MatchOption, is_some, max, slice_get};
 ghost use Rattle.pcap_capture.specs.Grammar.{number};
 ghost use Rattle.pcapng_capture.specs.Blocks.{block_at, carried};
 ghost use Rattle.pcapng_capture.specs.Grammar.{begun, described, least_size, magic_order, no_section, order_of};
 ghost use Rattle.pcapng_capture.specs.Grammar.{size_by, size_of, step_by, step_of};
-ghost use Rattle.pcapng_capture.specs.Packets.{kept, simple, stamp, stamped};
-ghost use Rattle.pcapng_capture.specs.Pieces.{IsPlaced};
+ghost use Rattle.pcapng_capture.specs.Packets.{interface_number, kept, simple, stamp, stamped};
+ghost use Rattle.pcapng_capture.specs.Pieces.{IsFront, IsPlaced};
 
 use crate::fault::PcapngFault;
 use crate::interface::Interface;
-use crate::place::{Content, Place};
+use crate::place::{Content, Front, Place};
 use byteorder::{BigEndian, ByteOrder, LittleEndian};
 use moment_core::Moment;
 use pcap_capture::Endianness;
@@ -115,6 +115,18 @@ fn carried(own: &[u8]) -> Place
     }
 }
 
+/// The number of the interface of a packet with a stamp: an old packet block of this type has 16 bits for it.
+fn interface_number(order: Endianness, kind: u32, own: &[u8]) -> u32
+    requires { 32 ≤ length own.now }
+    ensures { result ≡ interface_number order kind own.now }
+{
+    if kind == 2 {
+        u32::from(order.read_u16(&own[8..]))
+    } else {
+        order.read_u32(&own[8..])
+    }
+}
+
 /// The stamp of a packet.
 fn stamp(order: Endianness, own: &[u8]) -> u64
     requires { 32 ≤ length own.now }
@@ -164,6 +176,32 @@ impl Section {
         }
     }
 
+    /// The order of the numbers of the block at the front, and its type, if the order is known.
+    pub(crate) fn front(&self, bytes: &[u8]) -> Option<Front>
+        requires { 12 ≤ length bytes.now }
+        ensures { MatchOption result
+            (order_of self.now bytes.now ≡ None)
+            (λ front. IsFront front self.now bytes.now) }
+    {
+        let order = self.order_of(bytes)?;
+        Some(Front {
+            order,
+            kind: order.read_u32(bytes),
+        })
+    }
+
+    /// The size of the block at the front, of which that is known.
+    ///
+    /// Refused: `BlockTooLong`, then `BadLength`.
+    #[tactic(auto, unfolding(crate::specs::Grammar::size_of))]
+    pub(crate) fn size_behind(&self, front: Front, bytes: &[u8]) -> Result<usize, PcapngFault>
+        requires long { 12 ≤ length bytes.now }
+        requires known { IsFront front self.now bytes.now }
+        ensures { result ≡ size_of self.now bytes.now }
+    {
+        size_by(least_size(front.kind), front.order.read_u32(&bytes[4..]))
+    }
+
     /// The size of the block at the front: 12 where no more is known of it, since not so many bytes are there.
     ///
     /// Refused: `BadMagic` where the order of its numbers is not known, then `BlockTooLong` and `BadLength`.
@@ -174,56 +212,51 @@ impl Section {
         if bytes.len() < 12 {
             return Ok(12);
         }
-        match self.order_of(bytes) {
+        match self.front(bytes) {
             None => Err(PcapngFault::BadMagic),
-            Some(order) => {
-                let least = least_size(order.read_u32(bytes));
-                size_by(least, order.read_u32(&bytes[4..]))
-            }
+            Some(front) => self.size_behind(front, bytes),
         }
     }
 
-    /// Reads a block that has just these bytes.
+    /// Reads a block that has just these bytes, by its front.
     ///
     /// Refused: `LengthsDiffer`; `BadVersion` of a section header; `BadLength`, then `UnknownInterface` of a packet;
     /// `NoMemory`, where an interface is kept.
     #[tactic(auto, unfolding(crate::specs::Grammar::step_of))]
-    pub(crate) fn read_block(&mut self, own: &[u8]) -> Result<Place, PcapngFault>
+    pub(crate) fn read_block(&mut self, front: Front, own: &[u8]) -> Result<Place, PcapngFault>
         requires least { 12 ≤ length own.now }
         requires sized { size_of self.old own.now ≡ Ok (length own.now) }
+        requires known { IsFront front self.old own.now }
         ensures ok { IfOk result (λ place. step_of self.old own.now
             ≡ Ok (record { section = self.new; block = block_at own.now place })) }
         ensures placed { IfOk result (λ place. IsPlaced place (length own.now)) }
         ensures err { IfErr result (λ fault. (step_of self.old own.now ≡ Err fault)
             ⊎ ((fault ≡ PcapngFault.NoMemory) × IsOk (step_of self.old own.now))) }
     {
-        let Some(order) = self.order_of(own) else {
-            return Err(PcapngFault::BadMagic);
-        };
-        if order.read_u32(&own[own.len() - 4..]) as usize != own.len() {
+        if front.order.read_u32(&own[own.len() - 4..]) as usize != own.len() {
             return Err(PcapngFault::LengthsDiffer);
         }
-        self.step(order, own)
+        self.step(front, own)
     }
 
     /// Reads a block of these bytes by its type, in a section of this order.
     #[tactic(auto, unfolding(crate::specs::Grammar::least_size))]
-    fn step(&mut self, order: Endianness, own: &[u8]) -> Result<Place, PcapngFault>
-        requires least { least_size (number order 4 own.now) ≤ length own.now }
+    fn step(&mut self, front: Front, own: &[u8]) -> Result<Place, PcapngFault>
+        requires least { least_size front.kind ≤ length own.now }
         requires most { length own.now ≤ 16777216 }
-        ensures ok { IfOk result (λ place. step_by self.old order own.now (number order 4 own.now)
+        ensures ok { IfOk result (λ place. step_by self.old front.order own.now front.kind
             ≡ Ok (record { section = self.new; block = block_at own.now place })) }
         ensures placed { IfOk result (λ place. IsPlaced place (length own.now)) }
         ensures err { IfErr result (λ fault.
-            (step_by self.old order own.now (number order 4 own.now) ≡ Err fault)
-            ⊎ ((fault ≡ PcapngFault.NoMemory) × IsOk (step_by self.old order own.now (number order 4 own.now)))) }
+            (step_by self.old front.order own.now front.kind ≡ Err fault)
+            ⊎ ((fault ≡ PcapngFault.NoMemory) × IsOk (step_by self.old front.order own.now front.kind))) }
     {
-        match order.read_u32(own) {
+        let Front { order, kind } = front;
+        match kind {
             SECTION_HEADER => self.begin(order, own),
             1 => self.describe(order, own),
-            2 => self.packet(order, own, u32::from(order.read_u16(&own[8..]))),
+            2 | 6 => self.packet(order, own, interface_number(order, kind, own)),
             3 => self.simple_packet(order, own),
-            6 => self.packet(order, own, order.read_u32(&own[8..])),
             _ => Ok(carried(own)),
         }
     }
