@@ -177,7 +177,7 @@ impl Capture {
     /// Ends the capture. `Ok` changes nothing.
     ///
     /// Refused: `Truncated` in the middle of a block, and before the first; `Failed` after any fault.
-    pub fn finish(&mut self, alloc: Global) -> Result<(), PcapngFault>
+    pub fn finish(&mut self) -> Result<(), PcapngFault>
         ensures state { MatchResult result
             (λ _. (ending self.old ≡ None) × (self.new ≡ self.old))
             (λ fault. (ending self.old ≡ Some fault) × (self.new ≡ broken)) }
@@ -186,10 +186,10 @@ impl Capture {
             (λ _. fault_in bytes ≡ None)
             (λ fault. fault_in bytes ≡ Some fault) }
     {
-        self.end(alloc)
+        self.end()
     }
 
-    fn end(&mut self, alloc: Global) -> Result<(), PcapngFault>
+    fn end(&mut self) -> Result<(), PcapngFault>
         ensures { MatchResult result
             (λ _. (ending self.old ≡ None) × (self.new ≡ self.old))
             (λ fault. (ending self.old ≡ Some fault) × (self.new ≡ broken)) }
@@ -200,7 +200,9 @@ impl Capture {
         if self.section.is_begun() && self.rest.len() == 0 {
             return Ok(());
         }
-        *self = Capture::broken(alloc);
+        self.section.reset();
+        self.rest.truncate(0);
+        self.is_broken = true;
         Err(PcapngFault::Truncated)
     }
 }

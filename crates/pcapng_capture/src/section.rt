@@ -156,6 +156,15 @@ impl Section {
         }
     }
 
+    /// Is as before the first block from then on.
+    pub(crate) fn reset(&mut self)
+        ensures { self.new ≡ no_section }
+    {
+        self.order = None;
+        self.interfaces.truncate(0);
+        self.newest = Moment::new(0).unwrap();
+    }
+
     /// Whether there was a section header.
     pub(crate) fn is_begun(&self) -> bool
         ensures { result ≡ is_some self.now.order }

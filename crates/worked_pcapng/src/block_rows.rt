@@ -91,7 +91,7 @@ fn take_all(
 ) -> Result<(), PcapngFault> {
     for _turn in 0..493 {
         if capture.take_from(alloc, &mut intake, most, blocks)? == 0 {
-            return capture.finish(alloc);
+            return capture.finish();
         }
     }
     Err(PcapngFault::ReadFault)

@@ -79,7 +79,7 @@ fn expect_failed(rt: &impl Abort, alloc: Global, capture: &mut Capture) {
     let mut blocks = Blocks::new(alloc);
     assert!(rt; capture.feed(alloc, &PLAIN, &mut blocks) == Err(PcapngFault::Failed));
     assert!(rt; blocks.is_empty());
-    assert!(rt; capture.finish(alloc) == Err(PcapngFault::Failed));
+    assert!(rt; capture.finish() == Err(PcapngFault::Failed));
     drop(blocks);
 }
 

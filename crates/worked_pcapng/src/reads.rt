@@ -17,7 +17,7 @@ fn feed(
 ) -> Result<(), PcapngFault> {
     capture.feed(alloc, front, blocks)?;
     capture.feed(alloc, back, blocks)?;
-    capture.finish(alloc)
+    capture.finish()
 }
 
 /// Reads a capture of two pieces, to its end or its first fault.
