@@ -115,6 +115,31 @@ fn pieces_that_a_device_gives_make_the_same_blocks(rt: HostRuntime) {
     expect_taken(&rt, rt.alloc(), 492);
 }
 
+/// Takes a capture from a device that fails at its second call, and then goes on.
+fn take_after_fault(
+    rt: &impl Abort,
+    alloc: Global,
+    capture: &mut Capture,
+    blocks: &mut Blocks,
+) -> Result<(), PcapngFault> {
+    let mut intake = SliceIntake::new(&TWO_SECTIONS);
+    intake.fails_at = Some(2);
+    assert!(rt; capture.take_from(alloc, &mut intake, 200, blocks) == Ok(200));
+    let failed = capture.take_from(alloc, &mut intake, 200, blocks);
+    assert!(rt; failed == Err(PcapngFault::ReadFault));
+    take_all(alloc, capture, (intake, 200), blocks)
+}
+
+#[test]
+fn a_device_that_fails_once_is_asked_again(rt: HostRuntime) {
+    let mut capture = Capture::begin(rt.alloc());
+    let mut blocks = Blocks::new(rt.alloc());
+    let fault = take_after_fault(&rt, rt.alloc(), &mut capture, &mut blocks).err();
+    let reading = Reading { blocks, fault };
+    expect_rows(&rt, &reading);
+    drop(reading);
+}
+
 #[test]
 fn a_piece_is_used_again(rt: HostRuntime) {
     let mut reading = read(rt.alloc(), TWO_SECTIONS.split_at(300));
