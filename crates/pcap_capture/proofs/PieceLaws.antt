@@ -37,7 +37,7 @@ frames_push text start [] end entry h = ap (λ place. frame_in (slice_range text
 frames_push text start (first ∷ entries) end entry h =
     ap (λ (frames : List FrameValue). frame_in (slice_range text start first.end) first.moment ∷ frames) (frames_push text first.end entries end entry h.2)
 
-range-append : (text more : List ℕ) (start end : ℕ) → start ≤ end → end ≤ length text → slice_range (text ++ more) start end ≡ slice_range text start end
+pub range-append : (text more : List ℕ) (start end : ℕ) → start ≤ end → end ≤ length text → slice_range (text ++ more) start end ≡ slice_range text start end
 range-append text more start end order within =
     ap (take (end - start)) (drop-append-le start text more (omega arith)) ∙ take-append-le (end - start) (drop start text) more (omega (arith, length-drop start text))
 

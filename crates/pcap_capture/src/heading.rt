@@ -57,7 +57,7 @@ const PCAPNG: u32 = 0x0a0d_0d0a;
 
 impl Endianness {
     /// The number in the first two bytes.
-    pub(crate) fn read_u16(self, bytes: &[u8]) -> u16
+    pub fn read_u16(self, bytes: &[u8]) -> u16
         requires { 2 ≤ length bytes.now }
         ensures { result ≡ number self 2 bytes.now }
     {
@@ -68,13 +68,24 @@ impl Endianness {
     }
 
     /// The number in the first four bytes.
-    pub(crate) fn read_u32(self, bytes: &[u8]) -> u32
+    pub fn read_u32(self, bytes: &[u8]) -> u32
         requires { 4 ≤ length bytes.now }
         ensures { result ≡ number self 4 bytes.now }
     {
         match self {
             Endianness::Big => BigEndian::read_u32(bytes),
             Endianness::Little => LittleEndian::read_u32(bytes),
+        }
+    }
+
+    /// The number in the first eight bytes.
+    pub fn read_u64(self, bytes: &[u8]) -> u64
+        requires { 8 ≤ length bytes.now }
+        ensures { result ≡ number self 8 bytes.now }
+    {
+        match self {
+            Endianness::Big => BigEndian::read_u64(bytes),
+            Endianness::Little => LittleEndian::read_u64(bytes),
         }
     }
 }

@@ -127,7 +127,9 @@ impl Piece {
 
 /// Goes on in a text with bytes of which there are some, and answers where they start there. Where there was no text
 /// they become it without a copy, and the bytes have its room.
-fn go_on_with(text: &mut Text, rest: &mut Text) -> Result<usize, PcapFault>
+///
+/// Refused: `NoMemory`, where the text stays.
+pub fn go_on_with(text: &mut Text, rest: &mut Text) -> Result<usize, PcapFault>
     ensures { MatchResult result
         (λ start. (start ≡ length text.old) × (text.new ≡ text.old ++ rest.old))
         (λ fault. (fault ≡ PcapFault.NoMemory) × (text.new ≡ text.old)) }

@@ -9,7 +9,7 @@ use std::marker::Model;
 /// Bytes that stand at the front of a buffer. As they become fewer the buffer stays as long as it was, and keeps behind
 /// them what it had there, so that it is not filled anew before a device puts bytes there.
 #[derive(Debug, Drop)]
-pub(crate) struct Text {
+pub struct Text {
     /// The buffer.
     room: Vec<u8>,
     /// How many bytes at its front count.
@@ -26,7 +26,7 @@ impl Model for Text {
 
 impl Text {
     /// No bytes. It takes no memory yet.
-    pub(crate) fn new(alloc: Global) -> Self
+    pub fn new(alloc: Global) -> Self
         ensures { result ≡ [] }
     {
         Text {
@@ -36,28 +36,28 @@ impl Text {
     }
 
     /// How many bytes there are.
-    pub(crate) fn len(&self) -> usize
+    pub fn len(&self) -> usize
         ensures { result ≡ length self.now }
     {
         self.filled
     }
 
     /// The bytes.
-    pub(crate) fn as_slice(&self) -> &[u8]
+    pub fn as_slice(&self) -> &[u8]
         ensures { result.now ≡ self.now }
     {
         &self.room[..self.filled]
     }
 
     /// Keeps so many bytes at the front.
-    pub(crate) fn truncate(&mut self, size: usize)
+    pub fn truncate(&mut self, size: usize)
         ensures { self.new ≡ take size self.old }
     {
         self.filled = self.filled.min(size);
     }
 
     /// Puts bytes behind these. `AllocError` where memory runs out.
-    pub(crate) fn append(&mut self, bytes: &[u8]) -> Result<(), AllocError>
+    pub fn append(&mut self, bytes: &[u8]) -> Result<(), AllocError>
         ensures { self.new ≡ (if is_ok result then self.old ++ bytes.now else self.old) }
     {
         let front = self.filled;
@@ -72,7 +72,7 @@ impl Text {
     }
 
     /// Has these bytes in place of its own. `AllocError` where memory runs out.
-    pub(crate) fn replace(&mut self, bytes: &[u8]) -> Result<(), AllocError>
+    pub fn replace(&mut self, bytes: &[u8]) -> Result<(), AllocError>
         ensures { OnOk result (self.new ≡ bytes.now) }
     {
         self.truncate(0);
@@ -83,7 +83,7 @@ impl Text {
     /// only at the device's end, or where none are asked for. Where the device cannot be read the bytes stay.
     ///
     /// `AllocError` where memory runs out, before the device is asked.
-    pub(crate) fn take_behind<I: Intake>(
+    pub fn take_behind<I: Intake>(
         &mut self,
         intake: &mut I,
         most: usize,
@@ -116,7 +116,7 @@ impl Text {
     }
 
     /// Gives back the room that it does not need.
-    pub(crate) fn fit(&mut self)
+    pub fn fit(&mut self)
         ensures { self.new ≡ self.old }
     {
         self.room.truncate(self.filled);
