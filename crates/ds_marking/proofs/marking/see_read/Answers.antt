@@ -5,10 +5,10 @@ use Rattle.ds_marking.proofs.marking.see_read.Goals as goal
 
 pub returns-clause-read : goal.returns-clause-read
 returns-clause-read c = λ gone bytes more at.
-    subst (λ (fs : List FrameValue). IsUnderway (gone ++ fs) bytes more c.take_piece.new.self) c.take_piece.ensures.taken (c.take_piece.ensures.read gone bytes more at)
+    subst (λ (fs : List FrameValue). IsUnderway (gone ++ fs) bytes more c.change_piece-piece.new.self) c.change_piece-piece.ensures.taken (c.change_piece-piece.ensures.read gone bytes more at)
 
 pub returns-clause-seen : goal.returns-clause-seen
-returns-clause-seen c = rw c.take_piece.ensures.taken at c.see_all.ensures.seen
+returns-clause-seen c = rw (c.change_piece-piece.ensures.taken, c.spent.ensures.same) at c.see_all.ensures.seen
 
 pub returns-clause-unseen : goal.returns-clause-unseen
-returns-clause-unseen c = rw c.take_piece.ensures.taken at c.see_all.ensures.unseen
+returns-clause-unseen c = rw (c.change_piece-piece.ensures.taken, c.spent.ensures.same) at c.see_all.ensures.unseen
