@@ -2,7 +2,7 @@
 use Rattle.std.specs.Prelude.{ℕ, ◌+◌, ◌*◌, ◌/◌, ◌%◌, Bool, not, nat_eq, nat_le, nat_lt, ◌&&◌, ◌||◌, if◌then◌else◌, List}
 use Rattle.std.specs.Prelude.{length, take, drop, slice_index, Option, None, Some, Result, Ok, Err}
 use Rattle.byteorder.specs.Endian.{big_number}
-use Rattle.af_marker.specs.declared.ipv4.Header.{Header}
+use Rattle.af_marker.specs.declared.ipv4.Ipv4Header.{Ipv4Header}
 use Rattle.af_marker.specs.declared.ipv4.HeaderFault.{HeaderFault}
 use Rattle.af_marker.specs.declared.ipv4.HeaderFault.TheVariants.{NotIpv4, ShortHeader, BadLength}
 use Rattle.af_marker.specs.Fields.{flags_and_offset, options, protocol_field, source_address, target_address}
@@ -57,7 +57,7 @@ abbrev pub is_verified : List ℕ → Bool
 is_verified bytes = nat_eq (ones_sum (words (take (header_length bytes) bytes))) 65535
 
 -- what a header says
-unfoldable pub fields_of : List ℕ → Header
+unfoldable pub fields_of : List ℕ → Ipv4Header
 fields_of bytes = record {
   length = header_length bytes;
   total = total_length bytes;
@@ -71,10 +71,10 @@ fields_of bytes = record {
 }
 
 -- a header, unless a test failed
-abbrev pub unless : Option HeaderFault → Header → Result Header HeaderFault
+abbrev pub unless : Option HeaderFault → Ipv4Header → Result Ipv4Header HeaderFault
 unless None header = Ok header
 unless (Some fault) header = Err fault
 
 -- the header of a packet, or the first test that it fails
-unfoldable pub header_of : List ℕ → Result Header HeaderFault
+unfoldable pub header_of : List ℕ → Result Ipv4Header HeaderFault
 header_of bytes = unless (fault_of bytes) (fields_of bytes)

@@ -18,3 +18,19 @@ pub(crate) const SOURCE_ADDRESS: usize = 12;
 pub(crate) const TARGET_ADDRESS: usize = 16;
 /// The options, if there are any: so the fixed part is that long.
 pub(crate) const OPTIONS: usize = 20;
+
+/// Where the fields of an IPv6 header stand, in bytes from its front (RFC 8200 section 3).
+pub(crate) mod ipv6 {
+    /// The version in the upper half, the upper half of the traffic class in the lower.
+    pub(crate) const VERSION: usize = 0;
+    /// The length of what stands behind the header: two bytes.
+    pub(crate) const PAYLOAD_LENGTH: usize = 4;
+    /// The number of the header behind this one.
+    pub(crate) const NEXT_HEADER: usize = 6;
+    /// The address that the packet comes from: sixteen bytes.
+    pub(crate) const SOURCE: usize = 8;
+    /// The address that it goes to: sixteen bytes.
+    pub(crate) const TARGET: usize = 24;
+    /// What stands behind the header: so the header is that long.
+    pub(crate) const PAYLOAD: usize = 40;
+}

@@ -6,7 +6,7 @@ use thiserror::Error;
 
 /// What the header of an IPv4 packet says (RFC 791 section 3.1).
 #[derive(Clone, Copy, Debug, PartialEq, Eq)]
-pub struct Header {
+pub struct Ipv4Header {
     /// The bytes of the header itself, with its options: 20 to 60.
     pub length: usize,
     /// The bytes of header and data.
@@ -28,7 +28,8 @@ pub struct Header {
     pub verified: bool,
 }
 
-/// Why bytes do not begin with the header of an IPv4 packet (RFC 791 section 3.1).
+/// Why bytes do not begin with the header of a packet of IPv4 (RFC 791 section 3.1), or of one of IPv6 (RFC 8200
+/// section 3).
 #[derive(Clone, Copy, Debug, PartialEq, Eq, Drop, Error)]
 pub enum HeaderFault {
     /// The version is not 4.
@@ -37,22 +38,29 @@ pub enum HeaderFault {
     /// The header is not there whole.
     #[error("the header is cut short")]
     ShortHeader,
-    /// The header's length is below 20 bytes, or the packet's below that of its header.
+    /// The length of an IPv4 header is below 20 bytes, or the packet's below that of its header; the payload length of
+    /// IPv6 is 0, as it is in a jumbogram (RFC 2675), or the packet has more than 65,535 bytes.
     #[error("a length that cannot be")]
     BadLength,
+    /// The version is not 6.
+    #[error("not IPv6")]
+    NotIpv6,
 }
 
 impl HeaderFault {
-    /// The fault's number: 1 for another version, 2 for a header cut short, 3 for a length that cannot be.
+    /// The fault's number: 1 for another version than 4, 2 for a header cut short, 3 for a length that cannot be, 4 for
+    /// another version than 6.
     pub fn code(&self) -> u8
         ensures version { self.now ≡ HeaderFault.NotIpv4 → result ≡ 1 }
         ensures short { self.now ≡ HeaderFault.ShortHeader → result ≡ 2 }
         ensures length { self.now ≡ HeaderFault.BadLength → result ≡ 3 }
+        ensures version_six { self.now ≡ HeaderFault.NotIpv6 → result ≡ 4 }
     {
         match self {
             HeaderFault::NotIpv4 => 1,
             HeaderFault::ShortHeader => 2,
             HeaderFault::BadLength => 3,
+            HeaderFault::NotIpv6 => 4,
         }
     }
 }

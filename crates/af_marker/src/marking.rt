@@ -5,7 +5,7 @@ ghost use Rattle.af_marker.specs.Marks.{checksum_of, marked, with_checksum, with
 use crate::checksum::updated_checksum;
 use crate::code_point::Dscp;
 use crate::field;
-use crate::ipv4::{Header, HeaderFault};
+use crate::ipv4::{HeaderFault, Ipv4Header};
 use crate::reading::header;
 use byteorder::{BigEndian, ByteOrder};
 
@@ -56,7 +56,7 @@ pub fn set_dscp(bytes: &mut [u8], verified: bool, dscp: Dscp)
 /// checksum was right it is right again; where it was not, its field stays as it was. No other byte changes. The
 /// refusals are those of `header`, and then no byte changes.
 #[tactic(auto, using(crate::proofs::HeaderLaws::passed, crate::proofs::HeaderLaws::verified_of))]
-pub fn remark(bytes: &mut [u8], dscp: Dscp) -> Result<Header, HeaderFault>
+pub fn remark(bytes: &mut [u8], dscp: Dscp) -> Result<Ipv4Header, HeaderFault>
     ensures answer { result ≡ header_of bytes.old }
     ensures marked { MatchResult result (λ _. bytes.new ≡ marked dscp bytes.old) (λ _. bytes.new ≡ bytes.old) }
     ensures verifies { IfOk result (λ before. IsTrue before.verified → header_of bytes.new

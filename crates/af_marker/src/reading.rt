@@ -4,7 +4,7 @@ ghost use Rattle.af_marker.specs.Headers.{fault_of, fields_of, header_length, he
 use crate::checksum::ones_complement_sum;
 use crate::code_point::Dscp;
 use crate::field;
-use crate::ipv4::{Header, HeaderFault};
+use crate::ipv4::{HeaderFault, Ipv4Header};
 use byteorder::{BigEndian, ByteOrder};
 use moment_core::PacketSize;
 
@@ -54,13 +54,13 @@ fn ports_of_packet(bytes: &[u8], ports_at: usize, total: u16) -> Option<(u16, u1
 
 /// What a header says that passes all tests (RFC 791 section 3.1).
 #[tactic(auto, unfolding(crate::specs::Headers::fault_of, crate::specs::Headers::fields_of))]
-fn fields_of_header(bytes: &[u8]) -> Header
+fn fields_of_header(bytes: &[u8]) -> Ipv4Header
     requires { fault_of bytes.now ≡ None }
     ensures { result ≡ fields_of bytes.now }
 {
     let length = 4 * usize::from(bytes[field::VERSION_AND_LENGTH] % 16);
     let total = BigEndian::read_u16(&bytes[field::TOTAL_LENGTH..]);
-    Header {
+    Ipv4Header {
         length,
         total: PacketSize::new(u64::from(total)).unwrap(),
         dscp: Dscp::of_byte(bytes[field::TYPE_OF_SERVICE]),
@@ -79,7 +79,7 @@ fn fields_of_header(bytes: &[u8]) -> Header
 /// below 20 bytes, `BadLength` where the header's length is below that, `ShortHeader` where the header is not there
 /// whole, and `BadLength` where the packet's length is below its header's.
 #[tactic(auto, unfolding(crate::specs::Headers::header_of, crate::specs::Headers::fields_of, crate::specs::Headers::fault_of))]
-pub fn header(bytes: &[u8]) -> Result<Header, HeaderFault>
+pub fn header(bytes: &[u8]) -> Result<Ipv4Header, HeaderFault>
     ensures value { result ≡ header_of bytes.now }
     ensures lengths { IfOk result (λ read. (20 ≤ read.length) × (read.length ≤ length bytes.now)
         × (read.length ≤ read.total)) }

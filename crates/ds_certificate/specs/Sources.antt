@@ -8,7 +8,7 @@ use Rattle.ds_domain_base.specs.Domains.{Domain, jitter_of, link_of, port_of, sk
 use Rattle.ds_domain_base.specs.Routes.{Route}
 use Rattle.ds_domain_base.specs.declared.contract.Contract.{Contract}
 use Rattle.ds_domain_base.specs.declared.parts.Version.{Version}
-use Rattle.ds_domain_base.specs.declared.parts.Version.TheVariants.{One, Two}
+use Rattle.ds_domain_base.specs.declared.parts.Version.TheVariants.{One, Two, Three}
 use Rattle.ds_domain_base.specs.declared.terms.Peak.{Peak}
 use Rattle.ds_domain_base.specs.declared.terms.Profile.{Profile}
 use Rattle.ds_domain_base.specs.declared.terms.Terms.{Terms}
@@ -26,6 +26,7 @@ excess_profile p = unwrap_or p.excess p.profile
 abbrev pub edge_column : Version → Column
 edge_column One = All
 edge_column Two = Excess
+edge_column Three = Excess
 
 -- What traffic keeps where it enters at a port with a skew. Trusted traffic keeps what it is trusted with: green and
 -- yellow packets together the peak, or without a peak what green ones keep. Policed traffic keeps what leaves the meter

@@ -88,7 +88,7 @@ fn edge_source(version: Version, skew: Gap, parameters: Parameters) -> Source
 {
     let excess = match version {
         Version::One => parameters.all_envelope(),
-        Version::Two => parameters.excess_envelope(),
+        Version::Two | Version::Three => parameters.excess_envelope(),
     };
     Source {
         green: widened(parameters.green_envelope(), skew),

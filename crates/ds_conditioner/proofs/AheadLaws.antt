@@ -5,14 +5,18 @@ use Rattle.std.proofs.lemmas.List.Elements.{All-cons, All-nil}
 use Rattle.std.proofs.lemmas.List.Quantifiers.{position-Some}
 use Rattle.std.proofs.lemmas.Option.{slice_get-get_or}
 use Rattle.std.proofs.lemmas.Slice.Eq.{bytes_eq-Decides}
-use Rattle.af_marker.specs.declared.ipv4.Header.{Header}
+use Rattle.af_marker.specs.Summaries.{summary_of}
+use Rattle.af_marker.specs.declared.packet.Header.{Header}
 use Rattle.pcap_capture.specs.declared.heading.LinkType.{LinkType}
 use Rattle.ds_domain_base.specs.declared.contract.Contract.{Contract}
+use Rattle.ds_domain_base.specs.declared.parts.Version.{Version}
 use Rattle.ds_checker.specs.Acceptance.{Table}
 use Rattle.meter_fabric_base.specs.Grounds.{contract_of, ground_of, most_flows}
 use Rattle.meter_fabric_base.proofs.GroundLaws.{found_at}
+use Rattle.flow_classifier.specs.Keys.{key_of}
+use Rattle.ds_domain_base.specs.Versions.{has_ipv6}
 use Rattle.frame_marker.specs.Frames.{header_in}
-use Rattle.frame_marker.specs.Sights.{flow_of, key_of, sight_by, sight_for, sight_of, takes}
+use Rattle.frame_marker.specs.Sights.{flow_of, heeded, sight_by, sight_for, sight_of, takes}
 use Rattle.frame_marker.specs.declared.sight.Sight.{Sight}
 use Rattle.ds_conductor_base.proofs.HeadStartLaws.{head_starts_hold}
 use Rattle.ds_conductor_base.specs.Streams.{AreSentAt, ComeFrom}
@@ -41,20 +45,21 @@ module _ (t : Table) (port : List ℕ) where
   by_flow : (header : Header) (found : Option ℕ) (number moment : ℕ) → flow_of t.contracts port (key_of header) ≡ found → AreSentAt t port moment (sent_by (sight_for header found) number moment)
   by_flow header None number moment none = All-nil (λ (s : Sent). (moment ≤ s.moment) × IsOfPort s.flow)
   by_flow header (Some flow) number moment found =
-      let s : Sent = record { flow = flow; packet = number; size = header.total; dscp = header.dscp; moment = moment } in
+      let s : Sent = record { flow = flow; packet = number; size = (summary_of header).total; dscp = (summary_of header).dscp; moment = moment } in
       All-cons (λ (s : Sent). (moment ≤ s.moment) × IsOfPort s.flow) s [] (omega arith, of_port header flow found) (All-nil (λ (s : Sent). (moment ≤ s.moment) × IsOfPort s.flow))
 
   by_header : (found : Option Header) (number moment : ℕ) → AreSentAt t port moment (sent_by (sight_by t.contracts port found) number moment)
   by_header None number moment = All-nil (λ (s : Sent). (moment ≤ s.moment) × IsOfPort s.flow)
   by_header (Some header) number moment = by_flow header (flow_of t.contracts port (key_of header)) number moment refl
 
-  sent_at : (link : LinkType) (bytes : List ℕ) (number moment : ℕ) → AreSentAt t port moment (sent_by (sight_of t.contracts port link bytes) number moment)
+  sent_at : (link : LinkType) (bytes : List ℕ) (number moment : ℕ) → AreSentAt t port moment (sent_by (sight_of t.domain.version t.contracts port link bytes) number moment)
   unfolding sight_of
-  sent_at link bytes number moment = by_header (header_in link bytes) number moment
+  sent_at link bytes number moment = by_header (heeded (has_ipv6 t.domain.version) (header_in link bytes)) number moment
 
 -- the rules of a port's contracts, and a head start of the port
-pub rules_ahead : (t : Table) (contracts : List Contract) (port : List ℕ) (link : LinkType) (view : List ℕ → Sight) (delay : ℕ) → contracts ≡ t.contracts
-    → ((bytes : List ℕ) → view bytes ≡ sight_of contracts port link bytes) → IsHeadStart t port delay → AreAhead t view delay
-rules_ahead t contracts port link view delay own sees ahead bytes number moment =
-    subst (λ (sight : Sight). ComeFrom t (moment + delay) (sent_by sight number moment)) (sym (sees bytes ∙ ap (λ cs. sight_of cs port link bytes) own))
-    (head_starts_hold t port delay moment (sent_by (sight_of t.contracts port link bytes) number moment) ahead (sent_at t port link bytes number moment))
+pub rules_ahead : (t : Table) (version : Version) (contracts : List Contract) (port : List ℕ) (link : LinkType) (view : List ℕ → Sight) (delay : ℕ) → version ≡ t.domain.version
+    → contracts ≡ t.contracts → ((bytes : List ℕ) → view bytes ≡ sight_of version contracts port link bytes) → IsHeadStart t port delay → AreAhead t view delay
+rules_ahead t version contracts port link view delay of own sees ahead bytes number moment =
+    subst (λ (sight : Sight). ComeFrom t (moment + delay) (sent_by sight number moment))
+    (sym (sees bytes ∙ ap (λ v. sight_of v contracts port link bytes) of ∙ ap (λ cs. sight_of t.domain.version cs port link bytes) own))
+    (head_starts_hold t port delay moment (sent_by (sight_of t.domain.version t.contracts port link bytes) number moment) ahead (sent_at t port link bytes number moment))

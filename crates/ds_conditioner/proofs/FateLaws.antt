@@ -2,38 +2,40 @@
 use Rattle.std.proofs.Common.{◌≡◌, ℕ, zero, suc, ◌<◌, List, [], ◌∷◌, ◌++◌, length, get_or, take, drop, zip, flat_map, All, None, Some, refl, sym, ap, subst, ◌∙◌, append-nil, arith, Option, Result, Ok, Err, OnOk, take-append-drop}
 use Rattle.std.proofs.lemmas.Grind.{flat_map-append}
 use Rattle.std.proofs.lemmas.List.Elements.{All-head, All-tail}
-use Rattle.af_marker.specs.Headers.{header_of}
-use Rattle.af_marker.specs.declared.ipv4.Header.{Header}
+use Rattle.af_marker.specs.Summaries.{summary_of}
 use Rattle.af_marker.specs.declared.ipv4.HeaderFault.{HeaderFault}
+use Rattle.af_marker.specs.declared.packet.Header.{Header}
 use Rattle.pcap_capture.specs.Frames.{FrameValue}
 use Rattle.pcap_capture.specs.Packets.{packet_start}
 use Rattle.pcap_capture.specs.declared.heading.LinkType.{LinkType}
-use Rattle.frame_marker.specs.Frames.{marked_behind, marked_by, marked_frame}
-use Rattle.frame_marker.specs.Marks.{mark_behind, mark_in, mark_of}
+use Rattle.pcap_capture.specs.declared.start.PacketStart.{PacketStart}
+use Rattle.frame_marker.specs.Frames.{marked_behind, marked_by, marked_frame, read_header}
+use Rattle.frame_marker.specs.Marks.{mark_behind, mark_in, mark_of, put_in}
 use Rattle.frame_marker.specs.declared.mark.Mark.{Mark}
-use Rattle.ds_conditioner.specs.Fates.{IsFateOf, fate_text, put_in}
+use Rattle.ds_conditioner.specs.Fates.{IsFateOf, fate_text}
 use Rattle.ds_conditioner.specs.Stretches.{fated}
 use Rattle.ds_conditioner.specs.declared.fate.Fate.{Fate}
 
 module _ (dscp : ℕ) (bytes : List ℕ) where
-  unmarked_header : (start : ℕ) (r : Result Header HeaderFault) → None ≡ mark_of start r → take start bytes ++ marked_by r dscp (drop start bytes) ≡ bytes
-  unmarked_header start (Ok header) none = absurd cc
-  unmarked_header start (Err fault) none = take-append-drop start bytes
+  unmarked_header : (p : PacketStart) (r : Result Header HeaderFault) → None ≡ mark_of p r → take p.start bytes ++ marked_by p.family r dscp (drop p.start bytes) ≡ bytes
+  unmarked_header p (Ok header) none = absurd cc
+  unmarked_header p (Err fault) none = take-append-drop p.start bytes
 
-  unmarked_behind : (start : Option ℕ) → None ≡ mark_behind start bytes → marked_behind start dscp bytes ≡ bytes
+  unmarked_behind : (p : Option PacketStart) → None ≡ mark_behind p bytes → marked_behind p dscp bytes ≡ bytes
   unmarked_behind None none = refl
-  unmarked_behind (Some start) none = unmarked_header start (header_of (drop start bytes)) none
+  unmarked_behind (Some p) none = unmarked_header p (read_header p.family (drop p.start bytes)) none
 
-  marked_header : (mark : Mark) (start : ℕ) (r : Result Header HeaderFault) → Some mark ≡ mark_of start r → take start bytes ++ marked_by r dscp (drop start bytes) ≡ put_in mark dscp bytes
-  marked_header mark start (Ok header) is =
-      let own : Mark = record { start = start; verified = header.verified } in
+  marked_header : (mark : Mark) (p : PacketStart) (r : Result Header HeaderFault) → Some mark ≡ mark_of p r
+      → take p.start bytes ++ marked_by p.family r dscp (drop p.start bytes) ≡ put_in mark dscp bytes
+  marked_header mark p (Ok header) is =
+      let own : Mark = record { start = p.start; family = p.family; verified = (summary_of header).verified } in
       let same : own ≡ mark = cc in
       ap (λ (m : Mark). put_in m dscp bytes) same
-  marked_header mark start (Err fault) is = absurd cc
+  marked_header mark p (Err fault) is = absurd cc
 
-  marked_there : (mark : Mark) (start : Option ℕ) → Some mark ≡ mark_behind start bytes → marked_behind start dscp bytes ≡ put_in mark dscp bytes
+  marked_there : (mark : Mark) (p : Option PacketStart) → Some mark ≡ mark_behind p bytes → marked_behind p dscp bytes ≡ put_in mark dscp bytes
   marked_there mark None is = absurd cc
-  marked_there mark (Some start) is = marked_header mark start (header_of (drop start bytes)) is
+  marked_there mark (Some p) is = marked_header mark p (read_header p.family (drop p.start bytes)) is
 
   -- a frame without a mark stays as it is
   pub unmarked : (link : LinkType) → None ≡ mark_in link bytes → marked_frame link dscp bytes ≡ bytes

@@ -5,15 +5,17 @@ use Rattle.std.proofs.lemmas.List.Elements.{All-cons, All-head, All-nil, All-tai
 use Rattle.std.proofs.lemmas.List.Kept.{AllPairs-cons}
 use Rattle.std.proofs.lemmas.List.Quantifiers.{position-Some}
 use Rattle.std.proofs.lemmas.Option.{slice_get-get_or}
-use Rattle.af_marker.specs.declared.ipv4.Header.{Header}
+use Rattle.af_marker.specs.declared.packet.Header.{Header}
 use Rattle.pcap_capture.specs.Frames.{FrameValue}
 use Rattle.pcap_capture.specs.declared.heading.LinkType.{LinkType}
 use Rattle.ds_domain_base.specs.declared.contract.Contract.{Contract}
 use Rattle.ds_checker.specs.Acceptance.{Table}
 use Rattle.meter_fabric_base.specs.Grounds.{contract_of, ground_of, most_flows}
 use Rattle.meter_fabric_base.proofs.GroundLaws.{found_at}
+use Rattle.flow_classifier.specs.Keys.{key_of}
+use Rattle.ds_domain_base.specs.Versions.{has_ipv6}
 use Rattle.frame_marker.specs.Frames.{header_in}
-use Rattle.frame_marker.specs.Sights.{flow_of, key_of, sight_by, sight_for, sight_of, takes}
+use Rattle.frame_marker.specs.Sights.{flow_of, heeded, sight_by, sight_for, sight_of, takes}
 use Rattle.frame_marker.specs.declared.sight.Sight.{Sight}
 use Rattle.frame_marker.specs.declared.sight.Sight.TheVariants.{Matched, Skipped, Unmatched}
 use Rattle.ds_conductor_base.specs.Streams.{rise_from}
@@ -52,7 +54,7 @@ module _ (t : Table) (port : List ℕ) where
 
   pub sight_known : (link : LinkType) (bytes : List ℕ) → IsKnown (see t port link bytes)
   unfolding sight_of
-  sight_known link bytes = by_header (header_in link bytes)
+  sight_known link bytes = by_header (heeded (has_ipv6 t.domain.version) (header_in link bytes))
 
 -- ---- the packets of frames
 

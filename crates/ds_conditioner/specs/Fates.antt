@@ -1,16 +1,11 @@
 -- What becomes of frames that are handed out.
-use Rattle.std.specs.Prelude.{ℕ, List, [], ◌++◌, take, drop, Some}
-use Rattle.af_marker.specs.Marks.{marked}
+use Rattle.std.specs.Prelude.{List, ℕ, [], ◌++◌, Some}
 use Rattle.pcap_capture.specs.Frames.{FrameValue}
-use Rattle.frame_marker.specs.Marks.{IsMarkOf}
+use Rattle.frame_marker.specs.Marks.{IsMarkOf, put_in}
 use Rattle.frame_marker.specs.declared.mark.Mark.{Mark}
 use Rattle.ds_conditioner.specs.Texts.{plain_text}
 use Rattle.ds_conditioner.specs.declared.fate.Fate.{Fate}
 use Rattle.ds_conditioner.specs.declared.fate.Fate.TheVariants.{Kept, LeftOut, Marked}
-
--- a frame whose packet starts where its mark says, with a code point put in there
-abbrev pub put_in : Mark → ℕ → List ℕ → List ℕ
-put_in mark dscp bytes = take mark.start bytes ++ marked dscp (drop mark.start bytes)
 
 -- the text of a frame's record, by what becomes of it
 abbrev pub fate_text : FrameValue → Fate → List ℕ

@@ -13,7 +13,7 @@ use Rattle.ds_conditioner.specs.declared.sending.Counts.{Counts}
 
 -- what a frame is at a port of a table
 abbrev pub see : Table → List ℕ → LinkType → List ℕ → Sight
-see t port link bytes = sight_of t.contracts port link bytes
+see t port link bytes = sight_of t.domain.version t.contracts port link bytes
 
 -- the packet of a frame, if a contract takes it
 abbrev pub packet_of : Sight → ℕ → ℕ → Option Sent

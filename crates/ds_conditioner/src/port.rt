@@ -51,7 +51,8 @@ impl<'a> Port<'a> {
         ensures ahead { IfOk result (λ port. (delay : ℕ) → delay ≤ 16 * 10 ^ 10
             → IsHeadStart accepted.now name delay → delay ≤ port.ahead) }
     {
-        let classifier = PortClassifier::new(alloc, accepted.contracts(), name)?;
+        let version = accepted.domain().version();
+        let classifier = PortClassifier::new(alloc, version, accepted.contracts(), name)?;
         let ahead = head_start(accepted, name);
         let timetable = Timetable::new(alloc, accepted)?;
         Ok(Port {

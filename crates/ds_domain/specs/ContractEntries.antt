@@ -44,13 +44,13 @@ contract_head place version members = do
   Ok (kind, name)
 
 -- the keys behind the path
-unfoldable pub contract_rest : Place → ContractKind → Members → Result ContractRest DomainFault
-contract_rest place kind members = do
+unfoldable pub contract_rest : Place → Version → ContractKind → Members → Result ContractRest DomainFault
+contract_rest place version kind members = do
   class ← number_at place fields.Class 1 4 members
   since ← moment_at place fields.Since members
   until ← optional_moment_at place fields.Until members
   claim ← claim_at place kind members
-  rule ← rule_at place members
+  rule ← rule_at version place members
   Ok (record { class = class; since = since; until = until; claim = claim; rule = rule })
 
 -- what the keys of a contract of a version say, key by key
@@ -59,7 +59,7 @@ contract_text place version members = do
   head ← contract_head place version members
   port ← text_at place fields.Port members
   path ← path_at place members
-  rest ← contract_rest place head.0 members
+  rest ← contract_rest place version head.0 members
   Ok (record { name = head.1; port = port; path = path; rest = rest })
 
 -- where the next contract stands, behind those before it

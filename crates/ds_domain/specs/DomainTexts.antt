@@ -12,7 +12,7 @@ use Rattle.ds_domain_base.specs.declared.fault.Field.TheVariants as fields
 use Rattle.ds_domain_base.specs.declared.fault.Kind.TheVariants as kinds
 use Rattle.ds_domain_base.specs.declared.fault.Section.TheVariants as sections
 use Rattle.ds_domain_base.specs.declared.parts.Version.{Version}
-use Rattle.ds_domain_base.specs.declared.parts.Version.TheVariants.{One, Two}
+use Rattle.ds_domain_base.specs.declared.parts.Version.TheVariants.{One, Two, Three}
 use Rattle.ds_domain_text.specs.Steps.{◌>>=◌, or_fail}
 use Rattle.ds_domain_text.specs.Values.{tables_at}
 use Rattle.ds_domain.specs.ContractEntries.{with_contract_of}
@@ -31,13 +31,13 @@ pub record SectionTables : Type 0 where
 -- the version of a number; the first is meant where none is told
 abbrev pub version_of : Option ℕ → Version
 version_of None = One
-version_of (Some number) = if number == 2 then Two else One
+version_of (Some number) = if number == 2 then Two else if number == 3 then Three else One
 
--- no unknown key, and no other version than 1 and 2
+-- no unknown key, and no other version than 1, 2 and 3
 unfoldable pub top_of : Members → Result Version DomainFault
 top_of members = do
   _ ← only top top_fields members
-  number ← optional_number_at top fields.Version 1 2 members
+  number ← optional_number_at top fields.Version 1 3 members
   Ok (version_of number)
 
 -- a section is an array of tables, and empty where it is absent

@@ -9,7 +9,7 @@ use Rattle.ds_domain_base.specs.declared.fault.Field.{Field}
 use Rattle.ds_domain_base.specs.declared.fault.Field.TheVariants as fields
 use Rattle.ds_domain_base.specs.declared.fault.Kind.TheVariants as kinds
 use Rattle.ds_domain_base.specs.declared.parts.Version.{Version}
-use Rattle.ds_domain_base.specs.declared.parts.Version.TheVariants.{One, Two}
+use Rattle.ds_domain_base.specs.declared.parts.Version.TheVariants.{One, Two, Three}
 use Rattle.ds_domain_text.specs.Steps.{◌>>=◌, or_fail}
 use Rattle.ds_domain_text.specs.Values.{optional, text_in}
 use Rattle.ds_domain.specs.Keys.{fault_here, text_at, told}
@@ -67,10 +67,11 @@ parameter_fields SrTcm = fields.Cir ∷ fields.Cbs ∷ fields.Ebs ∷ []
 parameter_fields TrTcm = fields.Cir ∷ fields.Cbs ∷ fields.Pir ∷ fields.Pbs ∷ []
 parameter_fields Rfc4115 = fields.Cir ∷ fields.Cbs ∷ fields.Eir ∷ fields.Ebs ∷ []
 
--- the keys of what a trusted contract keeps, in order; only the second version has those of an excess
+-- the keys of what a trusted contract keeps, in order; the first version has none of those of an excess
 abbrev pub trusted_fields : Version → List Field
 trusted_fields One = fields.Cir ∷ fields.Cbs ∷ fields.Pir ∷ fields.Pbs ∷ []
 trusted_fields Two = fields.Cir ∷ fields.Cbs ∷ fields.Pir ∷ fields.Pbs ∷ fields.Eir ∷ fields.Ebs ∷ []
+trusted_fields Three = fields.Cir ∷ fields.Cbs ∷ fields.Pir ∷ fields.Pbs ∷ fields.Eir ∷ fields.Ebs ∷ []
 
 -- what contracts of a kind have beside the keys of all contracts
 abbrev pub terms_fields : Version → ContractKind → List Field

@@ -78,7 +78,7 @@ pub(crate) fn contract_keys<'a>(
     let (kind, name) = contract_head(place, version, table)?;
     let port = text_at(place, table, Field::Port)?;
     let path = path_at(alloc, place, table)?;
-    let rest = contract_rest(place, kind, table)?;
+    let rest = contract_rest(place, version, kind, table)?;
     Ok(ContractKeys {
         name,
         port,
@@ -106,16 +106,17 @@ fn contract_head(
 #[tactic(auto, unfolding(crate::specs::ContractEntries::contract_rest))]
 fn contract_rest(
     place: Place,
+    version: Version,
     kind: ContractKind,
     table: &Table,
 ) -> Result<ContractRest, DomainFault>
-    ensures { result ≡ contract_rest place kind (table_view table.now) }
+    ensures { result ≡ contract_rest place version kind (table_view table.now) }
 {
     let class = class_at(place, table)?;
     let since = moment_at(place, table, Field::Since)?;
     let until = optional_moment_at(place, table, Field::Until)?;
     let claim = kind.claim_at(place, table)?;
-    let rule = rule_at(place, table)?;
+    let rule = rule_at(version, place, table)?;
     Ok(ContractRest {
         class,
         since,

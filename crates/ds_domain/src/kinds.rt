@@ -125,13 +125,13 @@ impl MeterKind {
     }
 }
 
-/// The keys of what a trusted contract keeps, in order; only the second version has those of an excess.
+/// The keys of what a trusted contract keeps, in order; the first version has none of those of an excess.
 fn trusted_fields(version: Version) -> &'static [Field]
     ensures { result.now ≡ trusted_fields version }
 {
     match version {
         Version::One => &[Field::Cir, Field::Cbs, Field::Pir, Field::Pbs],
-        Version::Two => &[
+        Version::Two | Version::Three => &[
             Field::Cir,
             Field::Cbs,
             Field::Pir,

@@ -40,7 +40,7 @@ pub(crate) struct Sections<'a> {
 /// The domain and the contracts that a domain text says.
 ///
 /// The text is TOML of at most four arrays of tables, `meter`, `port`, `link` and `contract`, and of a `version` that
-/// is 1 or 2, and 1 where it is absent. Refused is a text that is not so, with its first fault: first the text as a
+/// is 1, 2 or 3, and 1 where it is absent. Refused is a text that is not so, with its first fault: first the text as a
 /// whole, then its top, then the meters, ports, links and contracts, each in the order of the text. `NoMemory` where
 /// memory runs out.
 #[tactic(auto, unfolding(crate::specs::DomainTexts::parse_of))]
@@ -95,14 +95,15 @@ fn parts_of(
 }
 
 /// The version of the text, the first where it is not told. Refuses an unknown key at the top, and another version than
-/// 1 and 2.
+/// 1, 2 and 3.
 #[tactic(auto, unfolding(crate::specs::DomainTexts::top_of))]
 fn top_of(table: &Table) -> Result<Version, DomainFault>
     ensures { result ≡ top_of (table_view table.now) }
 {
     only(top(), table, &TOP_FIELDS, &[])?;
-    match optional_number_at(top(), table, Field::Version, 1, 2)? {
+    match optional_number_at(top(), table, Field::Version, 1, 3)? {
         Some(2) => Ok(Version::Two),
+        Some(3) => Ok(Version::Three),
         _ => Ok(Version::One),
     }
 }

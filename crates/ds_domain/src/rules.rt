@@ -1,23 +1,29 @@
 ghost use Rattle.std.specs.Prelude.{◌≡◌};
 ghost use Rattle.toml.specs.View.{table_view};
 ghost use Rattle.ds_domain.specs.Keys.{optional_number_at};
-ghost use Rattle.ds_domain.specs.Rules.{port_range_at, prefix_at, rule_at};
+ghost use Rattle.ds_domain.specs.Rules.{are_mixed, as_prefix, port_range_at, prefix_at, rule_at};
+ghost use Rattle.ds_domain_text.specs.Prefixes.{IsLong};
 
 use crate::keys::optional_number_at;
 use crate::place::Place;
 use af_marker::Dscp;
-use ds_domain_base::{DomainFault, Field};
+use ds_domain_base::{DomainFault, Field, Kind, Version};
+use ds_domain_text::AddressPrefix;
 use ds_domain_text::keys::{optional_port_range, optional_prefix};
-use flow_classifier::{PortRange, Prefix, Rule};
+use flow_classifier::{Ipv4Prefix, Ipv6Prefix, PortRange, Prefix, Rule};
 use toml::Table;
 
-/// The rule of a contract, key by key; a part that is absent holds of every packet.
+/// The rule of a contract in a version, key by key; a part that is absent holds of every packet. `Range` at the target
+/// where it has two addresses, one of each family.
 #[tactic(auto, unfolding(crate::specs::Rules::rule_at))]
-pub(crate) fn rule_at(place: Place, table: &Table) -> Result<Rule, DomainFault>
-    ensures { result ≡ rule_at place (table_view table.now) }
+pub(crate) fn rule_at(version: Version, place: Place, table: &Table) -> Result<Rule, DomainFault>
+    ensures { result ≡ rule_at version place (table_view table.now) }
 {
-    let source = prefix_at(place, table, Field::Src)?;
-    let target = prefix_at(place, table, Field::Dst)?;
+    let source = prefix_at(version, place, table, Field::Src)?;
+    let target = prefix_at(version, place, table, Field::Dst)?;
+    if are_mixed(&source, &target) {
+        return Err(place.fault(Kind::Range, Field::Dst));
+    }
     let protocol = protocol_at(place, table)?;
     let source_ports = port_range_at(place, table, Field::Sport)?;
     let target_ports = port_range_at(place, table, Field::Dport)?;
@@ -32,13 +38,41 @@ pub(crate) fn rule_at(place: Place, table: &Table) -> Result<Rule, DomainFault>
     })
 }
 
-/// A prefix of IPv4 addresses.
-#[tactic(auto, unfolding(crate::specs::Rules::prefix_at))]
-fn prefix_at(place: Place, table: &Table, field: Field) -> Result<Option<Prefix>, DomainFault>
-    ensures { result ≡ prefix_at place field (table_view table.now) }
+/// Whether these are two addresses, one of each family.
+fn are_mixed(source: &Option<Prefix>, target: &Option<Prefix>) -> bool
+    ensures { result ≡ are_mixed source.now target.now }
 {
-    match optional_prefix(table, field.text()) {
-        Ok(Some((address, length))) => Ok(Some(Prefix::new(address, length).unwrap())),
+    match (source, target) {
+        (Some(Prefix::V4(_)), Some(Prefix::V6(_))) | (Some(Prefix::V6(_)), Some(Prefix::V4(_))) => {
+            true
+        }
+        _ => false,
+    }
+}
+
+/// The prefix that a text says.
+fn prefix_of(prefix: AddressPrefix) -> Prefix
+    requires { IsLong prefix }
+    ensures { result ≡ as_prefix prefix }
+{
+    match prefix {
+        AddressPrefix::V4(address, count) => Prefix::V4(Ipv4Prefix::new(address, count).unwrap()),
+        AddressPrefix::V6(address, count) => Prefix::V6(Ipv6Prefix::new(address, count).unwrap()),
+    }
+}
+
+/// A prefix of addresses; of IPv6 only where the version has it.
+#[tactic(auto, unfolding(crate::specs::Rules::prefix_at))]
+fn prefix_at(
+    version: Version,
+    place: Place,
+    table: &Table,
+    field: Field,
+) -> Result<Option<Prefix>, DomainFault>
+    ensures { result ≡ prefix_at version place field (table_view table.now) }
+{
+    match optional_prefix(version.has_ipv6(), table, field.text()) {
+        Ok(Some(prefix)) => Ok(Some(prefix_of(prefix))),
         Ok(None) => Ok(None),
         Err(flaw) => Err(place.flaw(flaw, field)),
     }

@@ -6,6 +6,7 @@ pub mod Lifetimes
 pub mod Names
 pub mod Routes
 pub mod Sent
+pub mod Versions
 -- what the clauses here cite of the crates below
 pub use Rattle.meter_book_base.specs.Envelopes
 pub use Rattle.meter_book_base.specs.Limits

@@ -1,6 +1,7 @@
 ghost use Rattle.std.specs.Prelude.{◌≡◌};
 ghost use Rattle.moment_core.specs.declared.colour.Mode.TheVariants.{Aware};
 ghost use Rattle.meter_book_base.specs.AnyMeter.{opening_of};
+ghost use Rattle.ds_domain_base.specs.Versions.{has_ipv6};
 
 use crate::quantity::Delay;
 use meter_book_base::{AnyMeter, SoundParameters};
@@ -14,6 +15,21 @@ pub enum Version {
     /// The second: a contract that has a peak may say an excess envelope for its yellow packets, and what a meter at an
     /// edge lets through yellow counts on its own.
     Two,
+    /// The third: a contract's rule may ask for addresses of IPv6, and packets of IPv6 are seen at ports. In all else it is
+    /// the second.
+    Three,
+}
+
+impl Version {
+    /// Whether rules may ask for addresses of IPv6, and packets of IPv6 are seen: from the third version on.
+    pub fn has_ipv6(self) -> bool
+        ensures { result ≡ has_ipv6 self }
+    {
+        match self {
+            Version::One | Version::Two => false,
+            Version::Three => true,
+        }
+    }
 }
 
 /// A meter inside the domain. It heeds the colours that packets come in with.

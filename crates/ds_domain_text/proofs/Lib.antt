@@ -1,3 +1,4 @@
 -- Lemmas on prefixes and on arrays.
+pub mod AddressLemmas
 pub mod ArrayLemmas
 pub mod PrefixLemmas

@@ -1,9 +1,10 @@
 -- What the value at a key says, on the document that a text stands for.
-use Rattle.std.specs.Prelude.{ℕ, ℤ, pos, negsuc, nat_le, ◌&&◌, if◌then◌else◌, List, [], ◌∷◌, Option, None, Some, Result}
+use Rattle.std.specs.Prelude.{ℕ, ℤ, Bool, pos, negsuc, nat_le, ◌&&◌, if◌then◌else◌, List, [], ◌∷◌, Option, None, Some, Result}
 use Rattle.std.specs.Prelude.{Ok, Err, option_map}
 use Rattle.toml.specs.Data.{Data, Items, no_items, item, Members, get_member, as_integer, as_str, as_array, as_table}
 use Rattle.ds_domain_text.specs.declared.flaw.Flaw.{Flaw}
 use Rattle.ds_domain_text.specs.declared.flaw.Flaw.TheVariants.{Misfit, OutOfRange}
+use Rattle.ds_domain_text.specs.declared.prefix.AddressPrefix.{AddressPrefix}
 use Rattle.ds_domain_text.specs.Prefixes.{prefix_of}
 use Rattle.ds_domain_text.specs.Steps.{◌>>=◌, or_fail, and_then}
 
@@ -51,9 +52,9 @@ tables_if_there (Some value) = tables_in value
 unfoldable pub tables_at : List ℕ → Members → Result (List Members) Flaw
 tables_at key members = tables_if_there (get_member key members)
 
--- a prefix of IPv4 addresses
-unfoldable pub prefix_in : Data → Result (ℕ × ℕ) Flaw
-prefix_in value = text_in value >>= (λ text. or_fail (prefix_of text) OutOfRange)
+-- a prefix of addresses
+unfoldable pub prefix_in : Bool → Data → Result AddressPrefix Flaw
+prefix_in with_ipv6 value = text_in value >>= (λ text. or_fail (prefix_of with_ipv6 text) OutOfRange)
 
 -- two whole numbers, and nothing else
 abbrev pub two_numbers : Items → Option (ℤ × ℤ)

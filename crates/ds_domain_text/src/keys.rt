@@ -1,11 +1,13 @@
 ghost use Rattle.std.specs.Prelude.{◌≡◌, ◌≤◌, ◌⊎◌, map, option_map, IfErr, IfOk, IfSome};
 ghost use Rattle.toml.specs.Data.{get_member};
 ghost use Rattle.toml.specs.View.{table_view, view};
+ghost use Rattle.ds_domain_text.specs.Prefixes.{IsLong};
 ghost use Rattle.ds_domain_text.specs.Steps.{lent, lent_if_there};
 ghost use Rattle.ds_domain_text.specs.Values.{number_in, optional, port_range_in, prefix_in, required, tables_at};
 ghost use Rattle.ds_domain_text.specs.Values.{text_in, texts_in};
 
 use crate::flaw::Flaw;
+use crate::prefix::AddressPrefix;
 use crate::values::{number, port_range, prefix, tables, text, texts};
 use std::alloc::Global;
 use toml::{Table, Value};
@@ -91,14 +93,18 @@ pub fn tables_at<'a>(alloc: Global, table: &'a Table, key: &str) -> Result<Vec<&
     }
 }
 
-/// A prefix of IPv4 addresses, which may be absent: its address, and how many of its first bits count.
+/// A prefix of addresses, which may be absent; one of IPv6 only where they may be asked for.
 #[tactic(auto, unfolding(crate::specs::Values::optional))]
-pub fn optional_prefix(table: &Table, key: &str) -> Result<Option<(u32, u8)>, Flaw>
-    ensures value { result ≡ optional prefix_in key.now (table_view table.now) }
-    ensures range { IfOk result (λ told. IfSome told (λ parts. parts.1 ≤ 32)) }
+pub fn optional_prefix(
+    with_ipv6: bool,
+    table: &Table,
+    key: &str,
+) -> Result<Option<AddressPrefix>, Flaw>
+    ensures value { result ≡ optional (prefix_in with_ipv6) key.now (table_view table.now) }
+    ensures range { IfOk result (λ told. IfSome told IsLong) }
 {
     match value_at(table, key) {
-        Some(value) => Ok(Some(prefix(value)?)),
+        Some(value) => Ok(Some(prefix(with_ipv6, value)?)),
         None => Ok(None),
     }
 }

@@ -7,3 +7,4 @@ pub mod prefix;
 pub mod values;
 
 pub use flaw::Flaw;
+pub use prefix::AddressPrefix;

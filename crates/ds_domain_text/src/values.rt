@@ -1,11 +1,12 @@
 ghost use Rattle.std.specs.Prelude.{◌≡◌, ◌≤◌, ◌⊎◌, map, IfErr, IfOk};
 ghost use Rattle.toml.specs.View.{items_view, table_view, view};
+ghost use Rattle.ds_domain_text.specs.Prefixes.{IsLong};
 ghost use Rattle.ds_domain_text.specs.Steps.{lent};
 ghost use Rattle.ds_domain_text.specs.Values.{number_in, port_range_in, prefix_in, tables_in, text_in, texts_in};
 ghost use Rattle.ds_domain_text.specs.Values.{two_numbers, within};
 
 use crate::flaw::Flaw;
-use crate::prefix::prefix_of;
+use crate::prefix::{AddressPrefix, prefix_of};
 use std::alloc::Global;
 use toml::{Table, Value};
 
@@ -85,14 +86,14 @@ pub fn tables(alloc: Global, value: &Value) -> Result<Vec<&Table>, Flaw>
     Ok(tables)
 }
 
-/// A prefix of IPv4 addresses, as `10.0.1.0/24`: its address, and how many of its first bits count, from 0 to 32.
+/// A prefix of addresses, as `10.0.1.0/24`, or where addresses of IPv6 may be asked for, as `2001:db8::/32`.
 #[tactic(auto, unfolding(crate::specs::Values::prefix_in))]
-pub fn prefix(value: &Value) -> Result<(u32, u8), Flaw>
-    ensures value { result ≡ prefix_in (view value.now) }
-    ensures range { IfOk result (λ parts. parts.1 ≤ 32) }
+pub fn prefix(with_ipv6: bool, value: &Value) -> Result<AddressPrefix, Flaw>
+    ensures value { result ≡ prefix_in with_ipv6 (view value.now) }
+    ensures range { IfOk result IsLong }
 {
     let text = text(value)?;
-    prefix_of(text.as_bytes()).ok_or(Flaw::OutOfRange)
+    prefix_of(with_ipv6, text.as_bytes()).ok_or(Flaw::OutOfRange)
 }
 
 /// A range of ports: `[low, high]`, each from 0 to 65535, `low` at most `high`.

@@ -7,7 +7,7 @@ use sqlite_value::value::Value;
 pub(crate) const COMMAND_TABLE: &str =
     "CREATE TABLE command (serial INTEGER PRIMARY KEY, done TEXT, id INTEGER, moment INTEGER, name TEXT, port \
     TEXT, path TEXT, class INTEGER, kind TEXT, mode TEXT, cir INTEGER, cbs INTEGER, pir INTEGER, pbs INTEGER, \
-    eir INTEGER, ebs INTEGER, since INTEGER, until INTEGER, src INTEGER, src_length INTEGER, dst INTEGER, \
+    eir INTEGER, ebs INTEGER, since INTEGER, until INTEGER, src ANY, src_length INTEGER, dst ANY, \
     dst_length INTEGER, protocol INTEGER, sport_low INTEGER, sport_high INTEGER, dport_low INTEGER, dport_high \
     INTEGER, dscp INTEGER) STRICT";
 
@@ -57,9 +57,9 @@ const COMMAND_COLUMNS: [(&str, Kind); 28] = [
     ("ebs", Kind::Integer),
     ("since", Kind::Integer),
     ("until", Kind::Integer),
-    ("src", Kind::Integer),
+    ("src", Kind::Any),
     ("src_length", Kind::Integer),
-    ("dst", Kind::Integer),
+    ("dst", Kind::Any),
     ("dst_length", Kind::Integer),
     ("protocol", Kind::Integer),
     ("sport_low", Kind::Integer),

@@ -5,7 +5,12 @@ use Rattle.sqlite_value.specs.declared.value.Value.{Value}
 use Rattle.sqlite_value.specs.declared.value.Value.TheVariants.{Null, Int, Text}
 use Rattle.moment_core.specs.declared.colour.Mode.{Mode}
 use Rattle.moment_core.specs.declared.colour.Mode.TheVariants.{Blind, Aware}
-use Rattle.flow_classifier.specs.Parts.{PrefixValue, PortRangeValue}
+use Rattle.std.specs.Int.{to_be_bytes, w128}
+use Rattle.std.specs.Net.Addr.{segments_of}
+use Rattle.std.specs.Net.Text.{ipv6_text}
+use Rattle.flow_classifier.specs.Parts.{PortRangeValue}
+use Rattle.flow_classifier.specs.declared.prefix.Prefix.{Prefix}
+use Rattle.flow_classifier.specs.declared.prefix.Prefix.TheVariants.{V4, V6}
 use Rattle.flow_classifier.specs.declared.rule.Rule.{Rule}
 use Rattle.meter_book_base.specs.declared.any_meter.Parameters.{Parameters}
 use Rattle.meter_book_base.specs.declared.any_meter.Parameters.TheVariants.{SrTcm, TrTcm, Rfc4115}
@@ -68,10 +73,15 @@ terms_cells (Trusted committed peak) = Text (codes "trusted") ∷ Null ∷ (prof
 terms_cells (Policed parameters mode) =
     Text (kind_text parameters) ∷ Text (mode_text mode) ∷ parameters_cells parameters
 
--- an address as a number of 32 bits, and how many of them count
-abbrev pub prefix_cells : Option PrefixValue → List Value
+-- an address of IPv6 as std writes it (RFC 5952)
+unfoldable pub address_text : ℕ → List ℕ
+address_text address = ipv6_text (segments_of (to_be_bytes w128 address))
+
+-- an address of IPv4 as a number of 32 bits, one of IPv6 as a text, and how many bits count
+abbrev pub prefix_cells : Option Prefix → List Value
 prefix_cells None = Null ∷ Null ∷ []
-prefix_cells (Some p) = number_cell p.address ∷ number_cell p.length ∷ []
+prefix_cells (Some (V4 p)) = number_cell p.address ∷ number_cell p.length ∷ []
+prefix_cells (Some (V6 p)) = Text (address_text p.address) ∷ number_cell p.length ∷ []
 
 -- the lowest port, and the highest
 abbrev pub range_cells : Option PortRangeValue → List Value

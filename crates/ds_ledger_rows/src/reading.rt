@@ -6,7 +6,7 @@ use crate::writing::row_of;
 use af_marker::{Class, Dscp};
 use ds_broker::Command;
 use ds_domain_base::{Contract, Lifetime, Name, Path, Peak, Profile, SoundParameters, Terms};
-use flow_classifier::{PortRange, Prefix, Rule};
+use flow_classifier::{Ipv4Prefix, Ipv6Prefix, PortRange, Prefix, Rule};
 use meter_book_base::Parameters;
 use moment_core::{Mode, Moment, Rate};
 use rfc4115_core::Rfc4115Parameters;
@@ -14,6 +14,7 @@ use sqlite_value::row::Row;
 use sqlite_value::value::ValueRef;
 use srtcm_core::SrTcmParameters;
 use std::alloc::Global;
+use std::net::Ipv6Addr;
 use trtcm_core::TrTcmParameters;
 
 /// Why a row gives no command.
@@ -304,11 +305,28 @@ fn rule(row: &Row) -> Result<Rule, RowFault> {
 fn prefix(row: &Row, at: usize) -> Result<Option<Prefix>, RowFault>
     requires { at < 100 }
 {
-    if !is_said(row, at) {
-        return Ok(None);
+    match row.get(at) {
+        ValueRef::Null => Ok(None),
+        ValueRef::Text(text) => ipv6_prefix(text, byte(row, at + 1)?),
+        _ => ipv4_prefix(whole(row, at)?, byte(row, at + 1)?),
     }
-    match Prefix::new(whole(row, at)?, byte(row, at + 1)?) {
-        Ok(prefix) => Ok(Some(prefix)),
+}
+
+/// A prefix of IPv4.
+fn ipv4_prefix(address: u32, length: u8) -> Result<Option<Prefix>, RowFault> {
+    match Ipv4Prefix::new(address, length) {
+        Ok(prefix) => Ok(Some(Prefix::V4(prefix))),
+        Err(_) => Err(RowFault::NoCommand),
+    }
+}
+
+/// A prefix of IPv6, whose address is written.
+fn ipv6_prefix(text: &[u8], length: u8) -> Result<Option<Prefix>, RowFault> {
+    let Ok(address) = Ipv6Addr::parse_ascii(text) else {
+        return Err(RowFault::NoCommand);
+    };
+    match Ipv6Prefix::new(address.to_bits(), length) {
+        Ok(prefix) => Ok(Some(Prefix::V6(prefix))),
         Err(_) => Err(RowFault::NoCommand),
     }
 }

@@ -1,19 +1,22 @@
 //! The row of a command.
-ghost use Rattle.std.specs.Prelude.{◌≡◌, ◌++◌, ◌∷◌, ◌<◌, ◌^◌, [], IfOk, IfSome, OnOk};
+ghost use Rattle.std.specs.Prelude.{◌≡◌, ◌++◌, ◌∷◌, ◌<◌, ◌^◌, [], IfOk, IfSome, OnOk, Some, string_bytes};
+ghost use Rattle.flow_classifier.specs.declared.prefix.Prefix.TheVariants.{V4, V6};
 ghost use Rattle.sqlite_value.specs.declared.value.Value.TheVariants.{Null, Text};
-ghost use Rattle.ds_ledger_rows.specs.Cells.{cells_of, choice_cell, choice_cells, contract_cells, head_cells, kind_text};
-ghost use Rattle.ds_ledger_rows.specs.Cells.{mode_text, no_contract, number_cell, parameters_cells, path_text};
+ghost use Rattle.ds_ledger_rows.specs.Cells.{address_text, cells_of, choice_cell, choice_cells, contract_cells};
+ghost use Rattle.ds_ledger_rows.specs.Cells.{head_cells, kind_text, mode_text, no_contract, number_cell};
+ghost use Rattle.ds_ledger_rows.specs.Cells.{parameters_cells, path_text};
 ghost use Rattle.ds_ledger_rows.specs.Cells.{peak_cells, prefix_cells, profile_cells, range_cells, rule_cells};
 ghost use Rattle.ds_ledger_rows.specs.Cells.{terms_cells};
 
 use ds_broker::Command;
 use ds_domain_base::{Contract, Name, Peak, Profile, Terms};
-use flow_classifier::{PortRange, Prefix, Rule};
+use flow_classifier::{Ipv4Prefix, Ipv6Prefix, PortRange, Prefix, Rule};
 use meter_book_base::Parameters;
 use moment_core::{Mode, Rate};
 use sqlite_value::row::Row;
 use sqlite_value::value::ValueRef;
 use std::alloc::{AllocError, Global};
+use std::net::Ipv6Addr;
 
 /// How many columns the row of a command has.
 pub const COLUMNS: usize = 28;
@@ -101,7 +104,7 @@ fn push_contract(alloc: Global, row: &mut Row, contract: &Contract) -> Result<()
     push_terms(row, &contract.terms)?;
     push_count(row, contract.lifetime.since().get())?;
     push_until(row, contract)?;
-    push_rule(row, &contract.rule)
+    push_rule(alloc, row, &contract.rule)
 }
 
 /// Appends the name of a contract, its port, its path and its class.
@@ -259,15 +262,44 @@ fn push_parameters(row: &mut Row, parameters: &Parameters) -> Result<(), AllocEr
     }
 }
 
+/// An address of IPv6, as it is written.
+fn address_text(alloc: Global, address: u128) -> Result<String, AllocError>
+    ensures { IfOk result (λ text. string_bytes text ≡ address_text address) }
+{
+    Ipv6Addr::from_bits(address).to_string(alloc)
+}
+
+/// Appends an address of IPv6.
+fn push_address(alloc: Global, row: &mut Row, address: u128) -> Result<(), AllocError>
+    ensures { OnOk result (row.new ≡ row.old ++ Text (address_text address) ∷ []) }
+{
+    let text = address_text(alloc, address)?;
+    push_text(row, text.as_bytes())
+}
+
+/// Appends a prefix of IPv4: its address as a number.
+fn push_ipv4(row: &mut Row, prefix: Ipv4Prefix) -> Result<(), AllocError>
+    ensures { OnOk result (row.new ≡ row.old ++ prefix_cells (Some (V4 prefix))) }
+{
+    push_count(row, u64::from(prefix.address()))?;
+    push_count(row, u64::from(prefix.length()))
+}
+
+/// Appends a prefix of IPv6: its address as a text.
+fn push_ipv6(alloc: Global, row: &mut Row, prefix: Ipv6Prefix) -> Result<(), AllocError>
+    ensures { OnOk result (row.new ≡ row.old ++ prefix_cells (Some (V6 prefix))) }
+{
+    push_address(alloc, row, prefix.address())?;
+    push_count(row, u64::from(prefix.length()))
+}
+
 /// Appends a prefix, if there is one.
-fn push_prefix(row: &mut Row, prefix: Option<Prefix>) -> Result<(), AllocError>
+fn push_prefix(alloc: Global, row: &mut Row, prefix: Option<Prefix>) -> Result<(), AllocError>
     ensures { OnOk result (row.new ≡ row.old ++ prefix_cells prefix) }
 {
     match prefix {
-        Some(prefix) => {
-            push_count(row, u64::from(prefix.address()))?;
-            push_count(row, u64::from(prefix.length()))
-        }
+        Some(Prefix::V4(prefix)) => push_ipv4(row, prefix),
+        Some(Prefix::V6(prefix)) => push_ipv6(alloc, row, prefix),
         None => push_excess(row, None),
     }
 }
@@ -296,11 +328,11 @@ fn push_protocol(row: &mut Row, protocol: Option<u8>) -> Result<(), AllocError>
 }
 
 /// Appends a rule.
-fn push_rule(row: &mut Row, rule: &Rule) -> Result<(), AllocError>
+fn push_rule(alloc: Global, row: &mut Row, rule: &Rule) -> Result<(), AllocError>
     ensures { OnOk result (row.new ≡ row.old ++ rule_cells rule.now) }
 {
-    push_prefix(row, rule.source)?;
-    push_prefix(row, rule.target)?;
+    push_prefix(alloc, row, rule.source)?;
+    push_prefix(alloc, row, rule.target)?;
     push_protocol(row, rule.protocol)?;
     push_range(row, rule.source_ports)?;
     push_range(row, rule.target_ports)?;

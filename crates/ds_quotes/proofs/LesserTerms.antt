@@ -10,7 +10,7 @@ use Rattle.ds_domain_base.specs.Parameters.{Parameters}
 use Rattle.ds_domain_base.specs.Parameters.TheVariants.{SrTcm, TrTcm, Rfc4115}
 use Rattle.ds_domain_base.specs.Sent.{has_peak}
 use Rattle.ds_domain_base.specs.declared.parts.Version.{Version}
-use Rattle.ds_domain_base.specs.declared.parts.Version.TheVariants.{One, Two}
+use Rattle.ds_domain_base.specs.declared.parts.Version.TheVariants.{One, Two, Three}
 use Rattle.ds_domain_base.specs.declared.terms.Peak.{Peak}
 use Rattle.ds_domain_base.specs.declared.terms.Profile.{Profile}
 use Rattle.ds_domain_base.specs.declared.terms.Terms.{Terms}
@@ -82,6 +82,7 @@ single_rate_edge : (version : Version) (p q : SrTcmParameters) → p.committed_r
     → edge_less version (SrTcm p) (SrTcm q)
 single_rate_edge One p q rate burst excess = (rate, omega (arith, burst, excess))
 single_rate_edge Two p q rate burst excess = (rate, omega (arith, burst, excess))
+single_rate_edge Three p q rate burst excess = (rate, omega (arith, burst, excess))
 
 single_rate_lower : (version : Version) (skew : ℕ) (p q : SrTcmParameters) (mode : Mode) → p.committed_rate ≤ q.committed_rate → p.committed_burst ≤ q.committed_burst
     → p.excess_burst ≤ q.excess_burst → AreLower version skew (Policed (SrTcm p) mode) (Policed (SrTcm q) mode)
@@ -91,6 +92,7 @@ single_rate_lower version skew p q mode rate burst excess =
 two_rate_edge : (version : Version) (p q : TrTcmParameters) → p.peak_rate ≤ q.peak_rate → p.peak_burst ≤ q.peak_burst → edge_less version (TrTcm p) (TrTcm q)
 two_rate_edge One p q rate burst = (rate, omega (arith, burst))
 two_rate_edge Two p q rate burst = (rate, omega (arith, burst))
+two_rate_edge Three p q rate burst = (rate, omega (arith, burst))
 
 two_rate_lower : (version : Version) (skew : ℕ) (p q : TrTcmParameters) (mode : Mode) → p.committed_rate ≤ q.committed_rate → p.committed_burst ≤ q.committed_burst
     → p.peak_rate ≤ q.peak_rate → p.peak_burst ≤ q.peak_burst → AreLower version skew (Policed (TrTcm p) mode) (Policed (TrTcm q) mode)
@@ -101,6 +103,7 @@ separate_rates_edge : (version : Version) (p q : Rfc4115Parameters) → p.commit
     → p.excess_burst ≤ q.excess_burst → edge_less version (Rfc4115 p) (Rfc4115 q)
 separate_rates_edge One p q rate burst excess_rate excess_burst = (omega (arith, rate, excess_rate), omega (arith, burst, excess_burst))
 separate_rates_edge Two p q rate burst excess_rate excess_burst = (excess_rate, omega (arith, excess_burst))
+separate_rates_edge Three p q rate burst excess_rate excess_burst = (excess_rate, omega (arith, excess_burst))
 
 separate_rates_lower : (version : Version) (skew : ℕ) (p q : Rfc4115Parameters) (mode : Mode) → p.committed_rate ≤ q.committed_rate → p.committed_burst ≤ q.committed_burst
     → p.excess_rate ≤ q.excess_rate → p.excess_burst ≤ q.excess_burst → AreLower version skew (Policed (Rfc4115 p) mode) (Policed (Rfc4115 q) mode)

@@ -19,7 +19,7 @@ five_texts first digits word third fourth fifth same = rw (same, append-nil fift
 
 -- what is said of a link type, by its parts
 pub link_type_parts : (number : ℕ) (digits : List ℕ) → digits ≡ decimal number
-    → codes "link type " ++ (digits ++ (codes " is none of those that are read: 1 (Ethernet), 101 (raw IP) and 228 (IPv4)\n"
+    → codes "link type " ++ (digits ++ (codes " is none of those that are read: 0, 1 (Ethernet), 12, 14, 101 (raw IP), 108, 113, 228, 229 and 276\n"
     ++ (codes "Ethernet is captured by: tcpdump -i DEVICE -y EN10MB -w OUT.pcap\n"
     ++ (codes "where frames are of one of these, say so by: editcap -T ether|rawip|rawip4 IN.pcap OUT.pcap\n" ++ []))))
     ≡ link_type_advice number

@@ -96,7 +96,7 @@ place_advice place =
 -- which link type a capture has, which are read, and what makes a capture of one
 abbrev pub link_type_advice : ℕ → List ℕ
 link_type_advice number = codes "link type " ++ decimal number
-    ++ codes " is none of those that are read: 1 (Ethernet), 101 (raw IP) and 228 (IPv4)\n"
+    ++ codes " is none of those that are read: 0, 1 (Ethernet), 12, 14, 101 (raw IP), 108, 113, 228, 229 and 276\n"
     ++ codes "Ethernet is captured by: tcpdump -i DEVICE -y EN10MB -w OUT.pcap\n"
     ++ codes "where frames are of one of these, say so by: editcap -T ether|rawip|rawip4 IN.pcap OUT.pcap\n"
 

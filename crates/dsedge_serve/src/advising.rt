@@ -213,7 +213,7 @@ fn tell_link_type<F: Outlet>(number: u16, faults: &mut F) -> Result<(), DeviceFa
         &[
             "link type ",
             Buffer::new().format(number),
-            " is none of those that are read: 1 (Ethernet), 101 (raw IP) and 228 (IPv4)\n",
+            " is none of those that are read: 0, 1 (Ethernet), 12, 14, 101 (raw IP), 108, 113, 228, 229 and 276\n",
             "Ethernet is captured by: tcpdump -i DEVICE -y EN10MB -w OUT.pcap\n",
             "where frames are of one of these, say so by: editcap -T ether|rawip|rawip4 IN.pcap OUT.pcap\n",
         ],

@@ -1,3 +1,4 @@
+pub mod FamilyLaws
 -- Lemmas on masks, and on tables of rules.
 pub mod MaskLaws
 pub mod TableLaws

@@ -4,7 +4,7 @@ use Rattle.std.specs.Int.Bits.{bit_and}
 use Rattle.std.proofs.lemmas.Bool.Decides.{nat_tests}
 use Rattle.std.proofs.lemmas.Nat.{shl-shr}
 use Rattle.std.proofs.lemmas.Nat.Bits.{and_high_mask}
-use Rattle.flow_classifier.specs.Matching.{is_in_prefix}
+use Rattle.flow_classifier.specs.Matching.{agree}
 use Rattle.flow_classifier.specs.Parts.{mask_of, network_of}
 
 -- an address under a mask is 0 in the bits that do not count
@@ -18,7 +18,7 @@ unshifted : (a b k : ℕ) → a * 2 ^ k ≡ b * 2 ^ k → a ≡ b
 unshifted a b k e = sym (shl-shr a k) ∙ ap (λ n. n / 2 ^ k) e ∙ shl-shr b k
 
 -- two addresses agree in the bits that count where they are one address under the mask
-pub same_network : (a b length : ℕ) → nat_eq (network_of a length) (network_of b length) ≡ is_in_prefix (record { address = b; length = length }) a
+pub same_network : (a b length : ℕ) → nat_eq (network_of a length) (network_of b length) ≡ agree 32 (record { address = b; length = length }) a
 same_network a b length =
     let k = 32 - length in
     same_test (network_of a length) (network_of b length) (a / 2 ^ k) (b / 2 ^ k) (unshifted (a / 2 ^ k) (b / 2 ^ k) k) (ap (λ n. n * 2 ^ k))

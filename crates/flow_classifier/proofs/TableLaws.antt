@@ -14,9 +14,14 @@ use Rattle.std.proofs.lemmas.Simd.{first_set_mask_l, get_or-zip2, length-zip2, m
 use lib.Count.{count_trailing_zeros}
 use Rattle.flow_classifier.specs.Kept.{AreBeside, IsAskedAt, rules_in}
 use Rattle.flow_classifier.specs.Matching.{holds, holds_where_given, is_in_prefix, numbers_hold, ports_hold}
-use Rattle.flow_classifier.specs.Parts.{PrefixValue, mask_of, network_of}
+use Rattle.flow_classifier.specs.Keys.{source_of, target_of}
+use Rattle.flow_classifier.specs.Parts.{mask_of, network_of}
 use Rattle.flow_classifier.specs.Tables.{first_flow_of, mask_asked, network_asked}
+use Rattle.flow_classifier.specs.declared.key.Address.{Address}
+use Rattle.flow_classifier.specs.declared.key.Address.TheVariants as addresses
 use Rattle.flow_classifier.specs.declared.key.Key.{Key}
+use Rattle.flow_classifier.specs.declared.prefix.Prefix.{Prefix}
+use Rattle.flow_classifier.specs.declared.prefix.Prefix.TheVariants as prefixes
 use Rattle.flow_classifier.specs.declared.table.FlowRule.{FlowRule}
 use Rattle.flow_classifier.specs.declared.table.Sources.{Sources}
 use Rattle.flow_classifier.proofs.MaskLaws.{masked, same_network}
@@ -70,9 +75,11 @@ told_is address masks networks wide too =
     ∙ first_set_mask_l (λ same. same) (sames address masks networks) 16 (wide_all address masks networks wide too) (omega arith)
 
 -- an address that a source holds of has what is asked in the bits that count
-pub held : (source : Option PrefixValue) (address : ℕ) → address < 2 ^ 32 → holds_where_given is_in_prefix source address ≡ true → bit_and address (mask_asked source) ≡ network_asked source
+held : (source : Option Prefix) (address : ℕ) → address < 2 ^ 32 → holds_where_given is_in_prefix source (addresses.V4 address) ≡ true
+    → bit_and address (mask_asked source) ≡ network_asked source
 held None address fits holds = and_zero_r address
-held (Some p) address fits holds =
+held (Some (prefixes.V6 p)) address fits holds = and_zero_r address
+held (Some (prefixes.V4 p)) address fits holds =
     masked address (mask_of p.length) p.length fits refl
     ∙ same_number (network_of address p.length) (network_of p.address p.length) (same_network address p.address p.length ∙ holds)
   where
@@ -85,9 +92,9 @@ not_true false other = refl
 
 -- before the place that is told, no source that is asked for holds of the address
 pub none_held : (s : Sources) (address place : ℕ) → address < 2 ^ 32 → length s.masks ≡ 16 → length s.networks ≡ 16 → place ≡ place_told (lanes_told address s.masks s.networks)
-    → (k : ℕ) (source : Option PrefixValue) → k < 16 → k < place → IsAskedAt s k source → holds_where_given is_in_prefix source address ≡ false
+    → (k : ℕ) (source : Option Prefix) → k < 16 → k < place → IsAskedAt s k source → holds_where_given is_in_prefix source (addresses.V4 address) ≡ false
 none_held s address place fits wide too told k source within before asked =
-    not_true (holds_where_given is_in_prefix source address) (λ holds.
+    not_true (holds_where_given is_in_prefix source (addresses.V4 address)) (λ holds.
     apart (bit_and address (get_or s.masks k 0)) (get_or s.networks k 0) other
     (ap (bit_and address) asked.0 ∙ held source address fits holds ∙ sym asked.1))
   where
@@ -109,12 +116,12 @@ none_held s address place fits wide too told k source within before asked =
 
 -- rules whose sources do not hold are left out
 pub left_out : (rules : List FlowRule) (count : ℕ) (key : Key)
-    → ((k : ℕ) (row : FlowRule) → k < count → slice_get rules k ≡ Some row → holds_where_given is_in_prefix row.rule.source key.source ≡ false)
+    → ((k : ℕ) (row : FlowRule) → k < count → slice_get rules k ≡ Some row → holds_where_given is_in_prefix row.rule.source (source_of key.addresses) ≡ false)
     → first_flow_of rules key ≡ first_flow_of (drop count rules) key
 left_out rules zero key none = refl
 left_out [] (suc count) key none = refl
 left_out (row ∷ rules) (suc count) key none =
-    ap (λ here. if here && holds_where_given is_in_prefix row.rule.target key.target && (ports_hold row.rule key && numbers_hold row.rule key) then Some row.flow else first_flow_of rules key)
+    ap (λ here. if here && holds_where_given is_in_prefix row.rule.target (target_of key.addresses) && (ports_hold row.rule key && numbers_hold row.rule key) then Some row.flow else first_flow_of rules key)
     (none 0 row (omega arith) refl)
     ∙ left_out rules count key (λ k other within at. none (suc k) other (omega (arith, within)) at)
 
@@ -136,13 +143,14 @@ rest_is rules count = take_all (length rules - count) (drop count rules) (omega 
 
 -- no source of the first rules holds
 abbrev pub NoneAsk : List FlowRule → ℕ → Key → Type 0
-NoneAsk rules count key = (k : ℕ) (row : FlowRule) → k < count → slice_get rules k ≡ Some row → holds_where_given is_in_prefix row.rule.source key.source ≡ false
+NoneAsk rules count key = (k : ℕ) (row : FlowRule) → k < count → slice_get rules k ≡ Some row → holds_where_given is_in_prefix row.rule.source (source_of key.addresses) ≡ false
 
-pub none_ask : (s : Sources) (rules seen : List FlowRule) (first count : ℕ) (key : Key) → AreBeside s rules → seen ≡ rules → count ≤ first
-    → ((k : ℕ) (source : Option PrefixValue) → k < 16 → k < first → IsAskedAt s k source → holds_where_given is_in_prefix source key.source ≡ false) → NoneAsk seen count key
-none_ask s rules seen first count key kept same few none k row before at =
+pub none_ask : (s : Sources) (rules seen : List FlowRule) (first count : ℕ) (key : Key) (from : Address) → from ≡ source_of key.addresses → AreBeside s rules → seen ≡ rules
+    → count ≤ first → ((k : ℕ) (source : Option Prefix) → k < 16 → k < first → IsAskedAt s k source → holds_where_given is_in_prefix source from ≡ false)
+    → NoneAsk seen count key
+none_ask s rules seen first count key from its kept same few none k row before at =
     let there : slice_get rules k ≡ Some row = ap (λ (all : List FlowRule). slice_get all k) (sym same) ∙ at in
-    none k row.rule.source (omega (arith, slice_get_within rules k row there, kept.few)) (omega (arith, before, few)) (kept.asked k row there)
+    ap (holds_where_given is_in_prefix row.rule.source) (sym its) ∙ none k row.rule.source (omega (arith, slice_get_within rules k row there, kept.few)) (omega (arith, before, few)) (kept.asked k row there)
 
 -- a rule that holds, where none of those before it does
 pub flow_found : (rules : List FlowRule) (count index : ℕ) (row : FlowRule) (key : Key) → NoneAsk rules count key → index < length (rest_of rules count)

@@ -1,10 +1,11 @@
 -- Rules by the bits of addresses for which they ask: rows in order, a run of rows, tuples, and the first rule that holds.
-use Rattle.std.proofs.Common.{◌≡◌, ◌⊎◌, inl, inr, ◌<◌, ◌≤◌, ◌+◌, ◌-◌, ◌^◌, ℕ, zero, suc, nat_eq, Bool, true, false, ◌&&◌, cond, bit_and, ltb, List, [], ◌∷◌, ◌++◌, length, length-drop, map, drop, take, get_or, Option, None, Some, refl, subst, sym, ap, ◌∙◌, arith}
+use Rattle.std.proofs.Common.{◌≡◌, ◌⊎◌, inl, inr, ◌<◌, ◌≤◌, ◌+◌, ◌-◌, ◌/◌, ◌%◌, ◌^◌, ℕ, zero, suc, nat_eq, Bool, true, false, ◌&&◌, cond, ltb, List, [], ◌∷◌, ◌++◌, length, length-drop, map, drop, take, get_or, Option, None, Some, refl, subst, sym, ap, ◌∙◌, arith}
 use Rattle.std.specs.Prelude.{◌||◌, All, IfSome, slice_get, IsPermutation, ⊤}
 use Rattle.std.specs.Cmp.{IsTotalOrder, IsStrictWeakOrder}
 use Rattle.std.specs.List.{list_any}
 use Rattle.std.specs.List.Sorted.{IsNonDecreasingBy, IsPartitionPoint, IsSorted}
 use Rattle.std.specs.Ordering.{is_lt, nat_cmp, ordering_then}
+use Rattle.std.proofs.Math.Nat.{div-eq_of_lt}
 use Rattle.std.proofs.lemmas.Bool.{cases_lt}
 use Rattle.std.proofs.lemmas.Bool.Decides.{nat_tests}
 use Rattle.std.proofs.lemmas.Cmp.{nat_cmp_total, on_total, then_total}
@@ -13,15 +14,19 @@ use Rattle.std.proofs.lemmas.List.Elements.{All-cons, All-nil, All-push, All-wea
 use Rattle.std.proofs.lemmas.List.Sorted.{All-permutation, list_any-IsPermutation, ranks_by, sorted_far}
 use Rattle.std.proofs.lemmas.Option.{MatchOption-at_some, get_or_from_slice_get, none-some, same_Some, slice_get_within}
 use Rattle.flow_classifier.specs.Matching.{holds, holds_where_given, is_in_prefix, numbers_hold, ports_hold}
-use Rattle.flow_classifier.specs.Tables.{first_flow_of, network_asked}
-use Rattle.flow_classifier.specs.Tuples.{AreTuplesOf, IsHeldAt, IsNotHeldAt, IsTupleOf, addresses_of, addresses_under, as_one, masks_of, row_at, row_cmp, rows_from, same_masks}
+use Rattle.flow_classifier.specs.Keys.{source_of, target_of}
+use Rattle.flow_classifier.specs.Tables.{first_flow_of}
+use Rattle.flow_classifier.specs.Tuples.{AreTuplesOf, IsAddress, IsHeldAt, IsNotHeldAt, IsTupleOf, addresses_of, addresses_under, as_one, bits_asked, last_bits, length_asked, lengths_of, row_at, row_cmp, rows_from, same_lengths}
+use Rattle.flow_classifier.specs.declared.key.Address.{Address}
+use Rattle.flow_classifier.specs.declared.key.Address.TheVariants as addresses
 use Rattle.flow_classifier.specs.declared.key.Key.{Key}
+use Rattle.flow_classifier.specs.declared.prefix.Prefix.{Prefix}
+use Rattle.flow_classifier.specs.declared.prefix.Prefix.TheVariants as prefixes
 use Rattle.flow_classifier.specs.declared.rule.Rule.{Rule}
 use Rattle.flow_classifier.specs.declared.table.FlowRule.{FlowRule}
-use Rattle.flow_classifier.specs.declared.tuples.Masks.{Masks}
+use Rattle.flow_classifier.specs.declared.tuples.Lengths.{Lengths}
 use Rattle.flow_classifier.specs.declared.tuples.Row.{Row}
 use Rattle.flow_classifier.specs.declared.tuples.Tuple.{Tuple}
-use Rattle.flow_classifier.proofs.TableLaws.{held}
 
 -- ---- lists
 
@@ -137,7 +142,7 @@ none_behind run addresses rules key count place e inside late before up above k 
 
 -- ---- a tuple
 
-same_test : (m n : Masks) → same_masks m n ≡ true → (m.source ≡ n.source) × (m.target ≡ n.target)
+same_test : (m n : Lengths) → same_lengths m n ≡ true → (m.source ≡ n.source) × (m.target ≡ n.target)
 same_test m n same = (first m.source n.source m.target n.target same, second m.source n.source m.target n.target same)
   where
     first : (a b c d : ℕ) → (nat_eq a b && nat_eq c d) ≡ true → a ≡ b
@@ -146,15 +151,35 @@ same_test m n same = (first m.source n.source m.target n.target same, second m.s
     second : (a b c d : ℕ) → (nat_eq a b && nat_eq c d) ≡ true → c ≡ d
     second a b c d same = grind (arith, nat_tests)
 
+same_number : (a b : ℕ) → nat_eq a b ≡ true → a ≡ b
+same_number a b same = grind (arith, nat_tests)
+
+-- a number has nothing above its bits
+nothing_above : (a k : ℕ) → a < 2 ^ k → a / 2 ^ k ≡ 0
+nothing_above a k fits = div-eq_of_lt fits
+
+-- an address that a prefix holds of has the bits that are asked for
+bits_held : (prefix : Option Prefix) (address : Address) → IsAddress address → holds_where_given is_in_prefix prefix address ≡ true
+    → last_bits (length_asked prefix) address ≡ bits_asked prefix
+bits_held None (addresses.V4 a) fits holds = nothing_above a 32 fits
+bits_held None (addresses.V6 a) fits holds = ap (λ n. n % 2 ^ 32) (nothing_above a 128 fits)
+bits_held (Some (prefixes.V4 p)) (addresses.V4 a) fits holds = same_number (a / 2 ^ (32 - p.length)) (p.address / 2 ^ (32 - p.length)) holds
+bits_held (Some (prefixes.V6 p)) (addresses.V6 a) fits holds =
+    ap (λ n. n % 2 ^ 32) (same_number (a / 2 ^ (128 - p.length)) (p.address / 2 ^ (128 - p.length)) holds)
+bits_held (Some (prefixes.V4 p)) (addresses.V6 a) fits holds = absurd cc
+bits_held (Some (prefixes.V6 p)) (addresses.V4 a) fits holds = absurd cc
+
 -- a packet of which a rule holds has what the rule asks for
-asked_of : (rule : Rule) (key : Key) (masks : Masks) → key.source < 2 ^ 32 → key.target < 2 ^ 32 → same_masks (masks_of rule) masks ≡ true → holds rule key ≡ true
-    → addresses_of rule ≡ addresses_under masks key
-asked_of rule key masks source target same here =
-    let masked = same_test (masks_of rule) masks same in
-    let both = parts (holds_where_given is_in_prefix rule.source key.source) (holds_where_given is_in_prefix rule.target key.target) (ports_hold rule key && numbers_hold rule key) here in
-    let first : network_asked rule.source ≡ bit_and key.source masks.source = sym (held rule.source key.source source both.0) ∙ ap (bit_and key.source) masked.0 in
-    let second : network_asked rule.target ≡ bit_and key.target masks.target = sym (held rule.target key.target target both.1) ∙ ap (bit_and key.target) masked.1 in
-    ap (λ a. as_one a (network_asked rule.target)) first ∙ ap (λ b. as_one (bit_and key.source masks.source) b) second
+asked_of : (rule : Rule) (key : Key) (lengths : Lengths) → IsAddress (source_of key.addresses) → IsAddress (target_of key.addresses) → same_lengths (lengths_of rule) lengths ≡ true
+    → holds rule key ≡ true → addresses_of rule ≡ addresses_under lengths key
+asked_of rule key lengths source target same here =
+    let long = same_test (lengths_of rule) lengths same in
+    let from = source_of key.addresses in
+    let to = target_of key.addresses in
+    let both = parts (holds_where_given is_in_prefix rule.source from) (holds_where_given is_in_prefix rule.target to) (ports_hold rule key && numbers_hold rule key) here in
+    let first : bits_asked rule.source ≡ last_bits lengths.source from = sym (bits_held rule.source from source both.0) ∙ ap (λ n. last_bits n from) long.0 in
+    let second : bits_asked rule.target ≡ last_bits lengths.target to = sym (bits_held rule.target to target both.1) ∙ ap (λ n. last_bits n to) long.1 in
+    ap (λ a. as_one a (bits_asked rule.target)) first ∙ ap (λ b. as_one (last_bits lengths.source from) b) second
   where
     parts : (a b c : Bool) → (a && b && c) ≡ true → (a ≡ true) × (b ≡ true)
     parts true true c all = (refl, refl)
@@ -162,10 +187,10 @@ asked_of rule key masks source target same here =
     parts false b c all = absurd cc
 
 -- the rows from where they do not ask for smaller addresses tell of all rules of the tuple
-pub none_of_tuple : (t : Tuple) (rules : List FlowRule) (key : Key) (start place : ℕ) → key.source < 2 ^ 32 → key.target < 2 ^ 32 → IsTupleOf rules t
-    → ((k : ℕ) (d : Row) → k < start → (get_or t.rows.items k d).addresses < addresses_under t.masks key)
-    → NoneOf (drop start t.rows.items) (addresses_under t.masks key) rules key place
-    → (k : ℕ) (row : FlowRule) → slice_get rules k ≡ Some row → same_masks (masks_of row.rule) t.masks ≡ true → k < place → holds row.rule key ≡ false
+pub none_of_tuple : (t : Tuple) (rules : List FlowRule) (key : Key) (start place : ℕ) → IsAddress (source_of key.addresses) → IsAddress (target_of key.addresses) → IsTupleOf rules t
+    → ((k : ℕ) (d : Row) → k < start → (get_or t.rows.items k d).addresses < addresses_under t.lengths key)
+    → NoneOf (drop start t.rows.items) (addresses_under t.lengths key) rules key place
+    → (k : ℕ) (row : FlowRule) → slice_get rules k ≡ Some row → same_lengths (lengths_of row.rule) t.lengths ≡ true → k < place → holds row.rule key ≡ false
 none_of_tuple t rules key start place source target kept before none k row at same early = by (holds row.rule key) refl
   where
     by : (b : Bool) → holds row.rule key ≡ b → b ≡ false
@@ -178,13 +203,13 @@ none_of_tuple t rules key start place source target kept before none k row at sa
             let r = get_or t.rows.items p d in
             let its : r.place ≡ k = same_number r.place k (passed d) in
             let there : slice_get rules r.place ≡ Some row = ap (slice_get rules) its ∙ at in
-            let asks : r.addresses ≡ addresses_under t.masks key = kept.asked p d inside row there ∙ asked_of row.rule key t.masks source target same here in
+            let asks : r.addresses ≡ addresses_under t.lengths key = kept.asked p d inside row there ∙ asked_of row.rule key t.lengths source target same here in
             by_start p inside d its asks (cases_lt p start)
           where
             same_number : (a b : ℕ) → nat_eq a b ≡ true → a ≡ b
             same_number a b same = grind (arith, nat_tests)
 
-            by_start : (p : ℕ) → p < length t.rows.items → (d : Row) → (get_or t.rows.items p d).place ≡ k → (get_or t.rows.items p d).addresses ≡ addresses_under t.masks key
+            by_start : (p : ℕ) → p < length t.rows.items → (d : Row) → (get_or t.rows.items p d).place ≡ k → (get_or t.rows.items p d).addresses ≡ addresses_under t.lengths key
                 → (p < start) ⊎ (start ≤ p) → ⊥
             by_start p inside d its asks (inl first) = omega (arith, before p d first, asks)
             by_start p inside d its asks (inr later) =
@@ -222,10 +247,10 @@ still_held rules key before place most found held within = by (cases_lt place be
 abbrev pub NoneIn : List Tuple → List FlowRule → Key → ℕ → ℕ → Type 0
 NoneIn tuples rules key count place =
     (j : ℕ) (d : Tuple) → j < count → (k : ℕ) (row : FlowRule) → slice_get rules k ≡ Some row
-    → same_masks (masks_of row.rule) (get_or tuples j d).masks ≡ true → k < place → holds row.rule key ≡ false
+    → same_lengths (lengths_of row.rule) (get_or tuples j d).lengths ≡ true → k < place → holds row.rule key ≡ false
 
 pub none_in_more : (tuples : List Tuple) (rules : List FlowRule) (key : Key) (count before place : ℕ) (t : Tuple) → count < length tuples → t ≡ get_or tuples count t → place ≤ before
-    → ((k : ℕ) (row : FlowRule) → slice_get rules k ≡ Some row → same_masks (masks_of row.rule) t.masks ≡ true → k < place → holds row.rule key ≡ false)
+    → ((k : ℕ) (row : FlowRule) → slice_get rules k ≡ Some row → same_lengths (lengths_of row.rule) t.lengths ≡ true → k < place → holds row.rule key ≡ false)
     → NoneIn tuples rules key count before → NoneIn tuples rules key (count + 1) place
 none_in_more tuples rules key count before place t inside is less here so_far j d within k row at same early = by (cases_lt j count)
   where
@@ -233,19 +258,19 @@ none_in_more tuples rules key count before place t inside is less here so_far j 
     by (inl first) = so_far j d first k row at same (omega (arith, early, less))
     by (inr last) =
         let it : t ≡ get_or tuples j d = get_or_read tuples count t inside is d ∙ ap (λ i. get_or tuples i d) (let e : count ≡ j = omega (arith, last, within) in e) in
-        here k row at (ap (λ (u : Tuple). same_masks (masks_of row.rule) u.masks) it ∙ same) early
+        here k row at (ap (λ (u : Tuple). same_lengths (lengths_of row.rule) u.lengths) it ∙ same) early
 
 pub none_in_all : (tuples : List Tuple) (rules : List FlowRule) (key : Key) (count place : ℕ) → length tuples ≤ count → AreTuplesOf rules tuples → NoneIn tuples rules key count place
     → (k : ℕ) (row : FlowRule) → slice_get rules k ≡ Some row → k < place → holds row.rule key ≡ false
 none_in_all tuples rules key count place ended kept none k row at early =
-    found (passed_at (λ t. same_masks (masks_of row.rule) t.masks) tuples covered)
+    found (passed_at (λ t. same_lengths (lengths_of row.rule) t.lengths) tuples covered)
   where
-    covered : list_any (λ t. same_masks (masks_of row.rule) t.masks) tuples ≡ true
+    covered : list_any (λ t. same_lengths (lengths_of row.rule) t.lengths) tuples ≡ true
     covered =
-        subst (λ (r : FlowRule). list_any (λ t. same_masks (masks_of r.rule) t.masks) tuples ≡ true) (get_or_from_slice_get rules k row row at)
+        subst (λ (r : FlowRule). list_any (λ t. same_lengths (lengths_of r.rule) t.lengths) tuples ≡ true) (get_or_from_slice_get rules k row row at)
         (kept.covered k row (slice_get_within rules k row at))
 
-    found : (j : ℕ) × ((j < length tuples) × ((d : Tuple) → same_masks (masks_of row.rule) (get_or tuples j d).masks ≡ true)) → holds row.rule key ≡ false
+    found : (j : ℕ) × ((j < length tuples) × ((d : Tuple) → same_lengths (lengths_of row.rule) (get_or tuples j d).lengths ≡ true)) → holds row.rule key ≡ false
     found (j, (inside, passed)) = with_one tuples inside
       where
         with_one : (ts : List Tuple) → j < length ts → holds row.rule key ≡ false
@@ -277,22 +302,22 @@ found_none (r ∷ rules) key (suc place) ended before =
 
 -- ---- tuples are made
 
-pub rows_next : (masks : Masks) (rules : List FlowRule) (place : ℕ) (row : FlowRule) → place < length rules → row ≡ get_or rules place row
-    → rows_from masks place (drop place rules)
-    ≡ cond (same_masks (masks_of row.rule) masks) (row_at place row ∷ rows_from masks (place + 1) (drop (place + 1) rules)) (rows_from masks (place + 1) (drop (place + 1) rules))
-rows_next masks rules place row inside is =
-    ap (rows_from masks place) (drop_more rules place row inside ∙ ap (λ (r : FlowRule). r ∷ drop (place + 1) rules) (sym is))
+pub rows_next : (lengths : Lengths) (rules : List FlowRule) (place : ℕ) (row : FlowRule) → place < length rules → row ≡ get_or rules place row
+    → rows_from lengths place (drop place rules)
+    ≡ cond (same_lengths (lengths_of row.rule) lengths) (row_at place row ∷ rows_from lengths (place + 1) (drop (place + 1) rules)) (rows_from lengths (place + 1) (drop (place + 1) rules))
+rows_next lengths rules place row inside is =
+    ap (rows_from lengths place) (drop_more rules place row inside ∙ ap (λ (r : FlowRule). r ∷ drop (place + 1) rules) (sym is))
 
 -- the row of one of some rules, the first of which stands at a place
 abbrev IsRowOf : ℕ → List FlowRule → Row → Type 0
 IsRowOf place rules r =
     (place ≤ r.place) × ((r.place < place + length rules) × ((row : FlowRule) → slice_get rules (r.place - place) ≡ Some row → r.addresses ≡ addresses_of row.rule))
 
-rows_are : (masks : Masks) (place : ℕ) (rules : List FlowRule) → All (IsRowOf place rules) (rows_from masks place rules)
-rows_are masks place [] = All-nil (IsRowOf place [])
-rows_are masks place (row ∷ rules) =
-    by (same_masks (masks_of row.rule) masks)
-    (All-weaker (IsRowOf (place + 1) rules) (IsRowOf place (row ∷ rules)) one_on (rows_from masks (place + 1) rules) (rows_are masks (place + 1) rules))
+rows_are : (lengths : Lengths) (place : ℕ) (rules : List FlowRule) → All (IsRowOf place rules) (rows_from lengths place rules)
+rows_are lengths place [] = All-nil (IsRowOf place [])
+rows_are lengths place (row ∷ rules) =
+    by (same_lengths (lengths_of row.rule) lengths)
+    (All-weaker (IsRowOf (place + 1) rules) (IsRowOf place (row ∷ rules)) one_on (rows_from lengths (place + 1) rules) (rows_are lengths (place + 1) rules))
   where
     one_on : (r : Row) → IsRowOf (place + 1) rules r → IsRowOf place (row ∷ rules) r
     one_on r its = (
@@ -312,38 +337,38 @@ rows_are masks place (row ∷ rules) =
       ),
     )
 
-    by : (here : Bool) → All (IsRowOf place (row ∷ rules)) (rows_from masks (place + 1) rules)
-        → All (IsRowOf place (row ∷ rules)) (cond here (row_at place row ∷ rows_from masks (place + 1) rules) (rows_from masks (place + 1) rules))
-    by true later = All-cons (IsRowOf place (row ∷ rules)) (row_at place row) (rows_from masks (place + 1) rules) own later
+    by : (here : Bool) → All (IsRowOf place (row ∷ rules)) (rows_from lengths (place + 1) rules)
+        → All (IsRowOf place (row ∷ rules)) (cond here (row_at place row ∷ rows_from lengths (place + 1) rules) (rows_from lengths (place + 1) rules))
+    by true later = All-cons (IsRowOf place (row ∷ rules)) (row_at place row) (rows_from lengths (place + 1) rules) own later
     by false later = later
 
 -- each rule that asks for the bits has its row
-rows_have : (masks : Masks) (place : ℕ) (rules : List FlowRule) (k : ℕ) (row : FlowRule) → slice_get rules k ≡ Some row → same_masks (masks_of row.rule) masks ≡ true
-    → list_any (λ r. nat_eq r.place (place + k)) (rows_from masks place rules) ≡ true
-rows_have masks place [] k row at same = absurd (none-some row at)
-rows_have masks place (r ∷ rules) zero row at same =
-    ap (λ here. list_any (λ (s : Row). nat_eq s.place (place + 0)) (cond here (row_at place r ∷ rows_from masks (place + 1) rules) (rows_from masks (place + 1) rules)))
-    (ap (λ (x : FlowRule). same_masks (masks_of x.rule) masks) (same_Some r row at) ∙ same)
-    ∙ ap (λ b. b || list_any (λ (s : Row). nat_eq s.place (place + 0)) (rows_from masks (place + 1) rules)) (itself place)
+rows_have : (lengths : Lengths) (place : ℕ) (rules : List FlowRule) (k : ℕ) (row : FlowRule) → slice_get rules k ≡ Some row → same_lengths (lengths_of row.rule) lengths ≡ true
+    → list_any (λ r. nat_eq r.place (place + k)) (rows_from lengths place rules) ≡ true
+rows_have lengths place [] k row at same = absurd (none-some row at)
+rows_have lengths place (r ∷ rules) zero row at same =
+    ap (λ here. list_any (λ (s : Row). nat_eq s.place (place + 0)) (cond here (row_at place r ∷ rows_from lengths (place + 1) rules) (rows_from lengths (place + 1) rules)))
+    (ap (λ (x : FlowRule). same_lengths (lengths_of x.rule) lengths) (same_Some r row at) ∙ same)
+    ∙ ap (λ b. b || list_any (λ (s : Row). nat_eq s.place (place + 0)) (rows_from lengths (place + 1) rules)) (itself place)
   where
     itself : (n : ℕ) → nat_eq n (n + 0) ≡ true
     itself n = grind (arith, nat_tests)
-rows_have masks place (r ∷ rules) (suc k) row at same =
-    by (same_masks (masks_of r.rule) masks)
-    (ap (λ n. list_any (λ (s : Row). nat_eq s.place n) (rows_from masks (place + 1) rules)) (let e : place + suc k ≡ place + 1 + k = omega arith in e)
-    ∙ rows_have masks (place + 1) rules k row at same)
+rows_have lengths place (r ∷ rules) (suc k) row at same =
+    by (same_lengths (lengths_of r.rule) lengths)
+    (ap (λ n. list_any (λ (s : Row). nat_eq s.place n) (rows_from lengths (place + 1) rules)) (let e : place + suc k ≡ place + 1 + k = omega arith in e)
+    ∙ rows_have lengths (place + 1) rules k row at same)
   where
     or_true : (b : Bool) → (b || true) ≡ true
     or_true true = refl
     or_true false = refl
 
-    by : (here : Bool) → list_any (λ (s : Row). nat_eq s.place (place + suc k)) (rows_from masks (place + 1) rules) ≡ true
-        → list_any (λ (s : Row). nat_eq s.place (place + suc k)) (cond here (row_at place r ∷ rows_from masks (place + 1) rules) (rows_from masks (place + 1) rules)) ≡ true
+    by : (here : Bool) → list_any (λ (s : Row). nat_eq s.place (place + suc k)) (rows_from lengths (place + 1) rules) ≡ true
+        → list_any (λ (s : Row). nat_eq s.place (place + suc k)) (cond here (row_at place r ∷ rows_from lengths (place + 1) rules) (rows_from lengths (place + 1) rules)) ≡ true
     by true later = ap (λ b. nat_eq place (place + suc k) || b) later ∙ or_true (nat_eq place (place + suc k))
     by false later = later
 
 -- rows that are sorted are a tuple
-pub made_tuple : (rules : List FlowRule) (t : Tuple) (rows : List Row) → rows ≡ rows_from t.masks 0 rules → IsPermutation rows t.rows.items → IsSorted row_cmp t.rows.items → IsTupleOf rules t
+pub made_tuple : (rules : List FlowRule) (t : Tuple) (rows : List Row) → rows ≡ rows_from t.lengths 0 rules → IsPermutation rows t.rows.items → IsSorted row_cmp t.rows.items → IsTupleOf rules t
 made_tuple rules t rows is moved up = record {
   sorted = up;
   within = All-weaker (IsRowOf 0 rules) (λ r. r.place < length rules) (λ r its. omega (arith, its.1.0)) t.rows.items all;
@@ -352,37 +377,37 @@ made_tuple rules t rows is moved up = record {
   placed = λ k row at same.
       sym (list_any-IsPermutation (λ r. nat_eq r.place k) rows t.rows.items moved)
       ∙ ap (list_any (λ r. nat_eq r.place k)) is
-      ∙ ap (λ n. list_any (λ (r : Row). nat_eq r.place n) (rows_from t.masks 0 rules)) (let e : k ≡ 0 + k = omega arith in e)
-      ∙ rows_have t.masks 0 rules k row at same;
+      ∙ ap (λ n. list_any (λ (r : Row). nat_eq r.place n) (rows_from t.lengths 0 rules)) (let e : k ≡ 0 + k = omega arith in e)
+      ∙ rows_have t.lengths 0 rules k row at same;
 }
   where
     all : All (IsRowOf 0 rules) t.rows.items
-    all = All-permutation (IsRowOf 0 rules) rows t.rows.items moved (subst (λ (rs : List Row). All (IsRowOf 0 rules) rs) (sym is) (rows_are t.masks 0 rules))
+    all = All-permutation (IsRowOf 0 rules) rows t.rows.items moved (subst (λ (rs : List Row). All (IsRowOf 0 rules) rs) (sym is) (rows_are t.lengths 0 rules))
 
 -- one tuple more
-pub tuples_more : (rules : List FlowRule) (tuples : List Tuple) (masks : List Masks) (count : ℕ) (t : Tuple) (e : Masks) → count < length masks → All (λ u. IsTupleOf rules u) tuples
-    → map (λ u. u.masks) tuples ≡ take count masks → IsTupleOf rules t → t.masks ≡ get_or masks count e
-    → All (λ u. IsTupleOf rules u) (tuples ++ t ∷ []) × (map (λ u. u.masks) (tuples ++ t ∷ []) ≡ take (count + 1) masks)
-tuples_more rules tuples masks count t e within each same one its = (
+pub tuples_more : (rules : List FlowRule) (tuples : List Tuple) (lengths : List Lengths) (count : ℕ) (t : Tuple) (e : Lengths) → count < length lengths → All (λ u. IsTupleOf rules u) tuples
+    → map (λ u. u.lengths) tuples ≡ take count lengths → IsTupleOf rules t → t.lengths ≡ get_or lengths count e
+    → All (λ u. IsTupleOf rules u) (tuples ++ t ∷ []) × (map (λ u. u.lengths) (tuples ++ t ∷ []) ≡ take (count + 1) lengths)
+tuples_more rules tuples lengths count t e within each same one its = (
   All-push (λ u. IsTupleOf rules u) tuples t each one,
-  map_push (λ (u : Tuple). u.masks) tuples t ∙ ap (λ (ms : List Masks). ms ++ t.masks ∷ []) same ∙ ap (λ m. take count masks ++ m ∷ []) its ∙ sym (take_more masks count e within),
+  map_push (λ (u : Tuple). u.lengths) tuples t ∙ ap (λ (ms : List Lengths). ms ++ t.lengths ∷ []) same ∙ ap (λ m. take count lengths ++ m ∷ []) its ∙ sym (take_more lengths count e within),
 )
 
 -- ---- each rule is in a tuple
 
 -- these are the bits for which the first rules ask
-abbrev pub AreMasksOf : List Masks → List FlowRule → ℕ → Type 0
-AreMasksOf found rules count = (k : ℕ) (d : FlowRule) → k < count → list_any (same_masks (masks_of (get_or rules k d).rule)) found ≡ true
+abbrev pub AreLengthsOf : List Lengths → List FlowRule → ℕ → Type 0
+AreLengthsOf found rules count = (k : ℕ) (d : FlowRule) → k < count → list_any (same_lengths (lengths_of (get_or rules k d).rule)) found ≡ true
 
 list_any-map : {X Y : Type 0} (test : Y → Bool) (f : X → Y) (xs : List X) → list_any test (map f xs) ≡ list_any (λ x. test (f x)) xs
 list_any-map test f [] = refl
 list_any-map test f (x ∷ xs) = ap (λ b. test (f x) || b) (list_any-map test f xs)
 
-pub made_tuples : (rules : List FlowRule) (masks : List Masks) (tuples : List Tuple) → All (λ row. list_any (λ m. same_masks (masks_of row.rule) m) masks ≡ true) rules
-    → map (λ t. t.masks) tuples ≡ masks → All (λ t. IsTupleOf rules t) tuples → AreTuplesOf rules tuples
-made_tuples rules masks tuples covered same each = record {
+pub made_tuples : (rules : List FlowRule) (lengths : List Lengths) (tuples : List Tuple) → All (λ row. list_any (λ m. same_lengths (lengths_of row.rule) m) lengths ≡ true) rules
+    → map (λ t. t.lengths) tuples ≡ lengths → All (λ t. IsTupleOf rules t) tuples → AreTuplesOf rules tuples
+made_tuples rules lengths tuples covered same each = record {
   each = each;
   covered = λ k d within.
-      sym (list_any-map (λ m. same_masks (masks_of (get_or rules k d).rule) m) (λ (t : Tuple). t.masks) tuples)
-      ∙ ap (list_any (λ m. same_masks (masks_of (get_or rules k d).rule) m)) same ∙ covered k d within;
+      sym (list_any-map (λ m. same_lengths (lengths_of (get_or rules k d).rule) m) (λ (t : Tuple). t.lengths) tuples)
+      ∙ ap (list_any (λ m. same_lengths (lengths_of (get_or rules k d).rule) m)) same ∙ covered k d within;
 }

@@ -1,7 +1,7 @@
 -- What the parts of a rule stand for.
 use Rattle.std.specs.Prelude.{ℕ, ◌-◌, ◌*◌, ◌/◌, ◌^◌}
 
--- the IPv4 addresses whose first bits, length many, are those of this address
+-- the addresses whose first bits, length many, are those of this address
 pub record PrefixValue : Type 0 where
   pub address : ℕ
   pub length : ℕ

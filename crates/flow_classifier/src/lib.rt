@@ -2,13 +2,17 @@
 //! table that tests the sources of sixteen rules at once, or finds what packets ask for by halves where there are many.
 #![tactic(auto)]
 
+pub mod families;
 pub mod key;
 pub mod matching;
+pub mod prefix;
 pub mod rule;
 pub mod table;
 mod tuples;
 
-pub use key::Key;
+pub use families::RuleTables;
+pub use key::{Address, Addresses, Key};
 pub use matching::first_match;
-pub use rule::{PortRange, Prefix, Rule};
+pub use prefix::{Ipv6Prefix, Prefix};
+pub use rule::{Ipv4Prefix, PortRange, Rule};
 pub use table::{FlowRule, RuleTable};

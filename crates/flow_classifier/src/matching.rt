@@ -2,8 +2,9 @@ ghost use Rattle.std.specs.Prelude.{◌≡◌, nat_le, ◌&&◌};
 ghost use Rattle.flow_classifier.specs.Matching.{addresses_hold, first_match_of, holds, holds_where_given};
 ghost use Rattle.flow_classifier.specs.Matching.{is_in_prefix, numbers_hold, ports_hold};
 
-use crate::key::Key;
-use crate::rule::{PortRange, Prefix, Rule};
+use crate::key::{Address, Key};
+use crate::prefix::Prefix;
+use crate::rule::{PortRange, Rule};
 
 impl PortRange {
     /// Whether a port is among these.
@@ -16,16 +17,19 @@ impl PortRange {
 
 impl Rule {
     /// Whether each part that is given holds of a packet. A port range holds of no packet without ports.
+    #[inline(always)]
     pub fn holds(&self, key: &Key) -> bool
         ensures { result ≡ holds self.now key.now }
     {
         self.addresses_hold(key) && self.ports_hold(key) && self.numbers_hold(key)
     }
 
+    #[inline(always)]
     fn addresses_hold(&self, key: &Key) -> bool
         ensures { result ≡ addresses_hold self.now key.now }
     {
-        prefix_holds(&self.source, key.source) && prefix_holds(&self.target, key.target)
+        prefix_holds(&self.source, key.addresses.source())
+            && prefix_holds(&self.target, key.addresses.target())
     }
 
     fn ports_hold(&self, key: &Key) -> bool
@@ -47,7 +51,8 @@ impl Rule {
 }
 
 /// Whether an address is in a prefix, where one is given.
-fn prefix_holds(prefix: &Option<Prefix>, address: u32) -> bool
+#[inline(always)]
+fn prefix_holds(prefix: &Option<Prefix>, address: Address) -> bool
     ensures { result ≡ holds_where_given is_in_prefix prefix.now address }
 {
     match prefix {

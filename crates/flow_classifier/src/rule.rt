@@ -1,14 +1,15 @@
 ghost use Rattle.std.specs.Prelude.{◌≡◌, ◌≤◌};
 ghost use Rattle.std.specs.Result.{OkIff};
-ghost use Rattle.flow_classifier.specs.Matching.{is_in_prefix};
+ghost use Rattle.flow_classifier.specs.Matching.{agree};
 ghost use Rattle.flow_classifier.specs.Parts.{mask_of, network_of};
 
+use crate::prefix::Prefix;
 use af_marker::{Dscp, OutOfRange};
 use std::marker::Model;
 
 /// The IPv4 addresses that agree in their first bits (RFC 791 section 3.2; written `a.b.c.d/n`).
 #[derive(Clone, Copy, Debug, PartialEq, Eq)]
-pub struct Prefix {
+pub struct Ipv4Prefix {
     address: u32,
     length: u8,
     /// The bits that count.
@@ -17,7 +18,7 @@ pub struct Prefix {
     network: u32,
 }
 
-impl Model for Prefix {
+impl Model for Ipv4Prefix {
     ghost use Rattle.std.specs.Prelude.{◌≡◌, ◌≤◌};
     ghost use Rattle.std.proofs.Common.{sym};
     ghost use Rattle.flow_classifier.specs.Parts.{PrefixValue, mask_of, network_of};
@@ -52,7 +53,7 @@ fn mask_of(length: u8) -> u32
     u32::MAX.checked_shl(32 - u32::from(length)).unwrap_or(0)
 }
 
-impl Prefix {
+impl Ipv4Prefix {
     /// The addresses that agree with this one, the first byte in its highest bits, in so many bits; `OutOfRange` above
     /// 32. The address's bits past the length say nothing.
     #[tactic(auto, using(crate::proofs::MaskLaws::masked))]
@@ -64,7 +65,7 @@ impl Prefix {
         }
         let mask = mask_of(length);
         let network = address & mask;
-        Ok(Prefix {
+        Ok(Ipv4Prefix {
             address,
             length,
             mask,
@@ -74,7 +75,7 @@ impl Prefix {
 
     /// Whether an address agrees with this one in the bits that count.
     pub fn contains(self, address: u32) -> bool
-        ensures { result ≡ is_in_prefix self address }
+        ensures { result ≡ agree 32 self address }
     {
         address & self.mask == self.network
     }
@@ -160,14 +161,15 @@ impl PortRange {
     }
 }
 
-/// What a packet's header must show for a rule to hold; a part that is not given holds of every packet.
+/// What a packet's header must show for a rule to hold; a part that is not given holds of every packet. A rule with an
+/// address holds of packets of its family alone.
 #[derive(Clone, Copy, Debug, PartialEq, Eq)]
 pub struct Rule {
     /// Where the packet comes from.
     pub source: Option<Prefix>,
     /// Where it goes to.
     pub target: Option<Prefix>,
-    /// The number of the protocol above IPv4 (RFC 791 section 3.1).
+    /// The number of the protocol above IPv4 (RFC 791 section 3.1), or of the last header of IPv6 (RFC 8200 section 4).
     pub protocol: Option<u8>,
     /// The port that it comes from.
     pub source_ports: Option<PortRange>,

@@ -2,11 +2,14 @@ ghost use Rattle.std.specs.Prelude.{◌≡◌, ℕ, ◌<◌, false, [], ◌∷�
 ghost use Rattle.std.specs.Prelude.{IfOk, OnErr, OnOk};
 ghost use Rattle.flow_classifier.specs.Kept.{IsAskedAt, rules_in};
 ghost use Rattle.flow_classifier.specs.Matching.{holds_where_given, is_in_prefix};
-ghost use Rattle.flow_classifier.specs.Parts.{PrefixValue};
 ghost use Rattle.flow_classifier.specs.Tables.{first_flow_of, mask_asked, network_asked};
+ghost use Rattle.flow_classifier.specs.declared.key.Address.TheVariants as addresses;
+ghost use Rattle.flow_classifier.specs.declared.prefix.Prefix.{Prefix};
+ghost use Rattle.flow_classifier.specs.Keys.{source_of};
 
-use crate::key::Key;
-use crate::rule::{Prefix, Rule};
+use crate::key::{Address, Key};
+use crate::prefix::Prefix;
+use crate::rule::Rule;
 use crate::tuples::TupleTable;
 use std::alloc::{AllocError, Global};
 use std::marker::Model;
@@ -14,6 +17,10 @@ use std::simd::prelude::*;
 
 /// How many rules stand together.
 const TOGETHER: usize = 16;
+
+/// How many rules there are to be for each tuple that is looked into: to find one by halves takes about the time in
+/// which that many are tested in groups of sixteen.
+const RULES_TO_A_TUPLE: usize = 256;
 
 /// A rule, and the number of the flow whose packets it picks.
 #[derive(Clone, Copy, Debug, PartialEq, Eq)]
@@ -24,7 +31,7 @@ pub struct FlowRule {
     pub rule: Rule,
 }
 
-/// What sixteen rules ask of a source, side by side, so that all are tested at once.
+/// What sixteen rules ask of a source of IPv4, side by side, so that all are tested at once.
 #[derive(Clone, Copy)]
 struct Sources {
     /// The bits of a source that count for each rule.
@@ -33,23 +40,23 @@ struct Sources {
     networks: [u32; TOGETHER],
 }
 
-/// The bits of an address that count for a rule: none where it asks for no address.
-pub(crate) fn mask_asked(prefix: &Option<Prefix>) -> u32
+/// The bits of an address of IPv4 that count for a rule: none where it asks for no such address.
+fn mask_asked(prefix: &Option<Prefix>) -> u32
     ensures { result ≡ mask_asked prefix.now }
 {
     match prefix {
-        None => 0,
-        Some(prefix) => prefix.mask(),
+        Some(Prefix::V4(prefix)) => prefix.mask(),
+        Some(Prefix::V6(_)) | None => 0,
     }
 }
 
 /// What an address that is asked for has in the bits that count.
-pub(crate) fn network_asked(prefix: &Option<Prefix>) -> u32
+fn network_asked(prefix: &Option<Prefix>) -> u32
     ensures { result ≡ network_asked prefix.now }
 {
     match prefix {
-        None => 0,
-        Some(prefix) => prefix.network(),
+        Some(Prefix::V4(prefix)) => prefix.network(),
+        Some(Prefix::V6(_)) | None => 0,
     }
 }
 
@@ -78,12 +85,26 @@ impl Sources {
         self.networks[place] = network_asked(source);
     }
 
-    /// The place of the first that an address has, 16 where it has none: no rule before it asks for that address.
-    fn first(&self, address: u32) -> usize
+    /// A place before which no rule asks for an address.
+    #[inline(always)]
+    fn first(&self, address: Address) -> usize
         requires masks { length self.now.masks ≡ 16 }
         requires networks { length self.now.networks ≡ 16 }
-        ensures { (k : ℕ) (source : Option PrefixValue) → k < 16 → k < result → IsAskedAt self.now k source
+        ensures { (k : ℕ) (source : Option Prefix) → k < 16 → k < result → IsAskedAt self.now k source
             → holds_where_given is_in_prefix source address ≡ false }
+    {
+        match address {
+            Address::V4(address) => self.first_of_ipv4(address),
+            Address::V6(_) => 0,
+        }
+    }
+
+    /// The place of the first that an address has, 16 where it has none: no rule before it asks for that address.
+    fn first_of_ipv4(&self, address: u32) -> usize
+        requires masks { length self.now.masks ≡ 16 }
+        requires networks { length self.now.networks ≡ 16 }
+        ensures { (k : ℕ) (source : Option Prefix) → k < 16 → k < result → IsAskedAt self.now k source
+            → holds_where_given is_in_prefix source (addresses.V4 address) ≡ false }
     {
         let under = u32x16::splat(address) & u32x16::from_array(self.masks);
         let same = under.simd_eq(u32x16::from_array(self.networks));
@@ -153,10 +174,14 @@ impl Group {
     }
 
     /// The flow of the first rule that holds of a packet.
+    #[inline(always)]
     fn first_flow(&self, key: &Key) -> Option<u32>
         ensures { result ≡ first_flow_of self.now key.now }
     {
-        let first = self.sources.first(key.source).min(self.rules.len());
+        let first = self
+            .sources
+            .first(key.addresses.source())
+            .min(self.rules.len());
         for row in &self.rules[first..] {
             if row.rule.holds(key) {
                 return Some(row.flow);
@@ -167,6 +192,7 @@ impl Group {
 }
 
 /// The flow of the first rule of some groups that holds of a packet.
+#[inline(always)]
 fn first_in(groups: &[Group], key: &Key) -> Option<u32>
     ensures { result ≡ first_flow_of (rules_in groups.now) key.now }
 {
@@ -235,7 +261,26 @@ impl RuleTable {
         ensures { self.new ≡ self.old }
     {
         let rules = self.to_vec()?;
-        if let Some(tuples) = TupleTable::of(self.alloc, rules)? {
+        let most = rules.len() / RULES_TO_A_TUPLE;
+        self.settle_as(rules, most)
+    }
+
+    /// Settles the rules that were added so far, however few there are: for packets of IPv6, whose sources are not
+    /// tested at once. The rules and what is found stay the same, also where memory runs out (`AllocError`).
+    pub(crate) fn settle_always(&mut self) -> Result<(), AllocError>
+        ensures { self.new ≡ self.old }
+    {
+        let rules = self.to_vec()?;
+        let most = rules.len();
+        self.settle_as(rules, most)
+    }
+
+    /// Settles these rules, which are all, where they ask for at most so many different lengths.
+    fn settle_as(&mut self, rules: Vec<FlowRule>, most: usize) -> Result<(), AllocError>
+        requires { rules.items ≡ self.old }
+        ensures { self.new ≡ self.old }
+    {
+        if let Some(tuples) = TupleTable::of(self.alloc, rules, most)? {
             self.tuples = tuples;
             self.groups.clear();
         }
@@ -255,6 +300,7 @@ impl RuleTable {
     }
 
     /// The flow of the first rule that holds of a packet.
+    #[inline(always)]
     pub fn first_flow(&self, key: &Key) -> Option<u32>
         ensures { result ≡ first_flow_of self.now key.now }
     {

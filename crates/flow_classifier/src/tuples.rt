@@ -1,64 +1,118 @@
-ghost use Rattle.std.specs.Prelude.{◌≡◌, ℕ, ◌<◌, ◌≤◌, ◌^◌, ◌++◌, [], true, false, drop, length, map, slice_get};
+ghost use Rattle.std.specs.Prelude.{◌≡◌, ℕ, ◌-◌, ◌/◌, ◌%◌, ◌<◌, ◌≤◌, ◌^◌, ◌++◌, [], true, false, drop, length, map, slice_get};
 ghost use Rattle.std.specs.Prelude.{All, IfOk, IfSome, OnOk, slice_index_or, vec_len};
 ghost use Rattle.std.specs.List.{list_any};
 ghost use Rattle.std.specs.List.Sorted.{IsSorted};
 ghost use Rattle.flow_classifier.specs.Matching.{holds};
 ghost use Rattle.flow_classifier.specs.Tables.{first_flow_of};
-ghost use Rattle.flow_classifier.specs.Tuples.{IsHeldAt, IsNotHeldAt, IsTupleOf, addresses_of, addresses_under, as_one};
-ghost use Rattle.flow_classifier.specs.Tuples.{masks_of, row_cmp, rows_from, same_masks};
+ghost use Rattle.flow_classifier.specs.Keys.{source_of, target_of};
+ghost use Rattle.flow_classifier.specs.Tuples.{IsAddress, IsHeldAt, IsNotHeldAt, IsTupleOf, addresses_of};
+ghost use Rattle.flow_classifier.specs.Tuples.{addresses_under, as_one, bits_asked, last_bits, length_asked};
+ghost use Rattle.flow_classifier.specs.Tuples.{lengths_of, row_cmp, rows_from, same_lengths};
 ghost use Rattle.flow_classifier.specs.declared.table.FlowRule.{FlowRule};
 ghost use Rattle.flow_classifier.specs.declared.tuples.Row.{Row};
 
-use crate::key::Key;
+use crate::key::{Address, Key};
+use crate::prefix::Prefix;
 use crate::rule::Rule;
-use crate::table::{FlowRule, mask_asked, network_asked};
+use crate::table::FlowRule;
 use std::alloc::{AllocError, Global};
 use std::marker::Model;
 
-/// How many rules there are to be for each tuple that is looked into: to find one by halves takes about the time in
-/// which that many are tested in groups of sixteen.
-const RULES_TO_A_TUPLE: usize = 256;
-
-/// The bits of addresses for which a rule asks: of a source, and of a target.
+/// Of how many first bits of addresses a rule asks: of a source, and of a target.
 #[derive(Clone, Copy, PartialEq, Eq)]
-struct Masks {
-    source: u32,
-    target: u32,
+struct Lengths {
+    source: u8,
+    target: u8,
 }
 
-impl Masks {
-    /// Those of a rule: no bits of an address for which it does not ask.
+/// How many first bits of an address a rule asks for: none where it asks for no address.
+fn length_asked(prefix: &Option<Prefix>) -> u8
+    ensures { result ≡ length_asked prefix.now }
+{
+    match prefix {
+        None => 0,
+        Some(Prefix::V4(prefix)) => prefix.length(),
+        Some(Prefix::V6(prefix)) => prefix.length(),
+    }
+}
+
+/// The first bits of an address of IPv4, so many of them.
+fn first_bits(count: u8, address: u32) -> u32
+    ensures { result ≡ address / 2 ^ (32 - count) }
+{
+    address
+        .checked_shr(u32::from(32u8.saturating_sub(count)))
+        .unwrap_or(0)
+}
+
+/// The first bits of an address of IPv6, so many of them, and of these the last 32.
+fn last_of_first_bits(count: u8, address: u128) -> u32
+    ensures { result ≡ address / 2 ^ (128 - count) % 2 ^ 32 }
+{
+    let first = address
+        .checked_shr(u32::from(128u8.saturating_sub(count)))
+        .unwrap_or(0);
+    (first % (1 << 32)) as u32
+}
+
+/// The first bits of an address, so many of them, and of these the last 32.
+fn last_bits(count: u8, address: Address) -> u32
+    ensures value { result ≡ last_bits count address }
+    ensures range { IsAddress address }
+{
+    match address {
+        Address::V4(address) => first_bits(count, address),
+        Address::V6(address) => last_of_first_bits(count, address),
+    }
+}
+
+/// The last bits that a rule asks for.
+fn bits_asked(prefix: &Option<Prefix>) -> u32
+    ensures { result ≡ bits_asked prefix.now }
+{
+    match prefix {
+        None => 0,
+        Some(Prefix::V4(prefix)) => first_bits(prefix.length(), prefix.address()),
+        Some(Prefix::V6(prefix)) => last_of_first_bits(prefix.length(), prefix.address()),
+    }
+}
+
+impl Lengths {
+    /// Those of a rule.
     fn of(rule: &Rule) -> Self
-        ensures { result ≡ masks_of rule.now }
+        ensures { result ≡ lengths_of rule.now }
     {
-        Masks {
-            source: mask_asked(&rule.source),
-            target: mask_asked(&rule.target),
+        Lengths {
+            source: length_asked(&rule.source),
+            target: length_asked(&rule.target),
         }
     }
 
-    /// What a packet has in these bits.
+    /// What a packet has in the last of so many bits.
     fn addresses(self, key: &Key) -> u64
         ensures value { result ≡ addresses_under self key.now }
-        ensures source { key.now.source < 2 ^ 32 }
-        ensures target { key.now.target < 2 ^ 32 }
+        ensures source { IsAddress (source_of key.now.addresses) }
+        ensures target { IsAddress (target_of key.now.addresses) }
     {
-        as_one(key.source & self.source, key.target & self.target)
+        as_one(
+            last_bits(self.source, key.addresses.source()),
+            last_bits(self.target, key.addresses.target()),
+        )
     }
 }
 
-/// A source and a target as one number, the source in its high bits.
+/// Bits of a source and of a target as one number, the source's in its high bits.
 fn as_one(source: u32, target: u32) -> u64
     ensures { result ≡ as_one source target }
 {
     u64::from(source) * (1 << 32) + u64::from(target)
 }
 
-/// What a rule asks for, in the bits that count.
+/// What a rule asks for, in the last of the bits that count.
 fn addresses_of(rule: &Rule) -> u64
     ensures { result ≡ addresses_of rule.now }
 {
-    as_one(network_asked(&rule.source), network_asked(&rule.target))
+    as_one(bits_asked(&rule.source), bits_asked(&rule.target))
 }
 
 /// A rule of a tuple. It compares by what it asks for, and then by its place among all rules.
@@ -68,22 +122,22 @@ struct Row {
     place: usize,
 }
 
-/// The rules that ask for the same bits of addresses, in order.
+/// The rules that ask for as many bits of addresses, in order.
 #[derive(Drop)]
 struct Tuple {
-    masks: Masks,
+    lengths: Lengths,
     rows: Vec<Row>,
 }
 
 impl Tuple {
-    /// The rules that ask for some bits; `AllocError` where memory runs out.
-    fn of(alloc: Global, masks: Masks, rules: &[FlowRule]) -> Result<Self, AllocError>
+    /// The rules that ask for so many bits; `AllocError` where memory runs out.
+    fn of(alloc: Global, lengths: Lengths, rules: &[FlowRule]) -> Result<Self, AllocError>
         ensures tuple { IfOk result (λ tuple. IsTupleOf rules.now tuple) }
-        ensures masks { IfOk result (λ tuple. tuple.masks ≡ masks) }
+        ensures lengths { IfOk result (λ tuple. tuple.lengths ≡ lengths) }
     {
-        let mut rows = rows_of(alloc, masks, rules)?;
+        let mut rows = rows_of(alloc, lengths, rules)?;
         rows.sort_unstable();
-        Ok(Tuple { masks, rows })
+        Ok(Tuple { lengths, rows })
     }
 
     /// The first place before another at which a rule of these holds of a packet; that other where none does.
@@ -92,9 +146,9 @@ impl Tuple {
         ensures at_most { result ≤ most }
         ensures held { result < most → IsHeldAt rules.now key.now result }
         ensures none { (k : ℕ) (row : FlowRule) → slice_get rules.now k ≡ Some row
-            → same_masks (masks_of row.rule) self.now.masks ≡ true → k < result → holds row.rule key.now ≡ false }
+            → same_lengths (lengths_of row.rule) self.now.lengths ≡ true → k < result → holds row.rule key.now ≡ false }
     {
-        let addresses = self.masks.addresses(key);
+        let addresses = self.lengths.addresses(key);
         let start = self.start_of(addresses);
         first_of_run(&self.rows[start..], addresses, rules, key, most)
     }
@@ -111,13 +165,13 @@ impl Tuple {
     }
 }
 
-/// The rules that ask for some bits, in their order; `AllocError` where memory runs out.
-fn rows_of(alloc: Global, masks: Masks, rules: &[FlowRule]) -> Result<Vec<Row>, AllocError>
-    ensures { IfOk result (λ rows. rows.items ≡ rows_from masks 0 rules.now) }
+/// The rules that ask for so many bits, in their order; `AllocError` where memory runs out.
+fn rows_of(alloc: Global, lengths: Lengths, rules: &[FlowRule]) -> Result<Vec<Row>, AllocError>
+    ensures { IfOk result (λ rows. rows.items ≡ rows_from lengths 0 rules.now) }
 {
     let mut rows = Vec::new(alloc);
     for (place, row) in rules.iter().enumerate() {
-        if Masks::of(&row.rule) == masks {
+        if Lengths::of(&row.rule) == lengths {
             let addresses = addresses_of(&row.rule);
             rows.push(Row { addresses, place })?;
         }
@@ -145,43 +199,47 @@ fn first_of_run(run: &[Row], addresses: u64, rules: &[FlowRule], key: &Key, most
     most
 }
 
-/// The bits for which rules ask, each once, where there are at most so many of them; `AllocError` where memory runs out.
-fn masks_in(
+/// Of how many bits rules ask, each once, where there are at most so many of them; `AllocError` where memory runs out.
+fn lengths_in(
     alloc: Global,
     rules: &[FlowRule],
     most: usize,
-) -> Result<Option<Vec<Masks>>, AllocError>
-    ensures { IfOk result (λ found. IfSome found (λ masks.
-        All (λ row. list_any (λ m. same_masks (masks_of row.rule) m) masks.items ≡ true) rules.now)) }
+) -> Result<Option<Vec<Lengths>>, AllocError>
+    ensures { IfOk result (λ found. IfSome found (λ lengths.
+        All (λ row. list_any (λ m. same_lengths (lengths_of row.rule) m) lengths.items ≡ true) rules.now)) }
 {
     let mut found = Vec::new(alloc);
     for row in rules {
-        let masks = Masks::of(&row.rule);
-        if found.contains(&masks) {
+        let lengths = Lengths::of(&row.rule);
+        if found.contains(&lengths) {
             continue;
         }
         if found.len() >= most {
             return Ok(None);
         }
-        found.push(masks)?;
+        found.push(lengths)?;
     }
     Ok(Some(found))
 }
 
-/// A tuple of rules for each of some bits; `AllocError` where memory runs out.
-fn tuples_of(alloc: Global, masks: &[Masks], rules: &[FlowRule]) -> Result<Vec<Tuple>, AllocError>
+/// A tuple of rules for each of some lengths; `AllocError` where memory runs out.
+fn tuples_of(
+    alloc: Global,
+    lengths: &[Lengths],
+    rules: &[FlowRule],
+) -> Result<Vec<Tuple>, AllocError>
     ensures tuples { IfOk result (λ tuples. All (λ t. IsTupleOf rules.now t) tuples.items) }
-    ensures masks { IfOk result (λ tuples. map (λ t. t.masks) tuples.items ≡ masks.now) }
+    ensures lengths { IfOk result (λ tuples. map (λ t. t.lengths) tuples.items ≡ lengths.now) }
 {
     let mut tuples = Vec::new(alloc);
-    for one in masks {
+    for one in lengths {
         let tuple = Tuple::of(alloc, *one, rules)?;
         tuples.push(tuple)?;
     }
     Ok(tuples)
 }
 
-/// Rules in the order in which they are asked, in tables: those that ask for the same bits of addresses stand together,
+/// Rules in the order in which they are asked, in tables: those that ask for as many bits of addresses stand together,
 /// sorted by what they ask for (tuple space search).
 #[derive(Drop)]
 pub(crate) struct TupleTable {
@@ -212,15 +270,18 @@ impl TupleTable {
         }
     }
 
-    /// These rules; none where they ask for so many different bits that groups of sixteen are tested sooner.
-    /// `AllocError` where memory runs out.
-    pub(crate) fn of(alloc: Global, rules: Vec<FlowRule>) -> Result<Option<Self>, AllocError>
+    /// These rules; none where they ask for more different lengths than so many. `AllocError` where memory runs out.
+    pub(crate) fn of(
+        alloc: Global,
+        rules: Vec<FlowRule>,
+        most: usize,
+    ) -> Result<Option<Self>, AllocError>
         ensures { IfOk result (λ found. IfSome found (λ table. table ≡ rules.items)) }
     {
-        let Some(masks) = masks_in(alloc, &rules, rules.len() / RULES_TO_A_TUPLE)? else {
+        let Some(lengths) = lengths_in(alloc, &rules, most)? else {
             return Ok(None);
         };
-        let tuples = tuples_of(alloc, &masks, &rules)?;
+        let tuples = tuples_of(alloc, &lengths, &rules)?;
         Ok(Some(TupleTable { rules, tuples }))
     }
 
@@ -231,15 +292,29 @@ impl TupleTable {
         rules.extend_from_slice(&self.rules)
     }
 
-    /// The flow of the first rule that holds of a packet: the tuples are looked into, one after the other.
+    /// The flow of the first rule that holds of a packet.
+    #[inline(always)]
     pub(crate) fn first_flow(&self, key: &Key) -> Option<u32>
         ensures { result ≡ first_flow_of self.now key.now }
     {
-        let first = self.first_held(key);
+        if self.rules.is_empty() {
+            None
+        } else {
+            self.first_sought(*key)
+        }
+    }
+
+    /// The same, where there are rules. The key comes by value: where there are none, it stays in registers.
+    #[inline(never)]
+    fn first_sought(&self, key: Key) -> Option<u32>
+        ensures { result ≡ first_flow_of self.now key }
+    {
+        let first = self.first_held(&key);
         Some(self.rules.get(first)?.flow)
     }
 
     /// The place of the first rule that holds of a packet; how many there are where none does.
+    #[inline(always)]
     fn first_held(&self, key: &Key) -> usize
         ensures held { result < length self.now → IsHeldAt self.now key.now result }
         ensures none { (k : ℕ) (row : FlowRule) → slice_get self.now k ≡ Some row → k < result

@@ -6,16 +6,21 @@ use Rattle.std.proofs.lemmas.Bool.Decides.{nat_tests}
 use Rattle.std.proofs.lemmas.List.{length-take-le, take_all, take_more}
 use Rattle.std.proofs.lemmas.List.Folds.{position_or_len_push}
 use Rattle.std.proofs.lemmas.List.Sums.{prefix_len-le-length}
-use Rattle.af_marker.specs.declared.ipv4.Header.{Header}
+use Rattle.af_marker.specs.declared.packet.Header.{Header}
+use Rattle.flow_classifier.specs.Families.{by_family}
+use Rattle.flow_classifier.specs.Keys.{key_of}
 use Rattle.flow_classifier.specs.Tables.{first_flow_of}
 use Rattle.flow_classifier.specs.declared.key.Key.{Key}
 use Rattle.flow_classifier.specs.declared.table.FlowRule.{FlowRule}
+use Rattle.flow_classifier.proofs.FamilyLaws.{found_by_family}
 use Rattle.flow_classifier.proofs.TableLaws.{flow_append}
+use Rattle.ds_domain_base.specs.Versions.{has_ipv6}
 use Rattle.ds_domain_base.specs.declared.contract.Contract.{Contract}
+use Rattle.ds_domain_base.specs.declared.parts.Version.{Version}
 use Rattle.pcap_capture.specs.declared.heading.LinkType.{LinkType}
 use Rattle.frame_marker.specs.Frames.{header_in}
 use Rattle.frame_marker.specs.Ports.{sight_at, sight_through}
-use Rattle.frame_marker.specs.Sights.{flow_of, key_of, sight_by, sight_for, sight_of, takes}
+use Rattle.frame_marker.specs.Sights.{flow_of, heeded, sight_by, sight_for, sight_of, takes}
 
 pushed : (place count : ℕ) (here : Bool) → place ≤ count
     → cond (ltb (cond (eqb place count) (count + cond here 0 1) place) (count + 1)) (Some (cond (eqb place count) (count + cond here 0 1) place)) None
@@ -56,18 +61,18 @@ pub taken_same : (port : List ℕ) (rules : List FlowRule) (contracts : List Con
 taken_same port rules contracts place c within at there taken key =
     rw (one_more contracts place c within at, position_push (takes port key) (take place contracts) c, taken key, there) (without (position (takes port key) (take place contracts)))
 
-sees_through : (rules : List FlowRule) (contracts : List Contract) (port : List ℕ)
-    → ((key : Key) → first_flow_of rules key ≡ position (takes port key) (take 4294966272 contracts)) → (h : Option Header) → sight_through rules h ≡ sight_by contracts port h
+-- once the contracts that can have packets are all taken, what the rules find is the contract that takes a packet
+pub all_taken : (rules : List FlowRule) (heeded contracts : List Contract) (port : List ℕ) (count : ℕ)
+    → heeded ≡ take 4294966272 contracts → length heeded ≤ count → AreTaken port rules (take count heeded) → (key : Key) → first_flow_of rules key ≡ flow_of contracts port key
 unfolding flow_of
-sees_through rules contracts port same None = refl
-sees_through rules contracts port same (Some h) = ap (sight_for h) (same (key_of h))
+all_taken rules heeded contracts port count all ended taken key = taken key ∙ ap (position (takes port key)) (take_all count heeded ended ∙ all)
 
--- once the contracts that can have packets are all taken, a frame is what it is at the port
-pub sees_all : (rules : List FlowRule) (heeded contracts : List Contract) (port : List ℕ) (count : ℕ)
-    → heeded ≡ take 4294966272 contracts → length heeded ≤ count → AreTaken port rules (take count heeded)
-    → (link : LinkType) (bytes : List ℕ) → sight_at rules link bytes ≡ sight_of contracts port link bytes
+-- and a frame is what it is at the port
+pub sees_all : (rules : List FlowRule) (version : Version) (contracts : List Contract) (port : List ℕ) → ((key : Key) → first_flow_of rules key ≡ flow_of contracts port key)
+    → (link : LinkType) (bytes : List ℕ) → sight_at (record { has_ipv6 = has_ipv6 version; rules = by_family rules }) link bytes ≡ sight_of version contracts port link bytes
 unfolding sight_at sight_of
-sees_all rules heeded contracts port count all ended taken link bytes =
-    let found_all : (key : Key) → first_flow_of rules key ≡ position (takes port key) (take 4294966272 contracts) =
-    λ key. taken key ∙ ap (position (takes port key)) (take_all count heeded ended ∙ all) in
-    sees_through rules contracts port found_all (header_in link bytes)
+sees_all rules version contracts port finds link bytes = through (heeded (has_ipv6 version) (header_in link bytes))
+  where
+    through : (h : Option Header) → sight_through (by_family rules) h ≡ sight_by contracts port h
+    through None = refl
+    through (Some h) = ap (sight_for h) (found_by_family rules (key_of h) ∙ finds (key_of h))

@@ -2,12 +2,12 @@ ghost use Rattle.std.specs.Prelude.{◌≡◌, None};
 ghost use Rattle.frame_marker.specs.declared.sight.Sight.TheVariants.{Skipped};
 
 use crate::mark::Mark;
-use af_marker::Header;
+use af_marker::Summary;
 
 /// What a frame is at a port.
 #[derive(Clone, Copy, Debug, PartialEq, Eq)]
 pub enum Sight {
-    /// It has no IPv4 header that can be read.
+    /// It has no header of IPv4 or IPv6 that can be read; or it has one of IPv6, and the domain's version has no IPv6.
     Skipped,
     /// It has a header, and no contract of the port takes it.
     Unmatched,
@@ -15,8 +15,8 @@ pub enum Sight {
     Matched {
         /// The number of the first contract of the port whose rule holds.
         flow: u32,
-        /// The header of its packet.
-        header: Header,
+        /// What is kept of the header of its packet.
+        header: Summary,
     },
 }
 
@@ -25,7 +25,7 @@ pub enum Sight {
 pub struct Seen {
     /// What it is.
     pub sight: Sight,
-    /// What marking it needs, where it has an IPv4 header that can be read.
+    /// What marking it needs, where it has a header that can be read.
     pub mark: Option<Mark>,
 }
 

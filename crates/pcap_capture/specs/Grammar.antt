@@ -1,5 +1,5 @@
 -- The classic capture format: which frames stand in a list of bytes, and the first fault, if any.
-use Rattle.std.specs.Prelude.{◌≡◌, ◌⊎◌, ℕ, zero, suc, ◌+◌, ◌*◌, ◌%◌, Bool, nat_eq, nat_lt, ◌&&◌}
+use Rattle.std.specs.Prelude.{◌≡◌, ◌⊎◌, ℕ, zero, suc, ◌+◌, ◌*◌, ◌%◌, Bool, nat_eq, nat_lt, ◌&&◌, ◌||◌}
 use Rattle.std.specs.Prelude.{if◌then◌else◌, List, [], ◌∷◌, ◌++◌, length, take, drop, Option, None, Some, Result, Ok}
 use Rattle.std.specs.Prelude.{Err}
 use Rattle.byteorder.specs.Endian.{big_number, little_number}
@@ -12,7 +12,8 @@ use Rattle.pcap_capture.specs.declared.heading.Endianness.{Endianness}
 use Rattle.pcap_capture.specs.declared.heading.Endianness.TheVariants.{Big, Little}
 use Rattle.pcap_capture.specs.declared.heading.Heading.{Heading}
 use Rattle.pcap_capture.specs.declared.heading.LinkType.{LinkType}
-use Rattle.pcap_capture.specs.declared.heading.LinkType.TheVariants.{Ethernet, RawIp, Ipv4}
+use Rattle.pcap_capture.specs.declared.heading.LinkType.TheVariants.{Ethernet, RawIp, Ipv4, Ipv6, LinuxCooked}
+use Rattle.pcap_capture.specs.declared.heading.LinkType.TheVariants.{LinuxCooked2, Loopback}
 use Rattle.pcap_capture.specs.declared.heading.TimeUnit.{TimeUnit}
 use Rattle.pcap_capture.specs.declared.heading.TimeUnit.TheVariants.{Microseconds, Nanoseconds}
 use Rattle.pcap_capture.specs.declared.stage.Stage.{Stage}
@@ -35,10 +36,14 @@ magic_of bytes =
 -- the link types that are read, by their numbers
 unfoldable pub link_of : ℕ → Option LinkType
 link_of kind =
-    if nat_eq kind 1 then
-    Some Ethernet
-    else
-    if nat_eq kind 101 then Some RawIp else if nat_eq kind 228 then Some Ipv4 else None
+    if nat_eq kind 0 || nat_eq kind 108 then Some Loopback
+    else if nat_eq kind 1 then Some Ethernet
+    else if nat_eq kind 12 || nat_eq kind 14 || nat_eq kind 101 then Some RawIp
+    else if nat_eq kind 113 then Some LinuxCooked
+    else if nat_eq kind 228 then Some Ipv4
+    else if nat_eq kind 229 then Some Ipv6
+    else if nat_eq kind 276 then Some LinuxCooked2
+    else None
 
 -- the low 16 bits of the heading's last word
 abbrev pub link_number : Endianness → List ℕ → ℕ

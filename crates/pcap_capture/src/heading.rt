@@ -27,10 +27,18 @@ pub enum TimeUnit {
 pub enum LinkType {
     /// An Ethernet header: link type 1.
     Ethernet,
-    /// The packet itself, of IPv4 or IPv6: link type 101.
+    /// The packet itself, of IPv4 or IPv6: link types 101, 12 and 14.
     RawIp,
     /// The packet itself, of IPv4: link type 228.
     Ipv4,
+    /// The packet itself, of IPv6: link type 229.
+    Ipv6,
+    /// The heading of Linux's cooked captures, of 16 bytes: link type 113.
+    LinuxCooked,
+    /// The second version of that heading, of 20 bytes: link type 276.
+    LinuxCooked2,
+    /// The loopback of BSD systems, four bytes that say the family: link types 0 and 108.
+    Loopback,
 }
 
 /// The heading of a capture.
@@ -117,9 +125,13 @@ fn link_of_number(number: u16) -> Option<LinkType>
     ensures { result ≡ link_of number }
 {
     match number {
+        0 | 108 => Some(LinkType::Loopback),
         1 => Some(LinkType::Ethernet),
-        101 => Some(LinkType::RawIp),
+        12 | 14 | 101 => Some(LinkType::RawIp),
+        113 => Some(LinkType::LinuxCooked),
         228 => Some(LinkType::Ipv4),
+        229 => Some(LinkType::Ipv6),
+        276 => Some(LinkType::LinuxCooked2),
         _ => None,
     }
 }

@@ -14,6 +14,7 @@ mod pieces;
 mod reading;
 mod record;
 mod stage;
+mod start;
 mod text;
 
 pub use adaptor::{ReadIntake, WriteOutlet};
@@ -26,4 +27,5 @@ pub use piece::{Piece, go_on_with};
 pub use pieces::{PIECE, give_all, hand_over, room};
 pub use reading::{Capture, wherever_it_is_cut};
 pub use stage::Stage;
+pub use start::{Family, PacketStart};
 pub use text::Text;

@@ -27,7 +27,7 @@ use Rattle.ds_domain_base.specs.Domains.{Domain, port_of, skew_of}
 use Rattle.ds_domain_base.specs.Sent.{came, has_peak, shown}
 use Rattle.ds_domain_base.specs.declared.contract.Contract.{Contract}
 use Rattle.ds_domain_base.specs.declared.parts.Version.{Version}
-use Rattle.ds_domain_base.specs.declared.parts.Version.TheVariants.{One, Two}
+use Rattle.ds_domain_base.specs.declared.parts.Version.TheVariants.{One, Two, Three}
 use Rattle.ds_domain_base.specs.declared.terms.Terms.{Terms}
 use Rattle.ds_domain_base.specs.declared.terms.Terms.TheVariants.{Trusted, Policed}
 use Rattle.ds_certificate.specs.Columns.{envelope_in}
@@ -204,6 +204,7 @@ source_keeps g run is_run premises flow c is (Policed parameters mode) policed c
     by_version version columns.All = in_output columns.All
     by_version One columns.Excess = yellow_keeps c _ (passages_of flow run) (in_output columns.All)
     by_version Two columns.Excess = in_output columns.Excess
+    by_version Three columns.Excess = in_output columns.Excess
 
 pub sources_keep : (g : Ground) (run : Run) → IsRun g run → Premises g run → (column : Column) → SourcesKeep g run column
 sources_keep g run is_run premises column flow c is = source_keeps g run is_run premises flow c is c.terms refl column

@@ -1,5 +1,7 @@
 use crate::expecting::expect_same;
-use pcap_capture::{Capture, Frame, LinkType, PcapFault, Piece, SliceIntake, Stage};
+use pcap_capture::{
+    Capture, Family, Frame, LinkType, PacketStart, PcapFault, Piece, SliceIntake, Stage,
+};
 use std::alloc::Global;
 use std::process::Abort;
 
@@ -42,12 +44,24 @@ fn read(alloc: Global, bytes: &[u8], piece: usize) -> Reading {
     Reading { frames, fault }
 }
 
+/// A packet of IPv4 that starts at a place.
+pub(crate) fn ipv4(start: usize) -> Option<PacketStart> {
+    let family = Family::Ipv4;
+    Some(PacketStart { family, start })
+}
+
+/// A packet of IPv6 that starts at a place.
+pub(crate) fn ipv6(start: usize) -> Option<PacketStart> {
+    let family = Family::Ipv6;
+    Some(PacketStart { family, start })
+}
+
 /// Expects of a frame of a link its record of a head and bytes, its moment, and where its packet starts.
 fn expect_frame(
     rt: &impl Abort,
     frame: &Frame,
     record: &[u8],
-    (link, moment, start): (LinkType, u64, Option<usize>),
+    (link, moment, start): (LinkType, u64, Option<PacketStart>),
 ) {
     let (head, bytes) = record.split_at(record.len().min(16));
     assert!(rt; frame.head() == head);
@@ -60,9 +74,9 @@ fn expect_frame(
 fn expect_two(rt: &impl Abort, frames: &Piece) {
     let (tagged, other) = TAGGED_AND_IPV6[24..].split_at(54);
     assert!(rt; frames.len() == 2);
-    let first = (LinkType::Ethernet, 1_500_000_000, Some(18));
+    let first = (LinkType::Ethernet, 1_500_000_000, ipv4(18));
     expect_frame(rt, &frames.frame(0), tagged, first);
-    let second = (LinkType::Ethernet, 2_000_000_000, None);
+    let second = (LinkType::Ethernet, 2_000_000_000, ipv6(14));
     expect_frame(rt, &frames.frame(1), other, second);
     assert!(rt; frames.text() == &TAGGED_AND_IPV6[24..]);
 }
@@ -252,7 +266,7 @@ fn expect_moment(rt: &impl Abort, alloc: Global, magic: &[u8], (behind, moment):
     let reading = read(alloc, bytes.as_slice(), 7);
     assert!(rt; reading.fault.is_none());
     assert!(rt; reading.frames.len() == 1);
-    let wanted = (LinkType::RawIp, moment, Some(0));
+    let wanted = (LinkType::RawIp, moment, ipv4(0));
     expect_frame(
         rt,
         &reading.frames.frame(0),
@@ -403,16 +417,16 @@ const THREE_TAGS: [u8; 30] = [
 ];
 
 /// Expects of a frame where its packet starts.
-fn expect_start(rt: &impl Abort, link: LinkType, frame: &[u8], wanted: Option<usize>) {
+fn expect_start(rt: &impl Abort, link: LinkType, frame: &[u8], wanted: Option<PacketStart>) {
     assert_eq!(rt; link.packet_start(frame), wanted);
 }
 
 #[test]
 fn two_tags_are_stepped_over_and_no_third(rt: HostRuntime) {
-    expect_start(&rt, LinkType::Ethernet, &TWO_TAGS, Some(22));
+    expect_start(&rt, LinkType::Ethernet, &TWO_TAGS, ipv4(22));
     expect_start(&rt, LinkType::Ethernet, &TWO_TAGS[..21], None);
     expect_start(&rt, LinkType::Ethernet, &THREE_TAGS, None);
-    expect_start(&rt, LinkType::Ipv4, &THREE_TAGS, Some(0));
+    expect_start(&rt, LinkType::Ipv4, &THREE_TAGS, ipv4(0));
 }
 
 /// The faults by their names, and their numbers.

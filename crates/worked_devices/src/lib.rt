@@ -14,3 +14,5 @@ mod expecting;
 mod lane_rows;
 #[cfg(test)]
 mod line_rows;
+#[cfg(test)]
+mod link_rows;

@@ -1,4 +1,4 @@
-use af_marker::{Class, Colour, Dscp, Header, colour_of, dscp, header, remark};
+use af_marker::{Class, Colour, Dscp, Ipv4Header, colour_of, dscp, header, remark};
 use moment_core::PacketSize;
 use std::process::Abort;
 
@@ -67,14 +67,14 @@ fn the_twelve_code_points_of_the_standard(rt: HostRuntime) {
 }
 
 /// Expects of the changed datagram what its header says.
-fn expect_header(rt: &impl Abort, puts: &[(usize, u8)], wanted: Header) {
+fn expect_header(rt: &impl Abort, puts: &[(usize, u8)], wanted: Ipv4Header) {
     let found = header(&changed(puts)).expect(rt, "a header");
     assert_eq!(rt; found, wanted);
 }
 
 /// The header of the datagram.
-fn whole(rt: &impl Abort) -> Header {
-    Header {
+fn whole(rt: &impl Abort) -> Ipv4Header {
+    Ipv4Header {
         length: 20,
         total: PacketSize::new(115).expect(rt, "a size"),
         dscp: code_point(rt, 0),
@@ -88,8 +88,8 @@ fn whole(rt: &impl Abort) -> Header {
 }
 
 /// The header of a later fragment of it.
-fn fragment(rt: &impl Abort) -> Header {
-    Header {
+fn fragment(rt: &impl Abort) -> Ipv4Header {
+    Ipv4Header {
         offset: 1,
         ports: None,
         verified: false,

@@ -1,6 +1,8 @@
 use crate::header_rows::{changed, code_point};
 use af_marker::{OutOfRange, header};
-use flow_classifier::{FlowRule, Key, PortRange, Prefix, Rule, RuleTable, first_match};
+use flow_classifier::{
+    FlowRule, Ipv4Prefix, Ipv6Prefix, Key, PortRange, Prefix, Rule, RuleTable, first_match,
+};
 use std::alloc::Global;
 use std::process::Abort;
 
@@ -18,13 +20,15 @@ pub(crate) const ANY: Rule = Rule {
 /// fragment it is.
 pub(crate) fn key_of_fragment(rt: &impl Abort, offset: u8) -> Key {
     let header = header(&changed(&[(7, offset)])).expect(rt, "a header");
-    Key::of(&header)
+    Key::of_ipv4(&header)
 }
 
 #[test]
 fn parts_out_of_range_are_refused(rt: HostRuntime) {
-    assert!(rt; Prefix::new(0x0a00_0000, 32).is_ok());
-    assert!(rt; Prefix::new(0x0a00_0000, 33) == Err(OutOfRange));
+    assert!(rt; Ipv4Prefix::new(0x0a00_0000, 32).is_ok());
+    assert!(rt; Ipv4Prefix::new(0x0a00_0000, 33) == Err(OutOfRange));
+    assert!(rt; Ipv6Prefix::new(1, 128).is_ok());
+    assert!(rt; Ipv6Prefix::new(1, 129) == Err(OutOfRange));
     assert!(rt; PortRange::new(80, 80).is_ok());
     assert!(rt; PortRange::new(81, 80) == Err(OutOfRange));
 }
@@ -80,7 +84,8 @@ enum Part {
 
 /// A prefix of an address.
 pub(crate) fn prefix(rt: &impl Abort, address: u32, length: u8) -> Option<Prefix> {
-    Some(Prefix::new(address, length).expect(rt, "a prefix"))
+    let prefix = Ipv4Prefix::new(address, length).expect(rt, "a prefix");
+    Some(Prefix::V4(prefix))
 }
 
 /// The rule of a part.

@@ -1,6 +1,6 @@
 //! Tables of many rules, which are found by halves once they are settled.
 use crate::rule_rows::{ANY, from_host, key_of_fragment, ports, prefix};
-use flow_classifier::{FlowRule, Rule, RuleTable};
+use flow_classifier::{Addresses, FlowRule, Rule, RuleTable};
 use std::process::Abort;
 
 /// Adds the rule of a flow.
@@ -99,8 +99,10 @@ fn expect_found(
     (name, source, target, wanted): &(&str, u32, u32, Option<u32>),
 ) {
     let mut key = key_of_fragment(rt, 0);
-    key.source = *source;
-    key.target = *target;
+    key.addresses = Addresses::V4 {
+        source: *source,
+        target: *target,
+    };
     assert_eq!(rt; (name, rules.first_flow(&key)), (name, *wanted));
 }
 

@@ -122,7 +122,7 @@ fn ids_and_names_that_are_not_held(rt: HostRuntime) -> Result<(), Fail> {
 #[test]
 fn a_domain_with_a_fault_sells_nothing(rt: HostRuntime) -> Result<(), Fail> {
     let told = "dsedge: domain 3 Range top 0 version\n";
-    expect_of_drive(&rt, rt.alloc(), ("version = 3", "look\n"), ("", told, 3))
+    expect_of_drive(&rt, rt.alloc(), ("version = 4", "look\n"), ("", told, 3))
 }
 
 #[test]

@@ -386,7 +386,7 @@ fn faults_of_domains_and_files(rt: HostRuntime) -> Result<(), Fail> {
         ("certify domain.toml", "", ("dscert 1\n", "", 0)),
         (
             "certify domain.toml",
-            "version = 3",
+            "version = 4",
             ("", "dsedge: domain 3 Range top 0 version\n", 3),
         ),
         (
@@ -507,7 +507,7 @@ fn faults_of_tables(rt: HostRuntime) -> Result<(), Fail> {
         ("", "dscert 1\n", ("accepted\n", "", 0)),
         ("", "dscert 01\n", ("", "dsedge: certificate 1 Text\n", 3)),
         (
-            "version = 3",
+            "version = 4",
             "dscert 01\n",
             ("", "dsedge: domain 3 Range top 0 version\n", 3),
         ),

@@ -90,10 +90,10 @@ fn expect_line(
     assert!(rt; shown.told.len() == told.len() + behind.len());
 }
 
-/// The heading of a capture of link type 113: low bytes first, microseconds.
+/// The heading of a capture of link type 7: low bytes first, microseconds.
 static OTHER_LINK: [u8; 24] = [
     0xd4, 0xc3, 0xb2, 0xa1, 0x02, 0x00, 0x04, 0x00, 0x00, 0x00, 0x00, 0x00, 0x00, 0x00, 0x00, 0x00,
-    0xff, 0xff, 0x00, 0x00, 0x71, 0x00, 0x00, 0x00,
+    0xff, 0xff, 0x00, 0x00, 0x07, 0x00, 0x00, 0x00,
 ];
 
 /// A heading of Ethernet, and the heading of a record of 262,145 bytes.
@@ -132,7 +132,7 @@ fn expect_capture(
 #[test]
 fn captures_in_a_pipe_and_at_a_terminal(rt: HostRuntime) {
     let types =
-        "link type 113 is none of those that are read: 1 (Ethernet), 101 (raw IP) and 228 (IPv4)\n\
+        "link type 7 is none of those that are read: 0, 1 (Ethernet), 12, 14, 101 (raw IP), 108, 113, 228, 229 and 276\n\
         Ethernet is captured by: tcpdump -i DEVICE -y EN10MB -w OUT.pcap\n\
         where frames are of one of these, say so by: editcap -T ether|rawip|rawip4 IN.pcap OUT.pcap\n";
     let fault = ("dsedge: capture 4 LinkType\n", types);

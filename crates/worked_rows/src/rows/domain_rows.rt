@@ -4,7 +4,7 @@ use ds_domain::{
     Contract, Delay, Domain, DomainFault, Link, Meter, Name, Peak, Profile, SoundParameters, Terms,
     Version, fits, parse,
 };
-use flow_classifier::Prefix;
+use flow_classifier::{Ipv4Prefix, Ipv6Prefix, Prefix};
 use meter_book_base::Parameters;
 use moment_core::{Colour, Mode, Moment, Rate};
 use std::alloc::Global;
@@ -48,7 +48,7 @@ fn sizes_of(domain: &Domain) -> (usize, usize, usize) {
 
 /// Expects the second of three trusted contracts.
 fn expect_second(rt: &impl Abort, second: &Contract) {
-    let prefix = Prefix::new(0x0a00_0100, 24).expect(rt, "a prefix");
+    let prefix = Prefix::V4(Ipv4Prefix::new(0x0a00_0100, 24).expect(rt, "a prefix"));
     assert!(rt; second.name == name(rt, "b"));
     assert!(rt; second.terms == share(rt, None));
     assert!(rt; second.class.get() == 2);
@@ -497,7 +497,7 @@ static REFUSED: [Refused; 37] = [
         (1, "text", 0, ""),
     ),
     ("tops 1", &["version = 0"], (3, "top", 0, "version")),
-    ("tops 2", &["version = 3"], (3, "top", 0, "version")),
+    ("tops 2", &["version = 4"], (3, "top", 0, "version")),
     ("tops 3", &["version = true"], (2, "top", 0, "version")),
     ("tops 4", &["meters = []"], (2, "top", 0, "")),
     ("tops 5", &["meter = []\nlink = [1]"], (2, "top", 0, "link")),
@@ -617,4 +617,172 @@ fn texts_that_are_refused(rt: HostRuntime) {
     for row in &REFUSED {
         expect_refused(&rt, rt.alloc(), row);
     }
+}
+
+/// The version with addresses of IPv6.
+const THREE: &str = "version = 3\n";
+
+/// A contract's name and class.
+const BARE: &str = "name = \"a\"\nclass = 1\n";
+
+/// What a row is about, the version's line, what a contract says of its addresses, and the code and the field of the
+/// fault.
+type Mistaken = (&'static str, &'static str, &'static str, (u8, &'static str));
+
+static MISTAKEN: [Mistaken; 14] = [
+    (
+        "no IPv6 in the second version",
+        TWO,
+        "src = \"2001:db8::/32\"\n",
+        (3, "src"),
+    ),
+    (
+        "no IPv6 in the first version",
+        "",
+        "dst = \"::/0\"\n",
+        (3, "dst"),
+    ),
+    (
+        "two families",
+        THREE,
+        "src = \"10.0.0.0/8\"\ndst = \"2001:db8::/32\"\n",
+        (3, "dst"),
+    ),
+    (
+        "two families, the other way round",
+        THREE,
+        "src = \"2001:db8::/32\"\ndst = \"10.0.0.0/8\"\nprotocol = 256\n",
+        (3, "dst"),
+    ),
+    (
+        "a target that is none before two families",
+        THREE,
+        "src = \"2001:db8::/32\"\ndst = \"10.0.0.0\"\n",
+        (3, "dst"),
+    ),
+    ("129 bits", THREE, "src = \"2001:db8::/129\"\n", (3, "src")),
+    (
+        "33 bits of IPv4",
+        THREE,
+        "src = \"10.0.0.0/33\"\n",
+        (3, "src"),
+    ),
+    ("no bits told", THREE, "src = \"2001:db8::\"\n", (3, "src")),
+    (
+        "bits with a zero before",
+        THREE,
+        "src = \"2001:db8::/032\"\n",
+        (3, "src"),
+    ),
+    ("no address", THREE, "src = \"/32\"\n", (3, "src")),
+    (
+        "three colons",
+        THREE,
+        "src = \"2001:db8:::/32\"\n",
+        (3, "src"),
+    ),
+    (
+        "nine groups",
+        THREE,
+        "src = \"1:2:3:4:5:6:7:8:9/32\"\n",
+        (3, "src"),
+    ),
+    ("a zone", THREE, "src = \"fe80::1%eth0/64\"\n", (3, "src")),
+    ("another type", THREE, "src = 6\n", (2, "src")),
+];
+
+/// The fault of a text.
+fn fault_in(rt: &impl Abort, alloc: Global, parts: &[&str]) -> (u8, &'static str) {
+    let text = text_of(rt, alloc, parts);
+    match parse(alloc, text.as_bytes()) {
+        Ok(_) => (0, ""),
+        Err(fault) => (fault.kind.code(), fault.field.text()),
+    }
+}
+
+/// Expects of a row the fault of its text.
+fn expect_mistaken(rt: &impl Abort, alloc: Global, (name, version, addresses, wanted): &Mistaken) {
+    let parts = [
+        *version, METER, PORT, LINK, TRUSTED, BARE, SHARE, *addresses,
+    ];
+    assert_eq!(rt; (name, fault_in(rt, alloc, &parts)), (name, *wanted));
+}
+
+#[test]
+fn addresses_that_are_refused(rt: HostRuntime) {
+    for row in &MISTAKEN {
+        expect_mistaken(&rt, rt.alloc(), row);
+    }
+}
+
+/// Text forms of addresses (RFC 4291 sections 2.2 and 2.3) with how many bits count, and the addresses.
+static FORMS: [(&str, u128, u8); 9] = [
+    ("src = \"::/0\"\n", 0, 0),
+    ("src = \"::1/128\"\n", 1, 128),
+    ("src = \"2001:db8::/32\"\n", 0x2001_0db8 << 96, 32),
+    (
+        "src = \"2001:DB8:0:0:8:800:200C:417A/64\"\n",
+        0x2001_0db8_0000_0000_0008_0800_200c_417a,
+        64,
+    ),
+    (
+        "src = \"2001:db8::8:800:200c:417a/127\"\n",
+        0x2001_0db8_0000_0000_0008_0800_200c_417a,
+        127,
+    ),
+    ("src = \"FF01::101/8\"\n", (0xff01 << 112) + 0x101, 8),
+    ("src = \"::13.1.68.3/96\"\n", 0x0d01_4403, 96),
+    (
+        "src = \"::FFFF:129.144.52.38/128\"\n",
+        (0xffff << 32) + 0x8190_3426,
+        128,
+    ),
+    (
+        "src = \"2001:0DB8:0:CD30::/60\"\n",
+        (0x2001_0db8_0000_cd30 << 64),
+        60,
+    ),
+];
+
+/// Expects of a row the prefix that its text says.
+fn expect_form(rt: &impl Abort, alloc: Global, (form, address, length): &(&str, u128, u8)) {
+    let said = parsed(
+        rt,
+        alloc,
+        &[THREE, METER, PORT, LINK, TRUSTED, BARE, SHARE, *form],
+    );
+    let prefix = Ipv6Prefix::new(*address, *length).expect(rt, "a prefix");
+    assert_eq!(rt; said.contracts[0].rule.source, Some(Prefix::V6(prefix)));
+    assert!(rt; said.domain.version() == Version::Three);
+}
+
+#[test]
+fn text_forms_of_addresses(rt: HostRuntime) {
+    for row in &FORMS {
+        expect_form(&rt, rt.alloc(), row);
+    }
+}
+
+/// Expects of a text of version 3 a rule of IPv4, and an excess as in version 2.
+fn expect_as_before(rt: &impl Abort, alloc: Global) {
+    let said = parsed(
+        rt,
+        alloc,
+        &[THREE, METER, PORT, LINK, TRUSTED, A, SHARE, PEAK, EXCESS],
+    );
+    let prefix = Ipv4Prefix::new(0x0a00_0000, 24).expect(rt, "a prefix");
+    assert!(rt; said.contracts[0].rule.source == Some(Prefix::V4(prefix)));
+    let excess = Some(profile(rt, 8_000_000, 1000));
+    expect_peak(
+        rt,
+        &said.domain,
+        said.contracts.as_slice(),
+        Version::Three,
+        excess,
+    );
+}
+
+#[test]
+fn the_third_version_is_the_second_but_for_addresses(rt: HostRuntime) {
+    expect_as_before(&rt, rt.alloc());
 }

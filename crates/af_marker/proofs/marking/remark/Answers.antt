@@ -2,7 +2,7 @@ use Rattle.std.proofs.Common.{◌≡◌, Bool, true, IsTrue, Result, Ok, ap, rul
 use Rattle.std.proofs.Math.Facts.{Fits-lt-pow}
 use Rattle.af_marker.specs.Headers.{header_of, is_verified}
 use Rattle.af_marker.specs.Marks.{marked}
-use Rattle.af_marker.specs.declared.ipv4.Header.{Header}
+use Rattle.af_marker.specs.declared.ipv4.Ipv4Header.{Ipv4Header}
 use Rattle.af_marker.specs.declared.ipv4.HeaderFault.{HeaderFault}
 use Rattle.af_marker.proofs.ByteLaws.{Bytes, Bytes-of_items}
 use Rattle.af_marker.proofs.HeaderLaws.{is_fields, passed, verified_of}
@@ -12,7 +12,7 @@ use Rattle.af_marker.proofs.marking.remark.Goals as goal
 is_true : (b : Bool) → IsTrue b → b ≡ true
 is_true b h = search rules
 
-abbrev ok_header : Header → Result Header HeaderFault
+abbrev ok_header : Ipv4Header → Result Ipv4Header HeaderFault
 ok_header h = Ok h
 
 pub returns-clause-verifies : goal.returns-clause-verifies
@@ -23,7 +23,7 @@ returns-clause-verifies c right =
     let all : Bytes (marked c.args.dscp old) = subst Bytes c.set_dscp.ensures (Bytes-of_items c.set_dscp.new.bytes (λ k. Fits-lt-pow (c.type_inv.bytes k))) in
     let verified : is_verified old ≡ true = sym (verified_of old read c.in_ok-before.ensures.value) ∙ is_true read.verified right in
     ap header_of c.set_dscp.ensures ∙ header_of_marked c.args.dscp old all passes verified
-    ∙ ap (λ (h : Header). ok_header (record h { dscp = c.args.dscp })) (sym (is_fields old read c.in_ok-before.ensures.value))
+    ∙ ap (λ (h : Ipv4Header). ok_header (record h { dscp = c.args.dscp })) (sym (is_fields old read c.in_ok-before.ensures.value))
 
 pub returns-clause-apart : goal.returns-clause-apart
 returns-clause-apart c k one ten eleven =

@@ -1,0 +1,4 @@
+use Rattle.pcap_capture.proofs.packet.+behind_tags.Given as goal
+
+abbrev pub decreases-behind_tags : goal.decreases-behind_tags
+decreases-behind_tags l = l.tags
