@@ -1,0 +1,3 @@
+-- What a capture would send.
+pub mod Arrivals
+pub mod Tellings
