@@ -192,20 +192,24 @@ settled_heap rows run fresh visits more after run' same moved is kept =
     subst (λ us. IsPermutation (rows ++ (run ++ fresh)) (after ++ us)) (sym kept)
     (IsPermutation-trans (rows ++ (run ++ fresh)) ((rows ++ fresh) ++ run) (after ++ run) turned (IsPermutation-append_left run (rows ++ fresh) after put))
 
-pub settled_runs : (rows older newer fresh left right out given sorted after older' newer' : List (Reverse Waiting)) → left ≡ older → right ≡ newer
-    → IsPermutation (left ++ right) out → given ≡ fresh → IsPermutation given sorted → after ≡ rows → older' ≡ out → newer' ≡ sorted
-    → IsPermutation (rows ++ ((older ++ newer) ++ fresh)) (after ++ (older' ++ newer'))
-settled_runs rows older newer fresh left right out given sorted after older' newer' first next merged same arranged kept is last =
-    let joined : IsPermutation (older ++ newer) out =
-    subst (λ us. IsPermutation (us ++ newer) out) first (subst (λ us. IsPermutation (left ++ us) out) next merged) in
+-- what is fresh was put into trains and the heap, and the runs into one
+pub joined_heap : (rows run run' left fresh visits more after : List (Reverse Waiting)) → visits ≡ fresh → IsPermutation (rows ++ visits) more → after ≡ more
+    → IsPermutation run run' → length left ≡ 0 → IsPermutation (rows ++ (run ++ fresh)) (after ++ (run' ++ left))
+joined_heap rows run run' [] fresh visits more after same moved is joined none =
+    subst (λ us. IsPermutation (rows ++ (run ++ fresh)) (after ++ us)) (sym (append-nil run'))
+    (IsPermutation-trans (rows ++ (run ++ fresh)) (after ++ run) (after ++ run') (settled_heap rows run fresh visits more after run same moved is refl)
+    (IsPermutation-append_right after run run' joined))
+joined_heap rows run run' (d ∷ left) fresh visits more after same moved is joined none = absurd (omega (arith, none))
+
+-- what is fresh is a run of its own, and the runs are one
+pub joined_runs : (rows run run' fresh given sorted after : List (Reverse Waiting)) → given ≡ fresh → IsPermutation given sorted → after ≡ rows
+    → IsPermutation run run' → IsPermutation (rows ++ (run ++ fresh)) (after ++ (run' ++ sorted))
+joined_runs rows run run' fresh given sorted after same arranged kept joined =
     let put : IsPermutation fresh sorted = subst (λ us. IsPermutation us sorted) same arranged in
-    let all : IsPermutation ((older ++ newer) ++ fresh) (out ++ sorted) =
-    IsPermutation-trans ((older ++ newer) ++ fresh) (out ++ fresh) (out ++ sorted) (IsPermutation-append_left fresh (older ++ newer) out joined)
-    (IsPermutation-append_right out fresh sorted put) in
-    subst (λ us. IsPermutation (rows ++ ((older ++ newer) ++ fresh)) (us ++ (older' ++ newer'))) (sym kept)
-    (subst (λ us. IsPermutation (rows ++ ((older ++ newer) ++ fresh)) (rows ++ (us ++ newer'))) (sym is)
-    (subst (λ us. IsPermutation (rows ++ ((older ++ newer) ++ fresh)) (rows ++ (out ++ us))) (sym last)
-    (IsPermutation-append_right rows ((older ++ newer) ++ fresh) (out ++ sorted) all)))
+    subst (λ us. IsPermutation (rows ++ (run ++ fresh)) (us ++ (run' ++ sorted))) (sym kept)
+    (IsPermutation-append_right rows (run ++ fresh) (run' ++ sorted)
+    (IsPermutation-trans (run ++ fresh) (run' ++ fresh) (run' ++ sorted) (IsPermutation-append_left fresh run run' joined)
+    (IsPermutation-append_right run' fresh sorted put)))
 
 -- ---- the first visit is taken
 

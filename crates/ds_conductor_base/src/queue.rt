@@ -199,16 +199,38 @@ fn settle(
     if fresh.is_empty() {
         return;
     }
-    if (older.len() + newer.len()) / 4 > fresh.len() {
+    let are_few = (older.len() + newer.len()) / 4 > fresh.len();
+    join_runs(older, newer, spare);
+    if are_few {
         trains.hold_all(fresh);
     } else {
-        merge(older, newer, spare);
-        swap(older, spare);
-        spare.clear();
-        newer.clear();
         put_in_order(fresh, guess, newer);
     }
     fresh.clear();
+}
+
+/// Puts the newer run to the older one, where there is room for both.
+fn join_runs(
+    older: &mut Vec<Reverse<Waiting>>,
+    newer: &mut Vec<Reverse<Waiting>>,
+    spare: &mut Vec<Reverse<Waiting>>,
+)
+    requires sorted { IsSorted first_on_top older.old.items × IsSorted first_on_top newer.old.items }
+    requires empty { vec_len spare.old ≡ 0 }
+    requires room { vec_len older.old + vec_len newer.old ≤ vec_capacity spare.old }
+    ensures same { IsPermutation (older.old.items ++ newer.old.items) older.new.items }
+    ensures none { vec_len newer.new ≡ 0 }
+    ensures kept { vec_capacity newer.old ≤ vec_capacity newer.new }
+    ensures empty { vec_len spare.new ≡ 0 }
+    ensures sorted { IsSorted first_on_top older.new.items }
+{
+    if newer.is_empty() {
+        return;
+    }
+    merge(older, newer, spare);
+    swap(older, spare);
+    spare.clear();
+    newer.clear();
 }
 
 /// Puts visits in order, the latest first, where there is room for them: where they are many, and not in order yet,
