@@ -90,6 +90,11 @@ lines_behind filter (Some (Ok heading)) frames = lines_from filter heading.link 
 lines_behind filter (Some (Err fault)) frames = []
 lines_behind filter None frames = []
 
+-- the lines of frames that were read behind a heading; without one there are none
+abbrev pub lines_told : Filter → Option Heading → List FrameValue → List ℕ
+lines_told filter None frames = []
+lines_told filter (Some heading) frames = lines_from filter heading.link 0 frames
+
 -- the lines of the bytes of a capture: of all records that stand in it whole, before the first fault
 abbrev pub lines_in : Filter → List ℕ → List ℕ
 lines_in filter bytes = lines_behind filter (heading_of bytes) (capture bytes).frames

@@ -1,10 +1,11 @@
-ghost use Rattle.std.specs.Prelude.{◌≡◌, ℕ, ◌++◌, List, IfOk, OnOk, Some, None};
+ghost use Rattle.std.specs.Prelude.{◌≡◌, ℕ, ◌++◌, List, [], IfOk, OnOk, Some, None};
 ghost use Rattle.pcap_capture.specs.declared.heading.LinkType.{LinkType};
 ghost use Rattle.frame_marker.specs.Sights.{sight_of};
-ghost use Rattle.dsedge_arrivals.specs.Arrivals.{colour_alone, colour_behind, colour_in, is_asked, letter_of, line_at};
+ghost use Rattle.dsedge_arrivals.specs.Arrivals.{colour_alone, colour_behind, colour_in, is_asked, line_at};
 ghost use Rattle.dsedge_arrivals.specs.Arrivals.{line_of, lines_from, newest_in, sight_in, taken_by_all};
 
 use af_marker::{Class, Dscp, Summary, colour_of};
+use ds_conditioner::sending::later;
 use ds_domain_base::{Contract, Name, Version};
 use frame_marker::{PortClassifier, Sight, header_in};
 use line_text::push_number;
@@ -118,7 +119,8 @@ impl<'a> ArrivalFilter<'a> {
         if self.has_colours {
             out.extend_from_slice(colour_behind(self.colour(flow, header.dscp)))?;
         }
-        out.push(b'\n')
+        out.push(b'\n')?;
+        Ok(())
     }
 
     /// Appends the line of a frame whose packet is sent at a moment, if it arrives.
@@ -155,7 +157,7 @@ impl<'a> ArrivalFilter<'a> {
         let mut now = newest;
         for place in 0..piece.len() {
             let frame = piece.frame(place);
-            now = now.max(frame.moment());
+            now = later(now, frame.moment());
             self.push_frame(link, frame.bytes(), now, out)?;
         }
         Ok(now)

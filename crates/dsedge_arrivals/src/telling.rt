@@ -1,9 +1,9 @@
-ghost use Rattle.std.specs.Prelude.{◌≡◌, ℕ, ◌≤◌, ◌++◌, List, [], Err, IfErr, MatchResult, OnOk, false, if◌then◌else◌};
-ghost use Rattle.pcap_capture.specs.Counts.{IsOfReads, next_count};
-ghost use Rattle.pcap_capture.specs.Fronts.{IsFrontOf};
+ghost use Rattle.std.specs.Prelude.{◌≡◌, false, IfErr, OnOk};
+ghost use Rattle.pcap_capture.specs.Counts.{IsOfReads};
 ghost use Rattle.pcap_capture.specs.Takings.{is_read_fault};
+ghost use Rattle.capture_reader.specs.Readings.{IsTakenOut};
 ghost use Rattle.dsedge_arrivals.specs.Arrivals.{lines_from, newest_in};
-ghost use Rattle.dsedge_arrivals.specs.Tellings.{IsToldAs, is_broken_off, is_unwritten};
+ghost use Rattle.dsedge_arrivals.specs.Tellings.{IsBreak, IsGiven, IsIdle, IsToldAs, failures_after, is_broken_off};
 
 use crate::filter::ArrivalFilter;
 use capture_reader::{Progress, read_heading, read_piece};
@@ -27,13 +27,15 @@ pub fn tell_arrivals<I: Intake, O: Outlet>(
 ) -> Result<(), PcapFault>
     ensures told { I.tells intake.old → O.tells output.old → IsToldAs filter.now (I.left intake.old)
         (I.left intake.new) (O.held output.old) (O.held output.new) result }
-    ensures writes { O.failed output.new
-        ≡ (if is_unwritten result then next_count (O.failed output.old) else O.failed output.old) }
+    ensures writes { O.failed output.new ≡ failures_after result (O.failed output.old) }
     ensures reads { is_broken_off result ≡ false
         → IsOfReads (is_read_fault result) (I.failed intake.old) (I.failed intake.new) (I.calls intake.new) }
 {
     let mut progress = Progress::begin(alloc);
-    let heading = read_heading(alloc, intake, &mut progress)?;
+    let heading = match read_heading(alloc, intake, &mut progress) {
+        Ok(heading) => heading,
+        Err(fault) => return Err(fault),
+    };
     let mut lines = Lines {
         newest: Moment::new(0).unwrap(),
         out: Vec::new(alloc),
@@ -41,7 +43,10 @@ pub fn tell_arrivals<I: Intake, O: Outlet>(
     };
     loop {
         let read = read_piece(alloc, intake, &mut progress);
-        lines.tell_read(alloc, filter, heading.link, &mut progress, output)?;
+        match lines.tell_read(alloc, filter, heading.link, &mut progress, output) {
+            Ok(()) => {}
+            Err(fault) => return Err(fault),
+        }
         match read {
             Ok(true) => {}
             Ok(false) => return Ok(()),
@@ -71,8 +76,15 @@ impl Lines {
         progress: &mut Progress,
         output: &mut O,
     ) -> Result<(), PcapFault>
-        requires { (self.old.out.items ≡ []) × (self.old.spent ≡ []) }
-        ensures emptied { OnOk result ((self.new.out.items ≡ []) × (self.new.spent ≡ [])) }
+        requires { IsIdle self.old }
+        ensures taken { IsTakenOut progress.old.piece progress.old progress.new }
+        ensures told { O.tells output.old → O.tells output.new }
+        ensures lines { O.tells output.old → IsGiven result
+            (lines_from filter.now link self.old.newest progress.old.piece) (O.held output.old) (O.held output.new) }
+        ensures newest { OnOk result (self.new.newest ≡ newest_in self.old.newest progress.old.piece) }
+        ensures idle { OnOk result (IsIdle self.new) }
+        ensures fault { IfErr result IsBreak }
+        ensures failures { O.failed output.new ≡ failures_after result (O.failed output.old) }
     {
         let next = std::mem::replace(&mut self.spent, Piece::new(alloc));
         let mut piece = progress.change_piece(next);
