@@ -1,5 +1,4 @@
-pub mod AdviceLemmas
-pub mod FrontLemmas
 pub mod MarkLemmas
 pub mod QuoteLemmas
+pub mod ReportLemmas
 pub mod StartLemmas

@@ -1,6 +1,5 @@
 -- What the program does for a plan.
 pub mod Advised
-pub mod Faults
 pub mod Marked
 pub mod Served
 pub mod Started

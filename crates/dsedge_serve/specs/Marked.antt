@@ -13,11 +13,11 @@ use Rattle.dsedge_lines.specs.declared.fault.PumpFault.{PumpFault}
 use Rattle.dsedge_lines.specs.declared.fault.PumpFault.TheVariants as pump_faults
 use Rattle.dsedge_texts.specs.declared.accepting.TableFault.{TableFault}
 use Rattle.dsedge_texts.specs.declared.accepting.TableFault.TheVariants as tables
-use Rattle.dsedge_serve.specs.Faults.{fault_text, status_of}
+use Rattle.dsedge_faults.specs.Faults.{fault_text, status_of}
 use Rattle.dsedge_serve.specs.declared.conclusion.Conclusion.{Conclusion}
 use Rattle.dsedge_serve.specs.declared.conclusion.Conclusion.TheVariants.{Unaccepted, Uncertified, Unsound}
-use Rattle.dsedge_serve.specs.declared.fault.Fault.{Fault}
-use Rattle.dsedge_serve.specs.declared.fault.Fault.TheVariants as faults
+use Rattle.dsedge_faults.specs.declared.fault.Fault.{Fault}
+use Rattle.dsedge_faults.specs.declared.fault.Fault.TheVariants as faults
 
 -- a line with a count, behind its name
 abbrev pub count_line : List ℕ → ℕ → List ℕ

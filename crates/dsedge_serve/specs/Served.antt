@@ -34,12 +34,12 @@ use Rattle.dsedge_texts.specs.declared.accepting.TableFault.{TableFault}
 use Rattle.dsedge_texts.specs.declared.accepting.TableFault.TheVariants as tables
 use Rattle.dsedge_serve.specs.declared.conclusion.Conclusion.{Conclusion}
 use Rattle.dsedge_serve.specs.declared.conclusion.Conclusion.TheVariants.{Ended, Unaccepted, Uncertified, Unsound}
-use Rattle.dsedge_serve.specs.declared.fault.Fault.TheVariants as faults
+use Rattle.dsedge_faults.specs.declared.fault.Fault.TheVariants as faults
 use Rattle.pcap_capture.specs.Fronts.{IsFrontOf}
-use Rattle.dsedge_serve.specs.Faults.{fault_text, notice_text, status_of}
+use Rattle.dsedge_faults.specs.Faults.{fault_text, notice_text, status_of}
 use Rattle.dsedge_serve.specs.Marked.{IsMarkedOver, IsUnmarked, is_sole, marking_answer, marking_status, marking_told, refusal_outcome, rule_said}
-use Rattle.dsedge_serve.specs.declared.notice.Notice.{Notice}
-use Rattle.dsedge_serve.specs.declared.notice.Notice.TheVariants as notices
+use Rattle.dsedge_faults.specs.declared.notice.Notice.{Notice}
+use Rattle.dsedge_faults.specs.declared.notice.Notice.TheVariants as notices
 use Rattle.dsedge_serve.specs.declared.outcome.Outcome.{Outcome}
 use Rattle.dsedge_serve.specs.declared.outcome.Outcome.TheVariants.{Answered, Marked, Misused, Unnamed}
 
@@ -230,11 +230,6 @@ status_for (Err pump_faults.NoMemory) = status_of faults.Memory
 -- what is told of an outcome on standard error
 abbrev pub told_of : Result Conclusion PumpFault → List ℕ
 told_of outcome = option_map_or notice_text (notice_of outcome) []
-
--- A text was written behind what stood; or a front of it, where the device failed.
-abbrev pub IsTold : List ℕ → List ℕ → List ℕ → ℕ → ℕ → Type 0
-IsTold text before after failed now =
-    (after ≡ before ++ text) ⊎ (IsFrontOf before text after × (now ≡ next_count failed))
 
 -- a write fault is an outcome where the output failed once, and no other outcome is one where it failed
 abbrev pub IsOfWrites : Bool → ℕ → ℕ → Type 0

@@ -12,12 +12,13 @@ use Rattle.dsedge_texts.specs.Readable.{texts_of}
 use Rattle.dsedge_lines.specs.FirstLine.{after_first_line, first_line_of}
 use Rattle.dsedge_lines.specs.declared.words.FirstLineFault.{FirstLineFault}
 use Rattle.dsedge_lines.specs.declared.words.FirstLineFault.TheVariants as first_line_faults
-use Rattle.dsedge_serve.specs.declared.advice.Advice.{Advice}
-use Rattle.dsedge_serve.specs.declared.fault.Fault.{Fault}
-use Rattle.dsedge_serve.specs.declared.fault.Fault.TheVariants.{File, Memory, Read, Usage}
+use Rattle.dsedge_faults.specs.declared.advice.Advice.{Advice}
+use Rattle.dsedge_faults.specs.declared.fault.Fault.{Fault}
+use Rattle.dsedge_faults.specs.declared.fault.Fault.TheVariants.{File, Memory, Read, Usage}
 use Rattle.dsedge_serve.specs.declared.outcome.Outcome.{Outcome}
-use Rattle.dsedge_serve.specs.Advised.{advice_after, advice_on}
-use Rattle.dsedge_serve.specs.Faults.{fault_text, status_of}
+use Rattle.dsedge_faults.specs.Advised.{advice_on}
+use Rattle.dsedge_serve.specs.Advised.{advice_after}
+use Rattle.dsedge_faults.specs.Faults.{fault_text, status_of}
 use Rattle.dsedge_serve.specs.Served.{IsAnswered, IsForeseen, is_broken_off as is_outcome_broken_off, is_input_fault, is_misused, is_output_fault, status_after, told_after}
 
 -- the words of a command: those given, or where there are none, those of the first line of the input

@@ -10,9 +10,9 @@ ghost use Rattle.dsedge_serve.specs.Served.{is_broken_off, is_input_fault, is_mi
 ghost use Rattle.dsedge_texts.specs.Accepted.{accepted_in};
 ghost use Rattle.pcap_capture.specs.Counts.{IsOfReads, next_count};
 
-use crate::advice::Advice;
+use dsedge_faults::Advice;
 use crate::conclusion::Conclusion;
-use crate::fault::Fault;
+use dsedge_faults::Fault;
 use crate::outcome::Outcome;
 use crate::report::tell_report;
 use ds_checker::Accepted;

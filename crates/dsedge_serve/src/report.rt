@@ -3,7 +3,7 @@ ghost use Rattle.pcap_capture.specs.Counts.{next_count};
 ghost use Rattle.pcap_capture.specs.Fronts.{IsFrontOf};
 ghost use Rattle.dsedge_serve.specs.Marked.{colours_text, counts_text, report_text};
 
-use crate::parts::give_parts;
+use dsedge_faults::give_parts;
 use ds_conductor::Report;
 use itoa::Buffer;
 use pcap_capture::{DeviceFault, Outlet};

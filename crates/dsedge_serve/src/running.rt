@@ -2,15 +2,16 @@ ghost use Rattle.std.specs.Prelude.{◌≡◌, IfErr, IfOk, false, map, string_b
 ghost use Rattle.std.specs.IoError.{error_kind};
 ghost use Rattle.dsedge_base.specs.Files.{files_of};
 ghost use Rattle.pcap_capture.specs.Counts.{IsOfReads};
-ghost use Rattle.dsedge_serve.specs.Advised.{IsToldAt};
-ghost use Rattle.dsedge_serve.specs.Faults.{fault_text, status_of};
-ghost use Rattle.dsedge_serve.specs.Served.{IsOfWrites, IsTold};
+ghost use Rattle.dsedge_faults.specs.Advised.{IsToldAt};
+ghost use Rattle.dsedge_faults.specs.Faults.{fault_text, status_of};
+ghost use Rattle.dsedge_faults.specs.Faults.{IsTold};
+ghost use Rattle.dsedge_serve.specs.Served.{IsOfWrites};
 ghost use Rattle.dsedge_serve.specs.Started.{AreKnown, Course, IsCourseFrom, IsCourseOf, IsWritten};
 ghost use Rattle.dsedge_serve.specs.Started.{advice_in, behind_name, input_from, is_broken_off, is_unread, is_unwritten};
 ghost use Rattle.dsedge_serve.specs.Started.{status_in, told_in, wordless};
 
-use crate::advising::advise;
-use crate::fault::Fault;
+use dsedge_faults::advise;
+use dsedge_faults::Fault;
 use crate::starting::{refuse, start};
 use crate::terminal::AtTerminal;
 use dsedge_lines::Words;

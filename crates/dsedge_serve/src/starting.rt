@@ -1,8 +1,9 @@
 ghost use Rattle.std.specs.Prelude.{◌≡◌, IfErr, IfOk, Ok, false, length, map, string_bytes};
 ghost use Rattle.pcap_capture.specs.Counts.{IsOfReads};
-ghost use Rattle.dsedge_serve.specs.Advised.{advice_on};
-ghost use Rattle.dsedge_serve.specs.Faults.{fault_text, status_of};
-ghost use Rattle.dsedge_serve.specs.Served.{IsOfWrites, IsTold};
+ghost use Rattle.dsedge_faults.specs.Advised.{advice_on};
+ghost use Rattle.dsedge_faults.specs.Faults.{fault_text, status_of};
+ghost use Rattle.dsedge_faults.specs.Faults.{IsTold};
+ghost use Rattle.dsedge_serve.specs.Served.{IsOfWrites};
 ghost use Rattle.dsedge_serve.specs.Started.{AreKnown, Course, IsCourseFrom, IsCourseOn, IsCourseWith};
 ghost use Rattle.dsedge_serve.specs.Started.{IsWritten, fault_of_line, fault_of_words};
 ghost use Rattle.dsedge_serve.specs.Started.{IsCourseOf, IsUnreadable, input_from, is_broken_off, is_unread, is_unwritten};
@@ -10,8 +11,8 @@ ghost use Rattle.dsedge_serve.specs.Started.{advice_in, status_in, told_in};
 ghost use Rattle.dsedge_base.specs.Files.{files_of};
 ghost use Rattle.dsedge_texts.specs.Readable.{texts_of};
 
-use crate::advice::Ended;
-use crate::fault::Fault;
+use crate::ended::Ended;
+use dsedge_faults::Fault;
 use crate::serving::serve;
 use dsedge_base::{Plan, UsageFault, plan};
 use dsedge_lines::{FirstLineFault, first_line};

@@ -1,6 +1,6 @@
 use Rattle.std.proofs.Common.{◌∙◌, refl}
 use Rattle.dsedge_serve.specs.Marked.{marking_told}
-use Rattle.dsedge_serve.proofs.FrontLemmas.{given_as, given_or_front}
+use Rattle.dsedge_faults.proofs.FrontLemmas.{given_as, given_or_front}
 use Rattle.dsedge_serve.proofs.marking.tell_marking.Goals as goal
 
 -- what was put together in memory is what is told

@@ -1,7 +1,7 @@
 use Rattle.std.proofs.lemmas.Result.{err_from_is_err_and}
 use Rattle.dsedge_serve.specs.Marked.{marking_fault_text, report_text}
 use Rattle.pcap_capture.proofs.FrontLaws.{IsFrontOf-first}
-use Rattle.dsedge_serve.proofs.FrontLemmas.{behind_told}
+use Rattle.dsedge_faults.proofs.FrontLemmas.{behind_told}
 use Rattle.dsedge_serve.proofs.marking.tell_parts.Goals as goal
 
 pub returns-clause-line : goal.returns-clause-line

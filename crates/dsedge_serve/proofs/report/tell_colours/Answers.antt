@@ -1,5 +1,6 @@
 use Rattle.dsedge_serve.specs.Marked.{colours_text}
-use Rattle.dsedge_serve.proofs.FrontLemmas.{colours_line_of, given_as}
+use Rattle.dsedge_faults.proofs.FrontLemmas.{given_as}
+use Rattle.dsedge_serve.proofs.ReportLemmas.{colours_line_of}
 use Rattle.dsedge_serve.proofs.report.tell_colours.Goals as goal
 
 pub returns-clause-line : goal.returns-clause-line

@@ -1,5 +1,6 @@
 use Rattle.dsedge_serve.specs.Marked.{counts_text}
-use Rattle.dsedge_serve.proofs.FrontLemmas.{counts_line_of, given_as}
+use Rattle.dsedge_faults.proofs.FrontLemmas.{given_as}
+use Rattle.dsedge_serve.proofs.ReportLemmas.{counts_line_of}
 use Rattle.dsedge_serve.proofs.report.tell_counts.Goals as goal
 
 pub returns-clause-line : goal.returns-clause-line

@@ -1,7 +1,7 @@
 use Rattle.std.proofs.lemmas.Result.{err_from_is_err_and}
 use Rattle.dsedge_serve.specs.Marked.{colours_text, counts_text}
 use Rattle.pcap_capture.proofs.FrontLaws.{IsFrontOf-first}
-use Rattle.dsedge_serve.proofs.FrontLemmas.{behind_told}
+use Rattle.dsedge_faults.proofs.FrontLemmas.{behind_told}
 use Rattle.dsedge_serve.proofs.report.tell_report.Goals as goal
 
 pub returns-clause-line : goal.returns-clause-line

@@ -1,6 +1,6 @@
 use Rattle.std.proofs.Common.{◌∙◌, sym, inl, append-nil}
-use Rattle.dsedge_serve.specs.Faults.{notice_text}
-use Rattle.dsedge_serve.proofs.FrontLemmas.{told_since}
+use Rattle.dsedge_faults.specs.Faults.{notice_text}
+use Rattle.dsedge_faults.proofs.FrontLemmas.{told_since}
 use Rattle.dsedge_serve.proofs.serving.tell.Goals as goal
 
 pub returns-clause-told : goal.returns-clause-told

@@ -1,5 +1,5 @@
 use Rattle.dsedge_serve.specs.Marked.{marking_told}
-use Rattle.dsedge_serve.proofs.FrontLemmas.{told_since}
+use Rattle.dsedge_faults.proofs.FrontLemmas.{told_since}
 use Rattle.dsedge_serve.proofs.serving.tell_after.Goals as goal
 
 pub returns-in-Marked-clause-told : goal.returns-in-Marked-clause-told

@@ -1,5 +1,5 @@
-use Rattle.dsedge_serve.specs.Faults.{fault_text}
-use Rattle.dsedge_serve.proofs.FrontLemmas.{told_since}
+use Rattle.dsedge_faults.specs.Faults.{fault_text}
+use Rattle.dsedge_faults.proofs.FrontLemmas.{told_since}
 use Rattle.dsedge_serve.proofs.serving.tell_fault.Goals as goal
 
 pub returns-clause-told : goal.returns-clause-told

@@ -1,0 +1,95 @@
+-- The faults of the program: their lines on standard error and its exit statuses.
+use Rattle.std.specs.Prelude.{◌≡◌, ◌⊎◌, ℕ, ◌==◌, ◌||◌, nat_lt, if◌then◌else◌, List, [], ◌∷◌, ◌++◌, flat_map, codes, decimal}
+use Rattle.ds_domain_base.specs.Faults.{field_text, kind_code, section_text}
+use Rattle.ds_domain_base.specs.declared.fault.DomainFault.{DomainFault}
+use Rattle.ds_certificate.specs.declared.fault.CertificateFault.{CertificateFault}
+use Rattle.ds_certificate.specs.declared.fault.CertificateFault.TheVariants as certificates
+use Rattle.dsedge_texts.specs.Wording.{kind_text}
+use Rattle.pcap_capture.specs.Counts.{next_count}
+use Rattle.pcap_capture.specs.Fronts.{IsFrontOf}
+use Rattle.pcap_capture.specs.declared.fault.PcapFault.{PcapFault}
+use Rattle.pcap_capture.specs.declared.fault.PcapFault.TheVariants as pcaps
+use Rattle.dsedge_faults.specs.declared.fault.Fault.{Fault}
+use Rattle.dsedge_faults.specs.declared.fault.Fault.TheVariants.{Usage, Line, Domain, Certificate, Capture, Port, Contract, File, Read, Write, Memory, Full}
+use Rattle.dsedge_faults.specs.declared.notice.Notice.{Notice}
+use Rattle.dsedge_faults.specs.declared.notice.Notice.TheVariants as notices
+
+-- a field is written as its key, and none as `-`
+abbrev pub text_or_dash : List ℕ → List ℕ
+text_or_dash [] = codes "-"
+text_or_dash (letter ∷ letters) = letter ∷ letters
+
+-- a control character of ASCII is shown as `?`, so that a name stays on one line
+abbrev pub shown_byte : ℕ → ℕ
+shown_byte byte = if nat_lt byte 32 || byte == 127 then 63 else byte
+
+-- how a name is shown
+abbrev pub shown : List ℕ → List ℕ
+shown name = flat_map (λ byte. shown_byte byte ∷ []) name
+
+-- what is wrong with a domain, and where: CODE KIND SECTION INDEX FIELD
+abbrev pub domain_fault_text : DomainFault → List ℕ
+domain_fault_text fault =
+    decimal (kind_code fault.kind) ++ codes " " ++ kind_text fault.kind ++ codes " " ++ section_text fault.section
+    ++ codes " "
+    ++ decimal fault.index ++ codes " " ++ text_or_dash (field_text fault.field)
+
+-- what is wrong with a certificate: CODE KIND
+abbrev pub certificate_fault_text : CertificateFault → List ℕ
+certificate_fault_text certificates.Text = codes "1 Text"
+certificate_fault_text certificates.Shape = codes "2 Shape"
+certificate_fault_text certificates.Range = codes "3 Range"
+certificate_fault_text certificates.NoMemory = codes "4 NoMemory"
+
+-- what is wrong with a capture: CODE KIND
+abbrev pub capture_fault_text : PcapFault → List ℕ
+capture_fault_text pcaps.NotPcap = codes "1 NotPcap"
+capture_fault_text pcaps.IsPcapng = codes "2 IsPcapng"
+capture_fault_text pcaps.BadVersion = codes "3 BadVersion"
+capture_fault_text (pcaps.LinkType number) = codes "4 LinkType"
+capture_fault_text (pcaps.RecordTooLong count) = codes "5 RecordTooLong"
+capture_fault_text pcaps.Truncated = codes "6 Truncated"
+capture_fault_text pcaps.ReadFault = codes "7 ReadFault"
+capture_fault_text pcaps.WriteFault = codes "8 WriteFault"
+capture_fault_text pcaps.NoMemory = codes "9 NoMemory"
+capture_fault_text pcaps.Failed = codes "10 Failed"
+
+-- the line of a fault
+abbrev pub fault_text : Fault → List ℕ
+fault_text Usage = codes "dsedge: usage\n"
+fault_text (Line number) = codes "dsedge: line " ++ decimal number ++ codes "\n"
+fault_text (Domain fault) = codes "dsedge: domain " ++ domain_fault_text fault ++ codes "\n"
+fault_text (Certificate place) = codes "dsedge: certificate " ++ certificate_fault_text place.fault ++ codes "\n"
+fault_text (Capture fault) = codes "dsedge: capture " ++ capture_fault_text fault ++ codes "\n"
+fault_text (Port name) = codes "dsedge: port " ++ shown name ++ codes "\n"
+fault_text (Contract name) = codes "dsedge: contract " ++ shown name ++ codes "\n"
+fault_text (File name reason) = codes "dsedge: file " ++ shown name ++ codes "\n"
+fault_text Read = codes "dsedge: read\n"
+fault_text Write = codes "dsedge: write\n"
+fault_text Memory = codes "dsedge: memory\n"
+fault_text Full = codes "dsedge: full\n"
+
+-- the exit status of a fault: 2 usage, 3 input, 4 device, 5 memory or a full journal
+abbrev pub status_of : Fault → ℕ
+status_of Usage = 2
+status_of (Line number) = 3
+status_of (Domain fault) = 3
+status_of (Certificate place) = 3
+status_of (Capture fault) = 3
+status_of (Port name) = 3
+status_of (Contract name) = 3
+status_of (File name reason) = 4
+status_of Read = 4
+status_of Write = 4
+status_of Memory = 5
+status_of Full = 5
+
+-- what is told of a fault is its line, and of a table that the checker refuses, the checker's line as it is
+abbrev pub notice_text : Notice → List ℕ
+notice_text (notices.Fault fault) = fault_text fault
+notice_text (notices.Refusal line) = line
+
+-- A text was written behind what stood; or a front of it, where the device failed.
+abbrev pub IsTold : List ℕ → List ℕ → List ℕ → ℕ → ℕ → Type 0
+IsTold text before after failed now =
+    (after ≡ before ++ text) ⊎ (IsFrontOf before text after × (now ≡ next_count failed))
