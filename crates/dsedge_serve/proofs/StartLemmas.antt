@@ -13,8 +13,10 @@ use Rattle.dsedge_lines.specs.declared.words.FirstLineFault.{FirstLineFault}
 use Rattle.dsedge_lines.specs.declared.words.FirstLineFault.TheVariants as first_line_faults
 use Rattle.dsedge_lines.specs.declared.command.Ending.TheVariants as endings
 use Rattle.dsedge_lines.specs.declared.fault.PumpFault.TheVariants as pump_faults
+use Rattle.ds_ledger_base.specs.declared.fault.BookFault.TheVariants as books
+use Rattle.ds_ledger_base.specs.declared.fault.LedgerFault.TheVariants as ledgers
 use Rattle.ds_marking.specs.declared.fault.MarkFault.TheVariants as marks
-use Rattle.dsedge_serve.specs.declared.conclusion.Conclusion.TheVariants.{Ended, Unaccepted, Uncertified, Unsound}
+use Rattle.dsedge_serve.specs.declared.conclusion.Conclusion.TheVariants.{Ended, Unaccepted, Uncertified, Unkept, Unsound}
 use Rattle.dsedge_serve.specs.declared.outcome.Outcome.{Outcome}
 use Rattle.dsedge_serve.specs.declared.outcome.Outcome.TheVariants.{Answered, Marked, Misused, Unnamed}
 use Rattle.dsedge_serve.specs.Served.{IsAnswered, is_misused, status_after}
@@ -66,6 +68,14 @@ served_is_no_usage port (Answered (Ok (Ended endings.Full))) e = absurd (omega (
 served_is_no_usage port (Answered (Ok (Unsound fault))) e = absurd (omega (arith, e))
 served_is_no_usage port (Answered (Ok (Uncertified fault))) e = absurd (omega (arith, e))
 served_is_no_usage port (Answered (Ok (Unaccepted line))) e = absurd (omega (arith, e))
+served_is_no_usage port (Answered (Ok (Unkept (books.Ledger ledgers.NoDatabase)))) e = absurd (omega (arith, e))
+served_is_no_usage port (Answered (Ok (Unkept (books.Ledger ledgers.Damaged)))) e = absurd (omega (arith, e))
+served_is_no_usage port (Answered (Ok (Unkept (books.Ledger ledgers.Form)))) e = absurd (omega (arith, e))
+served_is_no_usage port (Answered (Ok (Unkept (books.Ledger ledgers.Busy)))) e = absurd (omega (arith, e))
+served_is_no_usage port (Answered (Ok (Unkept (books.Ledger ledgers.Open)))) e = absurd (omega (arith, e))
+served_is_no_usage port (Answered (Ok (Unkept (books.Ledger ledgers.Write)))) e = absurd (omega (arith, e))
+served_is_no_usage port (Answered (Ok (Unkept (books.Ledger ledgers.NoMemory)))) e = absurd (omega (arith, e))
+served_is_no_usage port (Answered (Ok (Unkept (books.Command refused)))) e = absurd (omega (arith, e))
 served_is_no_usage port (Answered (Err pump_faults.Read)) e = absurd (omega (arith, e))
 served_is_no_usage port (Answered (Err pump_faults.Write)) e = absurd (omega (arith, e))
 served_is_no_usage port (Answered (Err pump_faults.NoMemory)) e = absurd (omega (arith, e))
