@@ -42,6 +42,8 @@ impl<'a> FileShelf<'a> {
 impl<'a> Shelf for FileShelf<'a> {
     type Kept = FileLedger;
 
+    ghost stands = { λ _ _ _. Unit {0} };
+
     /// A file that is not there is made, for its owner alone.
     fn open(&self, alloc: Global, name: &str) -> Result<(FileLedger, Vec<Command>), LedgerFault> {
         make_file(self.rt, name)?;

@@ -1,4 +1,4 @@
-ghost use Rattle.std.specs.Prelude.{◌≡◌, List, ◌++◌, IfOk, OnErr, OnOk};
+ghost use Rattle.std.specs.Prelude.{◌≡◌, ℕ, List, ◌++◌, IfOk, OnErr, OnOk};
 
 use crate::fault::LedgerFault;
 use ds_broker::Command;
@@ -31,13 +31,17 @@ pub trait Shelf {
     /// A ledger that stands there.
     type Kept: Ledger + Drop;
 
+    // Under a name stands a ledger that keeps these commands.
+    ghost stands: { Self → List ℕ → List Command → Type 0 };
+
     /// The ledger of a name, with the commands that it keeps. One that is not there is made, and keeps none.
     fn open(
         &self,
         alloc: Global,
         name: &str,
     ) -> Result<(Self::Kept, Vec<Command>), LedgerFault>
-        ensures { IfOk result (λ opened. Self.Kept.tells opened.0 → Self.Kept.keeps opened.0 opened.1.items) };
+        ensures stood { IfOk result (λ opened. stands self.now name.now opened.1.items) }
+        ensures kept { IfOk result (λ opened. Self.Kept.tells opened.0 → Self.Kept.keeps opened.0 opened.1.items) };
 }
 
 /// A ledger of a book that ends with its process: it keeps nothing, and tells nothing.

@@ -36,6 +36,8 @@ impl Folder for Cabinet<'_> {
 impl Shelf for Cabinet<'_> {
     type Kept = FileLedger;
 
+    ghost stands = { λ _ _ _. Unit {0} };
+
     fn open(&self, alloc: Global, name: &str) -> Result<(FileLedger, Vec<Command>), LedgerFault> {
         self.shelf.open(alloc, name)
     }

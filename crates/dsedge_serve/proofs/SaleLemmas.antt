@@ -24,7 +24,7 @@ use Rattle.dsedge_drive.specs.declared.command.Sale.{Sale}
 use Rattle.pcap_capture.specs.Fronts.{IsFrontOf}
 use Rattle.pcap_capture.proofs.FrontLaws.{IsFrontOf-none}
 use Rattle.dsedge_serve.specs.Sales.{concluded_as, refused_as, unkept_as, unledgered_as, unopened_as}
-use Rattle.dsedge_serve.specs.Served.{IsKeptServed, IsServed, IsSoldBehind, IsSoldFrom, IsSoldOn, Reply, reply_of}
+use Rattle.dsedge_serve.specs.Served.{IsKeptServed, IsServed, IsSoldBehind, IsSoldFrom, IsSoldOn, IsUnshelved, Reply, reply_of}
 use Rattle.dsedge_serve.specs.declared.conclusion.Conclusion.{Conclusion}
 use Rattle.dsedge_serve.specs.declared.conclusion.Conclusion.TheVariants.{Ended, Unaccepted, Uncertified, Unkept, Unsound}
 
@@ -153,23 +153,19 @@ unledgered_faults (Ok (Unaccepted line)) = (refl, refl)
 unledgered_faults (Ok (Unkept fault)) = (refl, refl)
 
 -- a ledger that cannot be opened ends a sale before its first line
-pub unshelved : (limits : Limits) (parsed : Domain × List Contract) (lines : List (List ℕ)) (fault : LedgerFault) (before : List ℕ)
-    → IsSoldOn limits parsed lines (unkept_as fault) before before
-unfolding replay
-unshelved limits parsed lines fault before =
-    let answer = drive_from parsed.1 (opening_book parsed.0 limits) 1 lines in
-    record { history = []; sold = unkept_served (reply_of answer) fault before before (IsFrontOf-none before answer.text) }
+pub unshelved : (fault : LedgerFault) (before : List ℕ) → IsUnshelved (unkept_as fault) before before
+unshelved fault before = (fault, refl, refl)
 
 -- a sale goes on from the commands of a ledger
-pub sold_on : (limits : Limits) (parsed : Domain × List Contract) (lines : List (List ℕ)) (outcome : Result Conclusion PumpFault) (before after : List ℕ)
-    (history : List Command)
+pub sold_on : (stands : List Command → Type 0) (limits : Limits) (parsed : Domain × List Contract) (lines : List (List ℕ)) (outcome : Result Conclusion PumpFault)
+    (before after : List ℕ) (history : List Command) → stands history
     → IsSoldBehind (replay (opening_book parsed.0 limits) history) parsed.1 lines outcome before after
-    → IsSoldOn limits parsed lines outcome before after
-sold_on limits parsed lines outcome before after history sold = record { history = history; sold = sold }
+    → IsSoldOn stands limits parsed lines outcome before after
+sold_on stands limits parsed lines outcome before after history stood sold = record { history = history; stood = stood; sold = sold }
 
 -- want of memory ends a sale before its first line, whatever the text says
-pub starved_from : (limits : Limits) (found : Result (Domain × List Contract) DomainFault) (lines : List (List ℕ)) (before : List ℕ)
-    → IsSoldFrom limits found lines (Err pump_faults.NoMemory) before before
-starved_from limits (Ok parsed) lines before = record { history = []; sold = starved (replay (opening_book parsed.0 limits) []) parsed.1 lines before }
-starved_from limits (Err fault) lines before =
+pub starved_from : (stands : List Command → Type 0) (limits : Limits) (found : Result (Domain × List Contract) DomainFault) (lines : List (List ℕ)) (before : List ℕ)
+    → IsSoldFrom stands limits found lines (Err pump_faults.NoMemory) before before
+starved_from stands limits (Ok parsed) lines before = inl (unshelved ledgers.NoMemory before)
+starved_from stands limits (Err fault) lines before =
     failed (record { text = []; conclusion = Unsound fault }) pump_faults.NoMemory before before (IsFrontOf-none before [])

@@ -28,6 +28,7 @@ use Rattle.ds_broker.specs.declared.command.Command.{Command}
 use Rattle.ds_broker.specs.declared.refusal.BrokerRefusal.{BrokerRefusal}
 use Rattle.ds_ledger_base.specs.Replays.{replay}
 use Rattle.ds_ledger_base.specs.declared.fault.BookFault.TheVariants as books
+use Rattle.ds_ledger_base.specs.declared.fault.LedgerFault.{LedgerFault}
 use Rattle.dsedge_drive.specs.Driven.{drive_from, driven, opening_book}
 use Rattle.dsedge_texts.specs.Accepted.{accepted_in}
 use Rattle.dsedge_texts.specs.Certified.{certified}
@@ -42,6 +43,7 @@ use Rattle.dsedge_serve.specs.declared.conclusion.Conclusion.TheVariants.{Ended,
 use Rattle.dsedge_faults.specs.declared.fault.Fault.TheVariants as faults
 use Rattle.pcap_capture.specs.Fronts.{IsFrontOf}
 use Rattle.dsedge_faults.specs.Faults.{fault_text, notice_text, status_of}
+use Rattle.dsedge_serve.specs.Sales.{unkept_as}
 use Rattle.dsedge_serve.specs.Marked.{IsMarkedOver, IsUnmarked, is_sole, marking_answer, marking_status, marking_told, refusal_outcome, rule_said}
 use Rattle.dsedge_faults.specs.declared.notice.Notice.{Notice}
 use Rattle.dsedge_faults.specs.declared.notice.Notice.TheVariants as notices
@@ -120,27 +122,35 @@ IsSoldBehind (Err refused) offered lines outcome before after =
     (after ≡ before) × ((outcome ≡ Err pump_faults.NoMemory)
     ⊎ (outcome ≡ Ok (Unkept (books.Command (record { serial = refused.0; refusal = refused.1 })))))
 
--- a book of a domain went on from a history
-pub record IsSoldOn (limits : Limits) (parsed : Domain × List Contract) (lines : List (List ℕ))
-    (outcome : Result Conclusion PumpFault) (before after : List ℕ) : Type 0 where
+-- a book of a domain went on from a history that a ledger keeps which stands so
+pub record IsSoldOn (stands : List Command → Type 0) (limits : Limits) (parsed : Domain × List Contract)
+    (lines : List (List ℕ)) (outcome : Result Conclusion PumpFault) (before after : List ℕ) : Type 0 where
   pub history : List Command
+  pub stood : stands history
   pub sold : IsSoldBehind (replay (opening_book parsed.0 limits) history) parsed.1 lines outcome before after
 
-abbrev pub IsSoldFrom : Limits → Result (Domain × List Contract) DomainFault → List (List ℕ) → Result Conclusion PumpFault
-    → List ℕ → List ℕ → Type 0
-IsSoldFrom limits (Ok parsed) lines outcome before after = IsSoldOn limits parsed lines outcome before after
-IsSoldFrom limits (Err fault) lines outcome before after =
+-- a ledger could not be opened, which is told, and nothing was written
+abbrev pub IsUnshelved : Result Conclusion PumpFault → List ℕ → List ℕ → Type 0
+IsUnshelved outcome before after = (fault : LedgerFault) × (outcome ≡ unkept_as fault) × (after ≡ before)
+
+abbrev pub IsSoldFrom : (List Command → Type 0) → Limits → Result (Domain × List Contract) DomainFault
+    → List (List ℕ) → Result Conclusion PumpFault → List ℕ → List ℕ → Type 0
+IsSoldFrom stands limits (Ok parsed) lines outcome before after =
+    IsUnshelved outcome before after ⊎ IsSoldOn stands limits parsed lines outcome before after
+IsSoldFrom stands limits (Err fault) lines outcome before after =
     IsServed (record { text = []; conclusion = Unsound fault }) outcome before after
 
--- Contracts were sold: from the first command on, or where a file keeps the book, from those on that it keeps.
-abbrev pub IsSold : Option (List ℕ) → Limits → Result (Domain × List Contract) DomainFault → List (List ℕ) → Outcome
-    → List ℕ → List ℕ → Type 0
-IsSold None limits found lines outcome before after = IsReplied (reply_sold limits found lines) outcome before after
-IsSold (Some name) limits found lines (Answered outcome) before after =
-    IsSoldFrom limits found lines outcome before after
-IsSold (Some name) limits found lines Unnamed before after = ⊥
-IsSold (Some name) limits found lines Misused before after = ⊥
-IsSold (Some name) limits found lines (Marked report fault) before after = ⊥
+-- Contracts were sold: from the first command on, or where a file keeps the book, from those on that it keeps, as files
+-- stand by their names.
+abbrev pub IsSold : (List ℕ → List Command → Type 0) → Option (List ℕ) → Limits
+    → Result (Domain × List Contract) DomainFault → List (List ℕ) → Outcome → List ℕ → List ℕ → Type 0
+IsSold stands None limits found lines outcome before after =
+    IsReplied (reply_sold limits found lines) outcome before after
+IsSold stands (Some name) limits found lines (Answered outcome) before after =
+    IsSoldFrom (stands name) limits found lines outcome before after
+IsSold stands (Some name) limits found lines Unnamed before after = ⊥
+IsSold stands (Some name) limits found lines Misused before after = ⊥
+IsSold stands (Some name) limits found lines (Marked report fault) before after = ⊥
 
 -- the text of the first file, and of the second
 abbrev pub first_text : List (List ℕ) → List ℕ
@@ -189,26 +199,26 @@ IsQuoted found (Marked report fault) before after = ⊥
 
 -- What a plan asks for was written, for the texts of its files and the bytes that the input had, of which it still has
 -- more.
-abbrev pub IsAnswered : Plan → List (List ℕ) → List ℕ → List ℕ → Outcome → List ℕ → List ℕ → Type 0
-IsAnswered (Show text) texts bytes more outcome before after =
+abbrev pub IsAnswered : (List ℕ → List Command → Type 0) → Plan → List (List ℕ) → List ℕ → List ℕ → Outcome → List ℕ → List ℕ → Type 0
+IsAnswered stands (Show text) texts bytes more outcome before after =
     IsReplied (whole_text (string_bytes text)) outcome before after
-IsAnswered (Meter meter) texts bytes more outcome before after =
+IsAnswered stands (Meter meter) texts bytes more outcome before after =
     IsReplied (reply_of (answer_of (fresh_meter meter) 1 (lines_of bytes))) outcome before after
-IsAnswered (Envelope rate burst) texts bytes more outcome before after =
+IsAnswered stands (Envelope rate burst) texts bytes more outcome before after =
     IsReplied (reply_of (verdict_on (envelope_for rate burst) (lines_of bytes))) outcome before after
-IsAnswered (Certify domain) texts bytes more outcome before after =
+IsAnswered stands (Certify domain) texts bytes more outcome before after =
     IsReplied (reply_by (certified (first_text texts))) outcome before after
-IsAnswered (Check domain certificate) texts bytes more outcome before after =
+IsAnswered stands (Check domain certificate) texts bytes more outcome before after =
     IsReplied (reply_on (accepted_in (first_text texts) (second_text texts))) outcome before after
-IsAnswered (Headroom domain) texts bytes more outcome before after =
+IsAnswered stands (Headroom domain) texts bytes more outcome before after =
     IsReplied (reply_told (headroom_in (first_text texts))) outcome before after
-IsAnswered (Quote domain contract field) texts bytes more outcome before after =
+IsAnswered stands (Quote domain contract field) texts bytes more outcome before after =
     IsQuoted (quote_in (first_text texts) contract field) outcome before after
-IsAnswered (Audit domain certificate) texts bytes more outcome before after =
+IsAnswered stands (Audit domain certificate) texts bytes more outcome before after =
     IsReplied (reply_over (accepted_in (first_text texts) (second_text texts)) (lines_of bytes)) outcome before after
-IsAnswered (Drive domain limits book) texts bytes more outcome before after =
-    IsSold book limits (parse_of (first_text texts)) (lines_of bytes) outcome before after
-IsAnswered (Mark domain certificate port workers keeps_red) texts bytes more outcome before after =
+IsAnswered stands (Drive domain limits book) texts bytes more outcome before after =
+    IsSold stands book limits (parse_of (first_text texts)) (lines_of bytes) outcome before after
+IsAnswered stands (Mark domain certificate port workers keeps_red) texts bytes more outcome before after =
     IsMarkedAt (is_sole workers) (accepted_in (first_text texts) (second_text texts)) port (rule_said keeps_red) bytes
     more outcome before after
 

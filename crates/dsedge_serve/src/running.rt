@@ -49,7 +49,7 @@ pub fn run<R: Wait + Threads + Sync, D: Folder + Shelf, I: Intake, O: Outlet, F:
         (course : Course) × (result ≡ status_in course)
         × (AreKnown words (I.tells intake.old) → IsCourseFrom words (I.left intake.old) course)
         × IsCourseOf (D.tells folder.now) (D.holds folder.now) course
-        × IsWritten course (I.tells intake.old × O.tells output.old) (input_from words (I.left intake.old))
+        × IsWritten (D.stands folder.now) course (I.tells intake.old × O.tells output.old) (input_from words (I.left intake.old))
         (I.left intake.new)
         (O.held output.old) (O.held output.new)
         × (F.tells faults.old →
@@ -112,7 +112,7 @@ fn run_on<R: Wait + Threads + Sync, D: Folder + Shelf, I: Intake, O: Outlet, F: 
         (course : Course) × (result ≡ status_in course)
         × (AreKnown texts (I.tells intake.old) → IsCourseFrom texts (I.left intake.old) course)
         × IsCourseOf (D.tells folder.now) (D.holds folder.now) course
-        × IsWritten course (I.tells intake.old × O.tells output.old) (input_from texts (I.left intake.old))
+        × IsWritten (D.stands folder.now) course (I.tells intake.old × O.tells output.old) (input_from texts (I.left intake.old))
         (I.left intake.new)
         (O.held output.old) (O.held output.new)
         × (F.tells faults.old →

@@ -85,7 +85,7 @@ pub(crate) fn answer_kept<R: Wait, S: Shelf, I: Intake, O: Outlet>(
     output: &mut O,
 ) -> Result<Conclusion, PumpFault>
     ensures served { I.tells intake.old → O.tells output.old →
-        IsSoldFrom place.now.limits (parse_of text.now) (lines_of (I.left intake.old)) result (O.held output.old)
+        IsSoldFrom (S.stands place.now.shelf.now place.now.name.now) place.now.limits (parse_of text.now) (lines_of (I.left intake.old)) result (O.held output.old)
         (O.held output.new) }
     ensures unsound { IsUnsoundBefore (parse_of text.now) (Outcome.Answered result) }
     ensures writes { IsOfWrites (is_write_fault result) (O.failed output.old) (O.failed output.new) }

@@ -200,7 +200,8 @@ fn answer<R: Wait + Threads + Sync, S: Shelf, I: Intake, O: Outlet>(
 ) -> Outcome
     requires { length texts.now ≡ length (files_of plan.now) }
     ensures served { I.tells intake.old → O.tells output.old →
-        IsAnswered plan.now (map (λ text. text.items) texts.now) (I.left intake.old) (I.left intake.new) result
+        IsAnswered (S.stands shelf.now) plan.now (map (λ text. text.items) texts.now) (I.left intake.old)
+        (I.left intake.new) result
         (O.held output.old) (O.held output.new) }
     ensures foreseen { IsForeseen plan.now (map (λ text. text.items) texts.now) result }
     ensures writes { IsOfWrites (is_output_fault result) (O.failed output.old) (O.failed output.new) }
@@ -416,7 +417,8 @@ pub fn serve<R: Wait + Threads + Sync, S: Shelf, I: Intake, O: Outlet, F: Outlet
     ensures outcome { let port = port_of plan.now in
         (outcome : Outcome) × (result.status ≡ status_after port outcome)
         × (I.tells intake.old → O.tells output.old →
-        IsAnswered plan.now (map (λ text. text.items) texts.now) (I.left intake.old) (I.left intake.new) outcome
+        IsAnswered (S.stands shelf.now) plan.now (map (λ text. text.items) texts.now) (I.left intake.old)
+        (I.left intake.new) outcome
         (O.held output.old) (O.held output.new))
         × (F.tells faults.old →
         IsTold (told_after port outcome) (F.held faults.old) (F.held faults.new) (F.failed faults.old)

@@ -95,7 +95,7 @@ fn start_with<R: Wait + Threads + Sync, D: Folder + Shelf, I: Intake, O: Outlet,
     ensures course { (course : Course) × (result.status ≡ status_in course)
         × IsCourseWith plan.now course
         × IsCourseOf (D.tells folder.now) (D.holds folder.now) course
-        × IsWritten course (I.tells intake.old × O.tells output.old) (I.left intake.old) (I.left intake.new)
+        × IsWritten (D.stands folder.now) course (I.tells intake.old × O.tells output.old) (I.left intake.old) (I.left intake.new)
         (O.held output.old) (O.held output.new)
         × (F.tells faults.old →
         IsTold (told_in course) (F.held faults.old) (F.held faults.new) (F.failed faults.old) (F.failed faults.new))
@@ -133,7 +133,7 @@ fn start_on<R: Wait + Threads + Sync, D: Folder + Shelf, I: Intake, O: Outlet, F
     ensures course { (course : Course) × (result.status ≡ status_in course)
         × IsCourseOn (map string_bytes words.now) course
         × IsCourseOf (D.tells folder.now) (D.holds folder.now) course
-        × IsWritten course (I.tells intake.old × O.tells output.old) (I.left intake.old) (I.left intake.new)
+        × IsWritten (D.stands folder.now) course (I.tells intake.old × O.tells output.old) (I.left intake.old) (I.left intake.new)
         (O.held output.old) (O.held output.new)
         × (F.tells faults.old →
         IsTold (told_in course) (F.held faults.old) (F.held faults.new) (F.failed faults.old) (F.failed faults.new))
@@ -171,7 +171,7 @@ pub fn start<R: Wait + Threads + Sync, D: Folder + Shelf, I: Intake, O: Outlet, 
         (course : Course) × (result.status ≡ status_in course)
         × (AreKnown texts (I.tells intake.old) → IsCourseFrom texts (I.left intake.old) course)
         × IsCourseOf (D.tells folder.now) (D.holds folder.now) course
-        × IsWritten course (I.tells intake.old × O.tells output.old) (input_from texts (I.left intake.old))
+        × IsWritten (D.stands folder.now) course (I.tells intake.old × O.tells output.old) (input_from texts (I.left intake.old))
         (I.left intake.new)
         (O.held output.old) (O.held output.new)
         × (F.tells faults.old →

@@ -60,6 +60,8 @@ impl Folder for MemoryFolder<'_> {
 impl Shelf for MemoryFolder<'_> {
     type Kept = Unkept;
 
+    ghost stands = { λ _ _ _. ⊥ };
+
     /// Memory keeps no book: no ledger stands there.
     fn open(&self, _alloc: Global, _name: &str) -> Result<(Unkept, Vec<Command>), LedgerFault> {
         Err(LedgerFault::Open)
