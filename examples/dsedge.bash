@@ -7,7 +7,8 @@ _dsedge() {
         --mode) COMPREPLY=($(compgen -W 'blind aware' -- "$word")); return ;;
         --red) COMPREPLY=($(compgen -W 'keep drop' -- "$word")); return ;;
         --workers) COMPREPLY=($(compgen -W '1 2 3 4 8 16 32 64' -- "$word")); return ;;
-        --cir | --cbs | --ebs | --pir | --pbs | --eir | --origin | --rate | --burst | --port | --contract) return ;;
+        --book) COMPREPLY=($(compgen -f -- "$word")); return ;;
+        --contracts | --commands | --cir | --cbs | --ebs | --pir | --pbs | --eir | --origin | --rate | --burst | --port | --contract) return ;;
         --most) COMPREPLY=($(compgen -W 'cir cbs pir pbs eir ebs' -- "$word")); return ;;
     esac
     if [ "$COMP_CWORD" -eq 1 ]; then
@@ -29,7 +30,13 @@ _dsedge() {
                 *) COMPREPLY=($(compgen -f -- "$word")) ;;
             esac
             ;;
-        certify | check | headroom | audit | drive)
+        drive)
+            case $word in
+                -*) COMPREPLY=($(compgen -W '--book --contracts --commands --help' -- "$word")) ;;
+                *) COMPREPLY=($(compgen -f -- "$word")) ;;
+            esac
+            ;;
+        certify | check | headroom | audit)
             case $word in
                 -*) COMPREPLY=($(compgen -W '--help' -- "$word")) ;;
                 *) COMPREPLY=($(compgen -f -- "$word")) ;;

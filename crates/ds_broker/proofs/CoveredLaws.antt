@@ -1,5 +1,5 @@
 -- What was granted by commands against which nothing stood is covered.
-use Rattle.std.proofs.Common.{◌≡◌, ◌≤◌, ◌<◌, ◌+◌, ℕ, zero, suc, Bool, true, false, List, [], ◌∷◌, ◌++◌, Option, None, Some, refl, sym, ap, subst, ◌∙◌, arith, inl, inr, append_assoc, append-nil, IfSome, IsSomeAnd, filter, is_none, is_some, length, map, max, nat_eq, nat_le, nat_lt, not, unwrap_or, ◌&&◌, if◌then◌else◌}
+use Rattle.std.proofs.Common.{◌≡◌, ◌≤◌, ◌<◌, ◌+◌, ◌^◌, ℕ, zero, suc, Bool, true, false, List, [], ◌∷◌, ◌++◌, Option, None, Some, refl, sym, ap, subst, ◌∙◌, arith, inl, inr, append_assoc, append-nil, IfSome, IsSomeAnd, filter, is_none, is_some, length, map, max, nat_eq, nat_le, nat_lt, not, unwrap_or, ◌&&◌, if◌then◌else◌}
 use Rattle.std.specs.List.{AllByRecursion}
 use Rattle.std.proofs.lemmas.Bool.{cases_Bool}
 use Rattle.std.proofs.lemmas.List.{length-map}
@@ -332,7 +332,7 @@ covered-behind d limits history unrefused =
       acceptable = safe.acceptable;
     }
 
-pub timeline-kept : (d : Domain) (limits : Limits) (history : List Command) → AreUnrefused (record { domain = d; limits = limits; history = [] }) history → length history ≤ 65536
+pub timeline-kept : (d : Domain) (limits : Limits) (history : List Command) → AreUnrefused (record { domain = d; limits = limits; history = [] }) history → length history ≤ 2 ^ 24
     → AllByRecursion (IsOfRates d) history
     → IsTimeline (timeline_behind d history)
 timeline-kept d limits history unrefused short rates = record {

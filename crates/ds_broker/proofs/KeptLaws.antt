@@ -1,5 +1,5 @@
 -- What the fields of a book keep is kept by each command.
-use Rattle.std.proofs.Common.{◌≡◌, ◌≤◌, ◌+◌, ℕ, true, false, List, [], ◌∷◌, ◌++◌, None, Some, sym, ap, subst, ◌∙◌, arith, refl, cond, length, max, slice_get, append-nil, append_assoc, set, bytes_eq, leb-false}
+use Rattle.std.proofs.Common.{◌≡◌, ◌≤◌, ◌+◌, ◌^◌, ℕ, true, false, List, [], ◌∷◌, ◌++◌, None, Some, sym, ap, subst, ◌∙◌, arith, refl, cond, length, max, slice_get, append-nil, append_assoc, set, bytes_eq, leb-false}
 use Rattle.std.specs.List.{IsDistinct, list_any, remove}
 use Rattle.std.proofs.lemmas.Cmp.{nat_list_eq_equiv}
 use Rattle.std.proofs.lemmas.List.{map-append, length_push}
@@ -50,7 +50,7 @@ record IsTaken (old new : book.Inside) (command : Command) : Type 0 where
   table : new.table ≡ table_in new.table.domain (held_in new)
   newest : new.newest ≡ (standing_of new.history.items).newest
   accepted : length new.history.items ≤ new.limits.history
-  short : length new.history.items ≤ 65536
+  short : length new.history.items ≤ 2 ^ 24
   unrefused : AreUnrefused (opened_as new) new.history.items
 
 taken : (old new : book.Inside) (command : Command) (change : Change) → IsBook old → IsChange (book_of old) command change

@@ -1,5 +1,5 @@
 -- What a command brings of a book that accepts it next.
-use Rattle.std.proofs.Common.{◌≡◌, ◌≤◌, ◌<◌, ◌+◌, ◌-◌, ℕ, zero, suc, true, false, List, [], ◌∷◌, ◌++◌, Option, None, Some, get_or, set, take, append-nil, append_assoc, refl, sym, ap, subst, ◌∙◌, arith, inl, inr, is_none, length, max, nat_eq}
+use Rattle.std.proofs.Common.{◌≡◌, ◌≤◌, ◌<◌, ◌+◌, ◌^◌, ◌-◌, ℕ, zero, suc, true, false, List, [], ◌∷◌, ◌++◌, Option, None, Some, get_or, set, take, append-nil, append_assoc, refl, sym, ap, subst, ◌∙◌, arith, inl, inr, is_none, length, max, nat_eq}
 use Rattle.std.specs.List.{AllByRecursion}
 use Rattle.std.proofs.lemmas.Bool.{cases_Bool}
 use Rattle.std.proofs.lemmas.List.{get_or_default, length-take, take_more}
@@ -22,7 +22,7 @@ use Rattle.ds_broker.proofs.RefusalLaws.{ordered, passed, roomy}
 use Rattle.ds_broker.proofs.StandingLaws.{IsBounded, granted-most, standing-bounded}
 use Rattle.ds_broker.specs.Kept.{IsGrantable, IsGranted, IsNext}
 
-grantable-in : (b : Book) (c : Contract) → reserve_refusal b c ≡ None → length b.history < 65536 → IsGrantable b.domain (past_of b.domain b.history) c
+grantable-in : (b : Book) (c : Contract) → reserve_refusal b c ≡ None → length b.history < 2 ^ 24 → IsGrantable b.domain (past_of b.domain b.history) c
 grantable-in b c none short =
     let past = past-kept b.domain b.history in
     let pass = passed b c (roomy (room_refusal b c) b c none) in
@@ -99,7 +99,7 @@ unrefused-at b (first ∷ commands) (suc place) command unrefused inside at =
     (unrefused-at (record b { history = b.history ++ first ∷ [] }) commands place command unrefused.1 (omega (arith, inside)) at)
 
 pub next-at : (d : Domain) (limits : Limits) (history : List Command) (place : ℕ) (command : Command) (p : Past) → AreUnrefused (record { domain = d; limits = limits; history = [] }) history
-    → length history ≤ 65536 → place < length history → command ≡ get_or history place command → p ≡ past_of d (take place history) → IsNext d p command
+    → length history ≤ 2 ^ 24 → place < length history → command ≡ get_or history place command → p ≡ past_of d (take place history) → IsNext d p command
 next-at d limits history place command p unrefused short inside at past = record {
   book = record { domain = d; limits = limits; history = take place history };
   domain = refl;
@@ -132,7 +132,7 @@ past-start d p newest granted =
 
 -- what was granted by an accepted history is a timeline
 pub timeline-taken : (d domain : Domain) (limits : Limits) (history : List Command) (rs : List Reservation) (p : Past)
-    → AreUnrefused (record { domain = d; limits = limits; history = [] }) history → length history ≤ 65536 → AllByRecursion (IsOfRates d) history
+    → AreUnrefused (record { domain = d; limits = limits; history = [] }) history → length history ≤ 2 ^ 24 → AllByRecursion (IsOfRates d) history
     → domain ≡ d → rs ≡ p.granted → p ≡ past_of d history
     → IsTimeline (record { domain = domain; reservations = rs })
 timeline-taken d domain limits history rs p unrefused short rates same granted past =

@@ -1,5 +1,5 @@
 -- What an accepted command changes in the table of its book, and in the flows of its contracts.
-use Rattle.std.specs.Prelude.{ℕ, ◌≡◌, ◌<◌, ⊤, false, true, List, [], ◌∷◌, ◌++◌, length, None, remove}
+use Rattle.std.specs.Prelude.{ℕ, ◌≡◌, ◌<◌, ◌^◌, ⊤, false, true, List, [], ◌∷◌, ◌++◌, length, None, remove}
 use Rattle.ds_domain_base.specs.Routes.{route_of}
 use Rattle.ds_checker.specs.Acceptance.{Table, refusal_of}
 use Rattle.ds_checker.specs.Changes.{with_contract, with_lifetime, without_contract}
@@ -63,4 +63,4 @@ pub record IsChange (b : Book) (command : Command) (change : Change) : Type 0 wh
   pub serial : change.serial ≡ next_serial b
   pub newest : change.newest ≡ newest_of (with_command b command)
   pub unrefused : refusal_in b command ≡ None
-  pub room : length b.history < 65536
+  pub room : length b.history < 2 ^ 24

@@ -1,5 +1,5 @@
 -- What the fields of a book stand for, and what they keep.
-use Rattle.std.specs.Prelude.{ℕ, Bool, true, ◌≡◌, ◌<◌, ◌≤◌, List, [], length, map, max, None, bytes_eq}
+use Rattle.std.specs.Prelude.{ℕ, Bool, true, ◌≡◌, ◌<◌, ◌≤◌, ◌^◌, List, [], length, map, max, None, bytes_eq}
 use Rattle.std.specs.List.{AllByRecursion, IsDistinct, list_any}
 use Rattle.ds_domain_base.specs.Domains.{Domain}
 use Rattle.ds_domain_base.specs.Lifetimes.{IsInOrder}
@@ -50,14 +50,14 @@ pub record IsBook (b : book.Inside) : Type 0 where
   pub newest : b.newest ≡ (standing_of b.history.items).newest
   pub room : length (held_in b) ≤ b.limits.table
   pub accepted : length b.history.items ≤ b.limits.history
-  pub short : length b.history.items ≤ 65536
+  pub short : length b.history.items ≤ 2 ^ 24
   pub unrefused : AreUnrefused (opened_as b) b.history.items
 
 -- commands that a book of a domain accepted, one after the other, from the first on
 pub record IsAccepted (d : Domain) (history : List Command) : Type 0 where
   pub limits : Limits
   pub unrefused : AreUnrefused (record { domain = d; limits = limits; history = [] }) history
-  pub short : length history ≤ 65536
+  pub short : length history ≤ 2 ^ 24
 
 -- what was granted so far is what a book granted, which accepts a command next
 pub record IsNext (d : Domain) (p : Past) (command : Command) : Type 0 where
@@ -65,13 +65,13 @@ pub record IsNext (d : Domain) (p : Past) (command : Command) : Type 0 where
   pub domain : book.domain ≡ d
   pub past : p ≡ past_of book.domain book.history
   pub unrefused : refusal_in book command ≡ None
-  pub short : length book.history < 65536
+  pub short : length book.history < 2 ^ 24
 
 -- a contract that a book grants next: it fits, it is in order once it begins, and there is a flow for it
 pub record IsGrantable (d : Domain) (p : Past) (c : Contract) : Type 0 where
   pub fit : fits d c ≡ true
   pub order : IsInOrder (max p.newest c.lifetime.since) c.lifetime.until
-  pub few : length p.granted < 65536
+  pub few : length p.granted < 2 ^ 24
 
 -- the id of a contract that was granted, each under the next id and none to begin behind the newest moment
 pub record IsGranted (p : Past) (id : ℕ) : Type 0 where

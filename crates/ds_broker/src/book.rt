@@ -1,6 +1,6 @@
 ghost use Rattle.std.specs.Prelude.{◌≡◌, ◌≤◌, ◌+◌, ◌-◌, [], false, true, None, Some, IfErr, IfOk, IfSome};
 ghost use Rattle.std.specs.Prelude.{OnErr, OnOk, length};
-ghost use Rattle.std.specs.Prelude.{◌<◌, IfNone, position, slice_get, unwrap_or};
+ghost use Rattle.std.specs.Prelude.{◌<◌, ◌^◌, IfNone, position, slice_get, unwrap_or};
 ghost use Rattle.std.specs.Bool.{OnFalse};
 ghost use Rattle.ds_certificate.specs.Bounds.{fits, least_of};
 ghost use Rattle.ds_checker.specs.Acceptance.{IsAcceptable};
@@ -273,7 +273,7 @@ impl Book {
 
     /// The number of the next command that it accepts.
     fn next_serial(&self) -> Serial
-        requires { length self.now.history < 65536 }
+        requires { length self.now.history < 2 ^ 24 }
         ensures { result ≡ next_serial self.now }
     {
         Serial::new(self.history.len() as u32 + 1)
@@ -282,7 +282,7 @@ impl Book {
     /// Whether it accepted as many commands as it may.
     fn is_history_full(&self) -> bool
         ensures value { result ≡ is_history_full self.now }
-        ensures room { OnFalse result (length self.now.history < 65536) }
+        ensures room { OnFalse result (length self.now.history < 2 ^ 24) }
     {
         self.history.len() >= self.limits.history() as usize
     }
@@ -322,7 +322,7 @@ impl Book {
         requires route { route.now ≡ route_of self.now.domain contract.now }
         ensures value { result ≡ reserve_refusal self.now contract.now }
         ensures roomy { IfNone result (room_refusal self.now contract.now ≡ None) }
-        ensures room { IfNone result (length self.now.history < 65536) }
+        ensures room { IfNone result (length self.now.history < 2 ^ 24) }
     {
         if self.is_table_full() {
             return Some(BrokerRefusal::TableFull);
@@ -361,7 +361,7 @@ impl Book {
     /// Refused for the first of these: `UnknownId`, `AlreadyReleased`, `HistoryFull`.
     fn releasable(&self, id: u32) -> Result<usize, BrokerRefusal>
         ensures found { IfOk result (λ place. IsFound id (held_of self.now) place false) }
-        ensures room { OnOk result (length self.now.history < 65536) }
+        ensures room { OnOk result (length self.now.history < 2 ^ 24) }
         ensures history { OnOk result (is_history_full self.now ≡ false) }
         ensures unrefused { OnOk result (release_refusal self.now id ≡ None) }
         ensures refused { IfErr result (λ refusal. release_refusal self.now id ≡ Some refusal) }
@@ -384,7 +384,7 @@ impl Book {
     /// Refused for the first of these: `UnknownId`, `NotReleased`, `HistoryFull`, `HoldLeft`.
     fn retirable(&self, id: u32, moment: Moment) -> Result<usize, BrokerRefusal>
         ensures found { IfOk result (λ place. IsFound id (held_of self.now) place true) }
-        ensures room { OnOk result (length self.now.history < 65536) }
+        ensures room { OnOk result (length self.now.history < 2 ^ 24) }
         ensures history { OnOk result (is_history_full self.now ≡ false) }
         ensures unrefused { OnOk result (retire_refusal self.now id moment ≡ None) }
         ensures refused { IfErr result (λ refusal. retire_refusal self.now id moment ≡ Some refusal) }

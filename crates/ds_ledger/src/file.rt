@@ -2,8 +2,9 @@ use crate::fault::fault_of_open;
 use crate::ledger::SqlLedger;
 use crate::reading::ledger_over;
 use ds_broker::Command;
-use ds_ledger_base::LedgerFault;
-use sqlite::{Connection, FileFrom, FileStore, Start};
+use ds_ledger_base::{LedgerFault, Shelf};
+use sqlite::{Connection, FileFrom, FileStore, Wary};
+use std::alloc::Global;
 use std::fs::OpenOptions;
 use std::io::ErrorKind;
 use std::os::unix::fs::OpenOptionsExt;
@@ -22,18 +23,33 @@ fn make_file(rt: &HostRuntime, path: &str) -> Result<(), LedgerFault> {
     }
 }
 
-/// The ledger in the file of a path, and the commands that it keeps. A file that is not there is made, for its owner
-/// alone.
-///
-/// It holds for any first contents `S`; a program passes what says how a torn write is read.
-pub fn open_ledger<S: Start>(
-    rt: &HostRuntime,
-    path: &str,
-    start: S,
-) -> Result<(SqlLedger<FileStore<FileFrom<S>>>, Vec<Command>), LedgerFault> {
-    make_file(rt, path)?;
-    match Connection::open_from(rt, path, true, start) {
-        Ok(conn) => ledger_over(rt.alloc(), conn),
-        Err((error, _)) => Err(fault_of_open(error)),
+/// A ledger in a file, read as one whose torn writes may leave anything.
+pub type FileLedger = SqlLedger<FileStore<FileFrom<Wary>>>;
+
+/// The ledgers in files, by their paths.
+#[derive(Drop)]
+pub struct FileShelf<'a> {
+    rt: &'a HostRuntime,
+}
+
+impl<'a> FileShelf<'a> {
+    /// The files of the system.
+    pub fn new(rt: &'a HostRuntime) -> Self {
+        FileShelf { rt }
+    }
+}
+
+impl<'a> Shelf for FileShelf<'a> {
+    type Kept = FileLedger;
+
+    ghost stands = { λ _ _ _. Unit {0} };
+
+    /// A file that is not there is made, for its owner alone.
+    fn open(&self, alloc: Global, name: &str) -> Result<(FileLedger, Vec<Command>), LedgerFault> {
+        make_file(self.rt, name)?;
+        match Connection::open_from(self.rt, name, true, Wary) {
+            Ok(conn) => ledger_over(alloc, conn),
+            Err((error, _)) => Err(fault_of_open(error)),
+        }
     }
 }

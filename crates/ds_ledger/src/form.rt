@@ -34,6 +34,12 @@ pub(crate) const SELECT: &str =
     until, src, src_length, dst, dst_length, protocol, sport_low, sport_high, dport_low, dport_high, dscp FROM \
     command";
 
+/// What reads the commands behind one of this serial.
+pub(crate) const SELECT_BEHIND: &str =
+    "SELECT serial, done, id, moment, name, port, path, class, kind, mode, cir, cbs, pir, pbs, eir, ebs, since, \
+    until, src, src_length, dst, dst_length, protocol, sport_low, sport_high, dport_low, dport_high, dscp FROM \
+    command WHERE serial > ?1";
+
 /// What reads the version of the form.
 pub(crate) const SELECT_VERSION: &str = "SELECT version FROM form";
 

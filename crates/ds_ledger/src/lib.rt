@@ -8,6 +8,6 @@ mod ledger;
 mod making;
 mod reading;
 
-pub use file::open_ledger;
-pub use ledger::SqlLedger;
+pub use file::{FileLedger, FileShelf};
+pub use ledger::{End, SqlLedger};
 pub use reading::ledger_over;

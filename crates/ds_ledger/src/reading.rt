@@ -2,21 +2,21 @@
 
 use crate::fault::fault_of_read;
 use crate::form::{SELECT, SELECT_VERSION, is_form};
-use crate::ledger::SqlLedger;
+use crate::ledger::{End, SqlLedger};
 use crate::making::settle;
 use ds_broker::Command;
 use ds_ledger_base::LedgerFault;
 use ds_ledger_rows::{RowFault, read_command};
-use sqlite::{Alter, Connection, Row};
-use sqlite_value::row;
+use sqlite::{Alter, Connection, Row as Shown, Rows};
+use sqlite_value::row::Row;
 use std::alloc::{AllocError, Global};
 
 /// The version of the form.
 const VERSION: i64 = 1;
 
 /// A copy of a row that was read.
-fn copied(alloc: Global, shown: &Row) -> Result<row::Row, AllocError> {
-    let mut row = row::Row::new(alloc);
+pub(crate) fn copied(alloc: Global, shown: &Shown) -> Result<Row, AllocError> {
+    let mut row = Row::new(alloc);
     for at in 0..shown.column_count() {
         match shown.get_ref(at) {
             Ok(value) => row.push(value)?,
@@ -26,53 +26,59 @@ fn copied(alloc: Global, shown: &Row) -> Result<row::Row, AllocError> {
     Ok(row)
 }
 
-/// The commands of rows, the first of which has the serial 1.
-fn commands_of(alloc: Global, rows: &[Row]) -> Result<Vec<Command>, LedgerFault> {
+/// The command of a row, which stands behind this end.
+fn command_of(alloc: Global, end: End, shown: &Shown) -> Result<Command, LedgerFault> {
+    let Ok(row) = copied(alloc, shown) else {
+        return Err(LedgerFault::NoMemory);
+    };
+    let (Some(serial), Some(id)) = (end.serial.checked_add(1), end.granted.checked_add(1)) else {
+        return Err(LedgerFault::Damaged);
+    };
+    match read_command(alloc, serial, id, &row) {
+        Ok(command) => Ok(command),
+        Err(RowFault::NoMemory) => Err(LedgerFault::NoMemory),
+        Err(RowFault::NoCommand) => Err(LedgerFault::Damaged),
+    }
+}
+
+/// The commands of rows, read one at a time, the first of which has the serial 1, and how far they go.
+fn commands_of<S: Alter>(
+    alloc: Global,
+    rows: &mut Rows<'_, S>,
+) -> Result<(Vec<Command>, End), LedgerFault> {
     let mut commands = Vec::new(alloc);
-    let mut granted = 0u32;
-    let mut serial = 0u32;
-    for row in rows {
-        let Ok(row) = copied(alloc, row) else {
-            return Err(LedgerFault::NoMemory);
+    let mut end = End::new();
+    for _ in 0..=u32::MAX {
+        let row = match rows.next() {
+            Ok(Some(row)) => row,
+            Ok(None) => return Ok((commands, end)),
+            Err(error) => return Err(fault_of_read(error)),
         };
-        if serial >= 65_536 {
+        let command = command_of(alloc, end, row)?;
+        let Some(next) = end.next(&command) else {
             return Err(LedgerFault::Damaged);
-        }
-        serial += 1;
-        let command = match read_command(alloc, serial, granted + 1, &row) {
-            Ok(command) => command,
-            Err(RowFault::NoMemory) => return Err(LedgerFault::NoMemory),
-            Err(RowFault::NoCommand) => return Err(LedgerFault::Damaged),
         };
-        if matches!(command, Command::Reserve(_)) {
-            granted += 1;
-        }
+        end = next;
         let Ok(()) = commands.push(command) else {
             return Err(LedgerFault::NoMemory);
         };
     }
-    Ok(commands)
+    Err(LedgerFault::Damaged)
 }
 
-/// All rows of the accepted commands.
-fn select<S: Alter>(conn: &mut Connection<S>) -> Result<Vec<Row>, LedgerFault> {
-    match conn.query_all(SELECT, &[]) {
-        Ok(rows) => Ok(rows),
+/// The commands that a database in the form of a ledger's keeps, and how far they go.
+fn commands_in<S: Alter>(
+    alloc: Global,
+    conn: &mut Connection<S>,
+) -> Result<(Vec<Command>, End), LedgerFault> {
+    match conn.query(SELECT, &[]) {
+        Ok(mut rows) => commands_of(alloc, &mut rows),
         Err(error) => Err(fault_of_read(error)),
     }
 }
 
-/// The commands that a database in the form of a ledger's keeps.
-fn commands_in<S: Alter>(
-    alloc: Global,
-    conn: &mut Connection<S>,
-) -> Result<Vec<Command>, LedgerFault> {
-    let rows = select(conn)?;
-    commands_of(alloc, rows.as_slice())
-}
-
 /// The row with the form's version.
-fn version<S: Alter>(conn: &mut Connection<S>) -> Result<Row, LedgerFault> {
+fn version<S: Alter>(conn: &mut Connection<S>) -> Result<Shown, LedgerFault> {
     match conn.query_row(SELECT_VERSION, &[]) {
         Ok(row) => Ok(row),
         Err(error) => Err(fault_of_read(error)),
@@ -112,6 +118,6 @@ pub fn ledger_over<S: Alter + Drop>(
     if !has_form(&mut conn)? {
         return Err(LedgerFault::Form);
     }
-    let commands = commands_in(alloc, &mut conn)?;
-    Ok((SqlLedger { conn, alloc }, commands))
+    let (commands, end) = commands_in(alloc, &mut conn)?;
+    Ok((SqlLedger { conn, alloc, end }, commands))
 }

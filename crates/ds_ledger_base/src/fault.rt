@@ -1,3 +1,4 @@
+use ds_broker::BrokerRefusal;
 use thiserror::Error;
 
 /// Why a ledger could not be opened, read or written.
@@ -24,4 +25,22 @@ pub enum LedgerFault {
     /// Memory ran out.
     #[error("out of memory")]
     NoMemory,
+}
+
+/// A command that a book refuses which a ledger keeps.
+#[derive(Clone, Copy, Debug, PartialEq, Eq, Drop)]
+pub struct RefusedReplay {
+    /// The serial of the command.
+    pub serial: u64,
+    /// Why it is refused.
+    pub refusal: BrokerRefusal,
+}
+
+/// Why a broker does not go on from its ledger, or with it.
+#[derive(Clone, Copy, Debug, PartialEq, Eq, Drop)]
+pub enum BookFault {
+    /// The ledger could not be opened, read or written.
+    Ledger(LedgerFault),
+    /// The domain refuses one of its commands now.
+    Command(RefusedReplay),
 }

@@ -1,8 +1,8 @@
-ghost use Rattle.std.specs.Prelude.{◌≡◌, ◌+◌, List, [], ◌∷◌, ◌++◌, length, OnErr, OnOk};
-ghost use Rattle.ds_ledger_base.specs.Numbers.{id_for};
+ghost use Rattle.std.specs.Prelude.{◌≡◌, ℕ, List, ◌++◌, IfOk, OnErr, OnOk};
 
 use crate::fault::LedgerFault;
-use ds_broker::{Command, Serial};
+use ds_broker::Command;
+use std::alloc::Global;
 
 /// What keeps the commands that a book accepted.
 pub trait Ledger {
@@ -14,15 +14,34 @@ pub trait Ledger {
     // It keeps these commands, in their order, and no others.
     ghost keeps: { Self → List Command → Type 0 };
 
-    /// Keeps one command more, behind the others, under the serial and the id that it was accepted with. What `Ok`
-    /// answers is kept over a crash.
-    fn append(&mut self, serial: Serial, id: u32, command: &Command) -> Result<(), LedgerFault>
+    /// Keeps commands more, which a book accepted behind the others: all of them, or none. What `Ok` answers is kept
+    /// over a crash.
+    fn append(&mut self, commands: &[Command]) -> Result<(), LedgerFault>
         ensures appended { tells self.new → OnOk result ((history : List Command) → keeps self.old history →
-            serial ≡ length history + 1 → id ≡ id_for history command.now →
-            keeps self.new (history ++ command.now ∷ [])) }
+            keeps self.new (history ++ commands.now)) }
         ensures unchanged { tells self.new → OnErr result ((history : List Command) → keeps self.old history →
             keeps self.new history) }
         ensures told { tells self.new → tells self.old };
+}
+
+/// Where ledgers stand by their names.
+pub trait Shelf {
+    ghost use Rattle.ds_broker.specs.declared.command.Command.{Command};
+
+    /// A ledger that stands there.
+    type Kept: Ledger + Drop;
+
+    // Under a name stands a ledger that keeps these commands.
+    ghost stands: { Self → List ℕ → List Command → Type 0 };
+
+    /// The ledger of a name, with the commands that it keeps. One that is not there is made, and keeps none.
+    fn open(
+        &self,
+        alloc: Global,
+        name: &str,
+    ) -> Result<(Self::Kept, Vec<Command>), LedgerFault>
+        ensures stood { IfOk result (λ opened. stands self.now name.now opened.1.items) }
+        ensures kept { IfOk result (λ opened. Self.Kept.tells opened.0 → Self.Kept.keeps opened.0 opened.1.items) };
 }
 
 /// A ledger of a book that ends with its process: it keeps nothing, and tells nothing.
@@ -34,7 +53,7 @@ impl Ledger for Unkept {
 
     ghost keeps = { λ _ _. Unit {0} };
 
-    fn append(&mut self, _serial: Serial, _id: u32, _command: &Command) -> Result<(), LedgerFault> {
+    fn append(&mut self, _commands: &[Command]) -> Result<(), LedgerFault> {
         Ok(())
     }
 }

@@ -5,6 +5,6 @@ mod fault;
 mod ledger;
 mod replaying;
 
-pub use fault::LedgerFault;
-pub use ledger::{Ledger, Unkept};
-pub use replaying::{RefusedReplay, replay};
+pub use fault::{BookFault, LedgerFault, RefusedReplay};
+pub use ledger::{Ledger, Shelf, Unkept};
+pub use replaying::replay;

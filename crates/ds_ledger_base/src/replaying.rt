@@ -1,16 +1,8 @@
 ghost use Rattle.std.specs.Prelude.{◌≡◌, ◌⊎◌, Err, IfErr, Ok, OnOk};
 ghost use Rattle.ds_ledger_base.specs.Replays.{replay};
 
+use crate::fault::RefusedReplay;
 use ds_broker::{Book, BrokerRefusal, Command};
-
-/// A command that a book refuses which a ledger keeps.
-#[derive(Clone, Copy, Debug, PartialEq, Eq, Drop)]
-pub struct RefusedReplay {
-    /// The serial of the command.
-    pub serial: u64,
-    /// Why it is refused.
-    pub refusal: BrokerRefusal,
-}
 
 /// Asks commands of a book in their order, and gives no answers: those of a ledger, when its broker begins again.
 ///

@@ -1,5 +1,5 @@
 -- What the type of a timeline keeps.
-use Rattle.std.specs.Prelude.{◌≡◌, ℕ, suc, ◌≤◌, ⊤, List, [], ◌∷◌, length}
+use Rattle.std.specs.Prelude.{◌≡◌, ℕ, suc, ◌≤◌, ◌^◌, ⊤, List, [], ◌∷◌, length}
 use Rattle.ds_domain_base.specs.Routes.{Route}
 use Rattle.ds_timeline.specs.Timelines.{AreRated, IsCovered, Timeline, routes_in}
 use Rattle.ds_timeline.specs.declared.reservation.Reservation.{Reservation}
@@ -15,7 +15,7 @@ pub record IsTimeline (t : Timeline) : Type 0 where
   pub covered : IsCovered t
   pub rated : AreRated t
   pub numbered : IsNumbered 0 t.reservations
-  pub few : length t.reservations ≤ 65536
+  pub few : length t.reservations ≤ 2 ^ 24
 
 -- beside it stand the routes of its contracts
 pub record IsRouted (t : Timeline) (routes : List Route) : Type 0 where

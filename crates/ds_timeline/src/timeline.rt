@@ -1,4 +1,4 @@
-ghost use Rattle.std.specs.Prelude.{◌≡◌, ◌≤◌, length, option_copied, option_map, slice_get};
+ghost use Rattle.std.specs.Prelude.{◌≡◌, ◌≤◌, ◌^◌, length, option_copied, option_map, slice_get};
 ghost use Rattle.ds_timeline.specs.Kept.{IsNumbered, IsTimeline};
 ghost use Rattle.ds_timeline.specs.Timelines.{AreRated, IsCovered, hold_in, reservation_of, route_in, routes_in};
 
@@ -66,7 +66,7 @@ impl Timeline {
         ensures covered { IsCovered self.now }
         ensures rated { AreRated self.now }
         ensures numbered { IsNumbered 0 result.now }
-        ensures few { length result.now ≤ 65536 }
+        ensures few { length result.now ≤ 2 ^ 24 }
     {
         self.reservations.as_slice()
     }

@@ -1,16 +1,19 @@
 //! `dsedge`: a traffic conditioner for the edge of a DiffServ domain (RFC 2475).
 #![tactic(auto)]
 
+mod cabinet;
 mod screen;
 mod watch;
 mod watched;
 
+use crate::cabinet::Cabinet;
 use crate::screen::Screen;
 use crate::watch::Watch;
 use crate::watched::{WatchedIntake, WatchedOutlet};
+use ds_ledger_base::Shelf;
 use dsedge_lines::Words;
 use dsedge_serve::{AtTerminal, run};
-use dsedge_texts::{Folder, SystemFolder};
+use dsedge_texts::Folder;
 use pcap_capture::{Intake, Outlet, ReadIntake, WriteOutlet};
 use std::env;
 use std::io::{self, IsTerminal};
@@ -26,7 +29,7 @@ fn command_line<R: Env + AllocGlobal>(rt: &R) -> io::Result<Words> {
 
 /// Runs the program with this folder and these devices, and gives its exit status. It names no type of theirs, since a
 /// call of `run` is dear to prove at one that has a lifetime.
-fn run_in<W: Wait + Threads + Sync, D: Folder, I: Intake, O: Outlet, F: Outlet>(
+fn run_in<W: Wait + Threads + Sync, D: Folder + Shelf, I: Intake, O: Outlet, F: Outlet>(
     rt: &HostRuntime,
     waiting: &W,
     folder: &D,
@@ -54,7 +57,7 @@ fn run_with<W: Wait + Threads + Sync, I: Intake, O: Outlet, F: Outlet>(
     output: &mut O,
     faults: &mut F,
 ) -> u8 {
-    run_in(rt, waiting, &SystemFolder::new(rt), intake, output, faults)
+    run_in(rt, waiting, &Cabinet::new(rt), intake, output, faults)
 }
 
 /// Runs the program on standard input, under the eye of a watch, if there is one.

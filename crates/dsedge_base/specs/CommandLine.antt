@@ -67,9 +67,13 @@ quote = with_rule (with_rule (with_rule (new_app (codes "quote"))
 abbrev pub audit : App
 audit = on_table (codes "audit")
 
--- contracts are sold of a domain
+-- contracts are sold of a domain, by a book that a file keeps and that takes so much where these are said
 abbrev pub drive : App
-drive = with_rule (new_app (codes "drive")) (positional (codes "domain"))
+drive = with_rule (with_rule (with_rule (with_rule (new_app (codes "drive"))
+    (positional (codes "domain")))
+    (optional (codes "book")))
+    (optional (codes "contracts")))
+    (optional (codes "commands"))
 
 -- a capture is marked at a port, by workers where it is said by how many, with a rule for red frames
 abbrev pub mark : App

@@ -13,7 +13,7 @@ files_of (Check domain certificate) = domain ∷ certificate ∷ []
 files_of (Headroom domain) = domain ∷ []
 files_of (Quote domain contract field) = domain ∷ []
 files_of (Audit domain certificate) = domain ∷ certificate ∷ []
-files_of (Drive domain) = domain ∷ []
+files_of (Drive domain limits book) = domain ∷ []
 files_of (Mark domain certificate port workers keeps_red) = domain ∷ certificate ∷ []
 
 -- the name that a domain has to have: of the port at which a capture is to be marked, or of the contract of a quote

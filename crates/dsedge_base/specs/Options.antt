@@ -7,6 +7,7 @@ use Rattle.meter_book_base.specs.AnyMeter.{fault_of, opening_of}
 use Rattle.meter_book_base.specs.declared.any_meter.AnyMeter.{AnyMeter}
 use Rattle.meter_book_base.specs.declared.any_meter.Parameters.{Parameters}
 use Rattle.meter_book_base.specs.declared.any_meter.Parameters.TheVariants as parameters
+use Rattle.ds_broker.specs.Books.{Limits}
 use Rattle.ds_quotes.specs.Words.{field_named}
 use Rattle.ds_quotes.specs.declared.field.Field.{Field}
 use Rattle.rfc4115_core.specs.declared.parameters.Rfc4115Parameters.{Rfc4115Parameters}
@@ -154,6 +155,24 @@ workers_asked (Some text) = workers_said text >>= (λ workers. Some (Some worker
 -- how many workers the options of `mark` ask for, likewise
 abbrev pub workers_given : Given → Option (Option ℕ)
 workers_given given = workers_asked (given (codes "workers"))
+
+-- how many contracts a book holds, 1 to 65,536: 4,096 where no text says it
+abbrev pub contracts_asked : Option (List ℕ) → Option ℕ
+contracts_asked None = Some 4096
+contracts_asked (Some text) = number_within 1 65536 text
+
+-- how many commands a book accepts, 1 to 2^24: 65,536 where no text says it
+abbrev pub commands_asked : Option (List ℕ) → Option ℕ
+commands_asked None = Some 65536
+commands_asked (Some text) = number_within 1 (2 ^ 24) text
+
+-- the file of a domain whose contracts are sold, how much its book takes, and the file that keeps it, if one does
+unfoldable pub drive_given : Given → Option (List ℕ × Limits × Option (List ℕ))
+drive_given given = do
+  domain ← given (codes "domain")
+  contracts ← contracts_asked (given (codes "contracts"))
+  commands ← commands_asked (given (codes "commands"))
+  Some (domain, record { table = contracts; history = commands }, given (codes "book"))
 
 -- whether red frames are kept, or dropped
 abbrev pub red_said : List ℕ → Option Bool

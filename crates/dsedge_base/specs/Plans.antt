@@ -5,7 +5,7 @@ use Rattle.clap.specs.Words.{IsAmong, Row, Text, fault_of, first_of, subcommand_
 use Rattle.clap.specs.declared.error.kind.ErrorKind.{ErrorKind}
 use Rattle.clap.specs.declared.error.kind.ErrorKind.TheVariants.{DisplayHelp, DisplayVersion}
 use Rattle.dsedge_base.specs.CommandLine.{dsedge}
-use Rattle.dsedge_base.specs.Options.{Given, envelope_given, marking_given, meter_given, quote_given, table_given, workers_given, ◌>>=◌}
+use Rattle.dsedge_base.specs.Options.{Given, drive_given, envelope_given, marking_given, meter_given, quote_given, table_given, workers_given, ◌>>=◌}
 use Rattle.dsedge_base.specs.declared.explanation.Explanation.{Explanation}
 use Rattle.dsedge_base.specs.declared.explanation.Explanation.TheVariants.{Form, Value, Workers}
 use Rattle.dsedge_base.specs.declared.fault.UsageFault.{UsageFault}
@@ -40,7 +40,7 @@ plan_of c =
     else if bytes_eq c.0 (codes "headroom") then given_by c.1 (codes "domain") >>= (λ domain. Some (Headroom domain))
     else if bytes_eq c.0 (codes "quote") then
     quote_given (given_by c.1) >>= (λ q. Some (Quote q.0 q.1 q.2))
-    else if bytes_eq c.0 (codes "drive") then given_by c.1 (codes "domain") >>= (λ domain. Some (Drive domain))
+    else if bytes_eq c.0 (codes "drive") then drive_given (given_by c.1) >>= (λ d. Some (Drive d.0 d.1 d.2))
     else if bytes_eq c.0 (codes "check") then check_given (given_by c.1)
     else if bytes_eq c.0 (codes "audit") then audit_given (given_by c.1)
     else if bytes_eq c.0 (codes "mark") then mark_given (given_by c.1)
@@ -69,7 +69,7 @@ IsPlanOf words (Check domain certificate) = IsWellFormed words × (asked_by word
 IsPlanOf words (Headroom domain) = IsWellFormed words × (asked_by words ≡ Some (Headroom domain))
 IsPlanOf words (Quote domain contract field) = IsWellFormed words × (asked_by words ≡ Some (Quote domain contract field))
 IsPlanOf words (Audit domain certificate) = IsWellFormed words × (asked_by words ≡ Some (Audit domain certificate))
-IsPlanOf words (Drive domain) = IsWellFormed words × (asked_by words ≡ Some (Drive domain))
+IsPlanOf words (Drive domain limits book) = IsWellFormed words × (asked_by words ≡ Some (Drive domain limits book))
 IsPlanOf words (Mark domain certificate port workers keeps_red) =
     IsWellFormed words × (asked_by words ≡ Some (Mark domain certificate port workers keeps_red))
 
@@ -115,5 +115,5 @@ IsShown (Check domain certificate) = ⊥
 IsShown (Headroom domain) = ⊥
 IsShown (Quote domain contract field) = ⊥
 IsShown (Audit domain certificate) = ⊥
-IsShown (Drive domain) = ⊥
+IsShown (Drive domain limits book) = ⊥
 IsShown (Mark domain certificate port workers keeps_red) = ⊥

@@ -177,7 +177,27 @@ const COMMANDS: &[CommandEntry] = &[
     CommandEntry {
         name: "drive",
         about: "Sells a domain's contracts: lines reserve, release, retire, quote, headroom, list and look.",
-        arguments: &[DOMAIN],
+        arguments: &[
+            DOMAIN,
+            ArgumentEntry {
+                form: Form::Choice,
+                name: "book",
+                value: "FILE",
+                help: "the SQLite file that keeps the book: made where it is not there, else the book goes on",
+            },
+            ArgumentEntry {
+                form: Form::Choice,
+                name: "contracts",
+                value: "COUNT",
+                help: "how many contracts the book holds at most, 1 to 65,536 [default: 4,096]",
+            },
+            ArgumentEntry {
+                form: Form::Choice,
+                name: "commands",
+                value: "COUNT",
+                help: "how many commands the book accepts, 1 to 16,777,216 [default: 65,536]",
+            },
+        ],
     },
     CommandEntry {
         name: "mark",

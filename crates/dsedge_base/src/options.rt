@@ -1,7 +1,7 @@
-ghost use Rattle.std.specs.Prelude.{◌≡◌, option_map};
+ghost use Rattle.std.specs.Prelude.{◌≡◌, ◌≤◌, ◌^◌, IfSome, option_map};
 ghost use Rattle.clap.specs.Words.{first_of, found_of, rows_of};
 ghost use Rattle.dsedge_base.specs.Options.{burst_given, burst_said, envelope_burst_said, envelope_given, field_given};
-ghost use Rattle.dsedge_base.specs.Options.{is_given};
+ghost use Rattle.dsedge_base.specs.Options.{commands_asked, contracts_asked, drive_given, is_given, number_within};
 ghost use Rattle.dsedge_base.specs.Options.{marking_given, meter_given, mode_said, moment_said, opened};
 ghost use Rattle.dsedge_base.specs.Options.{origin_said, parameters_given, quote_given, rate_given, rate_said, red_said};
 ghost use Rattle.dsedge_base.specs.Options.{separate_rates_given, single_rate_given, table_given, two_rate_given};
@@ -9,6 +9,7 @@ ghost use Rattle.dsedge_base.specs.Options.{workers_asked, workers_given, worker
 ghost use Rattle.dsedge_base.specs.Plans.{given_by};
 
 use clap::ArgMatches;
+use ds_broker::Limits;
 use ds_quotes::Field;
 use dsedge_lines::GivenName;
 use line_text::number;
@@ -23,6 +24,12 @@ const MOST_ENVELOPE_BURST: u64 = 1_000_000_000_000_000;
 
 /// The most workers that mark a capture.
 const MOST_WORKERS: u64 = 64;
+
+/// How many contracts a book holds where no option says it.
+const CONTRACTS: u32 = 4096;
+
+/// How many commands a book accepts where no option says it.
+const COMMANDS: u32 = 65_536;
 
 /// The meter that the options of `meter` ask for, if they ask for one.
 #[tactic(auto, unfolding(crate::specs::Options::meter_given))]
@@ -93,6 +100,22 @@ pub(crate) fn marking_in<'a>(options: &ArgMatches<'a>) -> Option<(GivenName<'a>,
     let workers = workers_in(options)?;
     let keeps_red = red_said_by(text_in(options, "red")?)?;
     Some((port, workers, keeps_red))
+}
+
+/// The file of a domain, how much its book takes, and the file that keeps it, if one does, that the options of `drive`
+/// ask for.
+#[tactic(auto, unfolding(crate::specs::Options::drive_given))]
+pub(crate) fn drive_in<'a>(
+    options: &ArgMatches<'a>,
+) -> Option<(GivenName<'a>, Limits, Option<GivenName<'a>>)>
+    ensures { result ≡ drive_given (given_by (rows_of (found_of options.now))) }
+{
+    let domain = name_in(options, "domain")?;
+    let contracts = contracts_asked_by(text_in(options, "contracts"))?;
+    let commands = commands_asked_by(text_in(options, "commands"))?;
+    let limits = Limits::new(contracts, commands).unwrap();
+    let book = name_in(options, "book");
+    Some((domain, limits, book))
 }
 
 /// How many workers the options of `mark` ask for, if that is 1 to 64: none where they leave it to the program.
@@ -226,6 +249,42 @@ fn workers_said_by(text: &str) -> Option<u32>
     let workers = number(text.as_bytes(), u64::MAX)?;
     if 1 <= workers && workers <= MOST_WORKERS {
         Some(workers as u32)
+    } else {
+        None
+    }
+}
+
+/// How many contracts a book holds, if that is 1 to 65,536: 4,096 where no text says it.
+fn contracts_asked_by(text: Option<&str>) -> Option<u32>
+    ensures value { result ≡ contracts_asked (option_map (λ text. text.now) text.entry) }
+    ensures range { IfSome result (λ contracts. (1 ≤ contracts) × (contracts ≤ 65536)) }
+{
+    match text {
+        Some(text) => count_said_by(text, Limits::MOST_CONTRACTS),
+        None => Some(CONTRACTS),
+    }
+}
+
+/// How many commands a book accepts, if that is 1 to 2^24: 65,536 where no text says it.
+fn commands_asked_by(text: Option<&str>) -> Option<u32>
+    ensures value { result ≡ commands_asked (option_map (λ text. text.now) text.entry) }
+    ensures range { IfSome result (λ commands. (1 ≤ commands) × (commands ≤ 2 ^ 24)) }
+{
+    match text {
+        Some(text) => count_said_by(text, Limits::MOST_COMMANDS),
+        None => Some(COMMANDS),
+    }
+}
+
+/// The number that a text says: 1 to `most`.
+#[tactic(auto, unfolding(crate::specs::Options::number_within))]
+fn count_said_by(text: &str, most: u32) -> Option<u32>
+    ensures value { result ≡ number_within 1 most text.now }
+    ensures range { IfSome result (λ count. (1 ≤ count) × (count ≤ most)) }
+{
+    let count = number(text.as_bytes(), u64::MAX)?;
+    if 1 <= count && count <= u64::from(most) {
+        Some(count as u32)
     } else {
         None
     }

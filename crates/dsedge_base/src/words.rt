@@ -7,7 +7,7 @@ ghost use Rattle.dsedge_base.specs.Plans.{asks_other_workers, audit_given, check
 use crate::command_line::command_line;
 use crate::explanation::Explanation;
 use crate::fault::UsageFault;
-use crate::options::{envelope_in, marking_in, meter_in, name_in, quote_in, table_in, workers_in};
+use crate::options::{drive_in, envelope_in, marking_in, meter_in, name_in, quote_in, table_in, workers_in};
 use crate::work::Plan;
 use clap::error::ErrorKind;
 use clap::{ArgMatches, Error};
@@ -118,8 +118,12 @@ fn asked_of<'a>(name: &str, options: &ArgMatches<'a>) -> Option<Plan<'a>>
             })
         }
         "drive" => {
-            let domain = name_in(options, "domain")?;
-            Some(Plan::Drive { domain })
+            let (domain, limits, book) = drive_in(options)?;
+            Some(Plan::Drive {
+                domain,
+                limits,
+                book,
+            })
         }
         "check" => check_asked(options),
         "audit" => audit_asked(options),

@@ -1,6 +1,7 @@
 ghost use Rattle.std.specs.Prelude.{◌≡◌, IfOk};
 ghost use Rattle.dsedge_base.specs.Files.{files_of, port_of};
 
+use ds_broker::Limits;
 use ds_quotes::Field;
 use dsedge_lines::GivenName;
 use meter_book_base::AnyMeter;
@@ -58,6 +59,10 @@ pub enum Plan<'a> {
     Drive {
         /// The file of the domain.
         domain: GivenName<'a>,
+        /// How many contracts its book holds, and how many commands it accepts.
+        limits: Limits,
+        /// The file that keeps its book, if one does.
+        book: Option<GivenName<'a>>,
     },
     /// Mark the capture of standard input at a port of a domain with a certificate of its contracts.
     Mark {
@@ -85,7 +90,7 @@ impl<'a> Plan<'a> {
             Plan::Certify { domain }
             | Plan::Headroom { domain }
             | Plan::Quote { domain, .. }
-            | Plan::Drive { domain } => names.push(GivenName::new(domain.text()))?,
+            | Plan::Drive { domain, .. } => names.push(GivenName::new(domain.text()))?,
             Plan::Check {
                 domain,
                 certificate,

@@ -3,7 +3,7 @@ use Rattle.std.specs.Prelude.{ℕ, ◌+◌, List, [], ◌∷◌, codes, option_a
 use Rattle.ds_domain_base.specs.Domains.{Domain}
 use Rattle.ds_domain_base.specs.declared.contract.Contract.{Contract}
 use Rattle.ds_domain_base.specs.declared.fault.Kind.TheVariants as kinds
-use Rattle.ds_broker.specs.Books.{Book, contracts_in, held_of, table_of, with_command}
+use Rattle.ds_broker.specs.Books.{Book, Limits, contracts_in, held_of, table_of, with_command}
 use Rattle.ds_broker.specs.Entries.{entries_of, grant_of, next_serial}
 use Rattle.ds_broker.specs.Refusals.{release_refusal, reserve_refusal, retire_refusal}
 use Rattle.ds_broker.specs.declared.command.Command.{Command}
@@ -83,10 +83,10 @@ drive_from offered b number (line ∷ lines) =
     (request_in offered line))
     (stopped number)
 
--- the book that it begins with: that of a domain with no contract in it, for as much as a book takes
-abbrev pub opening_book : Domain → Book
-opening_book d = record { domain = d; limits = record { table = 4096; history = 65536 }; history = [] }
+-- the book that it begins with: that of a domain with no contract in it, for as much as the limits say
+abbrev pub opening_book : Domain → Limits → Book
+opening_book d limits = record { domain = d; limits = limits; history = [] }
 
 -- the answer to all lines
-abbrev pub driven : Domain → List Contract → List (List ℕ) → Answer
-driven d offered lines = drive_from offered (opening_book d) 1 lines
+abbrev pub driven : Domain → Limits → List Contract → List (List ℕ) → Answer
+driven d limits offered lines = drive_from offered (opening_book d limits) 1 lines

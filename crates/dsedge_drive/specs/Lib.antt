@@ -1,4 +1,5 @@
 pub mod Driven
 pub mod Kept
+pub mod Opened
 pub mod Requests
 pub mod Sold

@@ -1,94 +1,173 @@
-ghost use Rattle.std.specs.Prelude.{◌≡◌, ◌++◌, [], IfOk, OnOk, option_and_then, option_map, slice_get};
+ghost use Rattle.std.specs.Prelude.{◌≡◌, ℕ, ◌+◌, ◌<◌, List, [], ◌∷◌, ◌++◌, false, IsTrue, IfErr, IfOk, IfSome, OnErr, OnOk};
+ghost use Rattle.std.specs.Prelude.{length, option_and_then, option_map, slice_get};
+ghost use Rattle.line_text.specs.Lines.{has_byte, lines_of};
+ghost use Rattle.dsedge_lines.specs.Answers.{Answers, AnswersAll, AnswersFront, behind};
+ghost use Rattle.dsedge_drive.specs.Opened.{HasGrown, IsKeptOr, IsOpened, IsUnopened, answer_behind};
 ghost use Rattle.ds_broker.specs.Books.{table_of};
 ghost use Rattle.ds_broker.specs.Entries.{entries_of};
 ghost use Rattle.ds_quotes.specs.Quotes.{others_of};
 ghost use Rattle.dsedge_texts.specs.Quoted.{told_beside};
-ghost use Rattle.dsedge_drive.specs.Driven.{drive_from, opening_book, quoted, released, reserved, retired, said, sold};
+ghost use Rattle.dsedge_drive.specs.Driven.{opening_book, quoted, released, reserved, retired, said, sold};
 ghost use Rattle.dsedge_drive.specs.Sold.{list_text, look_line};
 
 use crate::answer::{push_fault, push_list, push_outcome, push_sale, push_sight};
+use crate::keeper::{Keeper, MOST_AT_ONCE};
 use crate::offers::Offers;
 use crate::request::{Request, asked};
 use crate::shop::Shop;
 use ds_broker::{Book, Limits};
 use ds_desk::{Naming, Opened};
 use ds_domain_base::{Contract, Domain, Kind};
+use ds_ledger_base::{BookFault, Ledger, LedgerFault};
 use ds_quotes::Field;
 use dsedge_lines::{Command, Ending};
 use dsedge_texts::{kind_text, push_headroom, push_quote_without};
+use line_text::cut;
 use moment_core::Moment;
 use std::alloc::{AllocError, Global};
 use std::marker::Model;
 use std::sync::Wait;
 
-/// How much the book takes: 4,096 contracts, and 65,536 commands.
-pub fn limits() -> Limits
-    ensures { result ≡ record { table = 4096; history = 65536 } }
-{
-    Limits::new(Limits::MOST_CONTRACTS, Limits::MOST_COMMANDS).unwrap()
-}
+/// How much text is held back, in bytes, before it is given out.
+const MOST_HELD: usize = 65_536;
 
-/// The command `drive`: each line asks something of a broker of a domain, and is answered at once.
+/// The command `drive`: each line asks something of a broker of a domain, and is answered once what it tells is kept.
 ///
-/// It keeps a handle, since the broker waits for feeds that look.
+/// Lines that come in one piece of the input are kept together. It keeps a handle, since the broker waits for feeds that
+/// look.
 #[derive(Drop)]
-pub struct DriveCommand<'a, J: Naming, R: Wait + Drop> {
+pub struct DriveCommand<'a, J: Naming, R: Wait + Drop, L: Ledger + Drop> {
     alloc: Global,
     offers: Offers<'a>,
     shop: Shop<J, R>,
-    answer: Vec<u8>,
+    keeper: Keeper<L>,
+    /// What is answered and not given out, since not all that it tells is kept yet.
+    answers: Vec<u8>,
 }
 
-impl<'a, J: Naming, R: Wait + Drop> Model for DriveCommand<'a, J, R> {
+impl<'a, J: Naming, R: Wait + Drop, L: Ledger + Drop> Model for DriveCommand<'a, J, R, L> {
+    ghost use Rattle.std.specs.Prelude.{◌≤◌, length, take};
     ghost use Rattle.dsedge_drive.specs.Kept.{Selling};
 
     ghost Value = { Selling };
 
-    ghost view = { λ c. record { offered = c.offers; book = c.shop } };
+    ghost view = { λ c. record {
+      offered = c.offers;
+      book = c.shop;
+      unsaid = c.answers.items;
+      kept = c.keeper.kept;
+      fault = c.keeper.fault;
+    } };
+
+    ghost invariant = { λ c. (c.keeper.kept ≤ length c.shop.history)
+        × (L.tells c.keeper.ledger → L.keeps c.keeper.ledger (take c.keeper.kept c.shop.history)) };
 }
 
-impl<'a, J: Naming, R: Wait + Drop> DriveCommand<'a, J, R> {
-    /// The command before its first line, for the contracts that are offered; `AllocError` where memory runs out.
+/// What a broker sells: the contracts that are offered of a domain, in a book that takes so much.
+#[derive(Drop)]
+pub struct Sale<'a> {
+    /// The domain.
+    pub domain: Domain,
+    /// How much its book takes.
+    pub limits: Limits,
+    /// The contracts that are offered.
+    pub contracts: &'a [Contract],
+}
+
+impl<'a, J: Naming, R: Wait + Drop, L: Ledger + Drop> DriveCommand<'a, J, R, L> {
+    /// The command before its first line, over a book that goes on from the commands that a ledger keeps.
+    ///
+    /// Refused where the domain refuses one of these now, with its serial; where memory runs out.
     pub fn new(
         alloc: Global,
         rt: R,
         opened: Opened,
-        domain: Domain,
-        contracts: &'a [Contract],
-    ) -> Result<Self, AllocError>
+        sale: Sale<'a>,
+        ledger: L,
+        kept: Vec<ds_broker::Command>,
+    ) -> Result<Self, BookFault>
         requires log { opened ≡ J.log }
-        requires opening { J.opening ≡ opening_book domain }
-        ensures { IfOk result (λ command.
-            command ≡ record { offered = contracts.entry.now; book = opening_book domain }) }
+        requires opening { J.opening ≡ opening_book sale.domain sale.limits }
+        requires kept { L.tells ledger → L.keeps ledger kept.items }
+        ensures opened { IfOk result (IsOpened sale.entry kept.items) }
+        ensures refused { IfErr result (IsUnopened sale.entry kept.items) }
     {
-        DriveCommand::with_limits(alloc, rt, opened, domain, limits(), contracts)
-    }
-
-    /// The same over a book that takes as much as these limits say.
-    pub fn with_limits(
-        alloc: Global,
-        rt: R,
-        opened: Opened,
-        domain: Domain,
-        limits: Limits,
-        contracts: &'a [Contract],
-    ) -> Result<Self, AllocError>
-        requires log { opened ≡ J.log }
-        requires opening { J.opening ≡ record { domain = domain; limits = limits; history = [] } }
-        ensures { IfOk result (λ command. command ≡ record {
-          offered = contracts.entry.now;
-          book = record { domain = domain; limits = limits; history = [] };
-        }) }
-    {
-        let shop = Shop::open(alloc, rt, opened, domain, limits)?;
-        let offers = Offers::new(alloc, contracts)?;
+        let Sale {
+            domain,
+            limits,
+            contracts,
+        } = sale;
+        let Ok(offers) = Offers::new(alloc, contracts) else {
+            return Err(BookFault::Ledger(LedgerFault::NoMemory));
+        };
+        let Ok(mut shop) = Shop::open(alloc, rt, opened, domain, limits) else {
+            return Err(BookFault::Ledger(LedgerFault::NoMemory));
+        };
+        if let Err(refused) = shop.replay(kept) {
+            return Err(BookFault::Command(refused));
+        }
+        let keeper = Keeper::new(ledger, shop.book().history().len());
         Ok(DriveCommand {
             alloc,
             offers,
             shop,
-            answer: Vec::new(alloc),
+            keeper,
+            answers: Vec::new(alloc),
         })
     }
+
+    /// Why its ledger keeps no more, if it does not: then it is of no more use.
+    pub fn fault(&self) -> Option<LedgerFault>
+        ensures { result ≡ self.now.fault }
+    {
+        self.keeper.fault()
+    }
+
+    /// Does what a line asks for. Where memory runs out nothing is answered.
+    fn say(&mut self, request: Request) -> Result<(), AllocError>
+        ensures { OnOk result (self.new ≡ record self.old {
+          book = (said self.old.offered self.old.book request).book;
+          unsaid = self.old.unsaid ++ (said self.old.offered self.old.book request).text;
+        }) }
+    {
+        say(
+            self.alloc,
+            self.offers.contracts(),
+            &mut self.shop,
+            &mut self.answers,
+            request,
+        )
+    }
+
+    /// Gives out what is answered, once all of it is kept.
+    fn give(&mut self, out: &mut Vec<u8>) -> Result<(), AllocError>
+        ensures given { OnOk result (out.new.items ≡ out.old.items ++ self.old.unsaid) }
+        ensures kept { OnOk result (self.new
+            ≡ record self.old { unsaid = []; kept = length self.old.book.history }) }
+        ensures back { OnErr result (out.new.items ≡ out.old.items) }
+    {
+        self.keeper.settle(self.shop.book().history())?;
+        out.extend_from_slice(self.answers.as_slice())?;
+        self.answers.clear();
+        Ok(())
+    }
+
+    /// Whether what is answered is to be given out, where this stands behind the line: no whole line does, or many
+    /// commands, or much text, are held back.
+    fn is_due(&self, rest: &[u8]) -> bool
+        ensures { has_byte 10 rest.now ≡ false → IsTrue result }
+    {
+        let held = self.shop.book().history().len() - self.keeper.kept();
+        held >= MOST_AT_ONCE || self.answers.len() >= MOST_HELD || !has_line_end(rest)
+    }
+}
+
+/// Whether a line ends in a text.
+#[tactic(auto, unfolding(line_text::specs::Lines::has_byte))]
+fn has_line_end(text: &[u8]) -> bool
+    ensures { result ≡ has_byte 10 text.now }
+{
+    text.iter().any(|byte| *byte == b'\n')
 }
 
 /// Does what a line asks for, and appends the answer. Where memory runs out nothing is answered.
@@ -101,6 +180,7 @@ fn say<J: Naming, R: Wait + Drop>(
 ) -> Result<(), AllocError>
     ensures text { OnOk result (text.new.items ≡ text.old.items ++ (said offered.now shop.old request).text) }
     ensures book { OnOk result (shop.new ≡ (said offered.now shop.old request).book) }
+    ensures grown { HasGrown shop.old shop.new }
 {
     match request {
         Request::Reserve(place) => reserve(alloc, shop, text, contract_at(offered, place)),
@@ -132,6 +212,7 @@ fn reserve<J: Naming, R: Wait + Drop>(
     ensures text { OnOk result (text.new.items
         ≡ text.old.items ++ (reserved shop.old (option_map (λ c. c.now) contract.entry)).text) }
     ensures book { OnOk result (shop.new ≡ (reserved shop.old (option_map (λ c. c.now) contract.entry)).book) }
+    ensures grown { HasGrown shop.old shop.new }
 {
     match contract {
         None => push_fault(text, kind_text(Kind::UnknownName)),
@@ -150,6 +231,7 @@ fn sell<J: Naming, R: Wait + Drop>(
 ) -> Result<(), AllocError>
     ensures text { OnOk result (text.new.items ≡ text.old.items ++ (sold shop.old contract).text) }
     ensures book { OnOk result (shop.new ≡ (sold shop.old contract).book) }
+    ensures grown { HasGrown shop.old shop.new }
 {
     let sale = shop.reserve(contract);
     push_sale(text, shop.book(), sale)
@@ -164,6 +246,7 @@ fn release<J: Naming, R: Wait + Drop>(
 ) -> Result<(), AllocError>
     ensures text { OnOk result (text.new.items ≡ text.old.items ++ (released shop.old id at).text) }
     ensures book { OnOk result (shop.new ≡ (released shop.old id at).book) }
+    ensures grown { HasGrown shop.old shop.new }
 {
     let done = shop.release(id, at);
     push_outcome(text, shop.book(), "released", id, done)
@@ -178,6 +261,7 @@ fn retire<J: Naming, R: Wait + Drop>(
 ) -> Result<(), AllocError>
     ensures text { OnOk result (text.new.items ≡ text.old.items ++ (retired shop.old id moment).text) }
     ensures book { OnOk result (shop.new ≡ (retired shop.old id moment).book) }
+    ensures grown { HasGrown shop.old shop.new }
 {
     let done = shop.retire(id, moment);
     push_outcome(text, shop.book(), "retired", id, done)
@@ -237,33 +321,67 @@ fn look<J: Naming, R: Wait + Drop>(
     }
 }
 
-impl<'a, J: Naming, R: Wait + Drop> Command for DriveCommand<'a, J, R> {
-    ghost answer = { λ c number lines. drive_from c.offered c.book number lines };
+impl<'a, J: Naming, R: Wait + Drop, L: Ledger + Drop> Command for DriveCommand<'a, J, R, L> {
+    ghost answer = { answer_behind };
 
-    #[tactic(auto, using(crate::proofs::DriveLaws::bad_line, crate::proofs::DriveLaws::said_line))]
+    #[tactic(auto, using(crate::proofs::DriveLaws::given_bad_line, crate::proofs::DriveLaws::given_line))]
     fn line(
         &mut self,
         number: u64,
         line: &[u8],
         out: &mut Vec<u8>,
-    ) -> Result<Option<Ending>, AllocError> {
+    ) -> Result<Option<Ending>, AllocError>
+        ensures answer { (later : List (List ℕ)) →
+            Answers (behind out.old.items (answer_behind self.old number (line.now ∷ later)))
+            (behind out.new.items (answer_behind self.new (number + 1) later)) out.new.items result }
+        ensures given { OnOk result (self.new.unsaid ≡ []) }
+        ensures kept { IsKeptOr (out.new.items ≡ out.old.items) self.new }
+    {
         let Some(request) = asked(&self.offers, line) else {
+            self.give(out)?;
             return Ok(Some(Ending::BadLine(number)));
         };
-        self.answer.clear();
-        say(
-            self.alloc,
-            self.offers.contracts(),
-            &mut self.shop,
-            &mut self.answer,
-            request,
-        )?;
-        out.extend_from_slice(self.answer.as_slice())?;
+        self.say(request)?;
+        self.give(out)?;
         Ok(None)
     }
 
-    #[tactic(auto, using(crate::proofs::DriveLaws::last_line))]
-    fn end(&mut self, _number: u64, _out: &mut Vec<u8>) -> Result<Ending, AllocError> {
+    #[tactic(auto, using(crate::proofs::DriveLaws::given_line, crate::proofs::DriveLaws::held_line, crate::proofs::DriveLaws::first_line))]
+    fn front_line<'b>(
+        &mut self,
+        number: u64,
+        text: &'b [u8],
+        out: &mut Vec<u8>,
+    ) -> Result<Option<(Option<Ending>, &'b [u8])>, AllocError>
+        ensures shorter { IfOk result (λ front. IfSome front (λ parts. length parts.1.now < length text.now)) }
+        ensures answer { (later : List ℕ) → AnswersFront result
+            (behind out.old.items (answer_behind self.old number (lines_of (text.now ++ later))))
+            (behind out.new.items (answer_behind self.new number (lines_of (text.now ++ later))))
+            (λ rest. behind out.new.items (answer_behind self.new (number + 1) (lines_of (rest.now ++ later))))
+            out.new.items }
+        ensures given { IfOk result (λ front. IfSome front (λ parts.
+            has_byte 10 parts.1.now ≡ false → self.new.unsaid ≡ [])) }
+        ensures kept { IsKeptOr (out.new.items ≡ out.old.items) self.new }
+    {
+        let Some((line, rest)) = cut(text, b'\n') else {
+            return Ok(None);
+        };
+        let Some(request) = asked(&self.offers, line) else {
+            return Ok(None);
+        };
+        self.say(request)?;
+        if self.is_due(rest) {
+            self.give(out)?;
+        }
+        Ok(Some((None, rest)))
+    }
+
+    #[tactic(auto, using(crate::proofs::DriveLaws::given_last_line))]
+    fn end(&mut self, number: u64, out: &mut Vec<u8>) -> Result<Ending, AllocError>
+        ensures answer { AnswersAll (behind out.old.items (answer_behind self.old number [])) out.new.items result }
+        ensures kept { IsKeptOr (out.new.items ≡ out.old.items) self.new }
+    {
+        self.give(out)?;
         Ok(Ending::Whole)
     }
 }

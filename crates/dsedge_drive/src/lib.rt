@@ -3,10 +3,11 @@
 
 mod answer;
 mod command;
+mod keeper;
 mod offers;
 mod request;
 mod shop;
 mod sight;
 
-pub use command::DriveCommand;
+pub use command::{DriveCommand, Sale};
 pub use ds_desk::{Naming, Opened};

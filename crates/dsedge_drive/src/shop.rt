@@ -1,13 +1,15 @@
 //! A desk with one feed, which has learned each command that the desk accepted.
-ghost use Rattle.std.specs.Prelude.{◌≡◌, [], None, IfErr, IfOk, IfSome, MatchOption, OnErr, OnOk, length};
+ghost use Rattle.std.specs.Prelude.{◌≡◌, ◌⊎◌, [], None, Err, IfErr, IfOk, IfSome, MatchOption, Ok, OnErr, OnOk, length};
+ghost use Rattle.ds_ledger_base.specs.Replays.{replay};
 ghost use Rattle.ds_broker.specs.Books.{held_of, holding_of, with_command};
 ghost use Rattle.ds_broker.specs.Entries.{grant_of, next_serial};
-ghost use Rattle.ds_broker.specs.Refusals.{IsRefusal, release_refusal, reserve_refusal, retire_refusal};
+ghost use Rattle.ds_broker.specs.Refusals.{IsRefusal, refusal_in, release_refusal, reserve_refusal, retire_refusal};
 
 use crate::sight::{Sight, learn, look};
-use ds_broker::{Book, BrokerRefusal, Grant, Limits, Serial};
+use ds_broker::{Book, BrokerRefusal, Command, Grant, Limits, Serial};
 use ds_desk::{Desk, Feed, Naming, Opened};
 use ds_domain_base::{Contract, Domain};
+use ds_ledger_base::RefusedReplay;
 use moment_core::Moment;
 use std::alloc::{AllocError, Global};
 use std::marker::Model;
@@ -128,6 +130,38 @@ impl<J: Naming, R: Wait + Drop> Shop<J, R> {
             }
             Err(refused) => Err(refused.refusal),
         }
+    }
+
+    /// Takes in a command that was accepted before, and lets the feed learn of it. Refused as the desk refuses it, and
+    /// unchanged.
+    fn accept(&mut self, command: Command) -> Result<(), BrokerRefusal>
+        ensures accepted { OnOk result (self.new ≡ with_command self.old command) }
+        ensures unrefused { OnOk result (refusal_in self.old command ≡ None) }
+        ensures refused { IfErr result (λ refusal. IsRefusal (refusal_in self.old command) refusal) }
+    {
+        match command {
+            Command::Reserve(contract) => self.reserve(contract).map(|_grant| ()),
+            Command::Release { id, at } => self.release(u64::from(id), at).map(|_serial| ()),
+            Command::Retire { id, moment } => self.retire(u64::from(id), moment).map(|_serial| ()),
+        }
+    }
+
+    /// Takes in the commands of a ledger, in their order, and gives no answers.
+    ///
+    /// Refused for the first command that the book refuses, with its serial, or `NoMemory` where memory runs out at it.
+    pub(crate) fn replay(&mut self, kept: Vec<Command>) -> Result<(), RefusedReplay>
+        ensures whole { OnOk result (replay self.old kept.items ≡ Ok self.new) }
+        ensures refused { IfErr result (λ it. (it.refusal ≡ BrokerRefusal.NoMemory)
+            ⊎ (replay self.old kept.items ≡ Err (it.serial, it.refusal))) }
+    {
+        'commands: for command in kept {
+            let serial = u64::from(self.book().serial().get()) + 1;
+            match self.accept(command) {
+                Ok(()) => {}
+                Err(refusal) => return Err(RefusedReplay { serial, refusal }),
+            }
+        }
+        Ok(())
     }
 
     /// What the feed sees, where that is the table of all that was accepted; it has learned all of it, so it sees no

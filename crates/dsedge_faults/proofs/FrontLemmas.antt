@@ -8,8 +8,10 @@ use Rattle.pcap_capture.proofs.FrontLaws.{IsFrontOf-first, IsFrontOf-given, IsFr
 use Rattle.ds_domain_base.specs.Faults.{field_text, kind_code, section_text}
 use Rattle.ds_domain_base.specs.declared.fault.DomainFault.{DomainFault}
 use Rattle.dsedge_texts.specs.Wording.{kind_text}
-use Rattle.dsedge_faults.specs.Faults.{IsTold, fault_text, text_or_dash}
-use Rattle.dsedge_faults.specs.declared.fault.Fault.TheVariants.{Domain}
+use Rattle.ds_ledger_base.specs.declared.fault.BookFault.TheVariants as books
+use Rattle.ds_ledger_base.specs.declared.fault.RefusedReplay.{RefusedReplay}
+use Rattle.dsedge_faults.specs.Faults.{IsTold, broker_refusal_text, fault_text, text_or_dash}
+use Rattle.dsedge_faults.specs.declared.fault.Fault.TheVariants.{Book, Domain}
 
 -- what a call gave of a text: all of it, or a front
 pub given_or_front : {E : Type 0} (result : Result (Unit {0}) E) (before after text : List ℕ)
@@ -70,6 +72,12 @@ pub domain_line : (fault : DomainFault) (code kind section index field : List �
     ≡ fault_text (Domain fault)
 domain_line fault code kind section index field is_code is_kind is_section is_index is_field =
     rw (is_code, is_kind, is_section, is_index, is_field) (ap (λ t. codes "dsedge: domain " ++ t) (simp append_assoc))
+
+-- the line of a command that its book refuses, by its parts
+pub refused_line : (refused : RefusedReplay) (serial refusal : List ℕ) → serial ≡ decimal refused.serial → refusal ≡ broker_refusal_text refused.refusal
+    → codes "dsedge: book " ++ (serial ++ (codes " " ++ (refusal ++ (codes "\n" ++ [])))) ≡ fault_text (Book (books.Command refused))
+refused_line refused serial refusal is_serial is_refusal =
+    rw (is_serial, is_refusal) (ap (λ t. codes "dsedge: book " ++ t) (simp append_assoc))
 
 -- two texts that were told one behind the other
 pub behind_told : {E : Type 0} (result : Result (Unit {0}) E) (before mid after first second : List ℕ) → mid ≡ before ++ first

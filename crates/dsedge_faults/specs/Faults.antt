@@ -4,13 +4,19 @@ use Rattle.ds_domain_base.specs.Faults.{field_text, kind_code, section_text}
 use Rattle.ds_domain_base.specs.declared.fault.DomainFault.{DomainFault}
 use Rattle.ds_certificate.specs.declared.fault.CertificateFault.{CertificateFault}
 use Rattle.ds_certificate.specs.declared.fault.CertificateFault.TheVariants as certificates
+use Rattle.ds_broker.specs.declared.refusal.BrokerRefusal.{BrokerRefusal}
+use Rattle.ds_broker.specs.declared.refusal.BrokerRefusal.TheVariants as refusals
+use Rattle.ds_ledger_base.specs.declared.fault.BookFault.{BookFault}
+use Rattle.ds_ledger_base.specs.declared.fault.BookFault.TheVariants as books
+use Rattle.ds_ledger_base.specs.declared.fault.LedgerFault.{LedgerFault}
+use Rattle.ds_ledger_base.specs.declared.fault.LedgerFault.TheVariants as ledgers
 use Rattle.dsedge_texts.specs.Wording.{kind_text}
 use Rattle.pcap_capture.specs.Counts.{next_count}
 use Rattle.pcap_capture.specs.Fronts.{IsFrontOf}
 use Rattle.pcap_capture.specs.declared.fault.PcapFault.{PcapFault}
 use Rattle.pcap_capture.specs.declared.fault.PcapFault.TheVariants as pcaps
 use Rattle.dsedge_faults.specs.declared.fault.Fault.{Fault}
-use Rattle.dsedge_faults.specs.declared.fault.Fault.TheVariants.{Usage, Line, Domain, Certificate, Capture, Port, Contract, File, Read, Write, Memory, Full}
+use Rattle.dsedge_faults.specs.declared.fault.Fault.TheVariants.{Usage, Line, Domain, Certificate, Capture, Port, Contract, File, Book, Read, Write, Memory, Full}
 use Rattle.dsedge_faults.specs.declared.notice.Notice.{Notice}
 use Rattle.dsedge_faults.specs.declared.notice.Notice.TheVariants as notices
 
@@ -54,6 +60,47 @@ capture_fault_text pcaps.WriteFault = codes "8 WriteFault"
 capture_fault_text pcaps.NoMemory = codes "9 NoMemory"
 capture_fault_text pcaps.Failed = codes "10 Failed"
 
+-- what is wrong with the file of a book
+abbrev pub ledger_fault_text : LedgerFault → List ℕ
+ledger_fault_text ledgers.NoDatabase = codes "NoDatabase"
+ledger_fault_text ledgers.Damaged = codes "Damaged"
+ledger_fault_text ledgers.Form = codes "Form"
+ledger_fault_text ledgers.Busy = codes "Busy"
+ledger_fault_text ledgers.Open = codes "Open"
+ledger_fault_text ledgers.Write = codes "Write"
+ledger_fault_text ledgers.NoMemory = codes "NoMemory"
+
+-- why a book refuses a command that it sold before
+abbrev pub broker_refusal_text : BrokerRefusal → List ℕ
+broker_refusal_text (refusals.Contract fault) = kind_text fault.kind
+broker_refusal_text refusals.TableFull = codes "TableFull"
+broker_refusal_text (refusals.Checker refusal) = codes "Checker"
+broker_refusal_text refusals.UnknownId = codes "UnknownId"
+broker_refusal_text refusals.AlreadyReleased = codes "AlreadyReleased"
+broker_refusal_text refusals.HistoryFull = codes "HistoryFull"
+broker_refusal_text refusals.NoMemory = codes "NoMemory"
+broker_refusal_text refusals.NotReleased = codes "NotReleased"
+broker_refusal_text (refusals.HoldLeft nanoseconds) = codes "HoldLeft"
+
+-- KIND, or SERIAL REFUSAL
+abbrev pub book_fault_text : BookFault → List ℕ
+book_fault_text (books.Ledger fault) = ledger_fault_text fault
+book_fault_text (books.Command refused) = decimal refused.serial ++ codes " " ++ broker_refusal_text refused.refusal
+
+-- 3 where the file is none of a book that the domain can go on from, 4 where it is taken or fails, 5 for memory
+abbrev pub ledger_status : LedgerFault → ℕ
+ledger_status ledgers.NoDatabase = 3
+ledger_status ledgers.Damaged = 3
+ledger_status ledgers.Form = 3
+ledger_status ledgers.Busy = 4
+ledger_status ledgers.Open = 4
+ledger_status ledgers.Write = 4
+ledger_status ledgers.NoMemory = 5
+
+abbrev pub book_status : BookFault → ℕ
+book_status (books.Ledger fault) = ledger_status fault
+book_status (books.Command refused) = 3
+
 -- the line of a fault
 abbrev pub fault_text : Fault → List ℕ
 fault_text Usage = codes "dsedge: usage\n"
@@ -64,6 +111,7 @@ fault_text (Capture fault) = codes "dsedge: capture " ++ capture_fault_text faul
 fault_text (Port name) = codes "dsedge: port " ++ shown name ++ codes "\n"
 fault_text (Contract name) = codes "dsedge: contract " ++ shown name ++ codes "\n"
 fault_text (File name reason) = codes "dsedge: file " ++ shown name ++ codes "\n"
+fault_text (Book fault) = codes "dsedge: book " ++ book_fault_text fault ++ codes "\n"
 fault_text Read = codes "dsedge: read\n"
 fault_text Write = codes "dsedge: write\n"
 fault_text Memory = codes "dsedge: memory\n"
@@ -79,6 +127,7 @@ status_of (Capture fault) = 3
 status_of (Port name) = 3
 status_of (Contract name) = 3
 status_of (File name reason) = 4
+status_of (Book fault) = book_status fault
 status_of Read = 4
 status_of Write = 4
 status_of Memory = 5

@@ -2,14 +2,17 @@ ghost use Rattle.std.specs.Prelude.{◌≡◌, ◌++◌, List, ℕ, codes, Match
 ghost use Rattle.pcap_capture.specs.Counts.{next_count};
 ghost use Rattle.pcap_capture.specs.Fronts.{IsFrontOf};
 ghost use Rattle.dsedge_faults.specs.Advised.{advice_on};
+ghost use Rattle.dsedge_faults.specs.Faults.{book_status, broker_refusal_text, ledger_fault_text};
 ghost use Rattle.dsedge_faults.specs.Faults.{capture_fault_text, certificate_fault_text, fault_text};
 ghost use Rattle.dsedge_faults.specs.Faults.{shown, status_of, text_or_dash};
 
 use crate::advice::Advice;
 use crate::parts::give_parts;
 use crate::shown::give_shown;
+use ds_broker::BrokerRefusal;
 use ds_certificate::CertificateFault;
 use ds_domain_base::DomainFault;
+use ds_ledger_base::{BookFault, LedgerFault, RefusedReplay};
 use dsedge_lines::GivenName;
 use dsedge_texts::{FaultyLine, Reason, kind_text};
 use itoa::Buffer;
@@ -34,6 +37,8 @@ pub enum Fault<'a> {
     Contract(GivenName<'a>),
     /// The file of this name cannot be read, or has more than 16 MiB, for this reason.
     File(GivenName<'a>, Reason),
+    /// The book of a broker could not be opened or kept, or the domain refuses what it sold.
+    Book(BookFault),
     /// The input could not be read.
     Read,
     /// The output could not be written.
@@ -57,6 +62,7 @@ impl Fault<'_> {
             | Fault::Capture(_)
             | Fault::Port(_)
             | Fault::Contract(_) => 3,
+            Fault::Book(fault) => book_status(fault),
             Fault::File(..) | Fault::Read | Fault::Write => 4,
             Fault::Memory | Fault::Full => 5,
         }
@@ -103,12 +109,83 @@ impl Fault<'_> {
             Fault::Port(name) => tell_name("dsedge: port ", name.text(), faults),
             Fault::Contract(name) => tell_name("dsedge: contract ", name.text(), faults),
             Fault::File(name, _) => tell_name("dsedge: file ", name.text(), faults),
+            Fault::Book(BookFault::Ledger(fault)) => {
+                tell_line("dsedge: book ", ledger_text(*fault), faults)
+            }
+            Fault::Book(BookFault::Command(refused)) => tell_refused(refused, faults),
             Fault::Read => give_all(faults, b"dsedge: read\n"),
             Fault::Write => give_all(faults, b"dsedge: write\n"),
             Fault::Memory => give_all(faults, b"dsedge: memory\n"),
             Fault::Full => give_all(faults, b"dsedge: full\n"),
         }
     }
+}
+
+/// The exit status of a fault of a book: 3 where the file is none of a book that the domain can go on from, 4 where it is
+/// taken or fails, 5 where memory ran out.
+fn book_status(fault: &BookFault) -> u8
+    ensures { result ≡ book_status fault.now }
+{
+    match fault {
+        BookFault::Ledger(LedgerFault::NoDatabase | LedgerFault::Damaged | LedgerFault::Form)
+        | BookFault::Command(_) => 3,
+        BookFault::Ledger(LedgerFault::Busy | LedgerFault::Open | LedgerFault::Write) => 4,
+        BookFault::Ledger(LedgerFault::NoMemory) => 5,
+    }
+}
+
+/// How a fault of a ledger is written.
+fn ledger_text(fault: LedgerFault) -> &'static str
+    ensures { result.now ≡ ledger_fault_text fault }
+{
+    match fault {
+        LedgerFault::NoDatabase => "NoDatabase",
+        LedgerFault::Damaged => "Damaged",
+        LedgerFault::Form => "Form",
+        LedgerFault::Busy => "Busy",
+        LedgerFault::Open => "Open",
+        LedgerFault::Write => "Write",
+        LedgerFault::NoMemory => "NoMemory",
+    }
+}
+
+/// How it is written why a book refuses a command that it sold before.
+fn refusal_text(refusal: &BrokerRefusal) -> &'static str
+    ensures { result.now ≡ broker_refusal_text refusal.now }
+{
+    match refusal {
+        BrokerRefusal::Contract(fault) => kind_text(fault.kind),
+        BrokerRefusal::TableFull => "TableFull",
+        BrokerRefusal::Checker(_) => "Checker",
+        BrokerRefusal::UnknownId => "UnknownId",
+        BrokerRefusal::AlreadyReleased => "AlreadyReleased",
+        BrokerRefusal::HistoryFull => "HistoryFull",
+        BrokerRefusal::NoMemory => "NoMemory",
+        BrokerRefusal::NotReleased => "NotReleased",
+        BrokerRefusal::HoldLeft(_) => "HoldLeft",
+    }
+}
+
+/// Writes the line of a command that its book refuses now, `dsedge: book SERIAL REFUSAL`.
+fn tell_refused<F: Outlet>(refused: &RefusedReplay, faults: &mut F) -> Result<(), DeviceFault>
+    ensures told { F.tells faults.old → F.tells faults.new }
+    ensures line { F.tells faults.old → MatchResult result
+        (λ _. F.held faults.new ≡ F.held faults.old ++ fault_text (Fault.Book (BookFault.Command refused.now)))
+        (λ _. IsFrontOf (F.held faults.old) (fault_text (Fault.Book (BookFault.Command refused.now)))
+        (F.held faults.new)) }
+    ensures failures { F.failed faults.new
+        ≡ (if is_ok result then F.failed faults.old else next_count (F.failed faults.old)) }
+{
+    give_parts(
+        faults,
+        &[
+            "dsedge: book ",
+            Buffer::new().format(refused.serial),
+            " ",
+            refusal_text(&refused.refusal),
+            "\n",
+        ],
+    )
 }
 
 /// Writes a line of two texts.

@@ -1,4 +1,5 @@
 pub mod MarkLemmas
 pub mod QuoteLemmas
 pub mod ReportLemmas
+pub mod SaleLemmas
 pub mod StartLemmas

@@ -13,8 +13,11 @@ use Rattle.dsedge_lines.specs.declared.words.FirstLineFault.{FirstLineFault}
 use Rattle.dsedge_lines.specs.declared.words.FirstLineFault.TheVariants as first_line_faults
 use Rattle.dsedge_lines.specs.declared.command.Ending.TheVariants as endings
 use Rattle.dsedge_lines.specs.declared.fault.PumpFault.TheVariants as pump_faults
+use Rattle.ds_broker.specs.declared.command.Command.{Command}
+use Rattle.ds_ledger_base.specs.declared.fault.BookFault.TheVariants as books
+use Rattle.ds_ledger_base.specs.declared.fault.LedgerFault.TheVariants as ledgers
 use Rattle.ds_marking.specs.declared.fault.MarkFault.TheVariants as marks
-use Rattle.dsedge_serve.specs.declared.conclusion.Conclusion.TheVariants.{Ended, Unaccepted, Uncertified, Unsound}
+use Rattle.dsedge_serve.specs.declared.conclusion.Conclusion.TheVariants.{Ended, Unaccepted, Uncertified, Unkept, Unsound}
 use Rattle.dsedge_serve.specs.declared.outcome.Outcome.{Outcome}
 use Rattle.dsedge_serve.specs.declared.outcome.Outcome.TheVariants.{Answered, Marked, Misused, Unnamed}
 use Rattle.dsedge_serve.specs.Served.{IsAnswered, is_misused, status_after}
@@ -66,6 +69,14 @@ served_is_no_usage port (Answered (Ok (Ended endings.Full))) e = absurd (omega (
 served_is_no_usage port (Answered (Ok (Unsound fault))) e = absurd (omega (arith, e))
 served_is_no_usage port (Answered (Ok (Uncertified fault))) e = absurd (omega (arith, e))
 served_is_no_usage port (Answered (Ok (Unaccepted line))) e = absurd (omega (arith, e))
+served_is_no_usage port (Answered (Ok (Unkept (books.Ledger ledgers.NoDatabase)))) e = absurd (omega (arith, e))
+served_is_no_usage port (Answered (Ok (Unkept (books.Ledger ledgers.Damaged)))) e = absurd (omega (arith, e))
+served_is_no_usage port (Answered (Ok (Unkept (books.Ledger ledgers.Form)))) e = absurd (omega (arith, e))
+served_is_no_usage port (Answered (Ok (Unkept (books.Ledger ledgers.Busy)))) e = absurd (omega (arith, e))
+served_is_no_usage port (Answered (Ok (Unkept (books.Ledger ledgers.Open)))) e = absurd (omega (arith, e))
+served_is_no_usage port (Answered (Ok (Unkept (books.Ledger ledgers.Write)))) e = absurd (omega (arith, e))
+served_is_no_usage port (Answered (Ok (Unkept (books.Ledger ledgers.NoMemory)))) e = absurd (omega (arith, e))
+served_is_no_usage port (Answered (Ok (Unkept (books.Command refused)))) e = absurd (omega (arith, e))
 served_is_no_usage port (Answered (Err pump_faults.Read)) e = absurd (omega (arith, e))
 served_is_no_usage port (Answered (Err pump_faults.Write)) e = absurd (omega (arith, e))
 served_is_no_usage port (Answered (Err pump_faults.NoMemory)) e = absurd (omega (arith, e))
@@ -85,11 +96,11 @@ served_is_no_usage port (Marked report (Some marks.JournalFull)) e = absurd (ome
 served_is_no_usage port (Marked report (Some marks.NoMemory)) e = absurd (omega (arith, e))
 
 -- a course that ends as usage does writes nothing
-pub usage_unwritten : (course : Course) (tells : Type 0) (input more before after : List ℕ) → status_in course ≡ 2
-    → IsWritten course tells input more before after → after ≡ before
-usage_unwritten (Refused fault) tells input more before after usage is = is
-usage_unwritten (Unread plan fault) tells input more before after usage is = is
-usage_unwritten (Served plan texts outcome) tells input more before after usage is =
+pub usage_unwritten : (stands : List ℕ → List Command → Type 0) (course : Course) (tells : Type 0) (input more before after : List ℕ) → status_in course ≡ 2
+    → IsWritten stands course tells input more before after → after ≡ before
+usage_unwritten stands (Refused fault) tells input more before after usage is = is
+usage_unwritten stands (Unread plan fault) tells input more before after usage is = is
+usage_unwritten stands (Served plan texts outcome) tells input more before after usage is =
     is.1 (served_is_no_usage (port_of plan) outcome usage)
 
 -- a course with the plan that words ask for is one on them
@@ -116,12 +127,12 @@ input_given [] bytes some = absurd (some refl)
 input_given (word ∷ words) bytes some = refl
 
 -- what was written for what an input has left is what was written for the input
-pub written_behind : (course : Course) (T U : Type 0) (left input more before after : List ℕ) → (T → U) → (T → left ≡ input)
-    → IsWritten course U left more before after → IsWritten course T input more before after
-written_behind (Refused fault) T U left input more before after tells behind is = is
-written_behind (Unread plan fault) T U left input more before after tells behind is = is
-written_behind (Served plan texts outcome) T U left input more before after tells behind is =
-    let P : List ℕ → Type 0 = λ bytes. IsAnswered plan texts bytes more outcome before after in
+pub written_behind : (stands : List ℕ → List Command → Type 0) (course : Course) (T U : Type 0) (left input more before after : List ℕ) → (T → U) → (T → left ≡ input)
+    → IsWritten stands course U left more before after → IsWritten stands course T input more before after
+written_behind stands (Refused fault) T U left input more before after tells behind is = is
+written_behind stands (Unread plan fault) T U left input more before after tells behind is = is
+written_behind stands (Served plan texts outcome) T U left input more before after tells behind is =
+    let P : List ℕ → Type 0 = λ bytes. IsAnswered stands plan texts bytes more outcome before after in
     (λ told. subst P (behind told) (is.0 (tells told)), is.1)
 
 -- the count that stands before a course is that which the words left

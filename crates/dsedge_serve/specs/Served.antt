@@ -23,7 +23,13 @@ use Rattle.dsedge_meter.specs.Verdicts.{envelope_for, verdict_on}
 use Rattle.ds_checker.specs.Acceptance.{Table}
 use Rattle.ds_conductor.specs.Steps.{opened}
 use Rattle.dsedge_audit.specs.Audited.{audit_from}
-use Rattle.dsedge_drive.specs.Driven.{driven}
+use Rattle.ds_broker.specs.Books.{Book, Limits}
+use Rattle.ds_broker.specs.declared.command.Command.{Command}
+use Rattle.ds_broker.specs.declared.refusal.BrokerRefusal.{BrokerRefusal}
+use Rattle.ds_ledger_base.specs.Replays.{replay}
+use Rattle.ds_ledger_base.specs.declared.fault.BookFault.TheVariants as books
+use Rattle.ds_ledger_base.specs.declared.fault.LedgerFault.{LedgerFault}
+use Rattle.dsedge_drive.specs.Driven.{drive_from, driven, opening_book}
 use Rattle.dsedge_texts.specs.Accepted.{accepted_in}
 use Rattle.dsedge_texts.specs.Certified.{certified}
 use Rattle.dsedge_texts.specs.Headed.{headroom_in}
@@ -33,10 +39,11 @@ use Rattle.dsedge_texts.specs.declared.quoting.QuoteFault.TheVariants as quotes
 use Rattle.dsedge_texts.specs.declared.accepting.TableFault.{TableFault}
 use Rattle.dsedge_texts.specs.declared.accepting.TableFault.TheVariants as tables
 use Rattle.dsedge_serve.specs.declared.conclusion.Conclusion.{Conclusion}
-use Rattle.dsedge_serve.specs.declared.conclusion.Conclusion.TheVariants.{Ended, Unaccepted, Uncertified, Unsound}
+use Rattle.dsedge_serve.specs.declared.conclusion.Conclusion.TheVariants.{Ended, Unaccepted, Uncertified, Unkept, Unsound}
 use Rattle.dsedge_faults.specs.declared.fault.Fault.TheVariants as faults
 use Rattle.pcap_capture.specs.Fronts.{IsFrontOf}
 use Rattle.dsedge_faults.specs.Faults.{fault_text, notice_text, status_of}
+use Rattle.dsedge_serve.specs.Sales.{unkept_as}
 use Rattle.dsedge_serve.specs.Marked.{IsMarkedOver, IsUnmarked, is_sole, marking_answer, marking_status, marking_told, refusal_outcome, rule_said}
 use Rattle.dsedge_faults.specs.declared.notice.Notice.{Notice}
 use Rattle.dsedge_faults.specs.declared.notice.Notice.TheVariants as notices
@@ -93,10 +100,57 @@ abbrev pub reply_quoted : Told → Reply
 reply_quoted told =
     record { text = told.0; conclusion = Ended (if told.1 then endings.Whole else endings.Refused) }
 
--- The contracts that a domain text says are sold by lines; the fault of the text ends it before anything is written.
-abbrev pub reply_sold : Result (Domain × List Contract) DomainFault → List (List ℕ) → Reply
-reply_sold (Ok parsed) lines = reply_of (driven parsed.0 parsed.1 lines)
-reply_sold (Err fault) lines = record { text = []; conclusion = Unsound fault }
+-- The contracts that a domain text says are sold by lines, by a book that takes so much; the fault of the text ends it
+-- before anything is written.
+abbrev pub reply_sold : Limits → Result (Domain × List Contract) DomainFault → List (List ℕ) → Reply
+reply_sold limits (Ok parsed) lines = reply_of (driven parsed.0 limits parsed.1 lines)
+reply_sold limits (Err fault) lines = record { text = []; conclusion = Unsound fault }
+
+-- Text was written behind what stood, as a reply has it: to its end, or a front of it, where a device failed, memory ran
+-- out, or the ledger kept the book no more.
+abbrev pub IsKeptServed : Reply → Result Conclusion PumpFault → List ℕ → List ℕ → Type 0
+IsKeptServed reply (Ok (Unkept fault)) before after = IsFrontOf before reply.text after
+IsKeptServed reply outcome before after = IsServed reply outcome before after
+
+-- Contracts that are offered were sold by lines from the book on that the commands of a ledger led to; or one of these
+-- was refused, which is told, and nothing was written. Memory may run out.
+abbrev pub IsSoldBehind : Result Book (ℕ × BrokerRefusal) → List Contract → List (List ℕ) → Result Conclusion PumpFault
+    → List ℕ → List ℕ → Type 0
+IsSoldBehind (Ok b) offered lines outcome before after =
+    IsKeptServed (reply_of (drive_from offered b 1 lines)) outcome before after
+IsSoldBehind (Err refused) offered lines outcome before after =
+    (after ≡ before) × ((outcome ≡ Err pump_faults.NoMemory)
+    ⊎ (outcome ≡ Ok (Unkept (books.Command (record { serial = refused.0; refusal = refused.1 })))))
+
+-- a book of a domain went on from a history that a ledger keeps which stands so
+pub record IsSoldOn (stands : List Command → Type 0) (limits : Limits) (parsed : Domain × List Contract)
+    (lines : List (List ℕ)) (outcome : Result Conclusion PumpFault) (before after : List ℕ) : Type 0 where
+  pub history : List Command
+  pub stood : stands history
+  pub sold : IsSoldBehind (replay (opening_book parsed.0 limits) history) parsed.1 lines outcome before after
+
+-- a ledger could not be opened, which is told, and nothing was written
+abbrev pub IsUnshelved : Result Conclusion PumpFault → List ℕ → List ℕ → Type 0
+IsUnshelved outcome before after = (fault : LedgerFault) × (outcome ≡ unkept_as fault) × (after ≡ before)
+
+abbrev pub IsSoldFrom : (List Command → Type 0) → Limits → Result (Domain × List Contract) DomainFault
+    → List (List ℕ) → Result Conclusion PumpFault → List ℕ → List ℕ → Type 0
+IsSoldFrom stands limits (Ok parsed) lines outcome before after =
+    IsUnshelved outcome before after ⊎ IsSoldOn stands limits parsed lines outcome before after
+IsSoldFrom stands limits (Err fault) lines outcome before after =
+    IsServed (record { text = []; conclusion = Unsound fault }) outcome before after
+
+-- Contracts were sold: from the first command on, or where a file keeps the book, from those on that it keeps, as files
+-- stand by their names.
+abbrev pub IsSold : (List ℕ → List Command → Type 0) → Option (List ℕ) → Limits
+    → Result (Domain × List Contract) DomainFault → List (List ℕ) → Outcome → List ℕ → List ℕ → Type 0
+IsSold stands None limits found lines outcome before after =
+    IsReplied (reply_sold limits found lines) outcome before after
+IsSold stands (Some name) limits found lines (Answered outcome) before after =
+    IsSoldFrom (stands name) limits found lines outcome before after
+IsSold stands (Some name) limits found lines Unnamed before after = ⊥
+IsSold stands (Some name) limits found lines Misused before after = ⊥
+IsSold stands (Some name) limits found lines (Marked report fault) before after = ⊥
 
 -- the text of the first file, and of the second
 abbrev pub first_text : List (List ℕ) → List ℕ
@@ -145,26 +199,26 @@ IsQuoted found (Marked report fault) before after = ⊥
 
 -- What a plan asks for was written, for the texts of its files and the bytes that the input had, of which it still has
 -- more.
-abbrev pub IsAnswered : Plan → List (List ℕ) → List ℕ → List ℕ → Outcome → List ℕ → List ℕ → Type 0
-IsAnswered (Show text) texts bytes more outcome before after =
+abbrev pub IsAnswered : (List ℕ → List Command → Type 0) → Plan → List (List ℕ) → List ℕ → List ℕ → Outcome → List ℕ → List ℕ → Type 0
+IsAnswered stands (Show text) texts bytes more outcome before after =
     IsReplied (whole_text (string_bytes text)) outcome before after
-IsAnswered (Meter meter) texts bytes more outcome before after =
+IsAnswered stands (Meter meter) texts bytes more outcome before after =
     IsReplied (reply_of (answer_of (fresh_meter meter) 1 (lines_of bytes))) outcome before after
-IsAnswered (Envelope rate burst) texts bytes more outcome before after =
+IsAnswered stands (Envelope rate burst) texts bytes more outcome before after =
     IsReplied (reply_of (verdict_on (envelope_for rate burst) (lines_of bytes))) outcome before after
-IsAnswered (Certify domain) texts bytes more outcome before after =
+IsAnswered stands (Certify domain) texts bytes more outcome before after =
     IsReplied (reply_by (certified (first_text texts))) outcome before after
-IsAnswered (Check domain certificate) texts bytes more outcome before after =
+IsAnswered stands (Check domain certificate) texts bytes more outcome before after =
     IsReplied (reply_on (accepted_in (first_text texts) (second_text texts))) outcome before after
-IsAnswered (Headroom domain) texts bytes more outcome before after =
+IsAnswered stands (Headroom domain) texts bytes more outcome before after =
     IsReplied (reply_told (headroom_in (first_text texts))) outcome before after
-IsAnswered (Quote domain contract field) texts bytes more outcome before after =
+IsAnswered stands (Quote domain contract field) texts bytes more outcome before after =
     IsQuoted (quote_in (first_text texts) contract field) outcome before after
-IsAnswered (Audit domain certificate) texts bytes more outcome before after =
+IsAnswered stands (Audit domain certificate) texts bytes more outcome before after =
     IsReplied (reply_over (accepted_in (first_text texts) (second_text texts)) (lines_of bytes)) outcome before after
-IsAnswered (Drive domain) texts bytes more outcome before after =
-    IsReplied (reply_sold (parse_of (first_text texts)) (lines_of bytes)) outcome before after
-IsAnswered (Mark domain certificate port workers keeps_red) texts bytes more outcome before after =
+IsAnswered stands (Drive domain limits book) texts bytes more outcome before after =
+    IsSold stands book limits (parse_of (first_text texts)) (lines_of bytes) outcome before after
+IsAnswered stands (Mark domain certificate port workers keeps_red) texts bytes more outcome before after =
     IsMarkedAt (is_sole workers) (accepted_in (first_text texts) (second_text texts)) port (rule_said keeps_red) bytes
     more outcome before after
 
@@ -196,7 +250,7 @@ IsForeseen (Headroom domain) texts outcome = ⊤
 IsForeseen (Quote domain contract field) texts outcome = ⊤
 IsForeseen (Audit domain certificate) texts outcome =
     IsRefusedBefore (accepted_in (first_text texts) (second_text texts)) outcome
-IsForeseen (Drive domain) texts outcome = IsUnsoundBefore (parse_of (first_text texts)) outcome
+IsForeseen (Drive domain limits book) texts outcome = IsUnsoundBefore (parse_of (first_text texts)) outcome
 IsForeseen (Mark domain certificate port workers keeps_red) texts outcome =
     IsRefusedBefore (accepted_in (first_text texts) (second_text texts)) outcome
     × IsPortlessBefore (accepted_in (first_text texts) (second_text texts)) port outcome
@@ -210,6 +264,7 @@ notice_of (Ok (Ended endings.Full)) = Some (notices.Fault faults.Full)
 notice_of (Ok (Unsound fault)) = Some (notices.Fault (faults.Domain fault))
 notice_of (Ok (Uncertified fault)) = Some (notices.Fault (faults.Certificate fault))
 notice_of (Ok (Unaccepted line)) = Some (notices.Refusal line)
+notice_of (Ok (Unkept fault)) = Some (notices.Fault (faults.Book fault))
 notice_of (Err pump_faults.Read) = Some (notices.Fault faults.Read)
 notice_of (Err pump_faults.Write) = Some (notices.Fault faults.Write)
 notice_of (Err pump_faults.NoMemory) = Some (notices.Fault faults.Memory)
@@ -223,6 +278,7 @@ status_for (Ok (Ended endings.Full)) = status_of faults.Full
 status_for (Ok (Unsound fault)) = status_of (faults.Domain fault)
 status_for (Ok (Uncertified fault)) = status_of (faults.Certificate fault)
 status_for (Ok (Unaccepted line)) = 1
+status_for (Ok (Unkept fault)) = status_of (faults.Book fault)
 status_for (Err pump_faults.Read) = status_of faults.Read
 status_for (Err pump_faults.Write) = status_of faults.Write
 status_for (Err pump_faults.NoMemory) = status_of faults.Memory

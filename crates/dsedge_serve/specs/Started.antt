@@ -3,6 +3,7 @@ use Rattle.std.specs.Prelude.{◌≡◌, ℕ, ◌<◌, ◌≤◌, ◌⊎◌, Boo
 use Rattle.std.specs.declared.io.ErrorKind.{ErrorKind}
 use Rattle.std.specs.declared.io.ErrorKind.TheVariants.{OutOfMemory}
 use Rattle.line_text.specs.Lines.{fields_of}
+use Rattle.ds_broker.specs.declared.command.Command.{Command}
 use Rattle.dsedge_base.specs.Files.{files_of, port_of}
 use Rattle.dsedge_base.specs.Plans.{IsPlanOf, IsRefusalOf}
 use Rattle.dsedge_base.specs.declared.fault.UsageFault.{UsageFault}
@@ -156,11 +157,11 @@ IsCourseOf tells holds (Served plan texts outcome) =
 
 -- What was written, where the devices tell their bytes: the answer to the input, which still has more, or a front of
 -- it; a refusal writes nothing, and so does a field that its contract has not.
-abbrev pub IsWritten : Course → Type 0 → List ℕ → List ℕ → List ℕ → List ℕ → Type 0
-IsWritten (Refused fault) tells input more before after = after ≡ before
-IsWritten (Unread plan fault) tells input more before after = after ≡ before
-IsWritten (Served plan texts outcome) tells input more before after =
-    (tells → IsAnswered plan texts input more outcome before after)
+abbrev pub IsWritten : (List ℕ → List Command → Type 0) → Course → Type 0 → List ℕ → List ℕ → List ℕ → List ℕ → Type 0
+IsWritten stands (Refused fault) tells input more before after = after ≡ before
+IsWritten stands (Unread plan fault) tells input more before after = after ≡ before
+IsWritten stands (Served plan texts outcome) tells input more before after =
+    (tells → IsAnswered stands plan texts input more outcome before after)
     × (is_misused outcome ≡ true → after ≡ before)
 
 -- whether a start went so that the output could not be written

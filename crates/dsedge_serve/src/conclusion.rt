@@ -1,4 +1,5 @@
 use ds_domain_base::DomainFault;
+use ds_ledger_base::BookFault;
 use dsedge_lines::Ending;
 use dsedge_texts::{FaultyLine, RefusalLine};
 
@@ -13,4 +14,7 @@ pub enum Conclusion {
     Uncertified(FaultyLine),
     /// The checker refuses the table with this line, and nothing is answered.
     Unaccepted(RefusalLine),
+    /// The book of a broker does not go on from its ledger, and nothing is answered; or it is kept no more there, and
+    /// the answer ends before what was not kept.
+    Unkept(BookFault),
 }

@@ -14,6 +14,7 @@ use dsedge_faults::advise;
 use dsedge_faults::Fault;
 use crate::starting::{refuse, start};
 use crate::terminal::AtTerminal;
+use ds_ledger_base::Shelf;
 use dsedge_lines::Words;
 use dsedge_texts::Folder;
 use pcap_capture::{Intake, Outlet};
@@ -28,7 +29,7 @@ use std::thread::Threads;
 /// nowhere else.
 ///
 /// Words that could not be had are refused: for want of memory, or since one of them is not UTF-8.
-pub fn run<R: Wait + Threads + Sync, D: Folder, I: Intake, O: Outlet, F: Outlet>(
+pub fn run<R: Wait + Threads + Sync, D: Folder + Shelf, I: Intake, O: Outlet, F: Outlet>(
     alloc: Global,
     rt: &R,
     line: io::Result<Words>,
@@ -48,7 +49,7 @@ pub fn run<R: Wait + Threads + Sync, D: Folder, I: Intake, O: Outlet, F: Outlet>
         (course : Course) × (result ≡ status_in course)
         × (AreKnown words (I.tells intake.old) → IsCourseFrom words (I.left intake.old) course)
         × IsCourseOf (D.tells folder.now) (D.holds folder.now) course
-        × IsWritten course (I.tells intake.old × O.tells output.old) (input_from words (I.left intake.old))
+        × IsWritten (D.stands folder.now) course (I.tells intake.old × O.tells output.old) (input_from words (I.left intake.old))
         (I.left intake.new)
         (O.held output.old) (O.held output.new)
         × (F.tells faults.old →
@@ -97,7 +98,7 @@ fn wordless(kind: ErrorKind) -> Fault<'static>
 }
 
 /// Runs the program on its words.
-fn run_on<R: Wait + Threads + Sync, D: Folder, I: Intake, O: Outlet, F: Outlet>(
+fn run_on<R: Wait + Threads + Sync, D: Folder + Shelf, I: Intake, O: Outlet, F: Outlet>(
     alloc: Global,
     rt: &R,
     words: &[String],
@@ -111,7 +112,7 @@ fn run_on<R: Wait + Threads + Sync, D: Folder, I: Intake, O: Outlet, F: Outlet>(
         (course : Course) × (result ≡ status_in course)
         × (AreKnown texts (I.tells intake.old) → IsCourseFrom texts (I.left intake.old) course)
         × IsCourseOf (D.tells folder.now) (D.holds folder.now) course
-        × IsWritten course (I.tells intake.old × O.tells output.old) (input_from texts (I.left intake.old))
+        × IsWritten (D.stands folder.now) course (I.tells intake.old × O.tells output.old) (input_from texts (I.left intake.old))
         (I.left intake.new)
         (O.held output.old) (O.held output.new)
         × (F.tells faults.old →

@@ -1,47 +1,69 @@
-ghost use Rattle.std.specs.Prelude.{◌≡◌};
+ghost use Rattle.std.specs.Prelude.{◌≡◌, []};
 ghost use Rattle.line_text.specs.Lines.{lines_of};
 ghost use Rattle.ds_domain.specs.DomainTexts.{parse_of};
-ghost use Rattle.dsedge_drive.specs.Driven.{driven, opening_book};
+ghost use Rattle.ds_ledger_base.specs.Replays.{replay};
+ghost use Rattle.dsedge_drive.specs.Driven.{drive_from, opening_book};
 ghost use Rattle.pcap_capture.specs.Counts.{IsOfReads};
 ghost use Rattle.dsedge_lines.specs.Faults.{is_read_fault, is_write_fault};
-ghost use Rattle.dsedge_serve.specs.Served.{IsOfWrites, IsServed, IsUnsoundBefore, reply_of, reply_sold};
+ghost use Rattle.dsedge_serve.specs.Served.{IsKeptServed, IsOfWrites, IsServed, IsSoldBehind, IsSoldFrom};
+ghost use Rattle.dsedge_serve.specs.Served.{IsUnsoundBefore, reply_of, reply_sold};
+ghost use Rattle.dsedge_serve.specs.Sales.{concluded_as, unkept_as, unledgered_as, unopened_as};
 ghost use Rattle.dsedge_serve.specs.declared.outcome.Outcome.{Outcome};
 
 use crate::conclusion::Conclusion;
-use crate::serving::answer_lines;
-use ds_domain::{Contract, Domain, DomainFault, Kind, parse};
-use dsedge_drive::{DriveCommand, Naming, Opened};
-use dsedge_lines::PumpFault;
+use ds_broker::{BrokerRefusal, Command, Limits};
+use ds_domain::{DomainFault, Kind, parse};
+use ds_ledger_base::{BookFault, Ledger, LedgerFault, RefusedReplay, Shelf, Unkept};
+use dsedge_drive::{DriveCommand, Naming, Opened, Sale};
+use dsedge_lines::{Ending, PumpFault, pump};
 use pcap_capture::{Intake, Outlet};
 use std::alloc::Global;
 use std::marker::Brand;
 use std::sync::Wait;
 
+/// Where a broker's book is kept, and how much it takes.
+#[derive(Drop)]
+pub(crate) struct Place<'a, S> {
+    pub(crate) shelf: &'a S,
+    pub(crate) name: &'a str,
+    pub(crate) limits: Limits,
+}
+
 /// Sells the contracts of the domain that a text says, by the lines of the input.
 pub(crate) fn answer_drive<R: Wait, I: Intake, O: Outlet>(
     alloc: Global,
     rt: &R,
+    limits: Limits,
     text: &[u8],
     intake: &mut I,
     output: &mut O,
 ) -> Result<Conclusion, PumpFault>
     ensures served { I.tells intake.old → O.tells output.old →
-        IsServed (reply_sold (parse_of text.now) (lines_of (I.left intake.old))) result (O.held output.old)
+        IsServed (reply_sold limits (parse_of text.now) (lines_of (I.left intake.old))) result (O.held output.old)
         (O.held output.new) }
     ensures unsound { IsUnsoundBefore (parse_of text.now) (Outcome.Answered result) }
     ensures writes { IsOfWrites (is_write_fault result) (O.failed output.old) (O.failed output.new) }
     ensures reads { IsOfReads (is_read_fault result) (I.failed intake.old) (I.failed intake.new) (I.calls intake.new) }
 {
     match parse(alloc, text) {
-        Ok((domain, contracts)) => sell::<Brand, R, I, O>(
-            alloc,
-            rt,
-            Opened::new(),
-            domain,
-            contracts.as_slice(),
-            intake,
-            output,
-        ),
+        Ok((domain, contracts)) => {
+            let sale = Sale {
+                domain,
+                limits,
+                contracts: contracts.as_slice(),
+            };
+            let nothing = (Unkept, Vec::new(alloc));
+            let sold = sell::<Brand, R, Unkept, I, O>(
+                alloc,
+                rt,
+                Opened::new(),
+                sale,
+                nothing,
+                intake,
+                output,
+            );
+            unledgered(sold)
+        }
         Err(
             DomainFault {
                 kind: Kind::NoMemory,
@@ -52,26 +74,148 @@ pub(crate) fn answer_drive<R: Wait, I: Intake, O: Outlet>(
     }
 }
 
-/// Sells contracts of a domain by the lines of the input.
-fn sell<J: Naming, R: Wait, I: Intake, O: Outlet>(
+/// Sells the contracts of the domain that a text says, by the lines of the input, from the commands on that a ledger
+/// keeps.
+pub(crate) fn answer_kept<R: Wait, S: Shelf, I: Intake, O: Outlet>(
+    alloc: Global,
+    rt: &R,
+    place: &Place<'_, S>,
+    text: &[u8],
+    intake: &mut I,
+    output: &mut O,
+) -> Result<Conclusion, PumpFault>
+    ensures served { I.tells intake.old → O.tells output.old →
+        IsSoldFrom (S.stands place.now.shelf.now place.now.name.now) place.now.limits (parse_of text.now) (lines_of (I.left intake.old)) result (O.held output.old)
+        (O.held output.new) }
+    ensures unsound { IsUnsoundBefore (parse_of text.now) (Outcome.Answered result) }
+    ensures writes { IsOfWrites (is_write_fault result) (O.failed output.old) (O.failed output.new) }
+    ensures reads { IsOfReads (is_read_fault result) (I.failed intake.old) (I.failed intake.new) (I.calls intake.new) }
+{
+    match parse(alloc, text) {
+        Ok((domain, contracts)) => {
+            let sale = Sale {
+                domain,
+                limits: place.limits,
+                contracts: contracts.as_slice(),
+            };
+            match place.shelf.open(alloc, place.name) {
+                Ok(kept) => sell::<Brand, R, S::Kept, I, O>(
+                    alloc,
+                    rt,
+                    Opened::new(),
+                    sale,
+                    kept,
+                    intake,
+                    output,
+                ),
+                Err(fault) => unkept(fault),
+            }
+        }
+        Err(
+            DomainFault {
+                kind: Kind::NoMemory,
+                ..
+            },
+        ) => Err(PumpFault::NoMemory),
+        Err(fault) => Ok(Conclusion::Unsound(fault)),
+    }
+}
+
+/// Sells contracts by the lines of the input, from the commands on that a ledger keeps.
+#[tactic(auto, using(crate::proofs::SaleLemmas::unopened_sold, crate::proofs::SaleLemmas::unopened_faults))]
+fn sell<J: Naming, R: Wait, L: Ledger + Drop, I: Intake, O: Outlet>(
     alloc: Global,
     rt: &R,
     opened: Opened,
-    domain: Domain,
-    contracts: &[Contract],
+    sale: Sale<'_>,
+    kept: (L, Vec<Command>),
     intake: &mut I,
     output: &mut O,
 ) -> Result<Conclusion, PumpFault>
     requires log { opened ≡ J.log }
-    requires opening { J.opening ≡ opening_book domain }
+    requires opening { J.opening ≡ opening_book sale.domain sale.limits }
+    requires kept { L.tells kept.0 → L.keeps kept.0 kept.1.items }
     ensures served { I.tells intake.old → O.tells output.old →
-        IsServed (reply_of (driven domain contracts.now (lines_of (I.left intake.old)))) result (O.held output.old)
-        (O.held output.new) }
+        IsSoldBehind (replay (opening_book sale.entry.domain sale.entry.limits) kept.1.items) sale.entry.contracts.now
+        (lines_of (I.left intake.old)) result (O.held output.old) (O.held output.new) }
     ensures writes { IsOfWrites (is_write_fault result) (O.failed output.old) (O.failed output.new) }
     ensures reads { IsOfReads (is_read_fault result) (I.failed intake.old) (I.failed intake.new) (I.calls intake.new) }
 {
-    match DriveCommand::<J, &R>::new(alloc, rt, opened, domain, contracts) {
-        Ok(command) => answer_lines(alloc, command, intake, output),
-        Err(_) => Err(PumpFault::NoMemory),
+    let (ledger, commands) = kept;
+    match DriveCommand::<J, &R, L>::new(alloc, rt, opened, sale, ledger, commands) {
+        Ok(command) => sell_by(alloc, command, intake, output),
+        Err(fault) => unopened(fault),
+    }
+}
+
+/// Sells by a command before its first line.
+#[tactic(auto, using(crate::proofs::SaleLemmas::concluded_served, crate::proofs::SaleLemmas::concluded_faults))]
+fn sell_by<J: Naming, R: Wait + Drop, L: Ledger + Drop, I: Intake, O: Outlet>(
+    alloc: Global,
+    command: DriveCommand<'_, J, R, L>,
+    intake: &mut I,
+    output: &mut O,
+) -> Result<Conclusion, PumpFault>
+    requires { command.unsaid ≡ [] }
+    ensures served { I.tells intake.old → O.tells output.old →
+        IsKeptServed (reply_of (drive_from command.entry.offered command.entry.book 1 (lines_of (I.left intake.old)))) result
+        (O.held output.old) (O.held output.new) }
+    ensures writes { IsOfWrites (is_write_fault result) (O.failed output.old) (O.failed output.new) }
+    ensures reads { IsOfReads (is_read_fault result) (I.failed intake.old) (I.failed intake.new) (I.calls intake.new) }
+{
+    let mut command = command;
+    let answered = pump(alloc, &mut command, intake, output);
+    let fault = command.fault();
+    drop(command);
+    concluded(answered, fault)
+}
+
+/// How a sale ends whose lines were answered so, by a command that a fault of its ledger ended, if one did.
+fn concluded(
+    answered: Result<Ending, PumpFault>,
+    fault: Option<LedgerFault>,
+) -> Result<Conclusion, PumpFault>
+    ensures { result ≡ concluded_as answered fault }
+{
+    match (answered, fault) {
+        (Ok(ending), _) => Ok(Conclusion::Ended(ending)),
+        (Err(PumpFault::NoMemory), Some(fault)) => unkept(fault),
+        (Err(fault), _) => Err(fault),
+    }
+}
+
+/// How a sale ends that a fault of its ledger ends.
+fn unkept(fault: LedgerFault) -> Result<Conclusion, PumpFault>
+    ensures { result ≡ unkept_as fault }
+{
+    match fault {
+        LedgerFault::NoMemory => Err(PumpFault::NoMemory),
+        fault => Ok(Conclusion::Unkept(BookFault::Ledger(fault))),
+    }
+}
+
+/// How a sale ends whose book does not go on from its ledger.
+fn unopened(fault: BookFault) -> Result<Conclusion, PumpFault>
+    ensures { result ≡ unopened_as fault }
+{
+    match fault {
+        BookFault::Ledger(fault) => unkept(fault),
+        BookFault::Command(
+            RefusedReplay {
+                refusal: BrokerRefusal::NoMemory,
+                ..
+            },
+        ) => Err(PumpFault::NoMemory),
+        BookFault::Command(refused) => Ok(Conclusion::Unkept(BookFault::Command(refused))),
+    }
+}
+
+/// How a sale ends that no ledger keeps, and so none ends.
+fn unledgered(sold: Result<Conclusion, PumpFault>) -> Result<Conclusion, PumpFault>
+    ensures { result ≡ unledgered_as sold }
+{
+    match sold {
+        Ok(Conclusion::Unkept(_)) => Err(PumpFault::NoMemory),
+        sold => sold,
     }
 }

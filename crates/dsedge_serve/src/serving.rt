@@ -28,10 +28,11 @@ use crate::marking::{answer_mark, marking_advice, marking_status, refusal_outcom
 use dsedge_faults::Notice;
 use crate::outcome::Outcome;
 use crate::quoting::answer_quote;
-use crate::selling::answer_drive;
+use crate::selling::{Place, answer_drive, answer_kept};
 use ds_checker::Accepted;
 use ds_conductor::RedRule;
 use ds_domain_base::{DomainFault, Kind};
+use ds_ledger_base::Shelf;
 use dsedge_audit::AuditCommand;
 use dsedge_base::Plan;
 use dsedge_lines::{Command, Ending, GivenName, PumpFault, pump};
@@ -188,17 +189,19 @@ fn judge_run<I: Intake, O: Outlet>(
 }
 
 /// Answers what a plan asks for, on the output, from the texts of its files.
-fn answer<R: Wait + Threads + Sync, I: Intake, O: Outlet>(
+fn answer<R: Wait + Threads + Sync, S: Shelf, I: Intake, O: Outlet>(
     alloc: Global,
     rt: &R,
     plan: &Plan<'_>,
     texts: &[Vec<u8>],
+    shelf: &S,
     intake: &mut I,
     output: &mut O,
 ) -> Outcome
     requires { length texts.now ≡ length (files_of plan.now) }
     ensures served { I.tells intake.old → O.tells output.old →
-        IsAnswered plan.now (map (λ text. text.items) texts.now) (I.left intake.old) (I.left intake.new) result
+        IsAnswered (S.stands shelf.now) plan.now (map (λ text. text.items) texts.now) (I.left intake.old)
+        (I.left intake.new) result
         (O.held output.old) (O.held output.new) }
     ensures foreseen { IsForeseen plan.now (map (λ text. text.items) texts.now) result }
     ensures writes { IsOfWrites (is_output_fault result) (O.failed output.old) (O.failed output.new) }
@@ -237,9 +240,26 @@ fn answer<R: Wait + Threads + Sync, I: Intake, O: Outlet>(
             let (domain, certificate) = (texts[0].as_slice(), texts[1].as_slice());
             Outcome::Answered(answer_audit(alloc, domain, certificate, intake, output))
         }
-        Plan::Drive { .. } => {
+        Plan::Drive {
+            limits,
+            book: None,
+            ..
+        } => {
             let domain = texts[0].as_slice();
-            Outcome::Answered(answer_drive(alloc, rt, domain, intake, output))
+            Outcome::Answered(answer_drive(alloc, rt, *limits, domain, intake, output))
+        }
+        Plan::Drive {
+            limits,
+            book: Some(name),
+            ..
+        } => {
+            let domain = texts[0].as_slice();
+            let place = Place {
+                shelf,
+                name: name.text(),
+                limits: *limits,
+            };
+            Outcome::Answered(answer_kept(alloc, rt, &place, domain, intake, output))
         }
         Plan::Mark {
             port,
@@ -286,6 +306,7 @@ fn notice(outcome: Result<Conclusion, PumpFault>) -> Option<Notice>
         Ok(Conclusion::Unsound(fault)) => Some(Notice::Fault(Fault::Domain(fault))),
         Ok(Conclusion::Uncertified(fault)) => Some(Notice::Fault(Fault::Certificate(fault))),
         Ok(Conclusion::Unaccepted(line)) => Some(Notice::Refusal(line)),
+        Ok(Conclusion::Unkept(fault)) => Some(Notice::Fault(Fault::Book(fault))),
         Err(PumpFault::Read) => Some(Notice::Fault(Fault::Read)),
         Err(PumpFault::Write) => Some(Notice::Fault(Fault::Write)),
         Err(PumpFault::NoMemory) => Some(Notice::Fault(Fault::Memory)),
@@ -304,6 +325,7 @@ fn status(outcome: &Result<Conclusion, PumpFault>) -> u8
         Ok(Conclusion::Unsound(fault)) => Fault::Domain(*fault).status(),
         Ok(Conclusion::Uncertified(fault)) => Fault::Certificate(*fault).status(),
         Ok(Conclusion::Unaccepted(_)) => 1,
+        Ok(Conclusion::Unkept(fault)) => Fault::Book(*fault).status(),
         Err(PumpFault::Read) => Fault::Read.status(),
         Err(PumpFault::Write) => Fault::Write.status(),
         Err(PumpFault::NoMemory) => Fault::Memory.status(),
@@ -378,12 +400,13 @@ fn tell_fault<F: Outlet>(fault: &Fault<'_>, faults: &mut F) -> Option<Advice>
 /// there is to say behind the fault.
 ///
 /// `texts` are the contents of the files that the plan names, in the order of its words. `drive` keeps `rt`: its broker
-/// waits for feeds that look. `mark` starts threads with it.
-pub fn serve<R: Wait + Threads + Sync, I: Intake, O: Outlet, F: Outlet>(
+/// waits for feeds that look; a book that it keeps stands on `shelf`. `mark` starts threads with `rt`.
+pub fn serve<R: Wait + Threads + Sync, S: Shelf, I: Intake, O: Outlet, F: Outlet>(
     alloc: Global,
     rt: &R,
     plan: &Plan<'_>,
     texts: &[Vec<u8>],
+    shelf: &S,
     intake: &mut I,
     output: &mut O,
     faults: &mut F,
@@ -394,7 +417,8 @@ pub fn serve<R: Wait + Threads + Sync, I: Intake, O: Outlet, F: Outlet>(
     ensures outcome { let port = port_of plan.now in
         (outcome : Outcome) × (result.status ≡ status_after port outcome)
         × (I.tells intake.old → O.tells output.old →
-        IsAnswered plan.now (map (λ text. text.items) texts.now) (I.left intake.old) (I.left intake.new) outcome
+        IsAnswered (S.stands shelf.now) plan.now (map (λ text. text.items) texts.now) (I.left intake.old)
+        (I.left intake.new) outcome
         (O.held output.old) (O.held output.new))
         × (F.tells faults.old →
         IsTold (told_after port outcome) (F.held faults.old) (F.held faults.new) (F.failed faults.old)
@@ -406,7 +430,7 @@ pub fn serve<R: Wait + Threads + Sync, I: Intake, O: Outlet, F: Outlet>(
         × (result.advice ≡ advice_after port outcome)
         × (is_misused outcome ≡ true → O.held output.new ≡ O.held output.old) }
 {
-    let outcome = answer(alloc, rt, plan, texts, intake, output);
+    let outcome = answer(alloc, rt, plan, texts, shelf, intake, output);
     let port = plan.port();
     let status = status_after(port, &outcome);
     let advice = tell_after(alloc, port, outcome, faults);

@@ -14,6 +14,7 @@ ghost use Rattle.dsedge_texts.specs.Readable.{texts_of};
 use crate::ended::Ended;
 use dsedge_faults::Fault;
 use crate::serving::serve;
+use ds_ledger_base::Shelf;
 use dsedge_base::{Plan, UsageFault, plan};
 use dsedge_lines::{FirstLineFault, first_line};
 use dsedge_texts::{Folder, TextFault, read_texts};
@@ -81,7 +82,7 @@ fn texts_for<'a, D: Folder>(
 }
 
 /// Serves a plan with the texts of its files.
-fn start_with<R: Wait + Threads + Sync, D: Folder, I: Intake, O: Outlet, F: Outlet>(
+fn start_with<R: Wait + Threads + Sync, D: Folder + Shelf, I: Intake, O: Outlet, F: Outlet>(
     alloc: Global,
     rt: &R,
     plan: &Plan<'_>,
@@ -94,7 +95,7 @@ fn start_with<R: Wait + Threads + Sync, D: Folder, I: Intake, O: Outlet, F: Outl
     ensures course { (course : Course) × (result.status ≡ status_in course)
         × IsCourseWith plan.now course
         × IsCourseOf (D.tells folder.now) (D.holds folder.now) course
-        × IsWritten course (I.tells intake.old × O.tells output.old) (I.left intake.old) (I.left intake.new)
+        × IsWritten (D.stands folder.now) course (I.tells intake.old × O.tells output.old) (I.left intake.old) (I.left intake.new)
         (O.held output.old) (O.held output.new)
         × (F.tells faults.old →
         IsTold (told_in course) (F.held faults.old) (F.held faults.new) (F.failed faults.old) (F.failed faults.new))
@@ -104,13 +105,22 @@ fn start_with<R: Wait + Threads + Sync, D: Folder, I: Intake, O: Outlet, F: Outl
         × (result.advice ≡ advice_in course) }
 {
     match texts_for(alloc, folder, plan) {
-        Ok(texts) => serve(alloc, rt, plan, texts.as_slice(), intake, output, faults),
+        Ok(texts) => serve(
+            alloc,
+            rt,
+            plan,
+            texts.as_slice(),
+            folder,
+            intake,
+            output,
+            faults,
+        ),
         Err(fault) => refuse(&fault, faults),
     }
 }
 
 /// Serves the plan that words ask for.
-fn start_on<R: Wait + Threads + Sync, D: Folder, I: Intake, O: Outlet, F: Outlet>(
+fn start_on<R: Wait + Threads + Sync, D: Folder + Shelf, I: Intake, O: Outlet, F: Outlet>(
     alloc: Global,
     rt: &R,
     words: &[String],
@@ -123,7 +133,7 @@ fn start_on<R: Wait + Threads + Sync, D: Folder, I: Intake, O: Outlet, F: Outlet
     ensures course { (course : Course) × (result.status ≡ status_in course)
         × IsCourseOn (map string_bytes words.now) course
         × IsCourseOf (D.tells folder.now) (D.holds folder.now) course
-        × IsWritten course (I.tells intake.old × O.tells output.old) (I.left intake.old) (I.left intake.new)
+        × IsWritten (D.stands folder.now) course (I.tells intake.old × O.tells output.old) (I.left intake.old) (I.left intake.new)
         (O.held output.old) (O.held output.new)
         × (F.tells faults.old →
         IsTold (told_in course) (F.held faults.old) (F.held faults.new) (F.failed faults.old) (F.failed faults.new))
@@ -139,12 +149,12 @@ fn start_on<R: Wait + Threads + Sync, D: Folder, I: Intake, O: Outlet, F: Outlet
 }
 
 /// Runs the program on its words, the name of the program left out; where there are none, the first line of the input
-/// gives them, and the rest is the input. Files that the words name come from `folder`. Gives the exit status, and what
+/// gives them, and the rest is the input. Files that the words name come from `folder`, and books stand there. Gives the exit status, and what
 /// there is to say behind what was told.
 ///
 /// Refused: `Usage` for a first line of more than 65,536 bytes or one that is not UTF-8, and for words that ask for
 /// nothing; `Read` where the first line could not be read, `File` where a file could not, `Memory` where memory ran out.
-pub fn start<R: Wait + Threads + Sync, D: Folder, I: Intake, O: Outlet, F: Outlet>(
+pub fn start<R: Wait + Threads + Sync, D: Folder + Shelf, I: Intake, O: Outlet, F: Outlet>(
     alloc: Global,
     rt: &R,
     given: &[String],
@@ -161,7 +171,7 @@ pub fn start<R: Wait + Threads + Sync, D: Folder, I: Intake, O: Outlet, F: Outle
         (course : Course) × (result.status ≡ status_in course)
         × (AreKnown texts (I.tells intake.old) → IsCourseFrom texts (I.left intake.old) course)
         × IsCourseOf (D.tells folder.now) (D.holds folder.now) course
-        × IsWritten course (I.tells intake.old × O.tells output.old) (input_from texts (I.left intake.old))
+        × IsWritten (D.stands folder.now) course (I.tells intake.old × O.tells output.old) (input_from texts (I.left intake.old))
         (I.left intake.new)
         (O.held output.old) (O.held output.new)
         × (F.tells faults.old →

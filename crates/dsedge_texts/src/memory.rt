@@ -4,6 +4,8 @@ ghost use Rattle.dsedge_texts.specs.Readable.{held_by};
 use crate::fault::{FileFault, Reason};
 use crate::folder::Folder;
 use crate::whole::MOST_BYTES;
+use ds_broker::Command;
+use ds_ledger_base::{LedgerFault, Shelf, Unkept};
 use std::alloc::{AllocError, Global};
 
 /// Files in memory, each a name and what its file holds; of two with one name the first counts.
@@ -52,5 +54,16 @@ impl Folder for MemoryFolder<'_> {
             Ok(copy) => Ok(copy),
             Err(_) => Err(FileFault::NoMemory),
         }
+    }
+}
+
+impl Shelf for MemoryFolder<'_> {
+    type Kept = Unkept;
+
+    ghost stands = { λ _ _ _. ⊥ };
+
+    /// Memory keeps no book: no ledger stands there.
+    fn open(&self, _alloc: Global, _name: &str) -> Result<(Unkept, Vec<Command>), LedgerFault> {
+        Err(LedgerFault::Open)
     }
 }

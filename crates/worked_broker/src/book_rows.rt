@@ -157,10 +157,10 @@ fn a_share_is_sold_anew_when_its_hold_has_passed(rt: HostRuntime) {
 fn limits_stay_within_a_book(rt: HostRuntime) {
     assert!(rt; Limits::new(0, 1).is_err());
     assert!(rt; Limits::new(1, 0).is_err());
-    assert!(rt; Limits::new(4097, 1).is_err());
-    assert!(rt; Limits::new(1, 65_537).is_err());
-    let limits = limits(&rt, 4096, 65_536);
-    assert!(rt; limits.table() == 4096);
-    assert!(rt; limits.history() == 65_536);
+    assert!(rt; Limits::new(65_537, 1).is_err());
+    assert!(rt; Limits::new(1, 16_777_217).is_err());
+    let limits = limits(&rt, 65_536, 16_777_216);
+    assert!(rt; limits.table() == 65_536);
+    assert!(rt; limits.history() == 16_777_216);
     assert!(rt; BrokerRefusal::HoldLeft(1).code() == 9);
 }

@@ -7,4 +7,6 @@ mod book_rows;
 #[cfg(test)]
 mod books;
 #[cfg(test)]
+mod limit_rows;
+#[cfg(test)]
 mod timeline_rows;

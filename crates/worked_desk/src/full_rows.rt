@@ -5,7 +5,8 @@ use crate::desks::{Plan, many};
 use ds_broker::Limits;
 use ds_desk::{Naming, Opened};
 use ds_domain_base::{Contract, Domain};
-use dsedge_drive::DriveCommand;
+use ds_ledger_base::Unkept;
+use dsedge_drive::{DriveCommand, Sale};
 use dsedge_lines::Command;
 use std::alloc::Global;
 use std::marker::Brand;
@@ -23,7 +24,7 @@ const LATER: u64 = 100_000_000_000;
 fn expect<J: Naming, R: Wait + Abort + Copy + Drop>(
     rt: R,
     alloc: Global,
-    command: &mut DriveCommand<J, R>,
+    command: &mut DriveCommand<J, R, Unkept>,
     (line, wanted): (String, String),
     (serial, contracts): (u32, u32),
 ) {
@@ -68,7 +69,7 @@ fn done(
 fn sell_all<J: Naming, R: Wait + Abort + Copy + Drop>(
     rt: R,
     alloc: Global,
-    command: &mut DriveCommand<J, R>,
+    command: &mut DriveCommand<J, R, Unkept>,
 ) {
     for before in 0..MOST_CONTRACTS {
         let number = before + 1;
@@ -81,7 +82,7 @@ fn sell_all<J: Naming, R: Wait + Abort + Copy + Drop>(
 fn sell_again<J: Naming, R: Wait + Abort + Copy + Drop>(
     rt: R,
     alloc: Global,
-    command: &mut DriveCommand<J, R>,
+    command: &mut DriveCommand<J, R, Unkept>,
     time: u32,
 )
     requires { time < 20480 }
@@ -108,7 +109,12 @@ fn filled<J: Naming, R: Wait + Abort + Copy + Drop>(
     requires log { log ≡ J.log }
     requires opening { J.opening ≡ record { domain = domain; limits = limits; history = [] } }
 {
-    let made = DriveCommand::<J, R>::with_limits(alloc, rt, log, domain, limits, contracts);
+    let sale = Sale {
+        domain,
+        limits,
+        contracts,
+    };
+    let made = DriveCommand::<J, R, Unkept>::new(alloc, rt, log, sale, Unkept, Vec::new(alloc));
     let mut command = made.expect(&rt, "memory");
     sell_all(rt, alloc, &mut command);
     for time in 0..TIMES {

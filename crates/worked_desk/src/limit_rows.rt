@@ -5,7 +5,8 @@ use crate::desks::{Plan, Row, contract, released, reserved, retired, run_over, w
 use ds_broker::{BrokerRefusal, Limits};
 use ds_desk::{Broker, Naming, Opened};
 use ds_domain_base::{Contract, Domain};
-use dsedge_drive::DriveCommand;
+use ds_ledger_base::Unkept;
+use dsedge_drive::{DriveCommand, Sale};
 use dsedge_lines::Command;
 use std::alloc::Global;
 use std::marker::Brand;
@@ -94,7 +95,12 @@ fn driven<J: Naming, R: Wait + Abort + Copy + Drop>(
     requires log { log ≡ J.log }
     requires opening { J.opening ≡ record { domain = domain; limits = limits; history = [] } }
 {
-    let made = DriveCommand::<J, R>::with_limits(alloc, rt, log, domain, limits, contracts);
+    let sale = Sale {
+        domain,
+        limits,
+        contracts,
+    };
+    let made = DriveCommand::<J, R, Unkept>::new(alloc, rt, log, sale, Unkept, Vec::new(alloc));
     let mut command = made.expect(&rt, "memory");
     let mut out = Vec::new(alloc);
     for line in lines {

@@ -1,5 +1,6 @@
+use ds_ledger_base::Shelf;
 use dsedge_serve::{Advice, start};
-use dsedge_texts::MemoryFolder;
+use dsedge_texts::{Folder, MemoryFolder};
 use pcap_capture::{MOST_CALLS, SliceIntake, VecOutlet};
 use std::alloc::{AllocError, Global};
 use std::process::Abort;
@@ -25,11 +26,11 @@ pub(crate) struct Done {
 const NO_FILES: MemoryFolder<'static> = MemoryFolder { files: &[] };
 
 /// The program on words that stand one space apart, with its files, its input and its output.
-pub(crate) fn run(
+pub(crate) fn run<D: Folder + Shelf + Drop>(
     rt: &(impl Wait + Threads + Sync),
     alloc: Global,
     words: &str,
-    files: MemoryFolder<'_>,
+    files: D,
     mut intake: SliceIntake,
     mut output: VecOutlet,
 ) -> Result<Done, Fail> {

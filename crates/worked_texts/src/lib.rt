@@ -16,5 +16,5 @@ pub use domains::{
     LEAST_OF_POLICED, LEAST_OF_TRUSTED, over_excess, over_way, policed, tight, wide,
 };
 pub use joining::{joined, push_all};
-pub use many::{MOST_CONTRACTS, most_contracts};
+pub use many::{MOST_CONTRACTS, STEADY, most_contracts};
 pub use sites::{EXCESS_WAY, LINK, LOW_METER, METER, ONE, PORT, SINGLE_RATE, TWO};

@@ -7,7 +7,7 @@ use std::alloc::{AllocError, Global};
 pub const MOST_CONTRACTS: u32 = 4_096;
 
 /// A link from `p` to `m` without jitter.
-const STEADY: &str = r#"
+pub const STEADY: &str = r#"
 [[link]]
 from = "p"
 to = "m"

@@ -3,6 +3,7 @@ use Rattle.ds_broker.specs.Refusals.{reserve_refusal}
 use Rattle.ds_broker.specs.declared.command.Command.TheVariants.{Reserve}
 use Rattle.dsedge_drive.specs.Sold.{granted_line}
 use Rattle.dsedge_drive.proofs.SaidLaws.{outcome_book, outcome_text}
+use Rattle.dsedge_drive.proofs.KeepLaws.{grown-done}
 use Rattle.dsedge_drive.proofs.command.sell.Goals as goal
 
 pub returns-clause-text : goal.returns-clause-text
@@ -16,3 +17,7 @@ returns-clause-book g c =
     let b = c.args.shop.now in
     outcome_book c.push_sale.result b c.reserve-sale.new.self (Reserve c.args.contract) (granted_line (grant_of b c.args.contract)) (reserve_refusal b c.args.contract) c.reserve-sale.result
     c.reserve-sale.ensures.accepted c.reserve-sale.ensures.unrefused c.reserve-sale.ensures.refused c.reserve-sale.ensures.unchanged c.push_sale.ensures.answered
+
+pub returns-clause-grown : goal.returns-clause-grown
+returns-clause-grown g c =
+    grown-done c.reserve-sale.result c.args.shop.now c.reserve-sale.new.self (Reserve c.args.contract) c.reserve-sale.ensures.accepted c.reserve-sale.ensures.unchanged

@@ -15,7 +15,7 @@ returns-then-not-is_empty-clause-course g c =
       started.1,
       λ known. from_given texts left started.0 some started.2,
       started.3,
-      written_behind started.0 _ _ left _ _ _ _ (λ told. told) (λ told. input_given texts left some) started.4,
+      written_behind _ started.0 _ _ left _ _ _ _ (λ told. told) (λ told. input_given texts left some) started.4,
       started.5,
       started.6,
       started.7,
@@ -34,7 +34,7 @@ returns-in-Ok-clause-course g c =
       λ tells. let words = first.words tells in
           from_words [] (g.I.Intake.left c.args.intake.now) started.0 (words.1, words.2) (subst P (ap (map string_bytes) c.as_slice.ensures.value ∙ words.0) started.2),
       started.3,
-      written_behind started.0 _ _ _ _ _ _ _ (λ tells. (first.told tells.0, tells.1)) (λ tells. first.taken tells.0) started.4,
+      written_behind _ started.0 _ _ _ _ _ _ _ (λ tells. (first.told tells.0, tells.1)) (λ tells. first.taken tells.0) started.4,
       started.5,
       started.6,
       reads_behind started.0 _ _ _ _ first.reads started.7,
@@ -63,9 +63,9 @@ returns-in-Err-clause-course g c =
 pub returns-then-not-is_empty-clause-usage : goal.returns-then-not-is_empty-clause-usage
 returns-then-not-is_empty-clause-usage g c usage =
     let started = c.start_on.ensures.course in
-    usage_unwritten started.0 _ _ _ _ _ (sym started.1 ∙ usage) started.4
+    usage_unwritten _ started.0 _ _ _ _ _ (sym started.1 ∙ usage) started.4
 
 pub returns-in-Ok-clause-usage : goal.returns-in-Ok-clause-usage
 returns-in-Ok-clause-usage g c usage =
     let started = c.start_on-in-Ok.ensures.course in
-    usage_unwritten started.0 _ _ _ _ _ (sym started.1 ∙ usage) started.4
+    usage_unwritten _ started.0 _ _ _ _ _ (sym started.1 ∙ usage) started.4

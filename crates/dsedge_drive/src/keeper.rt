@@ -1,0 +1,85 @@
+//! The ledger of a broker, and how much of its book stands there.
+ghost use Rattle.std.specs.Prelude.{◌≡◌, ◌≤◌, ◌<◌, length, take, IsSome, OnErr, OnOk};
+
+use ds_broker::Command;
+use ds_ledger_base::{Ledger, LedgerFault};
+use std::alloc::AllocError;
+
+/// How many commands are kept at once, at most.
+pub(crate) const MOST_AT_ONCE: usize = 1000;
+
+/// A ledger, and how many commands of a book it keeps: the first ones.
+#[derive(Drop)]
+pub struct Keeper<L: Ledger + Drop> {
+    ledger: L,
+    kept: usize,
+    /// Why it keeps no more, if it does not.
+    fault: Option<LedgerFault>,
+}
+
+impl<L: Ledger + Drop> Keeper<L> {
+    /// A ledger that keeps so many commands.
+    pub(crate) fn new(ledger: L, kept: usize) -> Self
+        ensures { result ≡ record { ledger = ledger; kept = kept; fault = None } }
+    {
+        Keeper {
+            ledger,
+            kept,
+            fault: None,
+        }
+    }
+
+    /// How many commands it keeps.
+    pub(crate) fn kept(&self) -> usize
+        ensures { result ≡ self.now.kept }
+    {
+        self.kept
+    }
+
+    /// Why it keeps no more, if it does not.
+    pub(crate) fn fault(&self) -> Option<LedgerFault>
+        ensures { result ≡ self.now.fault }
+    {
+        self.fault
+    }
+
+    /// Keeps all commands of a book, so many at once at most. Where the ledger refuses, that is noted, and it keeps
+    /// those that it kept before, or some of those that came.
+    pub(crate) fn settle(&mut self, history: &[Command]) -> Result<(), AllocError>
+        requires { self.old.kept ≤ length history.now }
+        ensures all { OnOk result (self.new.kept ≡ length history.now) }
+        ensures within { self.new.kept ≤ length history.now }
+        ensures kept { (L.tells self.old.ledger → L.keeps self.old.ledger (take self.old.kept history.now)) →
+            L.tells self.new.ledger → L.keeps self.new.ledger (take self.new.kept history.now) }
+        ensures faultless { OnOk result (self.new.fault ≡ self.old.fault) }
+        ensures fault { OnErr result (IsSome self.new.fault) }
+    {
+        while self.kept < history.len() {
+            self.keep_next(history)?;
+        }
+        Ok(())
+    }
+
+    /// Keeps the next commands of a book.
+    fn keep_next(&mut self, history: &[Command]) -> Result<(), AllocError>
+        requires { self.old.kept < length history.now }
+        ensures more { OnOk result (self.old.kept < self.new.kept) }
+        ensures within { self.new.kept ≤ length history.now }
+        ensures kept { (L.tells self.old.ledger → L.keeps self.old.ledger (take self.old.kept history.now)) →
+            L.tells self.new.ledger → L.keeps self.new.ledger (take self.new.kept history.now) }
+        ensures faultless { OnOk result (self.new.fault ≡ self.old.fault) }
+        ensures fault { OnErr result (IsSome self.new.fault) }
+    {
+        let end = history.len().min(self.kept + MOST_AT_ONCE);
+        match self.ledger.append(&history[self.kept..end]) {
+            Ok(()) => {
+                self.kept = end;
+                Ok(())
+            }
+            Err(fault) => {
+                self.fault = Some(fault);
+                Err(AllocError)
+            }
+        }
+    }
+}

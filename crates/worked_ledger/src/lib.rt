@@ -1,0 +1,6 @@
+//! Worked rows of a ledger in a file of the system: what is kept there is read again. They stand here, and not beside the
+//! ledger, since a crate with tests is proved twice.
+#![tactic(auto)]
+
+#[cfg(test)]
+mod file_rows;
