@@ -1,5 +1,5 @@
 -- The packets that a capture would send, a line for each.
-use Rattle.std.specs.Prelude.{ℕ, ◌/◌, ◌==◌, ◌&&◌, nat_le, Bool, true, false, List, [], ◌∷◌, ◌++◌, max, Option, None, Some, if◌then◌else◌, codes, decimal, slice_get, unwrap_or}
+use Rattle.std.specs.Prelude.{◌≡◌, ℕ, ◌/◌, ◌==◌, ◌&&◌, nat_le, Bool, true, false, List, [], ◌∷◌, ◌++◌, max, Option, None, Some, if◌then◌else◌, codes, decimal, slice_get, unwrap_or}
 use Rattle.moment_core.specs.declared.colour.Colour.{Colour}
 use Rattle.moment_core.specs.declared.colour.Colour.TheVariants.{Green, Red, Yellow}
 use Rattle.af_marker.specs.CodePoints.{colour_at}
@@ -8,6 +8,7 @@ use Rattle.af_marker.specs.declared.packet.Header.{Header}
 use Rattle.af_marker.specs.declared.packet.Summary.{Summary}
 use Rattle.ds_domain_base.specs.Sent.{came}
 use Rattle.ds_domain_base.specs.declared.contract.Contract.{Contract}
+use Rattle.ds_domain_base.specs.declared.parts.Version.{Version}
 use Rattle.pcap_capture.specs.Frames.{FrameValue}
 use Rattle.pcap_capture.specs.Grammar.{capture, heading_of}
 use Rattle.pcap_capture.specs.declared.fault.PcapFault.{PcapFault}
@@ -16,6 +17,7 @@ use Rattle.pcap_capture.specs.declared.heading.LinkType.{LinkType}
 use Rattle.std.specs.Prelude.{Result, Ok, Err}
 use Rattle.frame_marker.specs.Frames.{header_in}
 use Rattle.frame_marker.specs.Ports.{PortRules, sight_at}
+use Rattle.frame_marker.specs.Sights.{sight_of}
 use Rattle.frame_marker.specs.declared.sight.Sight.{Sight}
 use Rattle.frame_marker.specs.declared.sight.Sight.TheVariants.{Matched, Skipped, Unmatched}
 
@@ -36,6 +38,15 @@ taken_by_all (Some header) = Matched 0 (summary_of header)
 abbrev pub sight_in : Option PortRules → LinkType → List ℕ → Sight
 sight_in None link bytes = taken_by_all (header_in link bytes)
 sight_in (Some rules) link bytes = sight_at rules link bytes
+
+-- The filter of a port in a domain of a version, for the packets of all its contracts or of one.
+pub record IsFilterAt (version : Version) (contracts : List Contract) (port : List ℕ) (only : Option ℕ)
+    (has_colours : Bool) (filter : Filter) : Type 0 where
+  pub sight : (link : LinkType) (bytes : List ℕ) → sight_in filter.port link bytes
+      ≡ sight_of version contracts port link bytes
+  pub contracts_are : filter.contracts ≡ contracts
+  pub only_is : filter.only ≡ only
+  pub colours_are : filter.has_colours ≡ has_colours
 
 -- whether packets of a contract's number are asked for: of all, or of one
 abbrev pub is_asked : Option ℕ → ℕ → Bool

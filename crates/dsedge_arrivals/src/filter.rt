@@ -1,7 +1,5 @@
-ghost use Rattle.std.specs.Prelude.{◌≡◌, ℕ, ◌++◌, List, [], IfOk, OnOk, Some, None};
-ghost use Rattle.pcap_capture.specs.declared.heading.LinkType.{LinkType};
-ghost use Rattle.frame_marker.specs.Sights.{sight_of};
-ghost use Rattle.dsedge_arrivals.specs.Arrivals.{colour_alone, colour_behind, colour_in, is_asked, line_at};
+ghost use Rattle.std.specs.Prelude.{◌≡◌, ◌++◌, [], IfOk, OnOk, None};
+ghost use Rattle.dsedge_arrivals.specs.Arrivals.{IsFilterAt, colour_alone, colour_behind, colour_in, is_asked, line_at};
 ghost use Rattle.dsedge_arrivals.specs.Arrivals.{line_of, lines_from, newest_in, sight_in, taken_by_all};
 
 use af_marker::{Class, Dscp, Summary, colour_of};
@@ -22,7 +20,7 @@ pub struct ArrivalFilter<'a> {
     /// The contracts of the domain.
     contracts: &'a [Contract],
     /// The contract whose packets arrive alone.
-    only: Option<u32>,
+    only: Option<usize>,
     /// Whether a line tells the colour, too.
     has_colours: bool,
 }
@@ -56,13 +54,10 @@ impl<'a> ArrivalFilter<'a> {
         version: Version,
         contracts: &'a [Contract],
         port: Name,
-        only: Option<u32>,
+        only: Option<usize>,
         has_colours: bool,
     ) -> Result<Self, AllocError>
-        ensures sight { IfOk result (λ filter. (link : LinkType) (bytes : List ℕ) → sight_in filter.port link bytes
-            ≡ sight_of version contracts.now port link bytes) }
-        ensures rest { IfOk result (λ filter. (filter.contracts ≡ contracts.now) × (filter.only ≡ only)
-            × (filter.has_colours ≡ has_colours)) }
+        ensures { IfOk result (IsFilterAt version contracts.now port only has_colours) }
     {
         let rules = PortClassifier::new(alloc, version, contracts, port)?;
         Ok(ArrivalFilter {
@@ -88,7 +83,7 @@ impl<'a> ArrivalFilter<'a> {
         ensures { result ≡ is_asked self.now.only flow }
     {
         match self.only {
-            Some(only) => flow == only,
+            Some(only) => flow as usize == only,
             None => true,
         }
     }

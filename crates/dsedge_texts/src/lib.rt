@@ -20,7 +20,7 @@ pub use fault::{FileFault, Reason, TextFault};
 pub use folder::Folder;
 pub use heading::{headroom, push_headroom};
 pub use memory::MemoryFolder;
-pub use quoting::{QuoteFault, Quoted, push_quote, push_quote_without, quote};
+pub use quoting::{QuoteFault, Quoted, place_named, push_quote, push_quote_without, quote};
 pub use refusing::RefusalLine;
 pub use system::SystemFolder;
 pub use texts::read_texts;

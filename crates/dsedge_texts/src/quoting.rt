@@ -82,7 +82,7 @@ fn quote_named(
 }
 
 /// Where the first contract of a name stands, if one has it.
-fn place_named(contracts: &[Contract], name: &[u8]) -> Option<usize>
+pub fn place_named(contracts: &[Contract], name: &[u8]) -> Option<usize>
     ensures { result ≡ place_named contracts.now name.now }
 {
     contracts
