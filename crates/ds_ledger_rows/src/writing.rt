@@ -294,12 +294,12 @@ fn push_ipv6(alloc: Global, row: &mut Row, prefix: Ipv6Prefix) -> Result<(), All
 }
 
 /// Appends a prefix, if there is one.
-fn push_prefix(alloc: Global, row: &mut Row, prefix: Option<Prefix>) -> Result<(), AllocError>
-    ensures { OnOk result (row.new ≡ row.old ++ prefix_cells prefix) }
+fn push_prefix(alloc: Global, row: &mut Row, prefix: &Option<Prefix>) -> Result<(), AllocError>
+    ensures { OnOk result (row.new ≡ row.old ++ prefix_cells prefix.now) }
 {
     match prefix {
-        Some(Prefix::V4(prefix)) => push_ipv4(row, prefix),
-        Some(Prefix::V6(prefix)) => push_ipv6(alloc, row, prefix),
+        Some(Prefix::V4(prefix)) => push_ipv4(row, *prefix),
+        Some(Prefix::V6(prefix)) => push_ipv6(alloc, row, *prefix),
         None => push_excess(row, None),
     }
 }
@@ -331,8 +331,8 @@ fn push_protocol(row: &mut Row, protocol: Option<u8>) -> Result<(), AllocError>
 fn push_rule(alloc: Global, row: &mut Row, rule: &Rule) -> Result<(), AllocError>
     ensures { OnOk result (row.new ≡ row.old ++ rule_cells rule.now) }
 {
-    push_prefix(alloc, row, rule.source)?;
-    push_prefix(alloc, row, rule.target)?;
+    push_prefix(alloc, row, &rule.source)?;
+    push_prefix(alloc, row, &rule.target)?;
     push_protocol(row, rule.protocol)?;
     push_range(row, rule.source_ports)?;
     push_range(row, rule.target_ports)?;
