@@ -106,6 +106,27 @@ abbrev pub reply_sold : Limits → Result (Domain × List Contract) DomainFault 
 reply_sold limits (Ok parsed) lines = reply_of (driven parsed.0 limits parsed.1 lines)
 reply_sold limits (Err fault) lines = record { text = []; conclusion = Unsound fault }
 
+-- the text of the first file, and of the second
+abbrev pub first_text : List (List ℕ) → List ℕ
+first_text [] = []
+first_text (text ∷ texts) = text
+
+abbrev pub second_text : List (List ℕ) → List ℕ
+second_text [] = []
+second_text (text ∷ texts) = first_text texts
+
+-- a reply was written behind what stood, to its end; or a front of it, where a device failed or memory ran out
+pub record IsServed (reply : Reply) (outcome : Result Conclusion PumpFault) (before after : List ℕ) : Type 0 where
+  pub whole : IfOk outcome (λ conclusion. (after ≡ before ++ reply.text) × (conclusion ≡ reply.conclusion))
+  pub front : OnErr outcome (IsFrontOf before reply.text after)
+
+-- a reply was given, and not the marking of a capture
+abbrev pub IsReplied : Reply → Outcome → List ℕ → List ℕ → Type 0
+IsReplied reply (Answered outcome) before after = IsServed reply outcome before after
+IsReplied reply Unnamed before after = ⊥
+IsReplied reply Misused before after = ⊥
+IsReplied reply (Marked report fault) before after = ⊥
+
 -- Text was written behind what stood, as a reply has it: to its end, or a front of it, where a device failed, memory ran
 -- out, or the ledger kept the book no more.
 abbrev pub IsKeptServed : Reply → Result Conclusion PumpFault → List ℕ → List ℕ → Type 0
@@ -151,27 +172,6 @@ IsSold stands (Some name) limits found lines (Answered outcome) before after =
 IsSold stands (Some name) limits found lines Unnamed before after = ⊥
 IsSold stands (Some name) limits found lines Misused before after = ⊥
 IsSold stands (Some name) limits found lines (Marked report fault) before after = ⊥
-
--- the text of the first file, and of the second
-abbrev pub first_text : List (List ℕ) → List ℕ
-first_text [] = []
-first_text (text ∷ texts) = text
-
-abbrev pub second_text : List (List ℕ) → List ℕ
-second_text [] = []
-second_text (text ∷ texts) = first_text texts
-
--- a reply was written behind what stood, to its end; or a front of it, where a device failed or memory ran out
-pub record IsServed (reply : Reply) (outcome : Result Conclusion PumpFault) (before after : List ℕ) : Type 0 where
-  pub whole : IfOk outcome (λ conclusion. (after ≡ before ++ reply.text) × (conclusion ≡ reply.conclusion))
-  pub front : OnErr outcome (IsFrontOf before reply.text after)
-
--- a reply was given, and not the marking of a capture
-abbrev pub IsReplied : Reply → Outcome → List ℕ → List ℕ → Type 0
-IsReplied reply (Answered outcome) before after = IsServed reply outcome before after
-IsReplied reply Unnamed before after = ⊥
-IsReplied reply Misused before after = ⊥
-IsReplied reply (Marked report fault) before after = ⊥
 
 -- a capture was marked at this port of a table, if that is accepted, by one worker or by several
 abbrev pub IsMarkedAt : Bool → Result Table TableFault → List ℕ → RedRule → List ℕ → List ℕ → Outcome → List ℕ
