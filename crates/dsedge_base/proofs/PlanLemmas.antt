@@ -10,14 +10,15 @@ use Rattle.clap.proofs.OnLiterals.{clap_on_literals}
 use Rattle.dsedge_base.specs.CommandLine.{dsedge}
 use Rattle.ds_broker.specs.Books.{Limits}
 use Rattle.ds_quotes.specs.declared.field.Field.{Field}
-use Rattle.dsedge_base.specs.Options.{Given, drive_given, envelope_given, marking_given, meter_given, quote_given, table_given, ◌>>=◌}
+use Rattle.dsedge_base.specs.Options.{Given, drive_given, envelope_given, is_set, marking_given, meter_given, place_given, quote_given, table_given, ◌>>=◌}
 use Rattle.dsedge_base.specs.Plans.{IsExplanationOf, IsMalformed, IsOfForm, IsPlanOf, IsRefusalOf, IsShown, IsWellFormed, IsWish, asked_by, asks_other_workers, given_by, mark_given, plan_of}
 use Rattle.dsedge_base.specs.declared.explanation.Explanation.{Explanation}
 use Rattle.dsedge_base.specs.declared.explanation.Explanation.TheVariants.{Form, Value, Workers}
 use Rattle.dsedge_base.specs.declared.fault.UsageFault.{UsageFault}
 use Rattle.dsedge_base.specs.declared.fault.UsageFault.TheVariants.{Usage, NoMemory}
+use Rattle.dsedge_base.specs.declared.work.GivenPort.{GivenPort}
 use Rattle.dsedge_base.specs.declared.work.Plan.{Plan}
-use Rattle.dsedge_base.specs.declared.work.Plan.TheVariants.{Audit, Certify, Check, Drive, Envelope, Headroom, Mark, Meter, Quote, Show}
+use Rattle.dsedge_base.specs.declared.work.Plan.TheVariants.{Arrivals, Audit, Certify, Check, Drive, Envelope, Headroom, Mark, Meter, Quote, Show}
 
 -- the parser says exactly what it makes of a command line such as the program's
 pub dsedge-simple : is_simple dsedge ≡ true
@@ -71,8 +72,12 @@ mark-no_text : (given : Given) (text : String Global) → mark_given given ≡ S
 unfolding mark_given
 mark-no_text given text e = mark_with-no_text (table_given given) (marking_given given) text e
 
+arrivals-no_text : (place : Option (Option GivenPort)) (has_colours : Bool) (text : String Global) → (place >>= (λ p. Some (Arrivals p has_colours))) ≡ Some (Show text) → ⊥
+arrivals-no_text None has_colours text e = cc
+arrivals-no_text (Some p) has_colours text e = cc
+
 -- what a command asks for is no text
-commands-no_text : (is_meter is_envelope is_certify is_headroom is_quote is_drive is_check is_audit is_mark : Bool) (meter : Option AnyMeter) (envelope : Option (ℕ × ℕ)) (domain : Option (List ℕ)) (quote : Option (List ℕ × List ℕ × Field)) (drive : Option (List ℕ × Limits × Option (List ℕ))) (files : Option (List ℕ × List ℕ)) (given : Given) (text : String Global)
+commands-no_text : (is_meter is_envelope is_certify is_headroom is_quote is_drive is_check is_audit is_mark is_arrivals : Bool) (meter : Option AnyMeter) (envelope : Option (ℕ × ℕ)) (domain : Option (List ℕ)) (quote : Option (List ℕ × List ℕ × Field)) (drive : Option (List ℕ × Limits × Option (List ℕ))) (files : Option (List ℕ × List ℕ)) (given : Given) (place : Option (Option GivenPort)) (has_colours : Bool) (text : String Global)
     → (if is_meter then meter >>= (λ m. Some (Meter m))
     else if is_envelope then envelope >>= (λ e. Some (Envelope e.0 e.1))
     else if is_certify then domain >>= (λ d. Some (Certify d))
@@ -81,22 +86,24 @@ commands-no_text : (is_meter is_envelope is_certify is_headroom is_quote is_driv
     else if is_drive then drive >>= (λ d. Some (Drive d.0 d.1 d.2))
     else if is_check then files >>= (λ f. Some (Check f.0 f.1))
     else if is_audit then files >>= (λ f. Some (Audit f.0 f.1))
-    else if is_mark then mark_given given else None) ≡ Some (Show text) → ⊥
-commands-no_text true is_envelope is_certify is_headroom is_quote is_drive is_check is_audit is_mark meter envelope domain quote drive files given text e = meter-no_text meter text e
-commands-no_text false true is_certify is_headroom is_quote is_drive is_check is_audit is_mark meter envelope domain quote drive files given text e = envelope-no_text envelope text e
-commands-no_text false false true is_headroom is_quote is_drive is_check is_audit is_mark meter envelope domain quote drive files given text e = certify-no_text domain text e
-commands-no_text false false false true is_quote is_drive is_check is_audit is_mark meter envelope domain quote drive files given text e = headroom-no_text domain text e
-commands-no_text false false false false true is_drive is_check is_audit is_mark meter envelope domain quote drive files given text e = quote-no_text quote text e
-commands-no_text false false false false false true is_check is_audit is_mark meter envelope domain quote drive files given text e = drive-no_text drive text e
-commands-no_text false false false false false false true is_audit is_mark meter envelope domain quote drive files given text e = check-no_text files text e
-commands-no_text false false false false false false false true is_mark meter envelope domain quote drive files given text e = audit-no_text files text e
-commands-no_text false false false false false false false false true meter envelope domain quote drive files given text e = mark-no_text given text e
-commands-no_text false false false false false false false false false meter envelope domain quote drive files given text e = cc
+    else if is_mark then mark_given given
+    else if is_arrivals then place >>= (λ p. Some (Arrivals p has_colours)) else None) ≡ Some (Show text) → ⊥
+commands-no_text true is_envelope is_certify is_headroom is_quote is_drive is_check is_audit is_mark is_arrivals meter envelope domain quote drive files given place has_colours text e = meter-no_text meter text e
+commands-no_text false true is_certify is_headroom is_quote is_drive is_check is_audit is_mark is_arrivals meter envelope domain quote drive files given place has_colours text e = envelope-no_text envelope text e
+commands-no_text false false true is_headroom is_quote is_drive is_check is_audit is_mark is_arrivals meter envelope domain quote drive files given place has_colours text e = certify-no_text domain text e
+commands-no_text false false false true is_quote is_drive is_check is_audit is_mark is_arrivals meter envelope domain quote drive files given place has_colours text e = headroom-no_text domain text e
+commands-no_text false false false false true is_drive is_check is_audit is_mark is_arrivals meter envelope domain quote drive files given place has_colours text e = quote-no_text quote text e
+commands-no_text false false false false false true is_check is_audit is_mark is_arrivals meter envelope domain quote drive files given place has_colours text e = drive-no_text drive text e
+commands-no_text false false false false false false true is_audit is_mark is_arrivals meter envelope domain quote drive files given place has_colours text e = check-no_text files text e
+commands-no_text false false false false false false false true is_mark is_arrivals meter envelope domain quote drive files given place has_colours text e = audit-no_text files text e
+commands-no_text false false false false false false false false true is_arrivals meter envelope domain quote drive files given place has_colours text e = mark-no_text given text e
+commands-no_text false false false false false false false false false true meter envelope domain quote drive files given place has_colours text e = arrivals-no_text place has_colours text e
+commands-no_text false false false false false false false false false false meter envelope domain quote drive files given place has_colours text e = cc
 
 plan_of-no_text : (command : Option (Text × List Row)) (text : String Global) → option_and_then plan_of command ≡ Some (Show text) → ⊥
 plan_of-no_text None text e = cc
 plan_of-no_text (Some c) text e = commands-no_text (bytes_eq c.0 (codes "meter")) (bytes_eq c.0 (codes "envelope")) (bytes_eq c.0 (codes "certify")) (bytes_eq c.0 (codes "headroom")) (bytes_eq c.0 (codes "quote"))
-    (bytes_eq c.0 (codes "drive")) (bytes_eq c.0 (codes "check")) (bytes_eq c.0 (codes "audit")) (bytes_eq c.0 (codes "mark")) (meter_given (given_by c.1)) (envelope_given (given_by c.1)) (given_by c.1 (codes "domain")) (quote_given (given_by c.1)) (drive_given (given_by c.1)) (table_given (given_by c.1)) (given_by c.1) text e
+    (bytes_eq c.0 (codes "drive")) (bytes_eq c.0 (codes "check")) (bytes_eq c.0 (codes "audit")) (bytes_eq c.0 (codes "mark")) (bytes_eq c.0 (codes "arrivals")) (meter_given (given_by c.1)) (envelope_given (given_by c.1)) (given_by c.1 (codes "domain")) (quote_given (given_by c.1)) (drive_given (given_by c.1)) (table_given (given_by c.1)) (given_by c.1) (place_given (given_by c.1)) (is_set (given_by c.1 (codes "colours"))) text e
 
 -- well formed words are answered with what they ask for, or refused where they ask for nothing
 pub asked_by-answers : (words : List Text) (asked : Option Plan) → IsWellFormed words → asked ≡ asked_by words
@@ -111,6 +118,7 @@ asked_by-answers words (Some (Quote domain contract field)) formed e = ((formed,
 asked_by-answers words (Some (Audit domain certificate)) formed e = ((formed, sym e), tt)
 asked_by-answers words (Some (Drive domain limits book)) formed e = ((formed, sym e), tt)
 asked_by-answers words (Some (Mark domain certificate port workers keeps_red)) formed e = ((formed, sym e), tt)
+asked_by-answers words (Some (Arrivals place has_colours)) formed e = ((formed, sym e), tt)
 asked_by-answers words (Some (Show text)) formed e = absurd (plan_of-no_text (subcommand_of dsedge words) text (sym e))
 
 -- the program's command line that was parsed is well formed, and asks for what its words do
@@ -174,6 +182,7 @@ wish-answers words kind (Quote domain contract field) fails help = absurd help.1
 wish-answers words kind (Audit domain certificate) fails help = absurd help.1
 wish-answers words kind (Drive domain limits book) fails help = absurd help.1
 wish-answers words kind (Mark domain certificate port workers keeps_red) fails help = absurd help.1
+wish-answers words kind (Arrivals place has_colours) fails help = absurd help.1
 wish-answers words kind (Show text) (inl memory) help = absurd (no_memory kind help.0 memory)
 wish-answers words kind (Show text) (inr among) help = (kind, among, help.0)
 

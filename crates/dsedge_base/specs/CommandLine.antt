@@ -1,6 +1,7 @@
 -- The command line of the program, as the parser of command lines reads it.
 use Rattle.std.specs.Prelude.{true, codes, Some}
 use Rattle.clap.specs.Words.{App, Rule, Text, new_app, new_rule, with_rule, with_subcommand}
+use Rattle.clap.specs.declared.builder.action.ArgAction.TheVariants.{SetTrue}
 
 -- an option with one value, `--name VALUE`
 abbrev pub optional : Text → Rule
@@ -13,6 +14,14 @@ required name = record (optional name) { required = true }
 -- a word that has to be given
 abbrev pub positional : Text → Rule
 positional name = record (new_rule name) { value_names = 1; required = true }
+
+-- a word that may be given
+abbrev pub optional_word : Text → Rule
+optional_word name = record (new_rule name) { value_names = 1 }
+
+-- an option without a value, `--name`
+abbrev pub flag : Text → Rule
+flag name = record (new_rule name) { long = Some name; action = Some SetTrue }
 
 -- the parameters of a meter, of which each kind has its own, and what every meter has
 abbrev pub meter : App
@@ -82,5 +91,13 @@ mark = with_rule (with_rule (with_rule (on_table (codes "mark"))
     (optional (codes "workers")))
     (required (codes "red"))
 
+-- the packets of a capture are told, of a port of a domain, of one contract there, or of all, with colours or without
+abbrev pub arrivals : App
+arrivals = with_rule (with_rule (with_rule (with_rule (new_app (codes "arrivals"))
+    (optional_word (codes "domain")))
+    (optional (codes "port")))
+    (optional (codes "contract")))
+    (flag (codes "colours"))
+
 abbrev pub dsedge : App
-dsedge = with_subcommand (with_subcommand (with_subcommand (with_subcommand (with_subcommand (with_subcommand (with_subcommand (with_subcommand (with_subcommand program meter.top) envelope.top) certify.top) check.top) headroom.top) quote.top) audit.top) drive.top) mark.top
+dsedge = with_subcommand (with_subcommand (with_subcommand (with_subcommand (with_subcommand (with_subcommand (with_subcommand (with_subcommand (with_subcommand (with_subcommand program meter.top) envelope.top) certify.top) check.top) headroom.top) quote.top) audit.top) drive.top) mark.top) arrivals.top

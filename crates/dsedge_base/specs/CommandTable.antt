@@ -1,16 +1,18 @@
 -- A command line that is written as a table, as the parser of command lines reads it.
 use Rattle.std.specs.Prelude.{ℕ, List, [], ◌∷◌}
 use Rattle.clap.specs.Words.{App, Rule, new_app, with_rule, with_subcommand}
-use Rattle.dsedge_base.specs.CommandLine.{optional, positional, required}
+use Rattle.dsedge_base.specs.CommandLine.{flag, optional, optional_word, positional, required}
 use Rattle.dsedge_base.specs.declared.command_table.ArgumentEntry.{ArgumentEntry}
 use Rattle.dsedge_base.specs.declared.command_table.CommandEntry.{CommandEntry}
 use Rattle.dsedge_base.specs.declared.command_table.Form.{Form}
-use Rattle.dsedge_base.specs.declared.command_table.Form.TheVariants.{Choice, Needed, Word}
+use Rattle.dsedge_base.specs.declared.command_table.Form.TheVariants.{Choice, Flag, Maybe, Needed, Word}
 
 abbrev pub rule_of_form : Form → List ℕ → Rule
 rule_of_form Word name = positional name
 rule_of_form Needed name = required name
 rule_of_form Choice name = optional name
+rule_of_form Maybe name = optional_word name
+rule_of_form Flag name = flag name
 
 -- what a word or an option is to the parser
 abbrev pub rule_in : ArgumentEntry → Rule

@@ -1,7 +1,8 @@
 -- The files, and the port or the contract, that a plan names.
-use Rattle.std.specs.Prelude.{ℕ, List, [], ◌∷◌}
+use Rattle.std.specs.Prelude.{ℕ, Bool, List, [], ◌∷◌, Option, None, Some, unwrap_or}
+use Rattle.dsedge_base.specs.declared.work.GivenPort.{GivenPort}
 use Rattle.dsedge_base.specs.declared.work.Plan.{Plan}
-use Rattle.dsedge_base.specs.declared.work.Plan.TheVariants.{Audit, Certify, Check, Drive, Envelope, Headroom, Mark, Meter, Quote, Show}
+use Rattle.dsedge_base.specs.declared.work.Plan.TheVariants.{Arrivals, Audit, Certify, Check, Drive, Envelope, Headroom, Mark, Meter, Quote, Show}
 
 -- the names of the files that are to be read, in the order of the words
 abbrev pub files_of : Plan → List (List ℕ)
@@ -16,8 +17,16 @@ files_of (Audit domain certificate) = domain ∷ certificate ∷ []
 files_of (Drive domain limits book) = domain ∷ []
 files_of (Mark domain certificate port workers keeps_red) = domain ∷ certificate ∷ []
 
--- the name that a domain has to have: of the port at which a capture is to be marked, or of the contract of a quote
-abbrev pub port_of : Plan → List ℕ
-port_of (Mark domain certificate port workers keeps_red) = port
-port_of (Quote domain contract field) = contract
-port_of _ = []
+files_of (Arrivals None has_colours) = []
+files_of (Arrivals (Some place) has_colours) = place.domain ∷ []
+
+-- the names that a domain has to have: of a port, and of a contract; empty where a plan names none
+pub record Names : Type 0 where
+  pub port : List ℕ
+  pub contract : List ℕ
+
+abbrev pub names_of : Plan → Names
+names_of (Mark domain certificate port workers keeps_red) = record { port = port; contract = [] }
+names_of (Quote domain contract field) = record { port = []; contract = contract }
+names_of (Arrivals (Some place) has_colours) = record { port = place.port; contract = unwrap_or place.contract [] }
+names_of _ = record { port = []; contract = [] }

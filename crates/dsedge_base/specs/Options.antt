@@ -1,5 +1,6 @@
 -- What the options of a command say, by the texts that they were given.
 use Rattle.std.specs.Prelude.{ℕ, ◌-◌, ◌^◌, Bool, true, false, ◌&&◌, ◌||◌, nat_le, List, codes, Option, None, Some, is_some, if◌then◌else◌, bytes_eq}
+use Rattle.dsedge_base.specs.declared.work.GivenPort.{GivenPort}
 use Rattle.line_text.specs.Numbers.{number_of}
 use Rattle.moment_core.specs.declared.colour.Mode.{Mode}
 use Rattle.moment_core.specs.declared.colour.Mode.TheVariants.{Blind, Aware}
@@ -173,6 +174,24 @@ drive_given given = do
   contracts ← contracts_asked (given (codes "contracts"))
   commands ← commands_asked (given (codes "commands"))
   Some (domain, record { table = contracts; history = commands }, given (codes "book"))
+
+-- a port of a domain, and perhaps one contract there; none where neither is given, and nothing else
+abbrev pub place_of : Option (List ℕ) → Option (List ℕ) → Option (List ℕ) → Option (Option GivenPort)
+place_of None None None = Some None
+place_of (Some domain) (Some port) contract =
+    Some (Some (record { domain = domain; port = port; contract = contract }))
+place_of (Some domain) None contract = None
+place_of None (Some port) contract = None
+place_of None None (Some contract) = None
+
+-- the port whose packets the words of `arrivals` ask for
+abbrev pub place_given : Given → Option (Option GivenPort)
+place_given given = place_of (given (codes "domain")) (given (codes "port")) (given (codes "contract"))
+
+-- whether a flag is given
+abbrev pub is_set : Option (List ℕ) → Bool
+is_set None = false
+is_set (Some text) = bytes_eq text (codes "true")
 
 -- whether red frames are kept, or dropped
 abbrev pub red_said : List ℕ → Option Bool

@@ -5,13 +5,13 @@ use Rattle.clap.specs.Words.{IsAmong, Row, Text, fault_of, first_of, subcommand_
 use Rattle.clap.specs.declared.error.kind.ErrorKind.{ErrorKind}
 use Rattle.clap.specs.declared.error.kind.ErrorKind.TheVariants.{DisplayHelp, DisplayVersion}
 use Rattle.dsedge_base.specs.CommandLine.{dsedge}
-use Rattle.dsedge_base.specs.Options.{Given, drive_given, envelope_given, marking_given, meter_given, quote_given, table_given, workers_given, ◌>>=◌}
+use Rattle.dsedge_base.specs.Options.{Given, drive_given, envelope_given, is_set, marking_given, meter_given, place_given, quote_given, table_given, workers_given, ◌>>=◌}
 use Rattle.dsedge_base.specs.declared.explanation.Explanation.{Explanation}
 use Rattle.dsedge_base.specs.declared.explanation.Explanation.TheVariants.{Form, Value, Workers}
 use Rattle.dsedge_base.specs.declared.fault.UsageFault.{UsageFault}
 use Rattle.dsedge_base.specs.declared.fault.UsageFault.TheVariants.{Usage, NoMemory}
 use Rattle.dsedge_base.specs.declared.work.Plan.{Plan}
-use Rattle.dsedge_base.specs.declared.work.Plan.TheVariants.{Audit, Certify, Check, Drive, Envelope, Headroom, Mark, Meter, Quote, Show}
+use Rattle.dsedge_base.specs.declared.work.Plan.TheVariants.{Arrivals, Audit, Certify, Check, Drive, Envelope, Headroom, Mark, Meter, Quote, Show}
 
 -- the texts that the options of a command were given
 abbrev pub given_by : List Row → Given
@@ -31,6 +31,10 @@ mark_given given = do
   marking ← marking_given given
   Some (Mark files.0 files.1 marking.0 marking.1 marking.2)
 
+-- what `arrivals` asks for with its words
+abbrev pub arrivals_given : Given → Option Plan
+arrivals_given given = place_given given >>= (λ place. Some (Arrivals place (is_set (given (codes "colours")))))
+
 -- what a command and its options ask for
 abbrev pub plan_of : Text × List Row → Option Plan
 plan_of c =
@@ -44,6 +48,7 @@ plan_of c =
     else if bytes_eq c.0 (codes "check") then check_given (given_by c.1)
     else if bytes_eq c.0 (codes "audit") then audit_given (given_by c.1)
     else if bytes_eq c.0 (codes "mark") then mark_given (given_by c.1)
+    else if bytes_eq c.0 (codes "arrivals") then arrivals_given (given_by c.1)
     else None
 
 -- the words are a command line of the program, with nothing wrong in its form
@@ -72,6 +77,7 @@ IsPlanOf words (Audit domain certificate) = IsWellFormed words × (asked_by word
 IsPlanOf words (Drive domain limits book) = IsWellFormed words × (asked_by words ≡ Some (Drive domain limits book))
 IsPlanOf words (Mark domain certificate port workers keeps_red) =
     IsWellFormed words × (asked_by words ≡ Some (Mark domain certificate port workers keeps_red))
+IsPlanOf words (Arrivals place has_colours) = IsWellFormed words × (asked_by words ≡ Some (Arrivals place has_colours))
 
 -- something other than a wish for a text stands against the form of the words
 abbrev pub IsMalformed : List Text → Type 0
@@ -117,3 +123,4 @@ IsShown (Quote domain contract field) = ⊥
 IsShown (Audit domain certificate) = ⊥
 IsShown (Drive domain limits book) = ⊥
 IsShown (Mark domain certificate port workers keeps_red) = ⊥
+IsShown (Arrivals place has_colours) = ⊥

@@ -5,7 +5,7 @@ ghost use Rattle.dsedge_base.specs.CommandLine.{dsedge, program};
 ghost use Rattle.dsedge_base.specs.CommandTable.{app_in, rule_in, with_commands};
 
 use crate::command_table::{ArgumentEntry, CommandEntry, Form, commands};
-use clap::{Arg, Command};
+use clap::{Arg, ArgAction, Command};
 use std::alloc::{AllocError, Global};
 
 /// The version of `dsedge`, and the logic that it is proved with, as `rt version` names it whatever the kit's letter.
@@ -74,12 +74,15 @@ fn argument_of<'a>(alloc: Global, entry: &ArgumentEntry) -> Arg<'a>
     ensures rule { rule_of result ≡ rule_in entry.now }
     ensures local { result.global ≡ false }
 {
-    let argument = Arg::new(alloc, entry.name)
-        .value_name(entry.value)
-        .help(entry.help);
+    let argument = Arg::new(alloc, entry.name).help(entry.help);
     match entry.form {
-        Form::Word => argument.required(true),
-        Form::Needed => argument.long(entry.name).required(true),
-        Form::Choice => argument.long(entry.name),
+        Form::Word => argument.value_name(entry.value).required(true),
+        Form::Needed => argument
+            .value_name(entry.value)
+            .long(entry.name)
+            .required(true),
+        Form::Choice => argument.value_name(entry.value).long(entry.name),
+        Form::Maybe => argument.value_name(entry.value),
+        Form::Flag => argument.long(entry.name).action(ArgAction::SetTrue),
     }
 }

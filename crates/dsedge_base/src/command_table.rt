@@ -11,6 +11,10 @@ pub(crate) enum Form {
     Needed,
     /// By an option that may be left out.
     Choice,
+    /// By a word that may be left out.
+    Maybe,
+    /// By an option without a text.
+    Flag,
 }
 
 /// A word or an option of a command.
@@ -44,6 +48,10 @@ const CERTIFICATE: ArgumentEntry = ArgumentEntry {
     value: "CERTIFICATE",
     help: "the certificate of its contracts, as certify prints one",
 };
+
+/// What the help says of `arrivals`.
+const ARRIVALS_ABOUT: &str =
+    "Prints the packets of the capture on standard input: lines MOMENT SIZE, as envelope reads them.";
 
 /// What the help says of `mark`.
 const MARK_ABOUT: &str =
@@ -222,6 +230,36 @@ const COMMANDS: &[CommandEntry] = &[
                 name: "red",
                 value: "RULE",
                 help: "what is done with red frames: keep or drop",
+            },
+        ],
+    },
+    CommandEntry {
+        name: "arrivals",
+        about: ARRIVALS_ABOUT,
+        arguments: &[
+            ArgumentEntry {
+                form: Form::Maybe,
+                name: "domain",
+                value: "DOMAIN",
+                help: "the domain; where it is left out, every packet whose header can be read is printed",
+            },
+            ArgumentEntry {
+                form: Form::Choice,
+                name: "port",
+                value: "PORT",
+                help: "the port of the domain that the packets come in at: those of its contracts are printed",
+            },
+            ArgumentEntry {
+                form: Form::Choice,
+                name: "contract",
+                value: "NAME",
+                help: "the contract whose packets are printed alone",
+            },
+            ArgumentEntry {
+                form: Form::Flag,
+                name: "colours",
+                value: "",
+                help: "prints MOMENT SIZE COLOUR, as meter reads them, with the colour that a packet comes in with",
             },
         ],
     },

@@ -12,4 +12,4 @@ mod work;
 pub use explanation::Explanation;
 pub use fault::UsageFault;
 pub use words::{explain, plan};
-pub use work::Plan;
+pub use work::{GivenPort, Plan, PlanNames};

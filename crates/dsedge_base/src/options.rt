@@ -1,13 +1,14 @@
-ghost use Rattle.std.specs.Prelude.{◌≡◌, ◌≤◌, ◌^◌, IfSome, option_map};
+ghost use Rattle.std.specs.Prelude.{◌≡◌, ◌≤◌, ◌^◌, IfSome, codes, option_map};
 ghost use Rattle.clap.specs.Words.{first_of, found_of, rows_of};
 ghost use Rattle.dsedge_base.specs.Options.{burst_given, burst_said, envelope_burst_said, envelope_given, field_given};
-ghost use Rattle.dsedge_base.specs.Options.{commands_asked, contracts_asked, drive_given, is_given, number_within};
+ghost use Rattle.dsedge_base.specs.Options.{commands_asked, contracts_asked, drive_given, is_given, is_set, number_within};
 ghost use Rattle.dsedge_base.specs.Options.{marking_given, meter_given, mode_said, moment_said, opened};
 ghost use Rattle.dsedge_base.specs.Options.{origin_said, parameters_given, quote_given, rate_given, rate_said, red_said};
-ghost use Rattle.dsedge_base.specs.Options.{separate_rates_given, single_rate_given, table_given, two_rate_given};
+ghost use Rattle.dsedge_base.specs.Options.{place_given, separate_rates_given, single_rate_given, table_given, two_rate_given};
 ghost use Rattle.dsedge_base.specs.Options.{workers_asked, workers_given, workers_said};
 ghost use Rattle.dsedge_base.specs.Plans.{given_by};
 
+use crate::work::GivenPort;
 use clap::ArgMatches;
 use ds_broker::Limits;
 use ds_quotes::Field;
@@ -116,6 +117,34 @@ pub(crate) fn drive_in<'a>(
     let limits = Limits::new(contracts, commands).unwrap();
     let book = name_in(options, "book");
     Some((domain, limits, book))
+}
+
+/// The port whose packets the words of `arrivals` ask for: none where they ask for all.
+pub(crate) fn place_in<'a>(options: &ArgMatches<'a>) -> Option<Option<GivenPort<'a>>>
+    ensures { result ≡ place_given (given_by (rows_of (found_of options.now))) }
+{
+    let domain = name_in(options, "domain");
+    let port = name_in(options, "port");
+    let contract = name_in(options, "contract");
+    match (domain, port, contract) {
+        (None, None, None) => Some(None),
+        (Some(domain), Some(port), contract) => Some(Some(GivenPort {
+            domain,
+            port,
+            contract,
+        })),
+        _ => None,
+    }
+}
+
+/// Whether the words of `arrivals` ask for colours.
+pub(crate) fn has_colours(options: &ArgMatches<'_>) -> bool
+    ensures { result ≡ is_set (given_by (rows_of (found_of options.now)) (codes "colours")) }
+{
+    match text_in(options, "colours") {
+        Some(text) => text == "true",
+        None => false,
+    }
 }
 
 /// How many workers the options of `mark` ask for, if that is 1 to 64: none where they leave it to the program.

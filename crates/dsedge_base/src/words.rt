@@ -2,12 +2,13 @@ ghost use Rattle.std.specs.Prelude.{◌≡◌, ◌≢◌, IfErr, IfOk, IfSome, I
 ghost use Rattle.std.specs.Prelude.{option_and_then, if◌then◌else◌};
 ghost use Rattle.clap.specs.Words.{found_of, kind_of, rows_of, subcommand_rows_of};
 ghost use Rattle.dsedge_base.specs.Plans.{IsExplanationOf, IsOfForm, IsPlanOf, IsRefusalOf, IsShown, IsWish};
-ghost use Rattle.dsedge_base.specs.Plans.{asks_other_workers, audit_given, check_given, given_by, mark_given, plan_of};
+ghost use Rattle.dsedge_base.specs.Plans.{arrivals_given, asks_other_workers, audit_given, check_given, given_by, mark_given, plan_of};
 
 use crate::command_line::command_line;
 use crate::explanation::Explanation;
 use crate::fault::UsageFault;
-use crate::options::{drive_in, envelope_in, marking_in, meter_in, name_in, quote_in, table_in, workers_in};
+use crate::options::{drive_in, envelope_in, has_colours, marking_in, meter_in, name_in, place_in, quote_in};
+use crate::options::{table_in, workers_in};
 use crate::work::Plan;
 use clap::error::ErrorKind;
 use clap::{ArgMatches, Error};
@@ -128,6 +129,7 @@ fn asked_of<'a>(name: &str, options: &ArgMatches<'a>) -> Option<Plan<'a>>
         "check" => check_asked(options),
         "audit" => audit_asked(options),
         "mark" => mark_asked(options),
+        "arrivals" => arrivals_asked(options),
         _ => None,
     }
 }
@@ -152,6 +154,15 @@ fn audit_asked<'a>(options: &ArgMatches<'a>) -> Option<Plan<'a>>
         domain,
         certificate,
     })
+}
+
+/// What `arrivals` asks for with its words.
+fn arrivals_asked<'a>(options: &ArgMatches<'a>) -> Option<Plan<'a>>
+    ensures { result ≡ arrivals_given (given_by (rows_of (found_of options.now))) }
+{
+    let place = place_in(options)?;
+    let has_colours = has_colours(options);
+    Some(Plan::Arrivals { place, has_colours })
 }
 
 /// What `mark` asks for with its options.

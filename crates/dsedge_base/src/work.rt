@@ -1,5 +1,5 @@
 ghost use Rattle.std.specs.Prelude.{◌≡◌, IfOk};
-ghost use Rattle.dsedge_base.specs.Files.{files_of, port_of};
+ghost use Rattle.dsedge_base.specs.Files.{files_of, names_of};
 
 use ds_broker::Limits;
 use ds_quotes::Field;
@@ -7,6 +7,7 @@ use dsedge_lines::GivenName;
 use meter_book_base::AnyMeter;
 use moment_core::Rate;
 use std::alloc::{AllocError, Global};
+use std::marker::Model;
 
 /// What the words of a command line ask for.
 #[derive(Debug, Drop)]
@@ -77,6 +78,40 @@ pub enum Plan<'a> {
         /// Whether red frames stay in the capture, or are left out.
         keeps_red: bool,
     },
+    /// Tell the packets of the capture of standard input.
+    Arrivals {
+        /// The port that they come in at; none where every packet is told whose header can be read.
+        place: Option<GivenPort<'a>>,
+        /// Whether colours are told.
+        has_colours: bool,
+    },
+}
+
+/// A port of a domain, and perhaps one contract there.
+#[derive(Debug, Drop)]
+pub struct GivenPort<'a> {
+    /// The file of the domain.
+    pub domain: GivenName<'a>,
+    /// The port that packets come in at.
+    pub port: GivenName<'a>,
+    /// The contract whose packets are asked for alone, if one is.
+    pub contract: Option<GivenName<'a>>,
+}
+
+/// The names that a domain has to have: of a port, and of a contract; empty where a plan names none.
+pub struct PlanNames<'a> {
+    /// That of a port.
+    pub port: &'a str,
+    /// That of a contract.
+    pub contract: &'a str,
+}
+
+impl<'a> Model for PlanNames<'a> {
+    ghost use Rattle.dsedge_base.specs.Files.{Names};
+
+    ghost Value = { Names };
+
+    ghost view = { λ n. record { port = n.port.now; contract = n.contract.now } };
 }
 
 impl<'a> Plan<'a> {
@@ -86,7 +121,14 @@ impl<'a> Plan<'a> {
     {
         let mut names = Vec::new(alloc);
         match self {
-            Plan::Show(_) | Plan::Meter(_) | Plan::Envelope { .. } => {}
+            Plan::Show(_)
+            | Plan::Meter(_)
+            | Plan::Envelope { .. }
+            | Plan::Arrivals { place: None, .. } => {}
+            Plan::Arrivals {
+                place: Some(place),
+                ..
+            } => names.push(GivenName::new(place.domain.text()))?,
             Plan::Certify { domain }
             | Plan::Headroom { domain }
             | Plan::Quote { domain, .. }
@@ -111,14 +153,45 @@ impl<'a> Plan<'a> {
         Ok(names)
     }
 
-    /// The name that a domain has to have: of the port at which a capture is to be marked, or of the contract of a quote;
-    /// an empty one where the plan is another.
-    pub fn port(&self) -> &str
-        ensures { result.now ≡ port_of self.now }
+    /// The names that a domain has to have: of the port at which a capture is to be marked or told, and of the contract
+    /// of a quote, or whose packets are told alone.
+    pub fn names(&self) -> PlanNames<'_>
+        ensures { result ≡ names_of self.now }
+    {
+        PlanNames {
+            port: self.port(),
+            contract: self.contract(),
+        }
+    }
+
+    /// The name of a port, an empty one where the plan names none.
+    fn port(&self) -> &str
+        ensures { result.now ≡ (names_of self.now).port }
     {
         match self {
             Plan::Mark { port, .. } => port.text(),
+            Plan::Arrivals {
+                place: Some(place),
+                ..
+            } => place.port.text(),
+            _ => "",
+        }
+    }
+
+    /// The name of a contract, an empty one where the plan names none.
+    fn contract(&self) -> &str
+        ensures { result.now ≡ (names_of self.now).contract }
+    {
+        match self {
             Plan::Quote { contract, .. } => contract.text(),
+            Plan::Arrivals {
+                place:
+                    Some(GivenPort {
+                        contract: Some(contract),
+                        ..
+                    }),
+                ..
+            } => contract.text(),
             _ => "",
         }
     }
