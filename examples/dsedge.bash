@@ -12,7 +12,7 @@ _dsedge() {
         --most) COMPREPLY=($(compgen -W 'cir cbs pir pbs eir ebs' -- "$word")); return ;;
     esac
     if [ "$COMP_CWORD" -eq 1 ]; then
-        COMPREPLY=($(compgen -W 'meter envelope certify check headroom quote audit drive mark --help --version' -- "$word"))
+        COMPREPLY=($(compgen -W 'meter envelope certify check headroom quote audit drive mark arrivals --help --version' -- "$word"))
         return
     fi
     case $command in
@@ -27,6 +27,12 @@ _dsedge() {
         quote)
             case $word in
                 -*) COMPREPLY=($(compgen -W '--contract --most --help' -- "$word")) ;;
+                *) COMPREPLY=($(compgen -f -- "$word")) ;;
+            esac
+            ;;
+        arrivals)
+            case $word in
+                -*) COMPREPLY=($(compgen -W '--port --contract --colours --help' -- "$word")) ;;
                 *) COMPREPLY=($(compgen -f -- "$word")) ;;
             esac
             ;;

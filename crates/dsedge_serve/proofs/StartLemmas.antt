@@ -5,7 +5,7 @@ use Rattle.pcap_capture.proofs.CountLaws.{reads_from}
 use Rattle.pcap_capture.specs.declared.fault.PcapFault.TheVariants as pcaps
 use Rattle.dsedge_base.specs.declared.fault.UsageFault.{UsageFault}
 use Rattle.dsedge_base.specs.declared.fault.UsageFault.TheVariants as usage_faults
-use Rattle.dsedge_base.specs.Files.{port_of}
+use Rattle.dsedge_base.specs.Files.{Names, names_of}
 use Rattle.dsedge_base.specs.Plans.{IsPlanOf, IsRefusalOf}
 use Rattle.dsedge_base.specs.declared.work.Plan.{Plan}
 use Rattle.dsedge_lines.specs.FirstLine.{is_read_fault}
@@ -19,7 +19,7 @@ use Rattle.ds_ledger_base.specs.declared.fault.LedgerFault.TheVariants as ledger
 use Rattle.ds_marking.specs.declared.fault.MarkFault.TheVariants as marks
 use Rattle.dsedge_serve.specs.declared.conclusion.Conclusion.TheVariants.{Ended, Unaccepted, Uncertified, Unkept, Unsound}
 use Rattle.dsedge_serve.specs.declared.outcome.Outcome.{Outcome}
-use Rattle.dsedge_serve.specs.declared.outcome.Outcome.TheVariants.{Answered, Marked, Misused, Unnamed}
+use Rattle.dsedge_serve.specs.declared.outcome.Outcome.TheVariants.{Answered, Marked, Misused, Portless, Told, Unnamed}
 use Rattle.dsedge_serve.specs.Served.{IsAnswered, is_misused, status_after}
 use Rattle.dsedge_serve.specs.Started.{Course, HasWords, IsCourseFrom, IsCourseOn, IsCourseWith, IsRefused, IsWordless, IsWritten, LacksWords, fault_of_line, fault_of_words, input_from, is_broken_off, is_read, is_unread, status_in, words_from}
 use Rattle.dsedge_serve.specs.Started.Course.{Refused, Served, Unread}
@@ -59,7 +59,7 @@ unread_line first_line_faults.Read failed now calls reads = reads
 unread_line first_line_faults.NoMemory failed now calls reads = reads
 
 -- no plan that was served ends as usage does, but one of a field that its contract has not
-served_is_no_usage : (port : List ℕ) (outcome : Outcome) → status_after port outcome ≡ 2 → is_misused outcome ≡ true
+served_is_no_usage : (port : Names) (outcome : Outcome) → status_after port outcome ≡ 2 → is_misused outcome ≡ true
 served_is_no_usage port Unnamed e = absurd (omega (arith, e))
 served_is_no_usage port Misused e = refl
 served_is_no_usage port (Answered (Ok (Ended endings.Whole))) e = absurd (omega (arith, e))
@@ -94,6 +94,18 @@ served_is_no_usage port (Marked report (Some (marks.Capture pcaps.Failed))) e = 
 served_is_no_usage port (Marked report (Some marks.UnknownPort)) e = absurd (omega (arith, e))
 served_is_no_usage port (Marked report (Some marks.JournalFull)) e = absurd (omega (arith, e))
 served_is_no_usage port (Marked report (Some marks.NoMemory)) e = absurd (omega (arith, e))
+served_is_no_usage port Portless e = absurd (omega (arith, e))
+served_is_no_usage port (Told None) e = absurd (omega (arith, e))
+served_is_no_usage port (Told (Some pcaps.NotPcap)) e = absurd (omega (arith, e))
+served_is_no_usage port (Told (Some pcaps.IsPcapng)) e = absurd (omega (arith, e))
+served_is_no_usage port (Told (Some pcaps.BadVersion)) e = absurd (omega (arith, e))
+served_is_no_usage port (Told (Some (pcaps.LinkType number))) e = absurd (omega (arith, e))
+served_is_no_usage port (Told (Some (pcaps.RecordTooLong count))) e = absurd (omega (arith, e))
+served_is_no_usage port (Told (Some pcaps.Truncated)) e = absurd (omega (arith, e))
+served_is_no_usage port (Told (Some pcaps.ReadFault)) e = absurd (omega (arith, e))
+served_is_no_usage port (Told (Some pcaps.WriteFault)) e = absurd (omega (arith, e))
+served_is_no_usage port (Told (Some pcaps.NoMemory)) e = absurd (omega (arith, e))
+served_is_no_usage port (Told (Some pcaps.Failed)) e = absurd (omega (arith, e))
 
 -- a course that ends as usage does writes nothing
 pub usage_unwritten : (stands : List ℕ → List Command → Type 0) (course : Course) (tells : Type 0) (input more before after : List ℕ) → status_in course ≡ 2
@@ -101,7 +113,7 @@ pub usage_unwritten : (stands : List ℕ → List Command → Type 0) (course : 
 usage_unwritten stands (Refused fault) tells input more before after usage is = is
 usage_unwritten stands (Unread plan fault) tells input more before after usage is = is
 usage_unwritten stands (Served plan texts outcome) tells input more before after usage is =
-    is.1 (served_is_no_usage (port_of plan) outcome usage)
+    is.1 (served_is_no_usage (names_of plan) outcome usage)
 
 -- a course with the plan that words ask for is one on them
 pub on_plan : (words : List (List ℕ)) (plan : Plan) (course : Course) → IsPlanOf words plan → IsCourseWith plan course → IsCourseOn words course

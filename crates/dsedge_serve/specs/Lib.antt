@@ -4,3 +4,4 @@ pub mod Marked
 pub mod Sales
 pub mod Served
 pub mod Started
+pub mod Told

@@ -1,10 +1,13 @@
 -- What the program does for a plan.
-use Rattle.std.specs.Prelude.{◌≡◌, ◌⊎◌, ℕ, Bool, true, false, if◌then◌else◌, List, [], ◌∷◌, ◌++◌, Option, None, ⊤, Some, Result, Ok, Err, IfErr, IfOk, OnErr, codes, string_bytes}
+use Rattle.std.specs.Prelude.{◌≡◌, ◌⊎◌, ℕ, Bool, true, false, if◌then◌else◌, List, [], ◌∷◌, ◌++◌, Option, None, ⊤, Some, Result, Ok, Err, IfErr, IfOk, IfSome, OnErr, codes, string_bytes}
 use Rattle.std.specs.Option.{option_map_or}
 use Rattle.line_text.specs.Lines.{lines_of}
 use Rattle.pcap_capture.specs.Counts.{next_count}
+use Rattle.dsedge_arrivals.specs.Tellings.{is_broken_off as is_telling_broken_off, is_unwritten as is_telling_unwritten}
+use Rattle.dsedge_arrivals.specs.declared.asking.ArrivalsFault.{ArrivalsFault}
+use Rattle.dsedge_base.specs.Files.{Names}
 use Rattle.dsedge_base.specs.declared.work.Plan.{Plan}
-use Rattle.dsedge_base.specs.declared.work.Plan.TheVariants.{Audit, Certify, Check, Drive, Envelope, Headroom, Mark, Meter, Quote, Show}
+use Rattle.dsedge_base.specs.declared.work.Plan.TheVariants.{Arrivals, Audit, Certify, Check, Drive, Envelope, Headroom, Mark, Meter, Quote, Show}
 use Rattle.ds_domain.specs.DomainTexts.{parse_of}
 use Rattle.ds_domain_base.specs.Domains.{Domain, is_port}
 use Rattle.ds_domain_base.specs.declared.contract.Contract.{Contract}
@@ -38,6 +41,8 @@ use Rattle.dsedge_texts.specs.declared.quoting.QuoteFault.{QuoteFault}
 use Rattle.dsedge_texts.specs.declared.quoting.QuoteFault.TheVariants as quotes
 use Rattle.dsedge_texts.specs.declared.accepting.TableFault.{TableFault}
 use Rattle.dsedge_texts.specs.declared.accepting.TableFault.TheVariants as tables
+use Rattle.pcap_capture.specs.Takings.{is_read_fault as is_telling_unread}
+use Rattle.dsedge_serve.specs.Told.{AreToldFor, outcome_of, refusal_for, telling_answer, telling_status, telling_told}
 use Rattle.dsedge_serve.specs.declared.conclusion.Conclusion.{Conclusion}
 use Rattle.dsedge_serve.specs.declared.conclusion.Conclusion.TheVariants.{Ended, Unaccepted, Uncertified, Unkept, Unsound}
 use Rattle.dsedge_faults.specs.declared.fault.Fault.TheVariants as faults
@@ -48,7 +53,7 @@ use Rattle.dsedge_serve.specs.Marked.{IsMarkedOver, IsUnmarked, is_sole, marking
 use Rattle.dsedge_faults.specs.declared.notice.Notice.{Notice}
 use Rattle.dsedge_faults.specs.declared.notice.Notice.TheVariants as notices
 use Rattle.dsedge_serve.specs.declared.outcome.Outcome.{Outcome}
-use Rattle.dsedge_serve.specs.declared.outcome.Outcome.TheVariants.{Answered, Marked, Misused, Unnamed}
+use Rattle.dsedge_serve.specs.declared.outcome.Outcome.TheVariants.{Answered, Marked, Misused, Portless, Told as ToldTo, Unnamed}
 
 -- a text on standard output, and how it ends
 pub record Reply : Type 0 where
@@ -126,6 +131,8 @@ IsReplied reply (Answered outcome) before after = IsServed reply outcome before 
 IsReplied reply Unnamed before after = ⊥
 IsReplied reply Misused before after = ⊥
 IsReplied reply (Marked report fault) before after = ⊥
+IsReplied reply Portless before after = ⊥
+IsReplied reply (ToldTo fault) before after = ⊥
 
 -- Text was written behind what stood, as a reply has it: to its end, or a front of it, where a device failed, memory ran
 -- out, or the ledger kept the book no more.
@@ -172,6 +179,8 @@ IsSold stands (Some name) limits found lines (Answered outcome) before after =
 IsSold stands (Some name) limits found lines Unnamed before after = ⊥
 IsSold stands (Some name) limits found lines Misused before after = ⊥
 IsSold stands (Some name) limits found lines (Marked report fault) before after = ⊥
+IsSold stands (Some name) limits found lines Portless before after = ⊥
+IsSold stands (Some name) limits found lines (ToldTo fault) before after = ⊥
 
 -- a capture was marked at this port of a table, if that is accepted, by one worker or by several
 abbrev pub IsMarkedAt : Bool → Result Table TableFault → List ℕ → RedRule → List ℕ → List ℕ → Outcome → List ℕ
@@ -181,6 +190,8 @@ IsMarkedAt sole found port red bytes more Unnamed before after = ⊥
 IsMarkedAt sole found port red bytes more Misused before after = ⊥
 IsMarkedAt sole found port red bytes more (Marked report fault) before after =
     IsMarkedOver sole found port red bytes more report fault before after
+IsMarkedAt sole found port red bytes more Portless before after = ⊥
+IsMarkedAt sole found port red bytes more (ToldTo fault) before after = ⊥
 
 -- a quote was answered, or the fault of the domain's text ended it before anything was written; for another fault memory
 -- ran out before it was found
@@ -196,6 +207,8 @@ IsQuoted found (Answered outcome) before after = IsQuoteReplied found outcome be
 IsQuoted found Unnamed before after = (found ≡ Err quotes.Unnamed) × (after ≡ before)
 IsQuoted found Misused before after = (found ≡ Err quotes.NoField) × (after ≡ before)
 IsQuoted found (Marked report fault) before after = ⊥
+IsQuoted found Portless before after = ⊥
+IsQuoted found (ToldTo fault) before after = ⊥
 
 -- What a plan asks for was written, for the texts of its files and the bytes that the input had, of which it still has
 -- more.
@@ -221,6 +234,8 @@ IsAnswered stands (Drive domain limits book) texts bytes more outcome before aft
 IsAnswered stands (Mark domain certificate port workers keeps_red) texts bytes more outcome before after =
     IsMarkedAt (is_sole workers) (accepted_in (first_text texts) (second_text texts)) port (rule_said keeps_red) bytes
     more outcome before after
+IsAnswered stands (Arrivals place has_colours) texts bytes more outcome before after =
+    AreToldFor place has_colours (first_text texts) bytes more outcome before after
 
 -- the outcome that is known before a device is touched, or want of memory
 abbrev pub IsSettled : Outcome → Outcome → Type 0
@@ -239,6 +254,10 @@ IsPortlessBefore found port outcome = IfOk found
 abbrev pub IsUnsoundBefore : Result (Domain × List Contract) DomainFault → Outcome → Type 0
 IsUnsoundBefore found outcome = IfErr found (λ fault. IsSettled (Answered (Ok (Unsound fault))) outcome)
 
+-- Where something stands against arrivals before anything is read, the outcome is settled whatever the devices do.
+abbrev pub IsRefusedAhead : Option ArrivalsFault → Outcome → Type 0
+IsRefusedAhead refusal outcome = IfSome refusal (λ fault. IsSettled (outcome_of (Err fault)) outcome)
+
 -- what is settled of a plan's outcome, for the texts of its files
 abbrev pub IsForeseen : Plan → List (List ℕ) → Outcome → Type 0
 IsForeseen (Show text) texts outcome = ⊤
@@ -254,6 +273,7 @@ IsForeseen (Drive domain limits book) texts outcome = IsUnsoundBefore (parse_of 
 IsForeseen (Mark domain certificate port workers keeps_red) texts outcome =
     IsRefusedBefore (accepted_in (first_text texts) (second_text texts)) outcome
     × IsPortlessBefore (accepted_in (first_text texts) (second_text texts)) port outcome
+IsForeseen (Arrivals place has_colours) texts outcome = IsRefusedAhead (refusal_for place has_colours (first_text texts)) outcome
 
 -- what there is to tell of an outcome
 abbrev pub notice_of : Result Conclusion PumpFault → Option Notice
@@ -297,6 +317,8 @@ is_output_fault (Answered outcome) = is_write_fault outcome
 is_output_fault Unnamed = false
 is_output_fault Misused = false
 is_output_fault (Marked report fault) = is_unwritten (marking_answer report fault)
+is_output_fault Portless = false
+is_output_fault (ToldTo fault) = is_telling_unwritten (telling_answer fault)
 
 -- whether the input could not be read
 abbrev pub is_input_fault : Outcome → Bool
@@ -304,6 +326,8 @@ is_input_fault (Answered outcome) = is_read_fault outcome
 is_input_fault Unnamed = false
 is_input_fault Misused = false
 is_input_fault (Marked report fault) = is_unread (marking_answer report fault)
+is_input_fault Portless = false
+is_input_fault (ToldTo fault) = is_telling_unread (telling_answer fault)
 
 -- whether the outcome is that of a marking that was broken off, which tells nothing of the input
 abbrev pub is_broken_off : Outcome → Bool
@@ -311,22 +335,28 @@ is_broken_off (Answered outcome) = false
 is_broken_off Unnamed = false
 is_broken_off Misused = false
 is_broken_off (Marked report fault) = is_marking_broken_off (marking_answer report fault)
+is_broken_off Portless = false
+is_broken_off (ToldTo fault) = is_telling_broken_off (telling_answer fault)
 
 -- whether a field was asked for that its contract has not
 abbrev pub is_misused : Outcome → Bool
 is_misused Misused = true
 is_misused _ = false
 
--- the exit status of a plan that went so at a port, or at a contract of that name
-abbrev pub status_after : List ℕ → Outcome → ℕ
-status_after port (Answered outcome) = status_for outcome
-status_after port Unnamed = status_of (faults.Contract port)
-status_after port Misused = status_of faults.Usage
-status_after port (Marked report fault) = marking_status fault port
+-- the exit status of a plan that went so, by the names that it gives of a port and of a contract
+abbrev pub status_after : Names → Outcome → ℕ
+status_after names (Answered outcome) = status_for outcome
+status_after names Unnamed = status_of (faults.Contract names.contract)
+status_after names Misused = status_of faults.Usage
+status_after names (Marked report fault) = marking_status fault names.port
+status_after names Portless = status_of (faults.Port names.port)
+status_after names (ToldTo fault) = telling_status fault
 
 -- what is told of it on standard error
-abbrev pub told_after : List ℕ → Outcome → List ℕ
-told_after port (Answered outcome) = told_of outcome
-told_after port Unnamed = fault_text (faults.Contract port)
-told_after port Misused = fault_text faults.Usage
-told_after port (Marked report fault) = marking_told report fault port
+abbrev pub told_after : Names → Outcome → List ℕ
+told_after names (Answered outcome) = told_of outcome
+told_after names Unnamed = fault_text (faults.Contract names.contract)
+told_after names Misused = fault_text faults.Usage
+told_after names (Marked report fault) = marking_told report fault names.port
+told_after names Portless = fault_text (faults.Port names.port)
+told_after names (ToldTo fault) = telling_told fault

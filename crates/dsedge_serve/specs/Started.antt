@@ -4,7 +4,7 @@ use Rattle.std.specs.declared.io.ErrorKind.{ErrorKind}
 use Rattle.std.specs.declared.io.ErrorKind.TheVariants.{OutOfMemory}
 use Rattle.line_text.specs.Lines.{fields_of}
 use Rattle.ds_broker.specs.declared.command.Command.{Command}
-use Rattle.dsedge_base.specs.Files.{files_of, port_of}
+use Rattle.dsedge_base.specs.Files.{files_of, names_of}
 use Rattle.dsedge_base.specs.Plans.{IsPlanOf, IsRefusalOf}
 use Rattle.dsedge_base.specs.declared.fault.UsageFault.{UsageFault}
 use Rattle.dsedge_base.specs.declared.fault.UsageFault.TheVariants as usage_faults
@@ -113,19 +113,19 @@ pub data Course : Type 0 where
 abbrev pub status_in : Course → ℕ
 status_in (Refused fault) = status_of fault
 status_in (Unread plan fault) = status_of fault
-status_in (Served plan texts outcome) = status_after (port_of plan) outcome
+status_in (Served plan texts outcome) = status_after (names_of plan) outcome
 
 -- what there is to say behind what is told of a start
 abbrev pub advice_in : Course → Option Advice
 advice_in (Refused fault) = advice_on fault
 advice_in (Unread plan fault) = advice_on fault
-advice_in (Served plan texts outcome) = advice_after (port_of plan) outcome
+advice_in (Served plan texts outcome) = advice_after (names_of plan) outcome
 
 -- what is told of a start on standard error
 abbrev pub told_in : Course → List ℕ
 told_in (Refused fault) = fault_text fault
 told_in (Unread plan fault) = fault_text fault
-told_in (Served plan texts outcome) = told_after (port_of plan) outcome
+told_in (Served plan texts outcome) = told_after (names_of plan) outcome
 
 -- A plan is served, or its files refuse it.
 abbrev pub IsCourseWith : Plan → Course → Type 0

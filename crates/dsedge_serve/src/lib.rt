@@ -11,6 +11,7 @@ mod running;
 mod selling;
 mod serving;
 mod starting;
+mod telling;
 mod terminal;
 
 pub use conclusion::Conclusion;

@@ -121,7 +121,7 @@ pub(crate) fn refusal_outcome(fault: TableFault) -> Result<Conclusion, PumpFault
 }
 
 /// What is told of a fault of a capture.
-fn capture_fault(fault: PcapFault) -> Fault<'static>
+pub(crate) fn capture_fault(fault: PcapFault) -> Fault<'static>
     ensures { result ≡ capture_fault fault }
 {
     match fault {

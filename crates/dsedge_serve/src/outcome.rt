@@ -1,6 +1,7 @@
 use crate::conclusion::Conclusion;
 use ds_conductor::{MarkFault, Report};
 use dsedge_lines::PumpFault;
+use pcap_capture::PcapFault;
 
 /// How a plan went.
 #[derive(Debug, Drop)]
@@ -13,4 +14,8 @@ pub enum Outcome {
     Misused,
     /// A capture was marked at the plan's port, with this report and this fault, if any.
     Marked(Report, Option<MarkFault>),
+    /// The domain has no port of the plan's name, and nothing is answered.
+    Portless,
+    /// The arrivals of a capture were told, to its end, or to this fault.
+    Told(Option<PcapFault>),
 }

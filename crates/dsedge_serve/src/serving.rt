@@ -1,5 +1,5 @@
 ghost use Rattle.std.specs.Prelude.{◌≡◌, false, length, map, true};
-ghost use Rattle.dsedge_base.specs.Files.{files_of, port_of};
+ghost use Rattle.dsedge_base.specs.Files.{files_of, names_of};
 ghost use Rattle.dsedge_lines.specs.Faults.{is_read_fault, is_write_fault};
 ghost use Rattle.dsedge_serve.specs.Served.{IsForeseen, IsRefusedBefore};
 ghost use Rattle.dsedge_faults.specs.Faults.{IsTold};
@@ -24,17 +24,18 @@ use crate::ended::Ended;
 use dsedge_faults::Advice;
 use crate::conclusion::Conclusion;
 use dsedge_faults::Fault;
-use crate::marking::{answer_mark, marking_advice, marking_status, refusal_outcome, tell_marking};
+use crate::marking::{answer_mark, capture_fault, marking_advice, marking_status, refusal_outcome, tell_marking};
 use dsedge_faults::Notice;
 use crate::outcome::Outcome;
 use crate::quoting::answer_quote;
+use crate::telling::{answer_arrivals, answer_every_arrival, telling_status};
 use crate::selling::{Place, answer_drive, answer_kept};
 use ds_checker::Accepted;
 use ds_conductor::RedRule;
 use ds_domain_base::{DomainFault, Kind};
 use ds_ledger_base::Shelf;
 use dsedge_audit::AuditCommand;
-use dsedge_base::Plan;
+use dsedge_base::{Plan, PlanNames};
 use dsedge_lines::{Command, Ending, GivenName, PumpFault, pump};
 use dsedge_meter::{EnvelopeCommand, MeterCommand};
 use dsedge_texts::{TableFault, accept, certify, headroom};
@@ -261,6 +262,17 @@ fn answer<R: Wait + Threads + Sync, S: Shelf, I: Intake, O: Outlet>(
             };
             Outcome::Answered(answer_kept(alloc, rt, &place, domain, intake, output))
         }
+        Plan::Arrivals {
+            place: None,
+            has_colours,
+        } => answer_every_arrival(alloc, *has_colours, intake, output),
+        Plan::Arrivals {
+            place: Some(place),
+            has_colours,
+        } => {
+            let domain = texts[0].as_slice();
+            answer_arrivals(alloc, place, *has_colours, domain, intake, output)
+        }
         Plan::Mark {
             port,
             workers,
@@ -347,40 +359,45 @@ fn tell<F: Outlet>(outcome: Result<Conclusion, PumpFault>, faults: &mut F) -> Op
     notice.advice()
 }
 
-/// The exit status of a plan that went so at a port.
-fn status_after(port: &str, outcome: &Outcome) -> u8
-    ensures { result ≡ status_after port.now outcome.now }
+/// The exit status of a plan that went so, by the names that it gives of a port and of a contract.
+fn status_after(names: &PlanNames<'_>, outcome: &Outcome) -> u8
+    ensures { result ≡ status_after names.now outcome.now }
 {
     match outcome {
         Outcome::Answered(outcome) => status(outcome),
-        Outcome::Unnamed => Fault::Contract(GivenName::new(port)).status(),
+        Outcome::Unnamed => Fault::Contract(GivenName::new(names.contract)).status(),
         Outcome::Misused => Fault::Usage.status(),
-        Outcome::Marked(_, fault) => marking_status(*fault, port),
+        Outcome::Marked(_, fault) => marking_status(*fault, names.port),
+        Outcome::Portless => Fault::Port(GivenName::new(names.port)).status(),
+        Outcome::Told(fault) => telling_status(*fault),
     }
 }
 
-/// Tells how a plan went at a port, where there is anything to tell, and gives what there is to say behind it. A failure
-/// to write there is passed over.
+/// Tells how a plan went, where there is anything to tell, and gives what there is to say behind it. A failure to write
+/// there is passed over.
 fn tell_after<F: Outlet>(
     alloc: Global,
-    port: &str,
+    names: &PlanNames<'_>,
     outcome: Outcome,
     faults: &mut F,
 ) -> Option<Advice>
     ensures still { F.tells faults.old → F.tells faults.new }
     ensures told { F.tells faults.old →
-        IsTold (told_after port.now outcome) (F.held faults.old) (F.held faults.new) (F.failed faults.old)
+        IsTold (told_after names.now outcome) (F.held faults.old) (F.held faults.new) (F.failed faults.old)
         (F.failed faults.new) }
-    ensures advice { result ≡ advice_after port.now outcome }
+    ensures advice { result ≡ advice_after names.now outcome }
 {
     match outcome {
         Outcome::Answered(outcome) => tell(outcome, faults),
-        Outcome::Unnamed => tell_fault(&Fault::Contract(GivenName::new(port)), faults),
+        Outcome::Unnamed => tell_fault(&Fault::Contract(GivenName::new(names.contract)), faults),
         Outcome::Misused => tell_fault(&Fault::Usage, faults),
         Outcome::Marked(report, fault) => {
-            let _told = tell_marking(alloc, &report, fault, port, faults);
-            marking_advice(fault, port)
+            let _told = tell_marking(alloc, &report, fault, names.port, faults);
+            marking_advice(fault, names.port)
         }
+        Outcome::Portless => tell_fault(&Fault::Port(GivenName::new(names.port)), faults),
+        Outcome::Told(None) => None,
+        Outcome::Told(Some(fault)) => tell_fault(&capture_fault(fault), faults),
     }
 }
 
@@ -414,25 +431,25 @@ pub fn serve<R: Wait + Threads + Sync, S: Shelf, I: Intake, O: Outlet, F: Outlet
     requires { length texts.now ≡ length (files_of plan.now) }
     ensures still { F.tells faults.old → F.tells faults.new }
     // One outcome stands behind what is written, what is told, the status and the advice.
-    ensures outcome { let port = port_of plan.now in
-        (outcome : Outcome) × (result.status ≡ status_after port outcome)
+    ensures outcome { let names = names_of plan.now in
+        (outcome : Outcome) × (result.status ≡ status_after names outcome)
         × (I.tells intake.old → O.tells output.old →
         IsAnswered (S.stands shelf.now) plan.now (map (λ text. text.items) texts.now) (I.left intake.old)
         (I.left intake.new) outcome
         (O.held output.old) (O.held output.new))
         × (F.tells faults.old →
-        IsTold (told_after port outcome) (F.held faults.old) (F.held faults.new) (F.failed faults.old)
+        IsTold (told_after names outcome) (F.held faults.old) (F.held faults.new) (F.failed faults.old)
         (F.failed faults.new))
         × IsOfWrites (is_output_fault outcome) (O.failed output.old) (O.failed output.new)
         × (is_broken_off outcome ≡ false
         → IsOfReads (is_input_fault outcome) (I.failed intake.old) (I.failed intake.new) (I.calls intake.new))
         × IsForeseen plan.now (map (λ text. text.items) texts.now) outcome
-        × (result.advice ≡ advice_after port outcome)
+        × (result.advice ≡ advice_after names outcome)
         × (is_misused outcome ≡ true → O.held output.new ≡ O.held output.old) }
 {
     let outcome = answer(alloc, rt, plan, texts, shelf, intake, output);
-    let port = plan.port();
-    let status = status_after(port, &outcome);
-    let advice = tell_after(alloc, port, outcome, faults);
+    let names = plan.names();
+    let status = status_after(&names, &outcome);
+    let advice = tell_after(alloc, &names, outcome, faults);
     Ended { status, advice }
 }
