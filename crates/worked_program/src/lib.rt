@@ -5,6 +5,8 @@
 #[cfg(test)]
 mod advice_rows;
 #[cfg(test)]
+mod arrival_rows;
+#[cfg(test)]
 mod book_rows;
 #[cfg(test)]
 mod drive_rows;
