@@ -15,6 +15,7 @@ use std::alloc::Global;
 use std::marker::Model;
 
 /// What is asked of a capture's arrivals at a port.
+#[derive(Drop)]
 pub struct AskedArrivals<'a> {
     /// The port's name.
     pub port: &'a str,

@@ -99,6 +99,7 @@ pub struct GivenPort<'a> {
 }
 
 /// The names that a domain has to have: of a port, and of a contract; empty where a plan names none.
+#[derive(Drop)]
 pub struct PlanNames<'a> {
     /// That of a port.
     pub port: &'a str,

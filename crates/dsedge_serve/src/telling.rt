@@ -1,4 +1,4 @@
-ghost use Rattle.std.specs.Prelude.{◌≡◌, ℕ, List, false, Some, None, option_map};
+ghost use Rattle.std.specs.Prelude.{◌≡◌, [], false, Some, None, option_map};
 ghost use Rattle.pcap_capture.specs.Counts.{IsOfReads};
 ghost use Rattle.dsedge_serve.specs.Served.{IsOfWrites, IsRefusedAhead, is_broken_off, is_input_fault, is_misused};
 ghost use Rattle.dsedge_serve.specs.Served.{is_output_fault};
@@ -70,9 +70,9 @@ pub(crate) fn answer_every_arrival<I: Intake, O: Outlet>(
     intake: &mut I,
     output: &mut O,
 ) -> Outcome
-    ensures served { I.tells intake.old → O.tells output.old → (text : List ℕ) →
-        AreToldFor None has_colours text (I.left intake.old) (I.left intake.new) result
-        (O.held output.old) (O.held output.new) }
+    ensures served { I.tells intake.old → O.tells output.old →
+        AreToldFor None has_colours [] (I.left intake.old) (I.left intake.new) result (O.held output.old)
+        (O.held output.new) }
     ensures writes { IsOfWrites (is_output_fault result) (O.failed output.old) (O.failed output.new) }
     ensures reads { is_broken_off result ≡ false
         → IsOfReads (is_input_fault result) (I.failed intake.old) (I.failed intake.new) (I.calls intake.new) }
