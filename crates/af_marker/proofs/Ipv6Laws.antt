@@ -1,7 +1,9 @@
 -- What marking an IPv6 packet keeps.
-use Rattle.std.proofs.Common.{◌≡◌, ◌≢◌, ℕ, ◌+◌, ◌*◌, ◌/◌, ◌%◌, ◌<◌, ◌≤◌, zero, suc, List, [], ◌∷◌, length, slice_index, None, Some, Option, Ok, refl, ap, ◌∙◌, arith}
+use Rattle.std.proofs.Common.{◌≡◌, ◌≢◌, ℕ, ◌+◌, ◌-◌, ◌*◌, ◌/◌, ◌%◌, ◌<◌, ◌≤◌, min, zero, suc, List, [], ◌∷◌, length, length-drop, take, drop, slice_index, None, Some, Option, Ok, refl, ap, ◌∙◌, arith}
+use Rattle.std.proofs.lemmas.List.{take_all, take_min}
 use Rattle.std.proofs.lemmas.Bool.Decides.{nat_tests}
 use Rattle.af_marker.specs.Ipv6Headers.{ipv6_fault_of, ipv6_fields_of, ipv6_header_of, ipv6_marked, ipv6_unless}
+use Rattle.af_marker.specs.Ipv6Headers.{payload_length, upper_of}
 use Rattle.af_marker.specs.declared.ipv4.HeaderFault.{HeaderFault}
 use Rattle.af_marker.specs.declared.ipv6.Ipv6Header.{Ipv6Header}
 
@@ -89,3 +91,14 @@ marked_twice d e (a ∷ (b ∷ rest)) fits long = rw (kept_version d a fits, kep
 pub longer : (bytes : List ℕ) → ipv6_fault_of bytes ≡ None → 40 < (ipv6_fields_of bytes).total
 unfolding ipv6_fault_of ipv6_fields_of
 longer bytes h = grind (arith, nat_tests)
+
+-- what stands behind the 40 bytes, cut where the payload ends or the bytes do
+pub upper_within : (most : ℕ) (bytes : List ℕ) (count payload : ℕ) → count ≡ min payload (length bytes - 40) → payload ≡ payload_length bytes
+    → upper_of most (slice_index bytes 6) (take count (take (length bytes - 40) (drop 40 bytes))) ≡ upper_of most (slice_index bytes 6) (take (payload_length bytes) (drop 40 bytes))
+upper_within most bytes count payload counts is =
+    let back = drop 40 bytes in
+    let cut : count ≡ min payload (length back) = omega (arith, counts, length-drop 40 bytes) in
+    ap (λ (l : List ℕ). upper_of most (slice_index bytes 6) (take count l)) (take_all (length bytes - 40) back (omega (arith, length-drop 40 bytes)))
+    ∙ ap (λ n. upper_of most (slice_index bytes 6) (take n back)) cut
+    ∙ ap (upper_of most (slice_index bytes 6)) (take_min payload back)
+    ∙ ap (λ n. upper_of most (slice_index bytes 6) (take n back)) is

@@ -1,6 +1,6 @@
 ghost use Rattle.std.specs.Prelude.{◌≡◌};
 ghost use Rattle.toml.specs.View.{table_view};
-ghost use Rattle.ds_domain.specs.Keys.{optional_number_at};
+ghost use Rattle.ds_domain.specs.Keys.{fault_here, optional_number_at, refused_if};
 ghost use Rattle.ds_domain.specs.Rules.{are_mixed, as_prefix, port_range_at, prefix_at, rule_at};
 ghost use Rattle.ds_domain_text.specs.Prefixes.{IsLong};
 
@@ -21,9 +21,7 @@ pub(crate) fn rule_at(version: Version, place: Place, table: &Table) -> Result<R
 {
     let source = prefix_at(version, place, table, Field::Src)?;
     let target = prefix_at(version, place, table, Field::Dst)?;
-    if are_mixed(&source, &target) {
-        return Err(place.fault(Kind::Range, Field::Dst));
-    }
+    refuse_mixed(place, &source, &target)?;
     let protocol = protocol_at(place, table)?;
     let source_ports = port_range_at(place, table, Field::Sport)?;
     let target_ports = port_range_at(place, table, Field::Dport)?;
@@ -47,6 +45,21 @@ fn are_mixed(source: &Option<Prefix>, target: &Option<Prefix>) -> bool
             true
         }
         _ => false,
+    }
+}
+
+/// `Range` at the target where these are two addresses, one of each family.
+fn refuse_mixed(
+    place: Place,
+    source: &Option<Prefix>,
+    target: &Option<Prefix>,
+) -> Result<(), DomainFault>
+    ensures { result ≡ refused_if (are_mixed source.now target.now) (fault_here place Kind.Range Field.Dst) }
+{
+    if are_mixed(source, target) {
+        Err(place.fault(Kind::Range, Field::Dst))
+    } else {
+        Ok(())
     }
 }
 

@@ -199,7 +199,9 @@ fn expect_behind(
 ) {
     let header = changed(&[(5, *payload), (6, *first)]);
     let mut bytes = Vec::new(alloc);
-    bytes.extend_from_slice(&header[..40]).expect(rt, "memory");
+    for byte in header.iter().take(40) {
+        bytes.push(*byte).expect(rt, "memory");
+    }
     bytes.extend_from_slice(behind).expect(rt, "memory");
     let found = ipv6_header(&bytes).expect(rt, name);
     assert_eq!(rt; (name, found.protocol, found.ports), (name, *last, *ports));
