@@ -2,7 +2,7 @@ use crate::fault::fault_of_open;
 use crate::ledger::SqlLedger;
 use crate::reading::ledger_over;
 use ds_broker::Command;
-use ds_ledger_base::{LedgerFault, Shelf};
+use ds_ledger_base::{Ledger, LedgerFault, Shelf};
 use sqlite::{Connection, FileFrom, FileStore, Wary};
 use std::alloc::Global;
 use std::fs::OpenOptions;
@@ -23,8 +23,28 @@ fn make_file(rt: &HostRuntime, path: &str) -> Result<(), LedgerFault> {
     }
 }
 
-/// A ledger in a file, read as one whose torn writes may leave anything.
-pub type FileLedger = SqlLedger<FileStore<FileFrom<Wary>>>;
+/// A ledger in a file, read as one whose torn writes may leave anything. Where it goes, its log is copied into the file; a
+/// failure to do so is passed over, since the log keeps what it kept.
+pub struct FileLedger {
+    rows: SqlLedger<FileStore<FileFrom<Wary>>>,
+}
+
+impl Drop for FileLedger {
+    fn drop(self) {
+        let FileLedger { rows } = self;
+        let _closed = rows.into_connection().close();
+    }
+}
+
+impl Ledger for FileLedger {
+    ghost tells = { λ _. ⊥ };
+
+    ghost keeps = { λ _ _. ⊥ };
+
+    fn append(&mut self, commands: &[Command]) -> Result<(), LedgerFault> {
+        self.rows.append(commands)
+    }
+}
 
 /// The ledgers in files, by their paths.
 #[derive(Drop)]
@@ -48,7 +68,10 @@ impl<'a> Shelf for FileShelf<'a> {
     fn open(&self, alloc: Global, name: &str) -> Result<(FileLedger, Vec<Command>), LedgerFault> {
         make_file(self.rt, name)?;
         match Connection::open_from(self.rt, name, true, Wary) {
-            Ok(conn) => ledger_over(alloc, conn),
+            Ok(conn) => {
+                let (rows, commands) = ledger_over(alloc, conn)?;
+                Ok((FileLedger { rows }, commands))
+            }
             Err((error, _)) => Err(fault_of_open(error)),
         }
     }

@@ -35,11 +35,7 @@ pub trait Shelf {
     ghost stands: { Self → List ℕ → List Command → Type 0 };
 
     /// The ledger of a name, with the commands that it keeps. One that is not there is made, and keeps none.
-    fn open(
-        &self,
-        alloc: Global,
-        name: &str,
-    ) -> Result<(Self::Kept, Vec<Command>), LedgerFault>
+    fn open(&self, alloc: Global, name: &str) -> Result<(Self::Kept, Vec<Command>), LedgerFault>
         ensures stood { IfOk result (λ opened. stands self.now name.now opened.1.items) }
         ensures kept { IfOk result (λ opened. Self.Kept.tells opened.0 → Self.Kept.keeps opened.0 opened.1.items) };
 }

@@ -10,13 +10,12 @@ ghost use Rattle.dsedge_serve.specs.Served.{is_broken_off, is_input_fault, is_mi
 ghost use Rattle.dsedge_texts.specs.Accepted.{accepted_in};
 ghost use Rattle.pcap_capture.specs.Counts.{IsOfReads, next_count};
 
-use dsedge_faults::Advice;
 use crate::conclusion::Conclusion;
-use dsedge_faults::Fault;
 use crate::outcome::Outcome;
 use crate::report::tell_report;
 use ds_checker::Accepted;
 use ds_conductor::{MarkFault, OpenGate, RedRule, Report, mark_by};
+use dsedge_faults::{Advice, Fault};
 use dsedge_lines::{GivenName, PumpFault};
 use dsedge_texts::{TableFault, accept};
 use pcap_capture::{DeviceFault, Intake, Outlet, PcapFault, VecOutlet, give_all};

@@ -3,8 +3,8 @@ ghost use Rattle.pcap_capture.specs.Counts.{next_count};
 ghost use Rattle.pcap_capture.specs.Fronts.{IsFrontOf};
 ghost use Rattle.dsedge_serve.specs.Marked.{colours_text, counts_text, report_text};
 
-use dsedge_faults::give_parts;
 use ds_conductor::Report;
+use dsedge_faults::give_parts;
 use itoa::Buffer;
 use pcap_capture::{DeviceFault, Outlet};
 

@@ -10,11 +10,10 @@ ghost use Rattle.dsedge_serve.specs.Started.{AreKnown, Course, IsCourseFrom, IsC
 ghost use Rattle.dsedge_serve.specs.Started.{advice_in, behind_name, input_from, is_broken_off, is_unread, is_unwritten};
 ghost use Rattle.dsedge_serve.specs.Started.{status_in, told_in, wordless};
 
-use dsedge_faults::advise;
-use dsedge_faults::Fault;
 use crate::starting::{refuse, start};
 use crate::terminal::AtTerminal;
 use ds_ledger_base::Shelf;
+use dsedge_faults::{Fault, advise};
 use dsedge_lines::Words;
 use dsedge_texts::Folder;
 use pcap_capture::{Intake, Outlet};

@@ -20,22 +20,22 @@ ghost use Rattle.dsedge_texts.specs.Headed.{headroom_in};
 ghost use Rattle.line_text.specs.Lines.{lines_of};
 ghost use Rattle.pcap_capture.specs.Counts.{IsOfReads};
 
-use crate::ended::Ended;
-use dsedge_faults::Advice;
 use crate::conclusion::Conclusion;
-use dsedge_faults::Fault;
-use crate::marking::{answer_mark, capture_fault, marking_advice, marking_status, refusal_outcome, tell_marking};
-use dsedge_faults::Notice;
+use crate::ended::Ended;
+use crate::marking::{
+    answer_mark, capture_fault, marking_advice, marking_status, refusal_outcome, tell_marking,
+};
 use crate::outcome::Outcome;
 use crate::quoting::answer_quote;
-use crate::telling::{answer_arrivals, answer_every_arrival, telling_status};
 use crate::selling::{Place, answer_drive, answer_kept};
+use crate::telling::{answer_arrivals, answer_every_arrival, telling_status};
 use ds_checker::Accepted;
 use ds_conductor::RedRule;
 use ds_domain_base::{DomainFault, Kind};
 use ds_ledger_base::Shelf;
 use dsedge_audit::AuditCommand;
 use dsedge_base::{Plan, PlanNames};
+use dsedge_faults::{Advice, Fault, Notice};
 use dsedge_lines::{Command, Ending, GivenName, PumpFault, pump};
 use dsedge_meter::{EnvelopeCommand, MeterCommand};
 use dsedge_texts::{TableFault, accept, certify, headroom};

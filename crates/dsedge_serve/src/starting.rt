@@ -12,10 +12,10 @@ ghost use Rattle.dsedge_base.specs.Files.{files_of};
 ghost use Rattle.dsedge_texts.specs.Readable.{texts_of};
 
 use crate::ended::Ended;
-use dsedge_faults::Fault;
 use crate::serving::serve;
 use ds_ledger_base::Shelf;
 use dsedge_base::{Plan, UsageFault, plan};
+use dsedge_faults::Fault;
 use dsedge_lines::{FirstLineFault, first_line};
 use dsedge_texts::{Folder, TextFault, read_texts};
 use pcap_capture::{Intake, Outlet};

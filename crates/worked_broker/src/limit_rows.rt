@@ -7,7 +7,19 @@ use ds_domain_base::{Contract, Name};
 use moment_core::Moment;
 use std::alloc::Global;
 use std::process::Abort;
-use worked_texts::{METER, PORT, STEADY, TRUSTED};
+use worked_texts::{PORT, STEADY, TRUSTED};
+
+/// A meter with room for the bursts of as many contracts as a book holds, of 1 byte each.
+const ROOMY: &str = r#"
+[[meter]]
+name = "m"
+kind = "trtcm"
+cir = 24000000
+cbs = 65536
+pir = 48000000
+pbs = 65536
+skew = 0
+"#;
 
 /// A contract of 1 bit/s and 1 byte.
 const LEAST: &str = "name = \"c\"\nclass = 1\ncir = 1\ncbs = 1\n";
@@ -73,7 +85,7 @@ fn expect_next(rt: &impl Abort, book: &mut Book, contract: Contract) {
 #[test]
 fn a_book_holds_65_536_contracts_and_counts_on(rt: HostRuntime) {
     let alloc = rt.alloc();
-    let parts = [METER, PORT, STEADY, TRUSTED, LEAST];
+    let parts = [ROOMY, PORT, STEADY, TRUSTED, LEAST];
     let most = limits(&rt, Limits::MOST_CONTRACTS, Limits::MOST_COMMANDS);
     let Opened { book, contracts } = book_over(&rt, alloc, &parts, most);
     let mut book = book;

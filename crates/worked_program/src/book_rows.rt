@@ -77,6 +77,8 @@ fn unknown(alloc: Global) -> Result<Vec<Command>, LedgerFault> {
 impl Shelf for Room<'_> {
     type Kept = Failing;
 
+    ghost stands = { λ _ _ _. Unit {0} };
+
     fn open(&self, alloc: Global, _name: &str) -> Result<(Failing, Vec<Command>), LedgerFault> {
         match self.has {
             Has::Times(times) => Ok((Failing { times }, Vec::new(alloc))),
@@ -104,11 +106,19 @@ fn run_kept(
         ..SliceIntake::new(b"reserve a\nreserve b\nlook\n")
     };
     let outlet = VecOutlet::new(Vec::new(alloc));
-    run(rt, alloc, "drive domain.toml --book sold.db", room, intake, outlet)
+    run(
+        rt,
+        alloc,
+        "drive domain.toml --book sold.db",
+        room,
+        intake,
+        outlet,
+    )
 }
 
 /// What is answered to the first sale, and to all.
 const ONE: &str = "granted 1 1 0\n";
+
 const ALL: &str = "granted 1 1 0\ngranted 2 2 0\nserial 2 contracts 2\n";
 
 /// How the ledger fails.
@@ -124,11 +134,31 @@ static ROWS: [(Has, usize, Wanted<'static>); 12] = [
     (Has::Times(0), 100, ("", FAILS, 4)),
     (Has::Times(1), 22, (ALL, "", 0)),
     (Has::Release, 100, ("", "dsedge: book 1 UnknownId\n", 3)),
-    (Has::None(LedgerFault::NoDatabase), 100, ("", "dsedge: book NoDatabase\n", 3)),
-    (Has::None(LedgerFault::Damaged), 100, ("", "dsedge: book Damaged\n", 3)),
-    (Has::None(LedgerFault::Form), 100, ("", "dsedge: book Form\n", 3)),
-    (Has::None(LedgerFault::Busy), 100, ("", "dsedge: book Busy\n", 4)),
-    (Has::None(LedgerFault::Open), 100, ("", "dsedge: book Open\n", 4)),
+    (
+        Has::None(LedgerFault::NoDatabase),
+        100,
+        ("", "dsedge: book NoDatabase\n", 3),
+    ),
+    (
+        Has::None(LedgerFault::Damaged),
+        100,
+        ("", "dsedge: book Damaged\n", 3),
+    ),
+    (
+        Has::None(LedgerFault::Form),
+        100,
+        ("", "dsedge: book Form\n", 3),
+    ),
+    (
+        Has::None(LedgerFault::Busy),
+        100,
+        ("", "dsedge: book Busy\n", 4),
+    ),
+    (
+        Has::None(LedgerFault::Open),
+        100,
+        ("", "dsedge: book Open\n", 4),
+    ),
 ];
 
 #[test]
