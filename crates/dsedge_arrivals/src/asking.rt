@@ -32,7 +32,10 @@ impl<'a> Model for AskedArrivals<'a> {
     ghost Value = { Asked };
 
     ghost view = { λ a. record {
-        port = a.port.now; contract = option_map (λ name. name.now) a.contract; has_colours = a.has_colours } };
+      port = a.port.now;
+      contract = option_map (λ name. name.now) a.contract;
+      has_colours = a.has_colours;
+    } };
 }
 
 /// Why arrivals were not told to the end of their capture.

@@ -31,7 +31,11 @@ impl<'a> Model for ArrivalFilter<'a> {
     ghost Value = { Filter };
 
     ghost view = { λ f. record {
-        port = f.port; contracts = f.contracts.now; only = f.only; has_colours = f.has_colours } };
+      port = f.port;
+      contracts = f.contracts.now;
+      only = f.only;
+      has_colours = f.has_colours;
+    } };
 }
 
 impl<'a> ArrivalFilter<'a> {

@@ -16,7 +16,6 @@ files_of (Quote domain contract field) = domain ∷ []
 files_of (Audit domain certificate) = domain ∷ certificate ∷ []
 files_of (Drive domain limits book) = domain ∷ []
 files_of (Mark domain certificate port workers keeps_red) = domain ∷ certificate ∷ []
-
 files_of (Arrivals None has_colours) = []
 files_of (Arrivals (Some place) has_colours) = place.domain ∷ []
 

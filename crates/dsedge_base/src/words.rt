@@ -7,8 +7,10 @@ ghost use Rattle.dsedge_base.specs.Plans.{arrivals_given, asks_other_workers, au
 use crate::command_line::command_line;
 use crate::explanation::Explanation;
 use crate::fault::UsageFault;
-use crate::options::{drive_in, envelope_in, has_colours, marking_in, meter_in, name_in, place_in, quote_in};
-use crate::options::{table_in, workers_in};
+use crate::options::{
+    drive_in, envelope_in, has_colours, marking_in, meter_in, name_in, place_in, quote_in,
+    table_in, workers_in,
+};
 use crate::work::Plan;
 use clap::error::ErrorKind;
 use clap::{ArgMatches, Error};

@@ -186,11 +186,12 @@ impl<'a> Plan<'a> {
         match self {
             Plan::Quote { contract, .. } => contract.text(),
             Plan::Arrivals {
-                place:
-                    Some(GivenPort {
+                place: Some(
+                    GivenPort {
                         contract: Some(contract),
                         ..
-                    }),
+                    },
+                ),
                 ..
             } => contract.text(),
             _ => "",

@@ -32,7 +32,16 @@ fn expect_of_arrivals(
     behind: &[u8],
     (output, told, status): (&str, &str, u8),
 ) -> Result<(), Fail> {
-    let contracts = [POLICED, U, TWO_RATES, UDP, POLICED, V, TWO_RATES, "protocol = 6\n"];
+    let contracts = [
+        POLICED,
+        U,
+        TWO_RATES,
+        UDP,
+        POLICED,
+        V,
+        TWO_RATES,
+        "protocol = 6\n",
+    ];
     let domain = over_way(alloc, &contracts)?;
     let first = TAGGED;
     let second = record(1, [0x40, 0x0d, 0x03, 0], 128, 20, 6);
@@ -50,7 +59,13 @@ fn every_packet_arrives(rt: HostRuntime) -> Result<(), Fail> {
     let lines = "1500000000 115\n1500000000 128\n2000001000 120\n3000002000 121\n";
     expect_of_arrivals(&rt, rt.alloc(), "arrivals", &[], (lines, "", 0))?;
     let coloured = "1500000000 115 g\n1500000000 128 y\n2000001000 120 r\n3000002000 121 g\n";
-    expect_of_arrivals(&rt, rt.alloc(), "arrivals --colours", &[], (coloured, "", 0))
+    expect_of_arrivals(
+        &rt,
+        rt.alloc(),
+        "arrivals --colours",
+        &[],
+        (coloured, "", 0),
+    )
 }
 
 #[test]
@@ -75,8 +90,16 @@ fn arrivals_before_a_fault(rt: HostRuntime) -> Result<(), Fail> {
 #[test]
 fn arrivals_that_are_refused(rt: HostRuntime) -> Result<(), Fail> {
     for (words, told, status) in [
-        ("arrivals domain.toml --port q --contract x", "dsedge: port q\n", 3),
-        ("arrivals domain.toml --port p --contract x", "dsedge: contract x\n", 3),
+        (
+            "arrivals domain.toml --port q --contract x",
+            "dsedge: port q\n",
+            3,
+        ),
+        (
+            "arrivals domain.toml --port p --contract x",
+            "dsedge: contract x\n",
+            3,
+        ),
         ("arrivals none.toml --port p", "dsedge: file none.toml\n", 4),
         ("arrivals domain.toml", "dsedge: usage\n", 2),
         ("arrivals --port p", "dsedge: usage\n", 2),
