@@ -1,4 +1,5 @@
 use crate::digest::Digest;
+use ds_ledger_base::Shelf;
 use dsedge_lines::Words;
 use dsedge_serve::start;
 use dsedge_texts::{Folder, MemoryFolder};
@@ -18,7 +19,7 @@ fn words_of(alloc: Global, words: &str) -> Result<Words, AllocError> {
 
 /// Runs the program with this folder and these devices, and gives its exit status. It names no type of theirs, since a
 /// call of `start` is dear to prove at one that has a lifetime.
-fn run_in<W: Wait + Threads + Sync, D: Folder, I: Intake, O: Outlet, F: Outlet>(
+fn run_in<W: Wait + Threads + Sync, D: Folder + Shelf, I: Intake, O: Outlet, F: Outlet>(
     rt: &W,
     alloc: Global,
     words: &[String],
@@ -31,7 +32,7 @@ fn run_in<W: Wait + Threads + Sync, D: Folder, I: Intake, O: Outlet, F: Outlet>(
 }
 
 /// Runs the program on an input in memory, likewise.
-fn run_on<W: Wait + Threads + Sync, D: Folder, O: Outlet, F: Outlet>(
+fn run_on<W: Wait + Threads + Sync, D: Folder + Shelf, O: Outlet, F: Outlet>(
     rt: &W,
     alloc: Global,
     words: &[String],
