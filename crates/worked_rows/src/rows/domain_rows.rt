@@ -752,7 +752,8 @@ fn expect_form(rt: &impl Abort, alloc: Global, (form, address, length): &(&str, 
         &[THREE, METER, PORT, LINK, TRUSTED, BARE, SHARE, *form],
     );
     let prefix = Ipv6Prefix::new(*address, *length).expect(rt, "a prefix");
-    assert_eq!(rt; said.contracts[0].rule.source, Some(Prefix::V6(prefix)));
+    let contract = said.contracts.first().expect(rt, "a contract");
+    assert_eq!(rt; contract.rule.source, Some(Prefix::V6(prefix)));
     assert!(rt; said.domain.version() == Version::Three);
 }
 
@@ -771,7 +772,8 @@ fn expect_as_before(rt: &impl Abort, alloc: Global) {
         &[THREE, METER, PORT, LINK, TRUSTED, A, SHARE, PEAK, EXCESS],
     );
     let prefix = Ipv4Prefix::new(0x0a00_0000, 24).expect(rt, "a prefix");
-    assert!(rt; said.contracts[0].rule.source == Some(Prefix::V4(prefix)));
+    let contract = said.contracts.first().expect(rt, "a contract");
+    assert!(rt; contract.rule.source == Some(Prefix::V4(prefix)));
     let excess = Some(profile(rt, 8_000_000, 1000));
     expect_peak(
         rt,
