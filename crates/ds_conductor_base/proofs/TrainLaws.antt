@@ -12,7 +12,7 @@ use Rattle.ds_conductor_base.specs.Waits.{first_on_top, visit_in, visits_in}
 use Rattle.ds_conductor_base.specs.declared.train.Train.{Train}
 use Rattle.ds_conductor_base.specs.declared.waiting.Waiting.{Waiting}
 use Rattle.ds_conductor_base.proofs.QueueLaws.{late_rows}
-use Rattle.ds_conductor_base.proofs.RunLaws.{beyond, is_later, later_strict, none_there}
+use Rattle.ds_conductor_base.proofs.RunLaws.{beyond, is_later, later_strict, none_there, same_at}
 
 -- ---- the order
 
@@ -329,13 +329,19 @@ pub first_told : {B : Type 0} {P : Type 0} (heap : List (Reverse Waiting)) (trai
 first_told heap trains n None row size some front bound held are = none_held heap trains (sym size ∙ none_there n some.1) are
 first_told heap trains n (Some x) row size some front bound held are = first_of heap trains (row x) (omega (arith, size, some.0 refl)) front (bound held) are
 
--- the first is taken out of the heap
-pub taken_first : (heap left : List (Reverse Waiting)) (trains : List Train) (r : Reverse Waiting) → 0 < length heap → r ≡ get_or heap 0 r → IsPermutation heap (r ∷ left)
-    → IsUpperBound first_on_top r left → AreTrains heap trains → IsFirst r (heap ++ rows_in trains)
-taken_first heap left trains r there front moved bound are =
-    first_of heap trains r there front
-    (recursion_from_All (λ q. is_later r q ≡ false) heap (All-permutation (λ q. is_later r q ≡ false) (r ∷ left) heap (IsPermutation-sym heap (r ∷ left) moved)
-    (All-cons (λ q. is_later r q ≡ false) r left (itself r) (All-from_recursion (λ q. is_later r q ≡ false) left bound)))) are
+-- the first of a heap that is looked at
+pub peeked_first : (heap : List (Reverse Waiting)) (trains : List Train) (r : Reverse Waiting) → 0 < length heap → r ≡ get_or heap 0 r
+    → IsUpperBound first_on_top r heap → AreTrains heap trains → IsFirst r (heap ++ rows_in trains)
+peeked_first heap trains r there front bound are = first_of heap trains r there front bound are
+
+-- what is taken out of a heap is what was looked at
+pub popped_as : (heap left : List (Reverse Waiting)) (result : Option (Reverse Waiting)) (first : Reverse Waiting) → 0 < length heap → IsSome result
+    → IfSome result (λ r. r ≡ get_or heap 0 r) → IfSome result (λ r. IsPermutation heap (r ∷ left)) → first ≡ get_or heap 0 first
+    → (result ≡ Some first) × IsPermutation heap (first ∷ left)
+popped_as heap left None first there some top moved front = let no : false ≡ true = some in absurd cc
+popped_as heap left (Some r) first there some top moved front =
+    let same : r ≡ first = same_at heap 0 r first there top front in
+    (ap Some same, subst (λ q. IsPermutation heap (q ∷ left)) same moved)
 
 -- and the next one of its train goes there, if there is one
 pub taken_rest : (heap left after : List (Reverse Waiting)) (trains now : List Train) (r : Reverse Waiting) (next : Option (Reverse Waiting)) → IsPermutation heap (r ∷ left)

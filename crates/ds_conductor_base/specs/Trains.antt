@@ -1,6 +1,6 @@
 -- Visits that wait in trains behind a heap.
 use Rattle.std.specs.Prelude.{◌≡◌, ℕ, ◌<◌, ◌++◌, false, List, [], ◌∷◌, length, slice_index_or, Bool, IsPermutation, IsSome, MatchBool, Some, Option, option_to_list, All}
-use Rattle.std.specs.BinaryHeap.{IsUpperBound}
+use Rattle.std.specs.BinaryHeap.{IsHeap, IsUpperBound}
 use Rattle.std.specs.Option.{option_or}
 use Rattle.std.specs.Ordering.{is_lt}
 use Rattle.std.specs.declared.cmp.Reverse.{Reverse}
@@ -77,3 +77,12 @@ pub record IsFirst (r : Reverse Waiting) (rows : List (Reverse Waiting)) : Type 
   pub there : 0 < length rows
   pub front : r ≡ slice_index_or rows 0 r
   pub bound : IsUpperBound first_on_top r rows
+
+-- the first of a heap was taken out, and another visit put in
+pub record IsReplaced (next : Reverse Waiting) (heap after : List (Reverse Waiting)) : Type 0 where
+  pub first : Reverse Waiting
+  pub left : List (Reverse Waiting)
+  pub top : first ≡ slice_index_or heap 0 first
+  pub taken : IsPermutation heap (first ∷ left)
+  pub put : IsPermutation (next ∷ left) after
+  pub ordered : IsHeap first_on_top heap → IsHeap first_on_top after

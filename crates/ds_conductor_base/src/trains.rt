@@ -1,6 +1,7 @@
 ghost use Rattle.std.specs.Prelude.{◌≡◌, ◌+◌, ◌<◌, ◌≤◌, ◌++◌, ◌∷◌, [], IsPermutation, MatchOption, OnOk, length};
 ghost use Rattle.std.specs.Prelude.{option_to_list};
-ghost use Rattle.ds_conductor_base.specs.Trains.{IsFirst, IsKept, IsLed, IsPut};
+ghost use Rattle.ds_conductor_base.specs.Trains.{IsFirst, IsKept, IsLed, IsPut, IsReplaced};
+ghost use Rattle.std.specs.BinaryHeap.{heap_capacity, heap_items, heap_len};
 
 use crate::train::Train;
 use crate::waiting::{NO_TRAIN, Waiting};
@@ -121,14 +122,25 @@ impl Trains {
         ensures { MatchOption result ((self.old.rows ≡ []) × (self.new.rows ≡ []))
             (λ r. IsFirst r self.old.rows × IsPermutation self.old.rows (r ∷ self.new.rows)) }
     {
-        let first = self.heap.pop()?;
+        let first = *self.heap.peek()?;
         let Some(next) = next_behind(&mut self.trains, &first) else {
-            return Some(first);
+            return self.heap.pop();
         };
-        self.heap.push(next).unwrap();
+        replace_first(&mut self.heap, next);
         self.behind = self.behind.saturating_sub(1);
         Some(first)
     }
+}
+
+/// Puts a visit in the place of the first of a heap, which is taken out.
+fn replace_first(heap: &mut BinaryHeap<Reverse<Waiting>>, next: Reverse<Waiting>)
+    requires { 0 < heap_len heap.old }
+    ensures replaced { IsReplaced next (heap_items heap.old) (heap_items heap.new) }
+    ensures len { heap_len heap.new ≡ heap_len heap.old }
+    ensures capacity { heap_capacity heap.new ≡ heap_capacity heap.old }
+{
+    let mut first = heap.peek_mut().unwrap();
+    *first = next;
 }
 
 /// Makes so many trains, all of them empty, if there are none yet and there is memory for them.
