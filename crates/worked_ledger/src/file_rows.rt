@@ -166,7 +166,9 @@ fn keep<S: Shelf>(rt: &impl Abort, alloc: Global, shelf: &S, book: &Book) {
     let (mut ledger, kept) = open(rt, alloc, shelf);
     assert!(rt; kept.is_empty());
     drop(kept);
-    let (first, others) = book.history().split_at(1);
+    let history = book.history();
+    assert!(rt; history.len() > 1);
+    let (first, others) = history.split_at(1);
     assert!(rt; ledger.append(first).is_ok());
     expect_busy(rt, alloc, shelf);
     assert!(rt; ledger.append(others).is_ok());
