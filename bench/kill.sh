@@ -61,6 +61,8 @@ while [ "$round" -lt "$rounds" ]; do
     rm -f "$folder/pipe"
     # a line that was cut off tells nothing
     awk '/^(granted|released|retired) / && NF >= 3 { print }' "$folder/out" | sed '$d' >> "$folder/answers"
+    # before the first answer the file may be half made, and nothing has to be there
+    [ -s "$folder/answers" ] || continue
     # sqlite3 looks at a copy, since it moves what stands in the log
     cp "$book" "$folder/copy.db"
     cp "$book-wal" "$folder/copy.db-wal"

@@ -13,7 +13,7 @@ repeats=${3:-9}
 folder=$(mktemp -d)
 trap 'rm -rf "$folder"' EXIT
 
-build seeing ds_checker ds_conditioner ds_conductor ds_domain_base dsedge_texts frame_marker pcap_capture
+build seeing capture_reader ds_checker ds_conditioner ds_conductor ds_domain_base dsedge_texts frame_marker pcap_capture
 rustc -O --edition 2021 -o "$folder/generate" "$bench/generate_capture/main.rs"
 "$folder/generate" domain mixed > "$folder/domain.toml"
 "$folder/generate" capture mixed "$count" > "$folder/in.pcap"

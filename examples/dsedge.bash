@@ -12,27 +12,33 @@ _dsedge() {
         --most) COMPREPLY=($(compgen -W 'cir cbs pir pbs eir ebs' -- "$word")); return ;;
     esac
     if [ "$COMP_CWORD" -eq 1 ]; then
-        COMPREPLY=($(compgen -W 'meter envelope certify check headroom quote audit drive mark arrivals --help --version' -- "$word"))
+        COMPREPLY=($(compgen -W 'meter envelope certify check headroom quote audit drive book mark arrivals --help --version' -- "$word"))
         return
     fi
     case $command in
-        meter) COMPREPLY=($(compgen -W '--kind --mode --cir --cbs --ebs --pir --pbs --eir --origin --help' -- "$word")) ;;
+        meter) COMPREPLY=($(compgen -W '--kind --mode --cir --cbs --ebs --pir --pbs --eir --origin --levels --help' -- "$word")) ;;
         envelope) COMPREPLY=($(compgen -W '--rate --burst --help' -- "$word")) ;;
         mark)
             case $word in
-                -*) COMPREPLY=($(compgen -W '--port --workers --red --help' -- "$word")) ;;
+                -*) COMPREPLY=($(compgen -W '--port --workers --red --verdict --help' -- "$word")) ;;
                 *) COMPREPLY=($(compgen -f -- "$word")) ;;
             esac
             ;;
         quote)
             case $word in
-                -*) COMPREPLY=($(compgen -W '--contract --most --help' -- "$word")) ;;
+                -*) COMPREPLY=($(compgen -W '--contract --most --count --help' -- "$word")) ;;
                 *) COMPREPLY=($(compgen -f -- "$word")) ;;
             esac
             ;;
         arrivals)
             case $word in
                 -*) COMPREPLY=($(compgen -W '--port --contract --colours --help' -- "$word")) ;;
+                *) COMPREPLY=($(compgen -f -- "$word")) ;;
+            esac
+            ;;
+        book)
+            case $word in
+                -*) COMPREPLY=($(compgen -W '--to-domain --help' -- "$word")) ;;
                 *) COMPREPLY=($(compgen -f -- "$word")) ;;
             esac
             ;;

@@ -1,9 +1,9 @@
 -- What reading a piece comes to.
-use Rattle.std.proofs.Common.{◌≡◌, ℕ, ◌≤◌, Bool, true, List, [], Result, Ok, Err, IfErr, OnOk, subst, ◌∙◌, arith}
+use Rattle.std.proofs.Common.{◌≡◌, ℕ, Bool, true, List, [], Result, Ok, Err, IfErr, OnOk, subst, ◌∙◌, arith}
 use Rattle.pcap_capture.specs.Frames.{FrameValue}
 use Rattle.pcap_capture.specs.Takings.{is_own}
 use Rattle.pcap_capture.specs.declared.fault.PcapFault.{PcapFault}
-use Rattle.capture_reader.specs.Readings.{IsPieceOf, IsPieceRead, IsReadOn, IsUnderway, bytes_of}
+use Rattle.capture_reader.specs.Readings.{IsPieceOf, IsPieceRead, IsReadOn, IsUnderway}
 use Rattle.capture_reader.specs.declared.reading.Progress.{Progress}
 use Rattle.capture_reader.proofs.ReadFaultLaws.{ended_reads, own_unwritten}
 
@@ -18,7 +18,6 @@ piece_failed tells left calls failed old new before after fault some other piece
   missing = piece.missing;
   fewer = tt;
   stays = piece.stays;
-  few = piece.few;
   told = piece.told;
   read = piece.read;
   size = tt;
@@ -31,13 +30,12 @@ piece_failed tells left calls failed old new before after fault some other piece
 pub piece_ended : {A : Type 0} (tells : A → Type 0) (left : A → List ℕ) (calls failed : A → ℕ) (old new : A) (before there after : Progress) (result : Result Bool PcapFault) (is_full : Bool)
     → IsPieceRead tells left calls failed old new before there (Ok true) there.is_full → (tells old → left new ≡ [])
     → ((gone : List FrameValue) (bytes : List ℕ) → IsUnderway gone bytes [] there → IsReadOn gone bytes [] after result)
-    → after.missing ≡ there.missing → after.heading ≡ there.heading → after.is_full ≡ there.is_full → bytes_of after ≤ bytes_of there → IfErr result (λ fault. is_own fault ≡ true)
+    → after.missing ≡ there.missing → after.opening ≡ there.opening → after.is_full ≡ there.is_full → IfErr result (λ fault. is_own fault ≡ true)
     → there.is_full ≡ is_full → IsPieceRead tells left calls failed old new before after result is_full
-piece_ended tells left calls failed old new before there after result is_full piece over read missing heading full few fault is = record {
+piece_ended tells left calls failed old new before there after result is_full piece over read missing opening full fault is = record {
   missing = let n = piece.missing in omega (arith, n, missing);
   fewer = all_ok result _ piece.fewer;
-  stays = λ known records headed. heading ∙ piece.stays known records headed;
-  few = let n = piece.few in omega (arith, n, few);
+  stays = λ known records headed. opening ∙ piece.stays known records headed;
   told = piece.told;
   read = λ gone bytes given at. rw (over given) (read gone bytes (rw (over given) at (piece.read gone bytes given at)));
   size = all_ok result _ (subst (λ full. tells old → IsPieceOf (left old) (left new) full) is piece.size);

@@ -1,46 +1,27 @@
 -- What was read of a capture, as far as it was read.
-use Rattle.std.proofs.Common.{◌≡◌, ◌⊎◌, ℕ, zero, suc, ◌-◌, ◌<◌, ◌≤◌, Bool, true, false, List, [], ◌∷◌, ◌++◌, length, drop, Option, None, Some, Result, Ok, Err, append_assoc, append-nil, length-append, refl, subst, sym, ◌∙◌, ap, inl, inr, arith, drop_of_length-le}
+use Rattle.std.proofs.Common.{◌≡◌, ◌⊎◌, ℕ, ◌-◌, ◌<◌, ◌≤◌, Bool, true, false, List, [], ◌∷◌, ◌++◌, length, drop, Option, None, Some, Result, Ok, Err, append_assoc, append-nil, length-append, refl, subst, sym, ◌∙◌, ap, inl, inr, arith}
 use Rattle.pcap_capture.specs.Frames.{FrameValue}
-use Rattle.pcap_capture.specs.Grammar.{CaptureState, IsSoFar, Next, Partial, TooLong, Whole, Reading, Stops, after_heading, capture, continued_from, fault_after, fault_in, from_next, heading_of, next_of, prepend, read_on, reading, records, records_within}
 use Rattle.pcap_capture.specs.declared.fault.PcapFault.{PcapFault}
 use Rattle.pcap_capture.specs.declared.fault.PcapFault.TheVariants as pcaps
 use Rattle.pcap_capture.specs.declared.fault.PcapFault.TheVariants.{ReadFault, Truncated}
-use Rattle.pcap_capture.specs.declared.heading.Heading.{Heading}
-use Rattle.pcap_capture.specs.declared.stage.Stage.{Stage}
-use Rattle.pcap_capture.specs.declared.stage.Stage.TheVariants.{Opening, Records, Broken}
-use Rattle.pcap_capture.proofs.CutLaws.{capture-cut, so_far}
-use Rattle.pcap_capture.proofs.HeadingLaws.{heading-append, heading_waits}
-use Rattle.capture_reader.specs.Readings.{is_starving}
-use Rattle.capture_reader.specs.Readings.{is_starved, IsEnded, IsHeadingTold, IsReading, IsReadOn, IsReadTo, IsUnderway, heading_at, heading_in}
+use Rattle.pcapng_capture.specs.Grammar as newer
+use Rattle.capture_reader.specs.Formats.{CaptureState, IsSoFar, Reading, Stage, Stops, Unopened, Records, Sections, Broken, after_opening, capture, classic_stage, continued_from, fault_after, fault_in, newer_stage, opening_at, opening_of, prepend, read_on, reading}
+use Rattle.capture_reader.specs.Readings.{is_starved, is_starving, IsEnded, IsOpeningTold, IsReading, IsReadOn, IsReadTo, IsUnderway, opening_in}
+use Rattle.capture_reader.specs.declared.opening.Opening.{Opening}
+use Rattle.capture_reader.specs.declared.opening.Opening.TheVariants.{Classic, Blocks}
 use Rattle.capture_reader.specs.declared.reading.Progress.{Progress}
+use Rattle.capture_reader.proofs.FormatLaws.{blocks_whole, capture-cut, opening-append, opening_alone, opening_waits, records_stage, so_far}
 
-next_stage : (heading : Heading) (bytes : List ℕ) (read : List ℕ → Reading) (next : Next)
-    → ((after : List ℕ) → (read after).fault ≡ None → (read after).state.stage ≡ Records heading)
-    → (from_next heading bytes read next).fault ≡ None → (from_next heading bytes read next).state.stage ≡ Records heading
-next_stage heading bytes read Partial known h = refl
-next_stage heading bytes read (TooLong count) known h = cc
-next_stage heading bytes read (Whole frame after) known h = known after h
+told_behind : (read : List ℕ) (opening : Opening) → (after_opening read (Some (Ok opening))).fault ≡ None → opening_at (after_opening read (Some (Ok opening))).state.stage ≡ Some opening
+told_behind read (Classic opening) none = ap (λ s. opening_at (classic_stage s)) (records_stage opening (drop 24 read) none)
+told_behind read Blocks none = ap (λ b. opening_at (newer_stage b (newer.blocks newer.no_section read).state.section)) (blocks_whole newer.no_section read none)
 
-within_stage : (n : ℕ) (heading : Heading) (bytes : List ℕ) → (records_within n heading bytes).fault ≡ None → (records_within n heading bytes).state.stage ≡ Records heading
-within_stage zero heading bytes h = refl
-within_stage (suc n) heading bytes h = next_stage heading bytes (records_within n heading) (next_of heading bytes) (within_stage n heading) h
-
--- records without a fault are read on with their heading
-records_stage : (heading : Heading) (bytes : List ℕ) → (records heading bytes).fault ≡ None → (records heading bytes).state.stage ≡ Records heading
-unfolding records
-records_stage heading bytes h = within_stage (length bytes) heading bytes h
-
--- where nothing stands behind a heading, there is no fault
-records_none : (heading : Heading) (bytes : List ℕ) → bytes ≡ [] → (records heading bytes).fault ≡ None
-unfolding records
-records_none heading bytes h = rw h refl
-
-told_at : (read : List ℕ) (stage : Stage) (found : Option (Result Heading PcapFault)) → heading_of read ≡ found → (after_heading read found).fault ≡ None
-    → (after_heading read found).state.stage ≡ stage → heading_in read (heading_at stage)
-told_at read stage None e none is = subst (λ s. heading_in read (heading_at s)) is (λ heading h. cc)
+told_at : (read : List ℕ) (stage : Stage) (found : Option (Result Opening PcapFault)) → opening_of read ≡ found → (after_opening read found).fault ≡ None
+    → (after_opening read found).state.stage ≡ stage → opening_in read (opening_at stage)
+told_at read stage None e none is = subst (λ s. opening_in read (opening_at s)) is (λ opening h. cc)
 told_at read stage (Some (Err fault)) e none is = absurd cc
-told_at read stage (Some (Ok heading)) e none is =
-    subst (λ s. heading_in read (heading_at s)) (sym (records_stage heading (drop 24 read) none) ∙ is) e
+told_at read stage (Some (Ok opening)) e none is =
+    subst (λ o. opening_in read o) (sym (told_behind read opening none) ∙ ap opening_at is) e
 
 so_far_fault : (read : List ℕ) (state : CaptureState) (frames : List FrameValue) → IsSoFar read [] state frames → (capture read).fault ≡ None
 so_far_fault read state frames h = sym (ap (λ (r : Reading). r.fault) h)
@@ -48,28 +29,23 @@ so_far_fault read state frames h = sym (ap (λ (r : Reading). r.fault) h)
 so_far_frames : (read : List ℕ) (state : CaptureState) (frames : List FrameValue) → IsSoFar read [] state frames → frames ≡ (capture read).frames
 so_far_frames read state frames h = ap (λ (r : Reading). r.frames) h
 
-capture_told : (read : List ℕ) (stage : Stage) → (capture read).fault ≡ None → (capture read).state.stage ≡ stage → heading_in read (heading_at stage)
+capture_told : (read : List ℕ) (stage : Stage) → (capture read).fault ≡ None → (capture read).state.stage ≡ stage → opening_in read (opening_at stage)
 unfolding capture
-capture_told read stage none is = told_at read stage (heading_of read) refl none is
+capture_told read stage none is = told_at read stage (opening_of read) refl none is
 
--- the heading that the stage tells is that of the bytes
-so_far_told : (read : List ℕ) (state : CaptureState) (frames : List FrameValue) → IsSoFar read [] state frames → heading_in read (heading_at state.stage)
+-- the opening that the stage tells is that of the bytes
+so_far_told : (read : List ℕ) (state : CaptureState) (frames : List FrameValue) → IsSoFar read [] state frames → opening_in read (opening_at state.stage)
 so_far_told read state frames h = capture_told read state.stage (so_far_fault read state frames h) (sym (ap (λ (r : Reading). r.state.stage) h))
 
-short_by : (read : List ℕ) (found : Option (Result Heading PcapFault)) → heading_of read ≡ found → (after_heading read found).fault ≡ None → heading_in read None → length read < 24
-short_by read None e none h = heading_waits read e
+short_by : (read : List ℕ) (found : Option (Result Opening PcapFault)) → opening_of read ≡ found → (after_opening read found).fault ≡ None → opening_in read None → length read < 24
+short_by read None e none h = opening_waits read e
 short_by read (Some (Err fault)) e none h = absurd cc
-short_by read (Some (Ok heading)) e none h = absurd (h heading e)
+short_by read (Some (Ok opening)) e none h = absurd (h opening e)
 
--- without a heading, and without a fault, there are fewer bytes than of one
-capture_short : (read : List ℕ) → (capture read).fault ≡ None → heading_in read None → length read < 24
+-- without a opening, and without a fault, there are fewer bytes than of one
+capture_short : (read : List ℕ) → (capture read).fault ≡ None → opening_in read None → length read < 24
 unfolding capture
-capture_short read none h = short_by read (heading_of read) refl none h
-
--- with a heading alone there is no fault
-heading_alone : (read : List ℕ) (heading : Heading) → heading_of read ≡ Some (Ok heading) → length read ≤ 24 → (capture read).fault ≡ None
-unfolding capture
-heading_alone read heading e h = ap (λ found. (after_heading read found).fault) e ∙ records_none heading (drop 24 read) (drop_of_length-le read h)
+capture_short read none h = short_by read (opening_of read) refl none h
 
 -- a fault stands, whatever comes behind it
 pub fault_stands : (read more : List ℕ) (fault : PcapFault) → (capture read).fault ≡ Some fault → capture (read ++ more) ≡ capture read
@@ -87,42 +63,42 @@ stopped_to read more frames fault (inl found) =
     ))
 stopped_to read more frames fault (inr memory) = inr (inl memory)
 
-told_none : (read piece : List ℕ) (frames : List FrameValue) (fault : PcapFault) → (capture read).fault ≡ None → heading_in read None
-    → length piece ≤ 24 - length read → Stops (prepend [] (capture (read ++ piece))) frames fault → IsHeadingTold (read ++ piece) None (Some fault)
-told_none read piece frames fault none h room (inl found) = inl (λ heading e.
+told_none : (read piece : List ℕ) (frames : List FrameValue) (fault : PcapFault) → (capture read).fault ≡ None → opening_in read None
+    → length piece ≤ 24 - length read → Stops (prepend [] (capture (read ++ piece))) frames fault → IsOpeningTold (read ++ piece) None (Some fault)
+told_none read piece frames fault none h room (inl found) = inl (λ opening e.
     let short = capture_short read none h in
-    let alone = heading_alone (read ++ piece) heading e (omega (arith, length-append read piece)) in
+    let alone = opening_alone (read ++ piece) opening e (omega (arith, length-append read piece)) in
     let is : (capture (read ++ piece)).fault ≡ Some fault = sym (ap (λ (r : Reading). r.fault) found) in
     cc)
 told_none read piece frames fault none h room (inr memory) = inr (refl, ap Some memory.0)
 
--- the heading that was known, where a piece stopped the reading of a capture
-stopped_told : (read piece : List ℕ) (heading : Option Heading) (frames : List FrameValue) (fault : PcapFault) → (capture read).fault ≡ None → heading_in read heading
-    → (heading ≡ None → length piece ≤ 24 - length read) → Stops (prepend [] (capture (read ++ piece))) frames fault → IsHeadingTold (read ++ piece) heading (Some fault)
+-- the opening that was known, where a piece stopped the reading of a capture
+stopped_told : (read piece : List ℕ) (opening : Option Opening) (frames : List FrameValue) (fault : PcapFault) → (capture read).fault ≡ None → opening_in read opening
+    → (opening ≡ None → length piece ≤ 24 - length read) → Stops (prepend [] (capture (read ++ piece))) frames fault → IsOpeningTold (read ++ piece) opening (Some fault)
 stopped_told read piece None frames fault none h room stops = told_none read piece frames fault none h (room refl) stops
-stopped_told read piece (Some heading) frames fault none h room stops = inl (heading-append read piece (Ok heading) h)
+stopped_told read piece (Some opening) frames fault none h room stops = inl (opening-append read piece (Ok opening) h)
 
--- the heading that is known is that of the bytes
-told : (gone : List FrameValue) (bytes more : List ℕ) (progress : Progress) (at : IsUnderway gone bytes more progress) → heading_in at.read progress.heading
-told gone bytes more progress at = subst (λ heading. heading_in at.read heading) (sym at.known) (so_far_told at.read progress.capture (gone ++ progress.piece) at.so_far)
+-- the opening that is known is that of the bytes
+told : (gone : List FrameValue) (bytes more : List ℕ) (progress : Progress) (at : IsUnderway gone bytes more progress) → opening_in at.read progress.opening
+told gone bytes more progress at = subst (λ opening. opening_in at.read opening) (sym at.known) (so_far_told at.read progress.capture (gone ++ progress.piece) at.so_far)
 
--- a piece has no byte behind a heading that is not there
+-- a piece has no byte behind a opening that is not there
 room : (gone : List FrameValue) (bytes piece more : List ℕ) (progress : Progress) (at : IsUnderway gone bytes more progress) → (0 < progress.missing → length piece ≤ progress.missing)
-    → progress.heading ≡ None → length piece ≤ 24 - length at.read
+    → progress.opening ≡ None → length piece ≤ 24 - length at.read
 room gone bytes piece more progress at within none =
     let short = capture_short at.read (so_far_fault at.read progress.capture (gone ++ progress.piece) at.so_far)
-    (subst (λ heading. heading_in at.read heading) none (told gone bytes more progress at)) in
+    (subst (λ opening. opening_in at.read opening) none (told gone bytes more progress at)) in
     let least : 0 < progress.missing = omega (arith, at.to_come) in
     omega (arith, at.to_come, within least)
 
 -- at first nothing was read
-pub begun : (bytes : List ℕ) (progress : Progress) → IsSoFar [] [] progress.capture progress.piece → progress.capture.stage ≡ Opening
-    → progress.heading ≡ None → progress.missing ≡ 24 → IsUnderway [] bytes bytes progress
+pub begun : (bytes : List ℕ) (progress : Progress) → IsSoFar [] [] progress.capture progress.piece → progress.capture.stage ≡ Unopened
+    → progress.opening ≡ None → progress.missing ≡ 24 → IsUnderway [] bytes bytes progress
 begun bytes progress so_far opening none missing = record {
   read = [];
   front = refl;
   so_far = so_far;
-  known = none ∙ sym (ap heading_at opening);
+  known = none ∙ sym (ap opening_at opening);
   to_come = missing;
 }
 
@@ -143,16 +119,16 @@ nothing : (bytes : List ℕ) → length bytes ≡ 0 → bytes ≡ []
 nothing [] none = refl
 nothing (byte ∷ bytes) none = absurd (omega (arith, none))
 
--- a piece without a byte changes no heading
+-- a piece without a byte changes no opening
 pub still : (gone : List FrameValue) (bytes more piece : List ℕ) (before : Progress) (after : CaptureState) (frames : List FrameValue) → length piece ≡ 0
     → record { frames = frames; fault = None; state = after } ≡ prepend before.piece (reading before.capture piece)
-    → IsUnderway gone bytes more before → heading_at after.stage ≡ before.heading
+    → IsUnderway gone bytes more before → opening_at after.stage ≡ before.opening
 still gone bytes more piece before after frames none is at =
     let all : at.read ++ piece ≡ at.read = ap (λ p. at.read ++ p) (nothing piece none) ∙ append-nil at.read in
     let so_far : IsSoFar at.read [] after (gone ++ frames) =
     subst (λ read. IsSoFar read [] after (gone ++ frames)) all (fed gone at.read piece before.capture after before.piece frames at.so_far is) in
     let same : after ≡ before.capture = ap (λ (r : Reading). r.state) so_far ∙ sym (ap (λ (r : Reading). r.state) at.so_far) in
-    ap (λ (s : CaptureState). heading_at s.stage) same ∙ sym at.known
+    ap (λ (s : CaptureState). opening_at s.stage) same ∙ sym at.known
 
 -- and one that stopped the reading of a capture
 fed_stopped : (gone : List FrameValue) (read piece : List ℕ) (state : CaptureState) (old new : List FrameValue) (fault : PcapFault) → IsSoFar read [] state (gone ++ old)
@@ -164,13 +140,13 @@ fed_stopped gone read piece state old new fault at stops =
 -- a piece that stopped the reading
 pub stopped : (gone : List FrameValue) (bytes piece more : List ℕ) (progress : Progress) (frames : List FrameValue) (fault : PcapFault) (at : IsUnderway gone bytes (piece ++ more) progress)
     → (0 < progress.missing → length piece ≤ progress.missing) → Stops (prepend progress.piece (reading progress.capture piece)) frames fault
-    → IsReading bytes more progress.heading (gone ++ frames) (Some fault)
+    → IsReading bytes more progress.opening (gone ++ frames) (Some fault)
 stopped gone bytes piece more progress frames fault at within stops =
     let all = fed_stopped gone at.read piece progress.capture progress.piece frames fault at.so_far stops in record {
       read = at.read ++ piece;
       front = at.front ∙ sym (append_assoc at.read piece more);
       told =
-          stopped_told at.read piece progress.heading (gone ++ frames) fault (so_far_fault at.read progress.capture (gone ++ progress.piece) at.so_far)
+          stopped_told at.read piece progress.opening (gone ++ frames) fault (so_far_fault at.read progress.capture (gone ++ progress.piece) at.so_far)
           (told gone bytes (piece ++ more) progress at) (room gone bytes piece (piece ++ more) progress at within) all;
       ended = stopped_to (at.read ++ piece) more (gone ++ frames) fault all;
     }
@@ -210,59 +186,59 @@ cut gone bytes progress fault at found = record {
       ));
 }
 
-cut_by : (read : List ℕ) (found : Option (Result Heading PcapFault)) → heading_of read ≡ found → (after_heading read found).fault ≡ None → heading_in read None
-    → fault_after (after_heading read found).fault (after_heading read found).state ≡ Some Truncated
+cut_by : (read : List ℕ) (found : Option (Result Opening PcapFault)) → opening_of read ≡ found → (after_opening read found).fault ≡ None → opening_in read None
+    → fault_after (after_opening read found).fault (after_opening read found).state ≡ Some Truncated
 cut_by read None e none missing = refl
 cut_by read (Some (Err fault)) e none missing = absurd cc
-cut_by read (Some (Ok heading)) e none missing = absurd (missing heading e)
+cut_by read (Some (Ok opening)) e none missing = absurd (missing opening e)
 
--- without a heading, and without a fault, the end of the bytes is one
-cut_heading : (read : List ℕ) → (capture read).fault ≡ None → heading_in read None → fault_in read ≡ Some Truncated
+-- without a opening, and without a fault, the end of the bytes is one
+cut_opening : (read : List ℕ) → (capture read).fault ≡ None → opening_in read None → fault_in read ≡ Some Truncated
 unfolding capture
-cut_heading read none missing = cut_by read (heading_of read) refl none missing
+cut_opening read none missing = cut_by read (opening_of read) refl none missing
 
--- a capture that ends before its heading is there
-pub cut_short : (bytes left : List ℕ) (progress : Progress) → left ≡ [] → progress.heading ≡ None → IsUnderway [] bytes left progress
+-- a capture that ends before its opening is there
+pub cut_short : (bytes left : List ℕ) (progress : Progress) → left ≡ [] → progress.opening ≡ None → IsUnderway [] bytes left progress
     → (frames : List FrameValue) × IsReading bytes left None frames (Some Truncated)
 cut_short bytes left progress over none at =
     let here : IsUnderway [] bytes [] progress = subst (λ more. IsUnderway [] bytes more progress) over at in
-    let found = cut_heading here.read (so_far_fault here.read progress.capture progress.piece here.so_far)
-    (subst (λ heading. heading_in here.read heading) none (told [] bytes [] progress here)) in (
+    let found = cut_opening here.read (so_far_fault here.read progress.capture progress.piece here.so_far)
+    (subst (λ opening. opening_in here.read opening) none (told [] bytes [] progress here)) in (
       progress.piece,
       subst (λ more. IsReading bytes more None progress.piece (Some Truncated)) (sym over)
-          (subst (λ (h : Option Heading). IsReading bytes [] h progress.piece (Some Truncated)) none (cut [] bytes progress Truncated here found)),
+          (subst (λ (h : Option Opening). IsReading bytes [] h progress.piece (Some Truncated)) none (cut [] bytes progress Truncated here found)),
     )
 
--- a reading that ended before the heading was there
-pub unheaded : (bytes more : List ℕ) (before after : Progress) (fault : PcapFault) → before.heading ≡ None → after.heading ≡ before.heading
+-- a reading that ended before the opening was there
+pub unheaded : (bytes more : List ℕ) (before after : Progress) (fault : PcapFault) → before.opening ≡ None → after.opening ≡ before.opening
     → IsEnded [] bytes more after (Some fault) → (frames : List FrameValue) × IsReading bytes more None frames (Some fault)
 unheaded bytes more before after fault none same ended =
-    (after.piece, subst (λ (h : Option Heading). IsReading bytes more h after.piece (Some fault)) (same ∙ none) ended)
+    (after.piece, subst (λ (h : Option Opening). IsReading bytes more h after.piece (Some fault)) (same ∙ none) ended)
 
--- a capture whose records come has its heading from then on
-pub stays_records : (heading : Heading) (state after : CaptureState) (piece : List ℕ) (old new : List FrameValue) → state.stage ≡ Records heading
-    → record { frames = new; fault = None; state = after } ≡ prepend old (reading state piece) → after.stage ≡ Records heading
-stays_records heading state after piece old new records is =
-    let by : reading state piece ≡ read_on (Records heading) (state.rest ++ piece) = ap (λ s. read_on s (state.rest ++ piece)) records in
-    let none = sym (ap (λ (r : Reading). r.fault) by) ∙ sym (ap (λ (r : Reading). r.fault) is) in
-    ap (λ (r : Reading). r.state.stage) is ∙ ap (λ (r : Reading). r.state.stage) by ∙ records_stage heading (state.rest ++ piece) none
+kept_by : (opening : Opening) (bytes : List ℕ) (stage : Stage) → opening_at stage ≡ Some opening → (read_on stage bytes).fault ≡ None → opening_at (read_on stage bytes).state.stage ≡ opening_at stage
+kept_by opening bytes Unopened known none = absurd cc
+kept_by opening bytes (Records heading) known none = ap (λ s. opening_at (classic_stage s)) (records_stage heading bytes none)
+kept_by opening bytes (Sections section) known none = ap (λ b. opening_at (newer_stage b (newer.blocks section bytes).state.section)) (blocks_whole section bytes none)
+kept_by opening bytes Broken known none = absurd cc
 
-pub stage_of : (stage : Stage) (heading : Heading) → heading_at stage ≡ Some heading → stage ≡ Records heading
-stage_of Opening heading is = absurd cc
-stage_of (Records other) heading is = cc
-stage_of Broken heading is = absurd cc
+-- a capture whose opening is known has it from then on
+pub stays_opened : (opening : Opening) (state after : CaptureState) (piece : List ℕ) (old new : List FrameValue) → opening_at state.stage ≡ Some opening
+    → record { frames = new; fault = None; state = after } ≡ prepend old (reading state piece) → opening_at after.stage ≡ Some opening
+stays_opened opening state after piece old new known is =
+    let none : (reading state piece).fault ≡ None = sym (ap (λ (r : Reading). r.fault) is) in
+    ap (λ (r : Reading). opening_at r.state.stage) is ∙ kept_by opening (state.rest ++ piece) state.stage known none ∙ known
 
 -- What was read, its frames, and those that memory was not there for.
-pub record IsFrontRead (bytes more : List ℕ) (heading : Heading) (frames : List FrameValue) : Type 0 where
+pub record IsFrontRead (bytes more : List ℕ) (opening : Opening) (frames : List FrameValue) : Type 0 where
   pub read : List ℕ
   pub others : List FrameValue
   pub front : bytes ≡ read ++ more
-  pub headed : heading_of read ≡ Some (Ok heading)
+  pub headed : opening_of read ≡ Some (Ok opening)
   pub parted : (capture read).frames ≡ frames ++ others
 
-told_heading : (read : List ℕ) (heading : Heading) (fault : Option PcapFault) → IsHeadingTold read (Some heading) fault → heading_of read ≡ Some (Ok heading)
-told_heading read heading fault (inl told) = told
-told_heading read heading fault (inr none) = absurd cc
+told_opening : (read : List ℕ) (opening : Opening) (fault : Option PcapFault) → IsOpeningTold read (Some opening) fault → opening_of read ≡ Some (Ok opening)
+told_opening read opening fault (inl told) = told
+told_opening read opening fault (inr none) = absurd cc
 
 rest_frames : (read more : List ℕ) (fault : PcapFault) → (more ≡ []) ⊎ ((capture read).fault ≡ Some fault) → (capture (read ++ more)).frames ≡ (capture read).frames
 rest_frames read more fault (inl nothing) = ap (λ all. (capture all).frames) (ap (λ m. read ++ m) nothing ∙ append-nil read)
@@ -274,41 +250,41 @@ frames_read read more frames (Some fault) (inl unread) = ([], sym unread.1 ∙ s
 frames_read read more frames (Some fault) (inr (inl memory)) = (memory.1.0, sym memory.1.1)
 frames_read read more frames (Some fault) (inr (inr stands)) = ([], sym (stands.0 ∙ rest_frames read more fault stands.2) ∙ sym (append-nil frames))
 
-pub front_ended : (bytes more : List ℕ) (heading : Heading) (frames : List FrameValue) (fault : Option PcapFault) → IsReading bytes more (Some heading) frames fault
-    → IsFrontRead bytes more heading frames
-front_ended bytes more heading frames fault reading =
+pub front_ended : (bytes more : List ℕ) (opening : Opening) (frames : List FrameValue) (fault : Option PcapFault) → IsReading bytes more (Some opening) frames fault
+    → IsFrontRead bytes more opening frames
+front_ended bytes more opening frames fault reading =
     let parts = frames_read reading.read more frames fault reading.ended in record {
       read = reading.read;
       others = parts.0;
       front = reading.front;
-      headed = told_heading reading.read heading fault reading.told;
+      headed = told_opening reading.read opening fault reading.told;
       parted = parts.1;
     }
 
-pub front_underway : (gone : List FrameValue) (bytes more : List ℕ) (progress : Progress) (heading : Heading) → progress.heading ≡ Some heading → IsUnderway gone bytes more progress
-    → IsFrontRead bytes more heading (gone ++ progress.piece)
-front_underway gone bytes more progress heading is at = record {
+pub front_underway : (gone : List FrameValue) (bytes more : List ℕ) (progress : Progress) (opening : Opening) → progress.opening ≡ Some opening → IsUnderway gone bytes more progress
+    → IsFrontRead bytes more opening (gone ++ progress.piece)
+front_underway gone bytes more progress opening is at = record {
   read = at.read;
   others = [];
   front = at.front;
-  headed = subst (λ (h : Option Heading). heading_in at.read h) is (told gone bytes more progress at);
+  headed = subst (λ (h : Option Opening). opening_in at.read h) is (told gone bytes more progress at);
   parted = sym (so_far_frames at.read progress.capture (gone ++ progress.piece) at.so_far) ∙ sym (append-nil (gone ++ progress.piece));
 }
 
 -- where no fault was found so far, all frames that were read are there
-pub whole_underway : (gone : List FrameValue) (bytes more : List ℕ) (progress : Progress) (heading : Heading) → progress.heading ≡ Some heading → IsUnderway gone bytes more progress
-    → (read : List ℕ) × (bytes ≡ read ++ more) × (heading_of read ≡ Some (Ok heading)) × ((capture read).frames ≡ gone ++ progress.piece)
-whole_underway gone bytes more progress heading is at =
-    (at.read, at.front, subst (λ (h : Option Heading). heading_in at.read h) is (told gone bytes more progress at), sym (so_far_frames at.read progress.capture (gone ++ progress.piece) at.so_far))
+pub whole_underway : (gone : List FrameValue) (bytes more : List ℕ) (progress : Progress) (opening : Opening) → progress.opening ≡ Some opening → IsUnderway gone bytes more progress
+    → (read : List ℕ) × (bytes ≡ read ++ more) × (opening_of read ≡ Some (Ok opening)) × ((capture read).frames ≡ gone ++ progress.piece)
+whole_underway gone bytes more progress opening is at =
+    (at.read, at.front, subst (λ (h : Option Opening). opening_in at.read h) is (told gone bytes more progress at), sym (so_far_frames at.read progress.capture (gone ++ progress.piece) at.so_far))
 
 -- the same, whatever a call that reads a piece came to
-pub front_read : (gone : List FrameValue) (bytes more : List ℕ) (progress : Progress) (heading : Heading) (result : Result Bool PcapFault) → progress.heading ≡ Some heading
-    → IsReadOn gone bytes more progress result → IsFrontRead bytes more heading (gone ++ progress.piece)
-front_read gone bytes more progress heading (Ok true) is at = front_underway gone bytes more progress heading is at
-front_read gone bytes more progress heading (Ok false) is at =
-    front_ended bytes more heading (gone ++ progress.piece) None (subst (λ (h : Option Heading). IsReading bytes more h (gone ++ progress.piece) None) is at)
-front_read gone bytes more progress heading (Err fault) is at =
-    front_ended bytes more heading (gone ++ progress.piece) (Some fault) (subst (λ (h : Option Heading). IsReading bytes more h (gone ++ progress.piece) (Some fault)) is at)
+pub front_read : (gone : List FrameValue) (bytes more : List ℕ) (progress : Progress) (opening : Opening) (result : Result Bool PcapFault) → progress.opening ≡ Some opening
+    → IsReadOn gone bytes more progress result → IsFrontRead bytes more opening (gone ++ progress.piece)
+front_read gone bytes more progress opening (Ok true) is at = front_underway gone bytes more progress opening is at
+front_read gone bytes more progress opening (Ok false) is at =
+    front_ended bytes more opening (gone ++ progress.piece) None (subst (λ (h : Option Opening). IsReading bytes more h (gone ++ progress.piece) None) is at)
+front_read gone bytes more progress opening (Err fault) is at =
+    front_ended bytes more opening (gone ++ progress.piece) (Some fault) (subst (λ (h : Option Opening). IsReading bytes more h (gone ++ progress.piece) (Some fault)) is at)
 
 whole_read_to : (read more : List ℕ) (frames : List FrameValue) (fault : Option PcapFault) → ¬ (fault ≡ Some pcaps.NoMemory) → IsReadTo read more frames fault → (capture read).frames ≡ frames
 whole_read_to read more frames None well ended = sym ended.1
@@ -316,10 +292,10 @@ whole_read_to read more frames (Some fault) well (inl failed) = sym failed.1
 whole_read_to read more frames (Some fault) well (inr (inl starved)) = absurd (well (ap Some starved.0))
 whole_read_to read more frames (Some fault) well (inr (inr stands)) = sym (stands.0 ∙ rest_frames read more fault stands.2)
 
-whole_ended : (bytes more : List ℕ) (heading : Heading) (frames : List FrameValue) (fault : Option PcapFault) → ¬ (fault ≡ Some pcaps.NoMemory) → IsReading bytes more (Some heading) frames fault
-    → (read : List ℕ) × (bytes ≡ read ++ more) × (heading_of read ≡ Some (Ok heading)) × ((capture read).frames ≡ frames)
-whole_ended bytes more heading frames fault well reading =
-    (reading.read, reading.front, told_heading reading.read heading fault reading.told, whole_read_to reading.read more frames fault well reading.ended)
+whole_ended : (bytes more : List ℕ) (opening : Opening) (frames : List FrameValue) (fault : Option PcapFault) → ¬ (fault ≡ Some pcaps.NoMemory) → IsReading bytes more (Some opening) frames fault
+    → (read : List ℕ) × (bytes ≡ read ++ more) × (opening_of read ≡ Some (Ok opening)) × ((capture read).frames ≡ frames)
+whole_ended bytes more opening frames fault well reading =
+    (reading.read, reading.front, told_opening reading.read opening fault reading.told, whole_read_to reading.read more frames fault well reading.ended)
 
 some_fault : (fault : PcapFault) → is_starved fault ≡ false → ¬ (Some fault ≡ Some pcaps.NoMemory)
 some_fault fault well same =
@@ -328,11 +304,11 @@ some_fault fault well same =
     absurd cc
 
 -- where memory did not run out, all frames that were read are there, whatever reading came to
-pub whole_read : (gone : List FrameValue) (bytes more : List ℕ) (progress : Progress) (heading : Heading) (result : Result Bool PcapFault) → progress.heading ≡ Some heading → is_starving result ≡ false
+pub whole_read : (gone : List FrameValue) (bytes more : List ℕ) (progress : Progress) (opening : Opening) (result : Result Bool PcapFault) → progress.opening ≡ Some opening → is_starving result ≡ false
     → IsReadOn gone bytes more progress result
-    → (read : List ℕ) × (bytes ≡ read ++ more) × (heading_of read ≡ Some (Ok heading)) × ((capture read).frames ≡ gone ++ progress.piece)
-whole_read gone bytes more progress heading (Ok true) is well at = whole_underway gone bytes more progress heading is at
-whole_read gone bytes more progress heading (Ok false) is well at =
-    whole_ended bytes more heading (gone ++ progress.piece) None (λ e. cc) (subst (λ (h : Option Heading). IsReading bytes more h (gone ++ progress.piece) None) is at)
-whole_read gone bytes more progress heading (Err fault) is well at =
-    whole_ended bytes more heading (gone ++ progress.piece) (Some fault) (some_fault fault well) (subst (λ (h : Option Heading). IsReading bytes more h (gone ++ progress.piece) (Some fault)) is at)
+    → (read : List ℕ) × (bytes ≡ read ++ more) × (opening_of read ≡ Some (Ok opening)) × ((capture read).frames ≡ gone ++ progress.piece)
+whole_read gone bytes more progress opening (Ok true) is well at = whole_underway gone bytes more progress opening is at
+whole_read gone bytes more progress opening (Ok false) is well at =
+    whole_ended bytes more opening (gone ++ progress.piece) None (λ e. cc) (subst (λ (h : Option Opening). IsReading bytes more h (gone ++ progress.piece) None) is at)
+whole_read gone bytes more progress opening (Err fault) is well at =
+    whole_ended bytes more opening (gone ++ progress.piece) (Some fault) (some_fault fault well) (subst (λ (h : Option Opening). IsReading bytes more h (gone ++ progress.piece) (Some fault)) is at)

@@ -1,26 +1,24 @@
 -- What is read of a capture that a device gives.
-use Rattle.std.specs.Prelude.{◌≡◌, ◌≢◌, ◌⊎◌, ◌↔◌, ℕ, ◌+◌, ◌-◌, ◌*◌, ◌≤◌, ◌<◌, Bool, true, false, List, [], ◌++◌, length, Option, None, Some, Result, Ok, Err, OnOk}
+use Rattle.std.specs.Prelude.{◌≡◌, ◌≢◌, ◌⊎◌, ◌↔◌, ℕ, ◌-◌, ◌≤◌, ◌<◌, Bool, true, false, List, [], ◌++◌, length, Option, None, Some, Result, Ok, Err, OnOk}
 use Rattle.pcap_capture.specs.Counts.{IsOfReads}
 use Rattle.pcap_capture.specs.Frames.{FrameValue}
-use Rattle.pcap_capture.specs.Grammar.{IsSoFar, capture, fault_in, heading_of}
 use Rattle.pcap_capture.specs.Takings.{is_read_fault}
 use Rattle.pcap_capture.specs.declared.fault.PcapFault.{PcapFault}
-use Rattle.pcap_capture.specs.declared.fault.PcapFault.TheVariants.{NotPcap, IsPcapng, BadVersion, LinkType, RecordTooLong, Truncated, ReadFault, WriteFault, NoMemory, Failed}
-use Rattle.pcap_capture.specs.declared.heading.Heading.{Heading}
-use Rattle.pcap_capture.specs.declared.stage.Stage.{Stage}
-use Rattle.pcap_capture.specs.declared.stage.Stage.TheVariants.{Opening, Records, Broken}
+use Rattle.pcap_capture.specs.declared.fault.PcapFault.TheVariants.{ReadFault, WriteFault, NoMemory}
+use Rattle.capture_reader.specs.Formats.{IsSoFar, capture, fault_in, opening_at, opening_of}
+use Rattle.capture_reader.specs.declared.opening.Opening.{Opening}
 use Rattle.capture_reader.specs.declared.reading.Read.{Read}
 use Rattle.capture_reader.specs.declared.reading.Read.TheVariants.{Full, Last, Short, Failed as ReadFailed}
 use Rattle.capture_reader.specs.declared.reading.Progress.{Progress}
 
--- the heading at the front of the bytes of a capture, if it is there whole and one that is read
-abbrev pub heading_in : List ℕ → Option Heading → Type 0
-heading_in bytes None = (heading : Heading) → heading_of bytes ≢ Some (Ok heading)
-heading_in bytes (Some heading) = heading_of bytes ≡ Some (Ok heading)
+-- what stands before the first frame of a capture, if that is there whole and one that is read
+abbrev pub opening_in : List ℕ → Option Opening → Type 0
+opening_in bytes None = (opening : Opening) → opening_of bytes ≢ Some (Ok opening)
+opening_in bytes (Some opening) = opening_of bytes ≡ Some (Ok opening)
 
--- The heading that is told of bytes that were read: the one that stands there, or none where memory ran out.
-abbrev pub IsHeadingTold : List ℕ → Option Heading → Option PcapFault → Type 0
-IsHeadingTold read heading fault = heading_in read heading ⊎ ((heading ≡ None) × (fault ≡ Some NoMemory))
+-- The opening that is told of bytes that were read: the one that stands there, or none where memory ran out.
+abbrev pub IsOpeningTold : List ℕ → Option Opening → Option PcapFault → Type 0
+IsOpeningTold read opening fault = opening_in read opening ⊎ ((opening ≡ None) × (fault ≡ Some NoMemory))
 
 -- All of a capture was read, up to its end or to the first fault that stands in it; or the device failed behind some of
 -- its bytes; or memory ran out.
@@ -32,32 +30,26 @@ IsReadTo read more frames (Some fault) =
     ⊎ ((frames ≡ (capture (read ++ more)).frames) × (fault_in (read ++ more) ≡ Some fault)
     × ((more ≡ []) ⊎ ((capture read).fault ≡ Some fault)))
 
--- what was read of bytes: the front of them, its heading, its frames, and what ended the reading
-pub record IsReading (bytes more : List ℕ) (heading : Option Heading) (frames : List FrameValue)
+-- what was read of bytes: the front of them, its opening, its frames, and what ended the reading
+pub record IsReading (bytes more : List ℕ) (opening : Option Opening) (frames : List FrameValue)
     (fault : Option PcapFault) : Type 0 where
   pub read : List ℕ
   pub front : bytes ≡ read ++ more
-  pub told : IsHeadingTold read heading fault
+  pub told : IsOpeningTold read opening fault
   pub ended : IsReadTo read more frames fault
 
--- the heading of a capture that is being read, once it is there
-abbrev pub heading_at : Stage → Option Heading
-heading_at Opening = None
-heading_at (Records heading) = Some heading
-heading_at Broken = None
-
--- What was read of bytes in which no fault was found so far: the front of them, the heading once it is there, how many
--- bytes of it are still to come, and the frames, of which these were taken out.
+-- What was read of bytes in which no fault was found so far: the front of them, the opening once it is known, how many
+-- bytes of as many as a heading has are still to come, and the frames, of which these were taken out.
 pub record IsUnderway (gone : List FrameValue) (bytes more : List ℕ) (progress : Progress) : Type 0 where
   pub read : List ℕ
   pub front : bytes ≡ read ++ more
   pub so_far : IsSoFar read [] progress.capture (gone ++ progress.piece)
-  pub known : progress.heading ≡ heading_at progress.capture.stage
+  pub known : progress.opening ≡ opening_at progress.capture.stage
   pub to_come : progress.missing ≡ 24 - length read
 
 -- a reading that ended with this fault, or at the capture's end
 abbrev pub IsEnded : List FrameValue → List ℕ → List ℕ → Progress → Option PcapFault → Type 0
-IsEnded gone bytes more progress fault = IsReading bytes more progress.heading (gone ++ progress.piece) fault
+IsEnded gone bytes more progress fault = IsReading bytes more progress.opening (gone ++ progress.piece) fault
 
 -- what a call that reads a piece comes to: more may come, or it ended
 abbrev pub IsReadOn : List FrameValue → List ℕ → List ℕ → Progress → Result Bool PcapFault → Type 0
@@ -79,18 +71,10 @@ is_full_by Short = false
 is_full_by Last = false
 is_full_by (ReadFailed fault) = false
 
--- of how many bytes the frames and the rest are made at least: a frame has sixteen bytes of its own
-abbrev pub bytes_of : Progress → ℕ
-bytes_of progress = 16 * length progress.piece + length progress.capture.rest
-
--- and how many there may be, where a device answers so many calls more: each gives 65,536 bytes at most
-abbrev pub most_bytes : Progress → ℕ → ℕ
-most_bytes progress calls = bytes_of progress + 65536 * calls
-
--- once the heading of a capture is known, it stays
-abbrev pub IsHeadingKept : Progress → Progress → Type 0
-IsHeadingKept before after = (heading : Heading) → before.capture.stage ≡ Records heading
-    → before.heading ≡ Some heading → after.heading ≡ Some heading
+-- once the opening of a capture is known, it stays
+abbrev pub IsOpeningKept : Progress → Progress → Type 0
+IsOpeningKept before after = (opening : Opening) → opening_at before.capture.stage ≡ Some opening
+    → before.opening ≡ Some opening → after.opening ≡ Some opening
 
 -- whether a piece was there, if only one of no byte
 abbrev pub piece_by : Result ℕ PcapFault → Result Bool PcapFault
@@ -110,8 +94,7 @@ pub record IsPieceRead {A : Type 0} (tells : A → Type 0) (left : A → List �
     (before after : Progress) (result : Result Bool PcapFault) (is_full : Bool) : Type 0 where
   pub missing : after.missing ≤ before.missing
   pub fewer : OnOk result (calls new < calls old)
-  pub stays : IsHeadingKept before after
-  pub few : most_bytes after (calls new) ≤ most_bytes before (calls old)
+  pub stays : IsOpeningKept before after
   pub told : tells old → tells new
   pub read : (gone : List FrameValue) (bytes : List ℕ) → tells old → IsUnderway gone bytes (left old) before
       → IsReadOn gone bytes (left new) after result
@@ -125,26 +108,17 @@ pub record IsTakenOut (piece : List FrameValue) (old new : Progress) : Type 0 wh
   pub taken : piece ≡ old.piece
   pub none : new.piece ≡ []
   pub missing : new.missing ≡ old.missing
-  pub heading : new.heading ≡ old.heading
+  pub opening : new.opening ≡ old.opening
   pub full : new.is_full ≡ old.is_full
-  pub few : 16 * length piece + bytes_of new ≡ bytes_of old
   pub read : (gone : List FrameValue) (bytes more : List ℕ) → IsUnderway gone bytes more old
       → IsUnderway (gone ++ piece) bytes more new
   pub ended : (gone : List FrameValue) (bytes more : List ℕ) (fault : Option PcapFault)
-      → IsEnded gone bytes more old fault → IsReading bytes more old.heading (gone ++ piece) fault
+      → IsEnded gone bytes more old fault → IsReading bytes more old.opening (gone ++ piece) fault
 
 -- whether memory ran out
 abbrev pub is_starved : PcapFault → Bool
-is_starved NotPcap = false
-is_starved IsPcapng = false
-is_starved BadVersion = false
-is_starved (LinkType number) = false
-is_starved (RecordTooLong count) = false
-is_starved Truncated = false
-is_starved ReadFault = false
-is_starved WriteFault = false
 is_starved NoMemory = true
-is_starved Failed = false
+is_starved _ = false
 
 -- whether memory ran out where a piece was read
 abbrev pub is_starving : Result Bool PcapFault → Bool

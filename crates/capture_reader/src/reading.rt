@@ -1,15 +1,16 @@
-ghost use Rattle.std.specs.Prelude.{◌≡◌, ◌↔◌, ◌≤◌, ◌<◌, ◌+◌, ◌*◌, ℕ, List, [], ◌++◌, length, false, true, IsTrue};
+ghost use Rattle.std.specs.Prelude.{◌≡◌, ◌↔◌, ◌≤◌, ◌<◌, ℕ, List, [], ◌++◌, false, true, IsTrue};
 ghost use Rattle.std.specs.Prelude.{None, Some, Option, Ok, Err, IfErr, IfOk, MatchResult, OnErr};
 ghost use Rattle.pcap_capture.specs.Frames.{FrameValue};
 ghost use Rattle.capture_reader.specs.Readings.{IsPieceRead, IsReadOn, IsReading, IsTakenOut, IsUnderway};
-ghost use Rattle.capture_reader.specs.Readings.{bytes_of, heading_at, is_full_by, most_bytes, piece_by, read_by};
+ghost use Rattle.capture_reader.specs.Readings.{is_full_by, piece_by, read_by};
 ghost use Rattle.capture_reader.specs.Readings.{is_starved, is_starving};
 ghost use Rattle.pcap_capture.specs.Counts.{IsOfReads};
 ghost use Rattle.pcap_capture.specs.Takings.{is_own, is_read_fault};
 ghost use Rattle.pcap_capture.specs.declared.fault.PcapFault.{PcapFault};
-ghost use Rattle.pcap_capture.specs.declared.heading.Heading.{Heading};
 
-use pcap_capture::{Capture, Heading, Intake, PIECE, PcapFault, Piece, Stage};
+use crate::capture::Capture;
+use crate::opening::Opening;
+use pcap_capture::{Intake, PIECE, PcapFault, Piece};
 use std::alloc::Global;
 
 /// The size of a heading, in bytes.
@@ -19,9 +20,9 @@ const HEADING: usize = 24;
 #[derive(Drop)]
 pub struct Progress {
     capture: Capture,
-    /// Its heading, once that is there whole.
-    heading: Option<Heading>,
-    /// How many bytes of the heading are still to come, 0 to 24.
+    /// What stands before its first frame, once that is known.
+    opening: Option<Opening>,
+    /// How many bytes of as many as a heading has are still to come, 0 to 24.
     missing: usize,
     /// The frames that are there whole and were not taken out.
     piece: Piece,
@@ -29,17 +30,7 @@ pub struct Progress {
     is_full: bool,
 }
 
-/// The heading of a capture that was read so far, once it is there.
-fn heading_by(stage: Stage) -> Option<Heading>
-    ensures { result ≡ heading_at stage }
-{
-    match stage {
-        Stage::Records(heading) => Some(heading),
-        Stage::Opening | Stage::Broken => None,
-    }
-}
-
-/// How many bytes are to be taken next: those of the heading that are still to come, or else those of a piece.
+/// How many bytes are to be taken next: those of a heading that are still to come, or else those of a piece.
 fn wanted(missing: usize) -> usize
     ensures some { 0 < result }
     ensures most { missing ≤ 24 → result ≤ 65536 }
@@ -54,9 +45,8 @@ fn finish(progress: &mut Progress) -> Result<bool, PcapFault>
     ensures read { (gone : List FrameValue) (bytes : List ℕ)
         → IsUnderway gone bytes [] progress.old → IsReadOn gone bytes [] progress.new result }
     ensures missing { progress.new.missing ≡ progress.old.missing }
-    ensures heading { progress.new.heading ≡ progress.old.heading }
+    ensures opening { progress.new.opening ≡ progress.old.opening }
     ensures full { progress.new.is_full ≡ progress.old.is_full }
-    ensures few { bytes_of progress.new ≤ bytes_of progress.old }
     ensures fault { IfErr result (λ fault. is_own fault ≡ true) }
     ensures over { ¬ (result ≡ Ok true) }
 {
@@ -66,7 +56,7 @@ fn finish(progress: &mut Progress) -> Result<bool, PcapFault>
     }
 }
 
-/// Takes a piece of a device, which has no byte behind the heading as long as that is to come, and reads it. Answers
+/// Takes a piece of a device, which has no byte behind those of a heading as long as these are to come, and reads it. Answers
 /// how many bytes were taken: none only where no byte is left.
 fn take_piece<I: Intake>(
     alloc: Global,
@@ -77,10 +67,10 @@ fn take_piece<I: Intake>(
     ensures piece { IsPieceRead I.tells I.left I.calls I.failed intake.old intake.new progress.old progress.new
         (piece_by result) progress.new.is_full }
     ensures full { IfOk result (λ taken. (progress.new.is_full ≡ true) ↔ (65536 ≤ taken)) }
-    ensures heading { OnErr result (progress.new.heading ≡ progress.old.heading) }
+    ensures opening { OnErr result (progress.new.opening ≡ progress.old.opening) }
     ensures end { I.tells intake.old → result ≡ Ok 0 → I.left intake.new ≡ [] }
     ensures still { result ≡ Ok 0 → (gone : List FrameValue) (bytes more : List ℕ)
-        → IsUnderway gone bytes more progress.old → progress.new.heading ≡ progress.old.heading }
+        → IsUnderway gone bytes more progress.old → progress.new.opening ≡ progress.old.opening }
 {
     let most = wanted(progress.missing);
     let taken = match progress
@@ -90,13 +80,13 @@ fn take_piece<I: Intake>(
         Ok(taken) => taken,
         Err(fault) => return Err(fault),
     };
-    progress.heading = heading_by(progress.capture.stage());
+    progress.opening = progress.capture.opening();
     progress.missing = progress.missing.saturating_sub(taken);
     progress.is_full = taken >= PIECE;
     Ok(taken)
 }
 
-/// Takes a piece of a device, which has no byte behind the heading as long as that is to come, and reads it, or ends
+/// Takes a piece of a device, which has no byte behind those of a heading as long as these are to come, and reads it, or ends
 /// the capture where no byte is left. Answers whether there was a piece.
 pub fn read_piece<I: Intake>(
     alloc: Global,
@@ -175,27 +165,26 @@ fn ended(end: Result<bool, PcapFault>) -> Read
     }
 }
 
-/// Reads the heading of a capture, by calls of `take` of its own, so that it is known when a record behind it is at
-/// fault.
-pub fn read_heading<I: Intake>(
+/// Reads as many bytes of a capture as a heading has, by calls of `take` of their own, until it is known what stands before
+/// its first frame; so that it is known when a frame behind it is at fault.
+pub fn read_opening<I: Intake>(
     alloc: Global,
     intake: &mut I,
     progress: &mut Progress,
-) -> Result<Heading, PcapFault>
+) -> Result<Opening, PcapFault>
     requires missing { progress.old.missing ≤ 24 }
     ensures missing { progress.new.missing ≤ progress.old.missing }
-    ensures few { most_bytes progress.new (I.calls intake.new) ≤ most_bytes progress.old (I.calls intake.old) }
     ensures told { I.tells intake.old → I.tells intake.new }
     ensures read { (bytes : List ℕ) → I.tells intake.old → IsUnderway [] bytes (I.left intake.old) progress.old
         → MatchResult result
-        (λ heading. IsUnderway [] bytes (I.left intake.new) progress.new × (progress.new.heading ≡ Some heading))
+        (λ opening. IsUnderway [] bytes (I.left intake.new) progress.new × (progress.new.opening ≡ Some opening))
         (λ fault. (frames : List FrameValue) × IsReading bytes (I.left intake.new) None frames (Some fault)) }
     ensures reads { IsOfReads (is_read_fault result) (I.failed intake.old) (I.failed intake.new) (I.calls intake.new) }
     ensures no_write { ¬ (result ≡ Err PcapFault.WriteFault) }
 {
     loop {
-        if let Some(heading) = progress.heading {
-            return Ok(heading);
+        if let Some(opening) = progress.opening {
+            return Ok(opening);
         }
         let taken = match take_piece(alloc, intake, progress) {
             Ok(taken) => taken,
@@ -229,12 +218,11 @@ impl Progress {
     pub fn begin(alloc: Global) -> Self
         ensures missing { result.missing ≡ 24 }
         ensures full { result.is_full ≡ false }
-        ensures few { bytes_of result ≡ 0 }
         ensures begun { (bytes : List ℕ) → IsUnderway [] bytes bytes result }
     {
         Progress {
             capture: Capture::begin(alloc),
-            heading: None,
+            opening: None,
             missing: HEADING,
             piece: Piece::new(alloc),
             is_full: false,

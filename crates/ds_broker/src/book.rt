@@ -9,6 +9,7 @@ ghost use Rattle.ds_domain_base.specs.Fitting.{way_fault};
 ghost use Rattle.ds_domain_base.specs.Lifetimes.{IsInOrder};
 ghost use Rattle.ds_domain_base.specs.Routes.{route_of};
 ghost use Rattle.std.specs.Str.{bytes_eq};
+ghost use Rattle.ds_quotes.specs.Counts.{count_of};
 ghost use Rattle.ds_quotes.specs.Quotes.{others_of, quote_of};
 ghost use Rattle.ds_broker.specs.Books as books;
 ghost use Rattle.ds_broker.specs.Books.{held_of, holding_of, is_history_full, is_table_full, moment_in};
@@ -28,7 +29,7 @@ use crate::shared::SharedTable;
 use ds_certificate::{Bounds, Certificate, bounds_by_route};
 use ds_checker::{Accepted, Candidate, check};
 use ds_domain_base::{Contract, Domain, DomainFault, Field, Kind, Lifetime, Name, Route, Section};
-use ds_quotes::{greatest_without, place_of};
+use ds_quotes::{count_without, greatest_without, place_of};
 use moment_core::Moment;
 use std::alloc::{AllocError, Global};
 use std::collections::HashSet;
@@ -229,6 +230,14 @@ impl Book {
         ensures { result ≡ quote_of (others_of (table_of self.now) contract.now.name) contract.now field }
     {
         greatest_without(self.table(), self.place_of(contract.name), contract, field)
+    }
+
+    /// How many contracts like one would be carried at most beside all that the book holds but the contract of its name,
+    /// itself among them. It changes nothing, and takes no memory.
+    pub fn count_like(&self, contract: &Contract) -> u64
+        ensures { result ≡ count_of (others_of (table_of self.now) contract.now.name) contract.now }
+    {
+        count_without(self.table(), self.place_of(contract.name), contract)
     }
 
     /// The place of the contract of a name in its table, if it holds one. Where it holds none, it looks at no contract.

@@ -31,13 +31,13 @@ unfolding first_failed
 first_failed-failed t tests fails = rw fails refl
 
 -- none fails: the first passes, and none of the others fails
-passes : (t : Test) (tests : List Test) → first_failed (t ∷ tests) ≡ None → IsPassed t × (first_failed tests ≡ None)
+pub passes : (t : Test) (tests : List Test) → first_failed (t ∷ tests) ≡ None → IsPassed t × (first_failed tests ≡ None)
 passes t tests is = elim (cases_Bool (nat_le t.needed t.given)) [
   | inl holds ↦ (leb-true t.needed t.given holds, sym (first_failed-passed t tests holds) ∙ is)
   | inr fails ↦ absurd (none-some (t.refused t.needed t.given) (sym is ∙ first_failed-failed t tests fails))
 ]
 
-passed : (t : Test) (tests : List Test) → IsPassed t → first_failed tests ≡ None → first_failed (t ∷ tests) ≡ None
+pub passed : (t : Test) (tests : List Test) → IsPassed t → first_failed tests ≡ None → first_failed (t ∷ tests) ≡ None
 passed t tests low none = first_failed-passed t tests (le-leb t.needed t.given low) ∙ none
 
 parts : (xs ys : List Test) → first_failed (xs ++ ys) ≡ None → (first_failed xs ≡ None) × (first_failed ys ≡ None)
@@ -175,7 +175,7 @@ carried name m shares met = passed _ _ met.0.0 (passed _ _ met.0.1 (passed _ _ m
 abbrev pub CarriesAt : Domain → List Contract → List (List Bound) → List ℕ × Meter → Type 0
 CarriesAt d contracts rows entry = Carries entry.1 (shares_at d entry.0 contracts rows)
 
-all_carry : (d : Domain) (contracts : List Contract) (rows : List (List Bound)) (meters : List (List ℕ × Meter))
+pub all_carry : (d : Domain) (contracts : List Contract) (rows : List (List Bound)) (meters : List (List ℕ × Meter))
     → first_failed (table_tests d contracts rows meters) ≡ None → All (CarriesAt d contracts rows) meters
 unfolding table_tests
 all_carry d contracts rows [] is = All-nil (CarriesAt d contracts rows)

@@ -27,7 +27,6 @@ use Rattle.ds_checker.specs.Tests.{first_failed}
 use Rattle.ds_checker.specs.declared.load.Loads.{Loads}
 use Rattle.ds_checker.specs.declared.refusal.Refusal.{Refusal}
 use Rattle.ds_checker.proofs.ChangeLaws.{acceptable-taken, kept-below, kept-long, kept-taken, refused-lasting, rows_long, shape_at, sums-taken, sums_pass}
-use Rattle.ds_checker.proofs.LoadLaws.{AreBelow-more}
 use Rattle.ds_checker.proofs.RoutedLaws.{routed-added, routed-brought, routed-inside, routed-least}
 use Rattle.ds_checker.proofs.RoutedPlaceLaws.{length-with_legs}
 use Rattle.ds_checker.proofs.WalkLaws.{below-on, held-at, walk-tests}
@@ -98,10 +97,10 @@ rest_passed t (Some i) met = sums_pass (without_contract t i) (loads_of (without
 
 -- ---- what is left out was added along its route to what the rest brings
 room_of : (t : Table) (sums : List Loads) (left_out : Option ℕ) → IfSome left_out (λ i. i < length t.contracts) → IsSound t sums → length t.contracts < 2 ^ 64
-    → AllByRecursion (AreBelow (2 ^ 121)) (loads_of (rest_of t left_out))
+    → AllByRecursion (AreBelow (2 ^ 120)) (loads_of (rest_of t left_out))
 room_of t sums left_out inside sound few =
     let rest = rest_of t left_out in
-    AreBelow-more (2 ^ 120) (2 ^ 121) (loads_of rest) (omega arith) (kept-below rest (loads_of rest) (rest_few t left_out inside few) (rest_kept t sums left_out sound))
+    kept-below rest (loads_of rest) (rest_few t left_out inside few) (rest_kept t sums left_out sound)
 
 pub none-left : (t : Table) (sums : List Loads) (left_out : Option ℕ) (brought : Option Brought) → left_out ≡ None → brought ≡ None → IsSound t sums → length t.contracts < 2 ^ 64
     → IsLeft brought (loads_of t) (loads_of (rest_of t left_out))
@@ -170,7 +169,7 @@ beside-made t sums given along left_out c route held inside sound fit is_route i
       is_route = is_route;
       sound = rest-sound t sums left_out inside sound;
       is_sums = is_along;
-      room = subst (AllByRecursion (AreBelow (2 ^ 121))) (sym is_along) (below-on (2 ^ 121) route.legs rest legs_inside left.room);
+      room = subst (AllByRecursion (AreBelow (2 ^ 120))) (sym is_along) (below-on (2 ^ 120) route.legs rest legs_inside left.room);
     }
 
 -- what is found along its route is what stands against the rest with it

@@ -4,6 +4,7 @@ pub mod BoundLaws
 pub mod ChangeLaws
 pub mod CopyLaws
 pub mod CheckLaws
+pub mod GrowthLaws
 pub mod HeadroomLaws
 pub mod HeldLaws
 pub mod HoldLaws

@@ -1,14 +1,16 @@
 -- A table as the route of one contract more sees it, with one of the table's own contracts left out.
-use Rattle.std.specs.Prelude.{◌≡◌, ⊤, ℕ, ◌≤◌, Bool, ◌^◌, List, [], length, nat_eq, take, IfSome, IsTrue, Option, None, Some}
+use Rattle.std.specs.Prelude.{◌≡◌, ⊤, ℕ, ◌≤◌, Bool, ◌^◌, List, [], length, nat_eq, take, bytes_eq, IfSome, IsTrue, Option, None, Some}
 use Rattle.std.specs.List.{AllByRecursion, IsDistinct}
 use Rattle.std.specs.Option.{option_map_or}
-use Rattle.ds_domain_base.specs.Routes.{AreInside, Route, places_of, route_of}
+use Rattle.std.specs.Map.{keys_of}
+use Rattle.ds_domain_base.specs.Routes.{AreInside, IsRoute, Route, places_of, route_of}
 use Rattle.ds_domain_base.specs.declared.contract.Contract.{Contract}
 use Rattle.ds_domain_base.specs.declared.route.Leg.{Leg}
 use Rattle.ds_certificate.specs.Bounds.{fits}
 use Rattle.ds_certificate.specs.Columns.{Bound}
+use Rattle.ds_certificate.specs.Sources.{source_on}
 use Rattle.ds_certificate.specs.declared.source.Source.{Source}
-use Rattle.ds_checker.specs.Acceptance.{Table}
+use Rattle.ds_checker.specs.Acceptance.{IsAcceptable, Table}
 use Rattle.ds_checker.specs.Changes.{without_contract}
 use Rattle.ds_checker.specs.Loads.{Share}
 use Rattle.ds_checker.specs.Routed.{bound_at, sums_on, with_legs}
@@ -52,7 +54,7 @@ with_held (Some held) sums = with_legs held.source held.has_peak held.legs held.
 pub record IsLeft (held : Option Brought) (sums before : List Loads) : Type 0 where
   pub added : sums ≡ with_held held before
   pub once : IfSome held (λ own. IsDistinct nat_eq (places_of own.legs))
-  pub room : AllByRecursion (AreBelow (2 ^ 121)) before
+  pub room : AllByRecursion (AreBelow (2 ^ 120)) before
 
 -- the sums at the meters of legs: those of a table, or what is left of them
 abbrev pub along_of : List Leg → List Loads → Option (List Loads) → List Loads
@@ -69,4 +71,13 @@ pub record IsBeside (t : Table) (left_out : Option ℕ) (c : Contract) (route : 
   pub is_route : route ≡ route_of t.domain c
   pub sound : IsSound (rest_of t left_out) (loads_of (rest_of t left_out))
   pub is_sums : sums ≡ sums_on route.legs (loads_of (rest_of t left_out))
-  pub room : AllByRecursion (AreBelow (2 ^ 121)) sums
+  pub room : AllByRecursion (AreBelow (2 ^ 120)) sums
+
+-- a contract fits the domain of a table that is acceptable: its route comes to no meter twice, it has a rate, and the
+-- names of meters are apart
+pub record IsOffered (o : Offer) : Type 0 where
+  pub acceptable : IsAcceptable o.table
+  pub fit : IsTrue (fits o.table.domain o.contract)
+  pub route : IsRoute (route_of o.table.domain o.contract)
+  pub least : 1 ≤ (source_on o.table.domain (route_of o.table.domain o.contract) o.contract.terms).green.rate
+  pub apart : IsDistinct bytes_eq (keys_of o.table.domain.meters)

@@ -2,6 +2,7 @@ pub mod Acceptance
 pub mod Besides
 pub mod BoundTests
 pub mod Changes
+pub mod Growths
 pub mod Headrooms
 pub mod Holds
 pub mod Loads

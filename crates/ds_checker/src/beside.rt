@@ -8,7 +8,8 @@ ghost use Rattle.ds_certificate.specs.Ranges.{IsModerate};
 ghost use Rattle.ds_domain_base.specs.Lifetimes.{Span};
 ghost use Rattle.ds_domain_base.specs.Routes.{route_of};
 ghost use Rattle.ds_checker.specs.Acceptance.{IsAcceptable, refusal_of};
-ghost use Rattle.ds_checker.specs.Besides.{IsNameless, IsLeft};
+ghost use Rattle.ds_checker.specs.Besides.{IsNameless, IsLeft, IsOffered};
+ghost use Rattle.ds_checker.specs.Growths.{growths_along, growths_of};
 ghost use Rattle.ds_checker.specs.Changes.{lasting, on_terms, with_contract, without_contract};
 ghost use Rattle.ds_checker.specs.Routed.{first_entering};
 ghost use Rattle.ds_checker.specs.Sums.{AreBelow, loads_of};
@@ -16,6 +17,7 @@ ghost use Rattle.ds_checker.specs.Sums.{AreBelow, loads_of};
 use crate::admission::{earlier, place_refusal};
 use crate::along::{Along, Brought, left_along};
 use crate::candidate::Accepted;
+use crate::headroom::{Growth, growth_at};
 use crate::load::{Loads, Share};
 use crate::refusal::Refusal;
 use ds_certificate::{Source, delayed, entering};
@@ -182,6 +184,21 @@ impl<'a> Beside<'a> {
         self.tried(terms, true).is_none()
     }
 
+    /// What is taken at the meters of the contract's path, in its order, where that rest of the table holds the contract
+    /// too, by its least bounds, and where it holds two like it; behind the path's end nothing of nothing. It takes no
+    /// memory.
+    pub fn growths(&self) -> [Growth; 16]
+        ensures value { result ≡ growths_of self.now }
+        ensures offered { IsOffered self.now }
+    {
+        let domain = self.accepted.domain();
+        let _meters = domain.meters();
+        let terms = &self.contract.terms;
+        let entered = Source::along(domain, self.route, terms);
+        let legs = self.route.legs();
+        growths_along(domain, legs, &self.sums, &entered, terms.has_peak())
+    }
+
     /// The first test that fails on these terms; or any that does, where any one will do.
     #[inline(always)]
     fn tried(&self, terms: &Terms, any: bool) -> Option<Refusal>
@@ -218,7 +235,7 @@ fn legs_refusal(
     requires short { length legs.now ≤ 16 }
     requires level { length sums.now ≡ length legs.now }
     requires moderate { IsModerate source.now }
-    requires room { AllByRecursion (AreBelow (2 ^ 121)) sums.now }
+    requires room { AllByRecursion (AreBelow (2 ^ 120)) sums.now }
     ensures first { any ≡ false → result ≡ option_map (λ first. first.1)
         (first_entering domain.now.meters source.now has_peak legs.now sums.now) }
     ensures some { is_some result ≡ is_some
@@ -242,4 +259,33 @@ fn legs_refusal(
     }
     let (_, refusal) = first?;
     Some(refusal)
+}
+
+/// What is taken at the meters of some legs where traffic that enters before the first of them is added by its least bounds
+/// to the sums there, once and twice. Each bound is made of the one before it.
+fn growths_along(
+    domain: &Domain,
+    legs: &[Leg],
+    sums: &Along<'_>,
+    source: &Source,
+    peaked: bool,
+) -> [Growth; 16]
+    requires short { length legs.now ≤ 16 }
+    requires level { length sums.now ≡ length legs.now }
+    requires moderate { IsModerate source.now }
+    requires room { AllByRecursion (AreBelow (2 ^ 120)) sums.now }
+    ensures { result ≡ growths_along domain.now.meters source.now peaked legs.now sums.now }
+{
+    let mut growths = [Growth::NONE; 16];
+    let mut reached = entering(source);
+    for (number, leg) in legs.iter().enumerate() {
+        reached = delayed(source, leg.jitter.gap(), reached);
+        let share = Share {
+            source: *source,
+            bound: reached,
+            has_peak: peaked,
+        };
+        growths[number] = growth_at(domain, leg.place, sums.at(number), &share);
+    }
+    growths
 }

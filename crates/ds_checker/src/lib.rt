@@ -19,6 +19,6 @@ pub mod table;
 pub use acceptance::check;
 pub use beside::{Beside, Rest};
 pub use candidate::{Accepted, Candidate};
-pub use headroom::{Headroom, Utilization};
+pub use headroom::{Growth, Headroom, Utilization};
 pub use refusal::Refusal;
 pub use routed::hold_on_route;

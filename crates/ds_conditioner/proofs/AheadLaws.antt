@@ -1,5 +1,5 @@
 -- What frames send at a port comes to no stop before a head start of the port.
-use Rattle.std.proofs.Common.{◌≡◌, ◌≤◌, ◌+◌, ℕ, true, List, [], ◌∷◌, take, get_or, Option, None, Some, refl, sym, ap, ◌∙◌, subst, arith, position, slice_get, IfSome, bytes_eq}
+use Rattle.std.proofs.Common.{◌≡◌, ◌≤◌, ◌+◌, ℕ, Bool, true, false, cond, List, [], ◌∷◌, take, get_or, Option, None, Some, refl, sym, ap, ◌∙◌, subst, arith, position, slice_get, IfSome, bytes_eq}
 use Rattle.std.proofs.lemmas.Bool.{and_parts}
 use Rattle.std.proofs.lemmas.List.Elements.{All-cons, All-nil}
 use Rattle.std.proofs.lemmas.List.Quantifiers.{position-Some}
@@ -7,6 +7,7 @@ use Rattle.std.proofs.lemmas.Option.{slice_get-get_or}
 use Rattle.std.proofs.lemmas.Slice.Eq.{bytes_eq-Decides}
 use Rattle.af_marker.specs.Summaries.{summary_of}
 use Rattle.af_marker.specs.declared.packet.Header.{Header}
+use Rattle.pcap_capture.specs.Frames.{FrameValue, has_packet, link_in}
 use Rattle.pcap_capture.specs.declared.heading.LinkType.{LinkType}
 use Rattle.ds_domain_base.specs.declared.contract.Contract.{Contract}
 use Rattle.ds_domain_base.specs.declared.parts.Version.{Version}
@@ -16,13 +17,15 @@ use Rattle.meter_fabric_base.proofs.GroundLaws.{found_at}
 use Rattle.flow_classifier.specs.Keys.{key_of}
 use Rattle.ds_domain_base.specs.Versions.{has_ipv6}
 use Rattle.frame_marker.specs.Frames.{header_in}
+use Rattle.frame_marker.specs.Ports.{PortRules, sight_at, sight_in}
 use Rattle.frame_marker.specs.Sights.{flow_of, heeded, sight_by, sight_for, sight_of, takes}
 use Rattle.frame_marker.specs.declared.sight.Sight.{Sight}
+use Rattle.frame_marker.specs.declared.sight.Sight.TheVariants.{Carried}
 use Rattle.ds_conductor_base.proofs.HeadStartLaws.{head_starts_hold}
 use Rattle.ds_conductor_base.specs.Streams.{AreSentAt, ComeFrom}
 use Rattle.ds_conductor_base.specs.Ways.{IsHeadStart}
 use Rattle.ds_conductor_base.specs.declared.sent.Sent.{Sent}
-use Rattle.ds_conditioner.specs.Sendings.{AreAhead, sent_by}
+use Rattle.ds_conditioner.specs.Sendings.{AreAhead, see, sent_by}
 
 module _ (t : Table) (port : List ℕ) where
   abbrev IsOfPort : ℕ → Type 0
@@ -52,14 +55,26 @@ module _ (t : Table) (port : List ℕ) where
   by_header None number moment = All-nil (λ (s : Sent). (moment ≤ s.moment) × IsOfPort s.flow)
   by_header (Some header) number moment = by_flow header (flow_of t.contracts port (key_of header)) number moment refl
 
-  sent_at : (link : LinkType) (bytes : List ℕ) (number moment : ℕ) → AreSentAt t port moment (sent_by (sight_of t.domain.version t.contracts port link bytes) number moment)
+  by_bytes : (link : LinkType) (bytes : List ℕ) (number moment : ℕ) → AreSentAt t port moment (sent_by (sight_of t.domain.version t.contracts port link bytes) number moment)
   unfolding sight_of
-  sent_at link bytes number moment = by_header (heeded (has_ipv6 t.domain.version) (header_in link bytes)) number moment
+  by_bytes link bytes number moment = by_header (heeded (has_ipv6 t.domain.version) (header_in link bytes)) number moment
 
--- the rules of a port's contracts, and a head start of the port
-pub rules_ahead : (t : Table) (version : Version) (contracts : List Contract) (port : List ℕ) (link : LinkType) (view : List ℕ → Sight) (delay : ℕ) → version ≡ t.domain.version
-    → contracts ≡ t.contracts → ((bytes : List ℕ) → view bytes ≡ sight_of version contracts port link bytes) → IsHeadStart t port delay → AreAhead t view delay
-rules_ahead t version contracts port link view delay of own sees ahead bytes number moment =
-    subst (λ (sight : Sight). ComeFrom t (moment + delay) (sent_by sight number moment))
-    (sym (sees bytes ∙ ap (λ v. sight_of v contracts port link bytes) of ∙ ap (λ cs. sight_of t.domain.version cs port link bytes) own))
-    (head_starts_hold t port delay moment (sent_by (sight_of t.domain.version t.contracts port link bytes) number moment) ahead (sent_at t port link bytes number moment))
+  sent_at : (f : FrameValue) (number moment : ℕ) → AreSentAt t port moment (sent_by (see t port f) number moment)
+  sent_at f number moment = by (has_packet f.content)
+    where
+      by : (is : Bool) → AreSentAt t port moment (sent_by (cond is (sight_of t.domain.version t.contracts port (link_in f.content) f.bytes) Carried) number moment)
+      by true = by_bytes (link_in f.content) f.bytes number moment
+      by false = All-nil (λ (s : Sent). (moment ≤ s.moment) × IsOfPort s.flow)
+
+-- what is seen of a frame by the rules of a port's contracts
+pub rules_see : (t : Table) (version : Version) (contracts : List Contract) (port : List ℕ) (rules : PortRules) → version ≡ t.domain.version → contracts ≡ t.contracts
+    → ((link : LinkType) (bytes : List ℕ) → sight_at rules link bytes ≡ sight_of version contracts port link bytes) → (f : FrameValue) → sight_in rules f ≡ see t port f
+rules_see t version contracts port rules of own sees f =
+    ap (λ seen. cond (has_packet f.content) seen Carried)
+    (sees (link_in f.content) f.bytes ∙ ap (λ v. sight_of v contracts port (link_in f.content) f.bytes) of ∙ ap (λ cs. sight_of t.domain.version cs port (link_in f.content) f.bytes) own)
+
+-- and a head start of the port
+pub rules_ahead : (t : Table) (port : List ℕ) (view : FrameValue → Sight) (delay : ℕ) → ((f : FrameValue) → view f ≡ see t port f) → IsHeadStart t port delay → AreAhead t view delay
+rules_ahead t port view delay sees ahead f number moment =
+    subst (λ (sight : Sight). ComeFrom t (moment + delay) (sent_by sight number moment)) (sym (sees f))
+    (head_starts_hold t port delay moment (sent_by (see t port f) number moment) ahead (sent_at t port f number moment))

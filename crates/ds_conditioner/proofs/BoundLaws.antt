@@ -19,6 +19,7 @@ made_bounded moment before after counts tallies made was =
     ap (λ (u : Stream). u.traffic.first) made ∙ passed_all-first before.under_way.traffic (due moment before.under_way.waiting) in
     record {
       records = omega (arith, was.records, ap (λ c. c.records) counts);
+      frames = omega (arith, was.frames, ap (λ c. c.records) counts, ap (λ c. c.frames) counts);
       matched = omega (arith, was.matched, ap (λ c. c.records) counts, ap (λ c. c.matched) counts);
       unmatched = omega (arith, was.unmatched, ap (λ c. c.records) counts, ap (λ c. c.unmatched) counts);
       skipped = omega (arith, was.skipped, ap (λ c. c.records) counts, ap (λ c. c.skipped) counts);

@@ -1,5 +1,5 @@
 -- What becomes of frames that are handed out, as it stands in texts.
-use Rattle.std.proofs.Common.{◌≡◌, ℕ, zero, suc, ◌<◌, List, [], ◌∷◌, ◌++◌, length, get_or, take, drop, zip, flat_map, All, None, Some, refl, sym, ap, subst, ◌∙◌, append-nil, arith, Option, Result, Ok, Err, OnOk, take-append-drop}
+use Rattle.std.proofs.Common.{◌≡◌, ℕ, zero, suc, ◌<◌, List, [], ◌∷◌, ◌++◌, length, get_or, take, drop, zip, flat_map, All, None, Some, refl, sym, ap, subst, ◌∙◌, append-nil, arith, Option, Result, Ok, Err, OnOk}
 use Rattle.std.proofs.lemmas.Grind.{flat_map-append}
 use Rattle.std.proofs.lemmas.List.Elements.{All-head, All-tail}
 use Rattle.af_marker.specs.Summaries.{summary_of}
@@ -17,14 +17,6 @@ use Rattle.ds_conditioner.specs.Stretches.{fated}
 use Rattle.ds_conditioner.specs.declared.fate.Fate.{Fate}
 
 module _ (dscp : ℕ) (bytes : List ℕ) where
-  unmarked_header : (p : PacketStart) (r : Result Header HeaderFault) → None ≡ mark_of p r → take p.start bytes ++ marked_by p.family r dscp (drop p.start bytes) ≡ bytes
-  unmarked_header p (Ok header) none = absurd cc
-  unmarked_header p (Err fault) none = take-append-drop p.start bytes
-
-  unmarked_behind : (p : Option PacketStart) → None ≡ mark_behind p bytes → marked_behind p dscp bytes ≡ bytes
-  unmarked_behind None none = refl
-  unmarked_behind (Some p) none = unmarked_header p (read_header p.family (drop p.start bytes)) none
-
   marked_header : (mark : Mark) (p : PacketStart) (r : Result Header HeaderFault) → Some mark ≡ mark_of p r
       → take p.start bytes ++ marked_by p.family r dscp (drop p.start bytes) ≡ put_in mark dscp bytes
   marked_header mark p (Ok header) is =
@@ -37,12 +29,7 @@ module _ (dscp : ℕ) (bytes : List ℕ) where
   marked_there mark None is = absurd cc
   marked_there mark (Some p) is = marked_header mark p (read_header p.family (drop p.start bytes)) is
 
-  -- a frame without a mark stays as it is
-  pub unmarked : (link : LinkType) → None ≡ mark_in link bytes → marked_frame link dscp bytes ≡ bytes
-  unfolding mark_in marked_frame
-  unmarked link none = unmarked_behind (packet_start link bytes) none
-
-  -- and one that has a mark is marked there
+  -- a frame that has a mark is marked there
   pub marked_in : (link : LinkType) (mark : Mark) → Some mark ≡ mark_in link bytes → marked_frame link dscp bytes ≡ put_in mark dscp bytes
   unfolding mark_in marked_frame
   marked_in link mark is = marked_there mark (packet_start link bytes) is

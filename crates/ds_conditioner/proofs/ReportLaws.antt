@@ -27,11 +27,11 @@ dropped_by Keep coloured red dropped reds kept left_out = kept refl ∙ sym (non
 dropped_by Drop coloured red dropped reds kept left_out = left_out refl ∙ reds
 
 -- the report that counts and the sums of the three colours make
-pub told : (see : List ℕ → Sight) (rule : RedRule) (frames : List FrameValue) (c : Counts) (coloured : List (Sent × Colour)) (dropped : ℕ) (sums : Tallies)
+pub told : (see : FrameValue → Sight) (rule : RedRule) (frames : List FrameValue) (c : Counts) (coloured : List (Sent × Colour)) (dropped : ℕ) (sums : Tallies)
     → AreCounted see frames c → length coloured ≡ length (sent_of see frames) → AreTallied coloured sums
     → (rule ≡ Keep → dropped ≡ 0) → (rule ≡ Drop → dropped ≡ sums.red.packets)
     → (let made : Report = record {
-      records = c.records;
+      records = c.frames;
       marked = c.matched;
       unmatched = c.unmatched;
       skipped = c.skipped;
@@ -44,4 +44,4 @@ pub told : (see : List ℕ → Sight) (rule : RedRule) (frames : List FrameValue
 told see rule frames c coloured dropped sums counted long tallied kept left_out =
     let reds = dropped_by rule coloured sums.red.packets dropped (ap (λ t. t.packets) tallied.red) kept left_out in
     let marked : c.matched ≡ length coloured = counted.matched ∙ sym long in
-    rw (counted.records, marked, counted.unmatched, counted.skipped, counted.unverified, reds, tallied.green, tallied.yellow, tallied.red) refl
+    rw (counted.packets, marked, counted.unmatched, counted.skipped, counted.unverified, reds, tallied.green, tallied.yellow, tallied.red) refl

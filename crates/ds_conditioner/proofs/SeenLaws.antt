@@ -2,7 +2,7 @@
 use Rattle.std.proofs.Common.{◌<◌, List, [], ◌∷◌, ◌++◌, length, length-append, get_or, map, refl, arith}
 use Rattle.std.specs.List.{AllZip}
 use Rattle.std.proofs.lemmas.Slice.Zip.{AllZip-long}
-use Rattle.pcap_capture.specs.Frames.{FrameValue}
+use Rattle.pcap_capture.specs.Frames.{FrameValue, link_in}
 use Rattle.frame_marker.specs.Ports.{seen_by}
 use Rattle.frame_marker.specs.declared.sight.Seen.{Seen}
 use Rattle.ds_conditioner.specs.Conditionings.{AreMarksOf, AreSeenOf}
@@ -34,9 +34,9 @@ pub are_marked : (p : Port) (frames : List FrameValue) (seen : List Seen) → Ar
 are_marked p [] [] all = tt
 are_marked p [] (s ∷ seen) all = absurd all
 are_marked p (f ∷ frames) [] all = absurd all
-are_marked p (f ∷ frames) (s ∷ seen) all = ((p.heading.link, all.0.1), are_marked p frames seen all.1)
+are_marked p (f ∷ frames) (s ∷ seen) all = ((link_in f.content, all.0.1), are_marked p frames seen all.1)
 
 -- what a port sees of frames is seen of them
-pub seen_all : (p : Port) (frames : List FrameValue) → AreSeenOf p frames (map (λ f. seen_by p.classifier p.heading.link f.bytes) frames)
+pub seen_all : (p : Port) (frames : List FrameValue) → AreSeenOf p frames (map (λ f. seen_by p.classifier f) frames)
 seen_all p [] = tt
 seen_all p (f ∷ frames) = ((refl, refl), seen_all p frames)

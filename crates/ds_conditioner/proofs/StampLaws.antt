@@ -9,6 +9,7 @@ use Rattle.pcap_capture.specs.declared.heading.Endianness.TheVariants.{Big, Litt
 use Rattle.pcap_capture.specs.declared.heading.Heading.{Heading}
 use Rattle.pcap_capture.specs.declared.heading.TimeUnit.{TimeUnit}
 use Rattle.pcap_capture.specs.declared.heading.TimeUnit.TheVariants.{Microseconds, Nanoseconds}
+use Rattle.capture_reader.specs.Formats.{capture as whole}
 use Rattle.ds_runs.proofs.RunLaws.{the_run_is_behind}
 use Rattle.ds_conditioner.specs.Laws.{ARunIsBehindEachCapture, StampsAreEarly, sent_in}
 use Rattle.ds_conditioner.proofs.SendableLaws.{frames_can_be_sent}
@@ -64,5 +65,5 @@ stamps_are_early bytes all = by (heading_of bytes)
     by (Some (Ok heading)) = records_early (length (drop 24 bytes)) heading (drop 24 bytes) (All-drop (λ b. b < 256) 24 bytes all)
 
 pub run_behind_capture : ARunIsBehindEachCapture
-run_behind_capture t port link bytes good all few =
-    the_run_is_behind t (sent_in t port link bytes) good (frames_can_be_sent t port link (capture bytes).frames (stamps_are_early bytes all) few)
+run_behind_capture t port bytes good few =
+    the_run_is_behind t (sent_in t port bytes) good (frames_can_be_sent t port (whole bytes).frames few)

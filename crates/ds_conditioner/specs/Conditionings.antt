@@ -1,11 +1,10 @@
 -- Frames between their reading and their writing: seen, held until their colours are decided, and handed out.
-use Rattle.std.specs.Prelude.{◌≡◌, ◌⊎◌, ℕ, suc, ◌+◌, ◌≤◌, ◌^◌, Bool, true, false, List, [], ◌∷◌, ◌++◌, length, max, zip, Option, None, Some, ◌-◌, ◌<◌, All, IsSome, OnErr, OnOk, Result}
+use Rattle.std.specs.Prelude.{◌≡◌, ◌⊎◌, ℕ, suc, ◌+◌, ◌≤◌, ◌^◌, Bool, true, false, List, [], ◌∷◌, ◌++◌, length, max, zip, Option, None, Some, ◌<◌, All, IsSome, OnErr, OnOk, Result}
 use Rattle.std.specs.List.{AllZip}
 use Rattle.moment_core.specs.declared.colour.Colour.{Colour}
-use Rattle.pcap_capture.specs.Frames.{FrameValue}
-use Rattle.pcap_capture.specs.declared.heading.LinkType.{LinkType}
+use Rattle.pcap_capture.specs.Frames.{FrameValue, link_in}
 use Rattle.frame_marker.specs.Marks.{IsMarkOf, mark_in}
-use Rattle.frame_marker.specs.Ports.{sight_at}
+use Rattle.frame_marker.specs.Ports.{sight_in}
 use Rattle.frame_marker.specs.declared.sight.Seen.{Seen}
 use Rattle.frame_marker.specs.declared.sight.Sight.{Sight}
 use Rattle.ds_conductor_base.specs.Passing.{colours_of}
@@ -18,23 +17,23 @@ use Rattle.ds_conditioner.specs.Sendings.{see}
 use Rattle.ds_conditioner.specs.Helds.{HeldValue, IsFirstPacket}
 use Rattle.ds_conditioner.specs.Lots.{LotValue}
 use Rattle.ds_conditioner.specs.Seens.{seen_at}
-use Rattle.ds_conditioner.specs.Sendings.{AreCounted, packet_of, sent_of}
+use Rattle.ds_conditioner.specs.Sendings.{AreCounted, packet_of, sent_of, stamp_of}
 use Rattle.ds_conditioner.specs.Tallies.{AreTallied, AreWithin, grown_all}
 use Rattle.ds_conditioner.specs.Texts.{text_from}
 use Rattle.ds_conditioner.specs.declared.conditioner.Conditioner.{Conditioner}
 use Rattle.ds_conditioner.specs.declared.port.Port.{Port}
 
 -- what a frame is at a port, by its rules
-abbrev pub see_at : Port → List ℕ → Sight
-see_at p bytes = sight_at p.classifier p.heading.link bytes
+abbrev pub see_at : Port → FrameValue → Sight
+see_at p f = sight_in p.classifier f
 
--- this was seen of a frame of these bytes at a port: what it is there, and what marking it needs
-abbrev pub IsSeenOf : Port → List ℕ → Seen → Type 0
-IsSeenOf p bytes seen = (seen.sight ≡ see_at p bytes) × (seen.mark ≡ mark_in p.heading.link bytes)
+-- this was seen of a frame at a port: what it is there, and what marking it needs
+abbrev pub IsSeenOf : Port → FrameValue → Seen → Type 0
+IsSeenOf p f seen = (seen.sight ≡ see_at p f) × (seen.mark ≡ mark_in (link_in f.content) f.bytes)
 
 -- and of each of these frames, in their order
 abbrev pub AreSeenOf : Port → List FrameValue → List Seen → Type 0
-AreSeenOf p frames seen = AllZip (λ f s. IsSeenOf p f.bytes s) frames seen
+AreSeenOf p frames seen = AllZip (λ f s. IsSeenOf p f s) frames seen
 
 -- these are marks that such frames have at some link
 abbrev pub AreMarksOf : List FrameValue → List Seen → Type 0
@@ -47,15 +46,15 @@ IsSeenAtPort p lot = lot.is_seen ≡ true → AreSeenOf p lot.frames lot.seen
 -- the greatest stamp of frames, or this moment, where that is later
 unfoldable pub newest_after : ℕ → List FrameValue → ℕ
 newest_after newest [] = newest
-newest_after newest (f ∷ frames) = newest_after (max newest f.moment) frames
+newest_after newest (f ∷ frames) = newest_after (max newest (stamp_of f)) frames
 
--- frames as they are seen at a link and held, of which the first has this number, and before which this is the greatest
+-- frames as they are seen and held, of which the first has this number, and before which this is the greatest
 -- stamp
-unfoldable pub held_from : LinkType → (List ℕ → Sight) → ℕ → ℕ → List FrameValue → List HeldValue
-held_from link see number newest [] = []
-held_from link see number newest (f ∷ frames) =
-    record { frame = seen_at link f; packet = packet_of (see f.bytes) number (max newest f.moment) }
-    ∷ held_from link see (suc number) (max newest f.moment) frames
+unfoldable pub held_from : (FrameValue → Sight) → ℕ → ℕ → List FrameValue → List HeldValue
+held_from see number newest [] = []
+held_from see number newest (f ∷ frames) =
+    record { frame = seen_at f; packet = packet_of (see f) number (max newest (stamp_of f)) }
+    ∷ held_from see (suc number) (max newest (stamp_of f)) frames
 
 -- The packets that may still be sent: those of later frames at a port, which come to no stop before the greatest stamp so
 -- far and the port's head start; or none.
@@ -63,13 +62,9 @@ abbrev pub MayCome : Bool → Port → ℕ → List Sent → Type 0
 MayCome true p newest back = ComeFrom p.accepted.now (newest + p.ahead) back
 MayCome false p newest back = back ≡ []
 
--- frames are stamped before the last moments
-abbrev pub AreEarly : List FrameValue → Type 0
-AreEarly frames = All (λ f. f.moment < 2 ^ 63 - 2 ^ 40) frames
-
 -- the rules of a port are those of its table's contracts at the port of this name
 abbrev pub IsPortOf : Port → List ℕ → Type 0
-IsPortOf p name = (bytes : List ℕ) → see_at p bytes ≡ see p.accepted.now name p.heading.link bytes
+IsPortOf p name = (f : FrameValue) → see_at p f ≡ see p.accepted.now name f
 
 -- and of some name
 abbrev pub IsSeeing : Port → Type 0
@@ -80,7 +75,6 @@ pub record IsJudging (p : Port) (frames : List FrameValue) (judge : Judging) : T
   pub acceptable : IsAcceptable p.accepted.now
   pub reach : AreInReach p.accepted.now
   pub seeing : IsSeeing p
-  pub early : AreEarly frames
   pub tells : (back : List Sent) → verdict_with (unjudged p.accepted.now) (sent_of (see_at p) frames ++ back)
       ≡ verdict_with judge back
 
@@ -94,8 +88,8 @@ pub record IsConditioned (p : Port) (more : Bool) (frames : List FrameValue) (te
     pub colours : List Colour
     pub parted : frames ≡ gone ++ waiting
     pub paired : length colours ≡ length (sent_of (see_at p) gone)
-    pub written : text ≡ text_from p.accepted.now p.red p.heading.link 0 gone (zip (sent_of (see_at p) gone) colours)
-    pub held : c.held.held ≡ held_from p.heading.link (see_at p) (length gone) (newest_after 0 gone) waiting
+    pub written : text ≡ text_from p.accepted.now p.red 0 gone (zip (sent_of (see_at p) gone) colours)
+    pub held : c.held.held ≡ held_from (see_at p) (length gone) (newest_after 0 gone) waiting
     pub newest : c.newest ≡ newest_after 0 frames
     pub due : c.due ≤ c.newest + p.ahead
     pub table : c.under_way.table ≡ p.accepted.now
@@ -108,6 +102,7 @@ pub record IsConditioned (p : Port) (more : Bool) (frames : List FrameValue) (te
 -- No more packets are under way than frames were seen, and no more of these than 2^44.
 pub record IsBounded (c : Conditioner) : Type 0 where
   pub records : c.counts.records ≤ 2 ^ 44
+  pub frames : c.counts.frames ≤ c.counts.records
   pub matched : c.counts.matched ≤ c.counts.records
   pub unmatched : c.counts.unmatched ≤ c.counts.records
   pub skipped : c.counts.skipped ≤ c.counts.records
@@ -170,4 +165,4 @@ abbrev pub IsFirstTakenIn : {T E : Type 0} → Result T E → Port → Seen → 
 IsFirstTakenIn result p seen old new =
     (f : FrameValue) (others : List FrameValue) → old.held.ahead ≡ f ∷ others
     → OnOk result (new.held.ahead ≡ others)
-    × (IsSeenOf p f.bytes seen → AreSeen result p old new (f ∷ []))
+    × (IsSeenOf p f seen → AreSeen result p old new (f ∷ []))

@@ -25,7 +25,7 @@ use crate::lot::Lot;
 use crate::port::Port;
 use crate::records::add_record;
 use crate::report::Report;
-use crate::sending::{Counts, later, packet_of};
+use crate::sending::{Counts, later, packet_of, stamp_of};
 use crate::stretch::Stretch;
 use crate::tally::Tallies;
 use ds_checker::Accepted;
@@ -36,6 +36,9 @@ use moment_core::{Colour, Moment, PacketSize};
 use pcap_capture::Piece;
 use run_audit::Verdict;
 use std::alloc::{AllocError, Global};
+
+/// As many frames as a book gives places.
+const MOST_RECORDS: u64 = 1 << 44;
 
 /// Frames between the reading and the writing: it sees each once, makes the visits of the packets that they send, and
 /// hands each frame out, in order, once no later frame can change its colour.
@@ -89,7 +92,7 @@ impl<'a> Conditioner<'a> {
         ensures seen { IsFirstSeen result port.now self.old self.new }
         ensures unseen { AreUnseen result port.now self.old self.new }
     {
-        let seen = port.see(self.held.ahead().bytes());
+        let seen = port.see(&self.held.ahead());
         self.take_in(port, seen)
     }
 
@@ -108,7 +111,7 @@ impl<'a> Conditioner<'a> {
         ensures seen { IsFirstTakenIn result port.now seen self.old self.new }
         ensures unseen { AreUnseen result port.now self.old self.new }
     {
-        let moment = later(self.newest, self.held.ahead().moment());
+        let moment = later(self.newest, stamp_of(&self.held.ahead()));
         let packet = packet_of(&seen.sight, self.counts.records, moment);
         self.send(&packet)?;
         self.held.note(seen.mark, packet);
@@ -209,6 +212,14 @@ impl<'a> Conditioner<'a> {
         ensures same { self.new ≡ self.old }
     {
         self.held.spent()
+    }
+
+    /// Whether there is room for so many frames more: 2^44 are seen at the most.
+    pub fn has_room_for(&self, count: usize) -> bool
+        ensures { result ≡ true → self.now.counts.records + count ≤ 2 ^ 44 }
+    {
+        let count = count as u64;
+        count <= MOST_RECORDS && self.counts.records <= MOST_RECORDS - count
     }
 
     /// How many frames were seen.

@@ -1,6 +1,5 @@
 ghost use Rattle.std.specs.Prelude.{◌≡◌, option_copied};
-ghost use Rattle.pcap_capture.specs.Frames.{FrameValue};
-ghost use Rattle.pcap_capture.specs.declared.heading.LinkType.{LinkType};
+ghost use Rattle.pcap_capture.specs.Frames.{FrameValue, link_in};
 ghost use Rattle.frame_marker.specs.Marks.{IsMarkOf, mark_in};
 ghost use Rattle.ds_conditioner.specs.Fates.{IsFateOf, fate_text};
 ghost use Rattle.ds_conditioner.specs.Texts.{record_text, text_in_class};
@@ -28,8 +27,8 @@ pub enum Fate {
 /// What becomes of a frame that has a colour in the class of a contract, if there is one.
 fn fate_in_class(mark: Option<Mark>, contract: Option<&Contract>, colour: Colour) -> Fate
     ensures fits { (f : FrameValue) → IsMarkOf mark f.bytes → IsFateOf f result }
-    ensures text { (link : LinkType) (f : FrameValue) → mark ≡ mark_in link f.bytes
-        → fate_text f result ≡ text_in_class link f colour (option_copied contract.entry) }
+    ensures text { (f : FrameValue) → mark ≡ mark_in (link_in f.content) f.bytes
+        → fate_text f result ≡ text_in_class f colour (option_copied contract.entry) }
 {
     match contract {
         None => Fate::Kept,
@@ -44,8 +43,8 @@ fn fate_in_class(mark: Option<Mark>, contract: Option<&Contract>, colour: Colour
 /// and stays as it came where none was. `mark` is what was seen of it at the port.
 pub(crate) fn fate_of(port: &Port<'_>, mark: Option<Mark>, packet: Option<(Sent, Colour)>) -> Fate
     ensures fits { (f : FrameValue) → IsMarkOf mark f.bytes → IsFateOf f result }
-    ensures text { (f : FrameValue) → mark ≡ mark_in port.now.heading.link f.bytes → fate_text f result
-        ≡ record_text port.now.accepted.now port.now.red port.now.heading.link f packet }
+    ensures text { (f : FrameValue) → mark ≡ mark_in (link_in f.content) f.bytes → fate_text f result
+        ≡ record_text port.now.accepted.now port.now.red f packet }
 {
     let Some((packet, colour)) = packet else {
         return Fate::Kept;

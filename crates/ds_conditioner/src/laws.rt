@@ -7,7 +7,7 @@ pub fn frames_can_be_sent()
     ensures { FramesCanBeSent }
 {}
 
-/// The records of a capture are stamped more than 2^40 nanoseconds before the last moment that there is.
+/// The records of a classic capture are stamped more than 2^40 nanoseconds before the last moment that there is.
 pub fn stamps_are_early()
     ensures { StampsAreEarly }
 {}

@@ -2,7 +2,7 @@ ghost use Rattle.std.specs.Prelude.{◌≡◌, true, false, [], length, MatchOpt
 ghost use Rattle.ds_conditioner.specs.Conditionings.{AreMarksOf, IsSeenAtPort};
 
 use crate::port::Port;
-use crate::sending::later;
+use crate::sending::{later, stamp_of};
 use ds_conductor_base::OrderGuess;
 use frame_marker::{Seen, Sight};
 use moment_core::Moment;
@@ -103,7 +103,7 @@ fn guess_of(alloc: Global, port: &Port<'_>, piece: &Piece, seen: &[Seen]) -> Ord
     let mut guess = OrderGuess::nothing(alloc);
     let mut newest = Moment::new(0).unwrap();
     for place in 0..piece.len().min(seen.len()) {
-        newest = later(newest, piece.frame(place).moment());
+        newest = later(newest, stamp_of(&piece.frame(place)));
         if let Sight::Matched { flow, .. } = seen[place].sight {
             if guess.add(newest, port.timetable.stops(flow)).is_err() {
                 return OrderGuess::nothing(alloc);

@@ -12,10 +12,6 @@ use crate::stretch::Stretch;
 use ds_conductor_base::Gate;
 use std::alloc::{AllocError, Global};
 
-/// As many frames as a device can give that answers 2^32 calls, with 65,536 bytes each, and none has fewer than
-/// sixteen.
-const MOST_RECORDS: u64 = 1 << 44;
-
 /// Hands out the first frames that are held, as far as they are decided, to a stretch in which they come next. Answers
 /// whether no more come in it.
 fn hand_out_all(conditioner: &mut Conditioner<'_>, port: &Port<'_>, stretch: &mut Stretch) -> bool
@@ -80,7 +76,7 @@ pub fn hand_out(
 /// Takes in the frames of a lot and makes the visits that no later packet can come before. Hands out the frames that
 /// are decided then.
 ///
-/// `AllocError` where memory runs out, or where frames were seen that are more than a device can give; some of the
+/// `AllocError` where memory runs out, or where more than 2^44 frames would be seen; some of the
 /// lot's frames are then taken in, and what is decided is lost.
 pub fn pass_lot<G: Gate>(
     conditioner: &mut Conditioner<'_>,
@@ -97,8 +93,7 @@ pub fn pass_lot<G: Gate>(
         (λ handed. IsPassedWhole port.now conditioner.old conditioner.new lot.frames handed)
         (λ _. IsPassedInPart port.now conditioner.old conditioner.new lot.frames []) }
 {
-    let count = lot.len() as u64;
-    if count > MOST_RECORDS || conditioner.records() > MOST_RECORDS - count {
+    if !conditioner.has_room_for(lot.len()) {
         return Err(AllocError);
     }
     conditioner.take_lot(port, lot)?;

@@ -1,17 +1,19 @@
-ghost use Rattle.std.specs.Prelude.{◌≡◌, ◌*◌, ◌≤◌, ◌^◌, ℕ, List, IfOk};
-ghost use Rattle.frame_marker.specs.Ports.{sight_at};
+ghost use Rattle.std.specs.Prelude.{◌≡◌, ◌*◌, ◌≤◌, ◌^◌, ℕ, IfOk};
+ghost use Rattle.pcap_capture.specs.Frames.{FrameValue};
+ghost use Rattle.frame_marker.specs.Ports.{sight_in};
 ghost use Rattle.ds_conditioner.specs.Sendings.{see};
 ghost use Rattle.ds_conditioner.specs.Sendings.{AreAhead};
 ghost use Rattle.ds_conductor_base.specs.Visits.{later};
 ghost use Rattle.ds_conductor_base.specs.Ways.{IsHeadStart};
 
 use crate::rule::RedRule;
+use capture_reader::Opening;
 use ds_checker::Accepted;
 use ds_conductor_base::{Timetable, head_start, later};
 use ds_domain_base::Name;
 use frame_marker::{PortClassifier, Seen};
 use moment_core::{Gap, Moment};
-use pcap_capture::{Heading, Piece};
+use pcap_capture::{Frame, Piece};
 use std::alloc::{AllocError, Global};
 
 /// A port at which the frames of a capture are marked.
@@ -21,15 +23,15 @@ pub struct Port<'a> {
     pub accepted: &'a Accepted,
     /// The rules of its contracts.
     pub classifier: PortClassifier,
-    /// The capture's heading.
-    pub heading: Heading,
+    /// What stands before the capture's first frame.
+    pub opening: Opening,
     /// What becomes of red frames.
     pub red: RedRule,
     /// How long after it was sent a packet comes to its first hop, at the least.
     pub ahead: Gap,
     /// When packets come to their stops, for a guess.
     pub timetable: Timetable,
-    ghost holds: { AreAhead accepted.now (sight_at classifier heading.link) ahead },
+    ghost holds: { AreAhead accepted.now (sight_in classifier) ahead },
 }
 
 impl<'a> Port<'a> {
@@ -40,14 +42,13 @@ impl<'a> Port<'a> {
         alloc: Global,
         accepted: &'a Accepted,
         name: Name,
-        heading: Heading,
+        opening: Opening,
         red: RedRule,
     ) -> Result<Self, AllocError>
         ensures accepted { IfOk result (λ port. port.accepted.now ≡ accepted.now) }
-        ensures heading { IfOk result (λ port. port.heading ≡ heading) }
+        ensures opening { IfOk result (λ port. port.opening ≡ opening) }
         ensures red { IfOk result (λ port. port.red ≡ red) }
-        ensures sees { IfOk result (λ port. (bytes : List ℕ)
-            → see_at port bytes ≡ see accepted.now name heading.link bytes) }
+        ensures sees { IfOk result (λ port. (f : FrameValue) → see_at port f ≡ see accepted.now name f) }
         ensures ahead { IfOk result (λ port. (delay : ℕ) → delay ≤ 16 * 10 ^ 10
             → IsHeadStart accepted.now name delay → delay ≤ port.ahead) }
     {
@@ -58,25 +59,25 @@ impl<'a> Port<'a> {
         Ok(Port {
             accepted,
             classifier,
-            heading,
+            opening,
             red,
             ahead,
             timetable,
         })
     }
 
-    /// What a frame of these bytes is at the port, and what marking it there needs.
-    pub fn see(&self, bytes: &[u8]) -> Seen
-        ensures { IsSeenOf self.now bytes.now result }
+    /// What a frame is at the port, and what marking it needs.
+    pub fn see(&self, frame: &Frame<'_>) -> Seen
+        ensures { IsSeenOf self.now frame.now result }
     {
-        self.classifier.see(self.heading.link, bytes)
+        self.classifier.see_frame(frame)
     }
 
     /// What was seen of the frames of a piece at the port, in their order; `AllocError` where memory runs out.
     pub fn see_all(&self, alloc: Global, piece: &Piece) -> Result<Vec<Seen>, AllocError>
         ensures { IfOk result (λ seen. AreSeenOf self.now piece.now seen.items) }
     {
-        self.classifier.see_all(alloc, self.heading.link, piece)
+        self.classifier.see_all(alloc, piece)
     }
 
     /// The moment before which no later packet comes to a hop, by the greatest stamp so far.

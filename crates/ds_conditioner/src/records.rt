@@ -1,9 +1,11 @@
-ghost use Rattle.std.specs.Prelude.{◌≡◌, ◌++◌, ◌≤◌, OnOk, drop, length, take};
+ghost use Rattle.std.specs.Prelude.{◌≡◌, ◌++◌, ◌+◌, ◌≤◌, OnOk, drop, length, take};
 ghost use Rattle.frame_marker.specs.Frames.{marked_frame};
 ghost use Rattle.meter_fabric_base.specs.Grounds.{contract_of, ground_of};
 ghost use Rattle.pcap_capture.specs.declared.heading.LinkType.{LinkType};
-ghost use Rattle.ds_conditioner.specs.Seens.{IsSeenAt};
-ghost use Rattle.ds_conditioner.specs.Texts.{is_dropped, record_text, text_in_class};
+ghost use Rattle.pcapng_capture.specs.Marks.{marked_text};
+ghost use Rattle.std.specs.List.{slice_range};
+ghost use Rattle.ds_conditioner.specs.Seens.{IsSeen, IsSeenAt};
+ghost use Rattle.ds_conditioner.specs.Texts.{is_dropped, record_text, text_in_class, text_with};
 
 use crate::port::Port;
 use crate::rule::RedRule;
@@ -24,14 +26,15 @@ pub(crate) fn is_dropped(red: RedRule, colour: Colour) -> bool
     }
 }
 
-/// Marks a frame in a text, where its bytes stand from a place on.
-fn mark_from(text: &mut Vec<u8>, start: usize, frame: &SeenFrame<'_>, dscp: Dscp)
-    requires within { start ≤ length text.old.items }
-    requires bytes { drop start text.old.items ≡ frame.now.frame.bytes }
-    ensures { (link : LinkType) → IsSeenAt link frame.now
-        → text.new.items ≡ take start text.old.items ++ marked_frame link dscp (drop start text.old.items) }
+/// Marks a frame in a text, where so many bytes from a place on are its own.
+fn mark_between(text: &mut Vec<u8>, start: usize, size: usize, frame: &SeenFrame<'_>, dscp: Dscp)
+    requires within { start + size ≤ length text.old.items }
+    requires bytes { slice_range text.old.items start (start + size) ≡ frame.now.frame.bytes }
+    ensures { (link : LinkType) → IsSeenAt link frame.now → text.new.items
+        ≡ take start text.old.items
+        ++ (marked_frame link dscp frame.now.frame.bytes ++ drop (start + size) text.old.items) }
 {
-    frame.mark(&mut text.as_mut_slice()[start..], dscp);
+    frame.mark(&mut text.as_mut_slice()[start..start + size], dscp);
 }
 
 /// Adds the record of a frame to a text, marked there with a code point.
@@ -41,12 +44,24 @@ pub(crate) fn add_with(
     dscp: Dscp,
 ) -> Result<(), AllocError>
     ensures { OnOk result ((link : LinkType) → IsSeenAt link frame.now → out.new.items
-        ≡ out.old.items ++ (frame.now.frame.head ++ marked_frame link dscp frame.now.frame.bytes)) }
+        ≡ out.old.items ++ marked_text frame.now.frame (marked_frame link dscp frame.now.frame.bytes)) }
 {
-    out.extend_from_slice(frame.record())?;
-    let start = out.len() - frame.bytes().len();
-    mark_from(out, start, frame, dscp);
+    let before = out.len();
+    frame.copy_to(out)?;
+    let start = before + frame.head().len();
+    mark_between(out, start, frame.bytes().len(), frame, dscp);
     Ok(())
+}
+
+/// Adds the record of a frame to a text, marked there with a code point where its packet has a header that can be read.
+fn add_seen(out: &mut Vec<u8>, frame: &SeenFrame<'_>, dscp: Dscp) -> Result<(), AllocError>
+    ensures { OnOk result (IsSeen frame.now
+        → out.new.items ≡ out.old.items ++ text_with frame.now.frame dscp frame.now.mark) }
+{
+    match frame.seen_mark() {
+        None => out.extend_from_slice(frame.record()),
+        Some(_) => add_with(out, frame, dscp),
+    }
 }
 
 /// Adds the record of a frame to a text, marked there with the code point of a colour in the class of a contract.
@@ -57,13 +72,13 @@ fn add_marked(
     flow: u32,
     colour: Colour,
 ) -> Result<(), AllocError>
-    ensures { OnOk result (IsSeenAt port.now.heading.link frame.now
-        → out.new.items ≡ out.old.items ++ text_in_class port.now.heading.link frame.now.frame colour
+    ensures { OnOk result (IsSeen frame.now
+        → out.new.items ≡ out.old.items ++ text_in_class frame.now.frame colour
         (contract_of (ground_of port.now.accepted.now) flow)) }
 {
     match contract_of(port.accepted, flow) {
         None => out.extend_from_slice(frame.record()),
-        Some(contract) => add_with(out, frame, dscp(contract.class, colour)),
+        Some(contract) => add_seen(out, frame, dscp(contract.class, colour)),
     }
 }
 
@@ -75,9 +90,8 @@ pub fn add_record(
     frame: &SeenFrame<'_>,
     packet: Option<(Sent, Colour)>,
 ) -> Result<(), AllocError>
-    ensures { OnOk result (IsSeenAt port.now.heading.link frame.now → out.new.items
-        ≡ out.old.items ++ record_text port.now.accepted.now port.now.red port.now.heading.link frame.now.frame
-        packet) }
+    ensures { OnOk result (IsSeen frame.now → out.new.items
+        ≡ out.old.items ++ record_text port.now.accepted.now port.now.red frame.now.frame packet) }
 {
     match packet {
         None => out.extend_from_slice(frame.record()),

@@ -1,4 +1,4 @@
-ghost use Rattle.std.specs.Prelude.{◌≡◌, ℕ, List, length};
+ghost use Rattle.std.specs.Prelude.{◌≡◌, List, length};
 ghost use Rattle.moment_core.specs.declared.colour.Colour.{Colour};
 ghost use Rattle.pcap_capture.specs.Frames.{FrameValue};
 ghost use Rattle.frame_marker.specs.declared.sight.Sight.{Sight};
@@ -15,7 +15,7 @@ use run_audit::Verdict;
 /// What is told of a marked capture.
 #[derive(Clone, Copy, Debug, PartialEq, Eq)]
 pub struct Report {
-    /// Frames that were read whole.
+    /// Frames that were read whole, each with its packet.
     pub records: u64,
     /// Frames that a contract takes, and whose packets passed their meters; dropped ones too.
     pub marked: u64,
@@ -68,13 +68,13 @@ fn dropped(rule: RedRule, red: u64) -> u64
 impl Counts {
     /// The report of the frames that were counted, whose packets left with colours that come to these sums.
     pub fn report(&self, rule: RedRule, sums: &Tallies) -> Report
-        ensures records { result.records ≡ self.now.records }
-        ensures told { (see : List ℕ → Sight) (frames : List FrameValue) (coloured : List (Sent × Colour))
+        ensures records { result.records ≡ self.now.frames }
+        ensures told { (see : FrameValue → Sight) (frames : List FrameValue) (coloured : List (Sent × Colour))
             → AreCounted see frames self.now → length coloured ≡ length (sent_of see frames)
             → AreTallied coloured sums.now → result ≡ report_of see rule frames coloured }
     {
         Report {
-            records: self.records,
+            records: self.frames,
             marked: self.matched,
             unmatched: self.unmatched,
             skipped: self.skipped,

@@ -1,18 +1,19 @@
 -- Lots that go through lanes from thread to thread, and the texts that come of them.
-use Rattle.std.specs.Prelude.{◌≡◌, ◌⊎◌, ℕ, ◌+◌, ◌*◌, ◌≤◌, ◌<◌, Bool, true, false, List, [], ◌∷◌, ◌++◌, length, Option, None, Some, Result, Ok, Err, IfErr, IfNone, IfOk, IfSome, OnOk, ⊤}
+use Rattle.std.specs.Prelude.{◌≡◌, ◌⊎◌, ℕ, ◌+◌, ◌≤◌, ◌<◌, Bool, true, false, List, [], ◌∷◌, ◌++◌, length, Option, None, Some, Result, Ok, Err, IfErr, IfNone, IfOk, IfSome, OnOk, ⊤}
+use Rattle.capture_reader.specs.Formats.{bytes_before}
 use Rattle.pcap_capture.specs.Counts.{IsOfReads}
 use Rattle.pcap_capture.specs.Frames.{FrameValue}
 use Rattle.pcap_capture.specs.Fronts.{IsFrontOf}
 use Rattle.pcap_capture.specs.Takings.{is_read_fault}
 use Rattle.pcap_capture.specs.declared.fault.PcapFault.{PcapFault}
 use Rattle.pcap_capture.specs.declared.fault.PcapFault.TheVariants.{WriteFault as PcapWriteFault}
-use Rattle.pcap_capture.specs.declared.heading.Heading.{Heading}
+use Rattle.capture_reader.specs.declared.opening.Opening.{Opening}
 use Rattle.ds_conditioner.specs.Conditionings.{IsBounded, IsConditioned, IsSeenAtPort}
 use Rattle.ds_conditioner.specs.Handings.{IsPassedInPart, IsPassedWhole}
 use Rattle.ds_conditioner.specs.Lots.{LotValue}
 use Rattle.ds_conditioner.specs.declared.conditioner.Conditioner.{Conditioner}
 use Rattle.ds_conditioner.specs.declared.port.Port.{Port}
-use Rattle.capture_reader.specs.Readings.{IsReadOn, IsUnderway, most_bytes, read_by}
+use Rattle.capture_reader.specs.Readings.{IsReadOn, IsUnderway, read_by}
 use Rattle.ds_marking.specs.Passings.{IsRoomy, IsTurnedTo}
 use Rattle.ds_marking.specs.Writings.{IsBreak, failures_with, is_write_fault}
 use Rattle.ds_marking.specs.declared.fault.MarkFault.{MarkFault}
@@ -89,8 +90,8 @@ pub record IsFed (p : Port) (tells : Type 0) (left more : List ℕ) (before afte
   pub right : AreRight p put
   pub read : (gone : List FrameValue) (bytes : List ℕ) → tells → IsUnderway gone bytes left before
       → IsFedOn (gone ++ frames_of put) bytes more after result
-  pub stays : (heading : Heading) (gone : List FrameValue) (bytes : List ℕ) → tells → IsUnderway gone bytes left before
-      → before.heading ≡ Some heading → after.heading ≡ Some heading
+  pub stays : (opening : Opening) (gone : List FrameValue) (bytes : List ℕ) → tells → IsUnderway gone bytes left before
+      → before.opening ≡ Some opening → after.opening ≡ Some opening
 
 -- All texts that came are written behind what stood, or a front of them.
 abbrev pub AreWritten : {T E : Type 0} → Result T E → List ℕ → List ℕ → List ℕ → Type 0
@@ -122,7 +123,6 @@ pub record IsFedFrom {A : Type 0} (p : Port) (tells : A → Type 0) (left : A �
   pub fed : IsFed p (tells old) (left old) (left new) before after put result
   pub given : tells old → tells new
   pub missing : after.missing ≤ before.missing
-  pub few : 16 * length (frames_of put) + most_bytes after (calls new) ≤ most_bytes before (calls old)
   pub fewer : IfOk result (λ read. OnOk (read_by read) (calls new < calls old))
   pub reads : IfOk result (λ read. IsOfReads (is_read_fault (read_by read)) (failed old) (failed new) (calls new))
   pub no_write : IfOk result (λ read. ¬ (read_by read ≡ Err PcapWriteFault))
@@ -248,8 +248,8 @@ pub record IsEndable (passage : Passage) (run : Run) : Type 0 where
 -- What ending a run comes to, however much was read, taken in and written by then.
 abbrev pub IsRunEnded : List ℕ → List ℕ → Passage → Passage → Run → Result Turn MarkFault → Type 0
 IsRunEnded held now old new run result = (bytes more before text own : List ℕ) (gone taken : List FrameValue)
-    → old.progress.heading ≡ Some old.port.heading
+    → old.progress.opening ≡ Some old.port.opening
     → IsReadOn (gone ++ taken) bytes more old.progress (read_last run.read)
     → IsTakenIn run.starved old.port gone taken text own old.conditioner
-    → AreWritten run.written before (old.port.heading.bytes ++ (text ++ own)) held → old.out.items ≡ []
+    → AreWritten run.written before (bytes_before old.port.opening ++ (text ++ own)) held → old.out.items ≡ []
     → IsTurnedTo bytes more before now new result

@@ -1,5 +1,6 @@
 -- What is written and told where a capture is marked by several workers.
 use Rattle.std.specs.Prelude.{◌≡◌, ◌⊎◌, ℕ, Bool, true, false, List, ◌++◌, Some, Result, Ok, Err}
+use Rattle.capture_reader.specs.Formats.{bytes_before}
 use Rattle.pcap_capture.specs.Counts.{next_count}
 use Rattle.pcap_capture.specs.Frames.{FrameValue}
 use Rattle.pcap_capture.specs.Fronts.{IsFrontOf}
@@ -63,6 +64,6 @@ is_lost _ result = false
 -- A passage whose frames that were read are taken in, where nothing can be written any more: it is broken off.
 abbrev pub IsUnwrittenOff : Passage → Passage → Result Bool PcapFault → MarkFault → Type 0
 IsUnwrittenOff old new read fault = (bytes more before now text : List ℕ) (gone : List FrameValue)
-    → old.progress.heading ≡ Some old.port.heading → IsReadOn gone bytes more old.progress read
-    → IsConditioned old.port true gone text old.conditioner → IsFrontOf before (old.port.heading.bytes ++ text) now
+    → old.progress.opening ≡ Some old.port.opening → IsReadOn gone bytes more old.progress read
+    → IsConditioned old.port true gone text old.conditioner → IsFrontOf before (bytes_before old.port.opening ++ text) now
     → IsBrokenOff old.port bytes more before now new.conditioner fault

@@ -102,7 +102,7 @@ pub(crate) fn take_turn_by<R: Threads + Wait + Sync, I: Intake, O: Outlet, G: Ga
     gate: &G,
     others: u64,
 ) -> (Result<Turn, MarkFault>, bool)
-    requires { IsReady passage.old (I.calls intake.old) }
+    requires { IsReady passage.old }
     ensures taken { IsTurnTaken I.tells I.left I.calls I.failed intake.old intake.new O.tells O.held outlet.old
         outlet.new passage.old passage.new result.0 }
     ensures failures { AreFailures result.1 result.0 (O.failed outlet.old) (O.failed outlet.new) }
@@ -142,7 +142,7 @@ fn turn_all_by<R: Threads + Wait + Sync, I: Intake, O: Outlet, G: Gate>(
     gate: &G,
     others: u64,
 ) -> (Result<Option<PcapFault>, MarkFault>, bool)
-    requires { IsReady passage.old (I.calls intake.old) }
+    requires { IsReady passage.old }
     ensures taken { AreTurnsTaken I.tells I.left I.calls I.failed intake.old intake.new O.tells O.held outlet.old
         outlet.new passage.old passage.new result.0 }
     ensures failures { AreFailures result.1 result.0 (O.failed outlet.old) (O.failed outlet.new) }

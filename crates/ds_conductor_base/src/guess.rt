@@ -13,7 +13,6 @@ use moment_core::Moment;
 use std::alloc::{AllocError, Global};
 use std::cmp::Reverse;
 use std::marker::Model;
-use std::mem::swap;
 
 /// The order of more visits is not guessed, since there are no more numbers.
 const MOST: usize = 1 << 16;
@@ -114,23 +113,18 @@ impl OrderGuess {
     pub fn settle(&mut self)
         ensures { self.new ≡ self.old }
     {
-        if number_all(&mut self.order, self.keys.len()).is_err()
-            || number_all(&mut self.spare, self.keys.len()).is_err()
+        let count = self.keys.len();
+        if count > MOST
+            || self.order.resize(count, 0).is_err()
+            || self.spare.resize(count, 0).is_err()
         {
             self.order.clear();
             return;
         }
         let bits = u64::BITS - widest(&self.keys).leading_zeros();
         let low = bits.saturating_sub(2 * DIGIT_BITS);
-        for digit in 0..2u32 {
-            sort_by_digit(
-                &self.keys,
-                low + digit * DIGIT_BITS,
-                &self.order,
-                &mut self.spare,
-            );
-            swap(&mut self.order, &mut self.spare);
-        }
+        sort_all(&self.keys, low, &mut self.spare);
+        sort_by_digit(&self.keys, low + DIGIT_BITS, &self.spare, &mut self.order);
         mend(&self.keys, &mut self.order);
     }
 
@@ -199,23 +193,8 @@ fn put_each(
     out.len() == visits.len()
 }
 
-/// Makes a list of so many numbers, the greatest first. `AllocError` where memory runs out, or where there are not so
-/// many numbers.
-fn number_all(order: &mut Vec<u16>, count: usize) -> Result<(), AllocError> {
-    order.clear();
-    if count > MOST {
-        return Err(AllocError);
-    }
-    order.reserve(count)?;
-    for place in 0..count {
-        order.push((count - 1 - place) as u16)?;
-    }
-    Ok(())
-}
-
-/// Puts numbers into another order: by one digit of their keys, the greatest first, and as they stood where it is the
-/// same.
-fn sort_by_digit(keys: &[u64], shift: u32, from: &[u16], to: &mut [u16])
+/// Where the numbers of each digit of keys begin once they are in order by that digit, the greatest first.
+fn places_of(keys: &[u64], shift: u32) -> [u32; 256]
     requires { shift < 64 }
 {
     let mut places = [0u32; 256];
@@ -229,15 +208,45 @@ fn sort_by_digit(keys: &[u64], shift: u32, from: &[u16], to: &mut [u16])
         *place = next;
         next = next.wrapping_add(count);
     }
+    places
+}
+
+/// Puts a number at the next place of its digit.
+fn put_number(to: &mut [u16], places: &mut [u32; 256], digit: usize, number: u16)
+    requires { digit < 256 }
+{
+    let place = &mut places[digit];
+    if let Some(free) = to.get_mut(*place as usize) {
+        *free = number;
+    }
+    *place = place.wrapping_add(1);
+}
+
+/// Puts the numbers of all keys in order by one digit of these, the greatest first, and of each digit the last number
+/// first.
+fn sort_all(keys: &[u64], shift: u32, to: &mut [u16])
+    requires shift { shift < 64 }
+    requires most { length keys.now ≤ 65536 }
+{
+    let mut places = places_of(keys, shift);
+    for done in 0..keys.len() {
+        let number = keys.len() - 1 - done;
+        let digit = digit_of(keys[number], shift);
+        put_number(to, &mut places, digit, number as u16);
+    }
+}
+
+/// Puts numbers into another order: by one digit of their keys, the greatest first, and as they stood where it is the
+/// same.
+fn sort_by_digit(keys: &[u64], shift: u32, from: &[u16], to: &mut [u16])
+    requires { shift < 64 }
+{
+    let mut places = places_of(keys, shift);
     for number in from {
         let Some(key) = keys.get(usize::from(*number)) else {
             return;
         };
-        let place = &mut places[digit_of(*key, shift)];
-        if let Some(free) = to.get_mut(*place as usize) {
-            *free = *number;
-        }
-        *place = place.wrapping_add(1);
+        put_number(to, &mut places, digit_of(*key, shift), *number);
     }
 }
 

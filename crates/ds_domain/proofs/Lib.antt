@@ -1,6 +1,5 @@
 -- Lemmas on domain texts.
 pub mod KeyLemmas
-pub mod ListLemmas
 pub mod ParseLemmas
 pub mod TurnLemmas
 pub mod WayLemmas

@@ -1,6 +1,5 @@
 -- The entries of contracts, one after the other.
-use Rattle.std.specs.Prelude.{ℕ, Bool, false, List, [], ◌∷◌, ◌++◌, length, nat_lt, Option, None, Some, Result, Ok, bytes_eq}
-use Rattle.std.specs.List.{list_any}
+use Rattle.std.specs.Prelude.{ℕ, Bool, false, List, [], ◌∷◌, ◌++◌, length, nat_lt, Option, None, Some, Result, Ok}
 use Rattle.toml.specs.Data.{Members}
 use Rattle.ds_domain_base.specs.Domains.{Domain}
 use Rattle.ds_domain_base.specs.Faults.{field_text}
@@ -15,6 +14,7 @@ use Rattle.ds_domain_base.specs.declared.parts.Version.{Version}
 use Rattle.ds_domain_base.specs.declared.terms.Terms.{Terms}
 use Rattle.ds_domain_text.specs.Steps.{◌>>=◌}
 use Rattle.ds_domain_text.specs.Values.{required, texts_in}
+use Rattle.ds_offers.specs.Offered.{has_name}
 use Rattle.ds_domain.specs.Keys.{fault_here, refused_if, told, moment_at, name_at, number_at, only, optional_moment_at, text_at}
 use Rattle.ds_domain.specs.Kinds.{contract_fields, contract_kind_at, terms_fields}
 use Rattle.ds_domain.specs.Parts.{refused_by}
@@ -66,10 +66,6 @@ contract_text place version members = do
 abbrev pub next_contract : List Contract → Place
 next_contract done = record { section = sections.Contract; index = length done }
 
--- a contract before has the name
-abbrev pub has_name : List Contract → List ℕ → Bool
-has_name done name = list_any (λ c. bytes_eq name c.name) done
-
 -- the end is below the beginning
 abbrev pub ends_early : ℕ → Option ℕ → Bool
 ends_early since None = false
@@ -98,9 +94,14 @@ contract_of d done text = do
     rule = text.rest.rule;
   })
 
+-- the next contract, as its table says it
+unfoldable pub contract_in : Domain → List Contract → Members → Result Contract DomainFault
+contract_in d done members = do
+  text ← contract_text (next_contract done) d.version members
+  contract_of d done text
+
 -- the contracts with one more
 unfoldable pub with_contract_of : Domain → List Contract → Members → Result (List Contract) DomainFault
 with_contract_of d done members = do
-  text ← contract_text (next_contract done) d.version members
-  contract ← contract_of d done text
+  contract ← contract_in d done members
   Ok (done ++ contract ∷ [])

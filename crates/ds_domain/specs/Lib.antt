@@ -4,6 +4,7 @@ pub mod ContractViews
 pub mod DomainTexts
 pub mod Keys
 pub mod Kinds
+pub mod OfferedTexts
 pub mod Parts
 pub mod Rules
 pub mod SectionViews

@@ -1,5 +1,5 @@
 -- Which packets a contract picks.
-use Rattle.std.specs.Prelude.{ℕ, Bool, true, false, Option, None, Some, Result, Ok, option_map}
+use Rattle.std.specs.Prelude.{ℕ, Bool, true, false, Option, Some, Result, Ok, option_map}
 use Rattle.toml.specs.Data.{Members}
 use Rattle.flow_classifier.specs.Parts.{PortRangeValue}
 use Rattle.flow_classifier.specs.declared.prefix.Prefix.{Prefix}

@@ -3,19 +3,19 @@ ghost use Rattle.std.specs.Prelude.{Err, IfErr, IfOk, MatchOption, None, Ok, OnO
 ghost use Rattle.toml.specs.View.{table_view};
 ghost use Rattle.ds_domain_base.specs.Faults.{no_memory};
 ghost use Rattle.ds_domain_base.specs.Fitting.{names_unknown, way_fault};
-ghost use Rattle.ds_domain.specs.ContractEntries.{contract_of, contract_terms, has_name};
+ghost use Rattle.ds_domain.specs.ContractEntries.{contract_in, contract_of, contract_terms};
 ghost use Rattle.ds_domain.specs.ContractEntries.{next_contract, with_contract_of};
 ghost use Rattle.ds_domain.specs.ContractViews.{text_parts};
 ghost use Rattle.ds_domain.specs.Sections.{in_turn, section_in};
 
 use crate::contract_keys::{ContractRest, contract_keys};
-use crate::contract_list::ContractList;
 use crate::place::Place;
 use crate::sections::Entries;
 use ds_domain_base::{
     Contract, Domain, DomainFault, Field, Kind, Lifetime, MOST_HOPS, Name, Path, Section, Terms,
     fits,
 };
+use ds_offers::Offers;
 use std::alloc::Global;
 use toml::Table;
 
@@ -23,7 +23,7 @@ use toml::Table;
 const MOST_CONTRACTS: usize = 4096;
 
 /// The place of the next contract.
-fn next_contract(done: &ContractList) -> Place
+fn next_contract(done: &Offers) -> Place
     ensures { result ≡ next_contract done.now }
 {
     Place {
@@ -101,12 +101,11 @@ fn fitting(domain: &Domain, place: Place, contract: Contract) -> Result<Contract
 /// not those of a meter, and an end below the beginning.
 #[tactic(auto, unfolding(crate::specs::ContractEntries::contract_terms))]
 fn contract_terms(
-    done: &ContractList,
+    done: &Offers,
     name: Name,
     rest: &ContractRest,
 ) -> Result<(Terms, Lifetime), DomainFault>
-    ensures value { result ≡ contract_terms done.now name rest.now }
-    ensures apart { OnOk result (has_name done.now name ≡ false) }
+    ensures { result ≡ contract_terms done.now name rest.now }
 {
     let place = next_contract(done);
     if done.has_name(name) {
@@ -155,7 +154,7 @@ fn assembled(
 fn contract_of(
     alloc: Global,
     domain: &Domain,
-    done: &ContractList,
+    done: &Offers,
     name: Name,
     port: &str,
     path: &[&str],
@@ -163,7 +162,6 @@ fn contract_of(
 ) -> Result<Contract, DomainFault>
     ensures ok { IfOk result (λ contract.
         contract_of domain.now done.now (text_parts name port.now path.now rest.now) ≡ Ok contract) }
-    ensures apart { IfOk result (λ contract. has_name done.now contract.name ≡ false) }
     ensures refused { IfErr result (λ fault. (fault ≡ no_memory)
         ⊎ (contract_of domain.now done.now (text_parts name port.now path.now rest.now) ≡ Err fault)) }
 {
@@ -176,6 +174,23 @@ fn contract_of(
     )
 }
 
+/// The next contract, as its table says it, judged by the domain and by the contracts before it.
+#[tactic(auto, unfolding(crate::specs::ContractEntries::contract_in))]
+pub(crate) fn contract_in(
+    alloc: Global,
+    domain: &Domain,
+    done: &Offers,
+    table: &Table,
+) -> Result<Contract, DomainFault>
+    ensures ok { IfOk result (λ contract. contract_in domain.now done.now (table_view table.now) ≡ Ok contract) }
+    ensures refused { IfErr result (λ fault. (fault ≡ no_memory)
+        ⊎ (contract_in domain.now done.now (table_view table.now) ≡ Err fault)) }
+{
+    let keys = contract_keys(alloc, next_contract(done), domain.version(), table)?;
+    let path = keys.path.as_slice();
+    contract_of(alloc, domain, done, keys.name, keys.port, path, &keys.rest)
+}
+
 /// The contracts of a domain.
 #[derive(Drop)]
 struct Contracts<'a> {
@@ -186,25 +201,15 @@ struct Contracts<'a> {
 }
 
 impl Entries for Contracts<'_> {
-    type Whole = ContractList;
+    type Whole = Offers;
 
     ghost with_entry = { λ c. with_contract_of c.domain.now };
 
     #[tactic(auto, unfolding(crate::specs::ContractEntries::with_contract_of))]
-    fn add(&self, done: &mut ContractList, table: &Table) -> Result<(), DomainFault> {
-        let version = self.domain.version();
-        let keys = contract_keys(self.alloc, next_contract(done), version, table)?;
-        let path = keys.path.as_slice();
-        let contract = contract_of(
-            self.alloc,
-            self.domain,
-            done,
-            keys.name,
-            keys.port,
-            path,
-            &keys.rest,
-        )?;
-        done.push(contract)
+    fn add(&self, done: &mut Offers, table: &Table) -> Result<(), DomainFault> {
+        let contract = contract_in(self.alloc, self.domain, done, table)?;
+        done.push(contract)?;
+        Ok(())
     }
 }
 
@@ -220,7 +225,7 @@ pub(crate) fn contracts_of(
         ⊎ (section_in Field.Contract 4096 (with_contract_of domain.now) []
         (map (λ table. table_view table.now) tables.now) ≡ Err fault)) }
 {
-    let mut done = ContractList::new(alloc);
+    let mut done = Offers::new(alloc);
     let entries = Contracts { alloc, domain };
     entries.add_section(Field::Contract, MOST_CONTRACTS, &mut done, tables)?;
     Ok(done.into_contracts())

@@ -3,10 +3,10 @@
 #![tactic(auto)]
 
 mod contract_keys;
-mod contract_list;
 mod contracts;
 mod keys;
 mod kinds;
+mod offering;
 mod parsing;
 mod parts;
 mod place;
@@ -18,4 +18,6 @@ pub use ds_domain_base::{
     Contract, Delay, Domain, DomainFault, Field, Kind, Lifetime, Link, MOST_HOPS, Meter, Name,
     Path, Peak, Port, Profile, Section, SoundParameters, Terms, Version, fits,
 };
+pub use ds_offers::Offers;
+pub use offering::read_contract;
 pub use parsing::parse;

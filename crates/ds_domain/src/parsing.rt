@@ -61,7 +61,7 @@ pub fn parse(alloc: Global, bytes: &[u8]) -> Result<(Domain, Vec<Contract>), Dom
 }
 
 /// The fault of a text that is not UTF-8, or not TOML.
-fn no_text() -> DomainFault
+pub(crate) fn no_text() -> DomainFault
     ensures { result ≡ no_text }
 {
     DomainFault::new(Kind::Text, Section::Text, 0, Field::Empty)

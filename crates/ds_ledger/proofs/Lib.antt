@@ -1,0 +1,5 @@
+pub mod RowLaws
+pub mod FitLaws
+mod KeepLaws
+mod OpenLaws
+mod HistoryLaws

@@ -1,11 +1,18 @@
+ghost use Rattle.std.specs.Prelude.{◌≡◌, ◌++◌, IfOk, List, OnErr, OnOk};
+ghost use Rattle.sqlite.specs.Files.{file_state};
+ghost use Rattle.sqlite.specs.State.{Survives};
+ghost use Rattle.sqlite.specs.WalFiles.{image_at};
+ghost use Rattle.ds_broker.specs.declared.command.Command.{Command};
+ghost use Rattle.ds_ledger.specs.Kept.{IsTold, Keeps, MayKeep, WasFoundIn};
+
 use crate::fault::fault_of_open;
 use crate::ledger::SqlLedger;
-use crate::reading::ledger_over;
+use crate::reading::{commands_over, ledger_over};
 use ds_broker::Command;
 use ds_ledger_base::{Ledger, LedgerFault, Shelf};
-use sqlite::{Connection, FileFrom, FileStore, Wary};
+use sqlite::{Connection, FileFrom, FileStore, Start, Wary};
 use std::alloc::Global;
-use std::fs::OpenOptions;
+use std::fs::{self, OpenOptions};
 use std::io::ErrorKind;
 use std::os::unix::fs::OpenOptionsExt;
 
@@ -23,6 +30,33 @@ fn make_file(rt: &HostRuntime, path: &str) -> Result<(), LedgerFault> {
     }
 }
 
+/// How many bytes the file of a path has; none where there is no file.
+fn size_of(rt: &HostRuntime, path: &str) -> Result<Option<u64>, LedgerFault> {
+    match fs::metadata(rt, path) {
+        Ok(found) => Ok(Some(found.len())),
+        Err(error) => match error.kind() {
+            ErrorKind::NotFound => Ok(None),
+            ErrorKind::OutOfMemory => Err(LedgerFault::NoMemory),
+            _ => Err(LedgerFault::Open),
+        },
+    }
+}
+
+/// Refuses a file that is not there, and one with nothing in it and in its log, which would be made a database.
+fn find_file(rt: &HostRuntime, alloc: Global, path: &str) -> Result<(), LedgerFault> {
+    let Some(size) = size_of(rt, path)? else {
+        return Err(LedgerFault::Open);
+    };
+    let Ok(log) = format!(in alloc; "{path}-wal") else {
+        return Err(LedgerFault::NoMemory);
+    };
+    let logged = size_of(rt, log.as_str())?;
+    if size == 0 && logged.unwrap_or(0) == 0 {
+        return Err(LedgerFault::Form);
+    }
+    Ok(())
+}
+
 /// A ledger in a file, read as one whose torn writes may leave anything. Where it goes, its log is copied into the file; a
 /// failure to do so is passed over, since the log keeps what it kept.
 pub struct FileLedger {
@@ -37,16 +71,49 @@ impl Drop for FileLedger {
 }
 
 impl Ledger for FileLedger {
-    ghost tells = { λ _. ⊥ };
+    ghost tells = { λ ledger. IsTold (file_state ledger.rows.conn) };
 
-    ghost keeps = { λ _ _. ⊥ };
+    ghost keeps = { λ ledger history. Keeps (file_state ledger.rows.conn) ledger.rows.end history };
 
-    fn append(&mut self, commands: &[Command]) -> Result<(), LedgerFault> {
+    fn append(&mut self, commands: &[Command]) -> Result<(), LedgerFault>
+        ensures appended { IsTold (file_state self.new.rows.conn) → OnOk result ((history : List Command) →
+            Keeps (file_state self.old.rows.conn) self.old.rows.end history →
+            Keeps (file_state self.new.rows.conn) self.new.rows.end (history ++ commands.now)) }
+        ensures unchanged { IsTold (file_state self.new.rows.conn) → OnErr result ((history : List Command) →
+            Keeps (file_state self.old.rows.conn) self.old.rows.end history →
+            Keeps (file_state self.new.rows.conn) self.new.rows.end history) }
+        ensures told { IsTold (file_state self.new.rows.conn) → IsTold (file_state self.old.rows.conn) }
+        ensures crash { Survives (file_state self.old.rows.conn) (file_state self.new.rows.conn)
+            (MayKeep (file_state self.old.rows.conn) self.old.rows.end commands.now) }
+    {
         self.rows.append(commands)
     }
 }
 
-/// The ledgers in files, by their paths.
+/// The ledger in the file of a path, with the commands that it keeps. A file that is not there is made, for its owner
+/// alone. `S` stands for what the file and its log hold now, and for how a crash is read.
+///
+/// Refused: `NoDatabase`, `Damaged`, `Busy`, `NoMemory`, `Open` and `Write` as the database names it, `Form` where it is
+/// none of a ledger's, `Damaged` where a row is that of no command in its turn.
+pub fn open_ledger<S: Start>(
+    rt: &HostRuntime,
+    alloc: Global,
+    path: &str,
+    start: S,
+) -> Result<(SqlLedger<FileStore<FileFrom<S>>>, Vec<Command>), LedgerFault>
+    ensures kept { IfOk result (λ opened. IsTold (file_state opened.0.conn) →
+        Keeps (file_state opened.0.conn) opened.0.end opened.1.items) }
+    ensures found { IfOk result (λ opened. IsTold (file_state opened.0.conn) →
+        WasFoundIn (image_at S.Start) opened.1.items) }
+{
+    make_file(rt, path)?;
+    match Connection::open_from(rt, path, true, start) {
+        Ok(conn) => ledger_over(alloc, conn),
+        Err((error, _)) => Err(fault_of_open(error)),
+    }
+}
+
+/// The ledgers in files, by their paths, read as ones whose torn writes may leave anything.
 #[derive(Drop)]
 pub struct FileShelf<'a> {
     rt: &'a HostRuntime,
@@ -66,12 +133,15 @@ impl<'a> Shelf for FileShelf<'a> {
 
     /// A file that is not there is made, for its owner alone.
     fn open(&self, alloc: Global, name: &str) -> Result<(FileLedger, Vec<Command>), LedgerFault> {
-        make_file(self.rt, name)?;
+        let (rows, commands) = open_ledger(self.rt, alloc, name, Wary)?;
+        Ok((FileLedger { rows }, commands))
+    }
+
+    /// A file that is empty, with no log beside it, is of another form.
+    fn commands(&self, alloc: Global, name: &str) -> Result<Vec<Command>, LedgerFault> {
+        find_file(self.rt, alloc, name)?;
         match Connection::open_from(self.rt, name, true, Wary) {
-            Ok(conn) => {
-                let (rows, commands) = ledger_over(alloc, conn)?;
-                Ok((FileLedger { rows }, commands))
-            }
+            Ok(conn) => commands_over(alloc, conn),
             Err((error, _)) => Err(fault_of_open(error)),
         }
     }

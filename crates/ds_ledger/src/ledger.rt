@@ -1,18 +1,23 @@
-ghost use Rattle.std.specs.Prelude.{◌≡◌, false};
+ghost use Rattle.std.specs.Prelude.{◌≡◌, ◌++◌, All, [], ◌∷◌, IfOk, IfSome, List, OnErr, OnOk};
+ghost use Rattle.sqlite.specs.Held.{state};
+ghost use Rattle.sqlite.specs.State.{Survives};
+ghost use Rattle.ds_broker.specs.declared.command.Command.{Command};
+ghost use Rattle.ds_ledger_rows.specs.Cells.{id_of};
+ghost use Rattle.ds_ledger_rows.specs.Sound.{IsSound};
+ghost use Rattle.ds_ledger_table.specs.Rows.{IsRow};
+ghost use Rattle.ds_ledger.specs.Kept.{IsTold, Keeps, MayKeep, end_after, granted_by, next_end, row_at, rows_from};
 
-use crate::fault::{fault_of_read, fault_of_write};
-use crate::form::{INSERT, SELECT_BEHIND};
-use crate::reading::copied;
+use crate::fault::fault_of_write;
 use ds_broker::Command;
 use ds_ledger_base::{Ledger, LedgerFault};
 use ds_ledger_rows::row_of;
-use sqlite::{Alter, Connection, Error, Row as Shown, Transaction};
+use ds_ledger_table::append;
+use sqlite::{Alter, Connection};
 use sqlite_value::row::Row;
-use sqlite_value::value::ValueRef;
 use std::alloc::Global;
 
 /// The ledger of a book in a table of an SQLite database: one row for each accepted command, in order of their serials.
-/// What `append` answered is committed, and was read back.
+/// What `append` answered is committed.
 #[derive(Drop)]
 pub struct SqlLedger<S: Alter + Drop> {
     pub(crate) conn: Connection<S>,
@@ -30,7 +35,9 @@ pub struct End {
 
 impl End {
     /// Before the first command.
-    pub(crate) fn new() -> Self {
+    pub(crate) fn new() -> Self
+        ensures { result ≡ record { serial = 0; granted = 0 } }
+    {
         End {
             serial: 0,
             granted: 0,
@@ -38,17 +45,19 @@ impl End {
     }
 
     /// One command more; None where there are as many as a serial can number.
-    pub(crate) fn next(self, command: &Command) -> Option<End> {
-        let serial = self.serial.checked_add(1)?;
-        let granted = match command {
-            Command::Reserve(_) => self.granted.checked_add(1)?,
-            _ => self.granted,
-        };
-        Some(End { serial, granted })
+    pub(crate) fn next(self, command: &Command) -> Option<End>
+        ensures { IfSome result (λ end. end ≡ next_end self command.now) }
+    {
+        Some(End {
+            serial: self.serial.checked_add(1)?,
+            granted: self.granted.checked_add(granted_by(command))?,
+        })
     }
 
     /// The id of the command that it ends with: that of the contract that it granted, or of the one that it names.
-    fn id_of(self, command: &Command) -> u32 {
+    fn id_of(self, command: &Command) -> u32
+        ensures { result ≡ id_of self.granted command.now }
+    {
         match command {
             Command::Reserve(_) => self.granted,
             Command::Release { id, .. } | Command::Retire { id, .. } => *id,
@@ -56,97 +65,60 @@ impl End {
     }
 }
 
-/// The rows of commands behind an end, and the end behind them.
-fn rows_of(alloc: Global, end: End, commands: &[Command]) -> Result<(Vec<Row>, End), LedgerFault> {
-    let mut rows = Vec::new(alloc);
-    let mut end = end;
-    for command in commands {
-        let Some(next) = end.next(command) else {
-            return Err(LedgerFault::Write);
-        };
-        end = next;
-        let Ok(row) = row_of(alloc, end.serial, end.id_of(command), command) else {
-            return Err(LedgerFault::NoMemory);
-        };
-        let Ok(()) = rows.push(row) else {
-            return Err(LedgerFault::NoMemory);
-        };
-    }
-    Ok((rows, end))
-}
-
-/// Inserts a row.
-fn insert<S: Alter>(transaction: &mut Transaction<'_, S>, row: &Row) -> Result<usize, Error> {
-    transaction.execute(
-        INSERT,
-        &[
-            row.get(0),
-            row.get(1),
-            row.get(2),
-            row.get(3),
-            row.get(4),
-            row.get(5),
-            row.get(6),
-            row.get(7),
-            row.get(8),
-            row.get(9),
-            row.get(10),
-            row.get(11),
-            row.get(12),
-            row.get(13),
-            row.get(14),
-            row.get(15),
-            row.get(16),
-            row.get(17),
-            row.get(18),
-            row.get(19),
-            row.get(20),
-            row.get(21),
-            row.get(22),
-            row.get(23),
-            row.get(24),
-            row.get(25),
-            row.get(26),
-            row.get(27),
-        ],
-    )
-}
-
-/// Inserts rows, and commits them.
-fn commit_rows<S: Alter>(conn: &mut Connection<S>, rows: &[Row]) -> Result<(), Error>
-    requires { conn.old.in_transaction ≡ false }
+/// How many contracts a command grants.
+fn granted_by(command: &Command) -> u32
+    ensures { result ≡ granted_by command.now }
 {
-    let mut transaction = conn.transaction();
-    for row in rows {
-        insert(&mut transaction, row)?;
+    match command {
+        Command::Reserve(_) => 1,
+        Command::Release { .. } | Command::Retire { .. } => 0,
     }
-    transaction.commit()
 }
 
-/// The rows behind a serial.
-fn rows_behind<S: Alter>(conn: &mut Connection<S>, serial: u32) -> Result<Vec<Shown>, Error> {
-    conn.query_all(SELECT_BEHIND, &[ValueRef::Int(i64::from(serial))])
+/// Appends the row of a command behind an end, and gives the end behind it.
+fn push_row(
+    alloc: Global,
+    rows: &mut Vec<Row>,
+    end: End,
+    command: &Command,
+) -> Result<End, LedgerFault>
+    ensures next { IfOk result (λ next. next ≡ next_end end command.now) }
+    ensures row { IfOk result (λ next. rows.new.items ≡ rows.old.items ++ row_at end command.now ∷ []) }
+    ensures fits { All IsRow rows.old.items → IfOk result (λ next. All IsRow rows.new.items) }
+    ensures sound { IfOk result (λ next. IsSound command.now) }
+{
+    let Some(next) = end.next(command) else {
+        return Err(LedgerFault::Write);
+    };
+    let Ok(row) = row_of(alloc, next.serial, next.id_of(command), command) else {
+        return Err(LedgerFault::NoMemory);
+    };
+    let Ok(()) = rows.push(row) else {
+        return Err(LedgerFault::NoMemory);
+    };
+    Ok(next)
 }
 
-/// Whether rows that were read are these.
-fn are_same(alloc: Global, shown: &[Shown], rows: &[Row]) -> Result<bool, LedgerFault> {
-    if shown.len() != rows.len() {
-        return Ok(false);
+/// The rows of commands behind an end, and the end behind them.
+fn rows_of(alloc: Global, end: End, commands: &[Command]) -> Result<(Vec<Row>, End), LedgerFault>
+    ensures rows { IfOk result (λ made. made.0.items ≡ rows_from end commands.now) }
+    ensures end { IfOk result (λ made. made.1 ≡ end_after end commands.now) }
+    ensures fits { IfOk result (λ made. All IsRow made.0.items) }
+    ensures sound { IfOk result (λ made. All IsSound commands.now) }
+{
+    let mut rows = Vec::new(alloc);
+    let mut next = end;
+    for command in commands {
+        next = push_row(alloc, &mut rows, next, command)?;
     }
-    for at in 0..rows.len() {
-        let Ok(row) = copied(alloc, &shown[at]) else {
-            return Err(LedgerFault::NoMemory);
-        };
-        if !row.is_same(&rows[at]) {
-            return Ok(false);
-        }
-    }
-    Ok(true)
+    Ok((rows, next))
 }
 
 impl<S: Alter + Drop> SqlLedger<S> {
     /// The database that it is in.
-    pub fn into_connection(self) -> Connection<S> {
+    pub fn into_connection(self) -> Connection<S>
+        ensures { result ≡ self.conn }
+    {
         let SqlLedger {
             conn,
             alloc: _,
@@ -154,35 +126,29 @@ impl<S: Alter + Drop> SqlLedger<S> {
         } = self;
         conn
     }
-
-    /// Commits rows behind all others, and reads them back.
-    fn write(&mut self, rows: &[Row]) -> Result<(), LedgerFault> {
-        if !self.conn.is_autocommit() {
-            return Err(LedgerFault::Write);
-        }
-        if let Err(error) = commit_rows(&mut self.conn, rows) {
-            return Err(fault_of_write(error));
-        }
-        let shown = match rows_behind(&mut self.conn, self.end.serial) {
-            Ok(shown) => shown,
-            Err(error) => return Err(fault_of_read(error)),
-        };
-        if are_same(self.alloc, shown.as_slice(), rows)? {
-            Ok(())
-        } else {
-            Err(LedgerFault::Write)
-        }
-    }
 }
 
 impl<S: Alter + Drop> Ledger for SqlLedger<S> {
-    ghost tells = { λ _. ⊥ };
+    ghost use Rattle.ds_ledger.specs.Kept.{IsTold, Keeps};
 
-    ghost keeps = { λ _ _. ⊥ };
+    ghost tells = { λ ledger. IsTold (state S.Store ledger.conn) };
 
-    fn append(&mut self, commands: &[Command]) -> Result<(), LedgerFault> {
+    ghost keeps = { λ ledger history. Keeps (state S.Store ledger.conn) ledger.end history };
+
+    fn append(&mut self, commands: &[Command]) -> Result<(), LedgerFault>
+        ensures appended { IsTold (state S.Store self.new.conn) → OnOk result ((history : List Command) →
+            Keeps (state S.Store self.old.conn) self.old.end history →
+            Keeps (state S.Store self.new.conn) self.new.end (history ++ commands.now)) }
+        ensures unchanged { IsTold (state S.Store self.new.conn) → OnErr result ((history : List Command) →
+            Keeps (state S.Store self.old.conn) self.old.end history →
+            Keeps (state S.Store self.new.conn) self.new.end history) }
+        ensures told { IsTold (state S.Store self.new.conn) → IsTold (state S.Store self.old.conn) }
+        ensures crash { Survives (state S.Store self.old.conn) (state S.Store self.new.conn) (MayKeep (state S.Store self.old.conn) self.old.end commands.now) }
+    {
         let (rows, end) = rows_of(self.alloc, self.end, commands)?;
-        self.write(rows.as_slice())?;
+        if let Err(error) = append(&mut self.conn, rows.as_slice()) {
+            return Err(fault_of_write(error));
+        }
         self.end = end;
         Ok(())
     }

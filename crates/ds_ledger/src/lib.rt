@@ -3,11 +3,11 @@
 
 mod fault;
 mod file;
-mod form;
+mod laws;
 mod ledger;
-mod making;
 mod reading;
 
-pub use file::{FileLedger, FileShelf};
+pub use file::{FileLedger, FileShelf, open_ledger};
+pub use laws::{crash_is_found_again, crash_leaves_last_commit, rows_tell_commands};
 pub use ledger::{End, SqlLedger};
 pub use reading::ledger_over;

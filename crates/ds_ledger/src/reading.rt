@@ -1,21 +1,55 @@
 //! How a ledger is read from its database.
+ghost use Rattle.std.specs.Prelude.{◌≡◌, ◌++◌, ◌∷◌, [], All, IfOk, IsPermutation, IsTrue, OnOk};
+ghost use Rattle.sqlite.specs.Held.{state};
+ghost use Rattle.sqlite.specs.State.{HasCleanDisk, IsUnchanged, Survives};
+ghost use Rattle.ds_ledger_rows.specs.Sound.{IsSound};
+ghost use Rattle.ds_ledger_table.specs.Form.{ledger_schema};
+ghost use Rattle.ds_ledger_table.specs.Rows.{rows_in};
+ghost use Rattle.ds_ledger.specs.Kept.{IsRead, IsTold, Keeps, WasFound, end_of, row_at, rows_of};
 
-use crate::fault::fault_of_read;
-use crate::form::{SELECT, SELECT_VERSION, is_form};
+use crate::fault::{fault_of_read, fault_of_write};
 use crate::ledger::{End, SqlLedger};
-use crate::making::settle;
 use ds_broker::Command;
 use ds_ledger_base::LedgerFault;
 use ds_ledger_rows::{RowFault, read_command};
-use sqlite::{Alter, Connection, Row as Shown, Rows};
+use ds_ledger_table::{SELECT, has_form, settle};
+use sqlite::{Alter, Connection, Error, Row as Shown};
 use sqlite_value::row::Row;
 use std::alloc::{AllocError, Global};
 
-/// The version of the form.
-const VERSION: i64 = 1;
+/// Why reading ends.
+#[derive(Drop)]
+enum Stop {
+    /// The database fails or refuses.
+    Database(Error),
+    /// A row is that of no command in its turn, or memory ran out.
+    Row(LedgerFault),
+}
+
+impl From<Error> for Stop {
+    fn from(error: Error) -> Self {
+        Stop::Database(error)
+    }
+}
+
+impl From<LedgerFault> for Stop {
+    fn from(fault: LedgerFault) -> Self {
+        Stop::Row(fault)
+    }
+}
+
+/// What it is told as.
+fn fault_of(stop: Stop) -> LedgerFault {
+    match stop {
+        Stop::Database(error) => fault_of_read(error),
+        Stop::Row(fault) => fault,
+    }
+}
 
 /// A copy of a row that was read.
-pub(crate) fn copied(alloc: Global, shown: &Shown) -> Result<Row, AllocError> {
+fn copied(alloc: Global, shown: &Shown) -> Result<Row, AllocError>
+    ensures { IfOk result (λ row. row ≡ shown.now) }
+{
     let mut row = Row::new(alloc);
     for at in 0..shown.column_count() {
         match shown.get_ref(at) {
@@ -27,7 +61,10 @@ pub(crate) fn copied(alloc: Global, shown: &Shown) -> Result<Row, AllocError> {
 }
 
 /// The command of a row, which stands behind this end.
-fn command_of(alloc: Global, end: End, shown: &Shown) -> Result<Command, LedgerFault> {
+fn command_of(alloc: Global, end: End, shown: &Shown) -> Result<Command, LedgerFault>
+    ensures row { IfOk result (λ command. shown.now ≡ row_at end command) }
+    ensures sound { IfOk result IsSound }
+{
     let Ok(row) = copied(alloc, shown) else {
         return Err(LedgerFault::NoMemory);
     };
@@ -41,68 +78,78 @@ fn command_of(alloc: Global, end: End, shown: &Shown) -> Result<Command, LedgerF
     }
 }
 
-/// The commands of rows, read one at a time, the first of which has the serial 1, and how far they go.
-fn commands_of<S: Alter>(
-    alloc: Global,
-    rows: &mut Rows<'_, S>,
-) -> Result<(Vec<Command>, End), LedgerFault> {
-    let mut commands = Vec::new(alloc);
-    let mut end = End::new();
-    for _ in 0..=u32::MAX {
-        let row = match rows.next() {
-            Ok(Some(row)) => row,
-            Ok(None) => return Ok((commands, end)),
-            Err(error) => return Err(fault_of_read(error)),
-        };
-        let command = command_of(alloc, end, row)?;
-        let Some(next) = end.next(&command) else {
+/// Commands that were read, the first of which has the serial 1, and how far they go.
+#[derive(Drop)]
+struct Found {
+    commands: Vec<Command>,
+    end: End,
+}
+
+impl Found {
+    /// None yet.
+    fn new(alloc: Global) -> Self
+        ensures end { result.end ≡ record { serial = 0; granted = 0 } }
+        ensures none { result.commands.items ≡ [] }
+    {
+        Found {
+            commands: Vec::new(alloc),
+            end: End::new(),
+        }
+    }
+
+    /// Reads the next row.
+    fn add(&mut self, alloc: Global, shown: &Shown) -> Result<(), LedgerFault>
+        ensures { OnOk result (IsRead self.old.commands.items self.new.commands.items self.old.end self.new.end shown.now) }
+    {
+        let command = command_of(alloc, self.end, shown)?;
+        let Some(next) = self.end.next(&command) else {
             return Err(LedgerFault::Damaged);
         };
-        end = next;
-        let Ok(()) = commands.push(command) else {
+        let Ok(()) = self.commands.push(command) else {
             return Err(LedgerFault::NoMemory);
         };
+        self.end = next;
+        Ok(())
     }
-    Err(LedgerFault::Damaged)
 }
 
-/// The commands that a database in the form of a ledger's keeps, and how far they go.
-fn commands_in<S: Alter>(
+/// The commands that a database in the form of a ledger's keeps, read one row at a time, and how far they go.
+fn commands_in<S: Alter>(alloc: Global, conn: &mut Connection<S>) -> Result<Found, Stop>
+    requires { HasCleanDisk (state S.Store conn.old) → (state S.Store conn.old).now.schema ≡ ledger_schema }
+    ensures rows { HasCleanDisk (state S.Store conn.new) → IfOk result (λ found.
+        IsPermutation (rows_of found.commands.items) (rows_in (state S.Store conn.old).now.trees)) }
+    ensures end { IfOk result (λ found. found.end ≡ end_of found.commands.items) }
+    ensures sound { IfOk result (λ found. All IsSound found.commands.items) }
+    ensures same { HasCleanDisk (state S.Store conn.new) →
+        OnOk result (IsUnchanged (state S.Store conn.old) (state S.Store conn.new)) }
+    ensures crash { Survives (state S.Store conn.old) (state S.Store conn.new) (λ _. ⊥) }
+{
+    let mut found = Found::new(alloc);
+    let mut rows = conn.query(SELECT, &[])?;
+    'rows: for _ in 0..=u32::MAX {
+        let Some(row) = rows.next()? else {
+            return Ok(found);
+        };
+        found.add(alloc, row)?;
+    }
+    Err(Stop::Row(LedgerFault::Damaged))
+}
+
+/// The commands that a database in the form of a ledger's keeps. Refused as the ledger in it would be.
+pub(crate) fn commands_over<S: Alter + Drop>(
     alloc: Global,
-    conn: &mut Connection<S>,
-) -> Result<(Vec<Command>, End), LedgerFault> {
-    match conn.query(SELECT, &[]) {
-        Ok(mut rows) => commands_of(alloc, &mut rows),
-        Err(error) => Err(fault_of_read(error)),
+    conn: Connection<S>,
+) -> Result<Vec<Command>, LedgerFault> {
+    let mut conn = conn;
+    match has_form(&mut conn) {
+        Ok(true) => {}
+        Ok(false) => return Err(LedgerFault::Form),
+        Err(error) => return Err(fault_of_read(error)),
     }
-}
-
-/// The row with the form's version.
-fn version<S: Alter>(conn: &mut Connection<S>) -> Result<Shown, LedgerFault> {
-    match conn.query_row(SELECT_VERSION, &[]) {
-        Ok(row) => Ok(row),
-        Err(error) => Err(fault_of_read(error)),
+    match commands_in(alloc, &mut conn) {
+        Ok(Found { commands, end: _ }) => Ok(commands),
+        Err(stop) => Err(fault_of(stop)),
     }
-}
-
-/// Whether the form's version is that which is read here.
-fn has_version<S: Alter>(conn: &mut Connection<S>) -> Result<bool, LedgerFault> {
-    let row = version(conn)?;
-    match row.get(0) {
-        Ok(version) => {
-            let version: i64 = version;
-            Ok(version == VERSION)
-        }
-        Err(error) => Err(fault_of_read(error)),
-    }
-}
-
-/// Whether a database has the form of a ledger's.
-fn has_form<S: Alter>(conn: &mut Connection<S>) -> Result<bool, LedgerFault> {
-    if !is_form(conn.schema()) {
-        return Ok(false);
-    }
-    has_version(conn)
 }
 
 /// The ledger in a database, which is given the form of one where it has nothing in it, and the commands that it keeps.
@@ -112,12 +159,28 @@ fn has_form<S: Alter>(conn: &mut Connection<S>) -> Result<bool, LedgerFault> {
 pub fn ledger_over<S: Alter + Drop>(
     alloc: Global,
     conn: Connection<S>,
-) -> Result<(SqlLedger<S>, Vec<Command>), LedgerFault> {
+) -> Result<(SqlLedger<S>, Vec<Command>), LedgerFault>
+    ensures kept { IfOk result (λ opened. IsTold (state S.Store opened.0.conn) →
+        Keeps (state S.Store opened.0.conn) opened.0.end opened.1.items) }
+    ensures found { IfOk result (λ opened. IsTold (state S.Store opened.0.conn) →
+        WasFound (state S.Store conn).committed opened.1.items) }
+    ensures crash { IfOk result (λ opened. Survives (state S.Store conn) (state S.Store opened.0.conn) (λ db. rows_in db ≡ [])) }
+{
     let mut conn = conn;
-    settle(&mut conn)?;
-    if !has_form(&mut conn)? {
+    if let Err(error) = settle(&mut conn) {
+        return Err(fault_of_write(error));
+    }
+    match has_form(&mut conn) {
+        Ok(true) => {}
+        Ok(false) => return Err(LedgerFault::Form),
+        Err(error) => return Err(fault_of_read(error)),
+    }
+    let Found { commands, end } = match commands_in(alloc, &mut conn) {
+        Ok(found) => found,
+        Err(stop) => return Err(fault_of(stop)),
+    };
+    if !conn.is_autocommit() {
         return Err(LedgerFault::Form);
     }
-    let (commands, end) = commands_in(alloc, &mut conn)?;
     Ok((SqlLedger { conn, alloc, end }, commands))
 }

@@ -38,6 +38,11 @@ pub trait Shelf {
     fn open(&self, alloc: Global, name: &str) -> Result<(Self::Kept, Vec<Command>), LedgerFault>
         ensures stood { IfOk result (λ opened. stands self.now name.now opened.1.items) }
         ensures kept { IfOk result (λ opened. Self.Kept.tells opened.0 → Self.Kept.keeps opened.0 opened.1.items) };
+
+    /// The commands that the ledger of a name keeps. It keeps the same ones afterwards, and one that is not there is not
+    /// made: `Open`.
+    fn commands(&self, alloc: Global, name: &str) -> Result<Vec<Command>, LedgerFault>
+        ensures stood { IfOk result (λ commands. stands self.now name.now commands.items) };
 }
 
 /// A ledger of a book that ends with its process: it keeps nothing, and tells nothing.

@@ -1,0 +1,3 @@
+mod AddressLaws
+pub mod CellLaws
+pub mod SlashLaws

@@ -1,6 +1,8 @@
 //! The command of a row.
 ghost use Rattle.std.specs.Prelude.{◌≡◌, ◌<◌, IfOk};
+ghost use Rattle.ds_broker.specs.declared.command.Command.{Command};
 ghost use Rattle.ds_ledger_rows.specs.Cells.{cells_of, id_of};
+ghost use Rattle.ds_ledger_rows.specs.Sound.{IsSound};
 
 use crate::writing::row_of;
 use af_marker::{Class, Dscp};
@@ -35,7 +37,10 @@ pub fn read_command(
     granted: u32,
     row: &Row,
 ) -> Result<Command, RowFault>
-    ensures { IfOk result (λ command. row.now ≡ cells_of serial (id_of granted command) command) }
+    ensures cells { IfOk result (λ command. row.now ≡ cells_of serial (id_of granted command) command) }
+    ensures sound { IfOk result IsSound }
+    ensures same { IfOk result (λ command. (other : Command) → IsSound other →
+        row.now ≡ cells_of serial (id_of granted other) other → command ≡ other) }
 {
     let command = command_in(alloc, row)?;
     let Ok(own) = row_of(alloc, serial, id_of(granted, &command), &command) else {

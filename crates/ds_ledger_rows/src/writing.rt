@@ -1,5 +1,5 @@
 //! The row of a command.
-ghost use Rattle.std.specs.Prelude.{◌≡◌, ◌++◌, ◌∷◌, ◌<◌, ◌^◌, [], IfOk, IfSome, OnOk, Some, string_bytes};
+ghost use Rattle.std.specs.Prelude.{◌≡◌, ◌++◌, ◌∷◌, ◌<◌, ◌^◌, [], All, IfOk, IfSome, OnOk, Some, string_bytes};
 ghost use Rattle.flow_classifier.specs.declared.prefix.Prefix.TheVariants.{V4, V6};
 ghost use Rattle.sqlite_value.specs.declared.value.Value.TheVariants.{Null, Text};
 ghost use Rattle.ds_ledger_rows.specs.Cells.{address_text, cells_of, choice_cell, choice_cells, contract_cells};
@@ -7,6 +7,7 @@ ghost use Rattle.ds_ledger_rows.specs.Cells.{head_cells, kind_text, mode_text, n
 ghost use Rattle.ds_ledger_rows.specs.Cells.{parameters_cells, path_text};
 ghost use Rattle.ds_ledger_rows.specs.Cells.{peak_cells, prefix_cells, profile_cells, range_cells, rule_cells};
 ghost use Rattle.ds_ledger_rows.specs.Cells.{terms_cells};
+ghost use Rattle.ds_ledger_rows.specs.Sound.{HasNoSlash, IsAddressed, IsSound, IsSoundContract};
 
 use ds_broker::Command;
 use ds_domain_base::{Contract, Name, Peak, Profile, Terms};
@@ -23,7 +24,8 @@ pub const COLUMNS: usize = 28;
 
 /// The row of a command that was accepted with this serial and this id; `AllocError` where memory runs out.
 pub fn row_of(alloc: Global, serial: u32, id: u32, command: &Command) -> Result<Row, AllocError>
-    ensures { IfOk result (λ row. row ≡ cells_of serial id command.now) }
+    ensures cells { IfOk result (λ row. row ≡ cells_of serial id command.now) }
+    ensures sound { IfOk result (λ row. IsSound command.now) }
 {
     let mut row = Row::new(alloc);
     match command {
@@ -98,7 +100,8 @@ fn push_nulls(row: &mut Row) -> Result<(), AllocError>
 
 /// Appends a contract.
 fn push_contract(alloc: Global, row: &mut Row, contract: &Contract) -> Result<(), AllocError>
-    ensures { OnOk result (row.new ≡ row.old ++ contract_cells contract.now) }
+    ensures cells { OnOk result (row.new ≡ row.old ++ contract_cells contract.now) }
+    ensures sound { OnOk result (IsSoundContract contract.now) }
 {
     push_way(alloc, row, contract)?;
     push_terms(row, &contract.terms)?;
@@ -109,8 +112,9 @@ fn push_contract(alloc: Global, row: &mut Row, contract: &Contract) -> Result<()
 
 /// Appends the name of a contract, its port, its path and its class.
 fn push_way(alloc: Global, row: &mut Row, contract: &Contract) -> Result<(), AllocError>
-    ensures { OnOk result (row.new ≡ row.old ++ (Text contract.now.name ∷ Text contract.now.port
+    ensures cells { OnOk result (row.new ≡ row.old ++ (Text contract.now.name ∷ Text contract.now.port
         ∷ Text (path_text contract.now.path) ∷ number_cell contract.now.class ∷ [])) }
+    ensures sound { OnOk result (All HasNoSlash contract.now.path) }
 {
     let path = path_text(alloc, contract.path.meters())?;
     push_text(row, contract.name.bytes())?;
@@ -131,14 +135,24 @@ fn push_until(row: &mut Row, contract: &Contract) -> Result<(), AllocError>
 
 /// The text of a path: each meter behind a slash.
 fn path_text(alloc: Global, meters: &[Name]) -> Result<Vec<u8>, AllocError>
-    ensures { IfOk result (λ text. text.items ≡ path_text meters.now) }
+    ensures text { IfOk result (λ text. text.items ≡ path_text meters.now) }
+    ensures sound { IfOk result (λ text. All HasNoSlash meters.now) }
 {
     let mut text = Vec::new(alloc);
     for meter in meters {
-        text.push(b'/')?;
-        text.extend_from_slice(meter.bytes())?;
+        push_meter(&mut text, meter)?;
     }
     Ok(text)
+}
+
+/// Appends the name of a meter behind a slash.
+#[tactic(auto, using(crate::proofs::SlashLaws::no_slash))]
+fn push_meter(text: &mut Vec<u8>, meter: &Name) -> Result<(), AllocError>
+    ensures text { OnOk result (text.new.items ≡ text.old.items ++ 47 ∷ meter.now) }
+    ensures sound { OnOk result (HasNoSlash meter.now) }
+{
+    text.push(b'/')?;
+    text.extend_from_slice(meter.bytes())
 }
 
 /// Appends a rate.
@@ -287,7 +301,8 @@ fn push_ipv4(row: &mut Row, prefix: Ipv4Prefix) -> Result<(), AllocError>
 
 /// Appends a prefix of IPv6: its address as a text.
 fn push_ipv6(alloc: Global, row: &mut Row, prefix: Ipv6Prefix) -> Result<(), AllocError>
-    ensures { OnOk result (row.new ≡ row.old ++ prefix_cells (Some (V6 prefix))) }
+    ensures cells { OnOk result (row.new ≡ row.old ++ prefix_cells (Some (V6 prefix))) }
+    ensures sound { OnOk result (prefix.address < 2 ^ 128) }
 {
     push_address(alloc, row, prefix.address())?;
     push_count(row, u64::from(prefix.length()))
@@ -295,7 +310,8 @@ fn push_ipv6(alloc: Global, row: &mut Row, prefix: Ipv6Prefix) -> Result<(), All
 
 /// Appends a prefix, if there is one.
 fn push_prefix(alloc: Global, row: &mut Row, prefix: &Option<Prefix>) -> Result<(), AllocError>
-    ensures { OnOk result (row.new ≡ row.old ++ prefix_cells prefix.now) }
+    ensures cells { OnOk result (row.new ≡ row.old ++ prefix_cells prefix.now) }
+    ensures sound { OnOk result (IfSome prefix.now IsAddressed) }
 {
     match prefix {
         Some(Prefix::V4(prefix)) => push_ipv4(row, *prefix),
@@ -329,7 +345,9 @@ fn push_protocol(row: &mut Row, protocol: Option<u8>) -> Result<(), AllocError>
 
 /// Appends a rule.
 fn push_rule(alloc: Global, row: &mut Row, rule: &Rule) -> Result<(), AllocError>
-    ensures { OnOk result (row.new ≡ row.old ++ rule_cells rule.now) }
+    ensures cells { OnOk result (row.new ≡ row.old ++ rule_cells rule.now) }
+    ensures source { OnOk result (IfSome rule.now.source IsAddressed) }
+    ensures target { OnOk result (IfSome rule.now.target IsAddressed) }
 {
     push_prefix(alloc, row, &rule.source)?;
     push_prefix(alloc, row, &rule.target)?;

@@ -1,11 +1,12 @@
 -- What of a capture is marked, by what was read of it.
 use Rattle.std.proofs.Common.{◌≡◌, ◌⊎◌, ℕ, Bool, true, false, cond, List, [], ◌++◌, Option, None, Some, Result, Ok, Err, append-nil, zip, refl, subst, sym, ◌∙◌, ap, inl, inr}
+use Rattle.capture_reader.specs.Formats.{bytes_before}
 use Rattle.pcap_capture.specs.Frames.{FrameValue}
-use Rattle.pcap_capture.specs.Grammar.{Reading, after_heading, capture, fault_in, heading_of}
+use Rattle.capture_reader.specs.Formats.{Reading, after_opening, capture, fault_in, opening_of}
 use Rattle.pcap_capture.specs.declared.fault.PcapFault.{PcapFault}
 use Rattle.pcap_capture.specs.declared.fault.PcapFault.TheVariants as pcaps
-use Rattle.pcap_capture.specs.declared.heading.Heading.{Heading}
-use Rattle.pcap_capture.proofs.HeadingLaws.{heading-append}
+use Rattle.capture_reader.specs.declared.opening.Opening.{Opening}
+use Rattle.capture_reader.proofs.FormatLaws.{opening-append}
 use Rattle.ds_domain_base.specs.Domains.{Domain, is_port}
 use Rattle.run_audit.specs.declared.verdict.Verdict.{Verdict}
 use Rattle.run_audit.specs.declared.verdict.Verdict.TheVariants.{Kept}
@@ -14,8 +15,8 @@ use Rattle.ds_conductor_base.specs.Passing.{colours_of}
 use Rattle.ds_marking.specs.Markings.{IsMarked, IsMarkedAs, IsMarkedBut, IsVerdictOn, IsWhole, IsWholeSoFar, IsWholeWith, Marking, answer_of, marking_behind, marking_in, marking_of, nothing_marked}
 use Rattle.ds_conditioner.specs.Sendings.{see}
 use Rattle.pcap_capture.specs.Takings.{is_own}
-use Rattle.pcap_capture.proofs.OwnLaws.{fault_in_own}
-use Rattle.capture_reader.specs.Readings.{IsHeadingTold, IsReading, IsReadTo, heading_in}
+use Rattle.capture_reader.proofs.OwnLaws.{fault_in_own}
+use Rattle.capture_reader.specs.Readings.{IsOpeningTold, IsReading, IsReadTo, opening_in}
 use Rattle.ds_conditioner.specs.Conditionings.{IsPortOf, see_at}
 use Rattle.ds_marking.specs.Faults.{fault_of}
 use Rattle.ds_marking.specs.Passings.{IsBegun, IsBrokenOff, IsFinished, IsMarkedAt, marking_at}
@@ -36,10 +37,10 @@ use Rattle.ds_conditioner.specs.declared.report.Report.{Report}
 use Rattle.ds_conditioner.specs.declared.rule.RedRule.{RedRule}
 use Rattle.capture_reader.proofs.ReadingLaws.{fault_stands}
 
--- the marking of frames whose heading is there, or not
-abbrev pub marking_told : Table → List ℕ → RedRule → Option Heading → List FrameValue → Marking
+-- the marking of frames whose opening is known, or not
+abbrev pub marking_told : Table → List ℕ → RedRule → Option Opening → List FrameValue → Marking
 marking_told t port red None frames = nothing_marked
-marking_told t port red (Some heading) frames = marking_of t port red heading frames
+marking_told t port red (Some opening) frames = marking_of t port red opening frames
 
 -- how the bytes of a capture end that were read with a fault, or without
 abbrev pub EndsAs : Option PcapFault → List ℕ → List ℕ → Type 0
@@ -49,34 +50,34 @@ EndsAs (Some fault) read more =
     ⊎ ((is_own fault ≡ true) × (fault_in (read ++ more) ≡ Some fault) × ((more ≡ []) ⊎ ((capture read).fault ≡ Some fault)))
 
 -- what was read of a capture while memory was there: the bytes in which its frames stand, and what ended them
-pub record IsSeen (bytes more : List ℕ) (heading : Option Heading) (frames : List FrameValue) (fault : Option PcapFault) : Type 0 where
+pub record IsSeen (bytes more : List ℕ) (opening : Option Opening) (frames : List FrameValue) (fault : Option PcapFault) : Type 0 where
   pub read : List ℕ
   pub front : bytes ≡ read ++ more
-  pub told : heading_in read heading
+  pub told : opening_in read opening
   pub shown : frames ≡ (capture read).frames
   pub ended : EndsAs fault read more
 
--- a heading that was told while memory was there
-told_well : (read : List ℕ) (heading : Option Heading) (fault : Option PcapFault) → ¬ (fault ≡ Some pcaps.NoMemory) → IsHeadingTold read heading fault
-    → heading_in read heading
-told_well read heading fault well (inl told) = told
-told_well read heading fault well (inr memory) = absurd (well memory.1)
+-- an opening that was told while memory was there
+told_well : (read : List ℕ) (opening : Option Opening) (fault : Option PcapFault) → ¬ (fault ≡ Some pcaps.NoMemory) → IsOpeningTold read opening fault
+    → opening_in read opening
+told_well read opening fault well (inl told) = told
+told_well read opening fault well (inr memory) = absurd (well memory.1)
 
-none_behind : (read more : List ℕ) (fault : PcapFault) (found : Option (Result Heading PcapFault)) → heading_of read ≡ found → (after_heading read found).fault ≡ Some fault
-    → heading_in read None → heading_in (read ++ more) None
+none_behind : (read more : List ℕ) (fault : PcapFault) (found : Option (Result Opening PcapFault)) → opening_of read ≡ found → (after_opening read found).fault ≡ Some fault
+    → opening_in read None → opening_in (read ++ more) None
 none_behind read more fault None e stands none = absurd cc
-none_behind read more fault (Some (Err other)) e stands none = λ heading h. let known = heading-append read more (Err other) e in cc
-none_behind read more fault (Some (Ok heading)) e stands none = absurd (none heading e)
+none_behind read more fault (Some (Err other)) e stands none = λ opening h. let known = opening-append read more (Err other) e in cc
+none_behind read more fault (Some (Ok opening)) e stands none = absurd (none opening e)
 
-none_stands : (read more : List ℕ) (fault : PcapFault) → (capture read).fault ≡ Some fault → heading_in read None → heading_in (read ++ more) None
+none_stands : (read more : List ℕ) (fault : PcapFault) → (capture read).fault ≡ Some fault → opening_in read None → opening_in (read ++ more) None
 unfolding capture
-none_stands read more fault stands none = none_behind read more fault (heading_of read) refl stands none
+none_stands read more fault stands none = none_behind read more fault (opening_of read) refl stands none
 
--- the heading stays the same with what stands behind a fault
-told_on : (read more : List ℕ) (heading : Option Heading) (fault : PcapFault) → heading_in read heading → (more ≡ []) ⊎ ((capture read).fault ≡ Some fault)
-    → heading_in (read ++ more) heading
-told_on read more (Some heading) fault told why = heading-append read more (Ok heading) told
-told_on read more None fault told (inl nothing) = subst (λ all. heading_in all None) (sym (ap (λ m. read ++ m) nothing ∙ append-nil read)) told
+-- the opening stays the same with what stands behind a fault
+told_on : (read more : List ℕ) (opening : Option Opening) (fault : PcapFault) → opening_in read opening → (more ≡ []) ⊎ ((capture read).fault ≡ Some fault)
+    → opening_in (read ++ more) opening
+told_on read more (Some opening) fault told why = opening-append read more (Ok opening) told
+told_on read more None fault told (inl nothing) = subst (λ all. opening_in all None) (sym (ap (λ m. read ++ m) nothing ∙ append-nil read)) told
 told_on read more None fault told (inr stands) = none_stands read more fault stands told
 
 -- the frames stay the same with what stands behind a fault
@@ -84,55 +85,55 @@ frames_on : (read more : List ℕ) (fault : PcapFault) → (more ≡ []) ⊎ ((c
 frames_on read more fault (inl nothing) = ap (λ all. (capture all).frames) (ap (λ m. read ++ m) nothing ∙ append-nil read)
 frames_on read more fault (inr stands) = ap (λ (r : Reading). r.frames) (fault_stands read more fault stands)
 
-seen_by : (bytes read more : List ℕ) (heading : Option Heading) (frames : List FrameValue) (fault : PcapFault) → ¬ (Some fault ≡ Some pcaps.NoMemory) → bytes ≡ read ++ more
-    → IsHeadingTold read heading (Some fault) → IsReadTo read more frames (Some fault) → IsSeen bytes more heading frames (Some fault)
-seen_by bytes read more heading frames fault well front told (inl unread) = record {
+seen_by : (bytes read more : List ℕ) (opening : Option Opening) (frames : List FrameValue) (fault : PcapFault) → ¬ (Some fault ≡ Some pcaps.NoMemory) → bytes ≡ read ++ more
+    → IsOpeningTold read opening (Some fault) → IsReadTo read more frames (Some fault) → IsSeen bytes more opening frames (Some fault)
+seen_by bytes read more opening frames fault well front told (inl unread) = record {
   read = read;
   front = front;
-  told = told_well read heading (Some fault) well told;
+  told = told_well read opening (Some fault) well told;
   shown = unread.1;
   ended = inl (unread.0, unread.2);
 }
-seen_by bytes read more heading frames fault well front told (inr (inl memory)) = absurd (well (ap Some memory.0))
-seen_by bytes read more heading frames fault well front told (inr (inr stands)) = record {
+seen_by bytes read more opening frames fault well front told (inr (inl memory)) = absurd (well (ap Some memory.0))
+seen_by bytes read more opening frames fault well front told (inr (inr stands)) = record {
   read = read;
   front = front;
-  told = told_well read heading (Some fault) well told;
+  told = told_well read opening (Some fault) well told;
   shown = stands.0 ∙ frames_on read more fault stands.2;
   ended = inr (fault_in_own (read ++ more) fault stands.1, stands.1, stands.2);
 }
 
 -- what was read while memory was there
-pub seen : (bytes more : List ℕ) (heading : Option Heading) (frames : List FrameValue) (fault : Option PcapFault) → ¬ (fault ≡ Some pcaps.NoMemory)
-    → IsReading bytes more heading frames fault → IsSeen bytes more heading frames fault
-seen bytes more heading frames None well reading = record {
+pub seen : (bytes more : List ℕ) (opening : Option Opening) (frames : List FrameValue) (fault : Option PcapFault) → ¬ (fault ≡ Some pcaps.NoMemory)
+    → IsReading bytes more opening frames fault → IsSeen bytes more opening frames fault
+seen bytes more opening frames None well reading = record {
   read = reading.read;
   front = reading.front;
-  told = told_well reading.read heading None well reading.told;
+  told = told_well reading.read opening None well reading.told;
   shown = reading.ended.1;
   ended = (reading.ended.0, reading.ended.2);
 }
-seen bytes more heading frames (Some fault) well reading = seen_by bytes reading.read more heading frames fault well reading.front reading.told reading.ended
+seen bytes more opening frames (Some fault) well reading = seen_by bytes reading.read more opening frames fault well reading.front reading.told reading.ended
 
-unmarked_by : (t : Table) (port : List ℕ) (red : RedRule) (read : List ℕ) (found : Option (Result Heading PcapFault)) (frames : List FrameValue) → heading_of read ≡ found
-    → heading_in read None → marking_behind t port red found frames ≡ nothing_marked
+unmarked_by : (t : Table) (port : List ℕ) (red : RedRule) (read : List ℕ) (found : Option (Result Opening PcapFault)) (frames : List FrameValue) → opening_of read ≡ found
+    → opening_in read None → marking_behind t port red found frames ≡ nothing_marked
 unmarked_by t port red read None frames e none = refl
 unmarked_by t port red read (Some (Err fault)) frames e none = refl
-unmarked_by t port red read (Some (Ok heading)) frames e none = absurd (none heading e)
+unmarked_by t port red read (Some (Ok opening)) frames e none = absurd (none opening e)
 
--- the marking of bytes is that of their heading and their frames
-pub marked_is : (t : Table) (port : List ℕ) (red : RedRule) (read : List ℕ) (heading : Option Heading) (frames : List FrameValue) → heading_in read heading
-    → frames ≡ (capture read).frames → marking_told t port red heading frames ≡ marking_in t port red read
-marked_is t port red read None frames told same = sym (unmarked_by t port red read (heading_of read) (capture read).frames refl told)
-marked_is t port red read (Some heading) frames told same =
-    ap (marking_told t port red (Some heading)) same ∙ ap (λ found. marking_behind t port red found (capture read).frames) (sym told)
+-- the marking of bytes is that of their opening and their frames
+pub marked_is : (t : Table) (port : List ℕ) (red : RedRule) (read : List ℕ) (opening : Option Opening) (frames : List FrameValue) → opening_in read opening
+    → frames ≡ (capture read).frames → marking_told t port red opening frames ≡ marking_in t port red read
+marked_is t port red read None frames told same = sym (unmarked_by t port red read (opening_of read) (capture read).frames refl told)
+marked_is t port red read (Some opening) frames told same =
+    ap (marking_told t port red (Some opening)) same ∙ ap (λ found. marking_behind t port red found (capture read).frames) (sym told)
 
 -- the marking stays the same with what stands behind a fault
-marking_on : (t : Table) (port : List ℕ) (red : RedRule) (read more : List ℕ) (heading : Option Heading) (fault : PcapFault) → heading_in read heading
+marking_on : (t : Table) (port : List ℕ) (red : RedRule) (read more : List ℕ) (opening : Option Opening) (fault : PcapFault) → opening_in read opening
     → (more ≡ []) ⊎ ((capture read).fault ≡ Some fault) → marking_in t port red (read ++ more) ≡ marking_in t port red read
-marking_on t port red read more heading fault told why =
-    sym (marked_is t port red (read ++ more) heading (capture read).frames (told_on read more heading fault told why) (sym (frames_on read more fault why)))
-    ∙ marked_is t port red read heading (capture read).frames told refl
+marking_on t port red read more opening fault told why =
+    sym (marked_is t port red (read ++ more) opening (capture read).frames (told_on read more opening fault told why) (sym (frames_on read more fault why)))
+    ∙ marked_is t port red read opening (capture read).frames told refl
 
 -- a marking that was written whole is that of all bytes, where these end with what was read
 whole_of : (marked : List ℕ → Marking) (bytes read more before after : List ℕ) (report : Report) → bytes ≡ read ++ more → more ≡ []
@@ -179,6 +180,16 @@ marked_but marked bytes read more before after report pcaps.Truncated well unwri
     stands_of marked bytes read more before after report pcaps.Truncated (λ e. cc) front stays ended whole
 marked_but marked bytes read more before after report pcaps.Failed well unwritten front stays ended whole =
     stands_of marked bytes read more before after report pcaps.Failed (λ e. cc) front stays ended whole
+marked_but marked bytes read more before after report pcaps.BadMagic well unwritten front stays ended whole =
+    stands_of marked bytes read more before after report pcaps.BadMagic (λ e. cc) front stays ended whole
+marked_but marked bytes read more before after report (pcaps.BadLength size) well unwritten front stays ended whole =
+    stands_of marked bytes read more before after report (pcaps.BadLength size) (λ e. cc) front stays ended whole
+marked_but marked bytes read more before after report (pcaps.BlockTooLong size) well unwritten front stays ended whole =
+    stands_of marked bytes read more before after report (pcaps.BlockTooLong size) (λ e. cc) front stays ended whole
+marked_but marked bytes read more before after report pcaps.LengthsDiffer well unwritten front stays ended whole =
+    stands_of marked bytes read more before after report pcaps.LengthsDiffer (λ e. cc) front stays ended whole
+marked_but marked bytes read more before after report (pcaps.UnknownInterface number) well unwritten front stays ended whole =
+    stands_of marked bytes read more before after report (pcaps.UnknownInterface number) (λ e. cc) front stays ended whole
 marked_but marked bytes read more before after report pcaps.ReadFault well unwritten front stays ended whole = cut_of marked bytes read more before after report front ended whole
 marked_but marked bytes read more before after report pcaps.WriteFault well unwritten front stays ended whole = absurd (unwritten refl)
 marked_but marked bytes read more before after report pcaps.NoMemory well unwritten front stays ended whole = absurd (well refl)
@@ -211,26 +222,26 @@ read_all t port red bytes read more None front ended none = ap (marking_in t por
 read_all t port red bytes read more (Some fault) front ended none = absurd cc
 
 -- frames that were marked are the marked capture, by what was read of it
-pub all_marked : (t : Table) (port : List ℕ) (red : RedRule) (bytes more before after : List ℕ) (heading : Option Heading) (frames : List FrameValue) (report : Report)
-    (verdict : Verdict) (fault : Option PcapFault) → ¬ (fault ≡ Some pcaps.NoMemory) → ¬ (fault ≡ Some pcaps.WriteFault) → IsSeen bytes more heading frames fault
-    → (fault ≡ None → IsVerdictOn t (marking_told t port red heading frames).sent verdict)
-    → IsWhole (marking_told t port red heading frames) report before after → IsMarkedAs t port red bytes more before after (answer_of verdict report fault)
-all_marked t port red bytes more before after heading frames report verdict fault well unwritten at judges whole =
+pub all_marked : (t : Table) (port : List ℕ) (red : RedRule) (bytes more before after : List ℕ) (opening : Option Opening) (frames : List FrameValue) (report : Report)
+    (verdict : Verdict) (fault : Option PcapFault) → ¬ (fault ≡ Some pcaps.NoMemory) → ¬ (fault ≡ Some pcaps.WriteFault) → IsSeen bytes more opening frames fault
+    → (fault ≡ None → IsVerdictOn t (marking_told t port red opening frames).sent verdict)
+    → IsWhole (marking_told t port red opening frames) report before after → IsMarkedAs t port red bytes more before after (answer_of verdict report fault)
+all_marked t port red bytes more before after opening frames report verdict fault well unwritten at judges whole =
     as_answered t port red bytes more before after report verdict fault
     (λ none. subst (λ (m : Marking). IsVerdictOn t m.sent verdict)
-    (marked_is t port red at.read heading frames at.told at.shown ∙ read_all t port red bytes at.read more fault at.front at.ended none) (judges none))
+    (marked_is t port red at.read opening frames at.told at.shown ∙ read_all t port red bytes at.read more fault at.front at.ended none) (judges none))
     (answered (marking_in t port red) bytes at.read more before after report fault well unwritten at.front
-    (λ stands why. marking_on t port red at.read more heading stands at.told why) at.ended
-    (subst (λ m. IsWhole m report before after) (marked_is t port red at.read heading frames at.told at.shown) whole))
+    (λ stands why. marking_on t port red at.read more opening stands at.told why) at.ended
+    (subst (λ m. IsWhole m report before after) (marked_is t port red at.read opening frames at.told at.shown) whole))
 
-nothing_is : (t : Table) (port : List ℕ) (red : RedRule) (heading : Heading) → nothing_read ≡ (marking_of t port red heading []).report
+nothing_is : (t : Table) (port : List ℕ) (red : RedRule) (opening : Opening) → nothing_read ≡ (marking_of t port red opening []).report
 unfolding sent_from
-nothing_is t port red heading = refl
+nothing_is t port red opening = refl
 
-nothing_behind : (t : Table) (port : List ℕ) (red : RedRule) (found : Option (Result Heading PcapFault)) → nothing_read ≡ (marking_behind t port red found []).report
+nothing_behind : (t : Table) (port : List ℕ) (red : RedRule) (found : Option (Result Opening PcapFault)) → nothing_read ≡ (marking_behind t port red found []).report
 nothing_behind t port red None = refl
 nothing_behind t port red (Some (Err fault)) = refl
-nothing_behind t port red (Some (Ok heading)) = nothing_is t port red heading
+nothing_behind t port red (Some (Ok opening)) = nothing_is t port red opening
 
 -- memory ran out before anything was written
 pub starved_marked : (t : Table) (port : List ℕ) (red : RedRule) (bytes read more before after : List ℕ) (report : Report) → bytes ≡ read ++ more → after ≡ before → report ≡ nothing_read
@@ -242,11 +253,11 @@ starved_marked t port red bytes read more before after report front same told = 
   front = front;
   parted = refl;
   written = subst (λ now. IsFrontOf before (marking_in t port red read).text now) (sym same) (IsFrontOf-none before (marking_in t port red read).text);
-  covered = let text = (marking_behind t port red (heading_of read) []).text in subst (λ now. IsFrontOf before text now) (sym same) (IsFrontOf-none before text);
-  told = told ∙ nothing_behind t port red (heading_of read);
+  covered = let text = (marking_behind t port red (opening_of read) []).text in subst (λ now. IsFrontOf before text now) (sym same) (IsFrontOf-none before text);
+  told = told ∙ nothing_behind t port red (opening_of read);
 }
 
--- a fault before the heading was there
+-- a fault before the opening was known
 unheaded_by : (t : Table) (port : List ℕ) (red : RedRule) (bytes more before after : List ℕ) (frames : List FrameValue) (fault : PcapFault) → ¬ (fault ≡ pcaps.NoMemory)
     → ¬ (fault ≡ pcaps.WriteFault) → IsReading bytes more None frames (Some fault) → after ≡ before
     → IsMarkedAs t port red bytes more before after (Err (nothing_read, marks.Capture fault))
@@ -256,7 +267,7 @@ unheaded_by t port red bytes more before after frames fault well writable readin
     all_marked t port red bytes more before after None frames nothing_read Kept (Some fault) memory unwritten (seen bytes more None frames (Some fault) memory reading) (λ none. absurd cc)
     (record { written = same ∙ sym (append-nil before); told = refl })
 
-abbrev told_of : PcapFault → Result Heading PcapFault
+abbrev told_of : PcapFault → Result Opening PcapFault
 told_of fault = Err fault
 
 unheaded_at : (t : Table) (port : List ℕ) (red : RedRule) (bytes more before after : List ℕ) (frames : List FrameValue) (fault : PcapFault) → ¬ (told_of fault ≡ told_of pcaps.WriteFault)
@@ -268,6 +279,11 @@ unheaded_at t port red bytes more before after frames (pcaps.LinkType number) w 
 unheaded_at t port red bytes more before after frames (pcaps.RecordTooLong count) w r same =
     unheaded_by t port red bytes more before after frames (pcaps.RecordTooLong count) (λ e. cc) (λ e. cc) r same
 unheaded_at t port red bytes more before after frames pcaps.Truncated w r same = unheaded_by t port red bytes more before after frames pcaps.Truncated (λ e. cc) (λ e. cc) r same
+unheaded_at t port red bytes more before after frames pcaps.BadMagic w r same = unheaded_by t port red bytes more before after frames pcaps.BadMagic (λ e. cc) (λ e. cc) r same
+unheaded_at t port red bytes more before after frames (pcaps.BadLength size) w r same = unheaded_by t port red bytes more before after frames (pcaps.BadLength size) (λ e. cc) (λ e. cc) r same
+unheaded_at t port red bytes more before after frames (pcaps.BlockTooLong size) w r same = unheaded_by t port red bytes more before after frames (pcaps.BlockTooLong size) (λ e. cc) (λ e. cc) r same
+unheaded_at t port red bytes more before after frames pcaps.LengthsDiffer w r same = unheaded_by t port red bytes more before after frames pcaps.LengthsDiffer (λ e. cc) (λ e. cc) r same
+unheaded_at t port red bytes more before after frames (pcaps.UnknownInterface number) w r same = unheaded_by t port red bytes more before after frames (pcaps.UnknownInterface number) (λ e. cc) (λ e. cc) r same
 unheaded_at t port red bytes more before after frames pcaps.ReadFault w r same = unheaded_by t port red bytes more before after frames pcaps.ReadFault (λ e. cc) (λ e. cc) r same
 unheaded_at t port red bytes more before after frames pcaps.WriteFault w r same = absurd (w refl)
 unheaded_at t port red bytes more before after frames pcaps.NoMemory w r same = starved_marked t port red bytes r.read more before after nothing_read r.front same refl
@@ -281,38 +297,38 @@ unheaded t port red bytes more before after frames fault report told writable is
     subst (λ r. IsMarkedAs t port red bytes more before after (Err (r, told))) (sym nothing)
     (subst (λ f. IsMarkedAs t port red bytes more before after (Err (nothing_read, f))) (sym is) (unheaded_at t port red bytes more before after frames fault writable reading same))
 
--- the marking at a port is that of its table, its name, its rule for red frames, and the heading
-pub at_port : (p : Port) (t : Table) (port : List ℕ) (red : RedRule) (heading : Heading) (frames : List FrameValue) → p.accepted.now ≡ t → p.red ≡ red → p.heading ≡ heading
-    → ((bytes : List ℕ) → see_at p bytes ≡ see t port heading.link bytes) → marking_at p frames ≡ marking_of t port red heading frames
-at_port p t port red heading frames table rule head sees =
-    let by : (List ℕ → Sight) → Table → RedRule → Heading → Marking = λ look u r h. record {
-      text = h.bytes ++ text_from u r h.link 0 frames (zip (sent_of look frames) (colours_of u (sent_of look frames)));
+-- the marking at a port is that of its table, its name, its rule for red frames, and the opening
+pub at_port : (p : Port) (t : Table) (port : List ℕ) (red : RedRule) (opening : Opening) (frames : List FrameValue) → p.accepted.now ≡ t → p.red ≡ red → p.opening ≡ opening
+    → ((f : FrameValue) → see_at p f ≡ see t port f) → marking_at p frames ≡ marking_of t port red opening frames
+at_port p t port red opening frames table rule head sees =
+    let by : (FrameValue → Sight) → Table → RedRule → Opening → Marking = λ look u r h. record {
+      text = bytes_before h ++ text_from u r 0 frames (zip (sent_of look frames) (colours_of u (sent_of look frames)));
       report = report_of look r frames (zip (sent_of look frames) (colours_of u (sent_of look frames)));
       sent = sent_of look frames;
     } in
-    let look : see_at p ≡ see t port heading.link = fun_ext sees in
-    ap (λ f. by f p.accepted.now p.red p.heading) look ∙ ap (λ u. by (see t port heading.link) u p.red p.heading) table
-    ∙ ap (λ r. by (see t port heading.link) t r p.heading) rule ∙ ap (by (see t port heading.link) t red) head
+    let look : see_at p ≡ see t port = fun_ext sees in
+    ap (λ f. by f p.accepted.now p.red p.opening) look ∙ ap (λ u. by (see t port) u p.red p.opening) table
+    ∙ ap (λ r. by (see t port) t r p.opening) rule ∙ ap (by (see t port) t red) head
 
 -- a marking that was stopped, by its fault
-stopped_as : (t : Table) (port : List ℕ) (red : RedRule) (bytes read more before after : List ℕ) (heading : Heading) (frames others : List FrameValue) (fault : MarkFault)
-    → bytes ≡ read ++ more → heading_of read ≡ Some (Ok heading) → (capture read).frames ≡ frames ++ others → (fault ≡ marks.Capture pcaps.WriteFault → others ≡ [])
+stopped_as : (t : Table) (port : List ℕ) (red : RedRule) (bytes read more before after : List ℕ) (opening : Opening) (frames others : List FrameValue) (fault : MarkFault)
+    → bytes ≡ read ++ more → opening_of read ≡ Some (Ok opening) → (capture read).frames ≡ frames ++ others → (fault ≡ marks.Capture pcaps.WriteFault → others ≡ [])
     → (fault ≡ marks.Capture pcaps.WriteFault) ⊎ (fault ≡ marks.NoMemory)
-    → IsFrontOf before (marking_of t port red heading (frames ++ others)).text after → IsFrontOf before (marking_of t port red heading frames).text after
-    → IsMarkedAs t port red bytes more before after (Err ((marking_of t port red heading frames).report, fault))
-stopped_as t port red bytes read more before after heading frames others fault front headed parted all (inl unwritten) written covered =
-    let report = (marking_of t port red heading frames).report in
-    let is : marking_of t port red heading (frames ++ others) ≡ marking_in t port red read = marked_is t port red read (Some heading) (frames ++ others) headed (sym parted) in
+    → IsFrontOf before (marking_of t port red opening (frames ++ others)).text after → IsFrontOf before (marking_of t port red opening frames).text after
+    → IsMarkedAs t port red bytes more before after (Err ((marking_of t port red opening frames).report, fault))
+stopped_as t port red bytes read more before after opening frames others fault front headed parted all (inl unwritten) written covered =
+    let report = (marking_of t port red opening frames).report in
+    let is : marking_of t port red opening (frames ++ others) ≡ marking_in t port red read = marked_is t port red read (Some opening) (frames ++ others) headed (sym parted) in
     let same : frames ++ others ≡ frames = ap (λ fs. frames ++ fs) (all unwritten) ∙ append-nil frames in
     subst (λ f. IsMarkedAs t port red bytes more before after (Err (report, f))) (sym unwritten) (record {
       read = read;
       front = front;
       written = subst (λ (m : Marking). IsFrontOf before m.text after) is written;
-      told = ap (λ fs. (marking_of t port red heading fs).report) (sym same) ∙ ap (λ (m : Marking). m.report) is;
+      told = ap (λ fs. (marking_of t port red opening fs).report) (sym same) ∙ ap (λ (m : Marking). m.report) is;
     })
-stopped_as t port red bytes read more before after heading frames others fault front headed parted all (inr memory) written covered =
-    let report = (marking_of t port red heading frames).report in
-    let is : marking_of t port red heading (frames ++ others) ≡ marking_in t port red read = marked_is t port red read (Some heading) (frames ++ others) headed (sym parted) in
+stopped_as t port red bytes read more before after opening frames others fault front headed parted all (inr memory) written covered =
+    let report = (marking_of t port red opening frames).report in
+    let is : marking_of t port red opening (frames ++ others) ≡ marking_in t port red read = marked_is t port red read (Some opening) (frames ++ others) headed (sym parted) in
     subst (λ f. IsMarkedAs t port red bytes more before after (Err (report, f))) (sym memory) (record {
       read = read;
       frames = frames;
@@ -325,51 +341,51 @@ stopped_as t port red bytes read more before after heading frames others fault f
     })
 
 -- a marking that was broken off
-pub broken_marked : (p : Port) (t : Table) (port : List ℕ) (red : RedRule) (heading : Heading) (bytes more before after : List ℕ) (c : Conditioner) (fault : MarkFault) (report : Report)
-    → p.accepted.now ≡ t → p.red ≡ red → p.heading ≡ heading → ((look : List ℕ) → see_at p look ≡ see t port heading.link look)
+pub broken_marked : (p : Port) (t : Table) (port : List ℕ) (red : RedRule) (opening : Opening) (bytes more before after : List ℕ) (c : Conditioner) (fault : MarkFault) (report : Report)
+    → p.accepted.now ≡ t → p.red ≡ red → p.opening ≡ opening → ((look : FrameValue) → see_at p look ≡ see t port look)
     → (fault ≡ marks.Capture pcaps.WriteFault) ⊎ (fault ≡ marks.NoMemory) → (off : IsBrokenOff p bytes more before after c fault) → report ≡ (marking_at p off.frames).report
     → IsMarkedAs t port red bytes more before after (Err (report, fault))
-broken_marked p t port red heading bytes more before after c fault report table rule head sees why off told =
-    let is = at_port p t port red heading off.frames table rule head sees in
-    let all = at_port p t port red heading (off.frames ++ off.others) table rule head sees in
+broken_marked p t port red opening bytes more before after c fault report table rule head sees why off told =
+    let is = at_port p t port red opening off.frames table rule head sees in
+    let all = at_port p t port red opening (off.frames ++ off.others) table rule head sees in
     subst (λ r. IsMarkedAs t port red bytes more before after (Err (r, fault))) (sym (told ∙ ap (λ (m : Marking). m.report) is))
-    (stopped_as t port red bytes off.read more before after heading off.frames off.others fault off.front (off.headed ∙ ap (λ (h : Heading). Some (Ok h)) head) off.parted off.all why
+    (stopped_as t port red bytes off.read more before after opening off.frames off.others fault off.front (off.headed ∙ ap (λ (h : Opening). Some (Ok h)) head) off.parted off.all why
     (subst (λ (m : Marking). IsFrontOf before m.text after) all (front p off.frames off.others off.text before after c off.conditioned off.written))
     (subst (λ (m : Marking). IsFrontOf before m.text after) is
     (subst (λ fs. IsFrontOf before (marking_at p fs).text after) (append-nil off.frames) (front p off.frames [] off.text before after c off.conditioned off.written))))
 
 -- a marking that was finished
-finished_by : (p : Port) (t : Table) (port : List ℕ) (red : RedRule) (heading : Heading) (bytes more before after : List ℕ) (frames : List FrameValue) (fault : Option PcapFault)
-    (m : Marking) (answer : Result Report (Report × MarkFault)) → m ≡ marking_of t port red heading frames
-    → ¬ (fault ≡ Some pcaps.NoMemory) → ¬ (fault ≡ Some pcaps.WriteFault) → IsSeen bytes more (Some heading) frames fault
+finished_by : (p : Port) (t : Table) (port : List ℕ) (red : RedRule) (opening : Opening) (bytes more before after : List ℕ) (frames : List FrameValue) (fault : Option PcapFault)
+    (m : Marking) (answer : Result Report (Report × MarkFault)) → m ≡ marking_of t port red opening frames
+    → ¬ (fault ≡ Some pcaps.NoMemory) → ¬ (fault ≡ Some pcaps.WriteFault) → IsSeen bytes more (Some opening) frames fault
     → IsFinished t m fault before after answer → IsMarkedAs t port red bytes more before after answer
-finished_by p t port red heading bytes more before after frames fault m answer is well writable at (inl (verdict, behind, whole, told)) =
+finished_by p t port red opening bytes more before after frames fault m answer is well writable at (inl (verdict, behind, whole, told)) =
     subst (IsMarkedAs t port red bytes more before after) (sym told)
-    (all_marked t port red bytes more before after (Some heading) frames m.report verdict fault well writable at
+    (all_marked t port red bytes more before after (Some opening) frames m.report verdict fault well writable at
     (λ none. subst (λ (n : Marking). IsVerdictOn t n.sent verdict) is behind)
     (subst (λ (n : Marking). IsWhole n m.report before after) is whole))
-finished_by p t port red heading bytes more before after frames fault m answer is well writable at (inr (unwritten, why, written, told)) =
+finished_by p t port red opening bytes more before after frames fault m answer is well writable at (inr (unwritten, why, written, told)) =
     subst (IsMarkedAs t port red bytes more before after) (sym told)
     (subst (λ (n : Marking). IsMarkedAs t port red bytes more before after (Err (n.report, unwritten))) (sym is)
-    (stopped_as t port red bytes at.read more before after heading frames [] unwritten at.front at.told (sym at.shown ∙ sym (append-nil frames)) (λ e. refl) why
-    (subst (λ fs. IsFrontOf before (marking_of t port red heading fs).text after) (sym (append-nil frames)) (subst (λ (n : Marking). IsFrontOf before n.text after) is written))
+    (stopped_as t port red bytes at.read more before after opening frames [] unwritten at.front at.told (sym at.shown ∙ sym (append-nil frames)) (λ e. refl) why
+    (subst (λ fs. IsFrontOf before (marking_of t port red opening fs).text after) (sym (append-nil frames)) (subst (λ (n : Marking). IsFrontOf before n.text after) is written))
     (subst (λ (n : Marking). IsFrontOf before n.text after) is written)))
 
-pub finished_marked : (p : Port) (t : Table) (port : List ℕ) (red : RedRule) (heading : Heading) (bytes more before after : List ℕ) (frames : List FrameValue) (fault : Option PcapFault)
-    (answer : Result Report (Report × MarkFault)) → p.accepted.now ≡ t → p.red ≡ red → p.heading ≡ heading → ((look : List ℕ) → see_at p look ≡ see t port heading.link look)
-    → ¬ (fault ≡ Some pcaps.NoMemory) → ¬ (fault ≡ Some pcaps.WriteFault) → IsReading bytes more (Some p.heading) frames fault
+pub finished_marked : (p : Port) (t : Table) (port : List ℕ) (red : RedRule) (opening : Opening) (bytes more before after : List ℕ) (frames : List FrameValue) (fault : Option PcapFault)
+    (answer : Result Report (Report × MarkFault)) → p.accepted.now ≡ t → p.red ≡ red → p.opening ≡ opening → ((look : FrameValue) → see_at p look ≡ see t port look)
+    → ¬ (fault ≡ Some pcaps.NoMemory) → ¬ (fault ≡ Some pcaps.WriteFault) → IsReading bytes more (Some p.opening) frames fault
     → IsFinished p.accepted.now (marking_at p frames) fault before after answer → IsMarkedAs t port red bytes more before after answer
-finished_marked p t port red heading bytes more before after frames fault answer table rule head sees well writable reading done =
-    let at = seen bytes more (Some heading) frames fault well (subst (λ (h : Heading). IsReading bytes more (Some h) frames fault) head reading) in
-    finished_by p t port red heading bytes more before after frames fault (marking_at p frames) answer (at_port p t port red heading frames table rule head sees) well writable at
+finished_marked p t port red opening bytes more before after frames fault answer table rule head sees well writable reading done =
+    let at = seen bytes more (Some opening) frames fault well (subst (λ (h : Opening). IsReading bytes more (Some h) frames fault) head reading) in
+    finished_by p t port red opening bytes more before after frames fault (marking_at p frames) answer (at_port p t port red opening frames table rule head sees) well writable at
     (subst (λ u. IsFinished u (marking_at p frames) fault before after answer) table done)
 
 -- what is marked at a port is marked by its table, its name and its rule for red frames
-pub marked_by : (p : Port) (t : Table) (name : List ℕ) (red : RedRule) (heading : Heading) (bytes more before after : List ℕ) (answer : Result Report (Report × MarkFault))
-    → p.accepted.now ≡ t → p.red ≡ red → p.heading ≡ heading → ((look : List ℕ) → see_at p look ≡ see t name heading.link look)
+pub marked_by : (p : Port) (t : Table) (name : List ℕ) (red : RedRule) (opening : Opening) (bytes more before after : List ℕ) (answer : Result Report (Report × MarkFault))
+    → p.accepted.now ≡ t → p.red ≡ red → p.opening ≡ opening → ((look : FrameValue) → see_at p look ≡ see t name look)
     → (IsPortOf p name → IsMarkedAt p name bytes more before after answer) → IsMarkedAs t name red bytes more before after answer
-marked_by p t name red heading bytes more before after answer table rule head sees marked =
-    let is : IsPortOf p name = λ look. sees look ∙ ap (λ u. see u name heading.link look) (sym table) ∙ ap (λ (h : Heading). see p.accepted.now name h.link look) (sym head) in
+marked_by p t name red opening bytes more before after answer table rule head sees marked =
+    let is : IsPortOf p name = λ look. sees look ∙ ap (λ u. see u name look) (sym table) ∙ ap (λ (h : Opening). see p.accepted.now name look) (sym head) in
     subst (λ u. IsMarkedAs u name red bytes more before after answer) table
     (subst (λ r. IsMarkedAs p.accepted.now name r bytes more before after answer) rule (marked is))
 

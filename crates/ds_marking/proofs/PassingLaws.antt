@@ -1,5 +1,6 @@
 -- What turns come to.
 use Rattle.std.proofs.Common.{◌≡◌, ◌⊎◌, inl, inr, ℕ, Bool, true, false, List, [], ◌++◌, Option, None, Some, Result, Ok, Err, IfOk, MatchResult, if◌then◌else◌, is_ok, refl, sym, ap, subst, ◌∙◌, append_assoc, append-nil, OnErr, OnOk}
+use Rattle.capture_reader.specs.Formats.{bytes_before}
 use Rattle.pcap_capture.specs.Counts.{IsOfReads}
 use Rattle.pcap_capture.specs.Fronts.{IsFrontOf}
 use Rattle.pcap_capture.specs.Frames.{FrameValue}
@@ -26,8 +27,8 @@ pub front_written : (text out before now : List ℕ) → IsWrittenTo out before 
 front_written text out before now so = (so.front, out, so.whole, so.written)
 
 -- memory ran out: of what was read these frames are seen
-pub starved_off : (p : Port) (bytes more before now text : List ℕ) (frames seen others : List FrameValue) (c : Conditioner) (at : IsFrontRead bytes more p.heading frames)
-    → frames ≡ seen ++ others → IsConditioned p true seen text c → IsFrontOf before (p.heading.bytes ++ text) now → IsBrokenOff p bytes more before now c marks.NoMemory
+pub starved_off : (p : Port) (bytes more before now text : List ℕ) (frames seen others : List FrameValue) (c : Conditioner) (at : IsFrontRead bytes more p.opening frames)
+    → frames ≡ seen ++ others → IsConditioned p true seen text c → IsFrontOf before (bytes_before p.opening ++ text) now → IsBrokenOff p bytes more before now c marks.NoMemory
 starved_off p bytes more before now text frames seen others c at parts conditioned written = record {
   read = at.read;
   frames = seen;
@@ -43,10 +44,10 @@ starved_off p bytes more before now text frames seen others c at parts condition
 
 -- the device that takes bytes failed, or memory ran out for what it was to be given
 pub unwritten_off : (p : Port) (gone : List FrameValue) (bytes more before now text : List ℕ) (progress : Progress) (frames : List FrameValue) (c : Conditioner) (fault : MarkFault)
-    → progress.heading ≡ Some p.heading → IsUnderway gone bytes more progress → frames ≡ progress.piece
-    → IsConditioned p true (gone ++ frames) text c → IsFrontOf before (p.heading.bytes ++ text) now → IsBrokenOff p bytes more before now c fault
+    → progress.opening ≡ Some p.opening → IsUnderway gone bytes more progress → frames ≡ progress.piece
+    → IsConditioned p true (gone ++ frames) text c → IsFrontOf before (bytes_before p.opening ++ text) now → IsBrokenOff p bytes more before now c fault
 unwritten_off p gone bytes more before now text progress frames c fault headed at taken conditioned written =
-    let all = whole_underway gone bytes more progress p.heading headed at in record {
+    let all = whole_underway gone bytes more progress p.opening headed at in record {
       read = all.0;
       frames = gone ++ frames;
       others = [];
@@ -74,13 +75,13 @@ writable_by fault writable e = writable cc
 
 -- the reading ended by a fault: want of memory breaks the marking off, and any other ends it
 pub ended_turned : (p : Port) (bytes more before now text : List ℕ) (frames : List FrameValue) (fault : PcapFault) (progress : Progress) (c : Conditioner) (out : List ℕ)
-    → IsFrontRead bytes more p.heading frames → ¬ (told fault ≡ told pcaps.WriteFault) → IsReading bytes more (Some p.heading) frames (Some fault)
-    → IsConditioned p true frames text c → IsWrittenTo out before (p.heading.bytes ++ text) now → IsTurned p bytes more before now progress c out (turned_by fault)
+    → IsFrontRead bytes more p.opening frames → ¬ (told fault ≡ told pcaps.WriteFault) → IsReading bytes more (Some p.opening) frames (Some fault)
+    → IsConditioned p true frames text c → IsWrittenTo out before (bytes_before p.opening ++ text) now → IsTurned p bytes more before now progress c out (turned_by fault)
 ended_turned p bytes more before now text frames fault progress c out at writable ended conditioned written = by (is_starved fault) refl
   where
     by : (starved : Bool) → is_starved fault ≡ starved → IsTurned p bytes more before now progress c out (if starved then Err marks.NoMemory else Ok (Ended (Some fault)))
     by true is =
-        starved_off p bytes more before now text frames frames [] c at (sym (append-nil frames)) conditioned (front_written (p.heading.bytes ++ text) out before now written)
+        starved_off p bytes more before now text frames frames [] c at (sym (append-nil frames)) conditioned (front_written (bytes_before p.opening ++ text) out before now written)
     by false is = record {
       frames = frames;
       text = text;
@@ -140,7 +141,7 @@ pub of_reads : (answer : Result Report (Report × MarkFault)) (unread : Bool) (f
     → IsOfReads (is_unread answer) failed now calls
 of_reads answer unread failed now calls told reads = subst (λ u. IsOfReads u failed now calls) (sym told) reads
 
--- a fault of the reading that came before the heading was there
+-- a fault of the reading that came before the opening was known
 unheaded_unread : (report : Report) (fault : PcapFault) → is_unread (Err (report, fault_of fault)) ≡ is_read fault
 unheaded_unread report pcaps.NotPcap = refl
 unheaded_unread report pcaps.IsPcapng = refl
@@ -152,6 +153,11 @@ unheaded_unread report pcaps.ReadFault = refl
 unheaded_unread report pcaps.WriteFault = refl
 unheaded_unread report pcaps.NoMemory = refl
 unheaded_unread report pcaps.Failed = refl
+unheaded_unread report pcaps.BadMagic = refl
+unheaded_unread report (pcaps.BadLength size) = refl
+unheaded_unread report (pcaps.BlockTooLong size) = refl
+unheaded_unread report pcaps.LengthsDiffer = refl
+unheaded_unread report (pcaps.UnknownInterface number) = refl
 
 pub unheaded_reads : (report : Report) (fault : PcapFault) (told : MarkFault) (failed now calls : ℕ) → told ≡ fault_of fault → IsOfReads (is_read fault) failed now calls
     → IsOfReads (is_unread (Err (report, told))) failed now calls
@@ -160,18 +166,18 @@ unheaded_reads report fault told failed now calls is reads =
 
 -- frames that were taken in behind others, or a front of them, where what was decided before is collected
 pub taken_in : {T E : Type 0} (result : Result T E) (p : Port) (gone frames : List FrameValue) (text before now out : List ℕ) (old new : Conditioner)
-    → IsConditioned p true gone text old → IsWrittenTo out before (p.heading.bytes ++ text) now
+    → IsConditioned p true gone text old → IsWrittenTo out before (bytes_before p.opening ++ text) now
     → OnOk result ((seen : List FrameValue) (shown : List ℕ) → IsConditioned p true seen shown old → IsConditioned p true (seen ++ frames) shown new)
     → OnErr result ((seen : List FrameValue) (shown : List ℕ) → IsConditioned p true seen shown old
     → (front : List FrameValue) × (others : List FrameValue) × (frames ≡ front ++ others) × IsConditioned p true (seen ++ front) shown new)
     → MatchResult result
-    (λ _. (after : List ℕ) × IsConditioned p true (gone ++ frames) after new × IsWrittenTo out before (p.heading.bytes ++ after) now)
+    (λ _. (after : List ℕ) × IsConditioned p true (gone ++ frames) after new × IsWrittenTo out before (bytes_before p.opening ++ after) now)
     (λ _. (after : List ℕ) × (front : List FrameValue) × (others : List FrameValue) × (frames ≡ front ++ others) × IsConditioned p true (gone ++ front) after new
-    × IsFrontOf before (p.heading.bytes ++ after) now)
+    × IsFrontOf before (bytes_before p.opening ++ after) now)
 taken_in (Ok value) p gone frames text before now out old new at written all part = (text, all gone text at, written)
 taken_in (Err fault) p gone frames text before now out old new at written all part =
     let parts = part gone text at in
-    (text, parts.0, parts.1, parts.2, parts.3, front_written (p.heading.bytes ++ text) out before now written)
+    (text, parts.0, parts.1, parts.2, parts.3, front_written (bytes_before p.opening ++ text) out before now written)
 
 -- ---- what is answered, by what turns came to
 

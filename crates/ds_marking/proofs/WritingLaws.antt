@@ -53,7 +53,7 @@ pub handed : {T E : Type 0} (P : List ℕ → Type 0) (result : Result T E) (hea
 handed P (Ok value) head text out left before middle after is so now none = (text, is, written_out (head ++ text) out left before middle after so now none)
 handed P (Err fault) head text out left before middle after is so now none = (text, is, broken_out (head ++ text) out before middle after so now)
 
--- at first the heading is collected
+-- at first what stands before the frames is collected
 pub headed_out : (head out held : List ℕ) → out ≡ head → IsWrittenTo out held (head ++ []) held
 headed_out head out held collected = record {
   front = [];

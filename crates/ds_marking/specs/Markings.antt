@@ -1,11 +1,12 @@
 -- The marked capture, as a function of the bytes of a capture.
 use Rattle.std.specs.Prelude.{◌≡◌, ◌⊎◌, ℕ, List, [], ◌++◌, zip, Bool, true, false, Option, None, Some, Result, Ok, Err}
+use Rattle.capture_reader.specs.Formats.{bytes_before}
 use Rattle.moment_core.specs.declared.colour.Colour.{Colour}
 use Rattle.pcap_capture.specs.Frames.{FrameValue}
-use Rattle.pcap_capture.specs.Grammar.{capture, fault_in, heading_of}
+use Rattle.capture_reader.specs.Formats.{capture, fault_in, opening_of}
 use Rattle.pcap_capture.specs.declared.fault.PcapFault.{PcapFault}
 use Rattle.pcap_capture.specs.declared.fault.PcapFault.TheVariants as pcaps
-use Rattle.pcap_capture.specs.declared.heading.Heading.{Heading}
+use Rattle.capture_reader.specs.declared.opening.Opening.{Opening}
 use Rattle.ds_domain_base.specs.Domains.{is_port}
 use Rattle.ds_checker.specs.Acceptance.{Table}
 use Rattle.meter_fabric_base.specs.Grounds.{ground_of}
@@ -33,32 +34,32 @@ pub record Marking : Type 0 where
   pub report : Report
   pub sent : List Sent
 
--- frames behind their heading, marked with the colours that their packets left with
-abbrev pub marking_with : Table → List ℕ → RedRule → Heading → List FrameValue → List Sent → List Colour → Marking
-marking_with t port red heading frames sent colours = record {
-  text = heading.bytes ++ text_from t red heading.link 0 frames (zip sent colours);
-  report = report_of (see t port heading.link) red frames (zip sent colours);
+-- frames behind what stands before them, marked with the colours that their packets left with
+abbrev pub marking_with : Table → List ℕ → RedRule → Opening → List FrameValue → List Sent → List Colour → Marking
+marking_with t port red opening frames sent colours = record {
+  text = bytes_before opening ++ text_from t red 0 frames (zip sent colours);
+  report = report_of (see t port) red frames (zip sent colours);
   sent = sent;
 }
 
--- the marking of frames that stand behind a heading
-abbrev pub marking_of : Table → List ℕ → RedRule → Heading → List FrameValue → Marking
-marking_of t port red heading frames =
-    let sent = sent_of (see t port heading.link) frames in
-    marking_with t port red heading frames sent (colours_of t sent)
+-- the marking of frames that stand behind an opening
+abbrev pub marking_of : Table → List ℕ → RedRule → Opening → List FrameValue → Marking
+marking_of t port red opening frames =
+    let sent = sent_of (see t port) frames in
+    marking_with t port red opening frames sent (colours_of t sent)
 
--- without a heading there is nothing to mark
+-- without an opening there is nothing to mark
 abbrev pub nothing_marked : Marking
 nothing_marked = record { text = []; report = nothing_read; sent = [] }
 
-abbrev pub marking_behind : Table → List ℕ → RedRule → Option (Result Heading PcapFault) → List FrameValue → Marking
-marking_behind t port red (Some (Ok heading)) frames = marking_of t port red heading frames
+abbrev pub marking_behind : Table → List ℕ → RedRule → Option (Result Opening PcapFault) → List FrameValue → Marking
+marking_behind t port red (Some (Ok opening)) frames = marking_of t port red opening frames
 marking_behind t port red (Some (Err fault)) frames = nothing_marked
 marking_behind t port red None frames = nothing_marked
 
 -- The marking of the bytes of a capture: of all records that stand in it whole, before the first fault.
 abbrev pub marking_in : Table → List ℕ → RedRule → List ℕ → Marking
-marking_in t port red bytes = marking_behind t port red (heading_of bytes) (capture bytes).frames
+marking_in t port red bytes = marking_behind t port red (opening_of bytes) (capture bytes).frames
 
 -- a marking whose report tells a verdict, as where a capture was marked to its end
 abbrev pub judged : Verdict → Marking → Marking
@@ -94,8 +95,8 @@ pub record IsStarved (t : Table) (port : List ℕ) (red : RedRule) (bytes more b
   pub front : bytes ≡ read ++ more
   pub parted : (capture read).frames ≡ frames ++ others
   pub written : IsFrontOf before (marking_in t port red read).text after
-  pub covered : IsFrontOf before (marking_behind t port red (heading_of read) frames).text after
-  pub told : report ≡ (marking_behind t port red (heading_of read) frames).report
+  pub covered : IsFrontOf before (marking_behind t port red (opening_of read) frames).text after
+  pub told : report ≡ (marking_behind t port red (opening_of read) frames).report
 
 -- The marking of the bytes that a device gave before it failed was written whole, and no fault stands in them.
 pub record IsWholeSoFar (marked : List ℕ → Marking) (bytes more before after : List ℕ) (report : Report) : Type 0 where

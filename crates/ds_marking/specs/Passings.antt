@@ -1,9 +1,10 @@
 -- What stands while a capture is marked, piece by piece.
-use Rattle.std.specs.Prelude.{◌≡◌, ◌⊎◌, ◌+◌, ◌*◌, ◌<◌, ◌≤◌, ◌^◌, ℕ, List, [], ◌++◌, zip, Bool, true, false, Option, None, Some, Result, Ok, Err, IfErr, IfOk, if◌then◌else◌, MatchResult}
+use Rattle.std.specs.Prelude.{◌≡◌, ◌⊎◌, ◌<◌, ◌≤◌, ℕ, List, [], ◌++◌, zip, Bool, true, false, Option, None, Some, Result, Ok, Err, IfErr, IfOk, if◌then◌else◌, MatchResult}
+use Rattle.capture_reader.specs.Formats.{bytes_before}
 use Rattle.pcap_capture.specs.Counts.{IsOfReads}
 use Rattle.pcap_capture.specs.Fronts.{IsFrontOf}
 use Rattle.pcap_capture.specs.Frames.{FrameValue}
-use Rattle.pcap_capture.specs.Grammar.{capture, heading_of}
+use Rattle.capture_reader.specs.Formats.{capture, opening_of}
 use Rattle.pcap_capture.specs.declared.fault.PcapFault.{PcapFault}
 use Rattle.pcap_capture.specs.declared.fault.PcapFault.TheVariants as pcaps
 use Rattle.run_audit.specs.declared.verdict.Verdict.{Verdict}
@@ -12,7 +13,7 @@ use Rattle.ds_conductor_base.specs.Passing.{colours_of}
 use Rattle.ds_conditioner.specs.Conditionings.{IsBounded, IsConditioned, IsPortOf, IsUndecided, see_at}
 use Rattle.ds_marking.specs.Markings.{IsMarked, IsMarkedAs, IsVerdictOn, IsWhole, Marking, answer_of, is_broken_off, is_read, is_unread}
 use Rattle.ds_domain_base.specs.Domains.{is_port}
-use Rattle.capture_reader.specs.Readings.{IsReadOn, IsReading, IsUnderway, bytes_of, is_starved, most_bytes}
+use Rattle.capture_reader.specs.Readings.{IsReadOn, IsReading, IsUnderway, is_starved}
 use Rattle.ds_conditioner.specs.Reports.{report_of}
 use Rattle.ds_conditioner.specs.Sendings.{sent_of}
 use Rattle.ds_conditioner.specs.Texts.{text_from}
@@ -35,9 +36,9 @@ pub record IsOnTheWay (p : Port) (bytes more before now : List ℕ) (progress : 
   pub frames : List FrameValue
   pub text : List ℕ
   pub underway : IsUnderway frames bytes more progress
-  pub headed : progress.heading ≡ Some p.heading
+  pub headed : progress.opening ≡ Some p.opening
   pub conditioned : IsConditioned p true frames text c
-  pub written : IsWrittenTo out before (p.heading.bytes ++ text) now
+  pub written : IsWrittenTo out before (bytes_before p.opening ++ text) now
 
 -- The capture ended, or its reading did, by this fault: all its frames are seen.
 pub record IsThrough (p : Port) (bytes more before now : List ℕ) (c : Conditioner) (out : List ℕ)
@@ -46,9 +47,9 @@ pub record IsThrough (p : Port) (bytes more before now : List ℕ) (c : Conditio
   pub text : List ℕ
   pub well : ¬ (fault ≡ Some pcaps.NoMemory)
   pub writable : ¬ (fault ≡ Some pcaps.WriteFault)
-  pub ended : IsReading bytes more (Some p.heading) frames fault
+  pub ended : IsReading bytes more (Some p.opening) frames fault
   pub conditioned : IsConditioned p true frames text c
-  pub written : IsWrittenTo out before (p.heading.bytes ++ text) now
+  pub written : IsWrittenTo out before (bytes_before p.opening ++ text) now
 
 -- The device that takes bytes failed, or memory ran out: of the frames that were read those at the front are seen, and
 -- a front of the text of those that were handed out is written.
@@ -58,11 +59,11 @@ pub record IsBrokenOff (p : Port) (bytes more before now : List ℕ) (c : Condit
   pub others : List FrameValue
   pub text : List ℕ
   pub front : bytes ≡ read ++ more
-  pub headed : heading_of read ≡ Some (Ok p.heading)
+  pub headed : opening_of read ≡ Some (Ok p.opening)
   pub parted : (capture read).frames ≡ frames ++ others
   pub all : fault ≡ marks.Capture pcaps.WriteFault → others ≡ []
   pub conditioned : IsConditioned p true frames text c
-  pub written : IsFrontOf before (p.heading.bytes ++ text) now
+  pub written : IsFrontOf before (bytes_before p.opening ++ text) now
 
 -- what a turn comes to
 abbrev pub IsTurned : Port → List ℕ → List ℕ → List ℕ → List ℕ → Progress → Conditioner → List ℕ → Result Turn MarkFault
@@ -91,11 +92,11 @@ abbrev pub IsWrittenOn : {T E : Type 0} → Result T E → Port → Bool → Con
     → List ℕ → List ℕ → Type 0
 IsWrittenOn result p more old new out left held now =
     (frames : List FrameValue) (text before : List ℕ) → IsConditioned p more frames text old
-    → IsWrittenTo out before (p.heading.bytes ++ text) held → MatchResult result
+    → IsWrittenTo out before (bytes_before p.opening ++ text) held → MatchResult result
     (λ _. (after : List ℕ) × IsConditioned p more frames after new
-    × IsWrittenTo left before (p.heading.bytes ++ after) now)
+    × IsWrittenTo left before (bytes_before p.opening ++ after) now)
     (λ _. (after : List ℕ) × IsConditioned p more frames after new
-    × IsFrontOf before (p.heading.bytes ++ after) now)
+    × IsFrontOf before (bytes_before p.opening ++ after) now)
 
 -- whether it is told that the device that gives bytes could not be read
 abbrev pub is_unread_by : Option PcapFault → Bool
@@ -111,7 +112,7 @@ abbrev pub marking_at : Port → List FrameValue → Marking
 marking_at p frames =
     let coloured = zip (sent_of (see_at p) frames) (colours_of p.accepted.now (sent_of (see_at p) frames)) in
     record {
-      text = p.heading.bytes ++ text_from p.accepted.now p.red p.heading.link 0 frames coloured;
+      text = bytes_before p.opening ++ text_from p.accepted.now p.red 0 frames coloured;
       report = report_of (see_at p) p.red frames coloured;
       sent = sent_of (see_at p) frames;
     }
@@ -135,18 +136,15 @@ IsMarkedAt p name bytes more before after answer =
 abbrev pub turned_by : PcapFault → Result Turn MarkFault
 turned_by fault = if is_starved fault then Err marks.NoMemory else Ok (Ended (Some fault))
 
--- A passage has room for all that may still come: so many calls of a device.
-pub record IsReady (passage : Passage) (calls : ℕ) : Type 0 where
+-- a passage through which more can be read
+pub record IsReady (passage : Passage) : Type 0 where
   pub missing : passage.progress.missing ≤ 24
   pub bounded : IsBounded passage.conditioner
-  pub few : 16 * passage.conditioner.counts.records + most_bytes passage.progress calls ≤ 2 ^ 48
 
--- and still has it, since no more came than could
-pub record IsReadyAfter (before : Passage) (calls : ℕ) (after : Passage) (left : ℕ) : Type 0 where
+-- and still can
+pub record IsReadyAfter (before after : Passage) : Type 0 where
   pub missing : after.progress.missing ≤ before.progress.missing
   pub bounded : IsBounded after.conditioner
-  pub few : 16 * after.conditioner.counts.records + most_bytes after.progress left
-      ≤ 16 * before.conditioner.counts.records + most_bytes before.progress calls
 
 -- more may come through a passage
 abbrev pub IsPassing : List ℕ → List ℕ → List ℕ → List ℕ → Passage → Type 0
@@ -166,7 +164,7 @@ pub record IsPassage (t : Table) (name : List ℕ) (red : RedRule) (bytes more h
     pub port : IsPortOf passage.port name
     pub passing : IsPassing bytes more held held passage
 
--- a capture whose heading was read, at a port that there is
+-- a capture whose opening was read, at a port that there is
 abbrev pub IsBegun : Table → List ℕ → RedRule → List ℕ → List ℕ → List ℕ → Passage → Type 0
 IsBegun t name red bytes more held passage =
     (is_port t.domain name ≡ true) × IsPassage t name red bytes more held passage
@@ -232,16 +230,16 @@ AreReadsTold unread result = (before now calls : ℕ) → IsOfReads unread befor
 -- What passing on comes to of what was read, however much was read, taken in and written by then.
 abbrev pub IsPassedOn : List ℕ → List ℕ → Passage → Passage → Result Bool PcapFault → Result Turn MarkFault → Type 0
 IsPassedOn held now old new read result = (bytes more before text : List ℕ) (gone : List FrameValue)
-    → old.progress.heading ≡ Some old.port.heading → IsReadOn gone bytes more old.progress read
+    → old.progress.opening ≡ Some old.port.opening → IsReadOn gone bytes more old.progress read
     → IsConditioned old.port true gone text old.conditioner
-    → IsWrittenTo old.out.items before (old.port.heading.bytes ++ text) held
+    → IsWrittenTo old.out.items before (bytes_before old.port.opening ++ text) held
     → IsTurnedTo bytes more before now new result
 
 -- A turn of a passage was taken, by what its devices tell, have or hold, still answer and count, before and after.
 pub record IsTurnTaken {A B : Type 0} (tells : A → Type 0) (left : A → List ℕ) (calls failed : A → ℕ) (old new : A)
     (shows : B → Type 0) (held : B → List ℕ) (was now : B) (before after : Passage) (result : Result Turn MarkFault)
     : Type 0 where
-  pub ready : IsReadyAfter before (calls old) after (calls new)
+  pub ready : IsReadyAfter before after
   pub port : after.port ≡ before.port
   pub fewer : result ≡ Ok More → calls new < calls old
   pub turned : tells old → shows was → (bytes first : List ℕ) → IsPassing bytes (left old) first (held was) before
@@ -263,17 +261,12 @@ pub record AreTurnsTaken {A B : Type 0} (tells : A → Type 0) (left : A → Lis
   pub fault : IsEndedWell result
   pub told : shows was → shows now
 
--- there is room for the frames that were read
-abbrev pub IsRoomFor : Conditioner → Progress → Type 0
-IsRoomFor c progress = IsBounded c × (16 * c.counts.records + bytes_of progress ≤ 2 ^ 48)
-
+-- no more is under way than may be
 abbrev pub IsRoomy : Passage → Type 0
-IsRoomy passage = IsRoomFor passage.conditioner passage.progress
+IsRoomy passage = IsBounded passage.conditioner
 
 -- nothing more came into a passage
 pub record IsNoMore (old new : Passage) : Type 0 where
   pub missing : new.progress.missing ≡ old.progress.missing
   pub bounded : IsBounded new.conditioner
-  pub few : 16 * new.conditioner.counts.records + bytes_of new.progress
-      ≤ 16 * old.conditioner.counts.records + bytes_of old.progress
   pub port : new.port ≡ old.port

@@ -4,44 +4,45 @@ ghost use Rattle.pcap_capture.specs.Counts.{IsOfReads, next_count};
 ghost use Rattle.pcap_capture.specs.Frames.{FrameValue};
 ghost use Rattle.pcap_capture.specs.Takings.{is_read_fault};
 ghost use Rattle.ds_domain_base.specs.Domains.{is_port};
-ghost use Rattle.capture_reader.specs.Readings.{IsReadOn, IsUnderway, bytes_of};
+ghost use Rattle.capture_reader.specs.Formats.{bytes_before};
+ghost use Rattle.capture_reader.specs.Readings.{IsReadOn, IsUnderway};
 ghost use Rattle.ds_conditioner.specs.Conditionings.{AreSeen, AreSeenInPart, IsBounded, IsConditioned};
 ghost use Rattle.ds_conditioner.specs.Reports.{nothing_read};
 ghost use Rattle.ds_marking.specs.Markings.{IsMarked, answer_of, is_broken_off, is_unread, is_unwritten};
 ghost use Rattle.ds_marking.specs.Passings.{AreReadsOfBeginning, AreReadsTold, AreTurnsTaken, IsAllMade, IsBegunBy};
 ghost use Rattle.ds_marking.specs.Passings.{IsEndedAs, IsEndedWell, IsFinished, IsNoMore, IsPassage, IsPassedOn};
-ghost use Rattle.ds_marking.specs.Passings.{IsPortKnown, IsReady, IsRoomFor, IsRoomy, IsToldBy, IsTurnTaken, IsWell};
+ghost use Rattle.ds_marking.specs.Passings.{IsPortKnown, IsReady, IsRoomy, IsToldBy, IsTurnTaken, IsWell};
 ghost use Rattle.ds_marking.specs.Passings.{IsWellRead, IsWrittenOn, is_unread_by, marking_at, turned_by};
 ghost use Rattle.ds_marking.specs.Writings.{IsBreak, IsWrittenTo, failures_with, is_write_fault};
 
 use crate::fault::MarkFault;
 use crate::writing::write_on;
-use capture_reader::{Progress, is_starved, read_heading, read_piece};
+use capture_reader::{Opening, Progress, is_starved, read_opening, read_piece};
 use ds_checker::Accepted;
 use ds_conditioner::{Conditioner, Port, RedRule, Report};
 use ds_conductor_base::Gate;
 use ds_domain_base::Name;
-use pcap_capture::{Heading, Intake, Outlet, PcapFault};
+use pcap_capture::{Intake, Outlet, PcapFault};
 use run_audit::Verdict;
 use std::alloc::{AllocError, Global};
 
-/// Marks a capture: each IPv4 frame that a contract of the port takes passes the meters of its contract's path, and
+/// Marks a capture of either format: each frame that a contract of the port takes passes the meters of its contract's path, and
 /// leaves with the code point of its contract's class and the colour of its last meter (RFC 2597 section 6), or under
 /// `RedRule::Drop` not at all where that is red.
 ///
 /// The capture is read in pieces of at most 65,536 bytes. A frame is sent at the greatest stamp so far and comes to
 /// each hop after the floors of the links; the visits are made in the order of moment, record and hop, the gate being
 /// called round each with worker 0, as soon as no later record can come before them. A frame is written as soon as its
-/// colour is decided, before more is read: the heading and each record stand as they came but for the marks. What is
-/// held are the frames whose last visit is still to come, and one piece.
+/// colour is decided, before more is read: the heading and each record or block stand as they came but for the marks, and a marked
+/// block is without its packet's hash. What is held are the frames whose last visit is still to come, and one piece.
 ///
 /// At its end the report has the verdict of the audit on the run behind the capture: the visits of what was sent make
 /// it, and each packet left its last meter there with the colour that its frame is marked with. Where that is `Kept`,
 /// each packet is marked with the colour that it was sent with: one of a trusted contract with that of its code point.
 ///
 /// Refused, with the report of what was read: `UnknownPort` exactly where the domain has no port of that name (nothing
-/// is read); `NoMemory` (a front is written, and the report is that of the frames that memory was there for, of whose
-/// marking that is a front too); `Capture` with the first fault that stands in the capture, or a read fault, where
+/// is read); `NoMemory` (also behind 2^44 records and blocks; a front is written, and the report is that of the frames that
+/// memory was there for, of whose marking that is a front too); `Capture` with the first fault that stands in the capture, or a read fault, where
 /// every record before it is written, or with a write fault, where a front is written. Where a device fails to give
 /// bytes, and what it gave before cannot be written whole, that is what is answered: a read fault says that all of it
 /// stands there. The device's own count tells that it failed. A device that is spent cannot be read either. It never
@@ -79,7 +80,7 @@ pub fn mark<I: Intake, O: Outlet, G: Gate>(
     end(&mut passage, turned, outlet)
 }
 
-/// A capture on its way through a port, from its heading on.
+/// A capture on its way through a port, from its first frame on.
 #[derive(Drop)]
 pub struct Passage<'a> {
     pub port: Port<'a>,
@@ -89,7 +90,7 @@ pub struct Passage<'a> {
     pub progress: Progress,
 }
 
-/// Reads the heading of a capture that is to be marked at a port, and makes ready for what stands behind it.
+/// Reads what stands before the first frame of a capture that is to be marked at a port, and makes ready for the frames.
 pub fn begin<'a, I: Intake>(
     alloc: Global,
     accepted: &'a Accepted,
@@ -99,7 +100,7 @@ pub fn begin<'a, I: Intake>(
 ) -> Result<Passage<'a>, (Report, MarkFault)>
     ensures begun { I.tells intake.old → (held : List ℕ)
         → IsBegunBy accepted.now port.now red (I.left intake.old) (I.left intake.new) held result }
-    ensures ready { IfOk result (λ passage. IsReady passage (I.calls intake.new)) }
+    ensures ready { IfOk result (λ passage. IsReady passage) }
     ensures unknown { is_port accepted.now.domain port.now ≡ false
         → (result ≡ Err (nothing_read, MarkFault.UnknownPort)) × (intake.new ≡ intake.old) }
     ensures known { is_port accepted.now.domain port.now ≡ true → IsPortKnown result }
@@ -111,8 +112,8 @@ pub fn begin<'a, I: Intake>(
         return Err((Report::nothing(), MarkFault::UnknownPort));
     };
     let mut progress = Progress::begin(alloc);
-    match read_heading(alloc, intake, &mut progress) {
-        Ok(heading) => match make_passage(alloc, accepted, name, heading, red, progress) {
+    match read_opening(alloc, intake, &mut progress) {
+        Ok(opening) => match make_passage(alloc, accepted, name, opening, red, progress) {
             Ok(passage) => Ok(passage),
             Err(_) => Err((Report::nothing(), MarkFault::NoMemory)),
         },
@@ -120,24 +121,24 @@ pub fn begin<'a, I: Intake>(
     }
 }
 
-/// Makes ready for the records behind a heading that was read. `AllocError` where memory runs out.
+/// Makes ready for the frames of a capture whose opening was read. `AllocError` where memory runs out.
 fn make_passage<'a>(
     alloc: Global,
     accepted: &'a Accepted,
     name: Name,
-    heading: Heading,
+    opening: Opening,
     red: RedRule,
     progress: Progress,
 ) -> Result<Passage<'a>, AllocError>
     ensures begun { IfOk result (λ passage. (bytes more held : List ℕ) → IsUnderway [] bytes more progress
-        → progress.heading ≡ Some heading
+        → progress.opening ≡ Some opening
         → IsPassage accepted.now name red bytes more held passage) }
     ensures progress { IfOk result (λ passage. passage.progress ≡ progress) }
     ensures bounded { IfOk result (λ passage. IsBounded passage.conditioner) }
     ensures records { IfOk result (λ passage. passage.conditioner.counts.records ≡ 0) }
 {
-    let port = Port::new(alloc, accepted, name, heading, red)?;
-    let out = Vec::from_array(alloc, heading.bytes)?;
+    let port = Port::new(alloc, accepted, name, opening, red)?;
+    let out = opening.bytes().to_vec(alloc)?;
     let conditioner = Conditioner::new(alloc, accepted)?;
     Ok(Passage {
         port,
@@ -188,7 +189,7 @@ fn finish<O: Outlet>(
     requires fault { IsWellRead fault }
     ensures marked { O.tells outlet.old → (frames : List FrameValue) (text before : List ℕ)
         → IsConditioned port.now false frames text conditioner.old
-        → IsWrittenTo out.old.items before (port.now.heading.bytes ++ text) (O.held outlet.old)
+        → IsWrittenTo out.old.items before (bytes_before port.now.opening ++ text) (O.held outlet.old)
         → IsFinished port.now.accepted.now (marking_at port.now frames) fault before (O.held outlet.new) result }
     ensures writes { O.failed outlet.new ≡ failures_with (is_unwritten result) (O.failed outlet.old) }
     ensures known { IsPortKnown result }
@@ -239,7 +240,7 @@ fn turn_all<I: Intake, O: Outlet, G: Gate>(
     outlet: &mut O,
     gate: &G,
 ) -> Result<Option<PcapFault>, MarkFault>
-    requires { IsReady passage.old (I.calls intake.old) }
+    requires { IsReady passage.old }
     ensures taken { AreTurnsTaken I.tells I.left I.calls I.failed intake.old intake.new O.tells O.held outlet.old
         outlet.new passage.old passage.new result }
     ensures failures { O.failed outlet.new ≡ failures_with (is_write_fault result) (O.failed outlet.old) }
@@ -260,7 +261,7 @@ pub fn take_turn<I: Intake, O: Outlet, G: Gate>(
     outlet: &mut O,
     gate: &G,
 ) -> Result<Turn, MarkFault>
-    requires { IsReady passage.old (I.calls intake.old) }
+    requires { IsReady passage.old }
     ensures taken { IsTurnTaken I.tells I.left I.calls I.failed intake.old intake.new O.tells O.held outlet.old
         outlet.new passage.old passage.new result }
     ensures failures { O.failed outlet.new ≡ failures_with (is_write_fault result) (O.failed outlet.old) }
@@ -311,24 +312,26 @@ pub fn pass_on<O: Outlet, G: Gate>(
     }
 }
 
-/// Sees the frames that are read whole and takes them out, also where memory runs out and only a front of them is seen.
+/// Sees the frames that are read whole and takes them out, also where memory runs out and only a front of them is seen, or
+/// none: no more than 2^44 are seen of a capture.
 pub fn see_read(
     port: &Port<'_>,
     conditioner: &mut Conditioner<'_>,
     progress: &mut Progress,
 ) -> Result<(), AllocError>
-    requires { IsRoomFor conditioner.old progress.old }
+    requires { IsBounded conditioner.old }
     ensures bounded { IsBounded conditioner.new }
-    ensures few { 16 * conditioner.new.counts.records + bytes_of progress.new
-        ≤ 16 * conditioner.old.counts.records + bytes_of progress.old }
     ensures missing { progress.new.missing ≡ progress.old.missing }
-    ensures heading { progress.new.heading ≡ progress.old.heading }
+    ensures opening { progress.new.opening ≡ progress.old.opening }
     ensures read { (gone : List FrameValue) (bytes more : List ℕ) → IsUnderway gone bytes more progress.old
         → IsUnderway (gone ++ progress.old.piece) bytes more progress.new }
     ensures seen { AreSeen result port.now conditioner.old conditioner.new progress.old.piece }
     ensures unseen { AreSeenInPart result port.now conditioner.old conditioner.new progress.old.piece }
 {
     let piece = progress.change_piece(conditioner.spent());
+    if !conditioner.has_room_for(piece.len()) {
+        return Err(AllocError);
+    }
     conditioner.see_all(port, piece)
 }
 

@@ -83,7 +83,7 @@ accepted-with-less d contracts place c field value more low high order is are me
     (lesser_at d contracts place (on_terms low c) (on_terms high c) (lesser-on_terms d c field value more low high order is are)) met
 
 -- ---- one contract more
-certificate_more : (d : Domain) (contracts : List Contract) (rows : List (List Bound)) (c : Contract) (bounds : List Bound) → IsCertificate d contracts rows
+pub certificate_more : (d : Domain) (contracts : List Contract) (rows : List (List Bound)) (c : Contract) (bounds : List Bound) → IsCertificate d contracts rows
     → HasShape d c bounds × Meets d c bounds → IsCertificate d (contracts ++ c ∷ []) (rows ++ bounds ∷ [])
 certificate_more d [] [] c bounds met own = (own, tt)
 certificate_more d [] (row ∷ rows) c bounds met own = absurd met

@@ -16,7 +16,7 @@ use Rattle.ds_quotes.specs.Quotes.{IsGreatest, IsSaleable, greatest_below, is_sa
 use Rattle.ds_quotes.specs.declared.field.Field.{Field}
 use Rattle.ds_quotes.proofs.LesserTables.{carries-too, lesser-on_terms}
 
-none_by : {X : Type 0} (o : Option X) → is_none o ≡ true → o ≡ None
+pub none_by : {X : Type 0} (o : Option X) → is_none o ≡ true → o ≡ None
 none_by None is = refl
 none_by (Some x) is = absurd cc
 
@@ -31,7 +31,7 @@ last-by passes n value false is holds below above behind =
     let same : value ≡ n = grind (arith, is, nat_tests) in
     rw (ap passes (sym same) ∙ holds) (ap Some (sym same))
 
-last-of : (passes : ℕ → Bool) (limit value : ℕ) → passes value ≡ true → value < limit → ((other : ℕ) → value < other → other < limit → passes other ≡ false)
+pub last-of : (passes : ℕ → Bool) (limit value : ℕ) → passes value ≡ true → value < limit → ((other : ℕ) → value < other → other < limit → passes other ≡ false)
     → greatest_below passes limit ≡ Some value
 last-of passes zero value holds below above = absurd (omega (arith, below))
 last-of passes (suc n) value holds below above =
@@ -121,7 +121,7 @@ downward t c field least most limit own those is value more order below told =
     lower t c field (least + value) (least + more) own (omega (arith, order)) (those.inside (least + value) (omega arith) at) told
 
 -- the last value that passes
-cases_≤ : (a b : ℕ) → (a < b) ⊎ (b ≤ a)
+pub cases_≤ : (a b : ℕ) → (a < b) ⊎ (b ≤ a)
 cases_≤ a b = by (nat_lt a b) refl
   where
     by : (x : Bool) → nat_lt a b ≡ x → (a < b) ⊎ (b ≤ a)

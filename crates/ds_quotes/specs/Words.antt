@@ -1,5 +1,7 @@
 -- The words that name rates and bursts, as the keys of a contract's text do.
-use Rattle.std.specs.Prelude.{ℕ, List, codes, Option, None, Some, if◌then◌else◌, bytes_eq}
+use Rattle.std.specs.Prelude.{ℕ, List, codes, Option, None, Some, if◌then◌else◌, bytes_eq, option_map}
+use Rattle.ds_quotes.specs.declared.asked.Asked.{Asked}
+use Rattle.ds_quotes.specs.declared.asked.Asked.TheVariants.{Count, Most}
 use Rattle.ds_quotes.specs.declared.field.Field.{Field}
 use Rattle.ds_quotes.specs.declared.field.Field.TheVariants as fields
 
@@ -20,3 +22,7 @@ field_named word =
     else if bytes_eq word (codes "eir") then Some fields.ExcessRate
     else if bytes_eq word (codes "ebs") then Some fields.ExcessBurst
     else None
+
+-- what a word asks for: how many fit, or the greatest value of a field
+abbrev pub asked_named : List ℕ → Option Asked
+asked_named word = if bytes_eq word (codes "count") then Some Count else option_map Most (field_named word)

@@ -41,4 +41,8 @@ impl Shelf for Cabinet<'_> {
     fn open(&self, alloc: Global, name: &str) -> Result<(FileLedger, Vec<Command>), LedgerFault> {
         self.shelf.open(alloc, name)
     }
+
+    fn commands(&self, alloc: Global, name: &str) -> Result<Vec<Command>, LedgerFault> {
+        self.shelf.commands(alloc, name)
+    }
 }

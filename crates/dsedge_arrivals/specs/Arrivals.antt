@@ -1,5 +1,5 @@
 -- The packets that a capture would send, a line for each.
-use Rattle.std.specs.Prelude.{◌≡◌, ℕ, ◌/◌, ◌==◌, ◌&&◌, nat_le, Bool, true, false, List, [], ◌∷◌, ◌++◌, max, Option, None, Some, if◌then◌else◌, codes, decimal, slice_get, unwrap_or}
+use Rattle.std.specs.Prelude.{◌≡◌, ℕ, ◌/◌, ◌==◌, ◌&&◌, nat_le, Bool, true, List, [], ◌∷◌, ◌++◌, max, Option, None, Some, if◌then◌else◌, codes, decimal, slice_get, unwrap_or}
 use Rattle.moment_core.specs.declared.colour.Colour.{Colour}
 use Rattle.moment_core.specs.declared.colour.Colour.TheVariants.{Green, Red, Yellow}
 use Rattle.af_marker.specs.CodePoints.{colour_at}
@@ -9,17 +9,16 @@ use Rattle.af_marker.specs.declared.packet.Summary.{Summary}
 use Rattle.ds_domain_base.specs.Sent.{came}
 use Rattle.ds_domain_base.specs.declared.contract.Contract.{Contract}
 use Rattle.ds_domain_base.specs.declared.parts.Version.{Version}
-use Rattle.pcap_capture.specs.Frames.{FrameValue}
-use Rattle.pcap_capture.specs.Grammar.{capture, heading_of}
+use Rattle.pcap_capture.specs.Frames.{FrameValue, link_in}
+use Rattle.capture_reader.specs.Formats.{capture, opening_of}
 use Rattle.pcap_capture.specs.declared.fault.PcapFault.{PcapFault}
-use Rattle.pcap_capture.specs.declared.heading.Heading.{Heading}
-use Rattle.pcap_capture.specs.declared.heading.LinkType.{LinkType}
+use Rattle.capture_reader.specs.declared.opening.Opening.{Opening}
 use Rattle.std.specs.Prelude.{Result, Ok, Err}
 use Rattle.frame_marker.specs.Frames.{header_in}
-use Rattle.frame_marker.specs.Ports.{PortRules, sight_at}
-use Rattle.frame_marker.specs.Sights.{sight_of}
+use Rattle.frame_marker.specs.Ports.{PortRules, sight_in as sight_at_port}
+use Rattle.frame_marker.specs.Sights.{sight_of_frame}
 use Rattle.frame_marker.specs.declared.sight.Sight.{Sight}
-use Rattle.frame_marker.specs.declared.sight.Sight.TheVariants.{Matched, Skipped, Unmatched}
+use Rattle.frame_marker.specs.declared.sight.Sight.TheVariants.{Carried, Matched, Skipped, Unmatched}
 
 -- the rules of the port at which packets arrive, or none; the contracts; the one whose packets are asked for alone; and
 -- whether colours are told
@@ -35,15 +34,14 @@ taken_by_all None = Skipped
 taken_by_all (Some header) = Matched 0 (summary_of header)
 
 -- what a frame is at a port, or without one
-abbrev pub sight_in : Option PortRules → LinkType → List ℕ → Sight
-sight_in None link bytes = taken_by_all (header_in link bytes)
-sight_in (Some rules) link bytes = sight_at rules link bytes
+abbrev pub sight_in : Option PortRules → FrameValue → Sight
+sight_in None f = taken_by_all (header_in (link_in f.content) f.bytes)
+sight_in (Some rules) f = sight_at_port rules f
 
 -- The filter of a port in a domain of a version, for the packets of all its contracts or of one.
 pub record IsFilterAt (version : Version) (contracts : List Contract) (port : List ℕ) (only : Option ℕ)
     (has_colours : Bool) (filter : Filter) : Type 0 where
-  pub sight : (link : LinkType) (bytes : List ℕ) → sight_in filter.port link bytes
-      ≡ sight_of version contracts port link bytes
+  pub sight : (f : FrameValue) → sight_in filter.port f ≡ sight_of_frame version contracts port f
   pub contracts_are : filter.contracts ≡ contracts
   pub only_is : filter.only ≡ only
   pub colours_are : filter.has_colours ≡ has_colours
@@ -80,32 +78,33 @@ line_of filter flow header moment = decimal moment ++ codes " " ++ decimal heade
 
 -- the line of a frame, if its packet arrives and is asked for
 abbrev pub line_at : Filter → Sight → ℕ → List ℕ
+line_at filter Carried moment = []
 line_at filter Skipped moment = []
 line_at filter Unmatched moment = []
 line_at filter (Matched flow header) moment = if is_asked filter.only flow then line_of filter flow header moment else []
 
 -- the lines of frames, each sent at the greatest stamp so far
-unfoldable pub lines_from : Filter → LinkType → ℕ → List FrameValue → List ℕ
-lines_from filter link newest [] = []
-lines_from filter link newest (f ∷ frames) =
-    line_at filter (sight_in filter.port link f.bytes) (max newest f.moment)
-    ++ lines_from filter link (max newest f.moment) frames
+unfoldable pub lines_from : Filter → ℕ → List FrameValue → List ℕ
+lines_from filter newest [] = []
+lines_from filter newest (f ∷ frames) =
+    line_at filter (sight_in filter.port f) (max newest f.moment)
+    ++ lines_from filter (max newest f.moment) frames
 
 -- the greatest stamp behind frames
 unfoldable pub newest_in : ℕ → List FrameValue → ℕ
 newest_in newest [] = newest
 newest_in newest (f ∷ frames) = newest_in (max newest f.moment) frames
 
-abbrev pub lines_behind : Filter → Option (Result Heading PcapFault) → List FrameValue → List ℕ
-lines_behind filter (Some (Ok heading)) frames = lines_from filter heading.link 0 frames
+abbrev pub lines_behind : Filter → Option (Result Opening PcapFault) → List FrameValue → List ℕ
+lines_behind filter (Some (Ok opening)) frames = lines_from filter 0 frames
 lines_behind filter (Some (Err fault)) frames = []
 lines_behind filter None frames = []
 
--- the lines of frames that were read behind a heading; without one there are none
-abbrev pub lines_told : Filter → Option Heading → List FrameValue → List ℕ
+-- the lines of frames that were read behind an opening; without one there are none
+abbrev pub lines_told : Filter → Option Opening → List FrameValue → List ℕ
 lines_told filter None frames = []
-lines_told filter (Some heading) frames = lines_from filter heading.link 0 frames
+lines_told filter (Some opening) frames = lines_from filter 0 frames
 
 -- the lines of the bytes of a capture: of all records that stand in it whole, before the first fault
 abbrev pub lines_in : Filter → List ℕ → List ℕ
-lines_in filter bytes = lines_behind filter (heading_of bytes) (capture bytes).frames
+lines_in filter bytes = lines_behind filter (opening_of bytes) (capture bytes).frames

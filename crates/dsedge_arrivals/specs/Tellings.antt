@@ -3,7 +3,7 @@ use Rattle.std.specs.Prelude.{◌≡◌, ◌⊎◌, ℕ, Bool, MatchBool, true, 
 use Rattle.pcap_capture.specs.Counts.{next_count}
 use Rattle.pcap_capture.specs.Fronts.{IsFrontOf}
 use Rattle.pcap_capture.specs.Frames.{FrameValue}
-use Rattle.pcap_capture.specs.declared.heading.Heading.{Heading}
+use Rattle.capture_reader.specs.declared.opening.Opening.{Opening}
 use Rattle.capture_reader.specs.Readings.{IsReading}
 use Rattle.pcap_capture.specs.declared.fault.PcapFault.{PcapFault}
 use Rattle.pcap_capture.specs.declared.fault.PcapFault.TheVariants.{WriteFault, NoMemory}
@@ -13,10 +13,10 @@ use Rattle.dsedge_arrivals.specs.declared.telling.Lines.{Lines}
 -- The lines of all frames that were read of a capture were written behind what stood, up to its end or to what ended the
 -- reading.
 pub record IsToldTo (filter : Filter) (bytes more before after : List ℕ) (fault : Option PcapFault) : Type 0 where
-  pub heading : Option Heading
+  pub opening : Option Opening
   pub frames : List FrameValue
-  pub reading : IsReading bytes more heading frames fault
-  pub written : after ≡ before ++ lines_told filter heading frames
+  pub reading : IsReading bytes more opening frames fault
+  pub written : after ≡ before ++ lines_told filter opening frames
 
 -- A front of the lines of what was read was written.
 pub record IsToldInPart (filter : Filter) (bytes more before after : List ℕ) : Type 0 where

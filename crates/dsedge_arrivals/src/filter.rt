@@ -1,4 +1,5 @@
 ghost use Rattle.std.specs.Prelude.{◌≡◌, ◌++◌, [], IfOk, OnOk, None};
+ghost use Rattle.pcap_capture.specs.Frames.{link_in};
 ghost use Rattle.dsedge_arrivals.specs.Arrivals.{IsFilterAt, colour_alone, colour_behind, colour_in, is_asked, line_at};
 ghost use Rattle.dsedge_arrivals.specs.Arrivals.{line_of, lines_from, newest_in, sight_in, taken_by_all};
 
@@ -8,7 +9,7 @@ use ds_domain_base::{Contract, Name, Version};
 use frame_marker::{PortClassifier, Sight, header_in};
 use line_text::push_number;
 use moment_core::{Colour, Moment};
-use pcap_capture::{LinkType, Piece};
+use pcap_capture::{Content, Frame, LinkType, Piece};
 use std::alloc::{AllocError, Global};
 use std::marker::Model;
 
@@ -73,12 +74,12 @@ impl<'a> ArrivalFilter<'a> {
     }
 
     /// What a frame is.
-    fn sight(&self, link: LinkType, bytes: &[u8]) -> Sight
-        ensures { result ≡ sight_in self.now.port link bytes.now }
+    fn sight(&self, frame: &Frame<'_>) -> Sight
+        ensures { result ≡ sight_in self.now.port frame.now }
     {
         match &self.port {
-            Some(rules) => rules.sight(link, bytes),
-            None => sight_of_any(link, bytes),
+            Some(rules) => rules.see_frame(frame).sight,
+            None => sight_of_any(frame),
         }
     }
 
@@ -125,15 +126,14 @@ impl<'a> ArrivalFilter<'a> {
     /// Appends the line of a frame whose packet is sent at a moment, if it arrives.
     fn push_frame(
         &self,
-        link: LinkType,
-        bytes: &[u8],
+        frame: &Frame<'_>,
         moment: Moment,
         out: &mut Vec<u8>,
     ) -> Result<(), AllocError>
         ensures { OnOk result
-            (out.new.items ≡ out.old.items ++ line_at self.now (sight_in self.now.port link bytes.now) moment) }
+            (out.new.items ≡ out.old.items ++ line_at self.now (sight_in self.now.port frame.now) moment) }
     {
-        match self.sight(link, bytes) {
+        match self.sight(frame) {
             Sight::Matched { flow, header } if self.is_asked(flow) => {
                 self.push_line(flow, header, moment, out)
             }
@@ -145,29 +145,38 @@ impl<'a> ArrivalFilter<'a> {
     /// behind the last.
     pub(crate) fn push_piece(
         &self,
-        link: LinkType,
         piece: &Piece,
         newest: Moment,
         out: &mut Vec<u8>,
     ) -> Result<Moment, AllocError>
         ensures { IfOk result (λ now. (now ≡ newest_in newest piece.now)
-            × (out.new.items ≡ out.old.items ++ lines_from self.now link newest piece.now)) }
+            × (out.new.items ≡ out.old.items ++ lines_from self.now newest piece.now)) }
     {
         let mut now = newest;
         for place in 0..piece.len() {
             let frame = piece.frame(place);
             now = later(now, frame.moment());
-            self.push_frame(link, frame.bytes(), now, out)?;
+            self.push_frame(&frame, now, out)?;
         }
         Ok(now)
     }
 }
 
-/// What a frame is where each packet arrives whose header can be read.
-fn sight_of_any(link: LinkType, bytes: &[u8]) -> Sight
-    ensures { result ≡ sight_in None link bytes.now }
+/// What the bytes of a frame begin with.
+fn link_of(content: Content) -> LinkType
+    ensures { result ≡ link_in content }
 {
-    match header_in(link, bytes) {
+    match content {
+        Content::Other => LinkType::Unread,
+        Content::Record(link) | Content::Block(link, _) => link,
+    }
+}
+
+/// What a frame is where each packet arrives whose header can be read.
+fn sight_of_any(frame: &Frame<'_>) -> Sight
+    ensures { result ≡ sight_in None frame.now }
+{
+    match header_in(link_of(frame.content()), frame.bytes()) {
         Some(header) => Sight::Matched {
             flow: 0,
             header: header.summary(),

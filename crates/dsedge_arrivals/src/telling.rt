@@ -6,9 +6,9 @@ ghost use Rattle.dsedge_arrivals.specs.Arrivals.{lines_from, newest_in};
 ghost use Rattle.dsedge_arrivals.specs.Tellings.{IsBreak, IsGiven, IsIdle, IsToldAs, failures_after, is_broken_off};
 
 use crate::filter::ArrivalFilter;
-use capture_reader::{Progress, read_heading, read_piece};
+use capture_reader::{Progress, read_opening, read_piece};
 use moment_core::Moment;
-use pcap_capture::{Intake, LinkType, Outlet, PcapFault, Piece, hand_over};
+use pcap_capture::{Intake, Outlet, PcapFault, Piece, hand_over};
 use std::alloc::Global;
 
 /// Tells the packets of a capture that arrive, a line for each, in the order of the capture: `MOMENT SIZE`, or
@@ -32,10 +32,10 @@ pub fn tell_arrivals<I: Intake, O: Outlet>(
         → IsOfReads (is_read_fault result) (I.failed intake.old) (I.failed intake.new) (I.calls intake.new) }
 {
     let mut progress = Progress::begin(alloc);
-    let heading = match read_heading(alloc, intake, &mut progress) {
-        Ok(heading) => heading,
+    match read_opening(alloc, intake, &mut progress) {
+        Ok(_) => {}
         Err(fault) => return Err(fault),
-    };
+    }
     let mut lines = Lines {
         newest: Moment::new(0).unwrap(),
         out: Vec::new(alloc),
@@ -43,7 +43,7 @@ pub fn tell_arrivals<I: Intake, O: Outlet>(
     };
     loop {
         let read = read_piece(alloc, intake, &mut progress);
-        match lines.tell_read(alloc, filter, heading.link, &mut progress, output) {
+        match lines.tell_read(alloc, filter, &mut progress, output) {
             Ok(()) => {}
             Err(fault) => return Err(fault),
         }
@@ -72,7 +72,6 @@ impl Lines {
         &mut self,
         alloc: Global,
         filter: &ArrivalFilter<'_>,
-        link: LinkType,
         progress: &mut Progress,
         output: &mut O,
     ) -> Result<(), PcapFault>
@@ -80,7 +79,7 @@ impl Lines {
         ensures taken { IsTakenOut progress.old.piece progress.old progress.new }
         ensures told { O.tells output.old → O.tells output.new }
         ensures lines { O.tells output.old → IsGiven result
-            (lines_from filter.now link self.old.newest progress.old.piece) (O.held output.old) (O.held output.new) }
+            (lines_from filter.now self.old.newest progress.old.piece) (O.held output.old) (O.held output.new) }
         ensures newest { OnOk result (self.new.newest ≡ newest_in self.old.newest progress.old.piece) }
         ensures idle { OnOk result (IsIdle self.new) }
         ensures fault { IfErr result IsBreak }
@@ -88,7 +87,7 @@ impl Lines {
     {
         let next = std::mem::replace(&mut self.spent, Piece::new(alloc));
         let mut piece = progress.change_piece(next);
-        match filter.push_piece(link, &piece, self.newest, &mut self.out) {
+        match filter.push_piece(&piece, self.newest, &mut self.out) {
             Ok(newest) => self.newest = newest,
             Err(_) => return Err(PcapFault::NoMemory),
         }

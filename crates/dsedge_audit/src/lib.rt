@@ -10,3 +10,4 @@ mod step_line;
 mod verdict_text;
 
 pub use command::AuditCommand;
+pub use verdict_text::VerdictLine;

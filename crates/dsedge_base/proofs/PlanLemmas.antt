@@ -9,16 +9,16 @@ use Rattle.clap.specs.declared.error.kind.ErrorKind.TheVariants.{DisplayHelp, Di
 use Rattle.clap.proofs.OnLiterals.{clap_on_literals}
 use Rattle.dsedge_base.specs.CommandLine.{dsedge}
 use Rattle.ds_broker.specs.Books.{Limits}
-use Rattle.ds_quotes.specs.declared.field.Field.{Field}
+use Rattle.ds_quotes.specs.declared.asked.Asked.{Asked}
 use Rattle.dsedge_base.specs.Options.{Given, drive_given, envelope_given, is_set, marking_given, meter_given, place_given, quote_given, table_given, ◌>>=◌}
-use Rattle.dsedge_base.specs.Plans.{IsExplanationOf, IsMalformed, IsOfForm, IsPlanOf, IsRefusalOf, IsShown, IsWellFormed, IsWish, asked_by, asks_other_workers, given_by, mark_given, plan_of}
+use Rattle.dsedge_base.specs.Plans.{IsExplanationOf, IsMalformed, IsOfForm, IsPlanOf, IsRefusalOf, IsShown, IsWellFormed, IsWish, asked_by, asks_other_workers, book_given, given_by, mark_given, plan_of}
 use Rattle.dsedge_base.specs.declared.explanation.Explanation.{Explanation}
 use Rattle.dsedge_base.specs.declared.explanation.Explanation.TheVariants.{Form, Value, Workers}
 use Rattle.dsedge_base.specs.declared.fault.UsageFault.{UsageFault}
 use Rattle.dsedge_base.specs.declared.fault.UsageFault.TheVariants.{Usage, NoMemory}
 use Rattle.dsedge_base.specs.declared.work.GivenPort.{GivenPort}
 use Rattle.dsedge_base.specs.declared.work.Plan.{Plan}
-use Rattle.dsedge_base.specs.declared.work.Plan.TheVariants.{Arrivals, Audit, Certify, Check, Drive, Envelope, Headroom, Mark, Meter, Quote, Show}
+use Rattle.dsedge_base.specs.declared.work.Plan.TheVariants.{Arrivals, Audit, Book, Certify, Check, Drive, Envelope, Headroom, Mark, Meter, Quote, Show}
 
 -- the parser says exactly what it makes of a command line such as the program's
 pub dsedge-simple : is_simple dsedge ≡ true
@@ -29,9 +29,9 @@ pub dsedge-simple_and_free : is_simple_and_free dsedge ≡ true
 unfolding clap_on_literals
 dsedge-simple_and_free = refl
 
-meter-no_text : (meter : Option AnyMeter) (text : String Global) → (meter >>= (λ m. Some (Meter m))) ≡ Some (Show text) → ⊥
-meter-no_text None text e = cc
-meter-no_text (Some m) text e = cc
+meter-no_text : (meter : Option AnyMeter) (has_levels : Bool) (text : String Global) → (meter >>= (λ m. Some (Meter m has_levels))) ≡ Some (Show text) → ⊥
+meter-no_text None has_levels text e = cc
+meter-no_text (Some m) has_levels text e = cc
 
 envelope-no_text : (envelope : Option (ℕ × ℕ)) (text : String Global)
     → (envelope >>= (λ e. Some (Envelope e.0 e.1))) ≡ Some (Show text) → ⊥
@@ -46,7 +46,7 @@ headroom-no_text : (domain : Option (List ℕ)) (text : String Global) → (doma
 headroom-no_text None text e = cc
 headroom-no_text (Some d) text e = cc
 
-quote-no_text : (quote : Option (List ℕ × List ℕ × Field)) (text : String Global) → (quote >>= (λ q. Some (Quote q.0 q.1 q.2))) ≡ Some (Show text) → ⊥
+quote-no_text : (quote : Option (List ℕ × List ℕ × Asked)) (text : String Global) → (quote >>= (λ q. Some (Quote q.0 q.1 q.2))) ≡ Some (Show text) → ⊥
 quote-no_text None text e = cc
 quote-no_text (Some q) text e = cc
 
@@ -62,62 +62,72 @@ audit-no_text : (files : Option (List ℕ × List ℕ)) (text : String Global) �
 audit-no_text None text e = cc
 audit-no_text (Some f) text e = cc
 
-mark_with-no_text : (files : Option (List ℕ × List ℕ)) (marking : Option (List ℕ × Option ℕ × Bool)) (text : String Global)
-    → (files >>= (λ f. marking >>= (λ m. Some (Mark f.0 f.1 m.0 m.1 m.2)))) ≡ Some (Show text) → ⊥
-mark_with-no_text None marking text e = cc
-mark_with-no_text (Some f) None text e = cc
-mark_with-no_text (Some f) (Some m) text e = cc
+mark_with-no_text : (files : Option (List ℕ × List ℕ)) (marking : Option (List ℕ × Option ℕ × Bool)) (has_verdict : Bool) (text : String Global)
+    → (files >>= (λ f. marking >>= (λ m. Some (Mark f.0 f.1 m.0 m.1 m.2 has_verdict)))) ≡ Some (Show text) → ⊥
+mark_with-no_text None marking has_verdict text e = cc
+mark_with-no_text (Some f) None has_verdict text e = cc
+mark_with-no_text (Some f) (Some m) has_verdict text e = cc
 
 mark-no_text : (given : Given) (text : String Global) → mark_given given ≡ Some (Show text) → ⊥
 unfolding mark_given
-mark-no_text given text e = mark_with-no_text (table_given given) (marking_given given) text e
+mark-no_text given text e = mark_with-no_text (table_given given) (marking_given given) (is_set (given (codes "verdict"))) text e
 
 arrivals-no_text : (place : Option (Option GivenPort)) (has_colours : Bool) (text : String Global) → (place >>= (λ p. Some (Arrivals p has_colours))) ≡ Some (Show text) → ⊥
 arrivals-no_text None has_colours text e = cc
 arrivals-no_text (Some p) has_colours text e = cc
 
+book_with-no_text : (domain book : Option (List ℕ)) (to_domain : Bool) (text : String Global)
+    → (domain >>= (λ d. book >>= (λ b. Some (Book d b to_domain)))) ≡ Some (Show text) → ⊥
+book_with-no_text None book to_domain text e = cc
+book_with-no_text (Some d) None to_domain text e = cc
+book_with-no_text (Some d) (Some b) to_domain text e = cc
+
+book-no_text : (given : Given) (text : String Global) → book_given given ≡ Some (Show text) → ⊥
+unfolding book_given
+book-no_text given text e =
+    book_with-no_text (given (codes "domain")) (given (codes "file")) (is_set (given (codes "to-domain"))) text e
+
+-- one of two is no text where neither is
+either-no_text : (is : Bool) (first others : Option Plan) (text : String Global) → (first ≡ Some (Show text) → ⊥)
+    → (others ≡ Some (Show text) → ⊥) → (if is then first else others) ≡ Some (Show text) → ⊥
+either-no_text true first others text a b e = a e
+either-no_text false first others text a b e = b e
+
 -- what a command asks for is no text
-commands-no_text : (is_meter is_envelope is_certify is_headroom is_quote is_drive is_check is_audit is_mark is_arrivals : Bool) (meter : Option AnyMeter) (envelope : Option (ℕ × ℕ)) (domain : Option (List ℕ)) (quote : Option (List ℕ × List ℕ × Field)) (drive : Option (List ℕ × Limits × Option (List ℕ))) (files : Option (List ℕ × List ℕ)) (given : Given) (place : Option (Option GivenPort)) (has_colours : Bool) (text : String Global)
-    → (if is_meter then meter >>= (λ m. Some (Meter m))
-    else if is_envelope then envelope >>= (λ e. Some (Envelope e.0 e.1))
-    else if is_certify then domain >>= (λ d. Some (Certify d))
-    else if is_headroom then domain >>= (λ d. Some (Headroom d))
-    else if is_quote then quote >>= (λ q. Some (Quote q.0 q.1 q.2))
-    else if is_drive then drive >>= (λ d. Some (Drive d.0 d.1 d.2))
-    else if is_check then files >>= (λ f. Some (Check f.0 f.1))
-    else if is_audit then files >>= (λ f. Some (Audit f.0 f.1))
-    else if is_mark then mark_given given
-    else if is_arrivals then place >>= (λ p. Some (Arrivals p has_colours)) else None) ≡ Some (Show text) → ⊥
-commands-no_text true is_envelope is_certify is_headroom is_quote is_drive is_check is_audit is_mark is_arrivals meter envelope domain quote drive files given place has_colours text e = meter-no_text meter text e
-commands-no_text false true is_certify is_headroom is_quote is_drive is_check is_audit is_mark is_arrivals meter envelope domain quote drive files given place has_colours text e = envelope-no_text envelope text e
-commands-no_text false false true is_headroom is_quote is_drive is_check is_audit is_mark is_arrivals meter envelope domain quote drive files given place has_colours text e = certify-no_text domain text e
-commands-no_text false false false true is_quote is_drive is_check is_audit is_mark is_arrivals meter envelope domain quote drive files given place has_colours text e = headroom-no_text domain text e
-commands-no_text false false false false true is_drive is_check is_audit is_mark is_arrivals meter envelope domain quote drive files given place has_colours text e = quote-no_text quote text e
-commands-no_text false false false false false true is_check is_audit is_mark is_arrivals meter envelope domain quote drive files given place has_colours text e = drive-no_text drive text e
-commands-no_text false false false false false false true is_audit is_mark is_arrivals meter envelope domain quote drive files given place has_colours text e = check-no_text files text e
-commands-no_text false false false false false false false true is_mark is_arrivals meter envelope domain quote drive files given place has_colours text e = audit-no_text files text e
-commands-no_text false false false false false false false false true is_arrivals meter envelope domain quote drive files given place has_colours text e = mark-no_text given text e
-commands-no_text false false false false false false false false false true meter envelope domain quote drive files given place has_colours text e = arrivals-no_text place has_colours text e
-commands-no_text false false false false false false false false false false meter envelope domain quote drive files given place has_colours text e = cc
+command-no_text : (c : Text × List Row) (text : String Global) → plan_of c ≡ Some (Show text) → ⊥
+command-no_text c text =
+    let given = given_by c.1 in
+    either-no_text (bytes_eq c.0 (codes "meter")) _ _ text (meter-no_text (meter_given given) (is_set (given (codes "levels"))) text)
+    (either-no_text (bytes_eq c.0 (codes "envelope")) _ _ text (envelope-no_text (envelope_given given) text)
+    (either-no_text (bytes_eq c.0 (codes "certify")) _ _ text (certify-no_text (given (codes "domain")) text)
+    (either-no_text (bytes_eq c.0 (codes "headroom")) _ _ text (headroom-no_text (given (codes "domain")) text)
+    (either-no_text (bytes_eq c.0 (codes "quote")) _ _ text (quote-no_text (quote_given given) text)
+    (either-no_text (bytes_eq c.0 (codes "drive")) _ _ text (drive-no_text (drive_given given) text)
+    (either-no_text (bytes_eq c.0 (codes "book")) _ _ text (book-no_text given text)
+    (either-no_text (bytes_eq c.0 (codes "check")) _ _ text (check-no_text (table_given given) text)
+    (either-no_text (bytes_eq c.0 (codes "audit")) _ _ text (audit-no_text (table_given given) text)
+    (either-no_text (bytes_eq c.0 (codes "mark")) _ _ text (mark-no_text given text)
+    (either-no_text (bytes_eq c.0 (codes "arrivals")) _ _ text
+    (arrivals-no_text (place_given given) (is_set (given (codes "colours"))) text) (λ e. cc)))))))))))
 
 plan_of-no_text : (command : Option (Text × List Row)) (text : String Global) → option_and_then plan_of command ≡ Some (Show text) → ⊥
 plan_of-no_text None text e = cc
-plan_of-no_text (Some c) text e = commands-no_text (bytes_eq c.0 (codes "meter")) (bytes_eq c.0 (codes "envelope")) (bytes_eq c.0 (codes "certify")) (bytes_eq c.0 (codes "headroom")) (bytes_eq c.0 (codes "quote"))
-    (bytes_eq c.0 (codes "drive")) (bytes_eq c.0 (codes "check")) (bytes_eq c.0 (codes "audit")) (bytes_eq c.0 (codes "mark")) (bytes_eq c.0 (codes "arrivals")) (meter_given (given_by c.1)) (envelope_given (given_by c.1)) (given_by c.1 (codes "domain")) (quote_given (given_by c.1)) (drive_given (given_by c.1)) (table_given (given_by c.1)) (given_by c.1) (place_given (given_by c.1)) (is_set (given_by c.1 (codes "colours"))) text e
+plan_of-no_text (Some c) text e = command-no_text c text e
 
 -- well formed words are answered with what they ask for, or refused where they ask for nothing
 pub asked_by-answers : (words : List Text) (asked : Option Plan) → IsWellFormed words → asked ≡ asked_by words
     → IfOk (ok_or asked Usage) (IsPlanOf words) × IfErr (ok_or asked Usage) (IsRefusalOf words)
 asked_by-answers words None formed e = (tt, inr (formed, sym e))
-asked_by-answers words (Some (Meter m)) formed e = ((formed, sym e), tt)
+asked_by-answers words (Some (Meter m has_levels)) formed e = ((formed, sym e), tt)
 asked_by-answers words (Some (Envelope rate burst)) formed e = ((formed, sym e), tt)
 asked_by-answers words (Some (Certify domain)) formed e = ((formed, sym e), tt)
 asked_by-answers words (Some (Check domain certificate)) formed e = ((formed, sym e), tt)
 asked_by-answers words (Some (Headroom domain)) formed e = ((formed, sym e), tt)
-asked_by-answers words (Some (Quote domain contract field)) formed e = ((formed, sym e), tt)
+asked_by-answers words (Some (Quote domain contract asked)) formed e = ((formed, sym e), tt)
 asked_by-answers words (Some (Audit domain certificate)) formed e = ((formed, sym e), tt)
 asked_by-answers words (Some (Drive domain limits book)) formed e = ((formed, sym e), tt)
-asked_by-answers words (Some (Mark domain certificate port workers keeps_red)) formed e = ((formed, sym e), tt)
+asked_by-answers words (Some (Book domain book to_domain)) formed e = ((formed, sym e), tt)
+asked_by-answers words (Some (Mark domain certificate port workers keeps_red has_verdict)) formed e = ((formed, sym e), tt)
 asked_by-answers words (Some (Arrivals place has_colours)) formed e = ((formed, sym e), tt)
 asked_by-answers words (Some (Show text)) formed e = absurd (plan_of-no_text (subcommand_of dsedge words) text (sym e))
 
@@ -173,15 +183,16 @@ no_memory kind (inr version) memory = let apart : DisplayVersion ≡ OutOfMemory
 -- a wish for a text is answered with one
 pub wish-answers : (words : List Text) (kind : ErrorKind) (plan : Plan) → MayFail words kind → IsWish kind × IsShown plan
     → IsPlanOf words plan
-wish-answers words kind (Meter m) fails help = absurd help.1
+wish-answers words kind (Meter m has_levels) fails help = absurd help.1
 wish-answers words kind (Envelope rate burst) fails help = absurd help.1
 wish-answers words kind (Certify domain) fails help = absurd help.1
 wish-answers words kind (Check domain certificate) fails help = absurd help.1
 wish-answers words kind (Headroom domain) fails help = absurd help.1
-wish-answers words kind (Quote domain contract field) fails help = absurd help.1
+wish-answers words kind (Quote domain contract asked) fails help = absurd help.1
 wish-answers words kind (Audit domain certificate) fails help = absurd help.1
 wish-answers words kind (Drive domain limits book) fails help = absurd help.1
-wish-answers words kind (Mark domain certificate port workers keeps_red) fails help = absurd help.1
+wish-answers words kind (Book domain book to_domain) fails help = absurd help.1
+wish-answers words kind (Mark domain certificate port workers keeps_red has_verdict) fails help = absurd help.1
 wish-answers words kind (Arrivals place has_colours) fails help = absurd help.1
 wish-answers words kind (Show text) (inl memory) help = absurd (no_memory kind help.0 memory)
 wish-answers words kind (Show text) (inr among) help = (kind, among, help.0)

@@ -23,9 +23,9 @@ optional_word name = record (new_rule name) { value_names = 1 }
 abbrev pub flag : Text → Rule
 flag name = record (new_rule name) { long = Some name; action = Some SetTrue }
 
--- the parameters of a meter, of which each kind has its own, and what every meter has
+-- the parameters of a meter, of which each kind has its own, and what every meter has; levels are told where asked for
 abbrev pub meter : App
-meter = with_rule (with_rule (with_rule (with_rule (with_rule (with_rule (with_rule (with_rule (with_rule (new_app (codes "meter"))
+meter = with_rule (with_rule (with_rule (with_rule (with_rule (with_rule (with_rule (with_rule (with_rule (with_rule (new_app (codes "meter"))
     (required (codes "kind")))
     (required (codes "mode")))
     (required (codes "cir")))
@@ -34,7 +34,8 @@ meter = with_rule (with_rule (with_rule (with_rule (with_rule (with_rule (with_r
     (optional (codes "pbs")))
     (optional (codes "eir")))
     (optional (codes "ebs")))
-    (optional (codes "origin"))
+    (optional (codes "origin")))
+    (flag (codes "levels"))
 
 -- the words stand alone, with no name of the program before them, and name a command, or ask for the version
 abbrev pub program : App
@@ -65,12 +66,13 @@ check = on_table (codes "check")
 abbrev pub headroom : App
 headroom = with_rule (new_app (codes "headroom")) (positional (codes "domain"))
 
--- a quote is of a contract of a domain, and of a field of it
+-- a quote is of a contract of a domain, and of a field of it, or of how many fit
 abbrev pub quote : App
-quote = with_rule (with_rule (with_rule (new_app (codes "quote"))
+quote = with_rule (with_rule (with_rule (with_rule (new_app (codes "quote"))
     (positional (codes "domain")))
     (required (codes "contract")))
-    (required (codes "most"))
+    (optional (codes "most")))
+    (flag (codes "count"))
 
 -- an audit is of a run over a domain with a certificate
 abbrev pub audit : App
@@ -84,12 +86,21 @@ drive = with_rule (with_rule (with_rule (with_rule (new_app (codes "drive"))
     (optional (codes "contracts")))
     (optional (codes "commands"))
 
--- a capture is marked at a port, by workers where it is said by how many, with a rule for red frames
+-- what a book of a domain holds that a file keeps is told, as a domain text where that is asked for
+abbrev pub book : App
+book = with_rule (with_rule (with_rule (new_app (codes "book"))
+    (positional (codes "domain")))
+    (positional (codes "file")))
+    (flag (codes "to-domain"))
+
+-- a capture is marked at a port, by workers where it is said by how many, with a rule for red frames, and the verdict is
+-- told where asked for
 abbrev pub mark : App
-mark = with_rule (with_rule (with_rule (on_table (codes "mark"))
+mark = with_rule (with_rule (with_rule (with_rule (on_table (codes "mark"))
     (required (codes "port")))
     (optional (codes "workers")))
-    (required (codes "red"))
+    (required (codes "red")))
+    (flag (codes "verdict"))
 
 -- the packets of a capture are told, of a port of a domain, of one contract there, or of all, with colours or without
 abbrev pub arrivals : App
@@ -100,4 +111,4 @@ arrivals = with_rule (with_rule (with_rule (with_rule (new_app (codes "arrivals"
     (flag (codes "colours"))
 
 abbrev pub dsedge : App
-dsedge = with_subcommand (with_subcommand (with_subcommand (with_subcommand (with_subcommand (with_subcommand (with_subcommand (with_subcommand (with_subcommand (with_subcommand program meter.top) envelope.top) certify.top) check.top) headroom.top) quote.top) audit.top) drive.top) mark.top) arrivals.top
+dsedge = with_subcommand (with_subcommand (with_subcommand (with_subcommand (with_subcommand (with_subcommand (with_subcommand (with_subcommand (with_subcommand (with_subcommand (with_subcommand program meter.top) envelope.top) certify.top) check.top) headroom.top) quote.top) audit.top) drive.top) book.top) mark.top) arrivals.top

@@ -1,21 +1,21 @@
 -- The files, and the port or the contract, that a plan names.
-use Rattle.std.specs.Prelude.{ℕ, Bool, List, [], ◌∷◌, Option, None, Some, unwrap_or}
-use Rattle.dsedge_base.specs.declared.work.GivenPort.{GivenPort}
+use Rattle.std.specs.Prelude.{ℕ, List, [], ◌∷◌, None, Some, unwrap_or}
 use Rattle.dsedge_base.specs.declared.work.Plan.{Plan}
-use Rattle.dsedge_base.specs.declared.work.Plan.TheVariants.{Arrivals, Audit, Certify, Check, Drive, Envelope, Headroom, Mark, Meter, Quote, Show}
+use Rattle.dsedge_base.specs.declared.work.Plan.TheVariants.{Arrivals, Audit, Book, Certify, Check, Drive, Envelope, Headroom, Mark, Meter, Quote, Show}
 
 -- the names of the files that are to be read, in the order of the words
 abbrev pub files_of : Plan → List (List ℕ)
 files_of (Show text) = []
-files_of (Meter m) = []
+files_of (Meter m has_levels) = []
 files_of (Envelope rate burst) = []
 files_of (Certify domain) = domain ∷ []
 files_of (Check domain certificate) = domain ∷ certificate ∷ []
 files_of (Headroom domain) = domain ∷ []
-files_of (Quote domain contract field) = domain ∷ []
+files_of (Quote domain contract asked) = domain ∷ []
 files_of (Audit domain certificate) = domain ∷ certificate ∷ []
 files_of (Drive domain limits book) = domain ∷ []
-files_of (Mark domain certificate port workers keeps_red) = domain ∷ certificate ∷ []
+files_of (Book domain book to_domain) = domain ∷ []
+files_of (Mark domain certificate port workers keeps_red has_verdict) = domain ∷ certificate ∷ []
 files_of (Arrivals None has_colours) = []
 files_of (Arrivals (Some place) has_colours) = place.domain ∷ []
 
@@ -25,7 +25,7 @@ pub record Names : Type 0 where
   pub contract : List ℕ
 
 abbrev pub names_of : Plan → Names
-names_of (Mark domain certificate port workers keeps_red) = record { port = port; contract = [] }
-names_of (Quote domain contract field) = record { port = []; contract = contract }
+names_of (Mark domain certificate port workers keeps_red has_verdict) = record { port = port; contract = [] }
+names_of (Quote domain contract asked) = record { port = []; contract = contract }
 names_of (Arrivals (Some place) has_colours) = record { port = place.port; contract = unwrap_or place.contract [] }
 names_of _ = record { port = []; contract = [] }

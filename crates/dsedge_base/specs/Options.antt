@@ -10,7 +10,8 @@ use Rattle.meter_book_base.specs.declared.any_meter.Parameters.{Parameters}
 use Rattle.meter_book_base.specs.declared.any_meter.Parameters.TheVariants as parameters
 use Rattle.ds_broker.specs.Books.{Limits}
 use Rattle.ds_quotes.specs.Words.{field_named}
-use Rattle.ds_quotes.specs.declared.field.Field.{Field}
+use Rattle.ds_quotes.specs.declared.asked.Asked.{Asked}
+use Rattle.ds_quotes.specs.declared.asked.Asked.TheVariants as asks
 use Rattle.rfc4115_core.specs.declared.parameters.Rfc4115Parameters.{Rfc4115Parameters}
 use Rattle.srtcm_core.specs.declared.parameters.SrTcmParameters.{SrTcmParameters}
 use Rattle.trtcm_core.specs.declared.parameters.TrTcmParameters.{TrTcmParameters}
@@ -61,6 +62,11 @@ origin_said (Some text) = moment_said text
 
 abbrev pub is_given : Given → List ℕ → Bool
 is_given given name = is_some (given name)
+
+-- whether a flag is given
+abbrev pub is_set : Option (List ℕ) → Bool
+is_set None = false
+is_set (Some text) = bytes_eq text (codes "true")
 
 -- the rate that an option gives
 abbrev pub rate_given : Given → List ℕ → Option ℕ
@@ -132,17 +138,23 @@ table_given given = do
   certificate ← given (codes "certificate")
   Some (domain, certificate)
 
--- the rate or burst whose greatest value is asked for
-abbrev pub field_given : Given → Option Field
-field_given given = given (codes "most") >>= field_named
+-- what a quote asks for: the greatest value of the rate or burst that a word names, or how many fit, one of them
+abbrev pub asked_by : Option (List ℕ) → Bool → Option Asked
+asked_by (Some word) false = field_named word >>= (λ field. Some (asks.Most field))
+asked_by None true = Some asks.Count
+asked_by (Some word) true = None
+asked_by None false = None
 
--- the file of a domain, the name of a contract, and a field of it
-unfoldable pub quote_given : Given → Option (List ℕ × List ℕ × Field)
+abbrev pub asked_given : Given → Option Asked
+asked_given given = asked_by (given (codes "most")) (is_set (given (codes "count")))
+
+-- the file of a domain, the name of a contract, and what is asked for of it
+unfoldable pub quote_given : Given → Option (List ℕ × List ℕ × Asked)
 quote_given given = do
   domain ← given (codes "domain")
   contract ← given (codes "contract")
-  field ← field_given given
-  Some (domain, contract, field)
+  asked ← asked_given given
+  Some (domain, contract, asked)
 
 -- workers, 1 to 64
 abbrev pub workers_said : List ℕ → Option ℕ
@@ -187,11 +199,6 @@ place_of None None (Some contract) = None
 -- the port whose packets the words of `arrivals` ask for
 abbrev pub place_given : Given → Option (Option GivenPort)
 place_given given = place_of (given (codes "domain")) (given (codes "port")) (given (codes "contract"))
-
--- whether a flag is given
-abbrev pub is_set : Option (List ℕ) → Bool
-is_set None = false
-is_set (Some text) = bytes_eq text (codes "true")
 
 -- whether red frames are kept, or dropped
 abbrev pub red_said : List ℕ → Option Bool

@@ -1,5 +1,5 @@
 -- What words ask for.
-use Rattle.std.specs.Prelude.{◌≡◌, ◌⊎◌, List, [], codes, Bool, true, false, ◌&&◌, Option, None, Some, is_none, option_and_then, if◌then◌else◌, bytes_eq}
+use Rattle.std.specs.Prelude.{◌≡◌, ◌⊎◌, ℕ, List, [], codes, Bool, true, false, ◌&&◌, Option, None, Some, is_none, option_and_then, if◌then◌else◌, bytes_eq}
 use Rattle.std.specs.Option.{option_map_or}
 use Rattle.clap.specs.Words.{IsAmong, Row, Text, fault_of, first_of, subcommand_of}
 use Rattle.clap.specs.declared.error.kind.ErrorKind.{ErrorKind}
@@ -11,11 +11,18 @@ use Rattle.dsedge_base.specs.declared.explanation.Explanation.TheVariants.{Form,
 use Rattle.dsedge_base.specs.declared.fault.UsageFault.{UsageFault}
 use Rattle.dsedge_base.specs.declared.fault.UsageFault.TheVariants.{Usage, NoMemory}
 use Rattle.dsedge_base.specs.declared.work.Plan.{Plan}
-use Rattle.dsedge_base.specs.declared.work.Plan.TheVariants.{Arrivals, Audit, Certify, Check, Drive, Envelope, Headroom, Mark, Meter, Quote, Show}
+use Rattle.dsedge_base.specs.declared.work.Plan.TheVariants.{Arrivals, Audit, Book, Certify, Check, Drive, Envelope, Headroom, Mark, Meter, Quote, Show}
 
 -- the texts that the options of a command were given
 abbrev pub given_by : List Row → Given
 given_by rows name = first_of name rows
+
+-- what `book` asks for with its words
+unfoldable pub book_given : Given → Option Plan
+book_given given = do
+  domain ← given (codes "domain")
+  book ← given (codes "file")
+  Some (Book domain book (is_set (given (codes "to-domain"))))
 
 -- what `check` and `audit` ask for with their words
 abbrev pub check_given : Given → Option Plan
@@ -24,12 +31,16 @@ check_given given = table_given given >>= (λ files. Some (Check files.0 files.1
 abbrev pub audit_given : Given → Option Plan
 audit_given given = table_given given >>= (λ files. Some (Audit files.0 files.1))
 
+-- what `meter` asks for with its options
+abbrev pub meter_asked : Given → Option Plan
+meter_asked given = meter_given given >>= (λ m. Some (Meter m (is_set (given (codes "levels")))))
+
 -- what `mark` asks for with its options
 unfoldable pub mark_given : Given → Option Plan
 mark_given given = do
   files ← table_given given
   marking ← marking_given given
-  Some (Mark files.0 files.1 marking.0 marking.1 marking.2)
+  Some (Mark files.0 files.1 marking.0 marking.1 marking.2 (is_set (given (codes "verdict"))))
 
 -- what `arrivals` asks for with its words
 abbrev pub arrivals_given : Given → Option Plan
@@ -38,13 +49,14 @@ arrivals_given given = place_given given >>= (λ place. Some (Arrivals place (is
 -- what a command and its options ask for
 abbrev pub plan_of : Text × List Row → Option Plan
 plan_of c =
-    if bytes_eq c.0 (codes "meter") then meter_given (given_by c.1) >>= (λ m. Some (Meter m))
+    if bytes_eq c.0 (codes "meter") then meter_asked (given_by c.1)
     else if bytes_eq c.0 (codes "envelope") then envelope_given (given_by c.1) >>= (λ e. Some (Envelope e.0 e.1))
     else if bytes_eq c.0 (codes "certify") then given_by c.1 (codes "domain") >>= (λ domain. Some (Certify domain))
     else if bytes_eq c.0 (codes "headroom") then given_by c.1 (codes "domain") >>= (λ domain. Some (Headroom domain))
     else if bytes_eq c.0 (codes "quote") then
     quote_given (given_by c.1) >>= (λ q. Some (Quote q.0 q.1 q.2))
     else if bytes_eq c.0 (codes "drive") then drive_given (given_by c.1) >>= (λ d. Some (Drive d.0 d.1 d.2))
+    else if bytes_eq c.0 (codes "book") then book_given (given_by c.1)
     else if bytes_eq c.0 (codes "check") then check_given (given_by c.1)
     else if bytes_eq c.0 (codes "audit") then audit_given (given_by c.1)
     else if bytes_eq c.0 (codes "mark") then mark_given (given_by c.1)
@@ -67,16 +79,17 @@ IsWish kind = (kind ≡ DisplayHelp) ⊎ (kind ≡ DisplayVersion)
 -- well formed words ask for.
 abbrev pub IsPlanOf : List Text → Plan → Type 0
 IsPlanOf words (Show text) = (kind : ErrorKind) × IsAmong kind (fault_of dsedge words) × IsWish kind
-IsPlanOf words (Meter m) = IsWellFormed words × (asked_by words ≡ Some (Meter m))
+IsPlanOf words (Meter m has_levels) = IsWellFormed words × (asked_by words ≡ Some (Meter m has_levels))
 IsPlanOf words (Envelope rate burst) = IsWellFormed words × (asked_by words ≡ Some (Envelope rate burst))
 IsPlanOf words (Certify domain) = IsWellFormed words × (asked_by words ≡ Some (Certify domain))
 IsPlanOf words (Check domain certificate) = IsWellFormed words × (asked_by words ≡ Some (Check domain certificate))
 IsPlanOf words (Headroom domain) = IsWellFormed words × (asked_by words ≡ Some (Headroom domain))
-IsPlanOf words (Quote domain contract field) = IsWellFormed words × (asked_by words ≡ Some (Quote domain contract field))
+IsPlanOf words (Quote domain contract asked) = IsWellFormed words × (asked_by words ≡ Some (Quote domain contract asked))
 IsPlanOf words (Audit domain certificate) = IsWellFormed words × (asked_by words ≡ Some (Audit domain certificate))
 IsPlanOf words (Drive domain limits book) = IsWellFormed words × (asked_by words ≡ Some (Drive domain limits book))
-IsPlanOf words (Mark domain certificate port workers keeps_red) =
-    IsWellFormed words × (asked_by words ≡ Some (Mark domain certificate port workers keeps_red))
+IsPlanOf words (Book domain book to_domain) = IsWellFormed words × (asked_by words ≡ Some (Book domain book to_domain))
+IsPlanOf words (Mark domain certificate port workers keeps_red has_verdict) =
+    IsWellFormed words × (asked_by words ≡ Some (Mark domain certificate port workers keeps_red has_verdict))
 IsPlanOf words (Arrivals place has_colours) = IsWellFormed words × (asked_by words ≡ Some (Arrivals place has_colours))
 
 -- something other than a wish for a text stands against the form of the words
@@ -114,13 +127,14 @@ IsOfForm Value = ⊥
 
 abbrev pub IsShown : Plan → Type 0
 IsShown (Show text) = Unit {0}
-IsShown (Meter m) = ⊥
+IsShown (Meter m has_levels) = ⊥
 IsShown (Envelope rate burst) = ⊥
 IsShown (Certify domain) = ⊥
 IsShown (Check domain certificate) = ⊥
 IsShown (Headroom domain) = ⊥
-IsShown (Quote domain contract field) = ⊥
+IsShown (Quote domain contract asked) = ⊥
 IsShown (Audit domain certificate) = ⊥
 IsShown (Drive domain limits book) = ⊥
-IsShown (Mark domain certificate port workers keeps_red) = ⊥
+IsShown (Book domain book to_domain) = ⊥
+IsShown (Mark domain certificate port workers keeps_red has_verdict) = ⊥
 IsShown (Arrivals place has_colours) = ⊥

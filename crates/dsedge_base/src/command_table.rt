@@ -123,6 +123,12 @@ const COMMANDS: &[CommandEntry] = &[
                 value: "MOMENT",
                 help: "when the meter begins with full buckets, in nanoseconds [default: 0]",
             },
+            ArgumentEntry {
+                form: Form::Flag,
+                name: "levels",
+                value: "",
+                help: "prints COLOUR COMMITTED SECOND: the levels that the packet left in the buckets, in bytes",
+            },
         ],
     },
     CommandEntry {
@@ -160,7 +166,7 @@ const COMMANDS: &[CommandEntry] = &[
     },
     CommandEntry {
         name: "quote",
-        about: "Prints the greatest value of a field of a contract that fits beside the others, or none.",
+        about: "Prints the greatest value of a field of a contract that fits beside the others, or how many like it fit.",
         arguments: &[
             DOMAIN,
             ArgumentEntry {
@@ -170,10 +176,16 @@ const COMMANDS: &[CommandEntry] = &[
                 help: "the contract",
             },
             ArgumentEntry {
-                form: Form::Needed,
+                form: Form::Choice,
                 name: "most",
                 value: "FIELD",
                 help: "the rate or burst of it: cir, cbs, pir, pbs, eir or ebs, as its entry has it",
+            },
+            ArgumentEntry {
+                form: Form::Flag,
+                name: "count",
+                value: "",
+                help: "in place of --most: how many contracts like it fit at most, itself being one of them",
             },
         ],
     },
@@ -208,6 +220,25 @@ const COMMANDS: &[CommandEntry] = &[
         ],
     },
     CommandEntry {
+        name: "book",
+        about: "Prints the contracts that a book of drive holds: lines ID NAME SINCE UNTIL, as list of drive prints them.",
+        arguments: &[
+            DOMAIN,
+            ArgumentEntry {
+                form: Form::Word,
+                name: "file",
+                value: "FILE",
+                help: "the SQLite file of drive --book that keeps the book",
+            },
+            ArgumentEntry {
+                form: Form::Flag,
+                name: "to-domain",
+                value: "",
+                help: "prints a domain text instead, with the contracts that are held",
+            },
+        ],
+    },
+    CommandEntry {
         name: "mark",
         about: MARK_ABOUT,
         arguments: &[
@@ -230,6 +261,12 @@ const COMMANDS: &[CommandEntry] = &[
                 name: "red",
                 value: "RULE",
                 help: "what is done with red frames: keep or drop",
+            },
+            ArgumentEntry {
+                form: Form::Flag,
+                name: "verdict",
+                value: "",
+                help: "ends the report with the verdict on the run behind the capture, as audit tells it",
             },
         ],
     },

@@ -1,6 +1,6 @@
 ghost use Rattle.std.specs.Prelude.{◌≡◌, ◌≤◌, ◌^◌, IfSome, codes, option_map};
 ghost use Rattle.clap.specs.Words.{first_of, found_of, rows_of};
-ghost use Rattle.dsedge_base.specs.Options.{burst_given, burst_said, envelope_burst_said, envelope_given, field_given};
+ghost use Rattle.dsedge_base.specs.Options.{burst_given, burst_said, envelope_burst_said, asked_given, envelope_given};
 ghost use Rattle.dsedge_base.specs.Options.{commands_asked, contracts_asked, drive_given, is_given, is_set, number_within};
 ghost use Rattle.dsedge_base.specs.Options.{marking_given, meter_given, mode_said, moment_said, opened};
 ghost use Rattle.dsedge_base.specs.Options.{origin_said, parameters_given, quote_given, rate_given, rate_said, red_said};
@@ -11,7 +11,7 @@ ghost use Rattle.dsedge_base.specs.Plans.{given_by};
 use crate::work::GivenPort;
 use clap::ArgMatches;
 use ds_broker::Limits;
-use ds_quotes::Field;
+use ds_quotes::{Asked, Field};
 use dsedge_lines::GivenName;
 use line_text::number;
 use meter_book_base::{AnyMeter, Parameters};
@@ -70,25 +70,31 @@ pub(crate) fn table_in<'a>(options: &ArgMatches<'a>) -> Option<(GivenName<'a>, G
     Some((domain, certificate))
 }
 
-/// The file of a domain, the name of a contract and the field of it that the options of `quote` ask for.
+/// The file of a domain, the name of a contract and what the options of `quote` ask for of it.
 #[tactic(auto, unfolding(crate::specs::Options::quote_given))]
 pub(crate) fn quote_in<'a>(
     options: &ArgMatches<'a>,
-) -> Option<(GivenName<'a>, GivenName<'a>, Field)>
+) -> Option<(GivenName<'a>, GivenName<'a>, Asked)>
     ensures { result ≡ quote_given (given_by (rows_of (found_of options.now))) }
 {
     let domain = name_in(options, "domain")?;
     let contract = name_in(options, "contract")?;
-    let field = field_in(options)?;
-    Some((domain, contract, field))
+    let asked = asked_in(options)?;
+    Some((domain, contract, asked))
 }
 
-/// The field that the options of `quote` name.
-fn field_in(options: &ArgMatches<'_>) -> Option<Field>
-    ensures { result ≡ field_given (given_by (rows_of (found_of options.now))) }
+/// What the options of `quote` ask for: the field that one names, or how many fit, and not both.
+fn asked_in(options: &ArgMatches<'_>) -> Option<Asked>
+    ensures { result ≡ asked_given (given_by (rows_of (found_of options.now))) }
 {
-    let word = text_in(options, "most")?;
-    Field::named(word.as_bytes())
+    match (text_in(options, "most"), is_set(options, "count")) {
+        (Some(word), false) => {
+            let field = Field::named(word.as_bytes())?;
+            Some(Asked::Most(field))
+        }
+        (None, true) => Some(Asked::Count),
+        (Some(_), true) | (None, false) => None,
+    }
 }
 
 /// The port, how many workers, and whether red frames are kept, that the options of `mark` ask for: workers, none where
@@ -137,11 +143,11 @@ pub(crate) fn place_in<'a>(options: &ArgMatches<'a>) -> Option<Option<GivenPort<
     }
 }
 
-/// Whether the words of `arrivals` ask for colours.
-pub(crate) fn has_colours(options: &ArgMatches<'_>) -> bool
-    ensures { result ≡ is_set (given_by (rows_of (found_of options.now)) (codes "colours")) }
+/// Whether a flag is given.
+pub(crate) fn is_set(options: &ArgMatches<'_>, name: &str) -> bool
+    ensures { result ≡ is_set (given_by (rows_of (found_of options.now)) name.now) }
 {
-    match text_in(options, "colours") {
+    match text_in(options, name) {
         Some(text) => text == "true",
         None => false,
     }

@@ -2,14 +2,14 @@ ghost use Rattle.std.specs.Prelude.{◌≡◌, ◌≢◌, IfErr, IfOk, IfSome, I
 ghost use Rattle.std.specs.Prelude.{option_and_then, if◌then◌else◌};
 ghost use Rattle.clap.specs.Words.{found_of, kind_of, rows_of, subcommand_rows_of};
 ghost use Rattle.dsedge_base.specs.Plans.{IsExplanationOf, IsOfForm, IsPlanOf, IsRefusalOf, IsShown, IsWish};
-ghost use Rattle.dsedge_base.specs.Plans.{arrivals_given, asks_other_workers, audit_given, check_given, given_by, mark_given, plan_of};
+ghost use Rattle.dsedge_base.specs.Plans.{arrivals_given, asks_other_workers, audit_given, book_given, check_given, given_by, mark_given, meter_asked, plan_of};
 
 use crate::command_line::command_line;
 use crate::explanation::Explanation;
 use crate::fault::UsageFault;
 use crate::options::{
-    drive_in, envelope_in, has_colours, marking_in, meter_in, name_in, place_in, quote_in,
-    table_in, workers_in,
+    drive_in, envelope_in, is_set, marking_in, meter_in, name_in, place_in, quote_in, table_in,
+    workers_in,
 };
 use crate::work::Plan;
 use clap::error::ErrorKind;
@@ -99,7 +99,7 @@ fn asked_of<'a>(name: &str, options: &ArgMatches<'a>) -> Option<Plan<'a>>
     ensures { result ≡ plan_of (name.now, rows_of (found_of options.now)) }
 {
     match name {
-        "meter" => Some(Plan::Meter(meter_in(options)?)),
+        "meter" => meter_asked(options),
         "envelope" => {
             let (rate, burst) = envelope_in(options)?;
             Some(Plan::Envelope { rate, burst })
@@ -113,11 +113,11 @@ fn asked_of<'a>(name: &str, options: &ArgMatches<'a>) -> Option<Plan<'a>>
             Some(Plan::Headroom { domain })
         }
         "quote" => {
-            let (domain, contract, field) = quote_in(options)?;
+            let (domain, contract, asked) = quote_in(options)?;
             Some(Plan::Quote {
                 domain,
                 contract,
-                field,
+                asked,
             })
         }
         "drive" => {
@@ -128,12 +128,37 @@ fn asked_of<'a>(name: &str, options: &ArgMatches<'a>) -> Option<Plan<'a>>
                 book,
             })
         }
+        "book" => book_asked(options),
         "check" => check_asked(options),
         "audit" => audit_asked(options),
         "mark" => mark_asked(options),
         "arrivals" => arrivals_asked(options),
         _ => None,
     }
+}
+
+/// What `book` asks for with its words.
+#[tactic(auto, unfolding(crate::specs::Plans::book_given))]
+fn book_asked<'a>(options: &ArgMatches<'a>) -> Option<Plan<'a>>
+    ensures { result ≡ book_given (given_by (rows_of (found_of options.now))) }
+{
+    let domain = name_in(options, "domain")?;
+    let book = name_in(options, "file")?;
+    let to_domain = is_set(options, "to-domain");
+    Some(Plan::Book {
+        domain,
+        book,
+        to_domain,
+    })
+}
+
+/// What `meter` asks for with its options.
+fn meter_asked<'a>(options: &ArgMatches<'a>) -> Option<Plan<'a>>
+    ensures { result ≡ meter_asked (given_by (rows_of (found_of options.now))) }
+{
+    let meter = meter_in(options)?;
+    let has_levels = is_set(options, "levels");
+    Some(Plan::Meter { meter, has_levels })
 }
 
 /// What `check` asks for with its words.
@@ -163,7 +188,7 @@ fn arrivals_asked<'a>(options: &ArgMatches<'a>) -> Option<Plan<'a>>
     ensures { result ≡ arrivals_given (given_by (rows_of (found_of options.now))) }
 {
     let place = place_in(options)?;
-    let has_colours = has_colours(options);
+    let has_colours = is_set(options, "colours");
     Some(Plan::Arrivals { place, has_colours })
 }
 
@@ -174,12 +199,14 @@ fn mark_asked<'a>(options: &ArgMatches<'a>) -> Option<Plan<'a>>
 {
     let (domain, certificate) = table_in(options)?;
     let (port, workers, keeps_red) = marking_in(options)?;
+    let has_verdict = is_set(options, "verdict");
     Some(Plan::Mark {
         domain,
         certificate,
         port,
         workers,
         keeps_red,
+        has_verdict,
     })
 }
 

@@ -2,7 +2,7 @@ ghost use Rattle.std.specs.Prelude.{◌≡◌, IfOk};
 ghost use Rattle.dsedge_base.specs.Files.{files_of, names_of};
 
 use ds_broker::Limits;
-use ds_quotes::Field;
+use ds_quotes::Asked;
 use dsedge_lines::GivenName;
 use meter_book_base::AnyMeter;
 use moment_core::Rate;
@@ -15,7 +15,12 @@ pub enum Plan<'a> {
     /// Show this text on standard output: help, or the version.
     Show(String),
     /// Meter the arrivals of standard input with this meter.
-    Meter(AnyMeter),
+    Meter {
+        /// The meter.
+        meter: AnyMeter,
+        /// Whether the levels that packets leave in its buckets are told.
+        has_levels: bool,
+    },
     /// Test whether the sized moments of standard input keep an envelope.
     Envelope {
         /// The rate of the envelope.
@@ -40,14 +45,14 @@ pub enum Plan<'a> {
         /// The file of the domain.
         domain: GivenName<'a>,
     },
-    /// Tell the greatest value of a field of a contract of a domain that fits beside the others.
+    /// Tell the greatest value of a field of a contract of a domain that fits beside the others, or how many like it fit.
     Quote {
         /// The file of the domain.
         domain: GivenName<'a>,
         /// The name of the contract.
         contract: GivenName<'a>,
-        /// The field.
-        field: Field,
+        /// What is asked for.
+        asked: Asked,
     },
     /// Judge the run of standard input over a domain with a certificate of its contracts.
     Audit {
@@ -65,6 +70,15 @@ pub enum Plan<'a> {
         /// The file that keeps its book, if one does.
         book: Option<GivenName<'a>>,
     },
+    /// Tell what a broker's book of a domain holds.
+    Book {
+        /// The file of the domain.
+        domain: GivenName<'a>,
+        /// The file that keeps the book.
+        book: GivenName<'a>,
+        /// Whether that is told as a domain text.
+        to_domain: bool,
+    },
     /// Mark the capture of standard input at a port of a domain with a certificate of its contracts.
     Mark {
         /// The file of the domain.
@@ -77,6 +91,8 @@ pub enum Plan<'a> {
         workers: Option<u32>,
         /// Whether red frames stay in the capture, or are left out.
         keeps_red: bool,
+        /// Whether the verdict on the run behind the capture is told.
+        has_verdict: bool,
     },
     /// Tell the packets of the capture of standard input.
     Arrivals {
@@ -123,7 +139,7 @@ impl<'a> Plan<'a> {
         let mut names = Vec::new(alloc);
         match self {
             Plan::Show(_)
-            | Plan::Meter(_)
+            | Plan::Meter { .. }
             | Plan::Envelope { .. }
             | Plan::Arrivals { place: None, .. } => {}
             Plan::Arrivals {
@@ -133,7 +149,8 @@ impl<'a> Plan<'a> {
             Plan::Certify { domain }
             | Plan::Headroom { domain }
             | Plan::Quote { domain, .. }
-            | Plan::Drive { domain, .. } => names.push(GivenName::new(domain.text()))?,
+            | Plan::Drive { domain, .. }
+            | Plan::Book { domain, .. } => names.push(GivenName::new(domain.text()))?,
             Plan::Check {
                 domain,
                 certificate,

@@ -1,69 +1,68 @@
 -- The answer of `drive`, a line at a time.
-use Rattle.std.proofs.Common.{◌≡◌, ℕ, ◌+◌, List, ◌∷◌, [], ◌++◌, None, Some, false, refl, ap, ◌∙◌, append-nil, append_assoc}
+use Rattle.std.proofs.Common.{◌≡◌, ℕ, ◌+◌, List, ◌∷◌, [], ◌++◌, Option, None, Some, is_some, option_map, unwrap_or, true, false, refl, sym, ap, ◌∙◌, append-nil, append_assoc, length}
 use Rattle.line_text.specs.Lines.{has_byte, lines_of}
 use Rattle.line_text.proofs.LineLemmas.{lines_of-cut}
-use Rattle.ds_domain_base.specs.declared.contract.Contract.{Contract}
-use Rattle.ds_broker.specs.Books.{Book}
 use Rattle.dsedge_lines.specs.Answers.{Answer, behind}
-use Rattle.dsedge_lines.specs.declared.command.Ending.{Ending}
 use Rattle.dsedge_lines.specs.declared.command.Ending.TheVariants.{BadLine, Whole}
 use Rattle.dsedge_lines.proofs.AnswerLemmas.{behind-append}
-use Rattle.dsedge_drive.specs.Driven.{drive_from, said}
-use Rattle.dsedge_drive.specs.Requests.{request_in}
-use Rattle.dsedge_drive.specs.declared.request.Request.{Request}
+use Rattle.dsedge_drive.specs.Driven.{Reply, drive_from, replied, stopped}
+use Rattle.dsedge_drive.specs.Kept.{Selling, with_reply}
+use Rattle.dsedge_drive.specs.Opened.{answer_behind}
 
-behind_nothing : (out : List ℕ) (ending : Ending) → ◌≡◌ {A = Answer} (record { text = out; ending = ending }) (behind out (record { text = []; ending = ending }))
-behind_nothing out ending = rw (append-nil out) refl
-
--- a line that asks for nothing
-pub bad_line : (offered : List Contract) (b : Book) (number : ℕ) (line : List ℕ) (later : List (List ℕ)) (out : List ℕ) → request_in offered line ≡ None
-    → ◌≡◌ {A = Answer} (record { text = out; ending = BadLine number }) (behind out (drive_from offered b number (line ∷ later)))
+-- a line that is answered: its answer is held back behind what was held back
+pub replied_line : (s mid : Selling) (number : ℕ) (line : List ℕ) (later : List (List ℕ)) → is_some (replied s.offered s.book line) ≡ true
+    → mid ≡ with_reply s (replied s.offered s.book line)
+    → answer_behind mid (number + 1) later ≡ answer_behind s number (line ∷ later)
 unfolding drive_from
-bad_line offered b number line later out e = rw e (behind_nothing out (BadLine number))
+replied_line s mid number line later known is = rw is (by (replied s.offered s.book line) known)
+  where
+    by : (r : Option Reply) → is_some r ≡ true
+        → answer_behind (with_reply s r) (number + 1) later
+        ≡ behind s.unsaid (unwrap_or (option_map (λ (r : Reply). behind r.text (drive_from r.offered r.book (number + 1) later)) r) (stopped number))
+    by (Some r) h = behind-append s.unsaid r.text (drive_from r.offered r.book (number + 1) later)
+    by None h = absurd cc
 
--- a line that is answered
-pub said_line : (offered : List Contract) (b new : Book) (number : ℕ) (line : List ℕ) (later : List (List ℕ)) (out written : List ℕ) (r : Request)
-    → request_in offered line ≡ Some r → written ≡ out ++ (said offered b r).text → new ≡ (said offered b r).book
-    → behind written (drive_from offered new (number + 1) later) ≡ behind out (drive_from offered b number (line ∷ later))
+-- a line that asks for nothing changes nothing, and ends the answer
+unknown_line : (s : Selling) (number : ℕ) (line : List ℕ) (later : List (List ℕ)) → is_some (replied s.offered s.book line) ≡ false
+    → (with_reply s (replied s.offered s.book line) ≡ s) × (answer_behind s number (line ∷ later) ≡ behind s.unsaid (stopped number))
 unfolding drive_from
-said_line offered b new number line later out written r e text book =
-    rw (e, text, book) (behind-append out (said offered b r).text (drive_from offered (said offered b r).book (number + 1) later))
+unknown_line s number line later unknown = by (replied s.offered s.book line) unknown
+  where
+    by : (r : Option Reply) → is_some r ≡ false
+        → (with_reply s r ≡ s)
+        × (behind s.unsaid (unwrap_or (option_map (λ (r : Reply). behind r.text (drive_from r.offered r.book (number + 1) later)) r) (stopped number))
+        ≡ behind s.unsaid (stopped number))
+    by (Some r) h = absurd cc
+    by None h = (refl, refl)
 
--- the end of the lines
-pub last_line : (offered : List Contract) (b : Book) (number : ℕ) (out : List ℕ)
-    → ◌≡◌ {A = Answer} (record { text = out; ending = Whole }) (behind out (drive_from offered b number []))
-unfolding drive_from
-last_line offered b number out = behind_nothing out Whole
+-- one that is given out, with what was held back
+pub given_line : (s mid new : Selling) (number : ℕ) (line : List ℕ) (later : List (List ℕ)) (out written : List ℕ) → is_some (replied s.offered s.book line) ≡ true
+    → mid ≡ with_reply s (replied s.offered s.book line) → written ≡ out ++ mid.unsaid → new ≡ record mid { unsaid = []; kept = length mid.book.history }
+    → behind written (answer_behind new (number + 1) later) ≡ behind out (answer_behind s number (line ∷ later))
+given_line s mid new number line later out written known is text given =
+    rw (text, given) (behind-append out mid.unsaid (drive_from mid.offered mid.book (number + 1) later) ∙ ap (behind out) (replied_line s mid number line later known is))
 
--- an answer that is given out behind what was held back
-pub given_line : (offered : List Contract) (b new : Book) (number : ℕ) (line : List ℕ) (later : List (List ℕ)) (out unsaid written left : List ℕ) (r : Request)
-    → request_in offered line ≡ Some r → written ≡ out ++ (unsaid ++ (said offered b r).text) → left ≡ [] → new ≡ (said offered b r).book
-    → behind written (behind left (drive_from offered new (number + 1) later)) ≡ behind out (behind unsaid (drive_from offered b number (line ∷ later)))
-given_line offered b new number line later out unsaid written left r e text none book =
-    rw (text, none) (behind-append out (unsaid ++ (said offered b r).text) (drive_from offered new (number + 1) later)
-    ∙ ap (behind out) (said_line offered b new number line later unsaid (unsaid ++ (said offered b r).text) r e refl book))
-
--- one that is held back too
-pub held_line : (offered : List Contract) (b new : Book) (number : ℕ) (line : List ℕ) (later : List (List ℕ)) (out unsaid written left : List ℕ) (r : Request)
-    → request_in offered line ≡ Some r → written ≡ out → left ≡ unsaid ++ (said offered b r).text → new ≡ (said offered b r).book
-    → behind written (behind left (drive_from offered new (number + 1) later)) ≡ behind out (behind unsaid (drive_from offered b number (line ∷ later)))
-held_line offered b new number line later out unsaid written left r e same text book =
-    rw same (ap (behind out) (said_line offered b new number line later unsaid left r e text book))
+-- one that is held back
+pub held_line : (s mid : Selling) (number : ℕ) (line : List ℕ) (later : List (List ℕ)) (out written : List ℕ) → is_some (replied s.offered s.book line) ≡ true
+    → mid ≡ with_reply s (replied s.offered s.book line) → written ≡ out
+    → behind written (answer_behind mid (number + 1) later) ≡ behind out (answer_behind s number (line ∷ later))
+held_line s mid number line later out written known is same = rw same (ap (behind out) (replied_line s mid number line later known is))
 
 -- a line that asks for nothing, behind what was held back
-pub given_bad_line : (offered : List Contract) (b : Book) (number : ℕ) (line : List ℕ) (later : List (List ℕ)) (out unsaid written : List ℕ)
-    → request_in offered line ≡ None → written ≡ out ++ unsaid
-    → ◌≡◌ {A = Answer} (record { text = written; ending = BadLine number }) (behind out (behind unsaid (drive_from offered b number (line ∷ later))))
-given_bad_line offered b number line later out unsaid written e text =
-    bad_line offered b number line later written e
-    ∙ ap (λ w. behind w (drive_from offered b number (line ∷ later))) text
-    ∙ behind-append out unsaid (drive_from offered b number (line ∷ later))
+pub given_bad_line : (s mid : Selling) (number : ℕ) (line : List ℕ) (later : List (List ℕ)) (out written : List ℕ) → is_some (replied s.offered s.book line) ≡ false
+    → mid ≡ with_reply s (replied s.offered s.book line) → written ≡ out ++ mid.unsaid
+    → ◌≡◌ {A = Answer} (record { text = written; ending = BadLine number }) (behind out (answer_behind s number (line ∷ later)))
+given_bad_line s mid number line later out written unknown is text =
+    let bad = unknown_line s number line later unknown in
+    let same : mid ≡ s = is ∙ bad.0 in
+    let whole : written ≡ out ++ (s.unsaid ++ []) = text ∙ ap (λ (m : Selling). out ++ m.unsaid) same ∙ ap (λ u. out ++ u) (sym (append-nil s.unsaid)) in
+    ap (λ t. record { text = t; ending = BadLine number }) whole ∙ sym (ap (behind out) bad.1)
 
 -- the end, behind what was held back
-pub given_last_line : (offered : List Contract) (b : Book) (number : ℕ) (out unsaid written : List ℕ) → written ≡ out ++ unsaid
-    → ◌≡◌ {A = Answer} (record { text = written; ending = Whole }) (behind out (behind unsaid (drive_from offered b number [])))
-given_last_line offered b number out unsaid written text =
-    last_line offered b number written ∙ ap (λ w. behind w (drive_from offered b number [])) text ∙ behind-append out unsaid (drive_from offered b number [])
+pub given_last_line : (s : Selling) (number : ℕ) (out written : List ℕ) → written ≡ out ++ s.unsaid
+    → ◌≡◌ {A = Answer} (record { text = written; ending = Whole }) (behind out (answer_behind s number []))
+unfolding drive_from
+given_last_line s number out written text = rw text (rw (append-nil s.unsaid) refl)
 
 -- the lines of a text that begins with one
 pub first_line : (text line rest later : List ℕ) → has_byte 10 line ≡ false → text ≡ line ++ 10 ∷ rest → lines_of (text ++ later) ≡ line ∷ lines_of (rest ++ later)

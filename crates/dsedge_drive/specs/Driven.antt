@@ -1,8 +1,10 @@
 -- What `drive` answers to lines: each is asked of the book of all that was accepted before it.
-use Rattle.std.specs.Prelude.{ℕ, ◌+◌, List, [], ◌∷◌, codes, option_and_then, option_map, slice_get, unwrap_or, Option, None, Some}
+use Rattle.std.specs.Prelude.{ℕ, ◌+◌, List, [], ◌∷◌, ◌++◌, codes, option_and_then, option_map, slice_get, unwrap_or, Option, None, Some, Result, Ok, Err}
 use Rattle.ds_domain_base.specs.Domains.{Domain}
 use Rattle.ds_domain_base.specs.declared.contract.Contract.{Contract}
+use Rattle.ds_domain_base.specs.declared.fault.DomainFault.{DomainFault}
 use Rattle.ds_domain_base.specs.declared.fault.Kind.TheVariants as kinds
+use Rattle.ds_domain.specs.OfferedTexts.{contract_said}
 use Rattle.ds_broker.specs.Books.{Book, Limits, contracts_in, held_of, table_of, with_command}
 use Rattle.ds_broker.specs.Entries.{entries_of, grant_of, next_serial}
 use Rattle.ds_broker.specs.Refusals.{release_refusal, reserve_refusal, retire_refusal}
@@ -12,12 +14,12 @@ use Rattle.ds_broker.specs.declared.refusal.BrokerRefusal.{BrokerRefusal}
 use Rattle.dsedge_lines.specs.Answers.{Answer, behind}
 use Rattle.dsedge_lines.specs.declared.command.Ending.TheVariants.{BadLine, Whole}
 use Rattle.ds_quotes.specs.Quotes.{others_of}
-use Rattle.ds_quotes.specs.declared.field.Field.{Field}
+use Rattle.ds_quotes.specs.declared.asked.Asked.{Asked}
 use Rattle.dsedge_texts.specs.Headed.{headroom_text}
-use Rattle.dsedge_texts.specs.Quoted.{told_beside}
+use Rattle.dsedge_texts.specs.Quoted.{told_of}
 use Rattle.dsedge_texts.specs.Wording.{kind_text}
-use Rattle.dsedge_drive.specs.Requests.{request_in}
-use Rattle.dsedge_drive.specs.Sold.{done_line, fault_line, granted_line, list_text, look_line, refused_line}
+use Rattle.dsedge_drive.specs.Requests.{offer_in, request_in}
+use Rattle.dsedge_drive.specs.Sold.{done_line, fault_line, granted_line, list_text, look_line, offered_line, refused_line, unoffered_line}
 use Rattle.dsedge_drive.specs.declared.request.Request.{Request}
 use Rattle.dsedge_drive.specs.declared.request.Request.TheVariants as requests
 
@@ -53,34 +55,70 @@ abbrev pub retired : Book → ℕ → ℕ → Said
 retired b id moment =
     said_of b (commands.Retire id moment) (done_line (codes "retired") id (next_serial b)) (retire_refusal b id moment)
 
--- The greatest value of a field of a contract that is offered, beside what is held but the contract of its name; a name
--- that none of them has is unknown.
-abbrev pub quoted : Book → Option Contract → Field → Said
-quoted b None field = only_said b (fault_line (kind_text kinds.UnknownName))
-quoted b (Some c) field = only_said b (told_beside (others_of (table_of b) c.name) c field).0
+-- The greatest value of a field of a contract that is offered, or how many like it fit, beside what is held but the
+-- contract of its name; a name that none of them has is unknown.
+abbrev pub quoted : Book → Option Contract → Asked → Said
+quoted b None asked = only_said b (fault_line (kind_text kinds.UnknownName))
+quoted b (Some c) asked = only_said b (told_of (others_of (table_of b) c.name) c asked).0
 
 -- what is asked for is said of the book as it is
 abbrev pub said : List Contract → Book → Request → Said
 said offered b (requests.Reserve place) = reserved b (option_and_then (slice_get offered) place)
 said offered b (requests.Release id at) = released b id at
 said offered b (requests.Retire id moment) = retired b id moment
-said offered b (requests.Quote place field) = quoted b (option_and_then (slice_get offered) place) field
+said offered b (requests.Quote place asked) = quoted b (option_and_then (slice_get offered) place) asked
 said offered b requests.Headroom = only_said b (headroom_text (table_of b))
 said offered b requests.List = only_said b (list_text (entries_of b))
 said offered b requests.Look = only_said b (look_line b)
+
+-- what an offer is answered with, and the contracts that are offered from then on
+pub record Offering : Type 0 where
+  pub text : List ℕ
+  pub offered : List Contract
+
+-- a contract is offered behind the others, or its fault is told
+abbrev pub offered_as : List Contract → Result Contract DomainFault → Offering
+offered_as offered (Ok c) = record { text = offered_line c.name; offered = offered ++ c ∷ [] }
+offered_as offered (Err fault) = record { text = unoffered_line fault; offered = offered }
+
+-- the contract that a line says is offered in a domain as one more entry of its text would be
+abbrev pub offered_in : Domain → List Contract → List ℕ → Offering
+offered_in d offered line = offered_as offered (contract_said d offered line)
+
+-- what a line is answered with, and the contracts that are offered and the book from then on
+pub record Reply : Type 0 where
+  pub text : List ℕ
+  pub offered : List Contract
+  pub book : Book
+
+-- what is asked of a book leaves what is offered
+abbrev pub asked_of : List Contract → Said → Reply
+asked_of offered s = record { text = s.text; offered = offered; book = s.book }
+
+-- an offer leaves the book
+abbrev pub offer_of : Book → Offering → Reply
+offer_of b o = record { text = o.text; offered = o.offered; book = b }
+
+-- by the contract that a line offers, if it offers one
+abbrev pub replied_by : List Contract → Book → List ℕ → Option (List ℕ) → Option Reply
+replied_by offered b line (Some contract) = Some (offer_of b (offered_in b.domain offered contract))
+replied_by offered b line None = option_map (λ r. asked_of offered (said offered b r)) (request_in offered line)
+
+-- a line that offers a contract, or asks for something, is answered
+unfoldable pub replied : List Contract → Book → List ℕ → Option Reply
+replied offered b line = replied_by offered b line (offer_in line)
 
 -- a line that asks for nothing ends the answer
 abbrev pub stopped : ℕ → Answer
 stopped number = record { text = []; ending = BadLine number }
 
 -- The answer to lines from a number on, for contracts that are offered, from a book on: what each line asks for is
--- answered, and the lines behind it are asked of the book that this left.
+-- answered, and the lines behind it are asked of the book, and of the offers, that this left.
 unfoldable pub drive_from : List Contract → Book → ℕ → List (List ℕ) → Answer
 drive_from offered b number [] = record { text = []; ending = Whole }
 drive_from offered b number (line ∷ lines) =
     unwrap_or
-    (option_map (λ r. behind (said offered b r).text (drive_from offered (said offered b r).book (number + 1) lines))
-    (request_in offered line))
+    (option_map (λ r. behind r.text (drive_from r.offered r.book (number + 1) lines)) (replied offered b line))
     (stopped number)
 
 -- the book that it begins with: that of a domain with no contract in it, for as much as the limits say

@@ -1,10 +1,9 @@
 -- What the fields of the command stand for, and what they keep.
-use Rattle.std.specs.Prelude.{◌≡◌, ℕ, List, Option, position, bytes_eq}
-use Rattle.std.specs.Map.{lookup}
+use Rattle.std.specs.Prelude.{ℕ, List, ◌++◌, Option, None, Some}
 use Rattle.ds_domain_base.specs.declared.contract.Contract.{Contract}
 use Rattle.ds_broker.specs.Books.{Book}
 use Rattle.ds_ledger_base.specs.declared.fault.LedgerFault.{LedgerFault}
-use Rattle.dsedge_drive.specs.declared.offers.Offers.TheInside as offers
+use Rattle.dsedge_drive.specs.Driven.{Reply}
 
 -- the contracts that are offered, the book, what is answered and not given out, how many commands of the book its ledger
 -- keeps, and why it keeps no more, if it does not
@@ -15,8 +14,7 @@ pub record Selling : Type 0 where
   pub kept : ℕ
   pub fault : Option LedgerFault
 
--- under each name stands the place of the first contract that has it
-abbrev pub IsOffers : offers.Inside → Type 0
-IsOffers o =
-    (name : List ℕ) → lookup (λ key. bytes_eq name key.now) o.places.entries
-    ≡ position (λ c. bytes_eq name c.name) o.contracts.now
+-- what a line is answered with, if with anything, stands behind what is not given out
+abbrev pub with_reply : Selling → Option Reply → Selling
+with_reply s None = s
+with_reply s (Some r) = record s { offered = r.offered; book = r.book; unsaid = s.unsaid ++ r.text }

@@ -26,7 +26,7 @@ IsKeptOr other s = (s.kept ≡ length s.book.history) ⊎ other
 
 -- The book is what becomes of that of the domain as it is asked the commands of the ledger. All of them are kept.
 pub record IsOpened (sale : Sale) (history : List Command) (s : Selling) : Type 0 where
-  pub offered : s.offered ≡ sale.contracts.now
+  pub offered : s.offered ≡ sale.contracts.items
   pub replayed : replay (opening_book sale.domain sale.limits) history ≡ Ok s.book
   pub unsaid : s.unsaid ≡ []
   pub kept : s.kept ≡ length s.book.history

@@ -1,10 +1,10 @@
 -- The lines that ask something of a broker: `reserve NAME`, `release ID MOMENT`, `retire ID MOMENT`,
--- `quote NAME FIELD`, `headroom`, `list`, `look`.
-use Rattle.std.specs.Prelude.{ℕ, ◌-◌, ◌^◌, List, [], ◌∷◌, codes, option_and_then, option_map, Option, None, Some, if◌then◌else◌, bytes_eq}
+-- `quote NAME FIELD`, `quote NAME count`, `headroom`, `list`, `look`; and `offer CONTRACT`, which offers it something to sell.
+use Rattle.std.specs.Prelude.{ℕ, ◌-◌, ◌^◌, List, [], ◌∷◌, codes, drop, take, option_and_then, option_map, Option, None, Some, if◌then◌else◌, bytes_eq}
 use Rattle.line_text.specs.Lines.{fields_of, has_byte}
 use Rattle.line_text.specs.Numbers.{number_of}
 use Rattle.ds_domain_base.specs.declared.contract.Contract.{Contract}
-use Rattle.ds_quotes.specs.Words.{field_named}
+use Rattle.ds_quotes.specs.Words.{asked_named}
 use Rattle.dsedge_texts.specs.Wording.{place_named}
 use Rattle.dsedge_drive.specs.declared.request.Request.{Request}
 use Rattle.dsedge_drive.specs.declared.request.Request.TheVariants as requests
@@ -14,11 +14,11 @@ abbrev pub reserve_of : List Contract → List (List ℕ) → Option Request
 reserve_of offered (name ∷ []) = if has_byte 13 name then None else Some (requests.Reserve (place_named offered name))
 reserve_of offered _ = None
 
--- a name, likewise, and the word of a field
+-- a name, likewise, and the word of a field, or `count`
 abbrev pub quote_of : List Contract → List (List ℕ) → Option Request
 quote_of offered (name ∷ word ∷ []) =
     if has_byte 13 name then None else
-    option_map (λ field. requests.Quote (place_named offered name) field) (field_named word)
+    option_map (λ asked. requests.Quote (place_named offered name) asked) (asked_named word)
 quote_of offered _ = None
 
 -- an id, 0 to 2^64 - 1, and a moment, 0 to 2^63 - 1 nanoseconds
@@ -50,3 +50,11 @@ request_of_fields offered (verb ∷ fields) = request_by offered verb fields
 -- what a line asks for, with the name of one of the contracts that are offered
 unfoldable pub request_in : List Contract → List ℕ → Option Request
 request_in offered line = request_of_fields offered (fields_of line)
+
+-- a text that has no CR (13)
+abbrev pub without_return : List ℕ → Option (List ℕ)
+without_return text = if has_byte 13 text then None else Some text
+
+-- the contract that a line offers: all that stands behind its first word, `offer`
+unfoldable pub offer_in : List ℕ → Option (List ℕ)
+offer_in line = if bytes_eq (take 6 line) (codes "offer ") then without_return (drop 6 line) else None

@@ -1,13 +1,15 @@
 -- How a broker's answers are written, a line each.
 use Rattle.std.specs.Prelude.{ℕ, List, [], ◌∷◌, ◌++◌, codes, decimal, flat_map, length, Option, None, Some}
+use Rattle.ds_domain_base.specs.Faults.{field_text}
 use Rattle.ds_domain_base.specs.declared.contract.Contract.{Contract}
+use Rattle.ds_domain_base.specs.declared.fault.DomainFault.{DomainFault}
 use Rattle.ds_broker.specs.Books.{Book, held_of}
 use Rattle.ds_broker.specs.declared.entry.Entry.{Entry}
 use Rattle.ds_broker.specs.declared.entry.Grant.{Grant}
 use Rattle.ds_broker.specs.declared.refusal.BrokerRefusal.{BrokerRefusal}
 use Rattle.ds_broker.specs.declared.refusal.BrokerRefusal.TheVariants as refusals
 use Rattle.dsedge_texts.specs.Refused.{refusal_line}
-use Rattle.dsedge_texts.specs.Wording.{figure, kind_text}
+use Rattle.dsedge_texts.specs.Wording.{figure, kind_text, text_or_dash}
 
 -- ID SERIAL SINCE
 abbrev pub granted_line : Grant → List ℕ
@@ -20,6 +22,14 @@ done_line done id serial = done ++ figure id ++ figure serial ++ codes "\n"
 -- why a contract is refused: the kind of its fault
 abbrev pub fault_line : List ℕ → List ℕ
 fault_line kind = codes "refused 1 " ++ kind ++ codes "\n"
+
+-- NAME, of a contract that is offered
+abbrev pub offered_line : List ℕ → List ℕ
+offered_line name = codes "offered " ++ name ++ codes "\n"
+
+-- why a contract is not offered: the kind of its fault, and the field
+abbrev pub unoffered_line : DomainFault → List ℕ
+unoffered_line fault = fault_line (kind_text fault.kind ++ codes " " ++ text_or_dash (field_text fault.field))
 
 -- how much of a hold is left, in nanoseconds
 abbrev pub hold_line : ℕ → List ℕ

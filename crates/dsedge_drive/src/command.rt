@@ -1,27 +1,30 @@
 ghost use Rattle.std.specs.Prelude.{◌≡◌, ℕ, ◌+◌, ◌<◌, List, [], ◌∷◌, ◌++◌, false, IsTrue, IfErr, IfOk, IfSome, OnErr, OnOk};
-ghost use Rattle.std.specs.Prelude.{length, option_and_then, option_map, slice_get};
+ghost use Rattle.std.specs.Prelude.{Some, is_some, length, option_and_then, option_map, slice_get};
 ghost use Rattle.line_text.specs.Lines.{has_byte, lines_of};
 ghost use Rattle.dsedge_lines.specs.Answers.{Answers, AnswersAll, AnswersFront, behind};
 ghost use Rattle.dsedge_drive.specs.Opened.{HasGrown, IsKeptOr, IsOpened, IsUnopened, answer_behind};
 ghost use Rattle.ds_broker.specs.Books.{table_of};
 ghost use Rattle.ds_broker.specs.Entries.{entries_of};
 ghost use Rattle.ds_quotes.specs.Quotes.{others_of};
-ghost use Rattle.dsedge_texts.specs.Quoted.{told_beside};
-ghost use Rattle.dsedge_drive.specs.Driven.{opening_book, quoted, released, reserved, retired, said, sold};
+ghost use Rattle.dsedge_texts.specs.Quoted.{told_of};
+ghost use Rattle.dsedge_drive.specs.Driven.{offer_of, offered_in, opening_book, quoted, released, replied, reserved};
+ghost use Rattle.dsedge_drive.specs.Driven.{retired, said, sold};
+ghost use Rattle.dsedge_drive.specs.Kept.{with_reply};
 ghost use Rattle.dsedge_drive.specs.Sold.{list_text, look_line};
 
 use crate::answer::{push_fault, push_list, push_outcome, push_sale, push_sight};
 use crate::keeper::{Keeper, MOST_AT_ONCE};
-use crate::offers::Offers;
+use crate::offering::{offer, offer_in};
 use crate::request::{Request, asked};
 use crate::shop::Shop;
 use ds_broker::{Book, Limits};
 use ds_desk::{Naming, Opened};
 use ds_domain_base::{Contract, Domain, Kind};
 use ds_ledger_base::{BookFault, Ledger, LedgerFault};
-use ds_quotes::Field;
+use ds_offers::Offers;
+use ds_quotes::Asked;
 use dsedge_lines::{Command, Ending};
-use dsedge_texts::{kind_text, push_headroom, push_quote_without};
+use dsedge_texts::{kind_text, push_asked_without, push_headroom};
 use line_text::cut;
 use moment_core::Moment;
 use std::alloc::{AllocError, Global};
@@ -36,16 +39,16 @@ const MOST_HELD: usize = 65_536;
 /// Lines that come in one piece of the input are kept together. It keeps a handle, since the broker waits for feeds that
 /// look.
 #[derive(Drop)]
-pub struct DriveCommand<'a, J: Naming, R: Wait + Drop, L: Ledger + Drop> {
+pub struct DriveCommand<J: Naming, R: Wait + Drop, L: Ledger + Drop> {
     alloc: Global,
-    offers: Offers<'a>,
+    offers: Offers,
     shop: Shop<J, R>,
     keeper: Keeper<L>,
     /// What is answered and not given out, since not all that it tells is kept yet.
     answers: Vec<u8>,
 }
 
-impl<'a, J: Naming, R: Wait + Drop, L: Ledger + Drop> Model for DriveCommand<'a, J, R, L> {
+impl<J: Naming, R: Wait + Drop, L: Ledger + Drop> Model for DriveCommand<J, R, L> {
     ghost use Rattle.std.specs.Prelude.{◌≤◌, length, take};
     ghost use Rattle.dsedge_drive.specs.Kept.{Selling};
 
@@ -65,16 +68,16 @@ impl<'a, J: Naming, R: Wait + Drop, L: Ledger + Drop> Model for DriveCommand<'a,
 
 /// What a broker sells: the contracts that are offered of a domain, in a book that takes so much.
 #[derive(Drop)]
-pub struct Sale<'a> {
+pub struct Sale {
     /// The domain.
     pub domain: Domain,
     /// How much its book takes.
     pub limits: Limits,
-    /// The contracts that are offered.
-    pub contracts: &'a [Contract],
+    /// The contracts that are offered before its first line.
+    pub contracts: Vec<Contract>,
 }
 
-impl<'a, J: Naming, R: Wait + Drop, L: Ledger + Drop> DriveCommand<'a, J, R, L> {
+impl<J: Naming, R: Wait + Drop, L: Ledger + Drop> DriveCommand<J, R, L> {
     /// The command before its first line, over a book that goes on from the commands that a ledger keeps.
     ///
     /// Refused where the domain refuses one of these now, with its serial; where memory runs out.
@@ -82,22 +85,22 @@ impl<'a, J: Naming, R: Wait + Drop, L: Ledger + Drop> DriveCommand<'a, J, R, L> 
         alloc: Global,
         rt: R,
         opened: Opened,
-        sale: Sale<'a>,
+        sale: Sale,
         ledger: L,
         kept: Vec<ds_broker::Command>,
     ) -> Result<Self, BookFault>
         requires log { opened ≡ J.log }
         requires opening { J.opening ≡ opening_book sale.domain sale.limits }
         requires kept { L.tells ledger → L.keeps ledger kept.items }
-        ensures opened { IfOk result (IsOpened sale.entry kept.items) }
-        ensures refused { IfErr result (IsUnopened sale.entry kept.items) }
+        ensures opened { IfOk result (IsOpened sale kept.items) }
+        ensures refused { IfErr result (IsUnopened sale kept.items) }
     {
         let Sale {
             domain,
             limits,
             contracts,
         } = sale;
-        let Ok(offers) = Offers::new(alloc, contracts) else {
+        let Ok(offers) = Offers::of(alloc, contracts) else {
             return Err(BookFault::Ledger(LedgerFault::NoMemory));
         };
         let Ok(mut shop) = Shop::open(alloc, rt, opened, domain, limits) else {
@@ -121,6 +124,40 @@ impl<'a, J: Naming, R: Wait + Drop, L: Ledger + Drop> DriveCommand<'a, J, R, L> 
         ensures { result ≡ self.now.fault }
     {
         self.keeper.fault()
+    }
+
+    /// Offers the contract that a line says, and holds the answer back. Where memory runs out nothing is answered.
+    fn offer(&mut self, contract: &[u8]) -> Result<(), AllocError>
+        ensures { OnOk result (self.new ≡ with_reply self.old
+            (Some (offer_of self.old.book (offered_in self.old.book.domain self.old.offered contract.now)))) }
+    {
+        offer(
+            self.alloc,
+            self.shop.book().domain(),
+            &mut self.offers,
+            &mut self.answers,
+            contract,
+        )
+    }
+
+    /// Answers a line, if it offers a contract or asks for something, and holds the answer back. Where memory runs out
+    /// nothing is answered.
+    #[tactic(auto, unfolding(crate::specs::Driven::replied))]
+    fn reply(&mut self, line: &[u8]) -> Result<bool, AllocError>
+        ensures known { IfOk result (λ known. known ≡ is_some (replied self.old.offered self.old.book line.now)) }
+        ensures said { OnOk result (self.new ≡ with_reply self.old (replied self.old.offered self.old.book line.now)) }
+    {
+        if let Some(contract) = offer_in(line) {
+            self.offer(contract)?;
+            return Ok(true);
+        }
+        match asked(&self.offers, line) {
+            Some(request) => {
+                self.say(request)?;
+                Ok(true)
+            }
+            None => Ok(false),
+        }
     }
 
     /// Does what a line asks for. Where memory runs out nothing is answered.
@@ -186,8 +223,8 @@ fn say<J: Naming, R: Wait + Drop>(
         Request::Reserve(place) => reserve(alloc, shop, text, contract_at(offered, place)),
         Request::Release { id, at } => release(shop, text, id, at),
         Request::Retire { id, moment } => retire(shop, text, id, moment),
-        Request::Quote { place, field } => {
-            quote(shop.book(), text, contract_at(offered, place), field)
+        Request::Quote { place, asked } => {
+            quote(shop.book(), text, contract_at(offered, place), asked)
         }
         Request::Headroom => push_headroom(text, shop.book().table()),
         Request::List => list(alloc, shop.book(), text),
@@ -267,40 +304,41 @@ fn retire<J: Naming, R: Wait + Drop>(
     push_outcome(text, shop.book(), "retired", id, done)
 }
 
-/// Appends the greatest value of a field of a contract, beside what a book holds but the contract of its name; where
+/// Appends what is asked for of a contract, beside what a book holds but the contract of its name; where
 /// there is no contract, its name is unknown.
 fn quote(
     book: &Book,
     text: &mut Vec<u8>,
     contract: Option<&Contract>,
-    field: Field,
+    asked: Asked,
 ) -> Result<(), AllocError>
     ensures { OnOk result (text.new.items
-        ≡ text.old.items ++ (quoted book.now (option_map (λ c. c.now) contract.entry) field).text) }
+        ≡ text.old.items ++ (quoted book.now (option_map (λ c. c.now) contract.entry) asked).text) }
 {
     match contract {
         None => push_fault(text, kind_text(Kind::UnknownName)),
-        Some(contract) => quote_beside(book, text, contract, field),
+        Some(contract) => quote_beside(book, text, contract, asked),
     }
 }
 
-/// Appends the greatest value of a field of a contract, beside what a book holds but the contract of its name.
+/// Appends what is asked for of a contract, beside what a book holds but the contract of its name.
 fn quote_beside(
     book: &Book,
     text: &mut Vec<u8>,
     contract: &Contract,
-    field: Field,
+    asked: Asked,
 ) -> Result<(), AllocError>
     ensures { OnOk result (text.new.items
-        ≡ text.old.items ++ (told_beside (others_of (table_of book.now) contract.now.name) contract.now field).0) }
+        ≡ text.old.items ++ (told_of (others_of (table_of book.now) contract.now.name) contract.now asked).0) }
 {
     let left_out = book.place_of(contract.name);
-    let _found = push_quote_without(text, book.table(), left_out, contract, field)?;
+    let _found = push_asked_without(text, book.table(), left_out, contract, asked)?;
     Ok(())
 }
 
-/// Appends what a book holds.
-fn list(alloc: Global, book: &Book, text: &mut Vec<u8>) -> Result<(), AllocError>
+/// Appends what a book holds: for each contract a line `ID NAME SINCE UNTIL`, or `none`. `AllocError` where memory runs
+/// out.
+pub fn list(alloc: Global, book: &Book, text: &mut Vec<u8>) -> Result<(), AllocError>
     ensures { OnOk result (text.new.items ≡ text.old.items ++ list_text (entries_of book.now)) }
 {
     let entries = book.list(alloc)?;
@@ -321,7 +359,7 @@ fn look<J: Naming, R: Wait + Drop>(
     }
 }
 
-impl<'a, J: Naming, R: Wait + Drop, L: Ledger + Drop> Command for DriveCommand<'a, J, R, L> {
+impl<J: Naming, R: Wait + Drop, L: Ledger + Drop> Command for DriveCommand<J, R, L> {
     ghost answer = { answer_behind };
 
     #[tactic(auto, using(crate::proofs::DriveLaws::given_bad_line, crate::proofs::DriveLaws::given_line))]
@@ -337,13 +375,13 @@ impl<'a, J: Naming, R: Wait + Drop, L: Ledger + Drop> Command for DriveCommand<'
         ensures given { OnOk result (self.new.unsaid ≡ []) }
         ensures kept { IsKeptOr (out.new.items ≡ out.old.items) self.new }
     {
-        let Some(request) = asked(&self.offers, line) else {
-            self.give(out)?;
-            return Ok(Some(Ending::BadLine(number)));
-        };
-        self.say(request)?;
+        let is_known = self.reply(line)?;
         self.give(out)?;
-        Ok(None)
+        if is_known {
+            Ok(None)
+        } else {
+            Ok(Some(Ending::BadLine(number)))
+        }
     }
 
     #[tactic(auto, using(crate::proofs::DriveLaws::given_line, crate::proofs::DriveLaws::held_line, crate::proofs::DriveLaws::first_line))]
@@ -366,10 +404,9 @@ impl<'a, J: Naming, R: Wait + Drop, L: Ledger + Drop> Command for DriveCommand<'
         let Some((line, rest)) = cut(text, b'\n') else {
             return Ok(None);
         };
-        let Some(request) = asked(&self.offers, line) else {
+        if !self.reply(line)? {
             return Ok(None);
-        };
-        self.say(request)?;
+        }
         if self.is_due(rest) {
             self.give(out)?;
         }

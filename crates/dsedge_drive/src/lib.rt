@@ -4,10 +4,10 @@
 mod answer;
 mod command;
 mod keeper;
-mod offers;
+mod offering;
 mod request;
 mod shop;
 mod sight;
 
-pub use command::{DriveCommand, Sale};
+pub use command::{DriveCommand, Sale, list};
 pub use ds_desk::{Naming, Opened};

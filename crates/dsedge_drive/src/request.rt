@@ -3,8 +3,8 @@ ghost use Rattle.std.specs.Option.{option_copied};
 ghost use Rattle.line_text.specs.Lines.{fields_left, fields_of, has_byte};
 ghost use Rattle.dsedge_drive.specs.Requests.{alone, quote_of, request_in, reserve_of, timed_of};
 
-use crate::offers::Offers;
-use ds_quotes::Field;
+use ds_offers::Offers;
+use ds_quotes::Asked;
 use dsedge_lines::moment;
 use line_text::{number, split_field, two_fields};
 use moment_core::Moment;
@@ -28,12 +28,13 @@ pub enum Request {
         /// The moment at which it is given back.
         moment: Moment,
     },
-    /// To tell the greatest value of a field of the contract at this place of those that are offered.
+    /// To tell the greatest value of a field of the contract at this place of those that are offered, or how many like it
+    /// fit.
     Quote {
         /// The place; none has the name where there is none.
         place: Option<usize>,
-        /// The field.
-        field: Field,
+        /// What is asked for.
+        asked: Asked,
     },
     /// To tell what is taken and what there is at each meter.
     Headroom,
@@ -43,10 +44,10 @@ pub enum Request {
     Look,
 }
 
-/// What a line asks for, `reserve NAME`, `release ID MOMENT`, `retire ID MOMENT`, `quote NAME FIELD`, `headroom`, `list`
-/// or `look`, if for anything.
+/// What a line asks for, `reserve NAME`, `release ID MOMENT`, `retire ID MOMENT`, `quote NAME FIELD`, `quote NAME
+/// count`, `headroom`, `list` or `look`, if for anything.
 #[tactic(auto, unfolding(crate::specs::Requests::request_in))]
-pub fn asked(offers: &Offers<'_>, line: &[u8]) -> Option<Request>
+pub fn asked(offers: &Offers, line: &[u8]) -> Option<Request>
     ensures { result ≡ request_in offers.now line.now }
 {
     let (verb, rest) = split_field(line);
@@ -82,7 +83,7 @@ fn alone(request: Request, rest: Option<&[u8]>) -> Option<Request>
 
 /// Whether a name has a CR.
 #[tactic(auto, unfolding(line_text::specs::Lines::has_byte))]
-fn has_return(name: &[u8]) -> bool
+pub(crate) fn has_return(name: &[u8]) -> bool
     ensures { result ≡ has_byte 13 name.now }
 {
     name.iter().any(|byte| *byte == b'\r')
@@ -90,7 +91,7 @@ fn has_return(name: &[u8]) -> bool
 
 /// What `reserve` asks for with what stands behind it: one name.
 #[tactic(auto, using(crate::proofs::RequestLaws::not_one))]
-fn reserve(offers: &Offers<'_>, fields: &[u8]) -> Option<Request>
+fn reserve(offers: &Offers, fields: &[u8]) -> Option<Request>
     ensures { result ≡ reserve_of offers.now (fields_of fields.now) }
 {
     let (name, more) = split_field(fields);
@@ -101,7 +102,7 @@ fn reserve(offers: &Offers<'_>, fields: &[u8]) -> Option<Request>
 }
 
 /// What `reserve` asks for with a name, which has no CR.
-fn reserve_named(offers: &Offers<'_>, name: &[u8]) -> Option<Request>
+fn reserve_named(offers: &Offers, name: &[u8]) -> Option<Request>
     ensures { result ≡ reserve_of offers.now (name.now ∷ []) }
 {
     if has_return(name) {
@@ -110,18 +111,18 @@ fn reserve_named(offers: &Offers<'_>, name: &[u8]) -> Option<Request>
     Some(Request::Reserve(offers.place(name)))
 }
 
-/// What `quote` asks for with what stands behind it: a name, which has no CR, and the word of a field.
+/// What `quote` asks for with what stands behind it: a name, which has no CR, and the word of a field, or `count`.
 #[tactic(auto, using(crate::proofs::RequestLaws::no_quote))]
-fn quote(offers: &Offers<'_>, fields: &[u8]) -> Option<Request>
+fn quote(offers: &Offers, fields: &[u8]) -> Option<Request>
     ensures { result ≡ quote_of offers.now (fields_of fields.now) }
 {
     let (name, word) = two_fields(fields)?;
     if has_return(name) {
         return None;
     }
-    let field = Field::named(word)?;
+    let asked = Asked::named(word)?;
     let place = offers.place(name);
-    Some(Request::Quote { place, field })
+    Some(Request::Quote { place, asked })
 }
 
 /// What `release` asks for with what stands behind it.

@@ -10,7 +10,8 @@ use Rattle.ds_domain_base.specs.declared.fault.DomainFault.{DomainFault}
 use Rattle.dsedge_texts.specs.Wording.{kind_text}
 use Rattle.ds_ledger_base.specs.declared.fault.BookFault.TheVariants as books
 use Rattle.ds_ledger_base.specs.declared.fault.RefusedReplay.{RefusedReplay}
-use Rattle.dsedge_faults.specs.Faults.{IsTold, broker_refusal_text, fault_text, text_or_dash}
+use Rattle.dsedge_texts.specs.Wording.{text_or_dash}
+use Rattle.dsedge_faults.specs.Faults.{IsTold, broker_refusal_text, fault_text}
 use Rattle.dsedge_faults.specs.declared.fault.Fault.TheVariants.{Book, Domain}
 
 -- what a call gave of a text: all of it, or a front

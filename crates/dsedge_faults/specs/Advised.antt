@@ -18,14 +18,13 @@ use Rattle.dsedge_faults.specs.declared.fault.Fault.TheVariants.{Usage, Certific
 use Rattle.dsedge_faults.specs.declared.notice.Notice.{Notice}
 use Rattle.dsedge_faults.specs.declared.notice.Notice.TheVariants as notices
 
--- how a capture is converted, which link type it has, how long a record is said to be
+-- which link type a capture has, how long a record is said to be
 abbrev pub advice_of_capture : PcapFault → Option Advice
-advice_of_capture pcaps.IsPcapng = Some advices.Pcapng
 advice_of_capture (pcaps.LinkType number) = Some (advices.LinkType number)
 advice_of_capture (pcaps.RecordTooLong count) = Some (advices.RecordTooLong count)
 advice_of_capture _ = None
 
--- which word is wrong, why a file cannot be read, which line of a certificate is at fault, how a capture is converted
+-- which word is wrong, why a file cannot be read, which line of a certificate is at fault, what is wrong with a capture
 abbrev pub advice_on : Fault → Option Advice
 advice_on Usage = Some advices.Words
 advice_on (File name reason) = Some (advices.File reason)
@@ -90,8 +89,6 @@ abbrev pub IsAdviceText : List (List ℕ) → Advice → List ℕ → Type 0
 IsAdviceText words advices.Words text = IsExplanationText words text
 IsAdviceText words (advices.File reason) text = IsReasonText reason text
 IsAdviceText words (advices.Certificate place) text = text ≡ place_advice place
-IsAdviceText words advices.Pcapng text =
-    text ≡ codes "a classic capture is made of it by: editcap -F pcap IN.pcapng OUT.pcap\n"
 IsAdviceText words (advices.LinkType number) text = text ≡ link_type_advice number
 IsAdviceText words (advices.RecordTooLong count) text = text ≡ record_advice count
 

@@ -10,7 +10,7 @@ use Rattle.ds_ledger_base.specs.declared.fault.BookFault.{BookFault}
 use Rattle.ds_ledger_base.specs.declared.fault.BookFault.TheVariants as books
 use Rattle.ds_ledger_base.specs.declared.fault.LedgerFault.{LedgerFault}
 use Rattle.ds_ledger_base.specs.declared.fault.LedgerFault.TheVariants as ledgers
-use Rattle.dsedge_texts.specs.Wording.{kind_text}
+use Rattle.dsedge_texts.specs.Wording.{kind_text, text_or_dash}
 use Rattle.pcap_capture.specs.Counts.{next_count}
 use Rattle.pcap_capture.specs.Fronts.{IsFrontOf}
 use Rattle.pcap_capture.specs.declared.fault.PcapFault.{PcapFault}
@@ -19,11 +19,6 @@ use Rattle.dsedge_faults.specs.declared.fault.Fault.{Fault}
 use Rattle.dsedge_faults.specs.declared.fault.Fault.TheVariants.{Usage, Line, Domain, Certificate, Capture, Port, Contract, File, Book, Read, Write, Memory, Full}
 use Rattle.dsedge_faults.specs.declared.notice.Notice.{Notice}
 use Rattle.dsedge_faults.specs.declared.notice.Notice.TheVariants as notices
-
--- a field is written as its key, and none as `-`
-abbrev pub text_or_dash : List ℕ → List ℕ
-text_or_dash [] = codes "-"
-text_or_dash (letter ∷ letters) = letter ∷ letters
 
 -- a control character of ASCII is shown as `?`, so that a name stays on one line
 abbrev pub shown_byte : ℕ → ℕ
@@ -59,6 +54,11 @@ capture_fault_text pcaps.ReadFault = codes "7 ReadFault"
 capture_fault_text pcaps.WriteFault = codes "8 WriteFault"
 capture_fault_text pcaps.NoMemory = codes "9 NoMemory"
 capture_fault_text pcaps.Failed = codes "10 Failed"
+capture_fault_text pcaps.BadMagic = codes "11 BadMagic"
+capture_fault_text (pcaps.BadLength size) = codes "12 BadLength"
+capture_fault_text (pcaps.BlockTooLong size) = codes "13 BlockTooLong"
+capture_fault_text pcaps.LengthsDiffer = codes "14 LengthsDiffer"
+capture_fault_text (pcaps.UnknownInterface number) = codes "15 UnknownInterface"
 
 -- what is wrong with the file of a book
 abbrev pub ledger_fault_text : LedgerFault → List ℕ

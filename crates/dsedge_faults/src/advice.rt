@@ -9,8 +9,6 @@ pub enum Advice {
     File(Reason),
     /// The line of a certificate's text that is at fault.
     Certificate(FaultyLine),
-    /// How a pcapng capture is converted.
-    Pcapng,
     /// Which link type a capture has, and which are read.
     LinkType(u16),
     /// How many bytes a record is said to have, and how many are read.

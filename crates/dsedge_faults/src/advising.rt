@@ -16,10 +16,6 @@ use pcap_capture::{DeviceFault, Outlet, give_all};
 use std::alloc::Global;
 use std::io::Error;
 
-/// How a pcapng capture is converted.
-const CONVERTED: &[u8] =
-    b"a classic capture is made of it by: editcap -F pcap IN.pcapng OUT.pcap\n";
-
 /// Says what there is to say behind a fault's line, if anything, where faults are read at a terminal. A failure to write
 /// it is passed over.
 ///
@@ -62,7 +58,6 @@ fn tell_advice<F: Outlet>(
         Advice::Words => tell_explanation(alloc, words, faults),
         Advice::File(reason) => tell_reason(alloc, reason, faults),
         Advice::Certificate(place) => tell_place(place, faults),
-        Advice::Pcapng => give_all(faults, CONVERTED),
         Advice::LinkType(number) => tell_link_type(number, faults),
         Advice::RecordTooLong(count) => tell_record(count, faults),
     }

@@ -4,7 +4,7 @@ ghost use Rattle.pcap_capture.specs.Fronts.{IsFrontOf};
 ghost use Rattle.dsedge_faults.specs.Advised.{advice_on};
 ghost use Rattle.dsedge_faults.specs.Faults.{book_status, broker_refusal_text, ledger_fault_text};
 ghost use Rattle.dsedge_faults.specs.Faults.{capture_fault_text, certificate_fault_text, fault_text};
-ghost use Rattle.dsedge_faults.specs.Faults.{shown, status_of, text_or_dash};
+ghost use Rattle.dsedge_faults.specs.Faults.{shown, status_of};
 
 use crate::advice::Advice;
 use crate::parts::give_parts;
@@ -14,7 +14,7 @@ use ds_certificate::CertificateFault;
 use ds_domain_base::DomainFault;
 use ds_ledger_base::{BookFault, LedgerFault, RefusedReplay};
 use dsedge_lines::GivenName;
-use dsedge_texts::{FaultyLine, Reason, kind_text};
+use dsedge_texts::{FaultyLine, Reason, kind_text, text_or_dash};
 use itoa::Buffer;
 use pcap_capture::{DeviceFault, Outlet, PcapFault, give_all};
 
@@ -76,7 +76,6 @@ impl Fault<'_> {
             Fault::Usage => Some(Advice::Words),
             Fault::File(_, reason) => Some(Advice::File(*reason)),
             Fault::Certificate(place) => Some(Advice::Certificate(*place)),
-            Fault::Capture(PcapFault::IsPcapng) => Some(Advice::Pcapng),
             Fault::Capture(PcapFault::LinkType(number)) => Some(Advice::LinkType(*number)),
             Fault::Capture(PcapFault::RecordTooLong(count)) => Some(Advice::RecordTooLong(*count)),
             _ => None,
@@ -268,12 +267,10 @@ fn capture_text(fault: PcapFault) -> &'static str
         PcapFault::WriteFault => "8 WriteFault",
         PcapFault::NoMemory => "9 NoMemory",
         PcapFault::Failed => "10 Failed",
+        PcapFault::BadMagic => "11 BadMagic",
+        PcapFault::BadLength(_) => "12 BadLength",
+        PcapFault::BlockTooLong(_) => "13 BlockTooLong",
+        PcapFault::LengthsDiffer => "14 LengthsDiffer",
+        PcapFault::UnknownInterface(_) => "15 UnknownInterface",
     }
-}
-
-/// A text, or `-` where it is empty.
-fn text_or_dash(text: &str) -> &str
-    ensures { result.now ≡ text_or_dash text.now }
-{
-    if text.is_empty() { "-" } else { text }
 }

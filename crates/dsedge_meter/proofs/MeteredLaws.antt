@@ -1,5 +1,5 @@
 -- The answer of `meter`, a line at a time.
-use Rattle.std.proofs.Common.{◌≡◌, ℕ, ◌+◌, ◌-◌, ◌<◌, ◌≤◌, zero, suc, List, [], ◌∷◌, ◌++◌, length, take, flat_map, None, Some, arith, refl, sym, ap, ◌∙◌, append_assoc, inl, inr}
+use Rattle.std.proofs.Common.{◌≡◌, ℕ, ◌+◌, ◌-◌, ◌<◌, ◌≤◌, zero, suc, Bool, true, false, List, [], ◌∷◌, ◌++◌, length, take, None, Some, arith, refl, sym, ap, ◌∙◌, append_assoc, inl, inr}
 use Rattle.std.specs.Prelude.{slice_index}
 use Rattle.std.proofs.lemmas.List.{append-nil}
 use Rattle.std.proofs.lemmas.Bool.{cases_lt}
@@ -7,15 +7,16 @@ use Rattle.std.proofs.lemmas.Bool.Decides.{nat_tests}
 use Rattle.dsedge_lines.specs.Answers.{Answer, behind}
 use Rattle.dsedge_lines.specs.declared.command.Ending.{Ending}
 use Rattle.dsedge_lines.specs.declared.command.Ending.TheVariants.{Whole, BadLine, Full}
-use Rattle.meter_book_base.specs.AnyMeter.{left_of}
+use Rattle.meter_book_base.specs.declared.any_meter.AnyMeter.{AnyMeter}
+use Rattle.meter_book_base.specs.AnyMeter.{after_any, left_of, levels_of}
 use Rattle.meter_book.specs.declared.accounts.Accounts.{Accounts}
 use Rattle.meter_book.specs.declared.row.Arrival.{Arrival}
 use Rattle.meter_book.specs.declared.standing.Standing.{Standing}
-use Rattle.meter_book.specs.Replay.{accounts_with, offer_of, rows_from}
-use Rattle.meter_book.specs.Running.{Running, counted}
+use Rattle.meter_book.specs.Replay.{accounts_with, offer_of}
+use Rattle.meter_book.specs.Running.{counted}
 use Rattle.meter_book.proofs.StandingLaws.{standing_after-append}
 use Rattle.dsedge_meter.specs.Arrivals.{arrival_in, arrivals_from}
-use Rattle.dsedge_meter.specs.Metered.{accounts_text_of, answer_of, answer_to, closing, colour_line, colour_line_of, ending_of, room_of}
+use Rattle.dsedge_meter.specs.Metered.{Telling, accounts_text_of, answer_of, answer_to, closing, ending_of, line_for, lines_from, packet_line, room_of, told_on}
 
 -- a list that room is made for by one, with an element in front
 take-suc : {X : Type 0} (room : ℕ) (x : X) (xs : List X) → 0 < room → take room (x ∷ xs) ≡ x ∷ take (room - 1) xs
@@ -66,54 +67,64 @@ ending_of-more number room arrivals lines h =
       ]
     ]
 
-answer_to-none : (meter : Running) (number lines : ℕ) → 0 < lines → answer_to meter number lines [] ≡ record { text = []; ending = BadLine number }
-unfolding answer_to
-answer_to-none meter number lines h =
-    let here : number + 0 ≡ number = omega arith in
-    let ends : ending_of number (room_of meter) 0 lines ≡ BadLine number = ending_of-short number _ 0 lines (omega arith) h ∙ ap (λ n. BadLine n) here in
-    rw (take-nil (room_of meter), ends) refl
+lines_from-nil : (has_levels : Bool) (m : AnyMeter) (place : ℕ) → lines_from has_levels m place [] ≡ []
+lines_from-nil true m place = refl
+lines_from-nil false m place = refl
 
-answer_to-full : (meter : Running) (number lines : ℕ) (a : Arrival) (more : List Arrival) → room_of meter ≡ 0
-    → answer_to meter number lines (a ∷ more) ≡ record { text = []; ending = Full }
+answer_to-none : (t : Telling) (number lines : ℕ) → 0 < lines → answer_to t number lines [] ≡ record { text = []; ending = BadLine number }
 unfolding answer_to
-answer_to-full meter number lines a more full =
+answer_to-none t number lines h =
+    let here : number + 0 ≡ number = omega arith in
+    let ends : ending_of number (room_of t.meter) 0 lines ≡ BadLine number = ending_of-short number _ 0 lines (omega arith) h ∙ ap (λ n. BadLine n) here in
+    rw (take-nil (room_of t.meter), lines_from-nil t.has_levels t.meter.standing.meter t.meter.standing.place, ends) refl
+
+answer_to-full : (t : Telling) (number lines : ℕ) (a : Arrival) (more : List Arrival) → room_of t.meter ≡ 0
+    → answer_to t number lines (a ∷ more) ≡ record { text = []; ending = Full }
+unfolding answer_to
+answer_to-full t number lines a more full =
     let ends : ending_of number 0 (length (a ∷ more)) lines ≡ Full = ending_of-full number 0 (length (a ∷ more)) lines (omega arith) in
-    rw (full, ends) refl
+    rw (full, lines_from-nil t.has_levels t.meter.standing.meter t.meter.standing.place, ends) refl
 
 -- a line in front of an answer
-in_front : (line rows : List ℕ) (e f : Ending) (a b : Accounts) → e ≡ f → a ≡ b
-    → record { text = (line ++ rows) ++ closing e a; ending = e } ≡ behind line (record { text = rows ++ closing f b; ending = f })
-in_front line rows e f a b ends same =
-    rw (ends, same) (ap (λ t. let answer : Answer = record { text = t; ending = f } in answer) (append_assoc line rows (closing f b)))
+in_front : (line rows text : List ℕ) (e f : Ending) (a b : Accounts) → text ≡ line ++ rows → e ≡ f → a ≡ b
+    → record { text = text ++ closing e a; ending = e } ≡ behind line (record { text = rows ++ closing f b; ending = f })
+in_front line rows text e f a b parts ends same =
+    rw (parts, ends, same) (ap (λ t. let answer : Answer = record { text = t; ending = f } in answer) (append_assoc line rows (closing f b)))
 
-answer_to-more : (meter : Running) (number lines : ℕ) (a : Arrival) (more : List Arrival) → 0 < room_of meter
-    → answer_to meter number (suc lines) (a ∷ more)
-    ≡ behind (colour_line_of (left_of meter.standing.meter (offer_of a))) (answer_to (counted meter a) (number + 1) lines more)
+-- the line of an arrival stands in front of those of the arrivals behind it
+lines_from-more : (has_levels : Bool) (m : AnyMeter) (place : ℕ) (a : Arrival) (more : List Arrival)
+    → lines_from has_levels m place (a ∷ more)
+    ≡ packet_line has_levels (left_of m (offer_of a)) (levels_of (after_any m (offer_of a))) ++ lines_from has_levels (after_any m (offer_of a)) (place + 1) more
+lines_from-more true m place a more = refl
+lines_from-more false m place a more = refl
+
+answer_to-more : (t : Telling) (number lines : ℕ) (a : Arrival) (more : List Arrival) → 0 < room_of t.meter
+    → answer_to t number (suc lines) (a ∷ more) ≡ behind (line_for t a) (answer_to (told_on t a) (number + 1) lines more)
 unfolding answer_to
-answer_to-more meter number lines a more room =
-    let less : room_of (counted meter a) ≡ room_of meter - 1 = omega arith in
-    let accounts = ap (λ (s : Standing). s.accounts) (sym (standing_after-append meter.standing (a ∷ []) (take (room_of meter - 1) more) None None)) in
-    rw (take-suc (room_of meter) a more room, less)
-    (in_front _ (flat_map colour_line (rows_from (counted meter a).standing.meter (counted meter a).standing.place (take (room_of meter - 1) more))) _ _ _ _
-    (ending_of-more number (room_of meter) (length more) lines room) accounts)
+answer_to-more t number lines a more room =
+    let less : room_of (counted t.meter a) ≡ room_of t.meter - 1 = omega arith in
+    let stood = t.meter.standing in
+    let accounts = ap (λ (s : Standing). s.accounts) (sym (standing_after-append stood (a ∷ []) (take (room_of t.meter - 1) more) None None)) in
+    rw (take-suc (room_of t.meter) a more room, less)
+    (in_front (line_for t a) _ _ _ _ _ _ (lines_from-more t.has_levels stood.meter stood.place a (take (room_of t.meter - 1) more))
+    (ending_of-more number (room_of t.meter) (length more) lines room) accounts)
 
-pub answer_of-bad : (meter : Running) (number : ℕ) (line : List ℕ) (later : List (List ℕ)) → arrival_in number line ≡ None
-    → answer_of meter number (line ∷ later) ≡ record { text = []; ending = BadLine number }
-answer_of-bad meter number line later e = rw (arrivals_from-bad number line later e) (answer_to-none meter number (suc (length later)) (omega arith))
+pub answer_of-bad : (t : Telling) (number : ℕ) (line : List ℕ) (later : List (List ℕ)) → arrival_in number line ≡ None
+    → answer_of t number (line ∷ later) ≡ record { text = []; ending = BadLine number }
+answer_of-bad t number line later e = rw (arrivals_from-bad number line later e) (answer_to-none t number (suc (length later)) (omega arith))
 
-pub answer_of-full : (meter : Running) (number : ℕ) (line : List ℕ) (later : List (List ℕ)) (a : Arrival) → arrival_in number line ≡ Some a
-    → meter.standing.place ≡ meter.most → answer_of meter number (line ∷ later) ≡ record { text = []; ending = Full }
-answer_of-full meter number line later a e full =
+pub answer_of-full : (t : Telling) (number : ℕ) (line : List ℕ) (later : List (List ℕ)) (a : Arrival) → arrival_in number line ≡ Some a
+    → t.meter.standing.place ≡ t.meter.most → answer_of t number (line ∷ later) ≡ record { text = []; ending = Full }
+answer_of-full t number line later a e full =
     rw (arrivals_from-good number line later a e)
-    (answer_to-full meter number (suc (length later)) a (arrivals_from (number + 1) later) (omega (arith, full)))
+    (answer_to-full t number (suc (length later)) a (arrivals_from (number + 1) later) (omega (arith, full)))
 
-pub answer_of-noted : (meter : Running) (number : ℕ) (line : List ℕ) (later : List (List ℕ)) (a : Arrival) → arrival_in number line ≡ Some a
-    → meter.standing.place < meter.most
-    → answer_of meter number (line ∷ later)
-    ≡ behind (colour_line_of (left_of meter.standing.meter (offer_of a))) (answer_of (counted meter a) (number + 1) later)
-answer_of-noted meter number line later a e room =
+pub answer_of-noted : (t : Telling) (number : ℕ) (line : List ℕ) (later : List (List ℕ)) (a : Arrival) → arrival_in number line ≡ Some a
+    → t.meter.standing.place < t.meter.most
+    → answer_of t number (line ∷ later) ≡ behind (line_for t a) (answer_of (told_on t a) (number + 1) later)
+answer_of-noted t number line later a e room =
     rw (arrivals_from-good number line later a e)
-    (answer_to-more meter number (length later) a (arrivals_from (number + 1) later) (omega (arith, room)))
+    (answer_to-more t number (length later) a (arrivals_from (number + 1) later) (omega (arith, room)))
 
 -- no rows add nothing to accounts
 accounts_text-none : (a : Accounts) → accounts_text_of (accounts_with a []) ≡ accounts_text_of a
@@ -121,12 +132,12 @@ accounts_text-none a =
     let none : (n : ℕ) → n + 0 ≡ n = λ n. omega arith in
     rw (none (slice_index a.packets 0), none (slice_index a.packets 1), none (slice_index a.packets 2), none (slice_index a.bytes 0), none (slice_index a.bytes 1), none (slice_index a.bytes 2)) refl
 
-pub answer_of-end : (meter : Running) (number : ℕ) → answer_of meter number [] ≡ record { text = accounts_text_of meter.standing.accounts; ending = Whole }
+pub answer_of-end : (t : Telling) (number : ℕ) → answer_of t number [] ≡ record { text = accounts_text_of t.meter.standing.accounts; ending = Whole }
 unfolding answer_to arrivals_from
-answer_of-end meter number =
-    let ends : ending_of number (room_of meter) 0 0 ≡ Whole = ending_of-whole number _ 0 0 (omega arith) (omega arith) in
-    rw (take-nil (room_of meter), ends)
-    (ap (λ t. let answer : Answer = record { text = t; ending = Whole } in answer) (accounts_text-none meter.standing.accounts))
+answer_of-end t number =
+    let ends : ending_of number (room_of t.meter) 0 0 ≡ Whole = ending_of-whole number _ 0 0 (omega arith) (omega arith) in
+    rw (take-nil (room_of t.meter), lines_from-nil t.has_levels t.meter.standing.meter t.meter.standing.place, ends)
+    (ap (λ text. let answer : Answer = record { text = text; ending = Whole } in answer) (accounts_text-none t.meter.standing.accounts))
 
 -- an answer that ends here adds nothing to what stands
 pub behind-nothing : (out : List ℕ) (ending : Ending) → record { text = out; ending = ending } ≡ behind out (record { text = []; ending = ending })

@@ -1,5 +1,5 @@
 -- What `meter` answers to lines of arrivals.
-use Rattle.std.specs.Prelude.{ℕ, ◌+◌, ◌-◌, ◌^◌, nat_lt, None, List, [], ◌++◌, length, take, flat_map, codes, decimal, slice_index}
+use Rattle.std.specs.Prelude.{ℕ, ◌+◌, ◌-◌, ◌^◌, Bool, true, false, nat_lt, None, List, [], ◌∷◌, ◌++◌, length, take, flat_map, codes, decimal, slice_index}
 use Rattle.std.specs.Prelude.{if◌then◌else◌}
 use Rattle.moment_core.specs.declared.colour.Colour.{Colour}
 use Rattle.moment_core.specs.declared.colour.Colour.TheVariants.{Green, Yellow, Red}
@@ -7,8 +7,10 @@ use Rattle.meter_book.specs.declared.accounts.Accounts.{Accounts}
 use Rattle.meter_book.specs.declared.row.Arrival.{Arrival}
 use Rattle.meter_book.specs.declared.row.Row.{Row}
 use Rattle.meter_book_base.specs.declared.any_meter.AnyMeter.{AnyMeter}
-use Rattle.meter_book.specs.Replay.{fresh, rows_from, standing_after}
-use Rattle.meter_book.specs.Running.{Running}
+use Rattle.meter_book_base.specs.declared.any_meter.BucketLevels.{BucketLevels}
+use Rattle.meter_book_base.specs.AnyMeter.{after_any, left_of, levels_of}
+use Rattle.meter_book.specs.Replay.{fresh, offer_of, rows_from, standing_after}
+use Rattle.meter_book.specs.Running.{Running, counted}
 use Rattle.dsedge_lines.specs.Answers.{Answer}
 use Rattle.dsedge_lines.specs.declared.command.Ending.{Ending}
 use Rattle.dsedge_lines.specs.declared.command.Ending.TheVariants.{Whole, BadLine, Full}
@@ -23,6 +25,36 @@ colour_line_of Red = codes "red\n"
 -- a line for a row: the colour that it left with
 abbrev pub colour_line : Row → List ℕ
 colour_line row = colour_line_of row.left
+
+-- a colour, behind it a space
+abbrev pub colour_word : Colour → List ℕ
+colour_word Green = codes "green "
+colour_word Yellow = codes "yellow "
+colour_word Red = codes "red "
+
+-- a line with a colour and the levels of two buckets: the committed one first
+abbrev pub levels_line_of : Colour → BucketLevels → List ℕ
+levels_line_of left l =
+    colour_word left ++ decimal l.committed ++ codes " " ++ decimal l.second ++ codes "\n"
+
+-- the line of a packet: the colour that it left with, and where that is asked for the levels that it left
+abbrev pub packet_line : Bool → Colour → BucketLevels → List ℕ
+packet_line false left levels = colour_line_of left
+packet_line true left levels = levels_line_of left levels
+
+-- Lines for arrivals, one after the other: the colour that each leaves with, and the levels that it leaves in the
+-- buckets, which are those of the token meter of its kind behind it (RFC 2697 section 3, RFC 2698 section 3, RFC 4115).
+abbrev pub levels_from : AnyMeter → List Arrival → List ℕ
+levels_from m [] = []
+levels_from m (a ∷ as_) =
+    levels_line_of (left_of m (offer_of a)) (levels_of (after_any m (offer_of a)))
+    ++ levels_from (after_any m (offer_of a)) as_
+
+-- The lines for arrivals at a meter: a colour for each row that its book has of them, and where that is asked for the
+-- levels behind each.
+abbrev pub lines_from : Bool → AnyMeter → ℕ → List Arrival → List ℕ
+lines_from false m place arrivals = flat_map colour_line (rows_from m place arrivals)
+lines_from true m place arrivals = levels_from m arrivals
 
 -- a line of the accounts: a colour's name, its packets and its bytes
 abbrev pub account_line : List ℕ → ℕ → ℕ → List ℕ
@@ -46,28 +78,43 @@ abbrev pub closing : Ending → Accounts → List ℕ
 closing Whole accounts = accounts_text_of accounts
 closing _ accounts = []
 
+-- a meter whose answers are told, and whether the levels that packets leave are told too
+pub record Telling : Type 0 where
+  pub meter : Running
+  pub has_levels : Bool
+
 -- a meter before any arrival, which takes 2^44 arrivals
-abbrev pub fresh_meter : AnyMeter → Running
-fresh_meter meter = record { standing = fresh meter 0; most = 2 ^ 44 }
+abbrev pub fresh_meter : AnyMeter → Bool → Telling
+fresh_meter meter has_levels =
+    record { meter = record { standing = fresh meter 0; most = 2 ^ 44 }; has_levels = has_levels }
 
 -- how many arrivals a meter still takes
 abbrev pub room_of : Running → ℕ
 room_of meter = meter.most - meter.standing.place
 
--- The answer of a meter to so many lines from a number on, which say these arrivals before any says none: a colour for
--- each row that the book of the meter has of the arrivals that there is room for, and the accounts of the whole book
--- where every line was answered.
-unfoldable pub answer_to : Running → ℕ → ℕ → List Arrival → Answer
-answer_to meter number lines arrivals =
-    let noted = take (room_of meter) arrivals in
-    let stood = meter.standing in
-    let ending = ending_of number (room_of meter) (length arrivals) lines in
+-- The answer of a meter to so many lines from a number on, which say these arrivals before any says none: a line for each
+-- of the arrivals that there is room for, and the accounts of the whole book where every line was answered.
+unfoldable pub answer_to : Telling → ℕ → ℕ → List Arrival → Answer
+answer_to t number lines arrivals =
+    let noted = take (room_of t.meter) arrivals in
+    let stood = t.meter.standing in
+    let ending = ending_of number (room_of t.meter) (length arrivals) lines in
     record {
-      text = flat_map colour_line (rows_from stood.meter stood.place noted)
+      text = lines_from t.has_levels stood.meter stood.place noted
           ++ closing ending (standing_after stood noted None).accounts;
       ending = ending;
     }
 
 -- the answer of a meter to lines from a number on
-abbrev pub answer_of : Running → ℕ → List (List ℕ) → Answer
-answer_of meter number lines = answer_to meter number (length lines) (arrivals_from number lines)
+abbrev pub answer_of : Telling → ℕ → List (List ℕ) → Answer
+answer_of t number lines = answer_to t number (length lines) (arrivals_from number lines)
+
+-- one arrival further
+abbrev pub told_on : Telling → Arrival → Telling
+told_on t a = record t { meter = counted t.meter a }
+
+-- the line that an arrival is answered with
+abbrev pub line_for : Telling → Arrival → List ℕ
+line_for t a =
+    packet_line t.has_levels (left_of t.meter.standing.meter (offer_of a))
+    (levels_of (after_any t.meter.standing.meter (offer_of a)))

@@ -1,28 +1,33 @@
 ghost use Rattle.std.specs.Prelude.{◌≡◌, ℕ, ◌+◌, List, ◌∷◌, ◌++◌, Some, IfOk, OnErr, OnOk};
-ghost use Rattle.dsedge_meter.specs.Metered.{account_line, accounts_text_of, answer_of, colour_line_of};
+ghost use Rattle.std.specs.Prelude.{◌≤◌, codes, decimal, drop, vec_capacity, vec_len};
+ghost use Rattle.dsedge_meter.specs.Metered.{account_line, accounts_text_of, answer_of, colour_line_of, colour_word};
+ghost use Rattle.dsedge_meter.specs.Metered.{levels_line_of, packet_line};
 
 use crate::arrivals::{arrival, front_arrival};
 use dsedge_lines::{Command, Ending};
+use itoa::write_digits;
 use line_text::push_number;
-use meter_book::{Accounts, AnyMeter, Arrival, RunningMeter};
+use meter_book::{Accounts, AnyMeter, Arrival, BucketLevels, RunningMeter};
 use moment_core::{Colour, Gap};
 use std::alloc::{AllocError, Global};
 use std::marker::Model;
 
-/// The command `meter`: it answers each arrival with the colour that the packet leaves with, and at the end the
-/// accounts. It keeps sums and no rows, so its memory does not grow.
+/// The command `meter`: it answers each arrival with the colour that the packet leaves with, and the levels that it
+/// leaves in the buckets where these are asked for; at the end the accounts. It keeps sums and no rows, so its memory
+/// does not grow.
 #[derive(Drop)]
 pub struct MeterCommand {
     alloc: Global,
     meter: RunningMeter,
+    has_levels: bool,
 }
 
 impl Model for MeterCommand {
-    ghost use Rattle.meter_book.specs.Running.{Running};
+    ghost use Rattle.dsedge_meter.specs.Metered.{Telling};
 
-    ghost Value = { Running };
+    ghost Value = { Telling };
 
-    ghost view = { λ c. c.meter };
+    ghost view = { λ c. record { meter = c.meter; has_levels = c.has_levels } };
 }
 
 /// Writes a line with the name of a colour. A branch for each has a copy of a known length.
@@ -38,6 +43,58 @@ fn push_colour(text: &mut Vec<u8>, colour: Colour) -> Result<(), AllocError>
         Colour::Yellow => text.extend_from_slice(b"yellow\n"),
         Colour::Red => text.extend_from_slice(b"red\n"),
     }
+}
+
+/// How many bytes the name of a colour takes at most, with the space behind it.
+const MOST_WORD: usize = 7;
+
+/// How many bytes the levels of a line take at most: two numbers of ten digits, the space between them, and the LF.
+const MOST_FIGURES: usize = 22;
+
+/// Writes a line with the name of a colour and the levels of two buckets.
+///
+/// An error leaves the text as it was.
+#[inline(always)]
+fn push_levels(text: &mut Vec<u8>, colour: Colour, levels: BucketLevels) -> Result<(), AllocError>
+    ensures ok { OnOk result (text.new.items ≡ text.old.items ++ levels_line_of colour levels) }
+    ensures err { OnErr result (text.new.items ≡ text.old.items) }
+{
+    let mut figures = [b'\n'; MOST_FIGURES];
+    let begin = write_levels(levels.committed, levels.second, &mut figures);
+    text.reserve(MOST_WORD + MOST_FIGURES)?;
+    push_word(text, colour);
+    text.extend_from_slice(&figures[begin..])
+}
+
+/// Writes the levels of two buckets, with a space between them, in front of the LF at the end of a buffer, and answers
+/// where they begin.
+#[inline(always)]
+fn write_levels(committed: u32, second: u32, figures: &mut [u8; MOST_FIGURES]) -> usize
+    requires { drop 21 figures.old ≡ codes "\n" }
+    ensures written { drop result figures.new
+        ≡ decimal committed ++ codes " " ++ decimal second ++ codes "\n" }
+    ensures within { result ≤ 22 }
+{
+    let begin = write_digits(u64::from(second), figures, MOST_FIGURES - 1);
+    let between = begin - 1;
+    figures[between] = b' ';
+    write_digits(u64::from(committed), figures, between)
+}
+
+/// Writes the name of a colour, and a space, where there is room.
+#[inline(always)]
+fn push_word(text: &mut Vec<u8>, colour: Colour)
+    requires { vec_len text.old + 7 ≤ vec_capacity text.old }
+    ensures word { text.new.items ≡ text.old.items ++ colour_word colour }
+    ensures within { vec_len text.new ≤ vec_len text.old + 7 }
+    ensures capacity { vec_capacity text.old ≤ vec_capacity text.new }
+{
+    let pushed = match colour {
+        Colour::Green => text.extend_from_slice(b"green "),
+        Colour::Yellow => text.extend_from_slice(b"yellow "),
+        Colour::Red => text.extend_from_slice(b"red "),
+    };
+    pushed.unwrap();
 }
 
 /// Writes a line of the accounts: a colour's name, its packets and its bytes.
@@ -70,18 +127,21 @@ impl MeterCommand {
     /// The most arrivals that it answers.
     const MOST_ARRIVALS: u64 = 1 << 44;
 
-    /// The command over a meter before any arrival.
-    pub fn new(alloc: Global, meter: AnyMeter) -> Self
-        ensures { result ≡ fresh_meter meter }
+    /// The command over a meter before any arrival, which tells the levels that packets leave in its buckets, or colours
+    /// alone.
+    pub fn new(alloc: Global, meter: AnyMeter, has_levels: bool) -> Self
+        ensures { result ≡ fresh_meter meter has_levels }
     {
         MeterCommand {
             alloc,
             meter: RunningMeter::new(meter, Gap::NONE, Self::MOST_ARRIVALS),
+            has_levels,
         }
     }
 
     ghost use Rattle.dsedge_lines.specs.Answers.{Answers, behind};
     ghost use Rattle.dsedge_meter.specs.Arrivals.{arrival_in};
+    ghost use Rattle.meter_book_base.specs.AnyMeter.{levels_of};
 
     /// Answers the arrival that a line says behind `out`, or says that there is no room for it.
     #[inline(always)]
@@ -92,10 +152,26 @@ impl MeterCommand {
     {
         match self.meter.note(arrival) {
             Ok(left) => {
-                push_colour(out, left)?;
+                self.push_packet(left, out)?;
                 Ok(None)
             }
             Err(_) => Ok(Some(Ending::Full)),
+        }
+    }
+
+    /// Writes the line of the packet that was metered last, which left with a colour.
+    ///
+    /// An error leaves the text as it was.
+    #[inline(always)]
+    fn push_packet(&self, left: Colour, out: &mut Vec<u8>) -> Result<(), AllocError>
+        ensures ok { OnOk result (out.new.items
+            ≡ out.old.items ++ packet_line self.now.has_levels left (levels_of self.now.meter.standing.meter)) }
+        ensures err { OnErr result (out.new.items ≡ out.old.items) }
+    {
+        if self.has_levels {
+            push_levels(out, left, self.meter.levels())
+        } else {
+            push_colour(out, left)
         }
     }
 }

@@ -1,3 +1,4 @@
+pub mod HeldLemmas
 pub mod MarkLemmas
 pub mod QuoteLemmas
 pub mod ReportLemmas

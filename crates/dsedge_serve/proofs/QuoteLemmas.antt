@@ -5,8 +5,9 @@ use Rattle.dsedge_lines.specs.declared.fault.PumpFault.TheVariants as pump_fault
 use Rattle.dsedge_texts.specs.Quoted.{Told}
 use Rattle.dsedge_texts.specs.declared.quoting.QuoteFault.{QuoteFault}
 use Rattle.dsedge_texts.specs.declared.quoting.QuoteFault.TheVariants as quotes
-use Rattle.dsedge_serve.specs.Served.{IsQuoteReplied, IsServed, Reply, reply_quoted}
-use Rattle.dsedge_serve.specs.declared.conclusion.Conclusion.TheVariants.{Unsound}
+use Rattle.dsedge_answers.specs.Replies.{IsServed, Reply}
+use Rattle.dsedge_serve.specs.Served.{IsQuoteReplied, reply_quoted}
+use Rattle.dsedge_answers.specs.declared.conclusion.Conclusion.TheVariants.{Unsound}
 
 -- nothing was written of a reply
 starved_reply : (reply : Reply) (before : List ℕ) → IsServed reply (Err pump_faults.NoMemory) before before

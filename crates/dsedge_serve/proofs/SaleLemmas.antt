@@ -24,9 +24,10 @@ use Rattle.dsedge_drive.specs.declared.command.Sale.{Sale}
 use Rattle.pcap_capture.specs.Fronts.{IsFrontOf}
 use Rattle.pcap_capture.proofs.FrontLaws.{IsFrontOf-none}
 use Rattle.dsedge_serve.specs.Sales.{concluded_as, refused_as, unkept_as, unledgered_as, unopened_as}
-use Rattle.dsedge_serve.specs.Served.{IsKeptServed, IsServed, IsSoldBehind, IsSoldFrom, IsSoldOn, IsUnshelved, Reply, reply_of}
-use Rattle.dsedge_serve.specs.declared.conclusion.Conclusion.{Conclusion}
-use Rattle.dsedge_serve.specs.declared.conclusion.Conclusion.TheVariants.{Ended, Unaccepted, Uncertified, Unkept, Unsound}
+use Rattle.dsedge_answers.specs.Replies.{IsServed, Reply, reply_of}
+use Rattle.dsedge_serve.specs.Served.{IsKeptServed, IsSoldBehind, IsSoldFrom, IsSoldOn, IsUnshelved}
+use Rattle.dsedge_answers.specs.declared.conclusion.Conclusion.{Conclusion}
+use Rattle.dsedge_answers.specs.declared.conclusion.Conclusion.TheVariants.{Ended, Unaccepted, Uncertified, Unkept, Unsound}
 
 -- a front was written, where a fault ends the sale
 failed : (reply : Reply) (fault : PumpFault) (before after : List ℕ) → IsFrontOf before reply.text after → IsServed reply (Err fault) before after

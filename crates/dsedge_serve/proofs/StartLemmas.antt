@@ -17,7 +17,7 @@ use Rattle.ds_broker.specs.declared.command.Command.{Command}
 use Rattle.ds_ledger_base.specs.declared.fault.BookFault.TheVariants as books
 use Rattle.ds_ledger_base.specs.declared.fault.LedgerFault.TheVariants as ledgers
 use Rattle.ds_marking.specs.declared.fault.MarkFault.TheVariants as marks
-use Rattle.dsedge_serve.specs.declared.conclusion.Conclusion.TheVariants.{Ended, Unaccepted, Uncertified, Unkept, Unsound}
+use Rattle.dsedge_answers.specs.declared.conclusion.Conclusion.TheVariants.{Ended, Unaccepted, Uncertified, Unkept, Unsound}
 use Rattle.dsedge_serve.specs.declared.outcome.Outcome.{Outcome}
 use Rattle.dsedge_serve.specs.declared.outcome.Outcome.TheVariants.{Answered, Marked, Misused, Portless, Told, Unnamed}
 use Rattle.dsedge_serve.specs.Served.{IsAnswered, is_misused, status_after}
@@ -80,20 +80,25 @@ served_is_no_usage port (Answered (Ok (Unkept (books.Command refused)))) e = abs
 served_is_no_usage port (Answered (Err pump_faults.Read)) e = absurd (omega (arith, e))
 served_is_no_usage port (Answered (Err pump_faults.Write)) e = absurd (omega (arith, e))
 served_is_no_usage port (Answered (Err pump_faults.NoMemory)) e = absurd (omega (arith, e))
-served_is_no_usage port (Marked report None) e = absurd (omega (arith, e))
-served_is_no_usage port (Marked report (Some (marks.Capture pcaps.NotPcap))) e = absurd (omega (arith, e))
-served_is_no_usage port (Marked report (Some (marks.Capture pcaps.IsPcapng))) e = absurd (omega (arith, e))
-served_is_no_usage port (Marked report (Some (marks.Capture pcaps.BadVersion))) e = absurd (omega (arith, e))
-served_is_no_usage port (Marked report (Some (marks.Capture (pcaps.LinkType number)))) e = absurd (omega (arith, e))
-served_is_no_usage port (Marked report (Some (marks.Capture (pcaps.RecordTooLong count)))) e = absurd (omega (arith, e))
-served_is_no_usage port (Marked report (Some (marks.Capture pcaps.Truncated))) e = absurd (omega (arith, e))
-served_is_no_usage port (Marked report (Some (marks.Capture pcaps.ReadFault))) e = absurd (omega (arith, e))
-served_is_no_usage port (Marked report (Some (marks.Capture pcaps.WriteFault))) e = absurd (omega (arith, e))
-served_is_no_usage port (Marked report (Some (marks.Capture pcaps.NoMemory))) e = absurd (omega (arith, e))
-served_is_no_usage port (Marked report (Some (marks.Capture pcaps.Failed))) e = absurd (omega (arith, e))
-served_is_no_usage port (Marked report (Some marks.UnknownPort)) e = absurd (omega (arith, e))
-served_is_no_usage port (Marked report (Some marks.JournalFull)) e = absurd (omega (arith, e))
-served_is_no_usage port (Marked report (Some marks.NoMemory)) e = absurd (omega (arith, e))
+served_is_no_usage port (Marked report None line) e = absurd (omega (arith, e))
+served_is_no_usage port (Marked report (Some (marks.Capture pcaps.NotPcap)) line) e = absurd (omega (arith, e))
+served_is_no_usage port (Marked report (Some (marks.Capture pcaps.IsPcapng)) line) e = absurd (omega (arith, e))
+served_is_no_usage port (Marked report (Some (marks.Capture pcaps.BadVersion)) line) e = absurd (omega (arith, e))
+served_is_no_usage port (Marked report (Some (marks.Capture (pcaps.LinkType number))) line) e = absurd (omega (arith, e))
+served_is_no_usage port (Marked report (Some (marks.Capture (pcaps.RecordTooLong count))) line) e = absurd (omega (arith, e))
+served_is_no_usage port (Marked report (Some (marks.Capture pcaps.Truncated)) line) e = absurd (omega (arith, e))
+served_is_no_usage port (Marked report (Some (marks.Capture pcaps.ReadFault)) line) e = absurd (omega (arith, e))
+served_is_no_usage port (Marked report (Some (marks.Capture pcaps.WriteFault)) line) e = absurd (omega (arith, e))
+served_is_no_usage port (Marked report (Some (marks.Capture pcaps.NoMemory)) line) e = absurd (omega (arith, e))
+served_is_no_usage port (Marked report (Some (marks.Capture pcaps.Failed)) line) e = absurd (omega (arith, e))
+served_is_no_usage port (Marked report (Some (marks.Capture pcaps.BadMagic)) line) e = absurd (omega (arith, e))
+served_is_no_usage port (Marked report (Some (marks.Capture (pcaps.BadLength size))) line) e = absurd (omega (arith, e))
+served_is_no_usage port (Marked report (Some (marks.Capture (pcaps.BlockTooLong size))) line) e = absurd (omega (arith, e))
+served_is_no_usage port (Marked report (Some (marks.Capture pcaps.LengthsDiffer)) line) e = absurd (omega (arith, e))
+served_is_no_usage port (Marked report (Some (marks.Capture (pcaps.UnknownInterface number))) line) e = absurd (omega (arith, e))
+served_is_no_usage port (Marked report (Some marks.UnknownPort) line) e = absurd (omega (arith, e))
+served_is_no_usage port (Marked report (Some marks.JournalFull) line) e = absurd (omega (arith, e))
+served_is_no_usage port (Marked report (Some marks.NoMemory) line) e = absurd (omega (arith, e))
 served_is_no_usage port Portless e = absurd (omega (arith, e))
 served_is_no_usage port (Told None) e = absurd (omega (arith, e))
 served_is_no_usage port (Told (Some pcaps.NotPcap)) e = absurd (omega (arith, e))
@@ -106,6 +111,11 @@ served_is_no_usage port (Told (Some pcaps.ReadFault)) e = absurd (omega (arith, 
 served_is_no_usage port (Told (Some pcaps.WriteFault)) e = absurd (omega (arith, e))
 served_is_no_usage port (Told (Some pcaps.NoMemory)) e = absurd (omega (arith, e))
 served_is_no_usage port (Told (Some pcaps.Failed)) e = absurd (omega (arith, e))
+served_is_no_usage port (Told (Some pcaps.BadMagic)) e = absurd (omega (arith, e))
+served_is_no_usage port (Told (Some (pcaps.BadLength size))) e = absurd (omega (arith, e))
+served_is_no_usage port (Told (Some (pcaps.BlockTooLong size))) e = absurd (omega (arith, e))
+served_is_no_usage port (Told (Some pcaps.LengthsDiffer)) e = absurd (omega (arith, e))
+served_is_no_usage port (Told (Some (pcaps.UnknownInterface number))) e = absurd (omega (arith, e))
 
 -- a course that ends as usage does writes nothing
 pub usage_unwritten : (stands : List ℕ → List Command → Type 0) (course : Course) (tells : Type 0) (input more before after : List ℕ) → status_in course ≡ 2

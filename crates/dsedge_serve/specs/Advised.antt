@@ -1,20 +1,15 @@
 -- What there is to say behind what is told of a plan, where it is read at a terminal.
-use Rattle.std.specs.Prelude.{List, ℕ, Option, None, Some, Result, option_and_then}
+use Rattle.std.specs.Prelude.{List, ℕ, Option, None, Some}
 use Rattle.ds_marking.specs.declared.fault.MarkFault.{MarkFault}
-use Rattle.dsedge_faults.specs.Advised.{advice_behind, advice_on}
+use Rattle.dsedge_faults.specs.Advised.{advice_on}
 use Rattle.dsedge_faults.specs.declared.advice.Advice.{Advice}
 use Rattle.dsedge_faults.specs.declared.fault.Fault.TheVariants.{Contract, Port, Usage}
-use Rattle.dsedge_lines.specs.declared.fault.PumpFault.{PumpFault}
 use Rattle.dsedge_serve.specs.Marked.{marking_fault}
 use Rattle.dsedge_base.specs.Files.{Names}
-use Rattle.dsedge_serve.specs.Served.{notice_of}
+use Rattle.dsedge_answers.specs.Replies.{advice_for}
 use Rattle.dsedge_serve.specs.Told.{telling_advice}
-use Rattle.dsedge_serve.specs.declared.conclusion.Conclusion.{Conclusion}
 use Rattle.dsedge_serve.specs.declared.outcome.Outcome.{Outcome}
 use Rattle.dsedge_serve.specs.declared.outcome.Outcome.TheVariants.{Answered, Marked, Misused, Portless, Told, Unnamed}
-
-abbrev pub advice_for : Result Conclusion PumpFault → Option Advice
-advice_for outcome = option_and_then advice_behind (notice_of outcome)
 
 abbrev pub marking_advice : Option MarkFault → List ℕ → Option Advice
 marking_advice None port = None
@@ -25,6 +20,6 @@ abbrev pub advice_after : Names → Outcome → Option Advice
 advice_after names (Answered outcome) = advice_for outcome
 advice_after names Unnamed = advice_on (Contract names.contract)
 advice_after names Misused = advice_on Usage
-advice_after names (Marked report fault) = marking_advice fault names.port
+advice_after names (Marked report fault line) = marking_advice fault names.port
 advice_after names Portless = advice_on (Port names.port)
 advice_after names (Told fault) = telling_advice fault

@@ -1,5 +1,5 @@
 -- What `mark` writes and tells.
-use Rattle.std.specs.Prelude.{◌≡◌, ◌⊎◌, ℕ, Bool, true, false, List, [], ◌∷◌, ◌++◌, flat_map, nat_lt, Option, None, Some, Result, Ok, Err, codes, decimal, slice_index}
+use Rattle.std.specs.Prelude.{◌≡◌, ◌⊎◌, ℕ, Bool, true, false, List, [], ◌∷◌, ◌++◌, flat_map, nat_lt, Option, None, Some, Result, Ok, Err, codes, decimal, slice_index, unwrap_or}
 use Rattle.pcap_capture.specs.declared.fault.PcapFault.{PcapFault}
 use Rattle.pcap_capture.specs.declared.fault.PcapFault.TheVariants as pcaps
 use Rattle.ds_conductor.specs.Workings.{IsMarkedBy}
@@ -8,14 +8,15 @@ use Rattle.ds_marking.specs.declared.fault.MarkFault.TheVariants as marks
 use Rattle.ds_conditioner.specs.declared.report.Report.{Report}
 use Rattle.ds_conditioner.specs.declared.rule.RedRule.{RedRule}
 use Rattle.ds_conditioner.specs.declared.rule.RedRule.TheVariants.{Drop, Keep}
+use Rattle.run_audit.specs.declared.verdict.Verdict.{Verdict}
+use Rattle.dsedge_audit.specs.Audited.{verdict_line}
 use Rattle.ds_checker.specs.Acceptance.{Table}
 use Rattle.dsedge_lines.specs.declared.fault.PumpFault.{PumpFault}
 use Rattle.dsedge_lines.specs.declared.fault.PumpFault.TheVariants as pump_faults
 use Rattle.dsedge_texts.specs.declared.accepting.TableFault.{TableFault}
-use Rattle.dsedge_texts.specs.declared.accepting.TableFault.TheVariants as tables
 use Rattle.dsedge_faults.specs.Faults.{fault_text, status_of}
-use Rattle.dsedge_serve.specs.declared.conclusion.Conclusion.{Conclusion}
-use Rattle.dsedge_serve.specs.declared.conclusion.Conclusion.TheVariants.{Unaccepted, Uncertified, Unsound}
+use Rattle.dsedge_answers.specs.Replies.{refusal_outcome}
+use Rattle.dsedge_answers.specs.declared.conclusion.Conclusion.{Conclusion}
 use Rattle.dsedge_faults.specs.declared.fault.Fault.{Fault}
 use Rattle.dsedge_faults.specs.declared.fault.Fault.TheVariants as faults
 
@@ -73,9 +74,19 @@ abbrev pub marking_fault_text : List ℕ → Option MarkFault → List ℕ
 marking_fault_text port None = []
 marking_fault_text port (Some fault) = fault_text (marking_fault port fault)
 
--- what is told of a marked capture: its report, and behind it the fault
-abbrev pub marking_told : Report → Option MarkFault → List ℕ → List ℕ
-marking_told report fault port = report_text report ++ marking_fault_text port fault
+-- the line of a verdict, where it is asked for and there is one
+abbrev pub judged : Option Verdict → Bool → Result Table TableFault → Option (List ℕ)
+judged None has_verdict found = None
+judged (Some verdict) true (Ok table) = Some (verdict_line table verdict)
+judged (Some verdict) has_verdict found = None
+
+-- a report, and the line of the verdict behind it, if there is one
+abbrev pub judged_text : Report → Option (List ℕ) → List ℕ
+judged_text report line = report_text report ++ unwrap_or line []
+
+-- what is told of a marked capture: its report, the line of its verdict, and behind them the fault
+abbrev pub marking_told : Report → Option (List ℕ) → Option MarkFault → List ℕ → List ℕ
+marking_told report line fault port = judged_text report line ++ marking_fault_text port fault
 
 abbrev pub marking_status : Option MarkFault → List ℕ → ℕ
 marking_status None port = 0
@@ -90,13 +101,6 @@ rule_said false = Drop
 abbrev pub marking_answer : Report → Option MarkFault → Result Report (Report × MarkFault)
 marking_answer report None = Ok report
 marking_answer report (Some fault) = Err (report, fault)
-
--- how a plan ends whose table is not accepted, by what stands against it
-abbrev pub refusal_outcome : TableFault → Result Conclusion PumpFault
-refusal_outcome (tables.Refused line) = Ok (Unaccepted line)
-refusal_outcome (tables.Domain fault) = Ok (Unsound fault)
-refusal_outcome (tables.Certificate fault) = Ok (Uncertified fault)
-refusal_outcome tables.NoMemory = Err pump_faults.NoMemory
 
 -- Whether one worker is asked for. Where it is left to the program how many mark, several may.
 abbrev pub is_sole : Option ℕ → Bool

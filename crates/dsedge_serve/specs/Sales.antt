@@ -10,8 +10,8 @@ use Rattle.ds_ledger_base.specs.declared.fault.RefusedReplay.{RefusedReplay}
 use Rattle.dsedge_lines.specs.declared.command.Ending.{Ending}
 use Rattle.dsedge_lines.specs.declared.fault.PumpFault.{PumpFault}
 use Rattle.dsedge_lines.specs.declared.fault.PumpFault.TheVariants as pump_faults
-use Rattle.dsedge_serve.specs.declared.conclusion.Conclusion.{Conclusion}
-use Rattle.dsedge_serve.specs.declared.conclusion.Conclusion.TheVariants.{Ended, Unkept}
+use Rattle.dsedge_answers.specs.declared.conclusion.Conclusion.{Conclusion}
+use Rattle.dsedge_answers.specs.declared.conclusion.Conclusion.TheVariants.{Ended, Unkept}
 
 -- by a fault of its ledger
 abbrev pub unkept_as : LedgerFault → Result Conclusion PumpFault

@@ -1,13 +1,11 @@
 -- What the program does for a plan.
-use Rattle.std.specs.Prelude.{◌≡◌, ◌⊎◌, ℕ, Bool, true, false, if◌then◌else◌, List, [], ◌∷◌, ◌++◌, Option, None, ⊤, Some, Result, Ok, Err, IfErr, IfOk, IfSome, OnErr, codes, string_bytes}
-use Rattle.std.specs.Option.{option_map_or}
+use Rattle.std.specs.Prelude.{◌≡◌, ◌⊎◌, ℕ, Bool, true, false, if◌then◌else◌, List, [], ◌∷◌, Option, None, ⊤, Some, Result, Ok, Err, IfErr, IfOk, IfSome, string_bytes}
 use Rattle.line_text.specs.Lines.{lines_of}
-use Rattle.pcap_capture.specs.Counts.{next_count}
 use Rattle.dsedge_arrivals.specs.Tellings.{is_broken_off as is_telling_broken_off, is_unwritten as is_telling_unwritten}
 use Rattle.dsedge_arrivals.specs.declared.asking.ArrivalsFault.{ArrivalsFault}
 use Rattle.dsedge_base.specs.Files.{Names}
 use Rattle.dsedge_base.specs.declared.work.Plan.{Plan}
-use Rattle.dsedge_base.specs.declared.work.Plan.TheVariants.{Arrivals, Audit, Certify, Check, Drive, Envelope, Headroom, Mark, Meter, Quote, Show}
+use Rattle.dsedge_base.specs.declared.work.Plan.TheVariants.{Arrivals, Audit, Book as BookPlan, Certify, Check, Drive, Envelope, Headroom, Mark, Meter, Quote, Show}
 use Rattle.ds_domain.specs.DomainTexts.{parse_of}
 use Rattle.ds_domain_base.specs.Domains.{Domain, is_port}
 use Rattle.ds_domain_base.specs.declared.contract.Contract.{Contract}
@@ -16,7 +14,6 @@ use Rattle.ds_marking.specs.Markings.{is_broken_off as is_marking_broken_off, is
 use Rattle.ds_conditioner.specs.Reports.{nothing_read}
 use Rattle.ds_marking.specs.declared.fault.MarkFault.TheVariants as marks
 use Rattle.ds_conditioner.specs.declared.rule.RedRule.{RedRule}
-use Rattle.dsedge_lines.specs.Answers.{Answer}
 use Rattle.dsedge_lines.specs.declared.command.Ending.TheVariants as endings
 use Rattle.dsedge_lines.specs.declared.fault.PumpFault.{PumpFault}
 use Rattle.dsedge_lines.specs.declared.fault.PumpFault.TheVariants as pump_faults
@@ -32,6 +29,10 @@ use Rattle.ds_broker.specs.declared.refusal.BrokerRefusal.{BrokerRefusal}
 use Rattle.ds_ledger_base.specs.Replays.{replay}
 use Rattle.ds_ledger_base.specs.declared.fault.BookFault.TheVariants as books
 use Rattle.ds_ledger_base.specs.declared.fault.LedgerFault.{LedgerFault}
+use Rattle.dsedge_book.specs.Held.{domain_in}
+use Rattle.dsedge_book.specs.Told.{IsBookTold}
+use Rattle.dsedge_book.specs.declared.held.HeldForm.{HeldForm}
+use Rattle.dsedge_book.specs.declared.held.HeldForm.TheVariants as forms
 use Rattle.dsedge_drive.specs.Driven.{drive_from, driven, opening_book}
 use Rattle.dsedge_texts.specs.Accepted.{accepted_in}
 use Rattle.dsedge_texts.specs.Certified.{certified}
@@ -43,53 +44,16 @@ use Rattle.dsedge_texts.specs.declared.accepting.TableFault.{TableFault}
 use Rattle.dsedge_texts.specs.declared.accepting.TableFault.TheVariants as tables
 use Rattle.pcap_capture.specs.Takings.{is_read_fault as is_telling_unread}
 use Rattle.dsedge_serve.specs.Told.{AreToldFor, outcome_of, refusal_for, telling_answer, telling_status, telling_told}
-use Rattle.dsedge_serve.specs.declared.conclusion.Conclusion.{Conclusion}
-use Rattle.dsedge_serve.specs.declared.conclusion.Conclusion.TheVariants.{Ended, Unaccepted, Uncertified, Unkept, Unsound}
+use Rattle.dsedge_answers.specs.Replies.{IsServed, Reply, refusal_outcome, reply_by, reply_of, reply_on, reply_told, status_for, told_of, whole_text}
+use Rattle.dsedge_answers.specs.declared.conclusion.Conclusion.{Conclusion}
+use Rattle.dsedge_answers.specs.declared.conclusion.Conclusion.TheVariants.{Ended, Unaccepted, Uncertified, Unkept, Unsound}
 use Rattle.dsedge_faults.specs.declared.fault.Fault.TheVariants as faults
 use Rattle.pcap_capture.specs.Fronts.{IsFrontOf}
-use Rattle.dsedge_faults.specs.Faults.{fault_text, notice_text, status_of}
+use Rattle.dsedge_faults.specs.Faults.{fault_text, status_of}
 use Rattle.dsedge_serve.specs.Sales.{unkept_as}
-use Rattle.dsedge_serve.specs.Marked.{IsMarkedOver, IsUnmarked, is_sole, marking_answer, marking_status, marking_told, refusal_outcome, rule_said}
-use Rattle.dsedge_faults.specs.declared.notice.Notice.{Notice}
-use Rattle.dsedge_faults.specs.declared.notice.Notice.TheVariants as notices
+use Rattle.dsedge_serve.specs.Marked.{IsMarkedOver, IsUnmarked, is_sole, judged, marking_answer, marking_status, marking_told, rule_said}
 use Rattle.dsedge_serve.specs.declared.outcome.Outcome.{Outcome}
 use Rattle.dsedge_serve.specs.declared.outcome.Outcome.TheVariants.{Answered, Marked, Misused, Portless, Told as ToldTo, Unnamed}
-
--- a text on standard output, and how it ends
-pub record Reply : Type 0 where
-  pub text : List ℕ
-  pub conclusion : Conclusion
-
--- a text that is the whole reply
-abbrev pub whole_text : List ℕ → Reply
-whole_text text = record { text = text; conclusion = Ended endings.Whole }
-
--- an answer to lines is the reply
-abbrev pub reply_of : Answer → Reply
-reply_of answer = record { text = answer.text; conclusion = Ended answer.ending }
-
--- a text that is made of a domain is the reply, or the fault of the domain ends it before anything is written
-abbrev pub reply_by : Result (List ℕ) DomainFault → Reply
-reply_by (Ok text) = whole_text text
-reply_by (Err fault) = record { text = []; conclusion = Unsound fault }
-
--- The checker's line is the reply where it refuses a table; the fault of a text ends it before anything is written. Want
--- of memory stands in no text.
-abbrev pub reply_against : TableFault → Reply
-reply_against (tables.Refused line) = record { text = line; conclusion = Ended endings.Refused }
-reply_against (tables.Domain fault) = record { text = []; conclusion = Unsound fault }
-reply_against (tables.Certificate fault) = record { text = []; conclusion = Uncertified fault }
-reply_against tables.NoMemory = whole_text []
-
--- a table is accepted, or what stands against it is the reply
-abbrev pub reply_on : Result Table TableFault → Reply
-reply_on (Ok table) = whole_text (codes "accepted\n")
-reply_on (Err fault) = reply_against fault
-
--- a text that is made of an accepted table is the reply, or what stands against the table
-abbrev pub reply_told : Result (List ℕ) TableFault → Reply
-reply_told (Ok text) = whole_text text
-reply_told (Err fault) = reply_against fault
 
 -- The run that lines say is judged over an accepted table; where the checker refuses the table, or a text has a fault,
 -- that ends it before anything is written. Want of memory stands in no text.
@@ -120,17 +84,12 @@ abbrev pub second_text : List (List ℕ) → List ℕ
 second_text [] = []
 second_text (text ∷ texts) = first_text texts
 
--- a reply was written behind what stood, to its end; or a front of it, where a device failed or memory ran out
-pub record IsServed (reply : Reply) (outcome : Result Conclusion PumpFault) (before after : List ℕ) : Type 0 where
-  pub whole : IfOk outcome (λ conclusion. (after ≡ before ++ reply.text) × (conclusion ≡ reply.conclusion))
-  pub front : OnErr outcome (IsFrontOf before reply.text after)
-
 -- a reply was given, and not the marking of a capture
 abbrev pub IsReplied : Reply → Outcome → List ℕ → List ℕ → Type 0
 IsReplied reply (Answered outcome) before after = IsServed reply outcome before after
 IsReplied reply Unnamed before after = ⊥
 IsReplied reply Misused before after = ⊥
-IsReplied reply (Marked report fault) before after = ⊥
+IsReplied reply (Marked report fault line) before after = ⊥
 IsReplied reply Portless before after = ⊥
 IsReplied reply (ToldTo fault) before after = ⊥
 
@@ -178,20 +137,35 @@ IsSold stands (Some name) limits found lines (Answered outcome) before after =
     IsSoldFrom (stands name) limits found lines outcome before after
 IsSold stands (Some name) limits found lines Unnamed before after = ⊥
 IsSold stands (Some name) limits found lines Misused before after = ⊥
-IsSold stands (Some name) limits found lines (Marked report fault) before after = ⊥
+IsSold stands (Some name) limits found lines (Marked report fault line) before after = ⊥
 IsSold stands (Some name) limits found lines Portless before after = ⊥
 IsSold stands (Some name) limits found lines (ToldTo fault) before after = ⊥
 
--- a capture was marked at this port of a table, if that is accepted, by one worker or by several
-abbrev pub IsMarkedAt : Bool → Result Table TableFault → List ℕ → RedRule → List ℕ → List ℕ → Outcome → List ℕ
+-- how what a book holds is told, by whether that is asked for as a domain text
+abbrev pub form_said : Bool → HeldForm
+form_said false = forms.List
+form_said true = forms.Domain
+
+-- what a book holds was told, and no capture was marked
+abbrev pub IsHeld : (List Command → Type 0) → Result Domain DomainFault → HeldForm → Outcome → List ℕ → List ℕ → Type 0
+IsHeld stands found form (Answered outcome) before after = IsBookTold stands found form outcome before after
+IsHeld stands found form Unnamed before after = ⊥
+IsHeld stands found form Misused before after = ⊥
+IsHeld stands found form (Marked report fault line) before after = ⊥
+IsHeld stands found form Portless before after = ⊥
+IsHeld stands found form (ToldTo fault) before after = ⊥
+
+-- a capture was marked at this port of a table, if that is accepted, by one worker or by several, and the verdict is told
+-- or not
+abbrev pub IsMarkedAt : Bool → Bool → Result Table TableFault → List ℕ → RedRule → List ℕ → List ℕ → Outcome → List ℕ
     → List ℕ → Type 0
-IsMarkedAt sole found port red bytes more (Answered outcome) before after = IsUnmarked found outcome before after
-IsMarkedAt sole found port red bytes more Unnamed before after = ⊥
-IsMarkedAt sole found port red bytes more Misused before after = ⊥
-IsMarkedAt sole found port red bytes more (Marked report fault) before after =
-    IsMarkedOver sole found port red bytes more report fault before after
-IsMarkedAt sole found port red bytes more Portless before after = ⊥
-IsMarkedAt sole found port red bytes more (ToldTo fault) before after = ⊥
+IsMarkedAt has_verdict sole found port red bytes more (Answered outcome) before after = IsUnmarked found outcome before after
+IsMarkedAt has_verdict sole found port red bytes more Unnamed before after = ⊥
+IsMarkedAt has_verdict sole found port red bytes more Misused before after = ⊥
+IsMarkedAt has_verdict sole found port red bytes more (Marked report fault line) before after =
+    IsMarkedOver sole found port red bytes more report fault before after × (line ≡ judged report.verdict has_verdict found)
+IsMarkedAt has_verdict sole found port red bytes more Portless before after = ⊥
+IsMarkedAt has_verdict sole found port red bytes more (ToldTo fault) before after = ⊥
 
 -- a quote was answered, or the fault of the domain's text ended it before anything was written; for another fault memory
 -- ran out before it was found
@@ -206,7 +180,7 @@ abbrev pub IsQuoted : Result Told QuoteFault → Outcome → List ℕ → List �
 IsQuoted found (Answered outcome) before after = IsQuoteReplied found outcome before after
 IsQuoted found Unnamed before after = (found ≡ Err quotes.Unnamed) × (after ≡ before)
 IsQuoted found Misused before after = (found ≡ Err quotes.NoField) × (after ≡ before)
-IsQuoted found (Marked report fault) before after = ⊥
+IsQuoted found (Marked report fault line) before after = ⊥
 IsQuoted found Portless before after = ⊥
 IsQuoted found (ToldTo fault) before after = ⊥
 
@@ -215,8 +189,8 @@ IsQuoted found (ToldTo fault) before after = ⊥
 abbrev pub IsAnswered : (List ℕ → List Command → Type 0) → Plan → List (List ℕ) → List ℕ → List ℕ → Outcome → List ℕ → List ℕ → Type 0
 IsAnswered stands (Show text) texts bytes more outcome before after =
     IsReplied (whole_text (string_bytes text)) outcome before after
-IsAnswered stands (Meter meter) texts bytes more outcome before after =
-    IsReplied (reply_of (answer_of (fresh_meter meter) 1 (lines_of bytes))) outcome before after
+IsAnswered stands (Meter meter has_levels) texts bytes more outcome before after =
+    IsReplied (reply_of (answer_of (fresh_meter meter has_levels) 1 (lines_of bytes))) outcome before after
 IsAnswered stands (Envelope rate burst) texts bytes more outcome before after =
     IsReplied (reply_of (verdict_on (envelope_for rate burst) (lines_of bytes))) outcome before after
 IsAnswered stands (Certify domain) texts bytes more outcome before after =
@@ -225,15 +199,17 @@ IsAnswered stands (Check domain certificate) texts bytes more outcome before aft
     IsReplied (reply_on (accepted_in (first_text texts) (second_text texts))) outcome before after
 IsAnswered stands (Headroom domain) texts bytes more outcome before after =
     IsReplied (reply_told (headroom_in (first_text texts))) outcome before after
-IsAnswered stands (Quote domain contract field) texts bytes more outcome before after =
-    IsQuoted (quote_in (first_text texts) contract field) outcome before after
+IsAnswered stands (Quote domain contract asked) texts bytes more outcome before after =
+    IsQuoted (quote_in (first_text texts) contract asked) outcome before after
 IsAnswered stands (Audit domain certificate) texts bytes more outcome before after =
     IsReplied (reply_over (accepted_in (first_text texts) (second_text texts)) (lines_of bytes)) outcome before after
 IsAnswered stands (Drive domain limits book) texts bytes more outcome before after =
     IsSold stands book limits (parse_of (first_text texts)) (lines_of bytes) outcome before after
-IsAnswered stands (Mark domain certificate port workers keeps_red) texts bytes more outcome before after =
-    IsMarkedAt (is_sole workers) (accepted_in (first_text texts) (second_text texts)) port (rule_said keeps_red) bytes
-    more outcome before after
+IsAnswered stands (BookPlan domain book to_domain) texts bytes more outcome before after =
+    IsHeld (stands book) (domain_in (parse_of (first_text texts))) (form_said to_domain) outcome before after
+IsAnswered stands (Mark domain certificate port workers keeps_red has_verdict) texts bytes more outcome before after =
+    IsMarkedAt has_verdict (is_sole workers) (accepted_in (first_text texts) (second_text texts)) port
+    (rule_said keeps_red) bytes more outcome before after
 IsAnswered stands (Arrivals place has_colours) texts bytes more outcome before after =
     AreToldFor place has_colours (first_text texts) bytes more outcome before after
 
@@ -248,7 +224,7 @@ IsRefusedBefore found outcome = IfErr found (λ fault. IsSettled (Answered (refu
 
 abbrev pub IsPortlessBefore : Result Table TableFault → List ℕ → Outcome → Type 0
 IsPortlessBefore found port outcome = IfOk found
-    (λ t. is_port t.domain port ≡ false → IsSettled (Marked nothing_read (Some marks.UnknownPort)) outcome)
+    (λ t. is_port t.domain port ≡ false → IsSettled (Marked nothing_read (Some marks.UnknownPort) None) outcome)
 
 -- Where a domain's text has a fault, the outcome is settled whatever the devices do.
 abbrev pub IsUnsoundBefore : Result (Domain × List Contract) DomainFault → Outcome → Type 0
@@ -261,62 +237,27 @@ IsRefusedAhead refusal outcome = IfSome refusal (λ fault. IsSettled (outcome_of
 -- what is settled of a plan's outcome, for the texts of its files
 abbrev pub IsForeseen : Plan → List (List ℕ) → Outcome → Type 0
 IsForeseen (Show text) texts outcome = ⊤
-IsForeseen (Meter meter) texts outcome = ⊤
+IsForeseen (Meter meter has_levels) texts outcome = ⊤
 IsForeseen (Envelope rate burst) texts outcome = ⊤
 IsForeseen (Certify domain) texts outcome = ⊤
 IsForeseen (Check domain certificate) texts outcome = ⊤
 IsForeseen (Headroom domain) texts outcome = ⊤
-IsForeseen (Quote domain contract field) texts outcome = ⊤
+IsForeseen (Quote domain contract asked) texts outcome = ⊤
 IsForeseen (Audit domain certificate) texts outcome =
     IsRefusedBefore (accepted_in (first_text texts) (second_text texts)) outcome
 IsForeseen (Drive domain limits book) texts outcome = IsUnsoundBefore (parse_of (first_text texts)) outcome
-IsForeseen (Mark domain certificate port workers keeps_red) texts outcome =
+IsForeseen (BookPlan domain book to_domain) texts outcome = IsUnsoundBefore (parse_of (first_text texts)) outcome
+IsForeseen (Mark domain certificate port workers keeps_red has_verdict) texts outcome =
     IsRefusedBefore (accepted_in (first_text texts) (second_text texts)) outcome
     × IsPortlessBefore (accepted_in (first_text texts) (second_text texts)) port outcome
 IsForeseen (Arrivals place has_colours) texts outcome = IsRefusedAhead (refusal_for place has_colours (first_text texts)) outcome
-
--- what there is to tell of an outcome
-abbrev pub notice_of : Result Conclusion PumpFault → Option Notice
-notice_of (Ok (Ended endings.Whole)) = None
-notice_of (Ok (Ended endings.Refused)) = None
-notice_of (Ok (Ended (endings.BadLine number))) = Some (notices.Fault (faults.Line number))
-notice_of (Ok (Ended endings.Full)) = Some (notices.Fault faults.Full)
-notice_of (Ok (Unsound fault)) = Some (notices.Fault (faults.Domain fault))
-notice_of (Ok (Uncertified fault)) = Some (notices.Fault (faults.Certificate fault))
-notice_of (Ok (Unaccepted line)) = Some (notices.Refusal line)
-notice_of (Ok (Unkept fault)) = Some (notices.Fault (faults.Book fault))
-notice_of (Err pump_faults.Read) = Some (notices.Fault faults.Read)
-notice_of (Err pump_faults.Write) = Some (notices.Fault faults.Write)
-notice_of (Err pump_faults.NoMemory) = Some (notices.Fault faults.Memory)
-
--- the exit status of an outcome: 0 done, 1 answered with no, else that of the fault
-abbrev pub status_for : Result Conclusion PumpFault → ℕ
-status_for (Ok (Ended endings.Whole)) = 0
-status_for (Ok (Ended endings.Refused)) = 1
-status_for (Ok (Ended (endings.BadLine number))) = status_of (faults.Line number)
-status_for (Ok (Ended endings.Full)) = status_of faults.Full
-status_for (Ok (Unsound fault)) = status_of (faults.Domain fault)
-status_for (Ok (Uncertified fault)) = status_of (faults.Certificate fault)
-status_for (Ok (Unaccepted line)) = 1
-status_for (Ok (Unkept fault)) = status_of (faults.Book fault)
-status_for (Err pump_faults.Read) = status_of faults.Read
-status_for (Err pump_faults.Write) = status_of faults.Write
-status_for (Err pump_faults.NoMemory) = status_of faults.Memory
-
--- what is told of an outcome on standard error
-abbrev pub told_of : Result Conclusion PumpFault → List ℕ
-told_of outcome = option_map_or notice_text (notice_of outcome) []
-
--- a write fault is an outcome where the output failed once, and no other outcome is one where it failed
-abbrev pub IsOfWrites : Bool → ℕ → ℕ → Type 0
-IsOfWrites fault failed now = now ≡ (if fault then next_count failed else failed)
 
 -- whether the output could not be written
 abbrev pub is_output_fault : Outcome → Bool
 is_output_fault (Answered outcome) = is_write_fault outcome
 is_output_fault Unnamed = false
 is_output_fault Misused = false
-is_output_fault (Marked report fault) = is_unwritten (marking_answer report fault)
+is_output_fault (Marked report fault line) = is_unwritten (marking_answer report fault)
 is_output_fault Portless = false
 is_output_fault (ToldTo fault) = is_telling_unwritten (telling_answer fault)
 
@@ -325,7 +266,7 @@ abbrev pub is_input_fault : Outcome → Bool
 is_input_fault (Answered outcome) = is_read_fault outcome
 is_input_fault Unnamed = false
 is_input_fault Misused = false
-is_input_fault (Marked report fault) = is_unread (marking_answer report fault)
+is_input_fault (Marked report fault line) = is_unread (marking_answer report fault)
 is_input_fault Portless = false
 is_input_fault (ToldTo fault) = is_telling_unread (telling_answer fault)
 
@@ -334,7 +275,7 @@ abbrev pub is_broken_off : Outcome → Bool
 is_broken_off (Answered outcome) = false
 is_broken_off Unnamed = false
 is_broken_off Misused = false
-is_broken_off (Marked report fault) = is_marking_broken_off (marking_answer report fault)
+is_broken_off (Marked report fault line) = is_marking_broken_off (marking_answer report fault)
 is_broken_off Portless = false
 is_broken_off (ToldTo fault) = is_telling_broken_off (telling_answer fault)
 
@@ -348,7 +289,7 @@ abbrev pub status_after : Names → Outcome → ℕ
 status_after names (Answered outcome) = status_for outcome
 status_after names Unnamed = status_of (faults.Contract names.contract)
 status_after names Misused = status_of faults.Usage
-status_after names (Marked report fault) = marking_status fault names.port
+status_after names (Marked report fault line) = marking_status fault names.port
 status_after names Portless = status_of (faults.Port names.port)
 status_after names (ToldTo fault) = telling_status fault
 
@@ -357,6 +298,6 @@ abbrev pub told_after : Names → Outcome → List ℕ
 told_after names (Answered outcome) = told_of outcome
 told_after names Unnamed = fault_text (faults.Contract names.contract)
 told_after names Misused = fault_text faults.Usage
-told_after names (Marked report fault) = marking_told report fault names.port
+told_after names (Marked report fault line) = marking_told report line fault names.port
 told_after names Portless = fault_text (faults.Port names.port)
 told_after names (ToldTo fault) = telling_told fault

@@ -13,7 +13,7 @@ use Rattle.dsedge_faults.specs.Faults.{fault_text, status_of}
 use Rattle.dsedge_faults.specs.declared.advice.Advice.{Advice}
 use Rattle.dsedge_lines.specs.declared.fault.PumpFault.TheVariants as pump_faults
 use Rattle.dsedge_serve.specs.Marked.{capture_fault}
-use Rattle.dsedge_serve.specs.declared.conclusion.Conclusion.TheVariants.{Unsound}
+use Rattle.dsedge_answers.specs.declared.conclusion.Conclusion.TheVariants.{Unsound}
 use Rattle.dsedge_serve.specs.declared.outcome.Outcome.{Outcome}
 use Rattle.dsedge_serve.specs.declared.outcome.Outcome.TheVariants.{Answered, Portless, Told, Unnamed}
 

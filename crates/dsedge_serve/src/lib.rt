@@ -1,7 +1,6 @@
 //! What the program does for its words, and for the plan that they are: what it answers, what it tells and how it ends.
 #![tactic(auto)]
 
-mod conclusion;
 mod ended;
 mod marking;
 mod outcome;
@@ -14,7 +13,7 @@ mod starting;
 mod telling;
 mod terminal;
 
-pub use conclusion::Conclusion;
+pub use dsedge_answers::Conclusion;
 pub use dsedge_faults::{Advice, Fault};
 pub use ended::Ended;
 pub use outcome::Outcome;

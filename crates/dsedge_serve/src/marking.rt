@@ -1,24 +1,28 @@
-ghost use Rattle.std.specs.Prelude.{◌≡◌, ◌≤◌, ◌++◌, false, true, Some, Ok, IfSome, MatchResult, is_ok, if◌then◌else◌};
+ghost use Rattle.std.specs.Prelude.{◌≡◌, ◌≤◌, ◌++◌, false, true, None, Some, Ok, [], unwrap_or, IfSome, MatchResult, is_ok, if◌then◌else◌};
 ghost use Rattle.ds_conditioner.specs.Reports.{nothing_read};
 ghost use Rattle.ds_domain_base.specs.Domains.{is_port};
 ghost use Rattle.pcap_capture.specs.Fronts.{IsFrontOf};
 ghost use Rattle.dsedge_serve.specs.Advised.{marking_advice};
+ghost use Rattle.dsedge_serve.specs.Marked.{judged, judged_text};
 ghost use Rattle.dsedge_serve.specs.Marked.{capture_fault, is_sole, marking_fault, marking_fault_text, marking_status};
-ghost use Rattle.dsedge_serve.specs.Marked.{marking_told, refusal_outcome};
-ghost use Rattle.dsedge_serve.specs.Served.{IsMarkedAt, IsOfWrites, IsPortlessBefore, IsRefusedBefore};
+ghost use Rattle.dsedge_serve.specs.Marked.{marking_told};
+ghost use Rattle.dsedge_answers.specs.Replies.{IsOfWrites};
+ghost use Rattle.dsedge_serve.specs.Served.{IsMarkedAt, IsPortlessBefore, IsRefusedBefore};
 ghost use Rattle.dsedge_serve.specs.Served.{is_broken_off, is_input_fault, is_misused, is_output_fault};
 ghost use Rattle.dsedge_texts.specs.Accepted.{accepted_in};
 ghost use Rattle.pcap_capture.specs.Counts.{IsOfReads, next_count};
 
-use crate::conclusion::Conclusion;
 use crate::outcome::Outcome;
 use crate::report::tell_report;
 use ds_checker::Accepted;
 use ds_conductor::{MarkFault, OpenGate, RedRule, Report, mark_by};
+use dsedge_answers::refusal_outcome;
+use dsedge_audit::VerdictLine;
 use dsedge_faults::{Advice, Fault};
-use dsedge_lines::{GivenName, PumpFault};
-use dsedge_texts::{TableFault, accept};
+use dsedge_lines::GivenName;
+use dsedge_texts::accept;
 use pcap_capture::{DeviceFault, Intake, Outlet, PcapFault, VecOutlet, give_all};
+use run_audit::Verdict;
 use std::alloc::Global;
 use std::sync::Wait;
 use std::thread::{Threads, available_parallelism};
@@ -26,31 +30,42 @@ use std::thread::{Threads, available_parallelism};
 /// The most workers that mark where it is left to the program how many.
 const MOST_UNASKED: u32 = 4;
 
-/// Answers with the capture of the input, marked at a port of the table that two texts say, by as many workers as are
-/// asked for, or where that is left open, as many as the machine gains from.
+/// How a capture is to be marked.
+#[derive(Drop)]
+pub(crate) struct Marking<'a> {
+    /// The port that its frames come in at.
+    pub(crate) port: &'a str,
+    /// How many workers mark; as many as the machine gains from where that is left open.
+    pub(crate) workers: Option<u32>,
+    /// What is done with red frames.
+    pub(crate) red: RedRule,
+    /// Whether the verdict is told.
+    pub(crate) has_verdict: bool,
+}
+
+/// Answers with the capture of the input, marked at a port of the table that two texts say.
 pub(crate) fn answer_mark<R: Threads + Wait + Sync, I: Intake, O: Outlet>(
     rt: &R,
     alloc: Global,
     domain: &[u8],
     certificate: &[u8],
-    port: &str,
-    workers: Option<u32>,
-    red: RedRule,
+    marking: &Marking<'_>,
     intake: &mut I,
     output: &mut O,
 ) -> Outcome
     ensures served { I.tells intake.old → O.tells output.old →
-        IsMarkedAt (is_sole workers) (accepted_in domain.now certificate.now) port.now red (I.left intake.old)
-        (I.left intake.new) result (O.held output.old) (O.held output.new) }
+        IsMarkedAt marking.now.has_verdict (is_sole marking.now.workers) (accepted_in domain.now certificate.now)
+        marking.now.port.now marking.now.red (I.left intake.old) (I.left intake.new) result (O.held output.old)
+        (O.held output.new) }
     ensures refused { IsRefusedBefore (accepted_in domain.now certificate.now) result }
-    ensures unknown { IsPortlessBefore (accepted_in domain.now certificate.now) port.now result }
+    ensures unknown { IsPortlessBefore (accepted_in domain.now certificate.now) marking.now.port.now result }
     ensures writes { IsOfWrites (is_output_fault result) (O.failed output.old) (O.failed output.new) }
     ensures reads { is_broken_off result ≡ false
         → IsOfReads (is_input_fault result) (I.failed intake.old) (I.failed intake.new) (I.calls intake.new) }
     ensures misused { is_misused result ≡ true → O.held output.new ≡ O.held output.old }
 {
     match accept(alloc, domain, certificate) {
-        Ok(accepted) => mark_over(rt, alloc, &accepted, port, workers, red, intake, output),
+        Ok(accepted) => mark_over(rt, alloc, &accepted, marking, intake, output),
         Err(fault) => Outcome::Answered(refusal_outcome(fault)),
     }
 }
@@ -60,28 +75,50 @@ fn mark_over<R: Threads + Wait + Sync, I: Intake, O: Outlet>(
     rt: &R,
     alloc: Global,
     accepted: &Accepted,
-    port: &str,
-    workers: Option<u32>,
-    red: RedRule,
+    marking: &Marking<'_>,
     intake: &mut I,
     output: &mut O,
 ) -> Outcome
     ensures served { I.tells intake.old → O.tells output.old →
-        IsMarkedAt (is_sole workers) (Ok accepted.now) port.now red (I.left intake.old) (I.left intake.new) result
-        (O.held output.old) (O.held output.new) }
-    ensures unknown { is_port accepted.now.domain port.now ≡ false
-        → result ≡ Outcome.Marked nothing_read (Some MarkFault.UnknownPort) }
+        IsMarkedAt marking.now.has_verdict (is_sole marking.now.workers) (Ok accepted.now) marking.now.port.now
+        marking.now.red (I.left intake.old) (I.left intake.new) result (O.held output.old) (O.held output.new) }
+    ensures unknown { is_port accepted.now.domain marking.now.port.now ≡ false
+        → result ≡ Outcome.Marked nothing_read (Some MarkFault.UnknownPort) None }
     ensures writes { IsOfWrites (is_output_fault result) (O.failed output.old) (O.failed output.new) }
     ensures reads { is_broken_off result ≡ false
         → IsOfReads (is_input_fault result) (I.failed intake.old) (I.failed intake.new) (I.calls intake.new) }
     ensures misused { is_misused result ≡ true → O.held output.new ≡ O.held output.old }
 {
-    let workers = workers_for(rt, workers);
+    let workers = workers_for(rt, marking.workers);
     match mark_by(
-        rt, alloc, accepted, port, workers, red, intake, output, &OpenGate,
+        rt,
+        alloc,
+        accepted,
+        marking.port,
+        workers,
+        marking.red,
+        intake,
+        output,
+        &OpenGate,
     ) {
-        Ok(report) => Outcome::Marked(report, None),
-        Err((report, fault)) => Outcome::Marked(report, Some(fault)),
+        Ok(report) => {
+            let line = judged(accepted, report.verdict, marking.has_verdict);
+            Outcome::Marked(report, None, line)
+        }
+        Err((report, fault)) => {
+            let line = judged(accepted, report.verdict, marking.has_verdict);
+            Outcome::Marked(report, Some(fault), line)
+        }
+    }
+}
+
+/// The line of a verdict on a run of a table, where it is asked for and there is one.
+fn judged(accepted: &Accepted, verdict: Option<Verdict>, has_verdict: bool) -> Option<VerdictLine>
+    ensures { result ≡ judged verdict has_verdict (Ok accepted.now) }
+{
+    match verdict {
+        Some(verdict) if has_verdict => Some(VerdictLine::new(accepted, &verdict)),
+        _ => None,
     }
 }
 
@@ -104,18 +141,6 @@ fn workers_here<R: Threads>(rt: &R) -> u32
     match available_parallelism(rt) {
         Ok(processors) => processors.get().min(MOST_UNASKED as usize) as u32,
         Err(_) => 1,
-    }
-}
-
-/// How a plan ends whose table is not accepted.
-pub(crate) fn refusal_outcome(fault: TableFault) -> Result<Conclusion, PumpFault>
-    ensures { result ≡ refusal_outcome fault }
-{
-    match fault {
-        TableFault::Refused(line) => Ok(Conclusion::Unaccepted(line)),
-        TableFault::Domain(fault) => Ok(Conclusion::Unsound(fault)),
-        TableFault::Certificate(fault) => Ok(Conclusion::Uncertified(fault)),
-        TableFault::NoMemory => Err(PumpFault::NoMemory),
     }
 }
 
@@ -163,45 +188,79 @@ pub(crate) fn marking_advice(fault: Option<MarkFault>, port: &str) -> Option<Adv
     }
 }
 
-/// Tells the report of a marking, and behind it the fault, if any, in one piece; or part by part, where there is no
-/// memory to put it together.
+/// Tells the report of a marking, the line of its verdict, if there is one, and behind them the fault, if any, in one piece;
+/// or part by part, where there is no memory to put it together.
 pub(crate) fn tell_marking<F: Outlet>(
     alloc: Global,
     report: &Report,
+    line: &Option<VerdictLine>,
     fault: Option<MarkFault>,
     port: &str,
     faults: &mut F,
 ) -> Result<(), DeviceFault>
     ensures told { F.tells faults.old → F.tells faults.new }
     ensures line { F.tells faults.old → MatchResult result
-        (λ _. F.held faults.new ≡ F.held faults.old ++ marking_told report.now fault port.now)
-        (λ _. IsFrontOf (F.held faults.old) (marking_told report.now fault port.now) (F.held faults.new)) }
+        (λ _. F.held faults.new ≡ F.held faults.old ++ marking_told report.now line.now fault port.now)
+        (λ _. IsFrontOf (F.held faults.old) (marking_told report.now line.now fault port.now) (F.held faults.new)) }
     ensures failures { F.failed faults.new
         ≡ (if is_ok result then F.failed faults.old else next_count (F.failed faults.old)) }
 {
     let mut text = VecOutlet::new(Vec::new(alloc));
-    match tell_parts(report, fault, port, &mut text) {
+    match tell_parts(report, line, fault, port, &mut text) {
         Ok(()) => give_all(faults, text.bytes.as_slice()),
-        Err(_) => tell_parts(report, fault, port, faults),
+        Err(_) => tell_parts(report, line, fault, port, faults),
     }
 }
 
-/// Tells the report of a marking, and behind it the fault, if any, part by part.
+/// Tells the report of a marking, the line of its verdict and the fault, part by part.
 fn tell_parts<F: Outlet>(
     report: &Report,
+    line: &Option<VerdictLine>,
     fault: Option<MarkFault>,
     port: &str,
     faults: &mut F,
 ) -> Result<(), DeviceFault>
     ensures told { F.tells faults.old → F.tells faults.new }
     ensures line { F.tells faults.old → MatchResult result
-        (λ _. F.held faults.new ≡ F.held faults.old ++ marking_told report.now fault port.now)
-        (λ _. IsFrontOf (F.held faults.old) (marking_told report.now fault port.now) (F.held faults.new)) }
+        (λ _. F.held faults.new ≡ F.held faults.old ++ marking_told report.now line.now fault port.now)
+        (λ _. IsFrontOf (F.held faults.old) (marking_told report.now line.now fault port.now) (F.held faults.new)) }
+    ensures failures { F.failed faults.new
+        ≡ (if is_ok result then F.failed faults.old else next_count (F.failed faults.old)) }
+{
+    tell_judged(report, line, faults)?;
+    tell_fault(fault, port, faults)
+}
+
+/// Tells the report of a marking and the line of its verdict, if there is one.
+fn tell_judged<F: Outlet>(
+    report: &Report,
+    line: &Option<VerdictLine>,
+    faults: &mut F,
+) -> Result<(), DeviceFault>
+    ensures told { F.tells faults.old → F.tells faults.new }
+    ensures line { F.tells faults.old → MatchResult result
+        (λ _. F.held faults.new ≡ F.held faults.old ++ judged_text report.now line.now)
+        (λ _. IsFrontOf (F.held faults.old) (judged_text report.now line.now) (F.held faults.new)) }
     ensures failures { F.failed faults.new
         ≡ (if is_ok result then F.failed faults.old else next_count (F.failed faults.old)) }
 {
     tell_report(report, faults)?;
-    tell_fault(fault, port, faults)
+    tell_line(line, faults)
+}
+
+/// Tells the line of a verdict, if there is one.
+fn tell_line<F: Outlet>(line: &Option<VerdictLine>, faults: &mut F) -> Result<(), DeviceFault>
+    ensures told { F.tells faults.old → F.tells faults.new }
+    ensures line { F.tells faults.old → MatchResult result
+        (λ _. F.held faults.new ≡ F.held faults.old ++ unwrap_or line.now [])
+        (λ _. IsFrontOf (F.held faults.old) (unwrap_or line.now []) (F.held faults.new)) }
+    ensures failures { F.failed faults.new
+        ≡ (if is_ok result then F.failed faults.old else next_count (F.failed faults.old)) }
+{
+    match line {
+        Some(line) => give_all(faults, line.bytes()),
+        None => Ok(()),
+    }
 }
 
 /// Tells the fault of a marking, if any.

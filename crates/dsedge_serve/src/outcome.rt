@@ -1,5 +1,6 @@
-use crate::conclusion::Conclusion;
 use ds_conductor::{MarkFault, Report};
+use dsedge_answers::Conclusion;
+use dsedge_audit::VerdictLine;
 use dsedge_lines::PumpFault;
 use pcap_capture::PcapFault;
 
@@ -12,8 +13,9 @@ pub enum Outcome {
     Unnamed,
     /// The contract of the plan's name has no such field, and nothing is answered.
     Misused,
-    /// A capture was marked at the plan's port, with this report and this fault, if any.
-    Marked(Report, Option<MarkFault>),
+    /// A capture was marked at the plan's port, with this report and this fault, if any; and the line of its verdict, where
+    /// that is asked for and there is one.
+    Marked(Report, Option<MarkFault>, Option<VerdictLine>),
     /// The domain has no port of the plan's name, and nothing is answered.
     Portless,
     /// The arrivals of a capture were told, to its end, or to this fault.

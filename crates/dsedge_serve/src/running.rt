@@ -5,7 +5,7 @@ ghost use Rattle.pcap_capture.specs.Counts.{IsOfReads};
 ghost use Rattle.dsedge_faults.specs.Advised.{IsToldAt};
 ghost use Rattle.dsedge_faults.specs.Faults.{fault_text, status_of};
 ghost use Rattle.dsedge_faults.specs.Faults.{IsTold};
-ghost use Rattle.dsedge_serve.specs.Served.{IsOfWrites};
+ghost use Rattle.dsedge_answers.specs.Replies.{IsOfWrites};
 ghost use Rattle.dsedge_serve.specs.Started.{AreKnown, Course, IsCourseFrom, IsCourseOf, IsWritten};
 ghost use Rattle.dsedge_serve.specs.Started.{advice_in, behind_name, input_from, is_broken_off, is_unread, is_unwritten};
 ghost use Rattle.dsedge_serve.specs.Started.{status_in, told_in, wordless};

@@ -5,15 +5,15 @@ ghost use Rattle.ds_ledger_base.specs.Replays.{replay};
 ghost use Rattle.dsedge_drive.specs.Driven.{drive_from, opening_book};
 ghost use Rattle.pcap_capture.specs.Counts.{IsOfReads};
 ghost use Rattle.dsedge_lines.specs.Faults.{is_read_fault, is_write_fault};
-ghost use Rattle.dsedge_serve.specs.Served.{IsKeptServed, IsOfWrites, IsServed, IsSoldBehind, IsSoldFrom};
-ghost use Rattle.dsedge_serve.specs.Served.{IsUnsoundBefore, reply_of, reply_sold};
+ghost use Rattle.dsedge_answers.specs.Replies.{IsOfWrites, IsServed, reply_of};
+ghost use Rattle.dsedge_serve.specs.Served.{IsKeptServed, IsSoldBehind, IsSoldFrom, IsUnsoundBefore, reply_sold};
 ghost use Rattle.dsedge_serve.specs.Sales.{concluded_as, unkept_as, unledgered_as, unopened_as};
 ghost use Rattle.dsedge_serve.specs.declared.outcome.Outcome.{Outcome};
 
-use crate::conclusion::Conclusion;
 use ds_broker::{BrokerRefusal, Command, Limits};
 use ds_domain::{DomainFault, Kind, parse};
 use ds_ledger_base::{BookFault, Ledger, LedgerFault, RefusedReplay, Shelf, Unkept};
+use dsedge_answers::Conclusion;
 use dsedge_drive::{DriveCommand, Naming, Opened, Sale};
 use dsedge_lines::{Ending, PumpFault, pump};
 use pcap_capture::{Intake, Outlet};
@@ -50,7 +50,7 @@ pub(crate) fn answer_drive<R: Wait, I: Intake, O: Outlet>(
             let sale = Sale {
                 domain,
                 limits,
-                contracts: contracts.as_slice(),
+                contracts,
             };
             let nothing = (Unkept, Vec::new(alloc));
             let sold = sell::<Brand, R, Unkept, I, O>(
@@ -96,7 +96,7 @@ pub(crate) fn answer_kept<R: Wait, S: Shelf, I: Intake, O: Outlet>(
             let sale = Sale {
                 domain,
                 limits: place.limits,
-                contracts: contracts.as_slice(),
+                contracts,
             };
             match place.shelf.open(alloc, place.name) {
                 Ok(kept) => sell::<Brand, R, S::Kept, I, O>(
@@ -127,7 +127,7 @@ fn sell<J: Naming, R: Wait, L: Ledger + Drop, I: Intake, O: Outlet>(
     alloc: Global,
     rt: &R,
     opened: Opened,
-    sale: Sale<'_>,
+    sale: Sale,
     kept: (L, Vec<Command>),
     intake: &mut I,
     output: &mut O,
@@ -136,7 +136,7 @@ fn sell<J: Naming, R: Wait, L: Ledger + Drop, I: Intake, O: Outlet>(
     requires opening { J.opening ≡ opening_book sale.domain sale.limits }
     requires kept { L.tells kept.0 → L.keeps kept.0 kept.1.items }
     ensures served { I.tells intake.old → O.tells output.old →
-        IsSoldBehind (replay (opening_book sale.entry.domain sale.entry.limits) kept.1.items) sale.entry.contracts.now
+        IsSoldBehind (replay (opening_book sale.domain sale.limits) kept.1.items) sale.contracts.items
         (lines_of (I.left intake.old)) result (O.held output.old) (O.held output.new) }
     ensures writes { IsOfWrites (is_write_fault result) (O.failed output.old) (O.failed output.new) }
     ensures reads { IsOfReads (is_read_fault result) (I.failed intake.old) (I.failed intake.new) (I.calls intake.new) }
@@ -152,13 +152,13 @@ fn sell<J: Naming, R: Wait, L: Ledger + Drop, I: Intake, O: Outlet>(
 #[tactic(auto, using(crate::proofs::SaleLemmas::concluded_served, crate::proofs::SaleLemmas::concluded_faults))]
 fn sell_by<J: Naming, R: Wait + Drop, L: Ledger + Drop, I: Intake, O: Outlet>(
     alloc: Global,
-    command: DriveCommand<'_, J, R, L>,
+    command: DriveCommand<J, R, L>,
     intake: &mut I,
     output: &mut O,
 ) -> Result<Conclusion, PumpFault>
     requires { command.unsaid ≡ [] }
     ensures served { I.tells intake.old → O.tells output.old →
-        IsKeptServed (reply_of (drive_from command.entry.offered command.entry.book 1 (lines_of (I.left intake.old)))) result
+        IsKeptServed (reply_of (drive_from command.offered command.book 1 (lines_of (I.left intake.old)))) result
         (O.held output.old) (O.held output.new) }
     ensures writes { IsOfWrites (is_write_fault result) (O.failed output.old) (O.failed output.new) }
     ensures reads { IsOfReads (is_read_fault result) (I.failed intake.old) (I.failed intake.new) (I.calls intake.new) }

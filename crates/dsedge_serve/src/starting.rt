@@ -3,7 +3,7 @@ ghost use Rattle.pcap_capture.specs.Counts.{IsOfReads};
 ghost use Rattle.dsedge_faults.specs.Advised.{advice_on};
 ghost use Rattle.dsedge_faults.specs.Faults.{fault_text, status_of};
 ghost use Rattle.dsedge_faults.specs.Faults.{IsTold};
-ghost use Rattle.dsedge_serve.specs.Served.{IsOfWrites};
+ghost use Rattle.dsedge_answers.specs.Replies.{IsOfWrites};
 ghost use Rattle.dsedge_serve.specs.Started.{AreKnown, Course, IsCourseFrom, IsCourseOn, IsCourseWith};
 ghost use Rattle.dsedge_serve.specs.Started.{IsWritten, fault_of_line, fault_of_words};
 ghost use Rattle.dsedge_serve.specs.Started.{IsCourseOf, IsUnreadable, input_from, is_broken_off, is_unread, is_unwritten};

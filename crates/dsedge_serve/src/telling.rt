@@ -1,12 +1,13 @@
 ghost use Rattle.std.specs.Prelude.{◌≡◌, [], false, Some, None, option_map};
 ghost use Rattle.pcap_capture.specs.Counts.{IsOfReads};
-ghost use Rattle.dsedge_serve.specs.Served.{IsOfWrites, IsRefusedAhead, is_broken_off, is_input_fault, is_misused};
+ghost use Rattle.dsedge_answers.specs.Replies.{IsOfWrites};
+ghost use Rattle.dsedge_serve.specs.Served.{IsRefusedAhead, is_broken_off, is_input_fault, is_misused};
 ghost use Rattle.dsedge_serve.specs.Served.{is_output_fault};
 ghost use Rattle.dsedge_serve.specs.Told.{AreToldFor, outcome_of, refusal_for, telling_status};
 
-use crate::conclusion::Conclusion;
 use crate::marking::capture_fault;
 use crate::outcome::Outcome;
+use dsedge_answers::Conclusion;
 use dsedge_arrivals::{ArrivalFilter, ArrivalsFault, AskedArrivals, arrivals_at, tell_arrivals};
 use dsedge_base::GivenPort;
 use dsedge_lines::{GivenName, PumpFault};

@@ -11,7 +11,7 @@ use Rattle.ds_domain_base.specs.declared.contract.Contract.{Contract}
 use Rattle.ds_domain_base.specs.declared.fault.DomainFault.{DomainFault}
 use Rattle.ds_domain_base.specs.declared.fault.Field.TheVariants as fields
 use Rattle.ds_domain_text.specs.Steps.{◌>>=◌, or_fail}
-use Rattle.ds_domain.specs.ContractEntries.{ContractText, contract_of, contract_terms, contract_text, next_contract, with_contract_of}
+use Rattle.ds_domain.specs.ContractEntries.{ContractText, contract_in, contract_of, contract_terms, contract_text, next_contract, with_contract_of}
 use Rattle.ds_domain.specs.DomainTexts.{document_of, domain_of, no_text, parse_of, parts_of, sections_of, top_of}
 use Rattle.ds_domain.specs.Parts.{refused_by}
 use Rattle.ds_domain.specs.Sections.{few, in_turn, section_in}
@@ -45,14 +45,19 @@ contract_of-fits d done text c is =
     let same = ok_is _ c way.2 in
     rw (← same) (unmoved (length done) (way_fault 0 d text.port text.path) (ap refused_by (sym (way_fault-moved (length done) d text.port text.path)) ∙ way.1))
 
+contract_in-fits : (d : Domain) (done : List Contract) (members : Members) (c : Contract) → contract_in d done members ≡ Ok c → fits d c ≡ true
+unfolding contract_in
+contract_in-fits d done members c is =
+    let text = step (contract_text (next_contract done) d.version members) _ c is in
+    contract_of-fits d done text.0 c text.2
+
 -- so contracts that fit stay so with one more
 with_contract_of-fits : (d : Domain) (done : List Contract) (members : Members) (after : List Contract) → list_all (fits d) done ≡ true
     → with_contract_of d done members ≡ Ok after → list_all (fits d) after ≡ true
 unfolding with_contract_of
 with_contract_of-fits d done members after good is =
-    let text = step (contract_text (next_contract done) d.version members) _ after is in
-    let contract = step (contract_of d done text.0) _ after text.2 in
-    rw (← ok_is _ after contract.2) (all_push (fits d) done contract.0 good (contract_of-fits d done text.0 contract.0 contract.1))
+    let contract = step (contract_in d done members) _ after is in
+    rw (← ok_is _ after contract.2) (all_push (fits d) done contract.0 good (contract_in-fits d done members contract.0 contract.1))
 
 in_turn-fits : (d : Domain) (done : List Contract) (entries : List Members) (last : List Contract) → list_all (fits d) done ≡ true
     → in_turn (with_contract_of d) done entries ≡ Ok last → list_all (fits d) last ≡ true

@@ -1,7 +1,6 @@
--- Lemmas on files, on their texts, on certificates of domain texts, and on contracts by their names.
+-- Lemmas on files, on their texts, and on certificates of domain texts.
 pub mod FittingLaws
 pub mod FolderLemmas
-pub mod NamedLaws
 pub mod QuoteLemmas
 pub mod ShapeLemmas
 pub mod TextLemmas

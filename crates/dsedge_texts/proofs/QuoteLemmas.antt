@@ -13,8 +13,9 @@ use Rattle.ds_domain_base.specs.Domains.{Domain}
 use Rattle.ds_domain_base.specs.declared.contract.Contract.{Contract}
 use Rattle.ds_domain_base.specs.declared.terms.Terms.{Terms}
 use Rattle.ds_quotes.specs.Quotes.{least_refusal, least_terms, quote_of, with_least}
+use Rattle.ds_quotes.specs.declared.asked.Asked.{Asked}
 use Rattle.ds_quotes.specs.declared.field.Field.{Field}
-use Rattle.dsedge_texts.specs.Quoted.{Told, none_lines, quote_at, quote_of_contract, quote_on, told_at, told_beside, told_by, told_none}
+use Rattle.dsedge_texts.specs.Quoted.{Told, asked_on, none_lines, quote_at, quote_of_contract, quote_on, told_at, told_beside, told_by, told_none}
 use Rattle.dsedge_texts.specs.declared.quoting.QuoteFault.{QuoteFault}
 use Rattle.dsedge_texts.specs.declared.quoting.Quoted.{Quoted}
 use Rattle.dsedge_texts.specs.Refused.{refusal_line}
@@ -54,13 +55,13 @@ place-inside contracts name place is =
 pub others-long : (contracts others : List Contract) (place : ℕ) → place < length contracts → others ≡ remove contracts place → place ≤ length others
 others-long contracts others place inside is = omega (arith, inside, ap length is, length-remove contracts place inside)
 
-pub quote-found : (d : Domain) (contracts others : List Contract) (name : List ℕ) (place : ℕ) (c : Contract) (field : Field) → Some place ≡ place_named contracts name
+pub quote-found : (d : Domain) (contracts others : List Contract) (name : List ℕ) (place : ℕ) (c : Contract) (asked : Asked) → Some place ≡ place_named contracts name
     → others ≡ remove contracts place → c ≡ get_or contracts place c
-    → quote_at d contracts field (place_named contracts name) ≡ quote_on d others place c field (least_terms field c.terms)
-quote-found d contracts others name place c field is_place is_others is_contract =
-    ap (quote_at d contracts field) (sym is_place)
-    ∙ ap (quote_of_contract d contracts place field) (slice_get_read contracts (length contracts) place c refl (place-inside contracts name place is_place) is_contract)
-    ∙ ap (λ xs. quote_on d xs place c field (least_terms field c.terms)) (sym is_others)
+    → quote_at d contracts asked (place_named contracts name) ≡ asked_on d others place c asked
+quote-found d contracts others name place c asked is_place is_others is_contract =
+    ap (quote_at d contracts asked) (sym is_place)
+    ∙ ap (quote_of_contract d contracts place asked) (slice_get_read contracts (length contracts) place c refl (place-inside contracts name place is_place) is_contract)
+    ∙ ap (λ xs. asked_on d xs place c asked) (sym is_others)
 
 -- ---- beside the others, which the checker accepts
 pub quote-over : (d : Domain) (others : List Contract) (place : ℕ) (c : Contract) (field : Field) (terms : Terms) (t : Table) → least_terms field c.terms ≡ Some terms

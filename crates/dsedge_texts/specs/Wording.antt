@@ -1,5 +1,5 @@
 -- How contracts, kinds of faults, columns and figures are written in what is told of them.
-use Rattle.std.specs.Prelude.{ℕ, List, [], ◌++◌, codes, decimal, position, slice_get, Option, bytes_eq}
+use Rattle.std.specs.Prelude.{ℕ, List, [], ◌∷◌, ◌++◌, codes, decimal, position, slice_get, Option, bytes_eq}
 use Rattle.std.specs.Option.{option_map_or}
 use Rattle.ds_domain_base.specs.declared.contract.Contract.{Contract}
 use Rattle.ds_domain_base.specs.declared.fault.Kind.{Kind}
@@ -23,6 +23,11 @@ column_text Excess = codes "excess"
 -- a figure behind a space
 abbrev pub figure : ℕ → List ℕ
 figure number = codes " " ++ decimal number
+
+-- a text, or `-` in the place of none: a field is written as its key
+abbrev pub text_or_dash : List ℕ → List ℕ
+text_or_dash [] = codes "-"
+text_or_dash (letter ∷ letters) = letter ∷ letters
 
 -- how a kind of fault of a domain is written
 abbrev pub kind_text : Kind → List ℕ

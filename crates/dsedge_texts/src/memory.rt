@@ -66,4 +66,9 @@ impl Shelf for MemoryFolder<'_> {
     fn open(&self, _alloc: Global, _name: &str) -> Result<(Unkept, Vec<Command>), LedgerFault> {
         Err(LedgerFault::Open)
     }
+
+    /// None stands there.
+    fn commands(&self, _alloc: Global, _name: &str) -> Result<Vec<Command>, LedgerFault> {
+        Err(LedgerFault::Open)
+    }
 }

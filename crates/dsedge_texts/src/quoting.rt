@@ -5,6 +5,7 @@ ghost use Rattle.ds_certificate.specs.Bounds.{fits};
 ghost use Rattle.ds_checker.specs.Acceptance.{refusal_of};
 ghost use Rattle.ds_checker.specs.Besides.{rest_of};
 ghost use Rattle.ds_quotes.specs.Quotes.{least_terms, with_least};
+ghost use Rattle.dsedge_texts.specs.Quoted.{asked_on, count_told, told_count, told_of};
 ghost use Rattle.dsedge_texts.specs.Quoted.{none_lines, quote_at, quote_in, quote_on, told_beside, told_none};
 ghost use Rattle.dsedge_texts.specs.Quoted.{value_line};
 ghost use Rattle.dsedge_texts.specs.Wording.{place_named};
@@ -14,7 +15,7 @@ use crate::refusing::RefusalLine;
 use crate::wording::push_figure;
 use ds_checker::{Accepted, Candidate, Refusal, check};
 use ds_domain::{Contract, Domain, DomainFault, Kind, Terms, parse};
-use ds_quotes::{Field, quoted_without};
+use ds_quotes::{Asked, Field, count_without, quoted_without};
 use std::alloc::{AllocError, Global};
 
 /// What is answered to a quote.
@@ -43,15 +44,18 @@ pub enum QuoteFault {
 /// checker accepts the least certificate of all, all else being as the text says it: `FIELD VALUE`. Where no value is,
 /// `none`, and on a line behind it what the checker says with the least value that is valid.
 ///
+/// Or how many contracts like that one fit beside the others, itself being one of them: `count N`, which may be 0. Where
+/// the others are refused without it, `none`, and behind it what the checker says of them.
+///
 /// Refused: `Domain` with the first fault of the text, `Unnamed`, `NoField`, in this order; `NoMemory` where memory runs
 /// out.
-pub fn quote(alloc: Global, text: &[u8], name: &[u8], field: Field) -> Result<Quoted, QuoteFault>
-    ensures ok { IfOk result (λ quoted. quote_in text.now name.now field ≡ Ok (quoted.text.items, quoted.is_found)) }
+pub fn quote(alloc: Global, text: &[u8], name: &[u8], asked: Asked) -> Result<Quoted, QuoteFault>
+    ensures ok { IfOk result (λ quoted. quote_in text.now name.now asked ≡ Ok (quoted.text.items, quoted.is_found)) }
     ensures refused { IfErr result (λ fault. (fault ≡ QuoteFault.NoMemory)
-        ⊎ (quote_in text.now name.now field ≡ Err fault)) }
+        ⊎ (quote_in text.now name.now asked ≡ Err fault)) }
 {
     match parse(alloc, text) {
-        Ok((domain, contracts)) => quote_named(alloc, domain, contracts, name, field),
+        Ok((domain, contracts)) => quote_named(alloc, domain, contracts, name, asked),
         Err(fault) if fault.kind == Kind::NoMemory => Err(QuoteFault::NoMemory),
         Err(fault) => Err(QuoteFault::Domain(fault)),
     }
@@ -63,19 +67,19 @@ fn quote_named(
     domain: Domain,
     contracts: Vec<Contract>,
     name: &[u8],
-    field: Field,
+    asked: Asked,
 ) -> Result<Quoted, QuoteFault>
     requires { list_all (fits domain) contracts.items ≡ true }
-    ensures ok { IfOk result (λ quoted. quote_at domain contracts.items field (place_named contracts.items name.now)
+    ensures ok { IfOk result (λ quoted. quote_at domain contracts.items asked (place_named contracts.items name.now)
         ≡ Ok (quoted.text.items, quoted.is_found)) }
     ensures refused { IfErr result (λ fault. (fault ≡ QuoteFault.NoMemory)
-        ⊎ (quote_at domain contracts.items field (place_named contracts.items name.now) ≡ Err fault)) }
+        ⊎ (quote_at domain contracts.items asked (place_named contracts.items name.now) ≡ Err fault)) }
 {
     match place_named(contracts.as_slice(), name) {
         Some(place) => {
             let mut others = contracts;
             let contract = others.remove(place);
-            quote_beside(alloc, domain, others, place, contract, field)
+            asked_beside(alloc, domain, others, place, contract, asked)
         }
         None => Err(QuoteFault::Unnamed),
     }
@@ -91,6 +95,106 @@ pub fn place_named(contracts: &[Contract], name: &[u8]) -> Option<usize>
 }
 
 /// The same of a contract beside others, before the one of a place.
+fn asked_beside(
+    alloc: Global,
+    domain: Domain,
+    others: Vec<Contract>,
+    place: usize,
+    contract: Contract,
+    asked: Asked,
+) -> Result<Quoted, QuoteFault>
+    requires fit { list_all (fits domain) others.items ≡ true }
+    requires own { fits domain contract ≡ true }
+    requires place { place ≤ length others.items }
+    ensures ok { IfOk result (λ quoted. asked_on domain others.items place contract asked
+        ≡ Ok (quoted.text.items, quoted.is_found)) }
+    ensures refused { IfErr result (λ fault. (fault ≡ QuoteFault.NoMemory)
+        ⊎ (asked_on domain others.items place contract asked ≡ Err fault)) }
+{
+    match asked {
+        Asked::Most(field) => quote_beside(alloc, domain, others, place, contract, field),
+        Asked::Count => count_beside(alloc, domain, others, &contract),
+    }
+}
+
+/// How many contracts like one fit beside others.
+fn count_beside(
+    alloc: Global,
+    domain: Domain,
+    others: Vec<Contract>,
+    contract: &Contract,
+) -> Result<Quoted, QuoteFault>
+    requires { list_all (fits domain) others.items ≡ true }
+    ensures told { IfOk result (λ quoted. count_told domain others.items contract.now
+        (refusal_of (with_least domain others.items)) ≡ (quoted.text.items, quoted.is_found)) }
+    ensures memory { IfErr result (λ fault. fault ≡ QuoteFault.NoMemory) }
+{
+    match accepted_by(alloc, domain, others) {
+        Ok(accepted) => count_over(alloc, &accepted, contract),
+        Err(Some((domain, others))) => none_with(alloc, domain, others),
+        Err(None) => Err(QuoteFault::NoMemory),
+    }
+}
+
+/// How many contracts like one fit beside an accepted table.
+fn count_over(alloc: Global, accepted: &Accepted, contract: &Contract) -> Result<Quoted, QuoteFault>
+    ensures told { IfOk result (λ quoted. told_count accepted.now contract.now
+        ≡ (quoted.text.items, quoted.is_found)) }
+    ensures memory { IfErr result (λ fault. fault ≡ QuoteFault.NoMemory) }
+{
+    let mut text = Vec::new(alloc);
+    match push_count_without(&mut text, accepted, None, contract) {
+        Ok(()) => Ok(Quoted {
+            text,
+            is_found: true,
+        }),
+        Err(_) => Err(QuoteFault::NoMemory),
+    }
+}
+
+/// Appends how many contracts like one fit beside what an accepted table holds but the contract at a place, if one is
+/// left out: `count N`.
+fn push_count_without(
+    text: &mut Vec<u8>,
+    accepted: &Accepted,
+    left_out: Option<usize>,
+    contract: &Contract,
+) -> Result<(), AllocError>
+    requires { IfSome left_out (λ place. place < length accepted.now.contracts) }
+    ensures { OnOk result (text.new.items
+        ≡ text.old.items ++ (told_count (rest_of accepted.now left_out) contract.now).0) }
+{
+    text.extend_from_slice(b"count")?;
+    push_figure(text, count_without(accepted, left_out, contract))?;
+    text.push(b'\n')?;
+    Ok(())
+}
+
+/// Appends what is asked for of a contract beside what an accepted table holds but the contract at a place, if one is left
+/// out. Tells whether there was a value.
+pub fn push_asked_without(
+    text: &mut Vec<u8>,
+    accepted: &Accepted,
+    left_out: Option<usize>,
+    contract: &Contract,
+    asked: Asked,
+) -> Result<bool, AllocError>
+    requires { IfSome left_out (λ place. place < length accepted.now.contracts) }
+    ensures text { OnOk result (text.new.items
+        ≡ text.old.items ++ (told_of (rest_of accepted.now left_out) contract.now asked).0) }
+    ensures found { IfOk result (λ found.
+        found ≡ (told_of (rest_of accepted.now left_out) contract.now asked).1) }
+{
+    match asked {
+        Asked::Most(field) => push_quote_without(text, accepted, left_out, contract, field),
+        Asked::Count => {
+            push_count_without(text, accepted, left_out, contract)?;
+            Ok(true)
+        }
+    }
+}
+
+/// The greatest value of a field of a contract beside others, before the one of a place.
 fn quote_beside(
     alloc: Global,
     domain: Domain,
@@ -178,7 +282,7 @@ fn quote_over(
 
 /// Appends the greatest value of a field of a contract beside an accepted table, `FIELD VALUE`; or `none`, and behind it
 /// the checker's line for the least valid value, if there is one. Tells whether there was a value.
-pub fn push_quote(
+fn push_quote(
     text: &mut Vec<u8>,
     accepted: &Accepted,
     contract: &Contract,
@@ -192,7 +296,7 @@ pub fn push_quote(
 }
 
 /// The same beside what an accepted table holds but the contract at a place, if one is left out.
-pub fn push_quote_without(
+fn push_quote_without(
     text: &mut Vec<u8>,
     accepted: &Accepted,
     left_out: Option<usize>,

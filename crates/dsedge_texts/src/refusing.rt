@@ -2,18 +2,15 @@ ghost use Rattle.std.specs.Prelude.{◌≡◌, ◌+◌, ◌≤◌, ◌<◌, ◌+
 ghost use Rattle.arrayvec.specs.ArrayVec.{array_vec_len};
 ghost use Rattle.dsedge_texts.specs.Refused.{column_figures_text, figures_text, meter_place_text, place_text};
 ghost use Rattle.dsedge_texts.specs.Refused.{refusal_line, test_text};
-ghost use Rattle.dsedge_texts.specs.Wording.{column_text, figure, name_of};
+ghost use Rattle.dsedge_texts.specs.Wording.{name_of};
 
+use crate::line::{Line, push, push_figure, push_word};
 use crate::wording::column_text;
-use arrayvec::ArrayVec;
 use ds_checker::Refusal;
 use ds_domain::{Contract, Name};
 use itoa::Buffer;
 use moment_core::Column;
 use std::marker::Model;
-
-/// The bytes of a line: a name and three figures fit, and what stands before and between them.
-type Line = ArrayVec<u8, 192>;
 
 /// A line that says why a certificate is refused: `refused`, the refusal's number, its name and its figures. To make one
 /// takes no memory.
@@ -66,16 +63,6 @@ fn test_text(refusal: &Refusal) -> &'static [u8]
         Refusal::AllRate { .. } => "6 AllRate".as_bytes(),
         Refusal::AllBurst { .. } => "7 AllBurst".as_bytes(),
         Refusal::NoMemory => "8 NoMemory".as_bytes(),
-    }
-}
-
-/// Appends bytes.
-fn push(text: &mut Line, bytes: &[u8])
-    requires { array_vec_len text.now + length bytes.now ≤ 192 }
-    ensures { text.new.items ≡ text.old.items ++ bytes.now }
-{
-    if text.try_extend_from_slice(bytes).is_err() {
-        unreachable!();
     }
 }
 
@@ -158,26 +145,6 @@ fn push_name(text: &mut Line, contracts: &[Contract], number: usize)
     if let Some(contract) = contracts.get(number) {
         push_word(text, contract.name);
     }
-}
-
-/// Appends a name.
-#[tactic(auto, using(ds_domain_base::proofs::NameLaws::name_fits))]
-fn push_word(text: &mut Line, name: Name)
-    requires { array_vec_len text.now ≤ 160 }
-    ensures text { text.new.items ≡ text.old.items ++ name }
-    ensures room { array_vec_len text.new ≤ array_vec_len text.old + 32 }
-{
-    push(text, name.bytes());
-}
-
-/// Appends a figure, behind a space.
-fn push_figure(text: &mut Line, number: u128)
-    requires { array_vec_len text.now ≤ 151 }
-    ensures text { text.new.items ≡ text.old.items ++ figure number }
-    ensures room { array_vec_len text.new ≤ array_vec_len text.old + 41 }
-{
-    push(text, b" ");
-    push(text, Buffer::new().format(number).as_bytes());
 }
 
 /// Appends two figures, each behind a space.

@@ -1,5 +1,5 @@
 ghost use Rattle.std.specs.Prelude.{◌≡◌, ◌++◌, OnOk};
-ghost use Rattle.dsedge_texts.specs.Wording.{column_text, figure, kind_text, name_of};
+ghost use Rattle.dsedge_texts.specs.Wording.{column_text, figure, kind_text, name_of, text_or_dash};
 
 use ds_domain::{Contract, Kind};
 use itoa::Buffer;
@@ -46,6 +46,13 @@ pub fn push_wide_figure(text: &mut Vec<u8>, number: u128) -> Result<(), AllocErr
 {
     text.push(b' ')?;
     text.extend_from_slice(Buffer::new().format(number).as_bytes())
+}
+
+/// A text, or `-` where it is empty.
+pub fn text_or_dash(text: &str) -> &str
+    ensures { result.now ≡ text_or_dash text.now }
+{
+    if text.is_empty() { "-" } else { text }
 }
 
 /// How a kind of fault of a domain is written.

@@ -1,7 +1,6 @@
 -- What is known of a packet whose header was read.
 use Rattle.std.specs.Prelude.{◌≡◌, ℕ, ◌≤◌, Bool, List, length, None}
 use Rattle.af_marker.specs.Headers.{fault_of, is_verified}
-use Rattle.af_marker.specs.Ipv6Headers.{ipv6_fault_of}
 use Rattle.pcap_capture.specs.declared.start.Family.{Family}
 use Rattle.pcap_capture.specs.declared.start.Family.TheVariants.{Ipv4, Ipv6}
 

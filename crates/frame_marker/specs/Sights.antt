@@ -10,10 +10,11 @@ use Rattle.flow_classifier.specs.declared.key.Key.{Key}
 use Rattle.ds_domain_base.specs.Versions.{has_ipv6}
 use Rattle.ds_domain_base.specs.declared.contract.Contract.{Contract}
 use Rattle.ds_domain_base.specs.declared.parts.Version.{Version}
+use Rattle.pcap_capture.specs.Frames.{FrameValue, has_packet, link_in}
 use Rattle.pcap_capture.specs.declared.heading.LinkType.{LinkType}
 use Rattle.frame_marker.specs.Frames.{header_in}
 use Rattle.frame_marker.specs.declared.sight.Sight.{Sight}
-use Rattle.frame_marker.specs.declared.sight.Sight.TheVariants.{Matched, Skipped, Unmatched}
+use Rattle.frame_marker.specs.declared.sight.Sight.TheVariants.{Carried, Matched, Skipped, Unmatched}
 
 -- a contract of the port whose rule holds of a packet
 abbrev pub takes : List ℕ → Key → Contract → Bool
@@ -45,3 +46,8 @@ heeded with_ipv6 (Some (V6 header)) = if with_ipv6 then Some (V6 header) else No
 -- none, or no contract of the port takes it, or the first that does.
 unfoldable pub sight_of : Version → List Contract → List ℕ → LinkType → List ℕ → Sight
 sight_of version contracts port link bytes = sight_by contracts port (heeded (has_ipv6 version) (header_in link bytes))
+
+-- what a frame is there: where it holds no packet, that
+abbrev pub sight_of_frame : Version → List Contract → List ℕ → FrameValue → Sight
+sight_of_frame version contracts port f =
+    if has_packet f.content then sight_of version contracts port (link_in f.content) f.bytes else Carried

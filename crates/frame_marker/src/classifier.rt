@@ -1,4 +1,5 @@
 ghost use Rattle.std.specs.Prelude.{◌≡◌, ◌<◌, ℕ, List, IfOk, length, map};
+ghost use Rattle.pcap_capture.specs.Frames.{link_in};
 ghost use Rattle.pcap_capture.specs.Packets.{begins_at};
 ghost use Rattle.pcap_capture.specs.declared.heading.LinkType.{LinkType};
 ghost use Rattle.pcap_capture.specs.declared.start.Family.TheVariants.{Ipv4, Ipv6};
@@ -6,7 +7,7 @@ ghost use Rattle.flow_classifier.specs.Families.{rules_for};
 ghost use Rattle.flow_classifier.specs.Tables.{first_flow_of};
 ghost use Rattle.flow_classifier.specs.declared.key.Key.{Key};
 ghost use Rattle.frame_marker.specs.Frames.{read_header, read_whole};
-ghost use Rattle.frame_marker.specs.Ports.{seen_by, seen_there, sight_at, sight_through};
+ghost use Rattle.frame_marker.specs.Ports.{seen_by, seen_there, sight_at, sight_in, sight_through};
 ghost use Rattle.frame_marker.specs.Marks.{mark_in, mark_of};
 ghost use Rattle.frame_marker.specs.Sights.{flow_of, heeded, sight_of, sight_with};
 
@@ -15,7 +16,7 @@ use crate::sight::{Seen, Sight};
 use af_marker::{Summary, header, ipv6_header};
 use ds_domain_base::{Contract, Name, Version};
 use flow_classifier::{FlowRule, Key, RuleTables};
-use pcap_capture::{Family, LinkType, Piece};
+use pcap_capture::{Content, Family, Frame, LinkType, Piece};
 use std::alloc::{AllocError, Global};
 use std::marker::Model;
 
@@ -92,7 +93,11 @@ impl PortClassifier {
         };
         match packet.family {
             Family::Ipv4 => self.see_ipv4(packet.start, &bytes[packet.start..]),
-            Family::Ipv6 => self.see_ipv6(packet.start, &bytes[packet.start..]),
+            Family::Ipv6 => {
+                // taken apart, so that what is seen of IPv4 is not put together elsewhere and then copied
+                let Seen { sight, mark } = self.see_ipv6(packet.start, &bytes[packet.start..]);
+                Seen { sight, mark }
+            }
         }
     }
 
@@ -145,22 +150,28 @@ impl PortClassifier {
         }
     }
 
+    /// What a frame of a piece is at the port, and what marking it later needs.
+    pub fn see_frame(&self, frame: &Frame<'_>) -> Seen
+        ensures sight { result.sight ≡ sight_in self.now frame.now }
+        ensures mark { result.mark ≡ mark_in (link_in frame.now.content) frame.now.bytes }
+    {
+        match frame.content() {
+            Content::Other => Seen::without_packet(),
+            Content::Record(link) | Content::Block(link, _) => self.see(link, frame.bytes()),
+        }
+    }
+
     /// What the frames of a piece are at the port, in their order, and what marking each later needs. `AllocError` where
     /// memory runs out.
-    pub fn see_all(
-        &self,
-        alloc: Global,
-        link: LinkType,
-        piece: &Piece,
-    ) -> Result<Vec<Seen>, AllocError>
-        ensures { IfOk result (λ seen. seen.items ≡ map (λ f. seen_by self.now link f.bytes) piece.now) }
+    pub fn see_all(&self, alloc: Global, piece: &Piece) -> Result<Vec<Seen>, AllocError>
+        ensures { IfOk result (λ seen. seen.items ≡ map (λ f. seen_by self.now f) piece.now) }
     {
         (0..piece.len())
             .map(
                 |place: usize| -> Seen
                     requires { place < length piece.now }
-                    ensures { result ≡ seen_there self.entry.now link piece.entry.now place }
-                { self.see(link, piece.frame(place).bytes()) },
+                    ensures { result ≡ seen_there self.entry.now piece.entry.now place }
+                { self.see_frame(&piece.frame(place)) },
             )
             .collect::<Vec<Seen>>(alloc)
     }

@@ -1,5 +1,5 @@
 ghost use Rattle.std.specs.Prelude.{◌≡◌, None};
-ghost use Rattle.frame_marker.specs.declared.sight.Sight.TheVariants.{Skipped};
+ghost use Rattle.frame_marker.specs.declared.sight.Sight.TheVariants.{Carried, Skipped};
 
 use crate::mark::Mark;
 use af_marker::Summary;
@@ -7,6 +7,8 @@ use af_marker::Summary;
 /// What a frame is at a port.
 #[derive(Clone, Copy, Debug, PartialEq, Eq)]
 pub enum Sight {
+    /// It holds no packet.
+    Carried,
     /// It has no header of IPv4 or IPv6 that can be read; or it has one of IPv6, and the domain's version has no IPv6.
     Skipped,
     /// It has a header, and no contract of the port takes it.
@@ -30,6 +32,16 @@ pub struct Seen {
 }
 
 impl Seen {
+    /// A frame without a packet.
+    pub(crate) fn without_packet() -> Self
+        ensures { result ≡ record { sight = Carried; mark = None } }
+    {
+        Seen {
+            sight: Sight::Carried,
+            mark: None,
+        }
+    }
+
     /// A frame without a header that can be read.
     pub(crate) fn without_header() -> Self
         ensures { result ≡ record { sight = Skipped; mark = None } }

@@ -31,7 +31,7 @@ pub use book::{MeterBook, NoteFault};
 pub use chapter::Chapter;
 pub use joining::JoinFault;
 pub use journal::Journal;
-pub use meter_book_base::{AnyMeter, Meter, MeterFault, Parameters};
+pub use meter_book_base::{AnyMeter, BucketLevels, Meter, MeterFault, Parameters};
 pub use metering::meter_all;
 pub use row::{Arrival, Row};
 pub use running::RunningMeter;

@@ -1,5 +1,5 @@
 ghost use Rattle.std.specs.Prelude.{◌≡◌, ◌<◌, ◌≤◌, ◌^◌, IfErr, IfOk, OnErr, OnOk};
-ghost use Rattle.meter_book_base.specs.AnyMeter.{left_of};
+ghost use Rattle.meter_book_base.specs.AnyMeter.{left_of, levels_of};
 ghost use Rattle.meter_book.specs.Replay.{fresh, offer_of};
 ghost use Rattle.meter_book.specs.Chapters.{IsStanding};
 ghost use Rattle.meter_book.specs.Running.{counted};
@@ -9,7 +9,7 @@ use crate::book::NoteFault;
 use crate::row::Arrival;
 use crate::standing::Standing;
 use crate::tally::Tallies;
-use meter_book_base::AnyMeter;
+use meter_book_base::{AnyMeter, BucketLevels};
 use moment_core::{Colour, Gap};
 use std::marker::Model;
 
@@ -71,6 +71,13 @@ impl RunningMeter {
         self.tallies.add(left, arrival.size);
         self.count += 1;
         Ok(left)
+    }
+
+    /// The levels of its buckets, behind the last arrival that it took.
+    pub fn levels(&self) -> BucketLevels
+        ensures { result ≡ levels_of self.now.standing.meter }
+    {
+        self.meter.levels()
     }
 
     /// How many arrivals it took.

@@ -17,6 +17,7 @@ use Rattle.rfc4115_core.specs.declared.parameters.Rfc4115Fault.{Rfc4115Fault}
 use Rattle.rfc4115_core.specs.declared.parameters.Rfc4115Fault.TheVariants as separate_rates_faults
 use Rattle.meter_book_base.specs.declared.any_meter.AnyMeter.{AnyMeter}
 use Rattle.meter_book_base.specs.declared.any_meter.AnyMeter.TheVariants as meters
+use Rattle.meter_book_base.specs.declared.any_meter.BucketLevels.{BucketLevels}
 use Rattle.meter_book_base.specs.declared.any_meter.Parameters.{Parameters}
 use Rattle.meter_book_base.specs.declared.any_meter.Parameters.TheVariants as parameters
 use Rattle.meter_book_base.specs.declared.any_meter.MeterFault.{MeterFault}
@@ -49,6 +50,13 @@ abbrev pub newest_of : AnyMeter → ℕ
 newest_of (meters.SrTcm m) = m.newest
 newest_of (meters.TrTcm m) = m.newest
 newest_of (meters.Rfc4115 m) = m.newest
+
+-- the levels of its buckets: the committed one, and beside it the excess bucket (RFC 2697 section 3, RFC 4115) or the
+-- peak bucket (RFC 2698 section 3)
+abbrev pub levels_of : AnyMeter → BucketLevels
+levels_of (meters.SrTcm m) = record { committed = m.levels.committed; second = m.levels.excess }
+levels_of (meters.TrTcm m) = record { committed = m.levels.committed; second = m.levels.peak }
+levels_of (meters.Rfc4115 m) = record { committed = m.levels.committed; second = m.levels.excess }
 
 abbrev pub left_of : AnyMeter → Offer → Colour
 left_of (meters.SrTcm m) o = colour_of single_rate m o

@@ -53,6 +53,16 @@ pub enum AnyMeter {
     Rfc4115(Rfc4115),
 }
 
+/// The levels of a meter's two buckets: whole tokens, in bytes, each at most its bucket's size.
+#[derive(Clone, Copy, Debug, PartialEq, Eq)]
+pub struct BucketLevels {
+    /// Tc: the level of the committed bucket (RFC 2697 section 3, RFC 2698 section 3, RFC 4115).
+    pub committed: u32,
+    /// The level of the second one: Te, of the excess bucket (RFC 2697 section 3, RFC 4115), or Tp, of the peak bucket
+    /// (RFC 2698 section 3).
+    pub second: u32,
+}
+
 impl From<SrTcmFault> for MeterFault {
     ghost use Rattle.std.specs.Prelude.{◌≡◌};
     ghost use Rattle.meter_book_base.specs.AnyMeter.{single_rate_fault};
@@ -113,7 +123,7 @@ impl MeterParameters for Parameters {
 }
 
 impl AnyMeter {
-    ghost use Rattle.meter_book_base.specs.AnyMeter.{after_any, fault_of, left_of, newest_of, opening_of};
+    ghost use Rattle.meter_book_base.specs.AnyMeter.{after_any, fault_of, left_of, levels_of, newest_of, opening_of};
 
     /// A meter with full buckets at its origin.
     #[tactic(auto, using(crate::proofs::FaultLaws::none_of_map))]
@@ -151,6 +161,35 @@ impl AnyMeter {
             AnyMeter::SrTcm(meter) => meter.newest(),
             AnyMeter::TrTcm(meter) => meter.newest(),
             AnyMeter::Rfc4115(meter) => meter.newest(),
+        }
+    }
+
+    /// The levels of its buckets at its newest moment, behind the packet that it metered last.
+    pub fn levels(&self) -> BucketLevels
+        ensures { result ≡ levels_of self.now }
+    {
+        match self {
+            AnyMeter::SrTcm(meter) => {
+                let levels = meter.levels();
+                BucketLevels {
+                    committed: levels.committed,
+                    second: levels.excess,
+                }
+            }
+            AnyMeter::TrTcm(meter) => {
+                let levels = meter.levels();
+                BucketLevels {
+                    committed: levels.committed,
+                    second: levels.peak,
+                }
+            }
+            AnyMeter::Rfc4115(meter) => {
+                let levels = meter.levels();
+                BucketLevels {
+                    committed: levels.committed,
+                    second: levels.excess,
+                }
+            }
         }
     }
 

@@ -37,6 +37,10 @@ pub trait Kind: Copy {
         ensures value { (m : State Self.Parameters Self.Levels) → self.now ≡ buckets_of m → result ≡ m.parameters }
         ensures within { (m : State Self.Parameters Self.Levels) → self.now ≡ buckets_of m → fits m };
 
+    /// The levels of these buckets.
+    fn levels(&self) -> Self::Levels
+        ensures { result ≡ levels_of self.now };
+
     /// Gives each bucket the tokens of a gap: the time from a meter's newest moment to the one that it meters at.
     fn fill_over(&mut self, gap: Gap)
         ensures { (m : State Self.Parameters Self.Levels) (arrival : ℕ) → m.origin ≤ m.newest
@@ -135,6 +139,13 @@ impl<K: Kind> TokenMeter<K> {
         ensures within { K.fits self.now }
     {
         self.buckets.parameters()
+    }
+
+    /// The levels of its buckets at its newest moment, behind the packet that it metered last: whole tokens, in bytes.
+    pub fn levels(&self) -> K::Levels
+        ensures { result ≡ self.now.levels }
+    {
+        self.buckets.levels()
     }
 
     /// Whether it heeds the colour that a packet comes in with.

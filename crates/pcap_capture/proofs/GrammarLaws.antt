@@ -254,6 +254,13 @@ size_least heading bytes size h = elim (size_cases heading bytes size h) [
   | inr known ↦ omega (arith, known.2)
 ]
 
+-- and no more captured bytes than are read
+pub size_most : (heading : Heading) (bytes : List ℕ) (size : ℕ) → record_size heading bytes ≡ Ok size → size ≤ 262160
+size_most heading bytes size h = elim (size_cases heading bytes size h) [
+  | inl short ↦ omega (arith, short.1)
+  | inr known ↦ omega (arith, known.2, not_more (captured heading bytes) known.1)
+]
+
 -- a record of just its size has the captured bytes that it tells
 pub size_captured : (heading : Heading) (bytes : List ℕ) → record_size heading bytes ≡ Ok (length bytes) → 16 + captured heading bytes ≡ length bytes
 size_captured heading bytes h = elim (size_cases heading bytes (length bytes) h) [

@@ -1,11 +1,11 @@
 pub mod CountLaws
 pub mod CutLaws
-pub mod FrameLaws
 pub mod FrontLaws
 pub mod GrammarLaws
 pub mod HeadingLaws
 pub mod OwnLaws
 pub mod PieceLaws
+pub mod PlaceLaws
 pub mod ReadingLaws
 pub mod RecordLaws
 pub mod TakingLaws

@@ -17,7 +17,7 @@ some_is : {T : Type 0} (a b : T) → Some a ≡ Some b → a ≡ b
 some_is a b h = cc
 
 -- a fault that is an own one
-own_is : (found fault : PcapFault) → is_own found ≡ true → Some found ≡ Some fault → is_own fault ≡ true
+pub own_is : (found fault : PcapFault) → is_own found ≡ true → Some found ≡ Some fault → is_own fault ≡ true
 own_is found fault own h = ap is_own (sym (some_is found fault h)) ∙ own
 
 next_own : (heading : Heading) (bytes : List ℕ) (read : List ℕ → Reading) (next : Next) (fault : PcapFault)
@@ -30,7 +30,7 @@ within_own : (n : ℕ) (heading : Heading) (bytes : List ℕ) (fault : PcapFault
 within_own zero heading bytes fault h = cc
 within_own (suc n) heading bytes fault h = next_own heading bytes (records_within n heading) (next_of heading bytes) fault (λ after. within_own n heading after fault) h
 
-records_own : (heading : Heading) (bytes : List ℕ) (fault : PcapFault) → (records heading bytes).fault ≡ Some fault → is_own fault ≡ true
+pub records_own : (heading : Heading) (bytes : List ℕ) (fault : PcapFault) → (records heading bytes).fault ≡ Some fault → is_own fault ≡ true
 unfolding records
 records_own heading bytes fault h = within_own (length bytes) heading bytes fault h
 
@@ -66,7 +66,7 @@ magic_own bytes (Some magic) fault h =
     (linked_own magic.0 magic.1 bytes (link_of (link_number magic.0 bytes)) fault)
     (some_is (versioned magic.0 magic.1 bytes) (refused fault) e)) h
 
-heading_own : (bytes : List ℕ) (fault : PcapFault) → heading_of bytes ≡ Some (Err fault) → is_own fault ≡ true
+pub heading_own : (bytes : List ℕ) (fault : PcapFault) → heading_of bytes ≡ Some (Err fault) → is_own fault ≡ true
 unfolding heading_of
 heading_own bytes fault h = waited _ (after_magic bytes (magic_of bytes)) fault (magic_own bytes (magic_of bytes) fault) h
 
@@ -124,3 +124,8 @@ own_unread pcaps.ReadFault own = absurd cc
 own_unread pcaps.WriteFault own = refl
 own_unread pcaps.NoMemory own = refl
 own_unread pcaps.Failed own = refl
+own_unread pcaps.BadMagic own = refl
+own_unread (pcaps.BadLength size) own = refl
+own_unread (pcaps.BlockTooLong size) own = refl
+own_unread pcaps.LengthsDiffer own = refl
+own_unread (pcaps.UnknownInterface number) own = refl

@@ -1,9 +1,12 @@
 -- The classic capture format: which frames stand in a list of bytes, and the first fault, if any.
-use Rattle.std.specs.Prelude.{◌≡◌, ◌⊎◌, ℕ, zero, suc, ◌+◌, ◌*◌, ◌%◌, Bool, nat_eq, nat_lt, ◌&&◌, ◌||◌}
+use Rattle.std.specs.Prelude.{◌≡◌, ◌⊎◌, ℕ, zero, suc, ◌+◌, ◌-◌, ◌*◌, ◌%◌, Bool, nat_eq, nat_lt, ◌&&◌, ◌||◌}
 use Rattle.std.specs.Prelude.{if◌then◌else◌, List, [], ◌∷◌, ◌++◌, length, take, drop, Option, None, Some, Result, Ok}
 use Rattle.std.specs.Prelude.{Err}
+use Rattle.std.specs.Option.{unwrap_or}
 use Rattle.byteorder.specs.Endian.{big_number, little_number}
 use Rattle.pcap_capture.specs.Frames.{FrameValue}
+use Rattle.pcap_capture.specs.declared.content.Content.TheVariants.{Record}
+use Rattle.pcap_capture.specs.declared.content.Place.{Place}
 use Rattle.pcap_capture.specs.declared.fault.PcapFault.{PcapFault}
 use Rattle.pcap_capture.specs.declared.fault.PcapFault.TheVariants as pcaps
 use Rattle.pcap_capture.specs.declared.fault.PcapFault.TheVariants.{NotPcap, IsPcapng, BadVersion}
@@ -13,7 +16,7 @@ use Rattle.pcap_capture.specs.declared.heading.Endianness.TheVariants.{Big, Litt
 use Rattle.pcap_capture.specs.declared.heading.Heading.{Heading}
 use Rattle.pcap_capture.specs.declared.heading.LinkType.{LinkType}
 use Rattle.pcap_capture.specs.declared.heading.LinkType.TheVariants.{Ethernet, RawIp, Ipv4, Ipv6, LinuxCooked}
-use Rattle.pcap_capture.specs.declared.heading.LinkType.TheVariants.{LinuxCooked2, Loopback}
+use Rattle.pcap_capture.specs.declared.heading.LinkType.TheVariants.{LinuxCooked2, Loopback, Unread}
 use Rattle.pcap_capture.specs.declared.heading.TimeUnit.{TimeUnit}
 use Rattle.pcap_capture.specs.declared.heading.TimeUnit.TheVariants.{Microseconds, Nanoseconds}
 use Rattle.pcap_capture.specs.declared.stage.Stage.{Stage}
@@ -44,6 +47,10 @@ link_of kind =
     else if nat_eq kind 229 then Some Ipv6
     else if nat_eq kind 276 then Some LinuxCooked2
     else None
+
+-- the link type of a number, also where it is none that is read
+abbrev pub link_numbered : ℕ → LinkType
+link_numbered kind = unwrap_or (link_of kind) Unread
 
 -- the low 16 bits of the heading's last word
 abbrev pub link_number : Endianness → List ℕ → ℕ
@@ -94,14 +101,21 @@ pub data Next : Type 0 where
   TooLong : ℕ → Next
   Whole : FrameValue → List ℕ → Next
 
+-- a record: its own sixteen bytes, and the captured bytes
 abbrev pub frame_of : Heading → List ℕ → FrameValue
 frame_of heading bytes =
     record {
       head = take 16 bytes;
       moment = moment_of heading bytes;
-      bytes = take (captured heading bytes)
-          (drop 16 bytes);
+      bytes = take (captured heading bytes) (drop 16 bytes);
+      tail = [];
+      content = Record heading.link;
     }
+
+-- where the packet stands in a record of so many bytes
+abbrev pub place_of : Heading → List ℕ → ℕ → Place
+place_of heading bytes size =
+    record { moment = moment_of heading bytes; front = 16; size = size - 16; content = Record heading.link }
 
 unfoldable pub next_of : Heading → List ℕ → Next
 next_of heading bytes =

@@ -102,3 +102,4 @@ packet_start links.Loopback bytes = behind_family bytes
 packet_start links.RawIp bytes = by_version 0 bytes
 packet_start links.Ipv4 bytes = Some (begins_at families.Ipv4 0)
 packet_start links.Ipv6 bytes = Some (begins_at families.Ipv6 0)
+packet_start links.Unread bytes = None

@@ -1,18 +1,22 @@
 -- Which frames stand in the text of a piece.
-use Rattle.std.specs.Prelude.{◌≡◌, ℕ, ◌+◌, ◌-◌, ◌<◌, ◌≤◌, ◌^◌, List, [], ◌∷◌, length}
+use Rattle.std.specs.Prelude.{◌≡◌, ℕ, ◌+◌, ◌-◌, ◌≤◌, List, [], ◌∷◌, length}
 use Rattle.std.specs.List.{slice_range}
-use Rattle.pcap_capture.specs.Frames.{FrameValue, frame_in}
-use Rattle.pcap_capture.specs.declared.entry.Record.{Record}
+use Rattle.pcap_capture.specs.Frames.{FrameValue, frame_at}
+use Rattle.pcap_capture.specs.declared.content.Place.{Place}
+use Rattle.pcap_capture.specs.declared.entry.Entry.{Entry}
 
 -- the frames of a text from a place on: each starts where the one before ends
-abbrev pub frames_between : List ℕ → ℕ → List Record → List FrameValue
+abbrev pub frames_between : List ℕ → ℕ → List Entry → List FrameValue
 frames_between text start [] = []
 frames_between text start (entry ∷ entries) =
-    frame_in (slice_range text start entry.end) entry.moment ∷ frames_between text entry.end entries
+    frame_at (slice_range text start entry.end) entry.place ∷ frames_between text entry.end entries
 
--- The records of a text from a place on come to an end: each has its own sixteen bytes, and a moment of seconds and a
--- fraction of 32 bits each.
-abbrev pub AreCut : List ℕ → ℕ → List Record → ℕ → Type 0
+-- where the packet of a frame of so many bytes may stand: behind twelve bytes at least, and in the frame
+abbrev pub IsPlaced : Place → ℕ → Type 0
+IsPlaced place size = (12 ≤ place.front) × (place.front + place.size ≤ size) × (size ≤ 16777216)
+
+-- The frames of a text from a place on come to an end, and the packet of each stands in it.
+abbrev pub AreCut : List ℕ → ℕ → List Entry → ℕ → Type 0
 AreCut text start [] end = (start ≡ end) × (end ≤ length text)
 AreCut text start (entry ∷ entries) end =
-    (start + 16 ≤ entry.end) × (entry.moment < 2 ^ 63 - 2 ^ 40) × AreCut text entry.end entries end
+    IsPlaced entry.place (entry.end - start) × AreCut text entry.end entries end

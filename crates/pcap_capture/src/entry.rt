@@ -1,10 +1,10 @@
-use moment_core::Moment;
+use crate::content::Place;
 
-/// A record of a piece.
+/// A frame of a piece.
 #[derive(Clone, Copy, Debug)]
-pub(crate) struct Record {
+pub struct Entry {
     /// Where it ends in the piece's text: it starts where the one before ends.
-    pub(crate) end: usize,
-    /// When it was captured.
-    pub(crate) moment: Moment,
+    pub end: usize,
+    /// Where its packet stands.
+    pub place: Place,
 }

@@ -11,8 +11,8 @@ pub enum PcapFault {
     /// They begin the newer format, pcapng.
     #[error("a capture of the newer format")]
     IsPcapng,
-    /// The version is not 2.4.
-    #[error("another version than 2.4")]
+    /// The version is not 2.4, or that of a section of the newer format is not 1.
+    #[error("another version")]
     BadVersion,
     /// The link type, the low 16 bits of the heading's last word, is not one that is read.
     #[error("link type {0}")]
@@ -20,7 +20,7 @@ pub enum PcapFault {
     /// A record has more than 262,144 captured bytes.
     #[error("a record of {0} bytes")]
     RecordTooLong(u32),
-    /// The bytes end in the middle of the heading or of a record.
+    /// The bytes end in the middle of the heading, of a record or of a block.
     #[error("cut short")]
     Truncated,
     /// The device that gives the bytes failed.
@@ -35,12 +35,27 @@ pub enum PcapFault {
     /// An earlier call answered a fault.
     #[error("failed before")]
     Failed,
+    /// The byte-order magic of a section header says no order, or another block stands before the first of them.
+    #[error("no section")]
+    BadMagic,
+    /// The length of a block is not a multiple of 4, or less than a block of its type has.
+    #[error("a block of {0} bytes")]
+    BadLength(u32),
+    /// A block has more than 16,777,216 bytes.
+    #[error("a block of {0} bytes")]
+    BlockTooLong(u32),
+    /// The length at a block's end is not the one at its front.
+    #[error("a block with two lengths")]
+    LengthsDiffer,
+    /// A packet is of an interface that no block of its section described before.
+    #[error("interface {0} is not described")]
+    UnknownInterface(u32),
 }
 
 impl PcapFault {
     ghost use Rattle.pcap_capture.specs.Codes.{code_of};
 
-    /// The fault's number, 1 to 10, in the order of their declaration.
+    /// The fault's number, 1 to 15, in the order of their declaration.
     pub fn code(&self) -> u8
         ensures { result ≡ code_of self.now }
     {
@@ -55,6 +70,11 @@ impl PcapFault {
             PcapFault::WriteFault => 8,
             PcapFault::NoMemory => 9,
             PcapFault::Failed => 10,
+            PcapFault::BadMagic => 11,
+            PcapFault::BadLength(_) => 12,
+            PcapFault::BlockTooLong(_) => 13,
+            PcapFault::LengthsDiffer => 14,
+            PcapFault::UnknownInterface(_) => 15,
         }
     }
 }

@@ -1,72 +1,84 @@
-ghost use Rattle.std.specs.Prelude.{◌≡◌, ◌-◌, ◌<◌, ◌≤◌, ◌^◌, ◌++◌, length};
-ghost use Rattle.pcap_capture.specs.Frames.{frame_in};
+ghost use Rattle.std.specs.Prelude.{◌≡◌, ◌≤◌, length};
+ghost use Rattle.pcap_capture.specs.Frames.{frame_at, text_in};
+ghost use Rattle.pcap_capture.specs.Pieces.{IsPlaced};
 
+use crate::content::{Content, Place};
 use moment_core::Moment;
 use std::marker::Model;
 
-/// The record's own bytes, which stand before the captured ones.
-const HEAD: usize = 16;
-
-/// A record of a piece, borrowed: a packet as far as it was captured.
+/// A record or a block of a capture, borrowed from its piece: a packet as far as it was captured, or none.
 #[derive(Debug, Drop)]
 pub struct Frame<'a> {
-    /// The bytes of the whole record.
-    record: &'a [u8],
-    moment: Moment,
+    /// All its bytes.
+    own: &'a [u8],
+    /// Where its packet stands.
+    place: Place,
 }
 
 impl<'a> Model for Frame<'a> {
-    ghost use Rattle.std.specs.Prelude.{◌-◌, ◌<◌, ◌≤◌, ◌^◌, length};
-    ghost use Rattle.pcap_capture.specs.Frames.{FrameValue, frame_in};
+    ghost use Rattle.std.specs.Prelude.{length};
+    ghost use Rattle.pcap_capture.specs.Frames.{FrameValue, frame_at};
+    ghost use Rattle.pcap_capture.specs.Pieces.{IsPlaced};
 
     ghost Value = { FrameValue };
 
-    ghost view = { λ f. frame_in f.record.now f.moment };
+    ghost view = { λ f. frame_at f.own.now f.place };
 
-    // seconds and a fraction of 32 bits each
-    ghost invariant = { λ f. (16 ≤ length f.record.now) × (f.moment < 2 ^ 63 - 2 ^ 40) };
+    ghost invariant = { λ f. IsPlaced f.place (length f.own.now) };
 }
 
 impl<'a> Frame<'a> {
-    /// The frame of a record and its moment.
-    pub(crate) fn of(own: &'a [u8], moment: Moment) -> Self
-        requires { (16 ≤ length own.now) × (moment < 2 ^ 63 - 2 ^ 40) }
-        ensures { result ≡ frame_in own.now moment }
+    /// The frame of these bytes whose packet stands there.
+    pub(crate) fn of(own: &'a [u8], place: Place) -> Self
+        requires { IsPlaced place (length own.now) }
+        ensures { result ≡ frame_at own.now place }
     {
-        Frame {
-            record: own,
-            moment,
-        }
+        Frame { own, place }
     }
 
-    /// The record's own sixteen bytes, as they stand in the capture.
+    /// The bytes before its packet's, as they stand in the capture: all of them where it has no packet.
     pub fn head(&self) -> &'a [u8]
-        ensures { result.now ≡ self.now.head }
+        ensures value { result.now ≡ self.now.head }
+        ensures long { 12 ≤ length self.now.head }
     {
-        &self.record()[..HEAD]
+        &self.own[..self.place.front as usize]
     }
 
-    /// When it was captured, by the record's seconds and its fraction of a second, whatever that is: before 4.3 * 10^18
-    /// ns, as both have 32 bits.
-    pub fn moment(&self) -> Moment
-        ensures value { result ≡ self.now.moment }
-        ensures early { result < 2 ^ 63 - 2 ^ 40 }
-    {
-        self.moment
-    }
-
-    /// The captured bytes.
+    /// The bytes of its packet, as far as they were captured; none where it has no packet.
     pub fn bytes(&self) -> &'a [u8]
-        ensures { result.now ≡ self.now.bytes }
+        ensures value { result.now ≡ self.now.bytes }
+        ensures few { length result.now ≤ 16777216 }
     {
-        &self.record()[HEAD..]
+        let front = self.place.front as usize;
+        &self.own[front..front + self.place.size as usize]
     }
 
-    /// The whole record, as it stands in the capture: its own sixteen bytes, and the captured bytes.
-    pub fn record(&self) -> &'a [u8]
-        ensures value { result.now ≡ self.now.head ++ self.now.bytes }
-        ensures own { length self.now.head ≡ 16 }
+    /// The bytes behind its packet's, as they stand in the capture.
+    pub fn tail(&self) -> &'a [u8]
+        ensures { result.now ≡ self.now.tail }
     {
-        self.record
+        &self.own[self.place.front as usize + self.place.size as usize..]
+    }
+
+    /// When its packet was captured, by its stamp; 0 where it has no packet.
+    pub fn moment(&self) -> Moment
+        ensures { result ≡ self.now.moment }
+    {
+        self.place.moment
+    }
+
+    /// What it holds.
+    pub fn content(&self) -> Content
+        ensures { result ≡ self.now.content }
+    {
+        self.place.content
+    }
+
+    /// All its bytes, as they stand in the capture: at most 16 MiB.
+    pub fn record(&self) -> &'a [u8]
+        ensures value { result.now ≡ text_in self.now }
+        ensures few { length result.now ≤ 16777216 }
+    {
+        self.own
     }
 }

@@ -1,5 +1,5 @@
 ghost use Rattle.std.specs.Prelude.{◌≡◌, ◌≤◌, length};
-ghost use Rattle.pcap_capture.specs.Grammar.{heading_of, link_of, magic_of, number, versioned};
+ghost use Rattle.pcap_capture.specs.Grammar.{heading_of, link_numbered, link_of, magic_of, number, versioned};
 
 use crate::fault::PcapFault;
 use byteorder::{BigEndian, ByteOrder, LittleEndian};
@@ -39,6 +39,8 @@ pub enum LinkType {
     LinuxCooked2,
     /// The loopback of BSD systems, four bytes that say the family: link types 0 and 108.
     Loopback,
+    /// Any other: where a packet starts there is not known.
+    Unread,
 }
 
 /// The heading of a capture.
@@ -136,6 +138,15 @@ fn link_of_number(number: u16) -> Option<LinkType>
     }
 }
 
+impl LinkType {
+    /// The link type of this number.
+    pub fn of_number(number: u16) -> Self
+        ensures { result ≡ link_numbered number }
+    {
+        link_of_number(number).unwrap_or(LinkType::Unread)
+    }
+}
+
 /// The heading in 24 bytes whose magic number said this.
 fn after_magic_number(bytes: &[u8], order: Endianness, unit: TimeUnit) -> Result<Heading, PcapFault>
     requires { 24 ≤ length bytes.now }
@@ -165,7 +176,7 @@ fn after_magic_number(bytes: &[u8], order: Endianness, unit: TimeUnit) -> Result
 /// Refused: `NotPcap` or `IsPcapng` by the first four bytes, as soon as they are there; then, once all 24 bytes are
 /// there, `BadVersion` for another version than 2.4, and `LinkType` for a link type that is not read.
 #[tactic(auto, unfolding(crate::specs::Grammar::heading_of))]
-pub(crate) fn heading_at_front(bytes: &[u8]) -> Option<Result<Heading, PcapFault>>
+pub fn heading_at_front(bytes: &[u8]) -> Option<Result<Heading, PcapFault>>
     ensures { result ≡ heading_of bytes.now }
 {
     if bytes.len() < 4 {

@@ -2,6 +2,7 @@
 #![tactic(auto)]
 
 mod adaptor;
+mod content;
 mod device;
 mod entry;
 mod fault;
@@ -18,10 +19,12 @@ mod start;
 mod text;
 
 pub use adaptor::{ReadIntake, WriteOutlet};
+pub use content::{Content, Place};
 pub use device::{DeviceFault, Intake, MOST_CALLS, Outlet};
+pub use entry::Entry;
 pub use fault::PcapFault;
 pub use frame::Frame;
-pub use heading::{Endianness, Heading, LinkType, TimeUnit};
+pub use heading::{Endianness, Heading, LinkType, TimeUnit, heading_at_front};
 pub use memory::{SliceIntake, VecOutlet};
 pub use piece::{Piece, go_on_with};
 pub use pieces::{PIECE, give_all, hand_over, room};

@@ -52,6 +52,7 @@ impl LinkType {
             LinkType::RawIp => by_version(0, bytes),
             LinkType::Ipv4 => Some(begins_at(Family::Ipv4, 0)),
             LinkType::Ipv6 => Some(begins_at(Family::Ipv6, 0)),
+            LinkType::Unread => None,
         }
     }
 }

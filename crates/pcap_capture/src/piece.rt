@@ -2,8 +2,9 @@ ghost use Rattle.std.specs.Prelude.{◌≡◌, ◌*◌, ◌<◌, ◌≤◌, [], 
 ghost use Rattle.std.specs.List.{slice_index_or};
 ghost use Rattle.pcap_capture.specs.Frames.{text_of};
 ghost use Rattle.pcap_capture.specs.Grammar.{Partial, Stops, next_of, prepend, records};
+ghost use Rattle.pcap_capture.specs.Pieces.{AreCut, frames_between};
 
-use crate::entry::Record;
+use crate::entry::Entry;
 use crate::fault::PcapFault;
 use crate::frame::Frame;
 use crate::heading::Heading;
@@ -13,12 +14,12 @@ use crate::text::Text;
 use std::alloc::Global;
 use std::marker::Model;
 
-/// Records that were read at once: the text that they stand in, whole and one behind the other from its front on, and
-/// their moments.
+/// Frames that were read at once, the records or the blocks of a capture: the text that they stand in, whole and one
+/// behind the other from its front on, and where their packets stand.
 #[derive(Debug, Drop)]
 pub struct Piece {
     text: Text,
-    records: Vec<Record>,
+    entries: Vec<Entry>,
 }
 
 impl Model for Piece {
@@ -29,9 +30,9 @@ impl Model for Piece {
 
     ghost use Rattle.pcap_capture.specs.Pieces.{AreCut, frames_between};
 
-    ghost view = { λ p. frames_between p.text 0 p.records.items };
+    ghost view = { λ p. frames_between p.text 0 p.entries.items };
 
-    ghost invariant = { λ p. AreCut p.text 0 p.records.items (length p.text) };
+    ghost invariant = { λ p. AreCut p.text 0 p.entries.items (length p.text) };
 }
 
 impl Piece {
@@ -41,7 +42,7 @@ impl Piece {
     {
         Piece {
             text: Text::new(alloc),
-            records: Vec::new(alloc),
+            entries: Vec::new(alloc),
         }
     }
 
@@ -49,14 +50,14 @@ impl Piece {
     pub fn len(&self) -> usize
         ensures { result ≡ length self.now }
     {
-        self.records.len()
+        self.entries.len()
     }
 
     /// Whether it has no frame.
     pub fn is_empty(&self) -> bool
         ensures { result ≡ (length self.now == 0) }
     {
-        self.records.is_empty()
+        self.entries.is_empty()
     }
 
     /// The frame at a place, counted from 0.
@@ -64,18 +65,18 @@ impl Piece {
         requires { place < length self.now }
         ensures { result ≡ slice_index_or self.now place result }
     {
-        let entry = self.records[place];
+        let entry = self.entries[place];
         if place == 0 {
-            return Frame::of(&self.text.as_slice()[..entry.end], entry.moment);
+            return Frame::of(&self.text.as_slice()[..entry.end], entry.place);
         }
-        let before = self.records[place - 1];
-        Frame::of(&self.text.as_slice()[before.end..entry.end], entry.moment)
+        let before = self.entries[place - 1];
+        Frame::of(&self.text.as_slice()[before.end..entry.end], entry.place)
     }
 
-    /// The whole text of its records, as it stands in the capture.
+    /// The whole text of its frames, as it stands in the capture.
     pub fn text(&self) -> &[u8]
         ensures value { result.now ≡ text_of self.now }
-        ensures room { 16 * length self.now ≤ length result.now }
+        ensures room { 12 * length self.now ≤ length result.now }
     {
         self.text.as_slice()
     }
@@ -85,7 +86,7 @@ impl Piece {
         ensures { self.new ≡ [] }
     {
         self.text.truncate(0);
-        self.records.clear();
+        self.entries.clear();
     }
 
     /// Gives back the room that it does not need: for a piece that is held long.
@@ -93,7 +94,24 @@ impl Piece {
         ensures { self.new ≡ self.old }
     {
         self.text.fit();
-        self.records.shrink_to_fit();
+        self.entries.shrink_to_fit();
+    }
+
+    /// The text of its frames, and where they end there, with their packets' places: for a reader that goes on in it.
+    pub fn into_parts(self) -> (Text, Vec<Entry>)
+        ensures frames { frames_between result.0 0 result.1.items ≡ self }
+        ensures cut { AreCut result.0 0 result.1.items (length result.0) }
+    {
+        let Piece { text, entries } = self;
+        (text, entries)
+    }
+
+    /// The piece of a text and of what stands in it.
+    pub fn of_parts(text: Text, entries: Vec<Entry>) -> Self
+        requires { AreCut text 0 entries.items (length text) }
+        ensures { result ≡ frames_between text 0 entries.items }
+    {
+        Piece { text, entries }
     }
 
     /// Reads on in the bytes of which no frame was made: as long as the first record is not there whole, they stay as
@@ -113,7 +131,7 @@ impl Piece {
             return Ok(());
         }
         let mut end = go_on_with(&mut self.text, rest)?;
-        let done = read_records(heading, self.text.as_slice(), &mut end, &mut self.records);
+        let done = read_records(heading, self.text.as_slice(), &mut end, &mut self.entries);
         let (_, left) = self.text.as_slice().split_at(end);
         let kept = rest.replace(left);
         self.text.truncate(end);

@@ -1,16 +1,16 @@
 -- However a capture is cut, its blocks and its fault are the same.
 use Rattle.std.proofs.Common.{◌≡◌, ℕ, ◌≤◌, zero, suc, Bool, true, false, List, [], ◌∷◌, ◌++◌, length, Option, None, Some, append_assoc, refl, sym, ◌∙◌, ap, arith}
-use Rattle.pcapng_capture.specs.Blocks.{BlockValue}
+use Rattle.pcap_capture.specs.Frames.{FrameValue}
 use Rattle.pcapng_capture.specs.Grammar.{CaptureState, Next, Partial, Bad, Whole, Reading, blocks, capture, continued, continued_from, ending, fault_after, fault_in, from_next, next_of, prepend, read_on, reading, waiting, no_section}
 use Rattle.pcapng_capture.specs.Packets.{SectionValue, Step}
 use Rattle.pcapng_capture.specs.Readings.{IsSoFar}
-use Rattle.pcapng_capture.specs.declared.fault.PcapngFault.{PcapngFault}
+use Rattle.pcap_capture.specs.declared.fault.PcapFault.{PcapFault}
 use Rattle.pcapng_capture.proofs.GrammarLaws.{after_shorter, bad-append, blocks-next, blocks_by, next_short, whole-append}
 
-pub prepend_twice : (fs gs : List BlockValue) (r : Reading) → prepend (fs ++ gs) r ≡ prepend fs (prepend gs r)
-prepend_twice fs gs r = ap (λ (all : List BlockValue). record r { blocks = all }) (append_assoc fs gs r.blocks)
+pub prepend_twice : (fs gs : List FrameValue) (r : Reading) → prepend (fs ++ gs) r ≡ prepend fs (prepend gs r)
+prepend_twice fs gs r = ap (λ (all : List FrameValue). record r { blocks = all }) (append_assoc fs gs r.blocks)
 
-continued_prepend : (fault : Option PcapngFault) (fs : List BlockValue) (r : Reading) (more : List ℕ) → continued_from fault (prepend fs r) more ≡ prepend fs (continued_from fault r more)
+continued_prepend : (fault : Option PcapFault) (fs : List FrameValue) (r : Reading) (more : List ℕ) → continued_from fault (prepend fs r) more ≡ prepend fs (continued_from fault r more)
 continued_prepend None fs r more = prepend_twice fs r.blocks (reading r.state more)
 continued_prepend (Some fault) fs r more = refl
 
@@ -51,7 +51,7 @@ reading_cut state front back =
     ap (read_on state.is_broken state.section) (sym (append_assoc state.rest front back)) ∙ cut_on state.is_broken state.section (state.rest ++ front) back
 
 -- what a piece makes of the bytes so far
-pub so_far : (bytes piece : List ℕ) (before blocks : List BlockValue) (state : CaptureState) → IsSoFar bytes before state blocks
+pub so_far : (bytes piece : List ℕ) (before blocks : List FrameValue) (state : CaptureState) → IsSoFar bytes before state blocks
     → prepend before (capture (bytes ++ piece)) ≡ prepend blocks (reading state piece)
 so_far bytes piece before blocks state h =
     let fault : (capture bytes).fault ≡ None = sym (ap (λ (r : Reading). r.fault) h) in
@@ -59,14 +59,14 @@ so_far bytes piece before blocks state h =
     let all : before ++ (capture bytes).blocks ≡ blocks = sym (ap (λ (r : Reading). r.blocks) h) in
     ap (prepend before) (blocks-cut no_section bytes piece ∙ ap (λ v. continued_from v (capture bytes) piece) fault)
     ∙ sym (prepend_twice before (capture bytes).blocks (reading (capture bytes).state piece))
-    ∙ ap (λ (all : List BlockValue). prepend all (reading (capture bytes).state piece)) all ∙ ap (λ s. prepend blocks (reading s piece)) was
+    ∙ ap (λ (all : List FrameValue). prepend all (reading (capture bytes).state piece)) all ∙ ap (λ s. prepend blocks (reading s piece)) was
 
 -- at first there is nothing
 pub capture_empty : capture [] ≡ waiting no_section []
 capture_empty = blocks_by no_section [] Partial (next_short no_section [] (omega arith))
 
 -- where the bytes so far have no fault, it is their end that may have one
-pub fault_so_far : (bytes : List ℕ) (before blocks : List BlockValue) (state : CaptureState) → IsSoFar bytes before state blocks → fault_in bytes ≡ ending state
+pub fault_so_far : (bytes : List ℕ) (before blocks : List FrameValue) (state : CaptureState) → IsSoFar bytes before state blocks → fault_in bytes ≡ ending state
 fault_so_far bytes before blocks state h =
     let fault : (capture bytes).fault ≡ None = sym (ap (λ (r : Reading). r.fault) h) in
     let was : (capture bytes).state ≡ state = sym (ap (λ (r : Reading). r.state) h) in

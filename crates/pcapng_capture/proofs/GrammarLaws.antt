@@ -11,12 +11,12 @@ use Rattle.pcapng_capture.specs.Grammar.{Next, Partial, Bad, Whole, Reading, blo
 use Rattle.pcapng_capture.specs.Packets.{SectionValue, Step}
 use Rattle.pcapng_capture.specs.Pieces.{IsFront}
 use Rattle.pcapng_capture.specs.declared.place.Front.{Front}
-use Rattle.pcapng_capture.specs.declared.fault.PcapngFault.{PcapngFault}
+use Rattle.pcap_capture.specs.declared.fault.PcapFault.{PcapFault}
 
-abbrev size_ok : ℕ → Result ℕ PcapngFault
+abbrev size_ok : ℕ → Result ℕ PcapFault
 size_ok size = Ok size
 
-abbrev size_err : PcapngFault → Result ℕ PcapngFault
+abbrev size_err : PcapFault → Result ℕ PcapFault
 size_err fault = Err fault
 
 pub not_less : (a b : ℕ) → nat_lt a b ≡ false → b ≤ a
@@ -38,7 +38,7 @@ pub record IsSized (bound told size : ℕ) : Type 0 where
   pub least : bound ≤ size
   pub most : size ≤ 16777216
 
-by_tests : (long bad : Bool) (told size : ℕ) (one other : PcapngFault) → cond long (size_err one) (cond bad (size_err other) (size_ok told)) ≡ Ok size
+by_tests : (long bad : Bool) (told size : ℕ) (one other : PcapFault) → cond long (size_err one) (cond bad (size_err other) (size_ok told)) ≡ Ok size
     → (long ≡ false) × (bad ≡ false) × (told ≡ size)
 by_tests true bad told size one other h = cc
 by_tests false true told size one other h = cc
@@ -68,7 +68,7 @@ pub size_in_is : (bytes : List ℕ) (order : Option Endianness) (size : ℕ) →
 size_in_is bytes None size h = cc
 size_in_is bytes (Some order) size h = (order, refl, size_by_is (least_size (number order 4 bytes)) (number order 4 (drop 4 bytes)) size h)
 
-size_short : (section : SectionValue) (bytes : List ℕ) → length bytes < 12 → size_of section bytes ≡ Ok 12
+pub size_short : (section : SectionValue) (bytes : List ℕ) → length bytes < 12 → size_of section bytes ≡ Ok 12
 unfolding size_of
 size_short section bytes h = rw (is_less (length bytes) 12 h) refl
 
@@ -117,7 +117,7 @@ size_in-append (Some order) xs ys h =
     ap₂ (λ kind told. size_by (least_size kind) told) (number-append order 4 xs ys (omega arith)) (number-append_at order 4 4 xs ys (omega arith))
 
 -- and so does the size
-size-append : (section : SectionValue) (xs ys : List ℕ) → 12 ≤ length xs → size_of section (xs ++ ys) ≡ size_of section xs
+pub size-append : (section : SectionValue) (xs ys : List ℕ) → 12 ≤ length xs → size_of section (xs ++ ys) ≡ size_of section xs
 size-append section xs ys h =
     size_long section (xs ++ ys) (omega (arith, length-append xs ys)) ∙ ap (size_in (xs ++ ys)) (order-append section xs ys h)
     ∙ size_in-append (order_of section xs) xs ys h ∙ sym (size_long section xs h)
@@ -140,7 +140,7 @@ front_own section bytes size front least there known =
     )
 
 -- what stands at the front, by the size
-pub next_by : (section : SectionValue) (bytes : List ℕ) (size : Result ℕ PcapngFault) → size_of section bytes ≡ size → next_of section bytes ≡ next_sized section bytes size
+pub next_by : (section : SectionValue) (bytes : List ℕ) (size : Result ℕ PcapFault) → size_of section bytes ≡ size → next_of section bytes ≡ next_sized section bytes size
 unfolding next_of
 next_by section bytes size h = ap (next_sized section bytes) h
 
@@ -154,11 +154,11 @@ next_there section bytes size h there = next_by section bytes (Ok size) h ∙ rw
 pub next_short : (section : SectionValue) (bytes : List ℕ) → length bytes < 12 → next_of section bytes ≡ Partial
 next_short section bytes h = next_partial section bytes 12 (size_short section bytes h) h
 
-whole_after : (after found : List ℕ) (made : Result Step PcapngFault) (step : Step) → next_whole after made ≡ Whole step found → found ≡ after
+whole_after : (after found : List ℕ) (made : Result Step PcapFault) (step : Step) → next_whole after made ≡ Whole step found → found ≡ after
 whole_after after found (Err fault) step h = cc
 whole_after after found (Ok made) step h = cc
 
-after_by : (section : SectionValue) (bytes : List ℕ) (size : Result ℕ PcapngFault) (step : Step) (after : List ℕ) → size_of section bytes ≡ size → next_of section bytes ≡ Whole step after
+after_by : (section : SectionValue) (bytes : List ℕ) (size : Result ℕ PcapFault) (step : Step) (after : List ℕ) → size_of section bytes ≡ size → next_of section bytes ≡ Whole step after
     → length after + 12 ≤ length bytes
 after_by section bytes (Err fault) step after is h =
     let bad : next_of section bytes ≡ Bad fault = next_by section bytes (Err fault) is in
@@ -181,11 +181,11 @@ behind more Partial = Partial
 behind more (Bad fault) = Bad fault
 behind more (Whole step after) = Whole step (after ++ more)
 
-whole_behind : (after more : List ℕ) (made : Result Step PcapngFault) → next_whole (after ++ more) made ≡ behind more (next_whole after made)
+whole_behind : (after more : List ℕ) (made : Result Step PcapFault) → next_whole (after ++ more) made ≡ behind more (next_whole after made)
 whole_behind after more (Err fault) = refl
 whole_behind after more (Ok step) = refl
 
-behind_by : (section : SectionValue) (xs ys : List ℕ) (size : Result ℕ PcapngFault) → size_of section xs ≡ size → 12 ≤ length xs → (next_of section xs ≡ Partial → ⊥)
+behind_by : (section : SectionValue) (xs ys : List ℕ) (size : Result ℕ PcapFault) → size_of section xs ≡ size → 12 ≤ length xs → (next_of section xs ≡ Partial → ⊥)
     → next_of section (xs ++ ys) ≡ behind ys (next_of section xs)
 behind_by section xs ys (Err fault) is long known =
     next_by section (xs ++ ys) (Err fault) (size-append section xs ys long ∙ is) ∙ sym (ap (behind ys) (next_by section xs (Err fault) is))
@@ -208,7 +208,7 @@ next-append section xs ys known = elim (cases_lt (length xs) 12) [
 pub whole-append : (section : SectionValue) (xs ys : List ℕ) (step : Step) (after : List ℕ) → next_of section xs ≡ Whole step after → next_of section (xs ++ ys) ≡ Whole step (after ++ ys)
 whole-append section xs ys step after h = next-append section xs ys (λ e. cc) ∙ ap (behind ys) h
 
-pub bad-append : (section : SectionValue) (xs ys : List ℕ) (fault : PcapngFault) → next_of section xs ≡ Bad fault → next_of section (xs ++ ys) ≡ Bad fault
+pub bad-append : (section : SectionValue) (xs ys : List ℕ) (fault : PcapFault) → next_of section xs ≡ Bad fault → next_of section (xs ++ ys) ≡ Bad fault
 bad-append section xs ys fault h = next-append section xs ys (λ e. cc) ∙ ap (behind ys) h
 
 -- the number of blocks that are allowed does not matter, as long as it is enough

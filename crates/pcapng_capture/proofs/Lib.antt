@@ -1,9 +1,7 @@
-pub mod BlockLaws
 pub mod CutLaws
 pub mod GrammarLaws
 pub mod OptionLaws
 pub mod OwnLaws
-pub mod PieceLaws
 pub mod ReadingLaws
 pub mod StampLaws
 pub mod TakingLaws

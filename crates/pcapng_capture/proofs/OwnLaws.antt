@@ -3,22 +3,20 @@ use Rattle.std.proofs.Common.{◌≡◌, ℕ, zero, suc, Bool, true, false, cond
 use Rattle.std.specs.List.{slice_get}
 use Rattle.pcap_capture.specs.Grammar.{number}
 use Rattle.pcap_capture.specs.declared.heading.Endianness.{Endianness}
-use Rattle.pcapng_capture.specs.Blocks.{BlockValue, carried}
+use Rattle.pcap_capture.specs.Frames.{FrameValue}
+use Rattle.pcapng_capture.specs.Blocks.{carried}
 use Rattle.pcapng_capture.specs.Grammar.{Next, Partial, Bad, Whole, Reading, begun, blocks, blocks_within, described, ends_right, from_next, next_of, next_sized, next_whole, order_of, prepend, size_in, size_of, step_by, step_in, step_of}
 use Rattle.pcapng_capture.specs.Packets.{SectionValue, Step, captured, interface_number, simple, simple_by, stamped, stamped_by}
-use Rattle.pcapng_capture.specs.Readings.{Stops, is_read_fault}
-use Rattle.pcapng_capture.specs.declared.fault.PcapngFault.{PcapngFault}
-use Rattle.pcapng_capture.specs.declared.fault.PcapngFault.TheVariants.{BadVersion, BadLength, BlockTooLong, LengthsDiffer}
+use Rattle.pcapng_capture.specs.Readings.{Stops}
+use Rattle.pcap_capture.specs.Takings.{is_own}
+use Rattle.pcap_capture.specs.declared.fault.PcapFault.{PcapFault}
+use Rattle.pcap_capture.specs.declared.fault.PcapFault.TheVariants.{BadVersion, BadLength, BlockTooLong, LengthsDiffer}
 use Rattle.pcapng_capture.specs.declared.interface.Interface.{Interface}
 
--- whether a fault is that of a device
-abbrev of_device : PcapngFault → Bool
-of_device fault = is_read_fault {T = ℕ} (Err fault)
-
 -- an answer that tells no fault of a device
-abbrev IsOwn : {T : Type 0} → Result T PcapngFault → Type 0
+abbrev pub IsOwn : {T : Type 0} → Result T PcapFault → Type 0
 IsOwn (Ok value) = Unit {0}
-IsOwn (Err fault) = of_device fault ≡ false
+IsOwn (Err fault) = is_own fault ≡ true
 
 size_by_own : (long bad : Bool) (told : ℕ) → IsOwn {T = ℕ} (cond long (Err (BlockTooLong told)) (cond bad (Err (BadLength told)) (Ok told)))
 size_by_own true bad told = refl
@@ -29,11 +27,11 @@ size_in_own : (bytes : List ℕ) (order : Option Endianness) → IsOwn (size_in 
 size_in_own bytes None = refl
 size_in_own bytes (Some order) = size_by_own _ _ (number order 4 (drop 4 bytes))
 
-short_own : (short : Bool) (known : Result ℕ PcapngFault) → IsOwn known → IsOwn (cond short (Ok 12) known)
+short_own : (short : Bool) (known : Result ℕ PcapFault) → IsOwn known → IsOwn (cond short (Ok 12) known)
 short_own true known own = tt
 short_own false known own = own
 
-size_own : (section : SectionValue) (bytes : List ℕ) → IsOwn (size_of section bytes)
+pub size_own : (section : SectionValue) (bytes : List ℕ) → IsOwn (size_of section bytes)
 unfolding size_of
 size_own section bytes = short_own (nat_lt (length bytes) 12) (size_in bytes (order_of section bytes)) (size_in_own bytes (order_of section bytes))
 
@@ -46,7 +44,7 @@ module _ (section : SectionValue) (order : Endianness) (own : List ℕ) where
   stamped_by_own n None = refl
   stamped_by_own n (Some interface) = tt
 
-  cut_own : (cut : Bool) (size : ℕ) (made : Result Step PcapngFault) → IsOwn made → IsOwn (cond cut (Err (BadLength size)) made)
+  cut_own : (cut : Bool) (size : ℕ) (made : Result Step PcapFault) → IsOwn made → IsOwn (cond cut (Err (BadLength size)) made)
   cut_own true size made own = refl
   cut_own false size made own = own
 
@@ -57,11 +55,11 @@ module _ (section : SectionValue) (order : Endianness) (own : List ℕ) where
   simple_own None = refl
   simple_own (Some interface) = tt
 
-  either_own : (is : Bool) (one other : Result Step PcapngFault) → IsOwn one → IsOwn other → IsOwn (cond is one other)
+  either_own : (is : Bool) (one other : Result Step PcapFault) → IsOwn one → IsOwn other → IsOwn (cond is one other)
   either_own true one other h k = h
   either_own false one other h k = k
 
-  kind_by : (a b c d : Bool) (header stamp simple : Result Step PcapngFault) (made other : Step) → IsOwn header → IsOwn stamp → IsOwn simple
+  kind_by : (a b c d : Bool) (header stamp simple : Result Step PcapFault) (made other : Step) → IsOwn header → IsOwn stamp → IsOwn simple
       → IsOwn {T = Step} (cond a header (cond b (Ok made) (cond c stamp (cond d simple (Ok other)))))
   kind_by true b c d header stamp simple made other h k l = h
   kind_by false true c d header stamp simple made other h k l = tt
@@ -88,10 +86,10 @@ step_own section own = step_in_own section own (order_of section own)
 -- what stands at the front
 abbrev IsOwnNext : Next → Type 0
 IsOwnNext Partial = Unit {0}
-IsOwnNext (Bad fault) = of_device fault ≡ false
+IsOwnNext (Bad fault) = is_own fault ≡ true
 IsOwnNext (Whole step after) = Unit {0}
 
-whole_own : (after : List ℕ) (made : Result Step PcapngFault) → IsOwn made → IsOwnNext (next_whole after made)
+whole_own : (after : List ℕ) (made : Result Step PcapFault) → IsOwn made → IsOwnNext (next_whole after made)
 whole_own after (Err fault) own = own
 whole_own after (Ok step) own = tt
 
@@ -99,7 +97,7 @@ there_own : (short : Bool) (next : Next) → IsOwnNext next → IsOwnNext (cond 
 there_own true next own = tt
 there_own false next own = own
 
-sized_own : (section : SectionValue) (bytes : List ℕ) (size : Result ℕ PcapngFault) → IsOwn size → IsOwnNext (next_sized section bytes size)
+sized_own : (section : SectionValue) (bytes : List ℕ) (size : Result ℕ PcapFault) → IsOwn size → IsOwnNext (next_sized section bytes size)
 sized_own section bytes (Err fault) own = own
 sized_own section bytes (Ok size) own =
     there_own (nat_lt (length bytes) size) (next_whole (drop size bytes) (step_of section (take size bytes))) (whole_own (drop size bytes) (step_of section (take size bytes)) (step_own section (take size bytes)))
@@ -109,9 +107,9 @@ unfolding next_of
 next_own section bytes = sized_own section bytes (size_of section bytes) (size_own section bytes)
 
 -- what was read
-abbrev IsOwnFault : Option PcapngFault → Type 0
+abbrev pub IsOwnFault : Option PcapFault → Type 0
 IsOwnFault None = Unit {0}
-IsOwnFault (Some fault) = of_device fault ≡ false
+IsOwnFault (Some fault) = is_own fault ≡ true
 
 from_own : (section : SectionValue) (bytes : List ℕ) (read : SectionValue → List ℕ → Reading) (next : Next) → IsOwnNext next
     → ((step : Step) (after : List ℕ) → next ≡ Whole step after → IsOwnFault (read step.section after).fault) → IsOwnFault (from_next section bytes read next).fault
@@ -124,12 +122,12 @@ within_own zero section bytes = tt
 within_own (suc n) section bytes =
     from_own section bytes (blocks_within n) (next_of section bytes) (next_own section bytes) (λ step after is. within_own n step.section after)
 
-blocks_own : (section : SectionValue) (bytes : List ℕ) → IsOwnFault (blocks section bytes).fault
+pub blocks_own : (section : SectionValue) (bytes : List ℕ) → IsOwnFault (blocks section bytes).fault
 unfolding blocks
 blocks_own section bytes = within_own (length bytes) section bytes
 
 -- a fault that stops the reading of blocks is none of a device
-pub stops_own_by : (fault : PcapngFault) (before now : List BlockValue) (section : SectionValue) (bytes : List ℕ)
-    → Stops (prepend before (blocks section bytes)) now fault → is_read_fault {T = ℕ} (Err fault) ≡ false
+pub stops_own_by : (fault : PcapFault) (before now : List FrameValue) (section : SectionValue) (bytes : List ℕ)
+    → Stops (prepend before (blocks section bytes)) now fault → is_own fault ≡ true
 stops_own_by fault before now section bytes (inl found) = subst IsOwnFault (sym (ap (λ (r : Reading). r.fault) found)) (blocks_own section bytes)
-stops_own_by fault before now section bytes (inr memory) = ap of_device memory.0
+stops_own_by fault before now section bytes (inr memory) = ap is_own memory.0

@@ -1,6 +1,5 @@
 -- What the blocks of pcapng are, and what their reading and marking comes to.
 pub mod Blocks
-pub mod Codes
 pub mod Grammar
 pub mod Marks
 pub mod Options

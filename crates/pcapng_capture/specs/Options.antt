@@ -2,7 +2,7 @@
 -- to a multiple of four bytes.
 use Rattle.std.specs.Prelude.{ℕ, zero, suc, ◌+◌, ◌*◌, ◌/◌, ◌^◌, ◌-◌, Bool, nat_eq, nat_lt, ◌&&◌, if◌then◌else◌}
 use Rattle.std.specs.Prelude.{List, [], ◌++◌, length, take, drop, slice_index, Option, None, Some}
-use Rattle.pcap_capture.specs.Grammar.{number}
+use Rattle.pcap_capture.specs.Grammar.{link_numbered, number}
 use Rattle.pcap_capture.specs.declared.heading.Endianness.{Endianness}
 use Rattle.pcapng_capture.specs.declared.interface.Interface.{Interface}
 use Rattle.pcapng_capture.specs.declared.interface.Offset.{Offset}
@@ -85,7 +85,7 @@ described_options own = drop 16 (take (length own - 4) own)
 -- what an interface description block says (section 4.2)
 unfoldable pub interface_in : Endianness → List ℕ → Interface
 interface_in order own = record {
-  link = number order 2 (drop 8 own);
+  link = link_numbered (number order 2 (drop 8 own));
   snap = number order 4 (drop 12 own);
   resolution = resolution_in (option_of order 9 1 (described_options own));
   offset = offset_in order (option_of order 14 8 (described_options own));

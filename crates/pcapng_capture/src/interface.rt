@@ -2,7 +2,7 @@ ghost use Rattle.std.specs.Prelude.{◌≡◌, ◌^◌, ◌<◌, ◌≤◌, leng
 ghost use Rattle.pcapng_capture.specs.Options.{interface_in, offset_in, offset_of, option_of, resolution_in};
 
 use crate::options::option;
-use pcap_capture::Endianness;
+use pcap_capture::{Endianness, LinkType};
 
 /// Whole seconds that are added to the stamps of an interface.
 #[derive(Clone, Copy, Debug, PartialEq, Eq)]
@@ -16,8 +16,8 @@ pub(crate) enum Offset {
 /// An interface of a section.
 #[derive(Clone, Copy, Debug, PartialEq, Eq)]
 pub(crate) struct Interface {
-    /// The number of its link type.
-    pub(crate) link: u16,
+    /// Its link type.
+    pub(crate) link: LinkType,
     /// The most bytes that it keeps of a packet; 0 where there is no such limit.
     pub(crate) snap: u32,
     /// The unit of its stamps: a power of 10 of them make a second, or, from 128 on, one of 2.
@@ -36,7 +36,7 @@ impl Interface {
         let (front, _) = own.split_at(own.len() - 4);
         let (_, options) = front.split_at(16);
         Interface {
-            link: order.read_u16(&own[8..]),
+            link: LinkType::of_number(order.read_u16(&own[8..])),
             snap: order.read_u32(&own[12..]),
             resolution: unit_of_stamps(order, options),
             offset: added_seconds(order, options),

@@ -1,15 +1,15 @@
 ghost use Rattle.std.specs.Prelude.{◌≡◌, ◌⊎◌, ◌<◌, ℕ, List, ◌++◌, [], length, None, Some, Ok, Err, IfErr, IfOk, OnOk};
 ghost use Rattle.std.specs.Prelude.{IsErr, MatchResult, ◌≤◌, true, false};
 ghost use Rattle.pcap_capture.specs.Counts.{IsOfReads};
-ghost use Rattle.pcapng_capture.specs.Blocks.{BlockValue};
+ghost use Rattle.pcap_capture.specs.Frames.{FrameValue};
 ghost use Rattle.pcapng_capture.specs.Grammar.{CaptureState, blocks, broken, capture, continued, ending, fault_in};
 ghost use Rattle.pcapng_capture.specs.Grammar.{no_section, prepend, reading};
-ghost use Rattle.pcapng_capture.specs.Readings.{IsSoFar, IsTaken, Stops, is_read_fault};
+ghost use Rattle.pcapng_capture.specs.Readings.{IsSoFar, IsTaken, Stops};
+ghost use Rattle.pcap_capture.specs.Takings.{is_read_fault};
 
-use crate::fault::PcapngFault;
-use crate::piece::Blocks;
+use crate::reads::read_on;
 use crate::section::Section;
-use pcap_capture::{Intake, Text};
+use pcap_capture::{Intake, PcapFault, Piece, Text};
 use std::alloc::Global;
 use std::marker::Model;
 
@@ -38,7 +38,7 @@ impl Capture {
     /// A capture of which no byte was read. It takes no memory yet.
     pub fn begin(alloc: Global) -> Self
         ensures value { result ≡ record { section = no_section; rest = []; is_broken = false } }
-        ensures so_far { (before : List BlockValue) → IsSoFar [] before result before }
+        ensures so_far { (before : List FrameValue) → IsSoFar [] before result before }
     {
         Capture {
             section: Section::none(alloc),
@@ -53,13 +53,13 @@ impl Capture {
     /// `BlockTooLong`, `BadLength` once 12 bytes of a block are there; `LengthsDiffer`, `BadVersion`, `BadLength`,
     /// `UnknownInterface` once it is there whole; `NoMemory`. The blocks before the fault were added. After any fault
     /// each later call answers `Failed`.
-    pub fn feed(&mut self, alloc: Global, piece: &[u8], out: &mut Blocks) -> Result<(), PcapngFault>
+    pub fn feed(&mut self, alloc: Global, piece: &[u8], out: &mut Piece) -> Result<(), PcapFault>
         ensures ok { OnOk result (record { blocks = out.new; fault = None; state = self.new }
             ≡ prepend out.old (reading self.old piece.now)) }
         ensures err { IfErr result
             (λ fault. (self.new ≡ broken) × Stops (prepend out.old (reading self.old piece.now)) out.new
             fault) }
-        ensures so_far { (bytes : List ℕ) (before : List BlockValue) → IsSoFar bytes before self.old out.old
+        ensures so_far { (bytes : List ℕ) (before : List FrameValue) → IsSoFar bytes before self.old out.old
             → MatchResult result
             (λ _. IsSoFar (bytes ++ piece.now) before self.new out.new)
             (λ fault. Stops (prepend before (capture (bytes ++ piece.now))) out.new fault) }
@@ -67,7 +67,7 @@ impl Capture {
         self.advance(alloc, piece, out)
     }
 
-    fn advance(&mut self, alloc: Global, piece: &[u8], out: &mut Blocks) -> Result<(), PcapngFault>
+    fn advance(&mut self, alloc: Global, piece: &[u8], out: &mut Piece) -> Result<(), PcapFault>
         ensures ok { OnOk result (record { blocks = out.new; fault = None; state = self.new }
             ≡ prepend out.old (reading self.old piece.now)) }
         ensures err { IfErr result
@@ -75,7 +75,7 @@ impl Capture {
             fault) }
     {
         if self.is_broken {
-            return Err(PcapngFault::Failed);
+            return Err(PcapFault::Failed);
         }
         let Capture {
             section,
@@ -83,9 +83,9 @@ impl Capture {
             ..
         } = std::mem::replace(self, Capture::broken(alloc));
         let Ok(()) = rest.append(piece) else {
-            return Err(PcapngFault::NoMemory);
+            return Err(PcapFault::NoMemory);
         };
-        self.go_on(section, rest, out)
+        self.go_on(alloc, section, rest, out)
     }
 
     /// Takes the next piece of a capture, of at most so many bytes, from a device, straight behind what is left over of
@@ -99,14 +99,14 @@ impl Capture {
         alloc: Global,
         intake: &mut I,
         most: usize,
-        out: &mut Blocks,
-    ) -> Result<usize, PcapngFault>
+        out: &mut Piece,
+    ) -> Result<usize, PcapFault>
         ensures told { I.tells intake.old → I.tells intake.new }
         ensures ok { IfOk result (λ taken.
             (it : IsTaken (I.tells intake.old) most (I.left intake.old) (I.left intake.new) self.old self.new
             out.old out.new None) × (length it.piece ≡ taken)) }
         ensures err { IfErr result (λ fault.
-            ((fault ≡ PcapngFault.ReadFault) × (self.new ≡ self.old) × (out.new ≡ out.old)
+            ((fault ≡ PcapFault.ReadFault) × (self.new ≡ self.old) × (out.new ≡ out.old)
             × (I.tells intake.old → I.left intake.new ≡ I.left intake.old))
             ⊎ IsTaken (I.tells intake.old) most (I.left intake.old) (I.left intake.new) self.old self.new
             out.old out.new (Some fault)) }
@@ -117,10 +117,10 @@ impl Capture {
             ⊎ (IsErr result × (out.new ≡ out.old)) }
         ensures no_more { I.calls intake.new ≤ I.calls intake.old }
         ensures broken { self.old.is_broken ≡ true
-            → (result ≡ Err PcapngFault.Failed) × (intake.new ≡ intake.old) }
+            → (result ≡ Err PcapFault.Failed) × (intake.new ≡ intake.old) }
     {
         if self.is_broken {
-            return Err(PcapngFault::Failed);
+            return Err(PcapFault::Failed);
         }
         let Capture {
             section,
@@ -128,7 +128,7 @@ impl Capture {
             ..
         } = std::mem::replace(self, Capture::broken(alloc));
         let Ok(answer) = rest.take_behind(intake, most) else {
-            return Err(PcapngFault::NoMemory);
+            return Err(PcapFault::NoMemory);
         };
         let Ok(taken) = answer else {
             *self = Capture {
@@ -136,25 +136,26 @@ impl Capture {
                 rest,
                 is_broken: false,
             };
-            return Err(PcapngFault::ReadFault);
+            return Err(PcapFault::ReadFault);
         };
-        self.go_on(section, rest, out)?;
+        self.go_on(alloc, section, rest, out)?;
         Ok(taken)
     }
 
     /// Goes on with the bytes of which no block was made, unless a fault is found there.
     fn go_on(
         &mut self,
+        alloc: Global,
         mut section: Section,
         mut rest: Text,
-        out: &mut Blocks,
-    ) -> Result<(), PcapngFault>
+        out: &mut Piece,
+    ) -> Result<(), PcapFault>
         ensures ok { OnOk result (record { blocks = out.new; fault = None; state = self.new }
             ≡ prepend out.old (blocks section rest)) }
         ensures err { IfErr result (λ fault. (self.new ≡ self.old)
             × Stops (prepend out.old (blocks section rest)) out.new fault) }
     {
-        out.read(&mut section, &mut rest)?;
+        read_on(alloc, &mut section, &mut rest, out)?;
         *self = Capture {
             section,
             rest,
@@ -177,11 +178,11 @@ impl Capture {
     /// Ends the capture. `Ok` changes nothing.
     ///
     /// Refused: `Truncated` in the middle of a block, and before the first; `Failed` after any fault.
-    pub fn finish(&mut self) -> Result<(), PcapngFault>
+    pub fn finish(&mut self) -> Result<(), PcapFault>
         ensures state { MatchResult result
             (λ _. (ending self.old ≡ None) × (self.new ≡ self.old))
             (λ fault. (ending self.old ≡ Some fault) × (self.new ≡ broken)) }
-        ensures so_far { (bytes : List ℕ) (before blocks : List BlockValue) → IsSoFar bytes before self.old blocks
+        ensures so_far { (bytes : List ℕ) (before blocks : List FrameValue) → IsSoFar bytes before self.old blocks
             → MatchResult result
             (λ _. fault_in bytes ≡ None)
             (λ fault. fault_in bytes ≡ Some fault) }
@@ -189,13 +190,20 @@ impl Capture {
         self.end()
     }
 
-    fn end(&mut self) -> Result<(), PcapngFault>
+    /// Whether a fault was answered.
+    pub fn is_broken(&self) -> bool
+        ensures { result ≡ self.now.is_broken }
+    {
+        self.is_broken
+    }
+
+    fn end(&mut self) -> Result<(), PcapFault>
         ensures { MatchResult result
             (λ _. (ending self.old ≡ None) × (self.new ≡ self.old))
             (λ fault. (ending self.old ≡ Some fault) × (self.new ≡ broken)) }
     {
         if self.is_broken {
-            return Err(PcapngFault::Failed);
+            return Err(PcapFault::Failed);
         }
         if self.section.is_begun() && self.rest.len() == 0 {
             return Ok(());
@@ -203,7 +211,7 @@ impl Capture {
         self.section.reset();
         self.rest.truncate(0);
         self.is_broken = true;
-        Err(PcapngFault::Truncated)
+        Err(PcapFault::Truncated)
     }
 }
 

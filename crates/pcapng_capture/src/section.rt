@@ -1,18 +1,19 @@
 ghost use Rattle.std.specs.Prelude.{◌≡◌, ◌⊎◌, ◌+◌, ◌*◌, ◌<◌, ◌≤◌, ◌^◌, [], drop, length, Ok, Err, None};
 ghost use Rattle.std.specs.Prelude.{IfErr, IfOk, IsOk, MatchOption, is_some, max, slice_get};
 ghost use Rattle.pcap_capture.specs.Grammar.{number};
-ghost use Rattle.pcapng_capture.specs.Blocks.{block_at, carried};
+ghost use Rattle.pcap_capture.specs.Frames.{frame_at};
+ghost use Rattle.pcapng_capture.specs.Blocks.{carried};
 ghost use Rattle.pcapng_capture.specs.Grammar.{begun, described, least_size, magic_order, no_section, order_of};
 ghost use Rattle.pcapng_capture.specs.Grammar.{size_by, size_of, step_by, step_of};
 ghost use Rattle.pcapng_capture.specs.Packets.{interface_number, kept, simple, stamp, stamped};
-ghost use Rattle.pcapng_capture.specs.Pieces.{IsFront, IsPlaced};
+ghost use Rattle.pcap_capture.specs.Pieces.{IsPlaced};
+ghost use Rattle.pcapng_capture.specs.Pieces.{IsFront};
 
-use crate::fault::PcapngFault;
 use crate::interface::Interface;
-use crate::place::{Content, Front, Place};
+use crate::place::Front;
 use byteorder::{BigEndian, ByteOrder, LittleEndian};
 use moment_core::Moment;
-use pcap_capture::Endianness;
+use pcap_capture::{Content, Endianness, PcapFault, Place};
 use std::alloc::Global;
 use std::marker::Model;
 
@@ -77,16 +78,39 @@ fn least_size(kind: u32) -> u32
 /// The size that a block tells which has at least so many bytes.
 ///
 /// Refused: `BlockTooLong` beyond 16 MiB, then `BadLength`.
-fn size_by(least: u32, size: u32) -> Result<usize, PcapngFault>
+fn size_by(least: u32, size: u32) -> Result<usize, PcapFault>
     ensures { result ≡ size_by least size }
 {
     if size > MOST {
-        return Err(PcapngFault::BlockTooLong(size));
+        return Err(PcapFault::BlockTooLong(size));
     }
     if size < least || size % 4 != 0 {
-        return Err(PcapngFault::BadLength(size));
+        return Err(PcapFault::BadLength(size));
     }
     Ok(size as usize)
+}
+
+/// The size that the first block of a capture tells: 12 where no more is known of it, since not so many bytes are there.
+///
+/// Refused: `BadMagic` where it is no section header, or one whose magic says no order, then `BlockTooLong` and
+/// `BadLength`.
+#[tactic(auto, unfolding(crate::specs::Grammar::size_of, crate::specs::Grammar::order_of))]
+pub fn first_size(bytes: &[u8]) -> Result<usize, PcapFault>
+    ensures { result ≡ size_of no_section bytes.now }
+{
+    if bytes.len() < 12 {
+        return Ok(12);
+    }
+    if BigEndian::read_u32(bytes) != SECTION_HEADER {
+        return Err(PcapFault::BadMagic);
+    }
+    match magic_order(&bytes[8..]) {
+        None => Err(PcapFault::BadMagic),
+        Some(order) => size_by(
+            least_size(order.read_u32(bytes)),
+            order.read_u32(&bytes[4..]),
+        ),
+    }
 }
 
 /// How many bytes of a packet a simple packet block has.
@@ -104,7 +128,7 @@ fn kept(snap: u32, original: u32, room: u32) -> u32
 fn carried(own: &[u8]) -> Place
     requires least { 12 ≤ length own.now }
     requires most { length own.now ≤ 16777216 }
-    ensures value { block_at own.now result ≡ carried own.now }
+    ensures value { frame_at own.now result ≡ carried own.now }
     ensures placed { IsPlaced result (length own.now) }
 {
     Place {
@@ -203,7 +227,7 @@ impl Section {
     ///
     /// Refused: `BlockTooLong`, then `BadLength`.
     #[tactic(auto, unfolding(crate::specs::Grammar::size_of))]
-    pub(crate) fn size_behind(&self, front: Front, bytes: &[u8]) -> Result<usize, PcapngFault>
+    pub(crate) fn size_behind(&self, front: Front, bytes: &[u8]) -> Result<usize, PcapFault>
         requires long { 12 ≤ length bytes.now }
         requires known { IsFront front self.now bytes.now }
         ensures { result ≡ size_of self.now bytes.now }
@@ -215,14 +239,14 @@ impl Section {
     ///
     /// Refused: `BadMagic` where the order of its numbers is not known, then `BlockTooLong` and `BadLength`.
     #[tactic(auto, unfolding(crate::specs::Grammar::size_of))]
-    pub(crate) fn size(&self, bytes: &[u8]) -> Result<usize, PcapngFault>
+    pub(crate) fn size(&self, bytes: &[u8]) -> Result<usize, PcapFault>
         ensures { result ≡ size_of self.now bytes.now }
     {
         if bytes.len() < 12 {
             return Ok(12);
         }
         match self.front(bytes) {
-            None => Err(PcapngFault::BadMagic),
+            None => Err(PcapFault::BadMagic),
             Some(front) => self.size_behind(front, bytes),
         }
     }
@@ -232,33 +256,33 @@ impl Section {
     /// Refused: `LengthsDiffer`; `BadVersion` of a section header; `BadLength`, then `UnknownInterface` of a packet;
     /// `NoMemory`, where an interface is kept.
     #[tactic(auto, unfolding(crate::specs::Grammar::step_of))]
-    pub(crate) fn read_block(&mut self, front: Front, own: &[u8]) -> Result<Place, PcapngFault>
+    pub(crate) fn read_block(&mut self, front: Front, own: &[u8]) -> Result<Place, PcapFault>
         requires least { 12 ≤ length own.now }
         requires sized { size_of self.old own.now ≡ Ok (length own.now) }
         requires known { IsFront front self.old own.now }
         ensures ok { IfOk result (λ place. step_of self.old own.now
-            ≡ Ok (record { section = self.new; block = block_at own.now place })) }
+            ≡ Ok (record { section = self.new; block = frame_at own.now place })) }
         ensures placed { IfOk result (λ place. IsPlaced place (length own.now)) }
         ensures err { IfErr result (λ fault. (step_of self.old own.now ≡ Err fault)
-            ⊎ ((fault ≡ PcapngFault.NoMemory) × IsOk (step_of self.old own.now))) }
+            ⊎ ((fault ≡ PcapFault.NoMemory) × IsOk (step_of self.old own.now))) }
     {
         if front.order.read_u32(&own[own.len() - 4..]) as usize != own.len() {
-            return Err(PcapngFault::LengthsDiffer);
+            return Err(PcapFault::LengthsDiffer);
         }
         self.step(front, own)
     }
 
     /// Reads a block of these bytes by its type, in a section of this order.
     #[tactic(auto, unfolding(crate::specs::Grammar::least_size))]
-    fn step(&mut self, front: Front, own: &[u8]) -> Result<Place, PcapngFault>
+    fn step(&mut self, front: Front, own: &[u8]) -> Result<Place, PcapFault>
         requires least { least_size front.kind ≤ length own.now }
         requires most { length own.now ≤ 16777216 }
         ensures ok { IfOk result (λ place. step_by self.old front.order own.now front.kind
-            ≡ Ok (record { section = self.new; block = block_at own.now place })) }
+            ≡ Ok (record { section = self.new; block = frame_at own.now place })) }
         ensures placed { IfOk result (λ place. IsPlaced place (length own.now)) }
         ensures err { IfErr result (λ fault.
             (step_by self.old front.order own.now front.kind ≡ Err fault)
-            ⊎ ((fault ≡ PcapngFault.NoMemory) × IsOk (step_by self.old front.order own.now front.kind))) }
+            ⊎ ((fault ≡ PcapFault.NoMemory) × IsOk (step_by self.old front.order own.now front.kind))) }
     {
         let Front { order, kind } = front;
         match kind {
@@ -271,16 +295,16 @@ impl Section {
     }
 
     /// Begins a section.
-    fn begin(&mut self, order: Endianness, own: &[u8]) -> Result<Place, PcapngFault>
+    fn begin(&mut self, order: Endianness, own: &[u8]) -> Result<Place, PcapFault>
         requires least { 28 ≤ length own.now }
         requires most { length own.now ≤ 16777216 }
         ensures ok { IfOk result (λ place. begun self.old order own.now
-            ≡ Ok (record { section = self.new; block = block_at own.now place })) }
+            ≡ Ok (record { section = self.new; block = frame_at own.now place })) }
         ensures placed { IfOk result (λ place. IsPlaced place (length own.now)) }
         ensures err { IfErr result (λ fault. begun self.old order own.now ≡ Err fault) }
     {
         if order.read_u16(&own[12..]) != 1 {
-            return Err(PcapngFault::BadVersion);
+            return Err(PcapFault::BadVersion);
         }
         self.order = Some(order);
         self.interfaces.clear();
@@ -288,16 +312,16 @@ impl Section {
     }
 
     /// Adds an interface.
-    fn describe(&mut self, order: Endianness, own: &[u8]) -> Result<Place, PcapngFault>
+    fn describe(&mut self, order: Endianness, own: &[u8]) -> Result<Place, PcapFault>
         requires least { 20 ≤ length own.now }
         requires most { length own.now ≤ 16777216 }
         ensures ok { IfOk result (λ place. described self.old order own.now
-            ≡ record { section = self.new; block = block_at own.now place }) }
+            ≡ record { section = self.new; block = frame_at own.now place }) }
         ensures placed { IfOk result (λ place. IsPlaced place (length own.now)) }
-        ensures err { IfErr result (λ fault. fault ≡ PcapngFault.NoMemory) }
+        ensures err { IfErr result (λ fault. fault ≡ PcapFault.NoMemory) }
     {
         let Ok(()) = self.interfaces.push(Interface::of(order, own)) else {
-            return Err(PcapngFault::NoMemory);
+            return Err(PcapFault::NoMemory);
         };
         Ok(carried(own))
     }
@@ -310,20 +334,20 @@ impl Section {
     }
 
     /// Reads a packet with a stamp, of the interface of this number.
-    fn packet(&mut self, order: Endianness, own: &[u8], number: u32) -> Result<Place, PcapngFault>
+    fn packet(&mut self, order: Endianness, own: &[u8], number: u32) -> Result<Place, PcapFault>
         requires least { 32 ≤ length own.now }
         requires most { length own.now ≤ 16777216 }
         ensures ok { IfOk result (λ place. stamped self.old order own.now number
-            ≡ Ok (record { section = self.new; block = block_at own.now place })) }
+            ≡ Ok (record { section = self.new; block = frame_at own.now place })) }
         ensures placed { IfOk result (λ place. IsPlaced place (length own.now)) }
         ensures err { IfErr result (λ fault. stamped self.old order own.now number ≡ Err fault) }
     {
         let size = order.read_u32(&own[20..]);
         if own.len() - 32 < size as usize {
-            return Err(PcapngFault::BadLength(own.len() as u32));
+            return Err(PcapFault::BadLength(own.len() as u32));
         }
         let Some(interface) = self.interface(number) else {
-            return Err(PcapngFault::UnknownInterface(number));
+            return Err(PcapFault::UnknownInterface(number));
         };
         let moment = interface.moment(stamp(order, own));
         self.newest = later(self.newest, moment);
@@ -331,24 +355,21 @@ impl Section {
             moment,
             front: 28,
             size,
-            content: Content::Packet {
-                link: interface.link,
-                order,
-            },
+            content: Content::Block(interface.link, order),
         })
     }
 
     /// Reads a packet without a stamp, of the first interface.
-    fn simple_packet(&self, order: Endianness, own: &[u8]) -> Result<Place, PcapngFault>
+    fn simple_packet(&self, order: Endianness, own: &[u8]) -> Result<Place, PcapFault>
         requires least { 16 ≤ length own.now }
         requires most { length own.now ≤ 16777216 }
         ensures ok { IfOk result (λ place. simple self.now order own.now
-            ≡ Ok (record { section = self.now; block = block_at own.now place })) }
+            ≡ Ok (record { section = self.now; block = frame_at own.now place })) }
         ensures placed { IfOk result (λ place. IsPlaced place (length own.now)) }
         ensures err { IfErr result (λ fault. simple self.now order own.now ≡ Err fault) }
     {
         let Some(interface) = self.interface(0) else {
-            return Err(PcapngFault::UnknownInterface(0));
+            return Err(PcapFault::UnknownInterface(0));
         };
         let size = kept(
             interface.snap,
@@ -359,10 +380,7 @@ impl Section {
             moment: self.newest,
             front: 12,
             size,
-            content: Content::Packet {
-                link: interface.link,
-                order,
-            },
+            content: Content::Block(interface.link, order),
         })
     }
 }

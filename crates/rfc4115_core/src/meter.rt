@@ -53,6 +53,13 @@ impl Kind for SeparateRates {
         }
     }
 
+    fn levels(&self) -> Levels {
+        Levels {
+            committed: self.committed.bucket.level,
+            excess: self.excess.bucket.level,
+        }
+    }
+
     fn fill_over(&mut self, gap: Gap) {
         self.committed.fill_over(gap);
         self.excess.fill_over(gap);

@@ -53,6 +53,13 @@ impl Kind for SingleRate {
         }
     }
 
+    fn levels(&self) -> Levels {
+        Levels {
+            committed: self.committed.bucket.level,
+            excess: self.excess.level,
+        }
+    }
+
     fn fill_over(&mut self, gap: Gap) {
         let surplus = self.committed.fill_over(gap);
         self.excess.refill(surplus);

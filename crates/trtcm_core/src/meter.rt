@@ -61,6 +61,13 @@ impl Kind for TwoRate {
         }
     }
 
+    fn levels(&self) -> Levels {
+        Levels {
+            committed: self.committed.bucket.level,
+            peak: self.peak.bucket.level,
+        }
+    }
+
     fn fill_over(&mut self, gap: Gap) {
         self.committed.fill_over(gap);
         self.peak.fill_over(gap);

@@ -104,7 +104,7 @@ fn filled<J: Naming, R: Wait + Abort + Copy + Drop>(
     log: Opened,
     domain: Domain,
     limits: Limits,
-    contracts: &[Contract],
+    contracts: Vec<Contract>,
 )
     requires log { log ≡ J.log }
     requires opening { J.opening ≡ record { domain = domain; limits = limits; history = [] } }
@@ -136,13 +136,5 @@ fn drive_looks_behind_each_command_of_a_full_history(rt: HostRuntime) {
         limits,
         contracts,
     } = many(&rt, alloc);
-    filled::<Brand, _>(
-        rt,
-        alloc,
-        Opened::new(),
-        domain,
-        limits,
-        contracts.as_slice(),
-    );
-    drop(contracts);
+    filled::<Brand, _>(rt, alloc, Opened::new(), domain, limits, contracts);
 }

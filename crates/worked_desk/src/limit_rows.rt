@@ -89,7 +89,7 @@ fn driven<J: Naming, R: Wait + Abort + Copy + Drop>(
     log: Opened,
     domain: Domain,
     limits: Limits,
-    contracts: &[Contract],
+    contracts: Vec<Contract>,
     lines: &[&str],
 ) -> Vec<u8>
     requires log { log ≡ J.log }
@@ -142,17 +142,8 @@ fn drive_tells_what_is_full(rt: HostRuntime) {
             limits,
             contracts,
         } = wide(&rt, alloc, *most);
-        let out = driven::<Brand, _>(
-            rt,
-            alloc,
-            Opened::new(),
-            domain,
-            limits,
-            contracts.as_slice(),
-            lines,
-        );
+        let out = driven::<Brand, _>(rt, alloc, Opened::new(), domain, limits, contracts, lines);
         assert_eq!(rt; out.as_slice(), wanted.as_bytes());
         drop(out);
-        drop(contracts);
     }
 }

@@ -159,6 +159,8 @@ fn open<S: Shelf>(rt: &impl Abort, alloc: Global, shelf: &S) -> (S::Kept, Vec<Co
 fn expect_busy<S: Shelf>(rt: &impl Abort, alloc: Global, shelf: &S) {
     let busy = shelf.open(alloc, KEPT);
     assert!(rt; matches!(busy, Err(LedgerFault::Busy)));
+    let busy = shelf.commands(alloc, KEPT);
+    assert!(rt; matches!(busy, Err(LedgerFault::Busy)));
 }
 
 /// Keeps all commands of a book in a new file, the first alone, and then the others.
@@ -187,6 +189,9 @@ fn what_a_file_keeps_is_read_again(rt: HostRuntime) {
     let book = sold(&rt, alloc);
     let shelf = FileShelf::new(&rt);
     keep(&rt, alloc, &shelf, &book);
+    let told = shelf.commands(alloc, KEPT).expect(&rt, "commands");
+    expect_same(&rt, alloc, told.as_slice(), &book);
+    drop(told);
     let (ledger, kept) = open(&rt, alloc, &shelf);
     expect_same(&rt, alloc, kept.as_slice(), &book);
     let mut again = opened(&rt, alloc);
@@ -207,4 +212,15 @@ fn a_file_that_cannot_be_opened_is_told(rt: HostRuntime) {
         let none = shelf.open(rt.alloc(), path);
         assert!(rt; matches!(none, Err(LedgerFault::Open)));
     }
+}
+
+#[test]
+fn a_file_that_is_not_there_is_not_made(rt: HostRuntime) {
+    let shelf = FileShelf::new(&rt);
+    for _ in 0..2 {
+        let none = shelf.commands(rt.alloc(), "worked_ledger_absent.db");
+        assert!(rt; matches!(none, Err(LedgerFault::Open)));
+    }
+    let gone = rt.remove_file("worked_ledger_absent.db");
+    assert!(rt; gone.is_err());
 }

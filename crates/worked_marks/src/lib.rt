@@ -3,6 +3,8 @@
 #![tactic(auto)]
 
 #[cfg(test)]
+mod block_rows;
+#[cfg(test)]
 mod captures;
 #[cfg(test)]
 mod fault_rows;

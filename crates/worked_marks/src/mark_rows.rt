@@ -28,7 +28,7 @@ pub fn narrow(rt: &impl Abort, alloc: Global) -> Accepted {
 
 /// A report of a capture with a fault, of so many records, of which so many are skipped, with the packets of each
 /// colour, of 115 bytes each.
-fn report(records: u64, skipped: u64, dropped: u64, packets: [u64; 3]) -> Report {
+pub fn report(records: u64, skipped: u64, dropped: u64, packets: [u64; 3]) -> Report {
     let [green, yellow, red] = packets;
     Report {
         records,
@@ -48,7 +48,7 @@ fn report(records: u64, skipped: u64, dropped: u64, packets: [u64; 3]) -> Report
 }
 
 /// The report of a capture that was marked to its end, and whose packets kept what its table rests on.
-fn kept(report: Report) -> Report {
+pub fn kept(report: Report) -> Report {
     Report {
         verdict: Some(Verdict::Kept),
         ..report
@@ -75,11 +75,11 @@ fn expect(
 
 /// A capture, and what is expected of it: the marked one, its report, and a fault.
 #[derive(Drop)]
-struct Row<'a> {
-    given: &'a [&'a str],
-    written: &'a [&'a str],
-    report: Report,
-    fault: Option<MarkFault>,
+pub struct Row<'a> {
+    pub given: &'a [&'a str],
+    pub written: &'a [&'a str],
+    pub report: Report,
+    pub fault: Option<MarkFault>,
 }
 
 /// Expects what a row says of a capture at port `p`, by hands and at most so many bytes a call.
@@ -126,7 +126,7 @@ fn expect_wide(rt: &(impl Abort + Threads + Wait + Sync), alloc: Global, row: &R
 }
 
 /// Expects the same of the narrow one.
-fn expect_narrow(
+pub fn expect_narrow(
     rt: &(impl Abort + Threads + Wait + Sync),
     alloc: Global,
     red: RedRule,

@@ -1,6 +1,7 @@
 //! What frames are at a port, seen by several threads at once.
 use crate::captures::{HEADING, OTHER, TAGGED, capture};
 use crate::mark_rows::narrow;
+use capture_reader::Opening;
 use ds_checker::Accepted;
 use ds_conditioner::Port;
 use ds_conductor::{RedRule, see_all};
@@ -63,7 +64,8 @@ fn expect_seen(rt: &impl Abort, seen: &[Seen]) {
 fn expect_all_seen(rt: &(impl Abort + Threads + Sync), alloc: Global, accepted: &Accepted) {
     let (piece, heading) = read(rt, alloc);
     let name = Name::new("p").expect(rt, "a name");
-    let port = Port::new(alloc, accepted, name, heading, RedRule::Keep).expect(rt, "memory");
+    let opening = Opening::Classic(heading);
+    let port = Port::new(alloc, accepted, name, opening, RedRule::Keep).expect(rt, "memory");
     let mut frames: Vec<Frame<'_>> = Vec::new(alloc);
     for place in 0..piece.len() {
         frames.push(piece.frame(place)).expect(rt, "memory");

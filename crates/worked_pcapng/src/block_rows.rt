@@ -1,46 +1,46 @@
 use crate::captures::TWO_SECTIONS;
 use crate::reads::{Reading, read};
-use pcap_capture::{Endianness, SliceIntake};
-use pcapng_capture::{Block, Blocks, Capture, Content, PcapngFault};
+use pcap_capture::{Content, Endianness, Frame, LinkType, PcapFault, Piece, SliceIntake};
+use pcapng_capture::Capture;
 use std::alloc::Global;
 use std::process::Abort;
 
 /// A block: how many bytes it has, of them before its packet's, and of its packet; its moment, and the link type of a
 /// packet.
-type Row = (usize, usize, usize, u64, Option<u16>);
+type Row = (usize, usize, usize, u64, Option<LinkType>);
 
 /// The blocks of that capture. The second section begins at the ninth.
 static ROWS: [Row; 14] = [
     (28, 28, 0, 0, None),
     (52, 52, 0, 0, None),
     (28, 28, 0, 0, None),
-    (72, 28, 5, 3_500_000_001, Some(1)),
+    (72, 28, 5, 3_500_000_001, Some(LinkType::Ethernet)),
     (20, 20, 0, 0, None),
-    (28, 12, 9, 3_500_000_001, Some(1)),
-    (52, 28, 6, 4_500_000_000, Some(101)),
+    (28, 12, 9, 3_500_000_001, Some(LinkType::Ethernet)),
+    (52, 28, 6, 4_500_000_000, Some(LinkType::RawIp)),
     (24, 24, 0, 0, None),
     (40, 40, 0, 0, None),
     (32, 32, 0, 0, None),
-    (20, 12, 4, 4_500_000_000, Some(228)),
-    (44, 28, 4, 5_000_000_000, Some(228)),
-    (32, 28, 0, 0, Some(228)),
-    (20, 12, 2, 5_000_000_000, Some(228)),
+    (20, 12, 4, 4_500_000_000, Some(LinkType::Ipv4)),
+    (44, 28, 4, 5_000_000_000, Some(LinkType::Ipv4)),
+    (32, 28, 0, 0, Some(LinkType::Ipv4)),
+    (20, 12, 2, 5_000_000_000, Some(LinkType::Ipv4)),
 ];
 
 /// What a block holds, by its link type and the order of its section.
-fn content(link: Option<u16>, order: Endianness) -> Content {
+fn content(link: Option<LinkType>, order: Endianness) -> Content {
     match link {
         None => Content::Other,
-        Some(link) => Content::Packet { link, order },
+        Some(link) => Content::Block(link, order),
     }
 }
 
 /// Expects of a block its bytes, and what a row says.
-fn expect_block(rt: &impl Abort, block: &Block, bytes: &[u8], row: &Row, order: Endianness) {
+fn expect_block(rt: &impl Abort, block: &Frame<'_>, bytes: &[u8], row: &Row, order: Endianness) {
     let (_, front, size, moment, link) = *row;
     let (head, behind) = bytes.split_at(front.min(bytes.len()));
     let (packet, tail) = behind.split_at(size.min(behind.len()));
-    assert!(rt; block.text() == bytes);
+    assert!(rt; block.record() == bytes);
     assert!(rt; block.head() == head);
     assert!(rt; block.bytes() == packet);
     assert!(rt; block.tail() == tail);
@@ -62,7 +62,7 @@ fn expect_rows(rt: &impl Abort, reading: &Reading) {
             Endianness::Big
         };
         let (own, behind) = left.split_at(row.0.min(left.len()));
-        expect_block(rt, &reading.blocks.block(place), own, row, order);
+        expect_block(rt, &reading.blocks.frame(place), own, row, order);
         left = behind;
     }
     assert!(rt; left.is_empty());
@@ -87,20 +87,20 @@ fn take_all(
     alloc: Global,
     capture: &mut Capture,
     (mut intake, most): (SliceIntake, usize),
-    blocks: &mut Blocks,
-) -> Result<(), PcapngFault> {
+    blocks: &mut Piece,
+) -> Result<(), PcapFault> {
     for _turn in 0..493 {
         if capture.take_from(alloc, &mut intake, most, blocks)? == 0 {
             return capture.finish();
         }
     }
-    Err(PcapngFault::ReadFault)
+    Err(PcapFault::ReadFault)
 }
 
 /// Expects the same of pieces of so many bytes that a device gives.
 fn expect_taken(rt: &impl Abort, alloc: Global, most: usize) {
     let mut capture = Capture::begin(alloc);
-    let mut blocks = Blocks::new(alloc);
+    let mut blocks = Piece::new(alloc);
     let device = (SliceIntake::new(&TWO_SECTIONS), most);
     let fault = take_all(alloc, &mut capture, device, &mut blocks).err();
     let reading = Reading { blocks, fault };
@@ -120,20 +120,20 @@ fn take_after_fault(
     rt: &impl Abort,
     alloc: Global,
     capture: &mut Capture,
-    blocks: &mut Blocks,
-) -> Result<(), PcapngFault> {
+    blocks: &mut Piece,
+) -> Result<(), PcapFault> {
     let mut intake = SliceIntake::new(&TWO_SECTIONS);
     intake.fails_at = Some(2);
     assert!(rt; capture.take_from(alloc, &mut intake, 200, blocks) == Ok(200));
     let failed = capture.take_from(alloc, &mut intake, 200, blocks);
-    assert!(rt; failed == Err(PcapngFault::ReadFault));
+    assert!(rt; failed == Err(PcapFault::ReadFault));
     take_all(alloc, capture, (intake, 200), blocks)
 }
 
 #[test]
 fn a_device_that_fails_once_is_asked_again(rt: HostRuntime) {
     let mut capture = Capture::begin(rt.alloc());
-    let mut blocks = Blocks::new(rt.alloc());
+    let mut blocks = Piece::new(rt.alloc());
     let fault = take_after_fault(&rt, rt.alloc(), &mut capture, &mut blocks).err();
     let reading = Reading { blocks, fault };
     expect_rows(&rt, &reading);

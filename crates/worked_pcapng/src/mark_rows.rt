@@ -1,13 +1,14 @@
 use crate::captures::{TWO_SECTIONS, TWO_SECTIONS_MARKED};
 use crate::reads::read;
-use pcapng_capture::Blocks;
+use pcap_capture::Piece;
+use pcapng_capture::copy_to;
 use std::alloc::{AllocError, Global};
 
 /// Each block as it is written where its packet is marked, behind a byte.
-fn copied(alloc: Global, blocks: &Blocks) -> Result<Vec<u8>, AllocError> {
+fn copied(alloc: Global, blocks: &Piece) -> Result<Vec<u8>, AllocError> {
     let mut out = vec![in alloc; 7u8]?;
     for place in 0..blocks.len() {
-        blocks.block(place).copy_to(&mut out)?;
+        copy_to(&blocks.frame(place), &mut out)?;
     }
     Ok(out)
 }

@@ -37,7 +37,7 @@ fn expect_moment(rt: &impl Abort, alloc: Global, row: &Row) {
     let reading = read(alloc, (&bytes, &[]));
     assert!(rt; reading.fault.is_none());
     assert!(rt; reading.blocks.len() == 3);
-    assert_eq!(rt; reading.blocks.block(2).moment().get(), moment);
+    assert_eq!(rt; reading.blocks.frame(2).moment().get(), moment);
     drop(reading);
 }
 

@@ -15,6 +15,8 @@ mod excess_rows;
 #[cfg(test)]
 mod mark_rows;
 #[cfg(test)]
+mod offer_rows;
+#[cfg(test)]
 mod quote_rows;
 #[cfg(test)]
 mod rows;

@@ -87,7 +87,10 @@ fn a_tagged_frame_is_marked(rt: HostRuntime) -> Result<(), Fail> {
         &[&HEADING, &TAGGED, &OTHER],
         &[&HEADING, &marked, &OTHER],
     );
-    expect_of_mark(&rt, rt.alloc(), words, captures, (told, 0))
+    expect_of_mark(&rt, rt.alloc(), words, captures, (told, 0))?;
+    let judged = format!(in rt.alloc(); "{told}kept\n")?;
+    let words = (TWO_RATES, "--port p --verdict --workers 1 --red keep");
+    expect_of_mark(&rt, rt.alloc(), words, captures, (judged.as_str(), 0))
 }
 
 #[test]

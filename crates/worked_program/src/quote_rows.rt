@@ -37,6 +37,14 @@ fn what_a_contract_may_have_at_most(rt: HostRuntime) -> Result<(), Fail> {
             ("", "dsedge: usage\n", 2),
         ),
         ("quote domain.toml --contract b", ("", "dsedge: usage\n", 2)),
+        (
+            "quote domain.toml --contract b --count",
+            ("count 2\n", "", 0),
+        ),
+        (
+            "quote domain.toml --contract b --count --most cbs",
+            ("", "dsedge: usage\n", 2),
+        ),
     ] {
         expect_on_domain(&rt, rt.alloc(), (words, domain.as_str()), wanted)?;
     }
@@ -47,14 +55,18 @@ fn what_a_contract_may_have_at_most(rt: HostRuntime) -> Result<(), Fail> {
 }
 
 /// Quotes of a broker, before and behind a sale: beside what is held, but the contract of the same name.
-const QUOTED: [(&str, &str); 10] = [
+const QUOTED: [(&str, &str); 14] = [
     (
         "headroom",
         "m GreenRate 0 16000000\nm GreenBurst 0 4500\nm AllRate 0 24000000\nm AllBurst 0 13500",
     ),
     ("quote b cbs", "cbs 3000"),
+    ("quote b count", "count 1"),
     ("reserve a", "granted 1 1 0"),
     ("quote b cbs", "none\nrefused 5 GreenBurst m 6000 4500"),
+    ("quote b count", "count 0"),
+    ("quote a count", "count 1"),
+    ("quote zz count", "refused 1 UnknownName"),
     ("quote a cbs", "cbs 3000"),
     ("quote a cir", "cir 8000000"),
     ("quote zz cbs", "refused 1 UnknownName"),

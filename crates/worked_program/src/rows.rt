@@ -113,6 +113,13 @@ fn colours_and_accounts(rt: HostRuntime) -> Result<(), Fail> {
             "0 500 y\n0 100 r\n0 1000 g\n0 500 g\n0 1 g\n1000000 2 g\n0 1 g\n",
             "yellow\nred\ngreen\nyellow\nred\nyellow\nred\ngreen 1 1000\nyellow 3 1002\nred 3 102\n",
         ),
+        // Half of a token that has flowed in is not told.
+        (
+            "meter --kind rfc4115 --mode aware --cir 8 --cbs 1500 --eir 16 --ebs 3000 --levels",
+            "0 1500 g\n0 1000 g\n500000000 1 r\n500000000 2 y\n",
+            "green 0 3000\nyellow 0 2000\nred 0 2001\nyellow 0 1999\n\
+            green 1 1500\nyellow 2 1002\nred 1 1\n",
+        ),
     ] {
         expect(&rt, rt.alloc(), (words, input), (output, "", 0))?;
     }

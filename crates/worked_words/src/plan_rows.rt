@@ -1,4 +1,4 @@
-use ds_quotes::Field;
+use ds_quotes::{Asked, Field};
 use dsedge_base::{Plan, UsageFault, plan};
 use dsedge_lines::GivenName;
 use meter_book_base::{AnyMeter, Parameters};
@@ -55,8 +55,11 @@ fn expect_meter(
     (parameters, mode, origin): (Parameters, Mode, u64),
 ) -> Result<(), Fail> {
     let meter = AnyMeter::new(parameters, mode, Moment::new(origin)?)?;
-    let wanted = format!(in alloc; "Meter({meter:?})")?;
-    expect_shown(rt, alloc, line, wanted.as_str())
+    let wanted = format!(in alloc; "Meter {{ meter: {meter:?}, has_levels: false }}")?;
+    expect_shown(rt, alloc, line, wanted.as_str())?;
+    let wanted = format!(in alloc; "Meter {{ meter: {meter:?}, has_levels: true }}")?;
+    let line = format!(in alloc; "{line} --levels")?;
+    expect_shown(rt, alloc, line.as_str(), wanted.as_str())
 }
 
 /// The parameters of a meter of two rates.
@@ -167,20 +170,21 @@ fn headrooms_and_quotes(rt: HostRuntime) -> Result<(), Fail> {
     let domain = GivenName::new("domain.toml");
     let plan = Plan::Headroom { domain };
     expect_plan(&rt, rt.alloc(), "headroom domain.toml", &plan)?;
-    for (line, field) in [
+    for (line, asked) in [
         (
             "quote domain.toml --contract b --most cbs",
-            Field::CommittedBurst,
+            Asked::Most(Field::CommittedBurst),
         ),
         (
             "quote --most=eir --contract b domain.toml",
-            Field::ExcessRate,
+            Asked::Most(Field::ExcessRate),
         ),
+        ("quote --count domain.toml --contract b", Asked::Count),
     ] {
         let plan = Plan::Quote {
             domain: GivenName::new("domain.toml"),
             contract: GivenName::new("b"),
-            field,
+            asked,
         };
         expect_plan(&rt, rt.alloc(), line, &plan)?;
     }
@@ -204,42 +208,48 @@ fn audit_of_two() -> Plan<'static> {
 }
 
 /// The plan of a mark over the same files by so many workers, or by as many as the machine gains from.
-fn mark_over_two(workers: Option<u32>, keeps_red: bool) -> Plan<'static> {
+fn mark_over_two(workers: Option<u32>, keeps_red: bool, has_verdict: bool) -> Plan<'static> {
     Plan::Mark {
         domain: GivenName::new("domain.toml"),
         certificate: GivenName::new("domain.cert"),
         port: GivenName::new("p"),
         workers,
         keeps_red,
+        has_verdict,
     }
 }
 
 #[test]
 fn a_mark_names_two_files_a_port_and_a_rule(rt: HostRuntime) -> Result<(), Fail> {
     let alloc = rt.alloc();
-    for (line, workers, keeps_red) in [
+    for (line, workers, keeps_red, has_verdict) in [
         (
             "mark domain.toml domain.cert --port p --workers 1 --red keep",
             Some(1),
             true,
+            false,
         ),
         (
-            "mark domain.toml domain.cert --port p --workers 64 --red keep",
+            "mark domain.toml domain.cert --port p --workers 64 --red keep --verdict",
             Some(64),
+            true,
             true,
         ),
         (
-            "mark --red drop --workers 02 --port p domain.toml domain.cert",
+            "mark --verdict --red drop --workers 02 --port p domain.toml domain.cert",
             Some(2),
             false,
+            true,
         ),
         (
             "mark domain.toml domain.cert --port p --red keep",
             None,
             true,
+            false,
         ),
     ] {
-        expect_plan(&rt, alloc, line, &mark_over_two(workers, keeps_red))?;
+        let wanted = mark_over_two(workers, keeps_red, has_verdict);
+        expect_plan(&rt, alloc, line, &wanted)?;
     }
     Ok(())
 }

@@ -1,5 +1,5 @@
 use crate::rows::tables::text_of;
-use ds_quotes::Field;
+use ds_quotes::{Asked, Field};
 use dsedge_texts::{QuoteFault, Quoted, TableFault, headroom, quote};
 use std::alloc::Global;
 use std::process::Abort;
@@ -157,7 +157,8 @@ fn told(answer: &Result<Quoted, QuoteFault>) -> &[u8] {
 /// Expects of a row what is told of its contract's field.
 fn expect_told(rt: &impl Abort, alloc: Global, (parts, name, field, wanted): &Quotation) {
     let text = text_of(rt, alloc, parts);
-    let answer = quote(alloc, text.as_str().as_bytes(), name.as_bytes(), *field);
+    let asked = Asked::Most(*field);
+    let answer = quote(alloc, text.as_str().as_bytes(), name.as_bytes(), asked);
     assert_eq!(rt; (wanted, told(&answer)), (wanted, wanted.as_bytes()));
 }
 
@@ -180,5 +181,46 @@ static QUOTES_THAT_ARE_NONE: [Quotation; 5] = [
 fn quotes_that_are_none(rt: HostRuntime) {
     for row in &QUOTES_THAT_ARE_NONE {
         expect_told(&rt, rt.alloc(), row);
+    }
+}
+
+/// The parts of a domain, the name of a contract, and how many like it fit beside the others.
+type Counted = (&'static [&'static str], &'static str, &'static str);
+
+static HOW_MANY_FIT: [Counted; 9] = [
+    (THREE, "b", "count 1\n"),
+    // Three take all that the meter has.
+    (&[METER, PORT, LINK, TRUSTED, A, SHARE], "a", "count 3\n"),
+    (TIGHT_ONE, "a", "count 1\n"),
+    (TIGHT_TWO, "b", "count 0\n"),
+    (TIGHT_THREE, "b", "none\nrefused 5 GreenBurst m 9000 4500\n"),
+    (POLICED_ALONE, "u", "count 1\n"),
+    // Bursts of 1,001 bytes over a bucket of 2,000.
+    (&[SINGLE_RATE, TRUSTED, A, PLAIN], "a", "count 1\n"),
+    (&[SINGLE_RATE, TRUSTED, B, PEAKED], "b", "count 3\n"),
+    // Once a contract that may send yellow packets is there, all are held against the excess bucket.
+    (
+        &[SINGLE_RATE, TRUSTED, A, PLAIN, TRUSTED, B, PEAKED],
+        "b",
+        "count 0\n",
+    ),
+];
+
+/// Expects of a row how many fit.
+fn expect_count(rt: &impl Abort, alloc: Global, (parts, name, wanted): &Counted) {
+    let text = text_of(rt, alloc, parts);
+    let answer = quote(
+        alloc,
+        text.as_str().as_bytes(),
+        name.as_bytes(),
+        Asked::Count,
+    );
+    assert_eq!(rt; (wanted, told(&answer)), (wanted, wanted.as_bytes()));
+}
+
+#[test]
+fn how_many_fit(rt: HostRuntime) {
+    for row in &HOW_MANY_FIT {
+        expect_count(&rt, rt.alloc(), row);
     }
 }

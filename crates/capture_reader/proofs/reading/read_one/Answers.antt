@@ -10,5 +10,5 @@ pub returns-then-taken-eq0 : goal.returns-then-taken-eq0
 returns-then-taken-eq0 g c =
     rw c.ended.ensures.read (rw c.ended.ensures.full
     (piece_ended _ _ _ _ _ _ _ c.take_piece.new.progress c.finish.new.progress c.finish.result _ c.in-Ok.ensures.piece (λ tells. c.in-Ok.ensures.end tells (ap Ok c.if-taken-eq0.true))
-    c.finish.ensures.read c.finish.ensures.missing c.finish.ensures.heading c.finish.ensures.full c.finish.ensures.few c.finish.ensures.fault
+    c.finish.ensures.read c.finish.ensures.missing c.finish.ensures.opening c.finish.ensures.full c.finish.ensures.fault
     (unfilled c.in-Ok.taken _ c.in-Ok.ensures.full (omega (arith, c.if-taken-eq0.true)))))

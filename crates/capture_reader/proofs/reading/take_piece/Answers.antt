@@ -1,13 +1,12 @@
-use Rattle.std.proofs.Common.{◌≡◌, List, ◌++◌, length, length-append, append_assoc, None, Some, Ok, sym, subst, ap, refl, ◌∙◌, inl, inr, arith}
+use Rattle.std.proofs.Common.{◌≡◌, List, ◌++◌, length-append, append_assoc, Some, Ok, sym, subst, ap, refl, ◌∙◌, inl, inr, arith}
 use Rattle.std.proofs.lemmas.Bool.{le-leb, leb-true}
 use Rattle.pcap_capture.specs.Frames.{FrameValue}
-use Rattle.pcap_capture.specs.Grammar.{CaptureState}
 use Rattle.pcap_capture.specs.declared.fault.PcapFault.TheVariants.{WriteFault}
-use Rattle.pcap_capture.proofs.TakingLaws.{taken_unread}
-use Rattle.capture_reader.specs.Readings.{IsReading, IsUnderway, heading_at}
+use Rattle.capture_reader.proofs.OwnLaws.{taken_unread}
+use Rattle.capture_reader.specs.Readings.{IsReading, IsUnderway}
 use Rattle.capture_reader.proofs.ReadFaultLaws.{asked_once, own_written}
-use Rattle.capture_reader.proofs.ReadingLaws.{failed, fed, stays_records, still, stopped}
-use Rattle.capture_reader.proofs.SizeLaws.{full_piece, taken_size}
+use Rattle.capture_reader.proofs.ReadingLaws.{failed, fed, stays_opened, still, stopped}
+use Rattle.capture_reader.proofs.SizeLaws.{full_piece}
 use Rattle.capture_reader.proofs.reading.take_piece.Goals as goal
 
 pub returns-in-Err-clause-piece : goal.returns-in-Err-clause-piece
@@ -17,24 +16,12 @@ returns-in-Err-clause-piece g c =
     let fault = c.in-Err.fault in record {
       missing = omega arith;
       fewer = tt;
-      stays = λ heading records known. known;
-      few =
-          elim c.in-Err.ensures.err [
-            | inl unread ↦ omega (arith, c.take_from.ensures.no_more, ap (λ (s : CaptureState). length s.rest) unread.1, ap length unread.2)
-            | inr it ↦
-                elim c.in-Err.ensures.fewer [
-                  | inl fewer ↦
-                      let size = taken_size _ _ _ _ before.capture c.take_from.new.self before.piece c.take_from.new.out (Some fault) it in
-                      let most = c.wanted-most.ensures.most c.requires.missing in
-                      omega (arith, fewer, size, most)
-                  | inr unasked ↦ omega (arith, c.take_from.ensures.no_more, ap (λ (s : CaptureState). length s.rest) it.read.0, ap length unasked.1)
-                ]
-          ];
+      stays = λ opening there known. known;
       told = c.in-Err.ensures.told;
       read = λ gone bytes tells at.
           elim c.in-Err.ensures.err [
             | inl unread ↦
-                subst (λ (frames : List FrameValue). IsReading bytes more before.heading (gone ++ frames) (Some fault)) (sym {A = List FrameValue} unread.2)
+                subst (λ (frames : List FrameValue). IsReading bytes more before.opening (gone ++ frames) (Some fault)) (sym {A = List FrameValue} unread.2)
                 (failed gone bytes _ more before fault at (unread.3 tells) unread.0)
             | inr it ↦
                 stopped gone bytes it.piece more before c.take_from.new.out fault (subst (λ left. IsUnderway gone bytes left before) (it.given tells) at)
@@ -58,18 +45,14 @@ returns-clause-piece g c =
     let most = c.wanted-most.ensures.most c.requires.missing in record {
       missing = omega (arith, c.saturating_sub-progress.ensures);
       fewer = asked_once _ _ c.in-Ok.taken c.in-Ok.ensures.fewer;
-      stays = λ heading records known.
-          c.heading_by-progress.ensures ∙ ap heading_at (c.stage.ensures ∙ stays_records heading before.capture c.take_from.new.self it.piece before.piece c.take_from.new.out records it.read);
-      few =
-          let fewer = asked_once _ _ c.in-Ok.taken c.in-Ok.ensures.fewer in
-          let size = taken_size _ _ _ _ before.capture c.take_from.new.self before.piece c.take_from.new.out None it in
-          omega (arith, fewer, size, most);
+      stays = λ opening there known.
+          c.opening-progress.ensures ∙ stays_opened opening before.capture c.take_from.new.self it.piece before.piece c.take_from.new.out there it.read;
       told = c.in-Ok.ensures.told;
       read = λ gone bytes tells at. record {
         read = at.read ++ it.piece;
         front = at.front ∙ ap (λ left. at.read ++ left) (it.given tells) ∙ sym (append_assoc at.read it.piece (g.I.Intake.left c.take_from.new.intake));
         so_far = fed gone at.read it.piece before.capture c.take_from.new.self before.piece c.take_from.new.out at.so_far it.read;
-        known = c.heading_by-progress.ensures ∙ ap heading_at c.stage.ensures;
+        known = c.opening-progress.ensures;
         to_come = omega (arith, c.saturating_sub-progress.ensures, at.to_come, length-append at.read it.piece, c.in-Ok.ensures.ok.1);
       };
       size = λ tells. full_piece _ _ it.piece c.in-Ok.taken _ (leb-true 65536 c.in-Ok.taken, le-leb 65536 c.in-Ok.taken) (it.given tells) c.in-Ok.ensures.ok.1 (omega (arith, it.few, most));
@@ -85,5 +68,5 @@ pub returns-clause-still : goal.returns-clause-still
 returns-clause-still g c = λ is gone bytes more at.
     let it = c.in-Ok.ensures.ok.0 in
     let none : c.in-Ok.taken ≡ 0 = cc in
-    c.heading_by-progress.ensures ∙ ap heading_at c.stage.ensures
+    c.opening-progress.ensures
     ∙ still gone bytes more it.piece c.args.progress.now c.take_from.new.self c.take_from.new.out (c.in-Ok.ensures.ok.1 ∙ none) it.read at

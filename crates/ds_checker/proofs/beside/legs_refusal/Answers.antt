@@ -4,7 +4,7 @@ use Rattle.ds_certificate.specs.Bounds.{delayed}
 use Rattle.ds_checker.specs.Sums.{AreBelow}
 use Rattle.ds_checker.proofs.BesideLaws.{nameless-by, nameless-next}
 use Rattle.ds_checker.proofs.BoundLaws.{item_ahead}
-use Rattle.ds_checker.proofs.LoadLaws.{AreBelow-at}
+use Rattle.ds_checker.proofs.LoadLaws.{AreBelow-at, AreBelow-more}
 use Rattle.ds_checker.proofs.RoutedLaws.{least-leg}
 use Rattle.ds_checker.proofs.WalkLaws.{some-map, walk-ended, walk-found, walk-hop}
 use Rattle.ds_checker.proofs.beside.legs_refusal.Goals as goal
@@ -15,7 +15,8 @@ at-requires c = omega (arith, c.loop-number-test.true, c.requires.level)
 pub with-requires-clause-room : goal.with-requires-clause-room
 with-requires-clause-room c =
     let inside : c.loop-number.number < length c.args.sums.now = omega (arith, c.loop-number-test.true, c.requires.level) in
-    subst (AreBelow (2 ^ 121)) (sym c.at.ensures) (AreBelow-at (2 ^ 121) c.args.sums.now c.loop-number.number c.at.result.now inside c.requires.room)
+    let room = AreBelow-more (2 ^ 120) (2 ^ 121) c.args.sums.now (omega arith) c.requires.room in
+    subst (AreBelow (2 ^ 121)) (sym c.at.ensures) (AreBelow-at (2 ^ 121) c.args.sums.now c.loop-number.number c.at.result.now inside room)
 
 pub loop-number-preserved : goal.loop-number-preserved
 loop-number-preserved c =

@@ -4,8 +4,8 @@ use Rattle.ds_conditioner.specs.Conditionings.{IsConditioned}
 use Rattle.ds_conditioner.proofs.HandingLaws.{all_passed, front_passed, none_passed}
 use Rattle.ds_conditioner.proofs.passing.pass_lot.Goals as goal
 
-pub returns-then-count-gt-MOST_RECORDS-clause-passed : goal.returns-then-count-gt-MOST_RECORDS-clause-passed
-returns-then-count-gt-MOST_RECORDS-clause-passed g c told = none_passed c.args.port.now c.args.conditioner.now c.args.lot.frames
+pub returns-then-not-has_room_for-clause-passed : goal.returns-then-not-has_room_for-clause-passed
+returns-then-not-has_room_for-clause-passed g c told = none_passed c.args.port.now c.args.conditioner.now c.args.lot.frames
 
 pub returns-in_err-take_lot-clause-passed : goal.returns-in_err-take_lot-clause-passed
 returns-in_err-take_lot-clause-passed g c told =

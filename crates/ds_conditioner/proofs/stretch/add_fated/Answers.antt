@@ -1,4 +1,5 @@
 use Rattle.std.proofs.Common.{◌++◌, Some, ap, subst, sym, ◌∙◌}
+use Rattle.pcapng_capture.specs.Marks.{marked_text}
 use Rattle.frame_marker.specs.Frames.{marked_frame}
 use Rattle.frame_marker.specs.Marks.{IsMarkOf}
 use Rattle.ds_conditioner.specs.Fates.{IsFateOf, fate_text}
@@ -15,5 +16,5 @@ returns-in-Marked c =
     let right : IsMarkOf (Some mark) f.bytes = subst (λ x. IsFateOf f x) c.in-Marked.is c.requires in
     let link = right.0 in
     let seen : IsSeenAt link c.new.result = subst (λ (s : SeenValue). IsSeenAt link s) (sym c.new.ensures) right.1 in
-    on_ok c.add_with.result _ _ (λ put. put link seen ∙ ap (λ (s : SeenValue). out ++ (s.frame.head ++ marked_frame link dscp s.frame.bytes)) c.new.ensures
-    ∙ ap (λ it. out ++ (f.head ++ it)) (marked_in dscp f.bytes link mark right.1) ∙ ap (λ x. out ++ fate_text f x) (sym c.in-Marked.is)) c.add_with.ensures
+    on_ok c.add_with.result _ _ (λ put. put link seen ∙ ap (λ (s : SeenValue). out ++ marked_text s.frame (marked_frame link dscp s.frame.bytes)) c.new.ensures
+    ∙ ap (λ it. out ++ marked_text f it) (marked_in dscp f.bytes link mark right.1) ∙ ap (λ x. out ++ fate_text f x) (sym c.in-Marked.is)) c.add_with.ensures

@@ -7,7 +7,6 @@ use Rattle.capture_reader.specs.Readings.{IsUnderway, read_by}
 use Rattle.ds_marking.specs.Writings.{failures_with, is_write_fault}
 use Rattle.ds_marking.specs.declared.fault.MarkFault.{MarkFault}
 use Rattle.ds_conductor.proofs.LaningLaws.{count_of-more, frames_of-more, right_more, sooner, text_front, text_more}
-use Rattle.capture_reader.proofs.ReadingLaws.{stage_of}
 use Rattle.ds_conductor.proofs.feeding.feed.Goals as goal
 
 pub returns-in-Err-clause-fed : goal.returns-in-Err-clause-fed
@@ -16,7 +15,6 @@ returns-in-Err-clause-fed g c =
       fed = record { right = was.right; read = was.read; stays = was.stays };
       given = was.given;
       missing = was.missing;
-      few = was.few;
       fewer = tt;
       reads = tt;
       no_write = tt;
@@ -43,7 +41,6 @@ loop-preserved-in_default g c =
       from = c.write_next.ensures.lane ∙ was.from;
       missing = was.missing;
       pieces = was.pieces;
-      few = was.few;
       calls = was.calls;
       even =
           let a = ap length text.1 in
@@ -74,14 +71,6 @@ loop-preserved g c =
       from = was.from;
       missing = let a = c.change_piece-piece.ensures.missing in let b = c.read_one.ensures.missing in let n = was.missing in omega (arith, a, b, n);
       pieces = omega arith;
-      few =
-          let a = ap length more in
-          let b = length-append (frames_of c.loop.between.to.put) lot.frames in
-          let d = ap length c.lot_of-lot.ensures.frames in
-          let e = c.change_piece-piece.ensures.few in
-          let f = c.read_one.ensures.few in
-          let n = was.few in
-          omega (arith, a, b, d, e, f, n);
       calls = let a = rw c.in-Full.is at c.read_one.ensures.fewer in let n = was.calls in omega (arith, a, n);
       even =
           let a = ap count_of c.send.ensures.put ∙ count_of-more c.loop.between.to.put lot in
@@ -94,10 +83,10 @@ loop-preserved g c =
           subst (λ (fs : List FrameValue). IsUnderway fs bytes (g.I.Intake.left c.read_one.new.intake) c.change_piece-piece.new.self)
           (append_assoc gone (frames_of c.loop.between.to.put) c.change_piece-piece.result ∙ ap (λ fs. gone ++ fs) (ap (λ fs. frames_of c.loop.between.to.put ++ fs) (sym c.lot_of-lot.ensures.frames) ∙ sym more))
           (c.change_piece-piece.ensures.read (gone ++ frames_of c.loop.between.to.put) bytes _ under);
-      stays = λ heading gone bytes given at headed.
+      stays = λ opening gone bytes given at headed.
           let under = was.read gone bytes given at in
-          let head = was.stays heading gone bytes given at headed in
-          c.change_piece-piece.ensures.heading ∙ c.read_one.ensures.stays heading (stage_of c.loop.progress.capture.stage heading (sym under.known ∙ head)) head;
+          let head = was.stays opening gone bytes given at headed in
+          c.change_piece-piece.ensures.opening ∙ c.read_one.ensures.stays opening (sym under.known ∙ head) head;
       given = λ given. c.read_one.ensures.told (was.given given);
       told = was.told;
       written = was.written;
@@ -115,16 +104,15 @@ loop-preserved-then-pieces-lt-PIECES g c =
       from = was.from;
       missing = let a = one.missing in let n = was.missing in omega (arith, a, n);
       pieces = let n = c.if-pieces-lt-PIECES.true in omega (arith, n);
-      few = let f = one.few in let n = was.few in omega (arith, f, n);
       calls = let a = rw c.in-Full.is at one.fewer in let n = was.calls in omega (arith, a, n);
       even = was.even;
       most = was.most;
       right = was.right;
       read = λ gone bytes given at. rw c.in-Full.is at (one.read (gone ++ frames_of c.loop.between.to.put) bytes (was.given given) (was.read gone bytes given at));
-      stays = λ heading gone bytes given at headed.
+      stays = λ opening gone bytes given at headed.
           let under = was.read gone bytes given at in
-          let head = was.stays heading gone bytes given at headed in
-          one.stays heading (stage_of c.loop.progress.capture.stage heading (sym under.known ∙ head)) head;
+          let head = was.stays opening gone bytes given at headed in
+          one.stays opening (sym under.known ∙ head) head;
       given = λ given. one.told (was.given given);
       told = was.told;
       written = was.written;
@@ -142,14 +130,13 @@ returns-in_default-read_one g c =
         fed = record {
           right = was.right;
           read = λ gone bytes given at. one.read (gone ++ frames_of c.loop.between.to.put) bytes (was.given given) (was.read gone bytes given at);
-          stays = λ heading gone bytes given at headed.
+          stays = λ opening gone bytes given at headed.
               let under = was.read gone bytes given at in
-              let head = was.stays heading gone bytes given at headed in
-              one.stays heading (stage_of c.loop.progress.capture.stage heading (sym under.known ∙ head)) head;
+              let head = was.stays opening gone bytes given at headed in
+              one.stays opening (sym under.known ∙ head) head;
         };
         given = λ given. one.told (was.given given);
         missing = let a = one.missing in let n = was.missing in omega (arith, a, n);
-        few = let a = one.few in let n = was.few in omega (arith, a, n);
         fewer = sooner (read_by c.read_one.result) _ _ _ was.calls one.fewer;
         reads = reads_from (is_read_fault (read_by c.read_one.result)) _ _ _ _ was.unfailed one.reads;
         no_write = one.no_write;

@@ -1,8 +1,8 @@
-use Rattle.std.proofs.Common.{◌≡◌, ◌+◌, ◌*◌, ◌≤◌, ◌++◌, List, ℕ, Some, length}
+use Rattle.std.proofs.Common.{◌≡◌, ◌+◌, ◌≤◌, ◌++◌, List, ℕ, Some, length}
 use Rattle.pcap_capture.specs.Frames.{FrameValue}
-use Rattle.pcap_capture.specs.declared.heading.Heading.{Heading}
+use Rattle.capture_reader.specs.declared.opening.Opening.{Opening}
 use Rattle.ds_conductor.specs.Lanings.{AreRight, count_of, frames_of, joined}
-use Rattle.capture_reader.specs.Readings.{IsUnderway, most_bytes}
+use Rattle.capture_reader.specs.Readings.{IsUnderway}
 use Rattle.ds_conductor.proofs.feeding.feed.Given as goal
 
 -- lots were read and put, and texts of them are written
@@ -14,15 +14,14 @@ invariant-loop g l = record {
   from : l.between.from.lane ≡ l.fn.between.from.lane;
   missing : l.progress.missing ≤ l.fn.progress.missing;
   pieces : l.pieces ≤ 4;
-  few : 16 * length (frames_of l.between.to.put) + most_bytes l.progress (g.I.Intake.calls l.intake) ≤ most_bytes l.fn.progress (g.I.Intake.calls l.fn.intake);
   calls : g.I.Intake.calls l.intake ≤ g.I.Intake.calls l.fn.intake;
   even : length l.between.from.taken + l.way ≡ count_of l.between.to.put;
   most : l.way ≤ 8;
   right : AreRight l.shift.port.now l.between.to.put;
   read : (gone : List FrameValue) (bytes : List ℕ) → g.I.Intake.tells l.fn.intake → IsUnderway gone bytes (g.I.Intake.left l.fn.intake) l.fn.progress
       → IsUnderway (gone ++ frames_of l.between.to.put) bytes (g.I.Intake.left l.intake) l.progress;
-  stays : (heading : Heading) (gone : List FrameValue) (bytes : List ℕ) → g.I.Intake.tells l.fn.intake → IsUnderway gone bytes (g.I.Intake.left l.fn.intake) l.fn.progress
-      → l.fn.progress.heading ≡ Some heading → l.progress.heading ≡ Some heading;
+  stays : (opening : Opening) (gone : List FrameValue) (bytes : List ℕ) → g.I.Intake.tells l.fn.intake → IsUnderway gone bytes (g.I.Intake.left l.fn.intake) l.fn.progress
+      → l.fn.progress.opening ≡ Some opening → l.progress.opening ≡ Some opening;
   given : g.I.Intake.tells l.fn.intake → g.I.Intake.tells l.intake;
   told : g.O.Outlet.tells l.fn.outlet → g.O.Outlet.tells l.outlet;
   written : g.O.Outlet.tells l.fn.outlet → g.O.Outlet.held l.outlet ≡ g.O.Outlet.held l.fn.outlet ++ joined l.between.from.taken;

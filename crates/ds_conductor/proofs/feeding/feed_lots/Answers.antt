@@ -1,7 +1,7 @@
 use Rattle.std.proofs.Common.{length, length-append, ap, ◌∙◌, arith}
-use Rattle.ds_conductor.specs.Lanings.{count_of, frames_of}
+use Rattle.ds_conductor.specs.Lanings.{count_of}
 use Rattle.ds_marking.specs.Writings.{failures_with, is_write_fault}
-use Rattle.ds_conductor.proofs.LaningLaws.{count_of-end, drained, fed_end, frames_of-end, front_more}
+use Rattle.ds_conductor.proofs.LaningLaws.{count_of-end, drained, fed_end, front_more}
 use Rattle.ds_conductor.proofs.feeding.feed_lots.Goals as goal
 
 pub returns-in-Ok-clause-even : goal.returns-in-Ok-clause-even
@@ -22,11 +22,6 @@ returns-in-Ok-clause-fed g c =
       fed = fed_end c.args.shift.now.port.now _ _ _ _ _ put _ _ c.send.ensures.put fed.fed;
       given = fed.given;
       missing = fed.missing;
-      few =
-          let a = ap (λ items. length (frames_of items)) c.send.ensures.put in
-          let b = ap length (frames_of-end put) in
-          let f = fed.few in
-          omega (arith, a, b, f);
       fewer = fed.fewer;
       reads = fed.reads;
       no_write = fed.no_write;
@@ -62,11 +57,6 @@ returns-in-Err-clause-fed g c =
       fed = fed_end c.args.shift.now.port.now _ _ _ _ _ put _ _ c.send.ensures.put fed.fed;
       given = fed.given;
       missing = fed.missing;
-      few =
-          let a = ap (λ items. length (frames_of items)) c.send.ensures.put in
-          let b = ap length (frames_of-end put) in
-          let f = fed.few in
-          omega (arith, a, b, f);
       fewer = fed.fewer;
       reads = fed.reads;
       no_write = fed.no_write;

@@ -1,5 +1,6 @@
 use Rattle.std.proofs.Common.{◌≡◌, ◌<◌, ◌++◌, ℕ, true, List, [], Some, IfOk, inl, rules, append-nil, append_assoc, refl, sym, ap, subst, ◌∙◌, arith}
 use Rattle.pcap_capture.specs.Counts.{IsOfReads}
+use Rattle.capture_reader.specs.Formats.{bytes_before}
 use Rattle.pcap_capture.specs.Frames.{FrameValue}
 use Rattle.ds_conditioner.specs.Conditionings.{IsConditioned}
 use Rattle.ds_conditioner.specs.declared.port.Port.{Port}
@@ -15,14 +16,14 @@ pub returns-in-Err-clause-taken : goal.returns-in-Err-clause-taken
 returns-in-Err-clause-taken g c =
     let passage = c.args.passage.now in
     let p = passage.port in record {
-      ready = record { missing = omega arith; bounded = c.requires.bounded; few = omega arith };
+      ready = record { missing = omega arith; bounded = c.requires.bounded };
       port = refl;
       fewer = λ is. absurd cc;
       turned = λ given tells bytes before at.
           let none = c.if-not-is_empty.ensures.0 (search rules) in
           unwritten_off p at.frames bytes _ before _ at.text passage.progress [] passage.conditioner _ at.headed at.underway (sym none)
           (subst (λ (fs : List FrameValue). IsConditioned p true fs at.text passage.conditioner) (sym (append-nil at.frames)) at.conditioned)
-          (broken_out (p.heading.bytes ++ at.text) _ before _ _ at.written (c.in-Err.ensures.bytes tells));
+          (broken_out (bytes_before p.opening ++ at.text) _ before _ _ at.written (c.in-Err.ensures.bytes tells));
       reads = tt;
       fault = inl c.in-Err.ensures.fault;
       given = λ given. given;
@@ -38,10 +39,8 @@ returns-in-None-clause-taken g c =
     let after = c.take_turn-in-None.new.passage in
     let last_intake = c.take_turn-in-None.new.intake in
     let written_out_first : Passage = record passage { out = c.write_out.new.out } in
-    let ready : IsReadyAfter written_out_first (g.I.Intake.calls c.args.intake.now) after (g.I.Intake.calls last_intake) =
-    subst (λ i. IsReadyAfter written_out_first (g.I.Intake.calls i) after (g.I.Intake.calls last_intake)) n.1
-    (subst (λ (q : Passage). IsReadyAfter q (g.I.Intake.calls c.run_by.new.intake) after (g.I.Intake.calls last_intake)) n.0 one.ready) in record {
-      ready = record { missing = ready.missing; bounded = ready.bounded; few = ready.few };
+    let ready : IsReadyAfter written_out_first after = subst (λ (q : Passage). IsReadyAfter q after) n.0 one.ready in record {
+      ready = record { missing = ready.missing; bounded = ready.bounded };
       port = one.port ∙ ap (λ (q : Passage). q.port) n.0;
       fewer = λ is. subst (λ i. g.I.Intake.calls last_intake < g.I.Intake.calls i) n.1 (one.fewer is);
       turned = λ given tells bytes before at.
@@ -53,7 +52,7 @@ returns-in-None-clause-taken g c =
             underway = at.underway;
             headed = at.headed;
             conditioned = at.conditioned;
-            written = written_out (p.heading.bytes ++ at.text) _ _ before _ _ at.written ((rw c.in_default.is at c.write_out.ensures.bytes) tells) (rw c.in_default.is at c.write_out.ensures.emptied);
+            written = written_out (bytes_before p.opening ++ at.text) _ _ before _ _ at.written ((rw c.in_default.is at c.write_out.ensures.bytes) tells) (rw c.in_default.is at c.write_out.ensures.emptied);
           } in
           let second = subst (λ (q : Passage). IsPassing bytes left before held q) (sym n.0) first in
           let third = subst (λ (l : List ℕ). IsPassing bytes l before held c.run_by.new.passage) (sym (ap (λ i. g.I.Intake.left i) n.1)) second in
@@ -79,7 +78,6 @@ returns-in-Some-clause-taken g c =
       ready = record {
         missing = let a = ending.still.missing in let b = ran.fed.missing in omega (arith, a, b);
         bounded = ending.still.bounded;
-        few = let a = ending.still.few in let b = ran.passed.records in let d = ran.fed.few in omega (arith, a, b, d);
       };
       port = ending.still.port ∙ kept.1;
       fewer = λ is. let m = ending.more is in asked_by run.read run.written _ _ m.0 m.1 ran.cut ran.fed.fewer;
@@ -87,18 +85,18 @@ returns-in-Some-clause-taken g c =
           let taken = frames_of ran.put in
           let own = joined ran.taken in
           let told = c.write_out.ensures.told tells in
-          let head = ran.fed.fed.stays p.heading at.frames bytes given at.underway at.headed in
+          let head = ran.fed.fed.stays p.opening at.frames bytes given at.underway at.headed in
           let read = read_fed (at.frames ++ taken) bytes more after.progress run.read (ran.fed.fed.read at.frames bytes given at.underway) in
           let part = taken_by run.starved p passage.conditioner after.conditioner at.frames taken at.text own ran.passed.passed at.conditioned in
-          let whole = written_whole (p.heading.bytes ++ at.text) _ before _
-          (written_out (p.heading.bytes ++ at.text) _ _ before _ _ at.written ((rw c.in_default.is at c.write_out.ensures.bytes) tells) (rw c.in_default.is at c.write_out.ensures.emptied)) (rw c.in_default.is at c.write_out.ensures.emptied) in
-          let written = written_same run.written before ((p.heading.bytes ++ at.text) ++ own) (p.heading.bytes ++ (at.text ++ own)) held (append_assoc p.heading.bytes at.text own)
-          (written_behind run.written before (p.heading.bytes ++ at.text) _ own held whole (ran.given.written told)) in
+          let whole = written_whole (bytes_before p.opening ++ at.text) _ before _
+          (written_out (bytes_before p.opening ++ at.text) _ _ before _ _ at.written ((rw c.in_default.is at c.write_out.ensures.bytes) tells) (rw c.in_default.is at c.write_out.ensures.emptied)) (rw c.in_default.is at c.write_out.ensures.emptied) in
+          let written = written_same run.written before ((bytes_before p.opening ++ at.text) ++ own) (bytes_before p.opening ++ (at.text ++ own)) held (append_assoc (bytes_before p.opening) at.text own)
+          (written_behind run.written before (bytes_before p.opening ++ at.text) _ own held whole (ran.given.written told)) in
           ending.turned (ran.given.told told) bytes more before at.text own at.frames taken
-          (subst (λ (q : Port). after.progress.heading ≡ Some q.heading) (sym kept.1) head)
+          (subst (λ (q : Port). after.progress.opening ≡ Some q.opening) (sym kept.1) head)
           read
           (subst (λ (q : Port). IsTakenIn run.starved q at.frames taken at.text own after.conditioner) (sym kept.1) part)
-          (subst (λ (q : Port). AreWritten run.written before (q.heading.bytes ++ (at.text ++ own)) held) (sym kept.1) written)
+          (subst (λ (q : Port). AreWritten run.written before (bytes_before q.opening ++ (at.text ++ own)) held) (sym kept.1) written)
           (ap (λ v. v.items) kept.2 ∙ rw c.in_default.is at c.write_out.ensures.emptied);
       reads = reads_by run.read run.written c.end_run-turned.result _ _ _ _ _ ran.cut ending.failures ran.fed.reads (ending.reads _ _ _);
       fault = ending.fault;

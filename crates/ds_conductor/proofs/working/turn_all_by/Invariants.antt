@@ -5,7 +5,7 @@ use Rattle.ds_conductor.proofs.working.turn_all_by.Given as goal
 -- more may come
 abbrev pub invariant-loop-alone : goal.invariant-loop-alone
 invariant-loop-alone g l = record {
-  ready : IsReady l.passage (g.I.Intake.calls l.intake);
+  ready : IsReady l.passage;
   port : l.passage.port ≡ l.initial.passage.port;
   given : g.I.Intake.tells l.initial.intake → g.I.Intake.tells l.intake;
   told : g.O.Outlet.tells l.initial.outlet → g.O.Outlet.tells l.outlet;

@@ -1,6 +1,7 @@
 use Rattle.std.proofs.Common.{◌≡◌, Err, Some, sym, ap, ◌∙◌, inr}
 use Rattle.toml.specs.Parse.{parse_document}
 use Rattle.toml.specs.View.{table_view}
+use Rattle.ds_domain.specs.DomainTexts.{parse_of}
 use Rattle.ds_domain.proofs.ParseLemmas.{parse_of-other, parse_of-document, with_text}
 use Rattle.ds_domain.proofs.parsing.parse.Goals as goal
 
@@ -17,4 +18,4 @@ pub returns-in-Ok-table_from_str-clause-refused : goal.returns-in-Ok-table_from_
 returns-in-Ok-table_from_str-clause-refused c =
     let read : parse_document c.args.bytes.now ≡ Some (table_view c.in-Ok-table_from_str.table) = ap parse_document (sym c.in-Ok.ensures.cases.0) ∙ c.in-Ok-table_from_str.ensures.ok in
     let told = parse_of-document c.args.bytes.now (table_view c.in-Ok-table_from_str.table) c.in-Ok.ensures.cases.1 read in
-    with_text c.args.bytes.now c.document_of.result c.in-Ok.ensures.cases.1 (rw told c.document_of.ensures.refused)
+    with_text c.args.bytes.now (parse_of c.args.bytes.now) c.document_of.result c.in-Ok.ensures.cases.1 (rw told c.document_of.ensures.refused)

@@ -10,7 +10,7 @@ returns-in-Ok-make_passage-clause-begun g c = λ given held.
     let read = c.in-Ok.ensures.read bytes given (c.begin-progress.ensures.begun bytes) in
     let there = port_found (is_port c.domain.result.now c.args.port.now) c.args.port.now c.in-Some.name c.in-Some.ensures in (
       ap (λ d. is_port d c.args.port.now) (sym c.domain.ensures.value) ∙ there.0,
-      subst (λ n. IsPassage c.args.accepted.now n c.args.red bytes (g.I.Intake.left c.read_heading.new.intake) held c.in-Ok-make_passage.passage) there.1
+      subst (λ n. IsPassage c.args.accepted.now n c.args.red bytes (g.I.Intake.left c.read_opening.new.intake) held c.in-Ok-make_passage.passage) there.1
           (c.in-Ok-make_passage.ensures.begun bytes _ held read.0 read.1),
     )
 

@@ -1,5 +1,6 @@
 use Rattle.std.proofs.Common.{◌≤◌, ◌^◌, length, arith, ◌++◌, ap, subst, sym, inl, inr, refl, Err, ◌∙◌}
 use Rattle.ds_conditioner.specs.Conditionings.{see_at}
+use Rattle.capture_reader.specs.Formats.{bytes_before}
 use Rattle.ds_marking.specs.Markings.{IsVerdictOn, answer_of, is_unread}
 use Rattle.ds_conditioner.specs.Sendings.{sent_of}
 use Rattle.ds_conditioner.specs.Texts.{text_from}
@@ -16,12 +17,12 @@ returns-in-Ok-clause-marked g c = λ tells frames text before at written.
     let all = ended p frames last.0 c.write_on-written.new.conditioner last.1 (c.in-Ok.ensures.waiting ∙ c.requires.made.1) c.in-Ok.ensures.all.1 in
     let told = c.report-report.ensures.told frames last.0 last.1 in
     let few : length frames ≤ 2 ^ 44 = omega (arith, last.1.counted.records, c.write_on-written.ensures.bounded.records) in
-    let whole = written_whole (p.heading.bytes ++ last.0) _ before _ last.2 c.in-Ok.ensures.all.0 in
+    let whole = written_whole (bytes_before p.opening ++ last.0) _ before _ last.2 c.in-Ok.ensures.all.0 in
     inl (
       c.verdict-verdict.result,
       subst (IsVerdictOn p.accepted.now (sent_of (see_at p) frames)) (sym c.verdict-verdict.ensures) (judged_by p frames c.write_on-written.new.conditioner.judge last.1.judging few),
       record {
-        written = whole ∙ ap (λ it. before ++ (p.heading.bytes ++ it)) (all.written ∙ ap (text_from p.accepted.now p.red p.heading.link 0 frames) all.whole);
+        written = whole ∙ ap (λ it. before ++ (bytes_before p.opening ++ it)) (all.written ∙ ap (text_from p.accepted.now p.red 0 frames) all.whole);
         told = refl;
       },
       c.answer.ensures ∙ ap (λ r. answer_of c.verdict-verdict.result r c.args.fault) told,

@@ -1,6 +1,6 @@
-use Rattle.std.proofs.Common.{◌++◌, Option, None, Some, arith, inr, refl, sym, ap, subst, ◌∙◌, append_assoc}
+use Rattle.std.proofs.Common.{◌++◌, Option, None, Some, inr, refl, sym, ap, subst, ◌∙◌, append_assoc}
 use Rattle.std.proofs.lemmas.Result.{err_from_is_err_and}
-use Rattle.pcap_capture.specs.declared.heading.Heading.{Heading}
+use Rattle.capture_reader.specs.declared.opening.Opening.{Opening}
 use Rattle.capture_reader.specs.Readings.{IsReading}
 use Rattle.ds_marking.proofs.PassingLaws.{ended_last, ended_reads, ended_turned, ended_unwritten, ended_well, front_written, starved_off, unwritten_off}
 use Rattle.capture_reader.proofs.ReadingLaws.{front_read}
@@ -9,7 +9,7 @@ use Rattle.ds_marking.proofs.marking.pass_on.Goals as goal
 pub returns-in_default-clause-turned : goal.returns-in_default-clause-turned
 returns-in_default-clause-turned g c = λ tells bytes more before text gone head at conditioned written.
     let p = c.args.passage.now.port in
-    let read = front_read gone bytes more c.args.passage.now.progress p.heading c.args.read head at in
+    let read = front_read gone bytes more c.args.passage.now.progress p.opening c.args.read head at in
     let seen = c.in_default.ensures.unseen gone text conditioned in
     starved_off p bytes more before _ text (gone ++ c.args.passage.now.progress.piece) (gone ++ seen.0) seen.1 c.see_read.new.conditioner read
     (ap (λ fs. gone ++ fs) seen.2 ∙ sym (append_assoc gone seen.0 seen.1)) seen.3
@@ -31,7 +31,7 @@ returns-in_ok-write_due-in-Ok-true-clause-turned g c = λ tells bytes more befor
       frames = gone ++ c.args.passage.now.progress.piece;
       text = last.0;
       underway = c.see_read.ensures.read gone bytes more under;
-      headed = c.see_read.ensures.heading ∙ head;
+      headed = c.see_read.ensures.opening ∙ head;
       conditioned = last.1;
       written = last.2;
     }
@@ -44,7 +44,7 @@ returns-in-Ok-false-clause-turned g c = λ tells bytes more before text gone hea
       text = text;
       well = λ e. cc;
       writable = λ e. cc;
-      ended = subst (λ (h : Option Heading). IsReading bytes more h frames None) head over;
+      ended = subst (λ (h : Option Opening). IsReading bytes more h frames None) head over;
       conditioned = c.in-Ok.ensures.seen gone text conditioned;
       written = written;
     }
@@ -56,11 +56,11 @@ pub returns-in-Err-clause-turned : goal.returns-in-Err-clause-turned
 returns-in-Err-clause-turned g c = λ tells bytes more before text gone head at conditioned written.
     let p = c.args.passage.now.port in
     let fault = c.in-Err.fault in
-    let read = front_read gone bytes more c.args.passage.now.progress p.heading c.args.read head at in
+    let read = front_read gone bytes more c.args.passage.now.progress p.opening c.args.read head at in
     let over = rw c.in-Err.is at at in
     let frames = gone ++ c.args.passage.now.progress.piece in
     rw c.ended_by.ensures (ended_turned p bytes more before _ text frames fault _ c.see_read.new.conditioner c.args.passage.now.out.items read (λ e. c.requires.no_write (c.in-Err.is ∙ e))
-    (subst (λ (h : Option Heading). IsReading bytes more h frames (Some fault)) head over)
+    (subst (λ (h : Option Opening). IsReading bytes more h frames (Some fault)) head over)
     (c.in-Ok.ensures.seen gone text conditioned) written)
 
 pub returns-in-Err-clause-reads : goal.returns-in-Err-clause-reads
@@ -85,7 +85,6 @@ pub returns-in_err-write_due-in-Ok-true-clause-still : goal.returns-in_err-write
 returns-in_err-write_due-in-Ok-true-clause-still g c = record {
   missing = c.see_read.ensures.missing;
   bounded = c.write_due.ensures.bounded;
-  few = omega (arith, c.see_read.ensures.few, c.write_due.ensures.records);
   port = refl;
 }
 
@@ -105,7 +104,6 @@ pub returns-in_ok-write_due-in-Ok-true-clause-still : goal.returns-in_ok-write_d
 returns-in_ok-write_due-in-Ok-true-clause-still g c = record {
   missing = c.see_read.ensures.missing;
   bounded = c.write_due.ensures.bounded;
-  few = omega (arith, c.see_read.ensures.few, c.write_due.ensures.records);
   port = refl;
 }
 

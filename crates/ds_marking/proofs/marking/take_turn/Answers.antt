@@ -1,5 +1,4 @@
 use Rattle.std.proofs.Common.{arith, sym, ◌∙◌}
-use Rattle.capture_reader.proofs.ReadingLaws.{stage_of}
 use Rattle.ds_marking.proofs.marking.take_turn.Goals as goal
 
 pub returns-clause-taken : goal.returns-clause-taken
@@ -10,12 +9,11 @@ returns-clause-taken g c =
       ready = record {
         missing = let a = on.still.missing in let b = read.missing in omega (arith, a, b);
         bounded = on.still.bounded;
-        few = let a = on.still.few in let b = read.few in omega (arith, a, b);
       };
       port = on.still.port;
       fewer = λ is. rw (on.read is) at read.fewer;
       turned = λ given tells bytes first at.
-          let head = read.stays passage.port.heading (stage_of passage.progress.capture.stage passage.port.heading (sym at.underway.known ∙ at.headed)) at.headed in
+          let head = read.stays passage.port.opening (sym at.underway.known ∙ at.headed) at.headed in
           on.turned tells bytes _ first at.text at.frames head (read.read at.frames bytes given at.underway) at.conditioned at.written;
       reads = on.reads _ _ _ read.reads;
       fault = on.fault;

@@ -1,5 +1,6 @@
 use Rattle.std.proofs.Common.{◌≡◌, ◌++◌, Bool, List, ℕ, length}
 use Rattle.pcap_capture.specs.Frames.{FrameValue}
+use Rattle.capture_reader.specs.Formats.{bytes_before}
 use Rattle.ds_conditioner.specs.Conditionings.{IsBounded, IsConditioned}
 use Rattle.ds_marking.specs.Writings.{IsWrittenTo}
 use Rattle.ds_marking.proofs.writing.write_decided.Given as goal
@@ -13,9 +14,9 @@ invariant-loop g l = record {
   told : g.O.Outlet.tells l.initial.outlet → g.O.Outlet.tells l.outlet;
   failures : g.O.Outlet.failed l.outlet ≡ g.O.Outlet.failed l.initial.outlet;
   bytes : g.O.Outlet.tells l.initial.outlet → (more : Bool) (frames : List FrameValue) (text before : List ℕ)
-      → IsConditioned l.port more frames text l.initial.conditioner → IsWrittenTo l.initial.out.items before (l.port.heading.bytes ++ text) (g.O.Outlet.held l.initial.outlet)
+      → IsConditioned l.port more frames text l.initial.conditioner → IsWrittenTo l.initial.out.items before (bytes_before l.port.opening ++ text) (g.O.Outlet.held l.initial.outlet)
       → (after : List ℕ) × IsConditioned l.port more frames after l.conditioner
-      × IsWrittenTo l.out.items before (l.port.heading.bytes ++ after) (g.O.Outlet.held l.outlet);
+      × IsWrittenTo l.out.items before (bytes_before l.port.opening ++ after) (g.O.Outlet.held l.outlet);
 }
 
 abbrev pub decreases-loop : goal.decreases-loop

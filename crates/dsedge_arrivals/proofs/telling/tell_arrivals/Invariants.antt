@@ -1,7 +1,5 @@
-use Rattle.std.proofs.Common.{◌≡◌, ℕ, ◌≤◌, ◌++◌, List}
-use Rattle.pcap_capture.specs.Frames.{FrameValue}
-use Rattle.capture_reader.specs.Readings.{IsUnderway}
-use Rattle.dsedge_arrivals.specs.Arrivals.{lines_from, newest_in}
+use Rattle.std.proofs.Common.{◌≡◌, ◌≤◌}
+use Rattle.capture_reader.specs.declared.opening.Opening.{Opening}
 use Rattle.dsedge_arrivals.specs.Tellings.{IsIdle}
 use Rattle.dsedge_arrivals.proofs.ArrivalLaws.{IsToldSince}
 use Rattle.dsedge_arrivals.proofs.telling.tell_arrivals.Given as goal
@@ -16,7 +14,7 @@ invariant-loop-fault g l = record {
   unfailed : g.I.Intake.failed l.intake ≡ g.I.Intake.failed l.fn.intake;
   unbroken : g.O.Outlet.failed l.output ≡ g.O.Outlet.failed l.fn.output;
   since : g.I.Intake.tells l.fn.intake → g.O.Outlet.tells l.fn.output
-      → IsToldSince l.filter l.heading (g.I.Intake.left l.fn.intake) (g.I.Intake.left l.intake) l.progress l.lines.newest
+      → (opening : Opening) × IsToldSince l.filter opening (g.I.Intake.left l.fn.intake) (g.I.Intake.left l.intake) l.progress l.lines.newest
       (g.O.Outlet.held l.fn.output) (g.O.Outlet.held l.output);
 }
 

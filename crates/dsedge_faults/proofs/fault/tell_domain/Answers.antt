@@ -1,5 +1,6 @@
 use Rattle.std.proofs.Common.{ap, ◌∙◌, decimal}
-use Rattle.dsedge_faults.specs.Faults.{fault_text, text_or_dash}
+use Rattle.dsedge_texts.specs.Wording.{text_or_dash}
+use Rattle.dsedge_faults.specs.Faults.{fault_text}
 use Rattle.dsedge_faults.specs.declared.fault.Fault.TheVariants.{Domain}
 use Rattle.dsedge_faults.proofs.FrontLemmas.{domain_line, given_as}
 use Rattle.dsedge_faults.proofs.fault.tell_domain.Goals as goal

@@ -10,4 +10,4 @@ returns-in-Ok-clause-served g c tells told =
     rw (c.in-Ok.ensures.ok, c.unledgered.ensures)
     (unledgered_served (opening_book c.in-Ok.domain c.args.limits) c.in-Ok.contracts.items lines c.sell-sold.result
     (g.O.Outlet.held c.args.output.now) (g.O.Outlet.held c.sell-sold.new.output)
-    (rw (c.new.ensures.items, c.as_slice.ensures.value) at (c.sell-sold.ensures.served tells told)))
+    (rw c.new.ensures.items at (c.sell-sold.ensures.served tells told)))

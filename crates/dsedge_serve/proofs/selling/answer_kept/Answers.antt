@@ -4,10 +4,6 @@ use Rattle.ds_domain.specs.DomainTexts.{parse_of}
 use Rattle.dsedge_serve.proofs.SaleLemmas.{starved_from, unshelved}
 use Rattle.dsedge_serve.proofs.selling.answer_kept.Goals as goal
 
-pub returns-in-Ok-clause-served : goal.returns-in-Ok-clause-served
-returns-in-Ok-clause-served g c tells told =
-    rw (c.in-Ok.ensures.ok, c.unkept.ensures) (inl (unshelved c.in-Err-open.fault (g.O.Outlet.held c.args.output.now)))
-
 pub returns-in-Err-NoMemory-clause-served : goal.returns-in-Err-NoMemory-clause-served
 returns-in-Err-NoMemory-clause-served g c tells told =
     starved_from (g.S.Shelf.stands c.args.place.now.shelf.now c.args.place.now.name.now) c.args.place.now.limits (parse_of c.args.text.now)

@@ -11,7 +11,7 @@ returns-in-Marked-clause-told g c told =
     let after = g.F.Outlet.held c.tell_marking-told.new.faults in
     let failed = g.F.Outlet.failed c.args.faults.now in
     let now = g.F.Outlet.failed c.tell_marking-told.new.faults in
-    rw c.in-Marked.is (subst (λ (port : List ℕ). IsTold (marking_told c.in-Marked.report c.in-Marked.fault port) before after failed now)
+    rw c.in-Marked.is (subst (λ (port : List ℕ). IsTold (marking_told c.in-Marked.report c.in-Marked.line c.in-Marked.fault port) before after failed now)
     (ap (λ (n : Names). n.port) c.names.view_is)
-    (told_since c.tell_marking-told.result before after (marking_told c.in-Marked.report c.in-Marked.fault c.names.inside.port.now) failed now
+    (told_since c.tell_marking-told.result before after (marking_told c.in-Marked.report c.in-Marked.line c.in-Marked.fault c.names.inside.port.now) failed now
     (c.tell_marking-told.ensures.line told) c.tell_marking-told.ensures.failures))

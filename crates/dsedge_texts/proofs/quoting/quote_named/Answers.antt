@@ -13,30 +13,30 @@ remove-contract-requires c =
     let inside : c.in-Some.place < length c.args.contracts.items = place-inside c.args.contracts.items c.args.name.now c.in-Some.place (c.in-Some.ensures ∙ ap (λ xs. place_named xs c.args.name.now) c.as_slice.ensures.value) in
     omega (arith, inside)
 
-pub quote_beside-requires-clause-fit : goal.quote_beside-requires-clause-fit
-quote_beside-requires-clause-fit c =
+pub asked_beside-requires-clause-fit : goal.asked_beside-requires-clause-fit
+asked_beside-requires-clause-fit c =
     ap (list_all (fits c.args.domain)) c.remove-contract.ensures.items ∙ all_removed (fits c.args.domain) c.args.contracts.items c.in-Some.place c.requires
 
-pub quote_beside-requires-clause-own : goal.quote_beside-requires-clause-own
-quote_beside-requires-clause-own c =
+pub asked_beside-requires-clause-own : goal.asked_beside-requires-clause-own
+asked_beside-requires-clause-own c =
     let inside = place-inside c.args.contracts.items c.args.name.now c.in-Some.place (c.in-Some.ensures ∙ ap (λ xs. place_named xs c.args.name.now) c.as_slice.ensures.value) in
     ap (fits c.args.domain) c.remove-contract.ensures.value ∙ one_of_all (fits c.args.domain) c.args.contracts.items c.in-Some.place c.remove-contract.result c.requires inside
 
-pub quote_beside-requires-clause-place : goal.quote_beside-requires-clause-place
-quote_beside-requires-clause-place c =
+pub asked_beside-requires-clause-place : goal.asked_beside-requires-clause-place
+asked_beside-requires-clause-place c =
     let inside = place-inside c.args.contracts.items c.args.name.now c.in-Some.place (c.in-Some.ensures ∙ ap (λ xs. place_named xs c.args.name.now) c.as_slice.ensures.value) in
     others-long c.args.contracts.items _ c.in-Some.place inside c.remove-contract.ensures.items
 
 pub returns-in-Some-clause-ok : goal.returns-in-Some-clause-ok
 returns-in-Some-clause-ok c =
     let named = c.in-Some.ensures ∙ ap (λ xs. place_named xs c.args.name.now) c.as_slice.ensures.value in
-    let e = quote-found c.args.domain c.args.contracts.items _ c.args.name.now c.in-Some.place c.remove-contract.result c.args.field named c.remove-contract.ensures.items
+    let e = quote-found c.args.domain c.args.contracts.items _ c.args.name.now c.in-Some.place c.remove-contract.result c.args.asked named c.remove-contract.ensures.items
     c.remove-contract.ensures.value in
-    subst (λ (r : Result Told QuoteFault). IfOk c.quote_beside.result (λ quoted. r ≡ Ok (quoted.text.items, quoted.is_found))) (sym e) c.quote_beside.ensures.ok
+    subst (λ (r : Result Told QuoteFault). IfOk c.asked_beside.result (λ quoted. r ≡ Ok (quoted.text.items, quoted.is_found))) (sym e) c.asked_beside.ensures.ok
 
 pub returns-in-Some-clause-refused : goal.returns-in-Some-clause-refused
 returns-in-Some-clause-refused c =
     let named = c.in-Some.ensures ∙ ap (λ xs. place_named xs c.args.name.now) c.as_slice.ensures.value in
-    let e = quote-found c.args.domain c.args.contracts.items _ c.args.name.now c.in-Some.place c.remove-contract.result c.args.field named c.remove-contract.ensures.items
+    let e = quote-found c.args.domain c.args.contracts.items _ c.args.name.now c.in-Some.place c.remove-contract.result c.args.asked named c.remove-contract.ensures.items
     c.remove-contract.ensures.value in
-    subst (λ (r : Result Told QuoteFault). IfErr c.quote_beside.result (λ fault. (fault ≡ NoMemory) ⊎ (r ≡ Err fault))) (sym e) c.quote_beside.ensures.refused
+    subst (λ (r : Result Told QuoteFault). IfErr c.asked_beside.result (λ fault. (fault ≡ NoMemory) ⊎ (r ≡ Err fault))) (sym e) c.asked_beside.ensures.refused

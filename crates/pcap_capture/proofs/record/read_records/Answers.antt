@@ -1,8 +1,8 @@
 use Rattle.std.proofs.Common.{◌+◌, ◌≤◌, drop, length, refl, ap, arith, sym, ◌∙◌}
 use Rattle.std.proofs.lemmas.Result.{err_from_is_err_and}
-use Rattle.pcap_capture.specs.Grammar.{moment_of, record_size}
+use Rattle.pcap_capture.specs.Grammar.{place_of, record_size}
 use Rattle.pcap_capture.specs.Pieces.{frames_between}
-use Rattle.pcap_capture.proofs.GrammarLaws.{size_least, size_partial}
+use Rattle.pcap_capture.proofs.GrammarLaws.{size_least, size_most, size_partial}
 use Rattle.pcap_capture.proofs.PieceLaws.{cut_within}
 use Rattle.pcap_capture.proofs.RecordLaws.{pushed, stops_long}
 use Rattle.pcap_capture.proofs.record.read_records.Goals as goal
@@ -31,11 +31,17 @@ returns-then-left-size-clause-settled c =
     size_partial c.args.heading.now (drop c.loop-size.end text) c.in_ok-size.size
     (sym (c.in_ok-size.ensures ∙ ap (record_size c.args.heading.now) left)) (omega (arith, ap length left, short))
 
-pub moment_of_record-moment-requires : goal.moment_of_record-moment-requires
-moment_of_record-moment-requires c =
+pub place_of_record-place-requires-clause-long : goal.place_of_record-place-requires-clause-long
+place_of_record-place-requires-clause-long c =
     let least = size_least c.args.heading.now _ c.in_ok-size.size (sym c.in_ok-size.ensures) in
     let whole = c.if-left-size.false in
     omega (arith, least, whole)
+
+pub place_of_record-place-requires-clause-least : goal.place_of_record-place-requires-clause-least
+place_of_record-place-requires-clause-least c = size_least c.args.heading.now _ c.in_ok-size.size (sym c.in_ok-size.ensures)
+
+pub place_of_record-place-requires-clause-most : goal.place_of_record-place-requires-clause-most
+place_of_record-place-requires-clause-most c = size_most c.args.heading.now _ c.in_ok-size.size (sym c.in_ok-size.ensures)
 
 pub loop-size-smaller : goal.loop-size-smaller
 loop-size-smaller c =
@@ -53,11 +59,10 @@ loop-size-preserved c =
     let at = c.loop-size.invariant.at in
     let within : c.loop-size.start + c.in_ok-size.size ≤ length text = omega (arith, whole, c.split_at.ensures.back_len, c.loop-size.invariant.within) in
     let size = c.in_ok-size.ensures ∙ ap (record_size c.args.heading.now) left in
-    let made = c.moment_of_record-moment.ensures in
-    let moment = made.value ∙ ap (moment_of c.args.heading.now) left in
+    let place = c.place_of_record-place.ensures ∙ ap (λ bytes. place_of c.args.heading.now bytes c.in_ok-size.size) left in
     let more = pushed c.args.heading.now text c.loop-size.entries.items c.loop-size.end c.in_ok-size.size _ c.loop-size.invariant.cut size
-    (omega arith) (omega (arith, moment, made.early)) c.loop-size.invariant.same
-    (record { end = c.loop-size.start + c.in_ok-size.size; moment = c.moment_of_record-moment.result }) (ap (λ place. place + c.in_ok-size.size) at) moment in
+    (omega arith) c.loop-size.invariant.same
+    (record { end = c.loop-size.start + c.in_ok-size.size; place = c.place_of_record-place.result }) (ap (λ place. place + c.in_ok-size.size) at) place in
     record {
       at = refl;
       within = within;

@@ -2,11 +2,11 @@ use Rattle.std.proofs.Common.{◌+◌, ◌≤◌, drop, length, refl, ap, arith,
 use Rattle.std.proofs.lemmas.Result.{err_from_is_err_and}
 use Rattle.std.proofs.lemmas.List.{length-take-le}
 use Rattle.pcapng_capture.specs.Grammar.{size_in, size_of}
-use Rattle.pcapng_capture.specs.Pieces.{blocks_between}
+use Rattle.pcap_capture.specs.Pieces.{frames_between}
 use Rattle.pcapng_capture.proofs.GrammarLaws.{front_own, next_partial, next_short, size_least, size_long, size_own}
-use Rattle.pcapng_capture.proofs.PieceLaws.{cut_within}
+use Rattle.pcap_capture.proofs.PieceLaws.{cut_within}
 use Rattle.pcapng_capture.proofs.ReadingLaws.{block_stops, pushed, size_stops, starved}
-use Rattle.pcapng_capture.specs.declared.fault.PcapngFault.TheVariants.{BadMagic}
+use Rattle.pcap_capture.specs.declared.fault.PcapFault.TheVariants.{BadMagic}
 use Rattle.pcapng_capture.proofs.reads.read_blocks.Goals as goal
 
 pub loop-left-init : goal.loop-left-init
@@ -22,7 +22,7 @@ returns-in_err-size-clause-err c =
     let text = c.args.text.now in
     let left = c.split_at.ensures.back ∙ ap (λ place. drop place text) c.loop-left.invariant.at in
     let p = err_from_is_err_and c.from_residual.result c.from_residual.ensures.1 in
-    rw (p.1, p.2) (size_stops text c.loop-left.end c.loop-left.section (blocks_between text 0 c.loop-left.entries.items) _ c.loop-left.invariant.same
+    rw (p.1, p.2) (size_stops text c.loop-left.end c.loop-left.section (frames_between text 0 c.loop-left.entries.items) _ c.loop-left.invariant.same
     c.split_at.result.1.now c.in_err-size.field-0.0 left c.in_err-size.ensures)
 
 pub returns-then-left-size-clause-settled : goal.returns-then-left-size-clause-settled
@@ -54,9 +54,9 @@ returns-in_err-place-clause-err c =
     let p = err_from_is_err_and c.from_residual-in_err-place.result c.from_residual-in_err-place.ensures.1 in
     rw (p.1, p.2) (elim c.in_err-place.ensures.err [
       | inl bad ↦
-          block_stops text c.loop-left.end c.loop-left.section (blocks_between text 0 c.loop-left.entries.items) _ c.loop-left.invariant.same
+          block_stops text c.loop-left.end c.loop-left.section (frames_between text 0 c.loop-left.entries.items) _ c.loop-left.invariant.same
           c.split_at.result.1.now c.split_at-in-loop-left.result.0.now c.in_ok-size.size c.in_err-place.field-0.0 left c.in_ok-size.ensures (omega arith) c.split_at-in-loop-left.ensures.front bad
-      | inr memory ↦ starved c.in_err-place.field-0.0 (blocks_between text 0 c.loop-left.entries.items) _ _ memory.0 c.loop-left.invariant.same
+      | inr memory ↦ starved c.in_err-place.field-0.0 (frames_between text 0 c.loop-left.entries.items) _ _ memory.0 c.loop-left.invariant.same
     ])
 
 pub loop-left-smaller : goal.loop-left-smaller
@@ -98,7 +98,7 @@ returns-in_default-clause-err c =
     let own = c.split_at.result.1.now in
     let left = c.split_at.ensures.back ∙ ap (λ place. drop place text) c.loop-left.invariant.at in
     let long = c.if-left-lt12.false in
-    size_stops text c.loop-left.end c.loop-left.section (blocks_between text 0 c.loop-left.entries.items) _ c.loop-left.invariant.same own BadMagic left
+    size_stops text c.loop-left.end c.loop-left.section (frames_between text 0 c.loop-left.entries.items) _ c.loop-left.invariant.same own BadMagic left
     (sym (size_long c.loop-left.section own (omega arith) ∙ ap (size_in own) c.in_default.ensures))
 
 pub read_block-requires-clause-known : goal.read_block-requires-clause-known

@@ -1,5 +1,5 @@
 use Rattle.std.proofs.Common.{[], ap, refl}
-use Rattle.pcap_capture.specs.Grammar.{CaptureState}
+use Rattle.capture_reader.specs.Formats.{CaptureState}
 use Rattle.capture_reader.proofs.ReadingLaws.{begun}
 use Rattle.capture_reader.proofs.reading.Progress.begin.Goals as goal
 

@@ -20,7 +20,7 @@ returns-in_err-added-clause-handed c = λ more frames text was.
     let p = c.args.port.now in
     let after : Conditioner = record c.decide_first.new.self { held = c.let_go_first.new.self } in
     let left = c.in-Some.packet in
-    let own = record_text p.accepted.now p.red p.heading.link c.first_frame.result.frame left in
+    let own = record_text p.accepted.now p.red c.first_frame.result.frame left in
     let both = handed p more frames text c.first_frame.result c.args.self.now c.decide_first.new.self after left c.decide_first.ensures.rest c.in-Some.ensures.decided refl
     c.let_go_first.ensures c.first_frame.ensures was in
     let q = err_from_is_err_and c.from_residual.result c.from_residual.ensures.1 in
@@ -31,7 +31,7 @@ returns-clause-handed c more frames text was =
     let p = c.args.port.now in
     let after : Conditioner = record c.decide_first.new.self { held = c.let_go_first.new.self } in
     let left = c.in-Some.packet in
-    let own = record_text p.accepted.now p.red p.heading.link c.first_frame.result.frame left in
+    let own = record_text p.accepted.now p.red c.first_frame.result.frame left in
     let both = handed p more frames text c.first_frame.result c.args.self.now c.decide_first.new.self after left c.decide_first.ensures.rest c.in-Some.ensures.decided refl
     c.let_go_first.ensures c.first_frame.ensures was in
     (own, c.in_ok-added.ensures both.0, both.1)

@@ -1,5 +1,5 @@
 use Rattle.std.proofs.Common.{◌≡◌, ◌++◌, [], List, ℕ, append-nil, refl, sym, ap, subst, ◌∙◌}
-use Rattle.pcap_capture.specs.Frames.{FrameValue}
+use Rattle.pcap_capture.specs.Frames.{FrameValue, link_in}
 use Rattle.frame_marker.specs.Marks.{IsMarkOf, mark_in}
 use Rattle.ds_conditioner.specs.Conditionings.{IsConditioned}
 use Rattle.ds_conditioner.specs.Fates.{fate_text}
@@ -34,17 +34,16 @@ returns-clause-next c =
 pub returns-clause-handed : goal.returns-clause-handed
 returns-clause-handed c more frames text was =
     let p = c.args.port.now in
-    let link = p.heading.link in
     let after : Conditioner = record c.decide_first.new.self { held = c.let_go_first.new.self } in
     let left = c.in-Some.packet in
     let first = c.first_mark.ensures in
     let fate = c.fate_of.result in
-    let own = record_text p.accepted.now p.red link first.0.frame.frame left in
+    let own = record_text p.accepted.now p.red first.0.frame.frame left in
     let both = handed p more frames text first.0.frame c.args.self.now c.decide_first.new.self after left c.decide_first.ensures.rest c.in-Some.ensures.decided refl
     c.let_go_first.ensures (first.0, first.1, first.2, refl) was in
     let held = sym (ap (λ (d : Conditioner). d.held.held) c.decide_first.ensures.rest) ∙ first.2 in
     let put = c.add.ensures in
     let same = (next_first c.args.stretch.now.coming c.add.new.self.coming put.0 c.args.self.now.held.held first.1 first.0 c.requires.next put.1 held).0 in
-    let told : fate_text put.0 fate ≡ record_text p.accepted.now p.red link put.0 left =
-    c.fate_of.ensures.text put.0 (first.3 ∙ both.0 ∙ ap (λ (g : FrameValue). mark_in link g.bytes) (sym same)) in
-    (own, put.2 ∙ ap (λ it. c.args.stretch.now.text ++ it) (told ∙ ap (λ (g : FrameValue). record_text p.accepted.now p.red link g left) same), both.1)
+    let told : fate_text put.0 fate ≡ record_text p.accepted.now p.red put.0 left =
+    c.fate_of.ensures.text put.0 (first.3 ∙ both.0 ∙ ap (λ (g : FrameValue). mark_in (link_in g.content) g.bytes) (sym same)) in
+    (own, put.2 ∙ ap (λ it. c.args.stretch.now.text ++ it) (told ∙ ap (λ (g : FrameValue). record_text p.accepted.now p.red g left) same), both.1)

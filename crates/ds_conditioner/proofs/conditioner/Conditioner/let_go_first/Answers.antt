@@ -16,4 +16,4 @@ returns-clause-handed c p more frames text was =
     let gone = c.let_go_first.ensures in
     let both = handed p more frames text gone.0.frame c.args.self.now c.decide_first.new.self after left c.decide_first.ensures.rest c.in-Some.ensures.decided refl
     gone (gone.0, c.let_go_first.new.self.held, gone.1, refl) was in
-    (text ++ record_text p.accepted.now p.red p.heading.link gone.0.frame.frame left, both.1)
+    (text ++ record_text p.accepted.now p.red gone.0.frame.frame left, both.1)

@@ -58,6 +58,6 @@ loop-place-preserved c =
       ahead = here.0 ∙ next.behind;
       records = omega (arith, was.records, c.take_in.ensures.records);
       seen = λ told before text at.
-          let there = seen_there (λ f s. IsSeenOf p f.bytes s) c.args.piece place c.loop-place.self.held.ahead next c.args.seen.now told within s c.index-seen-place.is in
+          let there = seen_there (λ f s. IsSeenOf p f s) c.args.piece place c.loop-place.self.held.ahead next c.args.seen.now told within s c.index-seen-place.is in
           joined p text before [] c.take_in.new.self c.args.piece place c.loop-place.self.held.ahead next (here.1 there (before ++ take place c.args.piece) text (was.seen told before text at));
     }

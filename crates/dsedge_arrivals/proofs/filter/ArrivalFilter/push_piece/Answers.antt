@@ -1,4 +1,4 @@
-use Rattle.std.proofs.Common.{◌≡◌, ℕ, List, ◌∷◌, [], ◌++◌, ◌+◌, max, ap, ap₂, sym, ◌∙◌, append-nil, append_assoc, arith, refl, take, length}
+use Rattle.std.proofs.Common.{◌≡◌, ℕ, List, ◌∷◌, [], ◌++◌, ◌+◌, max, ap, ap₂, sym, ◌∙◌, append-nil, append_assoc, arith, refl, take}
 use Rattle.std.proofs.lemmas.List.{take_more}
 use Rattle.pcap_capture.specs.Frames.{FrameValue}
 use Rattle.dsedge_arrivals.specs.Arrivals.{line_at, lines_from, newest_in, sight_in}
@@ -17,17 +17,16 @@ loop-place-preserved c =
     let more : take (c.loop-place.place + 1) frames ≡ first ++ f ∷ [] =
     take_more frames c.loop-place.place f (omega (arith, c.len-place-end.ensures)) ∙ ap (λ (g : FrameValue). first ++ g ∷ []) (sym c.frame-frame.ensures) in
     let now : c.later-now.result ≡ max (newest_in c.args.newest first) f.moment =
-    c.later-now.ensures ∙ ap₂ max c.loop-place.invariant.now c.moment.ensures.value in
-    let line = line_at c.args.self.now (sight_in c.args.self.now.port c.args.link f.bytes) in
+    c.later-now.ensures ∙ ap₂ max c.loop-place.invariant.now c.moment.ensures in
+    let line = line_at c.args.self.now (sight_in c.args.self.now.port f) in
     let before = c.args.out.now.items in
-    let so_far = lines_from c.args.self.now c.args.link c.args.newest first in
+    let so_far = lines_from c.args.self.now c.args.newest first in
     record {
       now = now ∙ sym (newest_in-one c.args.newest first f) ∙ ap (newest_in c.args.newest) (sym more);
       lines = c.in_ok-push_frame.ensures
-          ∙ ap (λ (out : List ℕ). out ++ line_at c.args.self.now (sight_in c.args.self.now.port c.args.link c.bytes.result.now) c.later-now.result) c.loop-place.invariant.lines
-          ∙ append_assoc before so_far (line_at c.args.self.now (sight_in c.args.self.now.port c.args.link c.bytes.result.now) c.later-now.result)
-          ∙ ap (λ (bytes : List ℕ). before ++ (so_far ++ line_at c.args.self.now (sight_in c.args.self.now.port c.args.link bytes) c.later-now.result)) c.bytes.ensures
+          ∙ ap (λ (out : List ℕ). out ++ line c.later-now.result) c.loop-place.invariant.lines
+          ∙ append_assoc before so_far (line c.later-now.result)
           ∙ ap (λ (m : ℕ). before ++ (so_far ++ line m)) now
-          ∙ ap (λ (t : List ℕ). before ++ t) (sym (lines_from-one c.args.self.now c.args.link c.args.newest first f))
-          ∙ ap (λ (fs : List FrameValue). before ++ lines_from c.args.self.now c.args.link c.args.newest fs) (sym more);
+          ∙ ap (λ (t : List ℕ). before ++ t) (sym (lines_from-one c.args.self.now c.args.newest first f))
+          ∙ ap (λ (fs : List FrameValue). before ++ lines_from c.args.self.now c.args.newest fs) (sym more);
     }

@@ -6,5 +6,5 @@ use Rattle.dsedge_arrivals.proofs.filter.ArrivalFilter.push_piece.Given as goal
 abbrev pub invariant-loop-place : goal.invariant-loop-place
 invariant-loop-place l = record {
   now : l.now ≡ newest_in l.fn.newest (take l.place l.piece);
-  lines : l.out.items ≡ l.fn.out.items ++ lines_from l.self l.link l.fn.newest (take l.place l.piece);
+  lines : l.out.items ≡ l.fn.out.items ++ lines_from l.self l.fn.newest (take l.place l.piece);
 }

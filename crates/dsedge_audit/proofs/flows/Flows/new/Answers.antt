@@ -1,6 +1,6 @@
 use Rattle.std.proofs.Common.{◌≡◌, ◌<◌, ◌∙◌, length, get_or, is_some, true, sym, ap, subst, arith, bytes_eq}
 use Rattle.std.specs.Map.{lookup}
-use Rattle.dsedge_texts.proofs.NamedLaws.{noted_again, noted_next}
+use Rattle.ds_offers.proofs.NamedLaws.{noted_again, noted_next}
 use Rattle.dsedge_audit.proofs.flows.Flows.new.Goals.{then-not-contains_key+in_ok-insert, else-not-contains_key}
 use Rattle.dsedge_audit.proofs.flows.Flows.new.Goals as goal
 

@@ -5,4 +5,4 @@ use Rattle.pcap_capture.proofs.piece.Piece.is_empty.Goals as goal
 pub returns : goal.returns
 returns c =
     c.is_empty.ensures
-    ∙ ap (λ n. n == 0) (c.self.inside.records.ok.0 ∙ sym (length-frames c.self.inside.text 0 c.self.inside.records.items) ∙ ap length c.self.view_is)
+    ∙ ap (λ n. n == 0) (c.self.inside.entries.ok.0 ∙ sym (length-frames c.self.inside.text 0 c.self.inside.entries.items) ∙ ap length c.self.view_is)

@@ -4,4 +4,4 @@ use Rattle.pcap_capture.proofs.piece.Piece.len.Goals as goal
 
 pub returns : goal.returns
 returns c =
-    c.len.ensures ∙ c.self.inside.records.ok.0 ∙ sym (length-frames c.self.inside.text 0 c.self.inside.records.items) ∙ ap length c.self.view_is
+    c.len.ensures ∙ c.self.inside.entries.ok.0 ∙ sym (length-frames c.self.inside.text 0 c.self.inside.entries.items) ∙ ap length c.self.view_is

@@ -35,7 +35,7 @@ returns-then-branch-clause-ok c =
 pub read_records-done-requires : goal.read_records-done-requires
 read_records-done-requires c =
     let went = c.in_ok-end.ensures in
-    cut_behind c.self.inside.text c.args.rest.now c.as_slice-2.result.now c.self.inside.records.items c.args.self.now c.in_ok-end.end
+    cut_behind c.self.inside.text c.args.rest.now c.as_slice-2.result.now c.self.inside.entries.items c.args.self.now c.in_ok-end.end
     (record { frames = c.self.view_is; cut = c.self.invariant; start_is = went.0; all_is = c.as_slice-2.ensures ∙ went.1 })
 
 pub split_at-requires : goal.split_at-requires
@@ -57,7 +57,7 @@ returns-in_err-done-clause-err c =
     let fault = c.in_err-done.field-0.0 in
     let went = c.in_ok-end.ensures in
     let stops : Stops (prepend c.args.self.now (records heading rest)) (frames_between (take end all) 0 now) fault =
-    stopped_behind heading c.self.inside.text rest all c.self.inside.records.items now c.args.self.now c.in_ok-end.end end fault
+    stopped_behind heading c.self.inside.text rest all c.self.inside.entries.items now c.args.self.now c.in_ok-end.end end fault
     (record { frames = c.self.view_is; cut = c.self.invariant; start_is = went.0; all_is = c.as_slice-2.ensures ∙ went.1 })
     c.read_records-done.ensures.cut c.in_err-done.ensures.err in
     let text : c.truncate.new.self ≡ take end all = c.truncate.ensures ∙ ap (take end) (sym c.as_slice-2.ensures) in
@@ -78,7 +78,7 @@ returns-clause-ok c =
     let went = c.in_ok-end.ensures in
     let same : c.as_slice-3.result.now ≡ all = c.as_slice-3.ensures ∙ sym c.as_slice-2.ensures in
     let kept : c.replace-kept.new.self ≡ drop end all = c.in-Ok.ensures ∙ c.split_at.ensures.back ∙ ap (drop end) same in
-    let read = read_behind heading c.self.inside.text rest all c.replace-kept.new.self c.self.inside.records.items now c.args.self.now c.in_ok-end.end end
+    let read = read_behind heading c.self.inside.text rest all c.replace-kept.new.self c.self.inside.entries.items now c.args.self.now c.in_ok-end.end end
     (record { frames = c.self.view_is; cut = c.self.invariant; start_is = went.0; all_is = c.as_slice-2.ensures ∙ went.1 })
     c.read_records-done.ensures.cut kept c.in_ok-done.ensures.settled c.in_ok-done.ensures.ok in
     let text : c.truncate.new.self ≡ take end all = c.truncate.ensures ∙ ap (take end) (sym c.as_slice-2.ensures) in
@@ -105,7 +105,7 @@ returns-in_default-clause-err c =
     let end = c.read_records-done.new.end in
     let went = c.in_ok-end.ensures in
     let stops : Stops (prepend c.args.self.now (records heading rest)) (frames_between (take end all) 0 now) NoMemory =
-    starved_behind heading c.self.inside.text rest all c.self.inside.records.items now c.args.self.now c.in_ok-end.end end
+    starved_behind heading c.self.inside.text rest all c.self.inside.entries.items now c.args.self.now c.in_ok-end.end end
     (record { frames = c.self.view_is; cut = c.self.invariant; start_is = went.0; all_is = c.as_slice-2.ensures ∙ went.1 })
     c.read_records-done.ensures.cut c.in_ok-done.ensures.ok in
     let text : c.truncate.new.self ≡ take end all = c.truncate.ensures ∙ ap (take end) (sym c.as_slice-2.ensures) in

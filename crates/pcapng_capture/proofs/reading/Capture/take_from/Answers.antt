@@ -1,7 +1,8 @@
 use Rattle.std.proofs.Common.{◌≡◌, ℕ, false, None, Some, Err, sym, ap, ◌∙◌, inr}
 use Rattle.std.proofs.lemmas.Result.{err_from_is_err_and}
 use Rattle.pcapng_capture.specs.Grammar.{CaptureState, broken}
-use Rattle.pcapng_capture.specs.Readings.{is_read_fault}
+use Rattle.pcap_capture.specs.Takings.{is_read_fault}
+use Rattle.pcap_capture.proofs.OwnLaws.{own_unread}
 use Rattle.pcapng_capture.proofs.OwnLaws.{stops_own_by}
 use Rattle.pcapng_capture.proofs.TakingLaws.{failed_again, gone_on, starved_first}
 use Rattle.pcapng_capture.proofs.reading.Capture.take_from.Goals as goal
@@ -34,7 +35,7 @@ returns-in_err-go_on-clause-err g c =
 pub returns-in_err-go_on-clause-reads : goal.returns-in_err-go_on-clause-reads
 returns-in_err-go_on-clause-reads g c =
     let fault = c.in_err-go_on.field-0.0 in
-    let unread : is_read_fault {T = ℕ} (Err fault) ≡ false = stops_own_by fault c.args.out.now c.go_on.new.out _ _ c.in_err-go_on.ensures.err.1 in
+    let unread : is_read_fault {T = ℕ} (Err fault) ≡ false = own_unread fault (stops_own_by fault c.args.out.now c.go_on.new.out _ _ c.in_err-go_on.ensures.err.1) in
     let p = err_from_is_err_and c.from_residual.result c.from_residual.ensures.1 in
     rw (p.1, p.2) (rw unread (rw c.in-Ok-answer.is at c.in-Ok.ensures.reads))
 

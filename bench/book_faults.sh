@@ -1,0 +1,69 @@
+#!/bin/bash
+# Looks for a broker that answers with a book that was not sold, or that lacks a command that it answered, where its
+# file is damaged, or the disk fails or is full. It prints what came of each kind, and ends with status 1 where one
+# was wrong.
+#
+#     bench/book_faults.sh [STEP] [AT ONCE]
+#
+# Bytes: a small book is sold, and its broker ends by itself, or is killed. In each of these two books each byte of
+# the file, and each STEP-th of its log (each by default), is changed, in its lowest bit and in all of them, so many
+# at once (as many as there are processors). The next broker tells a fault and nothing else, or shows exactly what was
+# sold after one of the commands, with the rows of these commands in the file; but for a change of the log it shows
+# all that was sold.
+#
+# Calls: by `strace` each call of write, pwrite64, fsync, fdatasync, ftruncate, pread64, fallocate and openat on the
+# files fails in turn with EIO or ENOSPC, alone or with all that follow it, while a new book is sold, and while one goes
+# on whose broker was killed; and so do those that copy a long log into the file amid a sale. The broker tells a fault,
+# the next one has every command that was answered, and at most one more, and sqlite3 finds the file sound.
+#
+# Disks: on a tmpfs of 4, 8, .. 512 KiB the broker sells until it is full. All that it answered is there, on that disk
+# or as it tells that it cannot be read there, and in a copy with room. This needs the right to mount, or namespaces
+# of users.
+set -u
+
+bench=$(CDPATH='' cd -- "$(dirname -- "$0")" && pwd)
+program=${DSEDGE:-$bench/../crates/dsedge/out/dsedge}
+step=${1:-1}
+at_once=${2:-$(nproc)}
+if [ ! -x "$program" ]; then
+    echo "book_faults.sh: $program is not built: ./dsedge builds it" >&2
+    exit 2
+fi
+for tool in sqlite3 strace; do
+    if [ -z "$(command -v "$tool")" ]; then
+        echo "book_faults.sh: there is no $tool" >&2
+        exit 2
+    fi
+done
+# syncs cost nothing there
+folder=$(mktemp -d -p /dev/shm)
+trap 'rm -rf "$folder"' EXIT
+trap 'exit 1' INT TERM
+rustc -O --edition 2021 -o "$folder/judge" "$bench/judge_book/main.rs" || exit 2
+
+cp "$bench/../examples/tight_burst.toml" "$folder/small.toml"
+cat > "$folder/small" << 'END'
+reserve a
+release 1 1000000000
+reserve b
+retire 1 1005999999
+retire 1 1006000000
+reserve b
+release 2 2000000000
+reserve c
+END
+"$bench/generate_broker.sh" 512 > "$folder/large.toml"
+awk 'BEGIN {
+    for (contract = 0; contract < 512; contract++) print "reserve c" contract
+    for (contract = 1; contract <= 512; contract++) printf "release %d %.0f\n", contract, 1000000000 * contract
+    for (contract = 1; contract <= 512; contract++) printf "retire %d %.0f\n", contract, 1000000000 * (1000 + contract)
+}' > "$folder/large"
+
+failed=0
+"$folder/judge" bytes "$program" "$folder/small.toml" "$folder/small" "$folder/room" "$step" "$at_once" || failed=1
+"$folder/judge" calls "$program" "$folder/small.toml" "$folder/small" "$folder/room" || failed=1
+"$folder/judge" copying "$program" "$folder/large.toml" "$folder/large" "$folder/room" || failed=1
+apart=(unshare -m)
+[ "$(id -u)" -eq 0 ] || apart=(unshare -rm)
+"${apart[@]}" "$folder/judge" full "$program" "$folder/large.toml" "$folder/large" "$folder/room" 4 512 || failed=1
+exit "$failed"

@@ -1,0 +1,3 @@
+-- Lemmas on names and their places.
+pub mod NamedLaws
+pub mod NameLaws

@@ -1,0 +1,2 @@
+-- Answers of texts.
+pub mod Replies

@@ -1,0 +1,10 @@
+//! What the program answers of texts alone, how an answer ends, and what is told of that.
+#![tactic(auto)]
+
+mod answering;
+mod concluding;
+mod conclusion;
+
+pub use answering::{answer_certify, answer_check, answer_headroom, answer_lines, answer_text};
+pub use concluding::{refusal_outcome, status_for, tell_fault, tell_outcome};
+pub use conclusion::Conclusion;

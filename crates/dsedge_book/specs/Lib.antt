@@ -1,0 +1,3 @@
+-- What is told of a book that a ledger keeps.
+pub mod Held
+pub mod Told
