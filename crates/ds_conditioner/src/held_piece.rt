@@ -106,7 +106,7 @@ impl HeldPiece {
         requires marked { CanBeNoted mark self.old.ahead }
         ensures { IsNoted mark packet self.old self.new }
     {
-        self.notes.push(Note { mark, packet }).unwrap();
+        self.notes.push(note_of(mark, packet)).unwrap();
     }
 
     /// The packet of the first frame that is held.
@@ -161,6 +161,47 @@ impl HeldPiece {
     {
         self.next += 1;
     }
+}
+
+/// What is noted of a frame. It is put together part by part: a processor waits where a struct is copied whole of which
+/// parts were stored just before.
+#[inline(always)]
+fn note_of(mark: Option<Mark>, packet: Option<Sent>) -> Note
+    ensures { result ≡ record { mark = mark; packet = packet } }
+{
+    let mark = match mark {
+        None => None,
+        Some(
+            Mark {
+                start,
+                family,
+                verified,
+            },
+        ) => Some(Mark {
+            start,
+            family,
+            verified,
+        }),
+    };
+    let packet = match packet {
+        None => None,
+        Some(
+            Sent {
+                packet,
+                moment,
+                flow,
+                size,
+                dscp,
+            },
+        ) => Some(Sent {
+            packet,
+            moment,
+            flow,
+            size,
+            dscp,
+        }),
+    };
+    Note { mark, packet }
 }
 
 /// The frame at a place of a piece that is shared.
