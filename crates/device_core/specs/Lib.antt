@@ -1,0 +1,4 @@
+pub mod Doubles
+pub mod RteMeter
+pub mod Police
+pub mod Devices
