@@ -18,7 +18,8 @@ ticks_in microseconds = whole_part (product (double_of microseconds) (quotient (
 
 -- a burst as tc tells it: none where a number on the way does not fit
 abbrev pub ticks_of : ℕ → ℕ → Option ℕ
-ticks_of rate burst = option_and_then (λ microseconds. narrow (ticks_in microseconds)) (narrow (microseconds_of rate burst))
+ticks_of rate burst =
+    option_and_then (λ microseconds. narrow (ticks_in microseconds)) (narrow (microseconds_of rate burst))
 
 -- The fewest doublings of a unit from 1 on, 34 at most, after which 10^9 units by the rate have 32 binary digits
 -- (psched_ratecfg_precompute).

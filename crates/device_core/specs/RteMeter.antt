@@ -14,8 +14,8 @@ bytes_a_second rate = (rate + 7) / 8
 abbrev pub period_of : ℕ → Float
 period_of rate = quotient (double_of 1000000000) (double_of rate)
 
--- A byte each whole part of the period, where that is 100 cycles or more; else as many bytes as are due in 100 cycles at
--- the least, each whole part of their time.
+-- A byte each whole part of the period, where that is 100 cycles or more; else as many bytes as are due in 100 cycles
+-- at the least, each whole part of their time.
 unfoldable pub steps_of : ℕ → Steps
 steps_of rate =
     if Ieee.le (double_of 100) (period_of rate) then

@@ -1,5 +1,5 @@
-//! What devices make of a token bucket's rate and burst: a policer of Linux, as `tc` of iproute2 sets it, and the meters
-//! of DPDK.
+//! What devices make of a token bucket's rate and burst: a policer of Linux, as `tc` of iproute2 sets it, and the
+//! meters of DPDK.
 #![tactic(auto)]
 
 pub mod device;

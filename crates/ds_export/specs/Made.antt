@@ -30,7 +30,11 @@ made_or_none device rate burst = if nat_eq burst 0 then Some 0 else made_burst d
 -- the parameters of a single-rate meter, by what becomes of its bursts
 abbrev pub single_rate_by : Device → SrTcmParameters → Option ℕ → Option ℕ → Result Parameters Unmade
 single_rate_by device p (Some cbs) (Some ebs) =
-    if_sound (SrTcm (record { committed_rate = made_rate device p.committed_rate; committed_burst = cbs; excess_burst = ebs }))
+    if_sound (SrTcm (record {
+      committed_rate = made_rate device p.committed_rate;
+      committed_burst = cbs;
+      excess_burst = ebs;
+    }))
 single_rate_by device p None ebs = Err (Burst fields.CommittedBurst)
 single_rate_by device p (Some cbs) None = Err (Burst fields.ExcessBurst)
 
@@ -71,8 +75,8 @@ separate_rates_on device p =
     separate_rates_by device p (made_burst device p.committed_rate p.committed_burst)
     (made_burst device p.excess_rate p.excess_burst)
 
--- The parameters of the meter that a device makes of some. Policers have no bucket that another one fills, so they make no
--- single-rate meter.
+-- The parameters of the meter that a device makes of some. Policers have no bucket that another one fills, so they make
+-- no single-rate meter.
 abbrev pub made_parameters : Device → Parameters → Result Parameters Unmade
 made_parameters Police (SrTcm p) = Err Kind
 made_parameters RteMeter (SrTcm p) = single_rate_on RteMeter p
