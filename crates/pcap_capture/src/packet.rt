@@ -76,7 +76,8 @@ fn type_at(place: usize, bytes: &[u8]) -> u16
 #[inline(always)]
 #[tactic(auto, unfolding(crate::specs::Packets::behind_tags))]
 fn behind_heading(place: usize, size: usize, bytes: &[u8]) -> Option<PacketStart>
-    requires { place + 2 ≤ size }
+    requires type_there { place + 2 ≤ size }
+    requires few { size ≤ 20 }
     ensures value { result ≡ behind_heading place size bytes.now }
     ensures within { IfSome result (λ p. p.start ≤ length bytes.now) }
 {
@@ -84,9 +85,13 @@ fn behind_heading(place: usize, size: usize, bytes: &[u8]) -> Option<PacketStart
         return None;
     }
     let kind = type_at(place, bytes);
-    // Most packets are these.
+    // Most packets are these,
     if kind == IPV4 {
         return Some(begins_at(Family::Ipv4, size));
+    }
+    // or these.
+    if is_tag(kind) && bytes.len() >= size + 4 && type_at(size + 2, bytes) == IPV4 {
+        return Some(begins_at(Family::Ipv4, size + 4));
     }
     behind_tags(MOST_TAGS, kind, size, bytes)
 }
