@@ -37,8 +37,9 @@ keeps_same old new end history same is_open keeps = record {
   sound = keeps.sound;
 }
 
-pub may_keep : (old : State) (end : End) (commands : List Command) (db : Trees) → MayAppend old (rows_from end commands) db → MayKeep old end commands db
-may_keep old end commands db may = record {
+pub may_keep : (old : State) (end : End) (commands : List Command) (db : Trees) → All IsSound commands → MayAppend old (rows_from end commands) db → MayKeep old end commands db
+may_keep old end commands db sound may = record {
   was_open = may.was_open;
+  sound = sound;
   rows = λ history keeps. subst (λ (rows : List Row). IsPermutation rows (rows_in db)) (rows_more end commands history keeps.counted) (may.whole (rows_of history) keeps.rows);
 }

@@ -76,3 +76,7 @@ pub own_row : (end next : End) (c : Command) → next ≡ next_end end c → cel
 own_row end next (Reserve contract) is = ap (λ (e : End). cells_of e.serial (id_of e.granted (Reserve contract)) (Reserve contract)) is
 own_row end next (Release id at) is = ap (λ (e : End). cells_of e.serial (id_of e.granted (Release id at)) (Release id at)) is
 own_row end next (Retire id moment) is = ap (λ (e : End). cells_of e.serial (id_of e.granted (Retire id moment)) (Retire id moment)) is
+
+pub as_many_rows : (end : End) (commands : List Command) → length (rows_from end commands) ≡ length commands
+as_many_rows end [] = refl
+as_many_rows end (c ∷ commands) = omega (arith, as_many_rows (next_end end c) commands)

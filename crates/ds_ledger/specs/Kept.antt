@@ -4,10 +4,6 @@ use Rattle.sqlite_value.specs.Order.{Row}
 use Rattle.sqlite_trees.specs.Tree.{Trees}
 use Rattle.sqlite.specs.Effect.{Database}
 use Rattle.sqlite.specs.Recovery.{Image}
-use Rattle.sqlite_disk.specs.declared.Disk.{Ghosts}
-use Rattle.sqlite.specs.declared.FileStore.{FileStore}
-use Rattle.sqlite.specs.FileStore.{view, recovers}
-use Rattle.sqlite.specs.Held.{Held, IsConnected}
 use Rattle.sqlite.specs.Files.{AreFoundIn, HoldsDatabase}
 use Rattle.sqlite.specs.State.{State, HasCleanDisk}
 use Rattle.ds_broker.specs.Histories.{standing_of}
@@ -18,6 +14,7 @@ use Rattle.ds_ledger_rows.specs.Cells.{cells_of, id_of}
 use Rattle.ds_ledger_rows.specs.Sound.{IsSound}
 use Rattle.ds_ledger_table.specs.Form.{no_schema}
 use Rattle.ds_ledger_table.specs.Rows.{Holds, rows_in}
+use Rattle.ds_ledger.specs.Lasting.{IsBehind}
 use Rattle.ds_ledger.specs.declared.ledger.End.{End}
 
 -- the rows of commands that were accepted behind these, with their serials and their ids
@@ -76,11 +73,30 @@ pub record Keeps (s : State) (end : End) (history : List Command) : Type 0 where
 -- What a crash on the way of an appending may leave anew: the rows of all commands, where the database was open.
 pub record MayKeep (s : State) (end : End) (commands : List Command) (db : Trees) : Type 0 where
   pub was_open : IsTrue s.is_open
+  pub sound : All IsSound commands
   pub rows : (history : List Command) → Keeps s end history → IsPermutation (rows_of (history ++ commands)) (rows_in db)
 
 -- a database had the rows of these commands, or there was nothing in it and there are none
 abbrev pub WasFound : Database → List Command → Type 0
 WasFound db history = Holds db (rows_of history) ⊎ ((db.schema ≡ no_schema) × (history ≡ []))
+
+-- commands that have exactly the rows of a database
+pub record AreFound (db : Trees) (found : List Command) : Type 0 where
+  pub rows : IsPermutation (rows_of found) (rows_in db)
+  pub sound : All IsSound found
+
+-- what a crash at this moment may leave has the rows of these commands
+abbrev pub MayLeave : State → List Command → Type 0
+MayLeave s found = (db : Trees) × s.may_leave db × AreFound db found
+
+-- whatever a crash at this moment leaves has the rows of these commands
+abbrev pub Outlasts : State → List Command → Type 0
+Outlasts s history = (db : Trees) → s.may_leave db → AreFound db history
+
+-- Commands that were answered: whatever a crash leaves has those that were kept before, with these behind them.
+abbrev pub Lasts : State → End → State → List Command → Type 0
+Lasts old end new commands =
+    IsTold old × ((found : List Command) → MayLeave new found → IsBehind (Keeps old end) commands found)
 
 -- What an open finds that begins with these contents of the two files: the database that they hold.
 pub record IsFound (image : Image) (found : Trees) : Type 0 where
@@ -92,7 +108,4 @@ pub record WasFoundIn (image : Image) (history : List Command) : Type 0 where
   pub db : Database
   pub finds : IsFound image db.trees
   pub was : WasFound db history
-
--- the invariant of the type of a connection to files, which the kit keeps and no clause of it hands out
-abbrev pub IsHeld : {D : Type 0} {g : Ghosts D} → Held (FileStore D g) → Type 0
-IsHeld held = IsConnected (view held.store) (recovers held.store) held.schema held.saved held.in_transaction
+  pub are : AreFound db.trees history

@@ -1,9 +1,9 @@
-ghost use Rattle.std.specs.Prelude.{◌≡◌, ◌++◌, IfOk, List, OnErr, OnOk};
+ghost use Rattle.std.specs.Prelude.{◌<◌, IfOk, OnErr, OnOk, length};
 ghost use Rattle.sqlite.specs.Files.{file_state};
-ghost use Rattle.sqlite.specs.State.{Survives};
+ghost use Rattle.sqlite.specs.State.{HasCleanDisk, Survives};
 ghost use Rattle.sqlite.specs.WalFiles.{image_at};
-ghost use Rattle.ds_broker.specs.declared.command.Command.{Command};
-ghost use Rattle.ds_ledger.specs.Kept.{IsTold, Keeps, MayKeep, WasFoundIn};
+ghost use Rattle.ds_ledger.specs.Lasting.{KeepsMore, KeepsSame};
+ghost use Rattle.ds_ledger.specs.Kept.{IsTold, Keeps, Lasts, MayKeep, Outlasts, WasFoundIn};
 
 use crate::fault::fault_of_open;
 use crate::ledger::SqlLedger;
@@ -76,13 +76,16 @@ impl Ledger for FileLedger {
     ghost keeps = { λ ledger history. Keeps (file_state ledger.rows.conn) ledger.rows.end history };
 
     fn append(&mut self, commands: &[Command]) -> Result<(), LedgerFault>
-        ensures appended { IsTold (file_state self.new.rows.conn) → OnOk result ((history : List Command) →
-            Keeps (file_state self.old.rows.conn) self.old.rows.end history →
-            Keeps (file_state self.new.rows.conn) self.new.rows.end (history ++ commands.now)) }
-        ensures unchanged { IsTold (file_state self.new.rows.conn) → OnErr result ((history : List Command) →
-            Keeps (file_state self.old.rows.conn) self.old.rows.end history →
-            Keeps (file_state self.new.rows.conn) self.new.rows.end history) }
+        ensures appended { IsTold (file_state self.new.rows.conn) → OnOk result (KeepsMore
+            (Keeps (file_state self.old.rows.conn) self.old.rows.end)
+            (Keeps (file_state self.new.rows.conn) self.new.rows.end) commands.now) }
+        ensures unchanged { IsTold (file_state self.new.rows.conn) → OnErr result (KeepsSame
+            (Keeps (file_state self.old.rows.conn) self.old.rows.end)
+            (Keeps (file_state self.new.rows.conn) self.new.rows.end)) }
         ensures told { IsTold (file_state self.new.rows.conn) → IsTold (file_state self.old.rows.conn) }
+        ensures lasting { HasCleanDisk (file_state self.new.rows.conn) → OnOk result (0 < length commands.now →
+            Lasts (file_state self.old.rows.conn) self.old.rows.end (file_state self.new.rows.conn)
+            commands.now) }
         ensures crash { Survives (file_state self.old.rows.conn) (file_state self.new.rows.conn)
             (MayKeep (file_state self.old.rows.conn) self.old.rows.end commands.now) }
     {
@@ -105,6 +108,8 @@ pub fn open_ledger<S: Start>(
         Keeps (file_state opened.0.conn) opened.0.end opened.1.items) }
     ensures found { IfOk result (λ opened. IsTold (file_state opened.0.conn) →
         WasFoundIn (image_at S.Start) opened.1.items) }
+    ensures lasting { IfOk result (λ opened. HasCleanDisk (file_state opened.0.conn) →
+        Outlasts (file_state opened.0.conn) opened.1.items) }
 {
     make_file(rt, path)?;
     match Connection::open_from(rt, path, true, start) {

@@ -1,12 +1,13 @@
 //! What rows tell, and what a crash leaves.
-ghost use Rattle.std.specs.Prelude.{◌≡◌};
+ghost use Rattle.std.specs.Prelude.{◌≡◌, List};
 ghost use Rattle.sqlite.specs.Files.{file_state};
 ghost use Rattle.sqlite.specs.FileStore as store;
 ghost use Rattle.sqlite.specs.Held.{state};
 ghost use Rattle.sqlite.specs.Recovery.{Image};
-ghost use Rattle.sqlite.specs.State.{HasCleanDisk};
 ghost use Rattle.sqlite.specs.Tree.{Trees};
-ghost use Rattle.ds_ledger.specs.Kept.{IsFound, IsHeld, IsTold};
+ghost use Rattle.sqlite.specs.View.{IsClean};
+ghost use Rattle.ds_broker.specs.declared.command.Command.{Command};
+ghost use Rattle.ds_ledger.specs.Kept.{IsTold, MayLeave, WasFoundIn};
 ghost use Rattle.ds_ledger.specs.Laws.{RowsTellCommands};
 
 use crate::ledger::SqlLedger;
@@ -26,11 +27,11 @@ pub fn crash_leaves_last_commit<S: Alter + Drop>(ledger: &SqlLedger<S>)
     let _ledger = &ledger.conn;
 }
 
-/// Where a connection keeps the invariant of its type, an open that begins with what a crash leaves of the two files finds
-/// one of the databases that it may leave.
-pub fn crash_is_found_again<D: Disk + Drop>(ledger: &SqlLedger<FileStore<D>>)
-    ensures { IsHeld ledger.now.conn → HasCleanDisk (file_state ledger.now.conn) → (left : Image) → (store.state ledger.now.conn.store).may_leave left →
-        (found : Trees) → IsFound left found → ∥ (file_state ledger.now.conn).may_leave found ∥₁ }
+/// Gives up a ledger. An open that begins with what a crash leaves then of the two files finds commands that the ledger
+/// leaves. This is so behind any calls, and whatever call it was from which on the disk failed, as it does in a crash.
+pub fn crash_is_found_again<D: Disk + Drop>(ledger: SqlLedger<FileStore<D>>) -> FileStore<D>
+    ensures { IsClean (store.view result) → (left : Image) → (store.state result).may_leave left →
+        (found : List Command) → WasFoundIn left found → ∥ MayLeave (file_state ledger.conn) found ∥₁ }
 {
-    let _ledger = &ledger.conn;
+    ledger.into_connection().into_store()
 }

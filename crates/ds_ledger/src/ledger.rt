@@ -1,11 +1,11 @@
-ghost use Rattle.std.specs.Prelude.{◌≡◌, ◌++◌, All, [], ◌∷◌, IfOk, IfSome, List, OnErr, OnOk};
+ghost use Rattle.std.specs.Prelude.{◌≡◌, ◌<◌, ◌++◌, All, [], ◌∷◌, IfOk, IfSome, IsTrue, OnErr, OnOk, length};
 ghost use Rattle.sqlite.specs.Held.{state};
-ghost use Rattle.sqlite.specs.State.{Survives};
-ghost use Rattle.ds_broker.specs.declared.command.Command.{Command};
+ghost use Rattle.sqlite.specs.State.{HasCleanDisk, Survives};
+ghost use Rattle.ds_ledger.specs.Lasting.{KeepsMore, KeepsSame};
 ghost use Rattle.ds_ledger_rows.specs.Cells.{id_of};
 ghost use Rattle.ds_ledger_rows.specs.Sound.{IsSound};
 ghost use Rattle.ds_ledger_table.specs.Rows.{IsRow};
-ghost use Rattle.ds_ledger.specs.Kept.{IsTold, Keeps, MayKeep, end_after, granted_by, next_end, row_at, rows_from};
+ghost use Rattle.ds_ledger.specs.Kept.{IsTold, Keeps, Lasts, MayKeep, end_after, granted_by, next_end, row_at, rows_from};
 
 use crate::fault::fault_of_write;
 use ds_broker::Command;
@@ -126,6 +126,27 @@ impl<S: Alter + Drop> SqlLedger<S> {
         } = self;
         conn
     }
+
+    /// Keeps commands behind all others, by one commit.
+    fn keep(&mut self, commands: &[Command]) -> Result<(), LedgerFault>
+        ensures appended { IsTold (state S.Store self.new.conn) → OnOk result (KeepsMore
+            (Keeps (state S.Store self.old.conn) self.old.end) (Keeps (state S.Store self.new.conn) self.new.end)
+            commands.now) }
+        ensures unchanged { IsTold (state S.Store self.new.conn) → OnErr result (KeepsSame
+            (Keeps (state S.Store self.old.conn) self.old.end) (Keeps (state S.Store self.new.conn) self.new.end)) }
+        ensures told { IsTold (state S.Store self.new.conn) → IsTold (state S.Store self.old.conn) }
+        ensures open { HasCleanDisk (state S.Store self.new.conn) →
+            OnOk result (0 < length commands.now → IsTrue (state S.Store self.new.conn).is_open) }
+        ensures crash { Survives (state S.Store self.old.conn) (state S.Store self.new.conn)
+            (MayKeep (state S.Store self.old.conn) self.old.end commands.now) }
+    {
+        let (rows, end) = rows_of(self.alloc, self.end, commands)?;
+        if let Err(error) = append(&mut self.conn, rows.as_slice()) {
+            return Err(fault_of_write(error));
+        }
+        self.end = end;
+        Ok(())
+    }
 }
 
 impl<S: Alter + Drop> Ledger for SqlLedger<S> {
@@ -136,20 +157,17 @@ impl<S: Alter + Drop> Ledger for SqlLedger<S> {
     ghost keeps = { λ ledger history. Keeps (state S.Store ledger.conn) ledger.end history };
 
     fn append(&mut self, commands: &[Command]) -> Result<(), LedgerFault>
-        ensures appended { IsTold (state S.Store self.new.conn) → OnOk result ((history : List Command) →
-            Keeps (state S.Store self.old.conn) self.old.end history →
-            Keeps (state S.Store self.new.conn) self.new.end (history ++ commands.now)) }
-        ensures unchanged { IsTold (state S.Store self.new.conn) → OnErr result ((history : List Command) →
-            Keeps (state S.Store self.old.conn) self.old.end history →
-            Keeps (state S.Store self.new.conn) self.new.end history) }
+        ensures appended { IsTold (state S.Store self.new.conn) → OnOk result (KeepsMore
+            (Keeps (state S.Store self.old.conn) self.old.end) (Keeps (state S.Store self.new.conn) self.new.end)
+            commands.now) }
+        ensures unchanged { IsTold (state S.Store self.new.conn) → OnErr result (KeepsSame
+            (Keeps (state S.Store self.old.conn) self.old.end) (Keeps (state S.Store self.new.conn) self.new.end)) }
         ensures told { IsTold (state S.Store self.new.conn) → IsTold (state S.Store self.old.conn) }
-        ensures crash { Survives (state S.Store self.old.conn) (state S.Store self.new.conn) (MayKeep (state S.Store self.old.conn) self.old.end commands.now) }
+        ensures lasting { HasCleanDisk (state S.Store self.new.conn) → OnOk result (0 < length commands.now →
+            Lasts (state S.Store self.old.conn) self.old.end (state S.Store self.new.conn) commands.now) }
+        ensures crash { Survives (state S.Store self.old.conn) (state S.Store self.new.conn)
+            (MayKeep (state S.Store self.old.conn) self.old.end commands.now) }
     {
-        let (rows, end) = rows_of(self.alloc, self.end, commands)?;
-        if let Err(error) = append(&mut self.conn, rows.as_slice()) {
-            return Err(fault_of_write(error));
-        }
-        self.end = end;
-        Ok(())
+        self.keep(commands)
     }
 }

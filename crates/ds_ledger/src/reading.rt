@@ -1,11 +1,12 @@
 //! How a ledger is read from its database.
-ghost use Rattle.std.specs.Prelude.{◌≡◌, ◌++◌, ◌∷◌, [], All, IfOk, IsPermutation, IsTrue, OnOk};
+ghost use Rattle.std.specs.Prelude.{◌≡◌, ◌++◌, ◌∷◌, [], All, IfErr, IfOk, IsPermutation, IsTrue, OnOk, true};
 ghost use Rattle.sqlite.specs.Held.{state};
 ghost use Rattle.sqlite.specs.State.{HasCleanDisk, IsUnchanged, Survives};
 ghost use Rattle.ds_ledger_rows.specs.Sound.{IsSound};
 ghost use Rattle.ds_ledger_table.specs.Form.{ledger_schema};
-ghost use Rattle.ds_ledger_table.specs.Rows.{rows_in};
-ghost use Rattle.ds_ledger.specs.Kept.{IsRead, IsTold, Keeps, WasFound, end_of, row_at, rows_of};
+ghost use Rattle.ds_ledger_table.specs.Rows.{TellsForm, rows_in};
+ghost use Rattle.ds_ledger.specs.Opened.{IsFormless, IsMisread, IsReadOver, IsStop, IsUnopened, IsUnreadOver, fault_of};
+ghost use Rattle.ds_ledger.specs.Kept.{IsRead, IsTold, Keeps, Outlasts, WasFound, end_of, row_at, rows_of};
 
 use crate::fault::{fault_of_read, fault_of_write};
 use crate::ledger::{End, SqlLedger};
@@ -27,19 +28,31 @@ enum Stop {
 }
 
 impl From<Error> for Stop {
+    ghost use Rattle.std.specs.Prelude.{◌≡◌};
+    ghost use Rattle.ds_ledger.specs.declared.reading.Stop.TheVariants.{Database};
+
+    ghost from_gives = { λ error stop. stop ≡ Database error };
+
     fn from(error: Error) -> Self {
         Stop::Database(error)
     }
 }
 
 impl From<LedgerFault> for Stop {
+    ghost use Rattle.std.specs.Prelude.{◌≡◌};
+    ghost use Rattle.ds_ledger.specs.declared.reading.Stop.TheVariants.{Row};
+
+    ghost from_gives = { λ fault stop. stop ≡ Row fault };
+
     fn from(fault: LedgerFault) -> Self {
         Stop::Row(fault)
     }
 }
 
 /// What it is told as.
-fn fault_of(stop: Stop) -> LedgerFault {
+fn fault_of(stop: Stop) -> LedgerFault
+    ensures { result ≡ fault_of stop }
+{
     match stop {
         Stop::Database(error) => fault_of_read(error),
         Stop::Row(fault) => fault,
@@ -64,6 +77,7 @@ fn copied(alloc: Global, shown: &Shown) -> Result<Row, AllocError>
 fn command_of(alloc: Global, end: End, shown: &Shown) -> Result<Command, LedgerFault>
     ensures row { IfOk result (λ command. shown.now ≡ row_at end command) }
     ensures sound { IfOk result IsSound }
+    ensures refused { IfErr result IsMisread }
 {
     let Ok(row) = copied(alloc, shown) else {
         return Err(LedgerFault::NoMemory);
@@ -99,7 +113,9 @@ impl Found {
 
     /// Reads the next row.
     fn add(&mut self, alloc: Global, shown: &Shown) -> Result<(), LedgerFault>
-        ensures { OnOk result (IsRead self.old.commands.items self.new.commands.items self.old.end self.new.end shown.now) }
+        ensures read { OnOk result
+            (IsRead self.old.commands.items self.new.commands.items self.old.end self.new.end shown.now) }
+        ensures refused { IfErr result IsMisread }
     {
         let command = command_of(alloc, self.end, shown)?;
         let Some(next) = self.end.next(&command) else {
@@ -120,6 +136,7 @@ fn commands_in<S: Alter>(alloc: Global, conn: &mut Connection<S>) -> Result<Foun
         IsPermutation (rows_of found.commands.items) (rows_in (state S.Store conn.old).now.trees)) }
     ensures end { IfOk result (λ found. found.end ≡ end_of found.commands.items) }
     ensures sound { IfOk result (λ found. All IsSound found.commands.items) }
+    ensures refused { IfErr result IsStop }
     ensures same { HasCleanDisk (state S.Store conn.new) →
         OnOk result (IsUnchanged (state S.Store conn.old) (state S.Store conn.new)) }
     ensures crash { Survives (state S.Store conn.old) (state S.Store conn.new) (λ _. ⊥) }
@@ -135,17 +152,31 @@ fn commands_in<S: Alter>(alloc: Global, conn: &mut Connection<S>) -> Result<Foun
     Err(Stop::Row(LedgerFault::Damaged))
 }
 
+/// Refuses a database that has not the form of a ledger's, in its version.
+fn expect_form<S: Alter>(conn: &mut Connection<S>) -> Result<(), LedgerFault>
+    ensures formed { HasCleanDisk (state S.Store conn.new) → OnOk result (TellsForm (state S.Store conn.old).now true
+        × IsUnchanged (state S.Store conn.old) (state S.Store conn.new)) }
+    ensures refused { HasCleanDisk (state S.Store conn.new) →
+        IfErr result (IsFormless (state S.Store conn.old) (state S.Store conn.new)) }
+    ensures crash { Survives (state S.Store conn.old) (state S.Store conn.new) (λ _. ⊥) }
+{
+    match has_form(conn) {
+        Ok(true) => Ok(()),
+        Ok(false) => Err(LedgerFault::Form),
+        Err(error) => Err(fault_of_read(error)),
+    }
+}
+
 /// The commands that a database in the form of a ledger's keeps. Refused as the ledger in it would be.
 pub(crate) fn commands_over<S: Alter + Drop>(
     alloc: Global,
     conn: Connection<S>,
-) -> Result<Vec<Command>, LedgerFault> {
+) -> Result<Vec<Command>, LedgerFault>
+    ensures read { IfOk result (λ commands. IsReadOver S.Store conn commands.items) }
+    ensures refused { IfErr result (IsUnreadOver S.Store conn) }
+{
     let mut conn = conn;
-    match has_form(&mut conn) {
-        Ok(true) => {}
-        Ok(false) => return Err(LedgerFault::Form),
-        Err(error) => return Err(fault_of_read(error)),
-    }
+    expect_form(&mut conn)?;
     match commands_in(alloc, &mut conn) {
         Ok(Found { commands, end: _ }) => Ok(commands),
         Err(stop) => Err(fault_of(stop)),
@@ -154,8 +185,9 @@ pub(crate) fn commands_over<S: Alter + Drop>(
 
 /// The ledger in a database, which is given the form of one where it has nothing in it, and the commands that it keeps.
 ///
-/// Refused: `Form` where it has another form, `Damaged` where a row is that of no command in its turn, `Write` where the
-/// disk fails, `NoMemory` where memory runs out.
+/// Refused, in this order: `Write` where it has nothing in it and cannot be given the form; `Form` where it has another
+/// form or version; `Damaged` where a row is that of no command in its turn; `Form` where a transaction is open. On the
+/// way `Write` where the disk fails, `NoMemory` where memory runs out, and `Damaged` for what else the database tells.
 pub fn ledger_over<S: Alter + Drop>(
     alloc: Global,
     conn: Connection<S>,
@@ -164,17 +196,17 @@ pub fn ledger_over<S: Alter + Drop>(
         Keeps (state S.Store opened.0.conn) opened.0.end opened.1.items) }
     ensures found { IfOk result (λ opened. IsTold (state S.Store opened.0.conn) →
         WasFound (state S.Store conn).committed opened.1.items) }
-    ensures crash { IfOk result (λ opened. Survives (state S.Store conn) (state S.Store opened.0.conn) (λ db. rows_in db ≡ [])) }
+    ensures lasting { IfOk result (λ opened. HasCleanDisk (state S.Store opened.0.conn) →
+        Outlasts (state S.Store opened.0.conn) opened.1.items) }
+    ensures refused { IfErr result (IsUnopened S.Store conn) }
+    ensures crash { IfOk result (λ opened.
+        Survives (state S.Store conn) (state S.Store opened.0.conn) (λ db. rows_in db ≡ [])) }
 {
     let mut conn = conn;
     if let Err(error) = settle(&mut conn) {
         return Err(fault_of_write(error));
     }
-    match has_form(&mut conn) {
-        Ok(true) => {}
-        Ok(false) => return Err(LedgerFault::Form),
-        Err(error) => return Err(fault_of_read(error)),
-    }
+    expect_form(&mut conn)?;
     let Found { commands, end } = match commands_in(alloc, &mut conn) {
         Ok(found) => found,
         Err(stop) => return Err(fault_of(stop)),

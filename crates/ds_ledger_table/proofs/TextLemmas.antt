@@ -8,7 +8,7 @@ use Rattle.sqlite.specs.Command.TheVariants.{Insert, Select}
 use Rattle.sqlite.specs.Listing.{understood, reads_listing}
 use Rattle.sqlite_tied.specs.Compute.{everything}
 use Rattle.sqlite.proofs.Callers.{IsPlain, command_of}
-use Rattle.ds_ledger_table.specs.Form.{ledger_schema, insert_text, select_text}
+use Rattle.ds_ledger_table.specs.Form.{ledger_schema, insert_text, select_text, version_query}
 
 abbrev pub terms : List Term
 terms = col 0 0 ∷ lit Null ∷ map (col 0) (range_with_len 1 27)
@@ -44,3 +44,25 @@ select_is = (refl, refl)
 pub select_plain : IsPlain (understood ledger_schema select_text)
 unfolding understood everything
 select_plain = (refl, refl)
+
+-- what reads the form's version
+abbrev pub version_body : Query
+version_body = record {
+  from = inner 1 end;
+  filter = [];
+  group = None;
+  project = col 1 0 ∷ [];
+  distinct = false;
+  collations = [];
+  order = [];
+  limit = lit (Int (negsuc 0));
+  offset = lit (Int (pos 0));
+}
+
+pub version_is : (command_of (understood ledger_schema version_query) ≡ Select (record { lets = []; body = version_body }) (codes "version" ∷ [])) × (reads_listing ledger_schema version_query ≡ false)
+unfolding understood everything
+version_is = (refl, refl)
+
+pub version_plain : IsPlain (understood ledger_schema version_query)
+unfolding understood everything
+version_plain = (refl, refl)

@@ -1,5 +1,5 @@
 -- The rows of a ledger's table.
-use Rattle.std.specs.Prelude.{◌≡◌, ◌&&◌, ◌++◌, Bool, true, false, List, [], ◌∷◌, map, IsTrue, IsPermutation}
+use Rattle.std.specs.Prelude.{◌≡◌, ◌≢◌, ◌⊎◌, ◌&&◌, ◌++◌, ℤ, pos, Bool, true, false, List, [], ◌∷◌, map, Contains, IsTrue, IsPermutation, Ok, Err}
 use Rattle.std.specs.List.{range_with_len}
 use Rattle.sqlite.specs.declared.types.Value.{Value}
 use Rattle.sqlite.specs.declared.types.Value.TheVariants as value
@@ -10,8 +10,10 @@ use Rattle.sqlite_schema.specs.declared.schema.Column.{Column}
 use Rattle.sqlite.specs.Tree.{Trees}
 use Rattle.sqlite.specs.View.{is_int}
 use Rattle.sqlite.specs.Effect.{Database}
-use Rattle.sqlite.specs.State.{State}
-use Rattle.ds_ledger_table.specs.Form.{no_schema, ledger_schema, command_columns}
+use Rattle.sqlite.specs.State.{State, HasCleanDisk, KeepsCommit, QueriesRow}
+use Rattle.sqlite.specs.declared.error.Error.{Error}
+use Rattle.sqlite.specs.Reading.{IsReadError}
+use Rattle.ds_ledger_table.specs.Form.{no_schema, ledger_schema, command_columns, version_query}
 
 -- a row of the table as a query shows it: the rowid in place of the column that it stands for
 abbrev pub shown : Row → Row
@@ -78,3 +80,34 @@ pub record IsMade (old new : State) : Type 0 where
   pub is_open : IsTrue new.is_open
   pub blank : old.committed.schema ≡ no_schema
   pub made : Holds new.committed []
+
+-- what is so of the states before and behind a step within a transaction, where the disk told the truth
+abbrev pub AddsWithin : State → State → List Row → Type 0
+AddsWithin old new rows =
+    HasCleanDisk new → IsTrue old.in_transaction → old.now.schema ≡ ledger_schema → Adds old new rows
+
+abbrev pub KeepsWithin : State → State → Type 0
+KeepsWithin old new = HasCleanDisk new → IsTrue old.in_transaction → KeepsCommit old new
+
+abbrev pub WasOpenWithin : State → State → Type 0
+WasOpenWithin old new = HasCleanDisk new → IsTrue old.in_transaction → IsTrue old.is_open
+
+-- the form's versions in a database, as a query shows them: there is to be one
+abbrev pub versions_in : Trees → List Row
+versions_in db = map (λ r. column r 0 ∷ []) (db 1)
+
+abbrev pub TellsVersion : Trees → ℤ → Type 0
+TellsVersion db version = (row : Row) × Contains (versions_in db) row × (column row 0 ≡ value.Int version)
+
+-- whether a database has the form of a ledger's, in version 1
+abbrev pub TellsForm : Database → Bool → Type 0
+TellsForm db true = (db.schema ≡ ledger_schema) × TellsVersion db.trees (pos 1)
+TellsForm db false =
+    (db.schema ≢ ledger_schema)
+    ⊎ ((db.schema ≡ ledger_schema) × (version : ℤ) × (version ≢ pos 1) × TellsVersion db.trees version)
+
+-- Why that is not found out: the query of the version fails, or it shows none, or no number.
+abbrev pub FailsToTellForm : State → State → Error → Type 0
+FailsToTellForm old new e =
+    QueriesRow version_query [] old new (Err e)
+    ⊎ ((row : Row) × QueriesRow version_query [] old new (Ok row) × IsReadError 0 (column row 0) e)

@@ -1,5 +1,5 @@
 //! The form of a ledger's database.
-ghost use Rattle.std.specs.Prelude.{◌≡◌, ◌∷◌, [], IsTrue, Some, map};
+ghost use Rattle.std.specs.Prelude.{◌≡◌, ◌↔◌, ◌∷◌, [], IsTrue, Some, map};
 ghost use Rattle.ds_ledger_table.specs.Form.{column as column_of, free_table, ledger_schema, table as table_of, view as view_of};
 
 use sqlite_schema::schema::{Column, Kind, Schema, Stamps, Table, View};
@@ -80,7 +80,8 @@ const FORM_COLUMNS: [(&str, Kind); 1] = [("version", Kind::Integer)];
 
 /// Whether a schema is that of a ledger.
 pub(crate) fn is_form(schema: &Schema) -> bool
-    ensures { IsTrue result → schema.now ≡ ledger_schema }
+    ensures only { IsTrue result → schema.now ≡ ledger_schema }
+    ensures all { schema.now ≡ ledger_schema → IsTrue result }
 {
     let tables = schema.tables.as_slice();
     let views = schema.views.as_slice();
@@ -94,7 +95,7 @@ pub(crate) fn is_form(schema: &Schema) -> bool
 
 /// Whether a view has this name, this number and this text.
 fn is_view(view: &View, name: &str, tree: u32, sql: &str) -> bool
-    ensures { IsTrue result → view.now ≡ view_of name.now tree sql.now }
+    ensures { IsTrue result ↔ (view.now ≡ view_of name.now tree sql.now) }
 {
     view.name.as_slice() == name.as_bytes()
         && view.tree == tree
@@ -106,7 +107,8 @@ fn is_view(view: &View, name: &str, tree: u32, sql: &str) -> bool
 
 /// Whether a table has this name, this number and these columns, the first of which is its key, and nothing else.
 fn is_table(table: &Table, name: &str, tree: u32, columns: &[(&str, Kind)]) -> bool
-    ensures { IsTrue result → table.now ≡ table_of name.now tree (map (λ c. column_of c.0.now c.1) columns.now) }
+    ensures { IsTrue result
+        ↔ (table.now ≡ table_of name.now tree (map (λ c. column_of c.0.now c.1) columns.now)) }
 {
     table.name.as_slice() == name.as_bytes()
         && table.tree == tree
@@ -117,14 +119,14 @@ fn is_table(table: &Table, name: &str, tree: u32, columns: &[(&str, Kind)]) -> b
 
 /// Whether a table's first column is its key.
 fn is_keyed(table: &Table) -> bool
-    ensures { IsTrue result → (table.now.key ≡ Some 0) × (table.now.primary ≡ 0 ∷ []) }
+    ensures { IsTrue result ↔ ((table.now.key ≡ Some 0) × (table.now.primary ≡ 0 ∷ [])) }
 {
     matches!(table.key, Some(0)) && table.primary.as_slice() == [0].as_slice()
 }
 
 /// Whether a table has no rule beside its key.
 fn is_free(table: &Table) -> bool
-    ensures { IsTrue result → table.now ≡ free_table table.now }
+    ensures { IsTrue result ↔ (table.now ≡ free_table table.now) }
 {
     table.uniques.is_empty()
         && table.orders.is_empty()
@@ -137,14 +139,14 @@ fn is_free(table: &Table) -> bool
 
 /// Whether no default reads the time.
 fn has_no_stamps(stamps: &Stamps) -> bool
-    ensures { IsTrue result → stamps.now ≡ record { places = []; terms = []; formats = [] } }
+    ensures { IsTrue result ↔ (stamps.now ≡ record { places = []; terms = []; formats = [] }) }
 {
     stamps.places.is_empty() && stamps.terms.roots.is_empty() && stamps.formats.is_empty()
 }
 
 /// Whether columns have these names and kinds, and nothing else.
 fn has_columns(own: &[Column], columns: &[(&str, Kind)]) -> bool
-    ensures { IsTrue result → own.now ≡ map (λ c. column_of c.0.now c.1) columns.now }
+    ensures { IsTrue result ↔ (own.now ≡ map (λ c. column_of c.0.now c.1) columns.now) }
 {
     if own.len() != columns.len() {
         return false;
@@ -160,7 +162,7 @@ fn has_columns(own: &[Column], columns: &[(&str, Kind)]) -> bool
 
 /// Whether a column has this name and this kind, and may be NULL.
 fn is_column(column: &Column, name: &str, kind: Kind) -> bool
-    ensures { IsTrue result → column.now ≡ column_of name.now kind }
+    ensures { IsTrue result ↔ (column.now ≡ column_of name.now kind) }
 {
     column.name.as_slice() == name.as_bytes()
         && column.kind == kind

@@ -3,8 +3,8 @@ ghost use Rattle.std.specs.Prelude.{◌≡◌, ◌<◌, All, IsTrue, OnErr, OnOk
 ghost use Rattle.sqlite.specs.Held.{state};
 ghost use Rattle.sqlite.specs.State.{ExecutesInside, HasCleanDisk, KeepsCommit, Survives};
 ghost use Rattle.sqlite.specs.Values.{bound};
-ghost use Rattle.ds_ledger_table.specs.Form.{insert_text, ledger_schema};
-ghost use Rattle.ds_ledger_table.specs.Rows.{Adds, IsAppended, IsRow, MayAppend};
+ghost use Rattle.ds_ledger_table.specs.Form.{insert_text};
+ghost use Rattle.ds_ledger_table.specs.Rows.{AddsWithin, IsAppended, IsRow, KeepsWithin, MayAppend, WasOpenWithin};
 
 use crate::form::{COLUMNS, INSERT};
 use sqlite::{Alter, Connection, Error, ErrorCode, Transaction};
@@ -41,16 +41,11 @@ fn insert<S: Alter>(transaction: &mut Transaction<'_, S>, row: &Row) -> Result<u
 fn insert_all<S: Alter>(transaction: &mut Transaction<'_, S>, rows: &[Row]) -> Result<(), Error>
     requires { All IsRow rows.now }
     ensures same_reference { transaction.new.conn.ghost_name ≡ transaction.old.conn.ghost_name }
-    ensures rows { HasCleanDisk (state S.Store transaction.new.conn.now) →
-        IsTrue (state S.Store transaction.old.conn.now).in_transaction →
-        (state S.Store transaction.old.conn.now).now.schema ≡ ledger_schema →
-        OnOk result (Adds (state S.Store transaction.old.conn.now) (state S.Store transaction.new.conn.now) rows.now) }
-    ensures kept { HasCleanDisk (state S.Store transaction.new.conn.now) →
-        IsTrue (state S.Store transaction.old.conn.now).in_transaction →
-        KeepsCommit (state S.Store transaction.old.conn.now) (state S.Store transaction.new.conn.now) }
-    ensures live { HasCleanDisk (state S.Store transaction.new.conn.now) →
-        IsTrue (state S.Store transaction.old.conn.now).in_transaction →
-        OnOk result (0 < length rows.now → IsTrue (state S.Store transaction.old.conn.now).is_open) }
+    ensures rows { OnOk result (AddsWithin (state S.Store transaction.old.conn.now)
+        (state S.Store transaction.new.conn.now) rows.now) }
+    ensures kept { KeepsWithin (state S.Store transaction.old.conn.now) (state S.Store transaction.new.conn.now) }
+    ensures live { OnOk result (0 < length rows.now → WasOpenWithin (state S.Store transaction.old.conn.now)
+        (state S.Store transaction.new.conn.now)) }
     ensures survives { Survives (state S.Store transaction.old.conn.now)
         (state S.Store transaction.new.conn.now) (λ _. ⊥) }
 {
@@ -60,14 +55,18 @@ fn insert_all<S: Alter>(transaction: &mut Transaction<'_, S>, rows: &[Row]) -> R
     Ok(())
 }
 
-/// Appends rows, all of them or none, and commits them. Where it fails, nothing is changed.
+/// Appends rows, all of them or none, and commits them. Where it fails, nothing is changed. A database that was shut by
+/// a failure takes none.
 pub fn append<S: Alter>(conn: &mut Connection<S>, rows: &[Row]) -> Result<(), Error>
     requires { All IsRow rows.now }
     ensures appended { HasCleanDisk (state S.Store conn.new) →
         OnOk result (IsAppended (state S.Store conn.old) (state S.Store conn.new) rows.now) }
     ensures unchanged { HasCleanDisk (state S.Store conn.new) →
         OnErr result (KeepsCommit (state S.Store conn.old) (state S.Store conn.new)) }
-    ensures crash { Survives (state S.Store conn.old) (state S.Store conn.new) (MayAppend (state S.Store conn.old) rows.now) }
+    ensures open { HasCleanDisk (state S.Store conn.new) →
+        OnOk result (0 < length rows.now → IsTrue (state S.Store conn.new).is_open) }
+    ensures crash { Survives (state S.Store conn.old) (state S.Store conn.new)
+        (MayAppend (state S.Store conn.old) rows.now) }
 {
     if !conn.is_autocommit() {
         return Err(Error::SqliteFailure(ErrorCode::TransactionState));

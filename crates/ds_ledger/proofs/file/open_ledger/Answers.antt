@@ -3,20 +3,29 @@ use Rattle.sqlite.specs.Files.{file_state}
 use Rattle.sqlite.specs.State.{HasCleanDisk, Survives}
 use Rattle.sqlite.specs.WalFiles.{image_at}
 use Rattle.ds_ledger_table.specs.Rows.{rows_in}
-use Rattle.ds_ledger.specs.Kept.{IsTold, WasFound, WasFoundIn}
+use Rattle.ds_ledger.specs.Kept.{IsTold, Keeps, WasFound, WasFoundIn}
+use Rattle.ds_ledger.proofs.BlankLaws.{are_found}
 use Rattle.ds_ledger.proofs.file.open_ledger.Goals as goal
 
-both : {X Y : Type 0} (r : Result X Y) (P Q R : X → Type 0) → ((x : X) → P x → Q x → R x) → IfOk r P → IfOk r Q → IfOk r R
-both (Ok x) P Q R f p q = f x p q
-both (Err e) P Q R f p q = tt
+all_three : {X Y : Type 0} (r : Result X Y) (P Q R T : X → Type 0) → ((x : X) → P x → Q x → R x → T x) → IfOk r P → IfOk r Q → IfOk r R → IfOk r T
+all_three (Ok x) P Q R T f p q r = f x p q r
+all_three (Err e) P Q R T f p q r = tt
 
 pub returns-in-Ok-clause-found : goal.returns-in-Ok-clause-found
 returns-in-Ok-clause-found g c =
     let first = file_state c.in-Ok.conn in
-    both c.ledger_over.result (λ opened. IsTold (file_state opened.0.conn) → WasFound first.committed opened.1.items) (λ opened. Survives first (file_state opened.0.conn) (λ db. rows_in db ≡ []))
+    all_three c.ledger_over.result (λ opened. IsTold (file_state opened.0.conn) → WasFound first.committed opened.1.items) (λ opened. Survives first (file_state opened.0.conn) (λ db. rows_in db ≡ []))
+    (λ opened. IsTold (file_state opened.0.conn) → Keeps (file_state opened.0.conn) opened.0.end opened.1.items)
     (λ opened. IsTold (file_state opened.0.conn) → WasFoundIn (image_at g.S.Start) opened.1.items)
-    (λ opened found crash told.
+    (λ opened found crash kept told.
     let early : HasCleanDisk first = omega (arith, crash.clean, told.0) in
     let finds = c.in-Ok.ensures.found early in
-    record { db = first.committed; finds = record { holds = finds.holds; reads = finds.reads }; was = found told })
-    c.ledger_over.ensures.found c.ledger_over.ensures.crash
+    let opens = c.in-Ok.ensures.opened early in
+    let whole = opens.1 opens.0.is_open in
+    record {
+      db = first.committed;
+      finds = record { holds = finds.holds; reads = finds.reads };
+      was = found told;
+      are = record { rows = are_found (image_at g.S.Start) first.committed opened.1.items (found told) whole.1 finds.reads; sound = (kept told).sound };
+    })
+    c.ledger_over.ensures.found c.ledger_over.ensures.crash c.ledger_over.ensures.kept

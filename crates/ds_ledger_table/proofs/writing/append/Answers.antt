@@ -38,7 +38,15 @@ returns-clause-crash g c =
     let early = λ (clean : HasCleanDisk end). let was : HasCleanDisk last = omega (arith, c.commit.ensures.survives.clean) in was in
     let whole = survives_then old last end _ _ (MayAppend old c.args.rows.now) (λ _ db none. absurd none)
     (λ clean db is. may_append old first last c.args.rows.now (rw begun refl) (rw begun refl) settled (c.insert_all.ensures.kept (early clean) inside)
-    (c.in_ok-insert_all.ensures.rows (early clean) inside) (rw begun at (c.in_ok-insert_all.ensures.live (early clean) inside some)) db is)
+    (c.in_ok-insert_all.ensures.rows (early clean) inside) (rw begun at (c.in_ok-insert_all.ensures.live some (early clean) inside)) db is)
     (survives_begin g.S.Store c.args.conn.now last _ (rw begun at c.insert_all.ensures.survives)) c.commit.ensures.survives in
     let same : c.commit.new.self.0 ≡ c.conn-2-1.given.0 = search rules in
     subst (λ h. Survives old (state g.S.Store h) (MayAppend old c.args.rows.now)) same whole
+
+pub returns-clause-open : goal.returns-clause-open
+returns-clause-open g c clean =
+    let end = c.commit.new.self.0 in
+    let same : end ≡ c.conn-2-1.given.0 = search rules in
+    let late : HasCleanDisk (state g.S.Store end) = search rules in
+    subst (λ h. OnOk c.commit.result (0 < length c.args.rows.now → IsTrue (state g.S.Store h).is_open)) same
+    (on_ok_weaker c.commit.result (λ ran some. ran.1.is_open) (c.commit.ensures.ok late))
