@@ -8,11 +8,12 @@ _dsedge() {
         --red) COMPREPLY=($(compgen -W 'keep drop' -- "$word")); return ;;
         --workers) COMPREPLY=($(compgen -W '1 2 3 4 8 16 32 64' -- "$word")); return ;;
         --book) COMPREPLY=($(compgen -f -- "$word")); return ;;
-        --contracts | --commands | --cir | --cbs | --ebs | --pir | --pbs | --eir | --origin | --rate | --burst | --port | --contract) return ;;
+        --contracts | --commands | --cir | --cbs | --ebs | --pir | --pbs | --eir | --origin | --rate | --burst | --port | --contract | --meter) return ;;
+        --to) COMPREPLY=($(compgen -W 'tc dpdk' -- "$word")); return ;;
         --most) COMPREPLY=($(compgen -W 'cir cbs pir pbs eir ebs' -- "$word")); return ;;
     esac
     if [ "$COMP_CWORD" -eq 1 ]; then
-        COMPREPLY=($(compgen -W 'meter envelope certify check headroom quote audit drive book mark arrivals --help --version' -- "$word"))
+        COMPREPLY=($(compgen -W 'meter envelope certify check headroom draw quote export audit drive book mark arrivals --help --version' -- "$word"))
         return
     fi
     case $command in
@@ -27,6 +28,12 @@ _dsedge() {
         quote)
             case $word in
                 -*) COMPREPLY=($(compgen -W '--contract --most --count --help' -- "$word")) ;;
+                *) COMPREPLY=($(compgen -f -- "$word")) ;;
+            esac
+            ;;
+        export)
+            case $word in
+                -*) COMPREPLY=($(compgen -W '--meter --to --help' -- "$word")) ;;
                 *) COMPREPLY=($(compgen -f -- "$word")) ;;
             esac
             ;;
@@ -48,7 +55,7 @@ _dsedge() {
                 *) COMPREPLY=($(compgen -f -- "$word")) ;;
             esac
             ;;
-        certify | check | headroom | audit)
+        certify | check | headroom | draw | audit)
             case $word in
                 -*) COMPREPLY=($(compgen -W '--help' -- "$word")) ;;
                 *) COMPREPLY=($(compgen -f -- "$word")) ;;

@@ -209,7 +209,11 @@ unrefused t met =
     ∙ together (bound_tests 0 t.domain t.contracts t.certificate) (table_tests t.domain t.contracts t.certificate t.domain.meters)
     (bounded 0 t.domain t.contracts t.certificate met.0) (all_carried t.domain t.contracts t.certificate t.domain.meters met.1)
 
--- and nothing against its shape and its bounds
+-- nothing stands against the shape and the bounds of a certificate
+pub certificate_stands : (t : Table) → IsCertificate t.domain t.contracts t.certificate → bounds_refusal_of t ≡ None
+certificate_stands t met =
+    ap (bounds_refusal_behind t) (fitting 0 t.domain t.contracts t.certificate met) ∙ bounded 0 t.domain t.contracts t.certificate met
+
+-- nor against those of an acceptable table
 pub bounds_stand : (t : Table) → IsAcceptable t → bounds_refusal_of t ≡ None
-bounds_stand t met =
-    ap (bounds_refusal_behind t) (fitting 0 t.domain t.contracts t.certificate met.0) ∙ bounded 0 t.domain t.contracts t.certificate met.0
+bounds_stand t met = certificate_stands t met.0

@@ -15,5 +15,6 @@ pub mod PlaceLaws
 pub mod RoutedHoldLaws
 pub mod RoutedLaws
 pub mod RoutedPlaceLaws
+pub mod SurveyLaws
 pub mod WayLaws
 pub mod WalkLaws

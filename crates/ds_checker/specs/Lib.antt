@@ -10,6 +10,7 @@ pub mod Places
 pub mod Refusals
 pub mod Routed
 pub mod Sums
+pub mod Surveys
 pub mod TableTests
 pub mod Tests
 -- what the clauses here cite of the crates below

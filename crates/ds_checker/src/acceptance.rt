@@ -54,7 +54,7 @@ fn judged(alloc: Global, candidate: &Candidate) -> Result<(Vec<SharedRoute>, Vec
 
 /// The routes of the contracts of a candidate of whose shape and bounds nothing is wrong; else the first test of these
 /// that fails; `NoMemory` where none does and memory runs out. The names of each contract are looked up once.
-fn bounded(alloc: Global, candidate: &Candidate) -> Result<Vec<SharedRoute>, Refusal>
+pub(crate) fn bounded(alloc: Global, candidate: &Candidate) -> Result<Vec<SharedRoute>, Refusal>
     ensures unrefused { OnOk result (bounds_refusal_of (table_of candidate.now) ≡ None) }
     ensures routes { IfOk result
         (λ routes. routes.items ≡ map (route_of candidate.now.domain) candidate.now.contracts.items) }

@@ -14,6 +14,7 @@ pub mod laws;
 pub mod load;
 pub mod refusal;
 pub mod routed;
+pub mod survey;
 pub mod table;
 
 pub use acceptance::check;
@@ -22,3 +23,4 @@ pub use candidate::{Accepted, Candidate};
 pub use headroom::{Growth, Headroom, Utilization};
 pub use refusal::Refusal;
 pub use routed::hold_on_route;
+pub use survey::{Survey, survey_of};

@@ -1,5 +1,6 @@
 ghost use Rattle.std.specs.Prelude.{◌≡◌, false};
 ghost use Rattle.dsedge_answers.specs.Replies.{IsOfWrites, IsServed, Reply, reply_by, reply_of, reply_on, reply_told};
+ghost use Rattle.dsedge_draw.specs.Drawings.{drawn_in};
 ghost use Rattle.dsedge_lines.specs.Faults.{is_read_fault, is_write_fault};
 ghost use Rattle.dsedge_texts.specs.Accepted.{accepted_in};
 ghost use Rattle.dsedge_texts.specs.Certified.{certified};
@@ -9,6 +10,7 @@ ghost use Rattle.pcap_capture.specs.Counts.{IsOfReads};
 
 use crate::conclusion::Conclusion;
 use ds_domain_base::{DomainFault, Kind};
+use dsedge_draw::draw;
 use dsedge_lines::{Command, Ending, PumpFault, pump};
 use dsedge_texts::{TableFault, accept, certify, headroom};
 use pcap_capture::{Intake, Outlet, give_all};
@@ -67,6 +69,29 @@ pub fn answer_certify<O: Outlet>(
 {
     match certify(alloc, text) {
         Ok(certificate) => answer_text(certificate.as_slice(), Ending::Whole, output),
+        Err(
+            DomainFault {
+                kind: Kind::NoMemory,
+                ..
+            },
+        ) => Err(PumpFault::NoMemory),
+        Err(fault) => Ok(Conclusion::Unsound(fault)),
+    }
+}
+
+/// Answers with the picture of what a domain text says, in the words of Graphviz.
+pub fn answer_draw<O: Outlet>(
+    alloc: Global,
+    text: &[u8],
+    output: &mut O,
+) -> Result<Conclusion, PumpFault>
+    ensures served { O.tells output.old →
+        IsServed (reply_by (drawn_in text.now)) result (O.held output.old) (O.held output.new) }
+    ensures writes { IsOfWrites (is_write_fault result) (O.failed output.old) (O.failed output.new) }
+    ensures reads { is_read_fault result ≡ false }
+{
+    match draw(alloc, text) {
+        Ok(drawn) => answer_text(drawn.as_slice(), Ending::Whole, output),
         Err(
             DomainFault {
                 kind: Kind::NoMemory,

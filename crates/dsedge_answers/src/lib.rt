@@ -5,6 +5,8 @@ mod answering;
 mod concluding;
 mod conclusion;
 
-pub use answering::{answer_certify, answer_check, answer_headroom, answer_lines, answer_text};
+pub use answering::{
+    answer_certify, answer_check, answer_draw, answer_headroom, answer_lines, answer_text,
+};
 pub use concluding::{refusal_outcome, status_for, tell_fault, tell_outcome};
 pub use conclusion::Conclusion;

@@ -9,8 +9,9 @@ use Rattle.clap.specs.declared.error.kind.ErrorKind.TheVariants.{DisplayHelp, Di
 use Rattle.clap.proofs.OnLiterals.{clap_on_literals}
 use Rattle.dsedge_base.specs.CommandLine.{dsedge}
 use Rattle.ds_broker.specs.Books.{Limits}
+use Rattle.device_core.specs.declared.device.Device.{Device}
 use Rattle.ds_quotes.specs.declared.asked.Asked.{Asked}
-use Rattle.dsedge_base.specs.Options.{Given, drive_given, envelope_given, is_set, marking_given, meter_given, place_given, quote_given, table_given, ◌>>=◌}
+use Rattle.dsedge_base.specs.Options.{Given, drive_given, envelope_given, export_given, is_set, marking_given, meter_given, place_given, quote_given, table_given, ◌>>=◌}
 use Rattle.dsedge_base.specs.Plans.{IsExplanationOf, IsMalformed, IsOfForm, IsPlanOf, IsRefusalOf, IsShown, IsWellFormed, IsWish, asked_by, asks_other_workers, book_given, given_by, mark_given, plan_of}
 use Rattle.dsedge_base.specs.declared.explanation.Explanation.{Explanation}
 use Rattle.dsedge_base.specs.declared.explanation.Explanation.TheVariants.{Form, Value, Workers}
@@ -18,7 +19,7 @@ use Rattle.dsedge_base.specs.declared.fault.UsageFault.{UsageFault}
 use Rattle.dsedge_base.specs.declared.fault.UsageFault.TheVariants.{Usage, NoMemory}
 use Rattle.dsedge_base.specs.declared.work.GivenPort.{GivenPort}
 use Rattle.dsedge_base.specs.declared.work.Plan.{Plan}
-use Rattle.dsedge_base.specs.declared.work.Plan.TheVariants.{Arrivals, Audit, Book, Certify, Check, Drive, Envelope, Headroom, Mark, Meter, Quote, Show}
+use Rattle.dsedge_base.specs.declared.work.Plan.TheVariants.{Arrivals, Audit, Book, Certify, Check, Draw, Drive, Envelope, Export, Headroom, Mark, Meter, Quote, Show}
 
 -- the parser says exactly what it makes of a command line such as the program's
 pub dsedge-simple : is_simple dsedge ≡ true
@@ -46,9 +47,18 @@ headroom-no_text : (domain : Option (List ℕ)) (text : String Global) → (doma
 headroom-no_text None text e = cc
 headroom-no_text (Some d) text e = cc
 
+draw-no_text : (domain : Option (List ℕ)) (text : String Global) → (domain >>= (λ d. Some (Draw d))) ≡ Some (Show text) → ⊥
+draw-no_text None text e = cc
+draw-no_text (Some d) text e = cc
+
 quote-no_text : (quote : Option (List ℕ × List ℕ × Asked)) (text : String Global) → (quote >>= (λ q. Some (Quote q.0 q.1 q.2))) ≡ Some (Show text) → ⊥
 quote-no_text None text e = cc
 quote-no_text (Some q) text e = cc
+
+export-no_text : (export : Option (List ℕ × List ℕ × Device)) (text : String Global)
+    → (export >>= (λ e. Some (Export e.0 e.1 e.2))) ≡ Some (Show text) → ⊥
+export-no_text None text e = cc
+export-no_text (Some x) text e = cc
 
 drive-no_text : (drive : Option (List ℕ × Limits × Option (List ℕ))) (text : String Global) → (drive >>= (λ d. Some (Drive d.0 d.1 d.2))) ≡ Some (Show text) → ⊥
 drive-no_text None text e = cc
@@ -101,14 +111,16 @@ command-no_text c text =
     (either-no_text (bytes_eq c.0 (codes "envelope")) _ _ text (envelope-no_text (envelope_given given) text)
     (either-no_text (bytes_eq c.0 (codes "certify")) _ _ text (certify-no_text (given (codes "domain")) text)
     (either-no_text (bytes_eq c.0 (codes "headroom")) _ _ text (headroom-no_text (given (codes "domain")) text)
+    (either-no_text (bytes_eq c.0 (codes "draw")) _ _ text (draw-no_text (given (codes "domain")) text)
     (either-no_text (bytes_eq c.0 (codes "quote")) _ _ text (quote-no_text (quote_given given) text)
+    (either-no_text (bytes_eq c.0 (codes "export")) _ _ text (export-no_text (export_given given) text)
     (either-no_text (bytes_eq c.0 (codes "drive")) _ _ text (drive-no_text (drive_given given) text)
     (either-no_text (bytes_eq c.0 (codes "book")) _ _ text (book-no_text given text)
     (either-no_text (bytes_eq c.0 (codes "check")) _ _ text (check-no_text (table_given given) text)
     (either-no_text (bytes_eq c.0 (codes "audit")) _ _ text (audit-no_text (table_given given) text)
     (either-no_text (bytes_eq c.0 (codes "mark")) _ _ text (mark-no_text given text)
     (either-no_text (bytes_eq c.0 (codes "arrivals")) _ _ text
-    (arrivals-no_text (place_given given) (is_set (given (codes "colours"))) text) (λ e. cc)))))))))))
+    (arrivals-no_text (place_given given) (is_set (given (codes "colours"))) text) (λ e. cc)))))))))))))
 
 plan_of-no_text : (command : Option (Text × List Row)) (text : String Global) → option_and_then plan_of command ≡ Some (Show text) → ⊥
 plan_of-no_text None text e = cc
@@ -123,7 +135,9 @@ asked_by-answers words (Some (Envelope rate burst)) formed e = ((formed, sym e),
 asked_by-answers words (Some (Certify domain)) formed e = ((formed, sym e), tt)
 asked_by-answers words (Some (Check domain certificate)) formed e = ((formed, sym e), tt)
 asked_by-answers words (Some (Headroom domain)) formed e = ((formed, sym e), tt)
+asked_by-answers words (Some (Draw domain)) formed e = ((formed, sym e), tt)
 asked_by-answers words (Some (Quote domain contract asked)) formed e = ((formed, sym e), tt)
+asked_by-answers words (Some (Export domain meter device)) formed e = ((formed, sym e), tt)
 asked_by-answers words (Some (Audit domain certificate)) formed e = ((formed, sym e), tt)
 asked_by-answers words (Some (Drive domain limits book)) formed e = ((formed, sym e), tt)
 asked_by-answers words (Some (Book domain book to_domain)) formed e = ((formed, sym e), tt)
@@ -188,7 +202,9 @@ wish-answers words kind (Envelope rate burst) fails help = absurd help.1
 wish-answers words kind (Certify domain) fails help = absurd help.1
 wish-answers words kind (Check domain certificate) fails help = absurd help.1
 wish-answers words kind (Headroom domain) fails help = absurd help.1
+wish-answers words kind (Draw domain) fails help = absurd help.1
 wish-answers words kind (Quote domain contract asked) fails help = absurd help.1
+wish-answers words kind (Export domain meter device) fails help = absurd help.1
 wish-answers words kind (Audit domain certificate) fails help = absurd help.1
 wish-answers words kind (Drive domain limits book) fails help = absurd help.1
 wish-answers words kind (Book domain book to_domain) fails help = absurd help.1

@@ -66,6 +66,10 @@ check = on_table (codes "check")
 abbrev pub headroom : App
 headroom = with_rule (new_app (codes "headroom")) (positional (codes "domain"))
 
+-- a picture is that of a domain
+abbrev pub draw : App
+draw = with_rule (new_app (codes "draw")) (positional (codes "domain"))
+
 -- a quote is of a contract of a domain, and of a field of it, or of how many fit
 abbrev pub quote : App
 quote = with_rule (with_rule (with_rule (with_rule (new_app (codes "quote"))
@@ -73,6 +77,13 @@ quote = with_rule (with_rule (with_rule (with_rule (new_app (codes "quote"))
     (required (codes "contract")))
     (optional (codes "most")))
     (flag (codes "count"))
+
+-- an export is of a meter of a domain, to a device
+abbrev pub export_to : App
+export_to = with_rule (with_rule (with_rule (new_app (codes "export"))
+    (positional (codes "domain")))
+    (required (codes "meter")))
+    (required (codes "to"))
 
 -- an audit is of a run over a domain with a certificate
 abbrev pub audit : App
@@ -111,4 +122,4 @@ arrivals = with_rule (with_rule (with_rule (with_rule (new_app (codes "arrivals"
     (flag (codes "colours"))
 
 abbrev pub dsedge : App
-dsedge = with_subcommand (with_subcommand (with_subcommand (with_subcommand (with_subcommand (with_subcommand (with_subcommand (with_subcommand (with_subcommand (with_subcommand (with_subcommand program meter.top) envelope.top) certify.top) check.top) headroom.top) quote.top) audit.top) drive.top) book.top) mark.top) arrivals.top
+dsedge = with_subcommand (with_subcommand (with_subcommand (with_subcommand (with_subcommand (with_subcommand (with_subcommand (with_subcommand (with_subcommand (with_subcommand (with_subcommand (with_subcommand (with_subcommand program meter.top) envelope.top) certify.top) check.top) headroom.top) draw.top) quote.top) export_to.top) audit.top) drive.top) book.top) mark.top) arrivals.top

@@ -1,7 +1,7 @@
 -- The files, and the port or the contract, that a plan names.
 use Rattle.std.specs.Prelude.{ℕ, List, [], ◌∷◌, None, Some, unwrap_or}
 use Rattle.dsedge_base.specs.declared.work.Plan.{Plan}
-use Rattle.dsedge_base.specs.declared.work.Plan.TheVariants.{Arrivals, Audit, Book, Certify, Check, Drive, Envelope, Headroom, Mark, Meter, Quote, Show}
+use Rattle.dsedge_base.specs.declared.work.Plan.TheVariants.{Arrivals, Audit, Book, Certify, Check, Draw, Drive, Envelope, Export, Headroom, Mark, Meter, Quote, Show}
 
 -- the names of the files that are to be read, in the order of the words
 abbrev pub files_of : Plan → List (List ℕ)
@@ -11,7 +11,9 @@ files_of (Envelope rate burst) = []
 files_of (Certify domain) = domain ∷ []
 files_of (Check domain certificate) = domain ∷ certificate ∷ []
 files_of (Headroom domain) = domain ∷ []
+files_of (Draw domain) = domain ∷ []
 files_of (Quote domain contract asked) = domain ∷ []
+files_of (Export domain meter device) = domain ∷ []
 files_of (Audit domain certificate) = domain ∷ certificate ∷ []
 files_of (Drive domain limits book) = domain ∷ []
 files_of (Book domain book to_domain) = domain ∷ []

@@ -1,6 +1,8 @@
 -- What the options of a command say, by the texts that they were given.
 use Rattle.std.specs.Prelude.{ℕ, ◌-◌, ◌^◌, Bool, true, false, ◌&&◌, ◌||◌, nat_le, List, codes, Option, None, Some, is_some, if◌then◌else◌, bytes_eq}
 use Rattle.dsedge_base.specs.declared.work.GivenPort.{GivenPort}
+use Rattle.device_core.specs.declared.device.Device.{Device}
+use Rattle.device_core.specs.declared.device.Device.TheVariants.{Police, RteMeter}
 use Rattle.line_text.specs.Numbers.{number_of}
 use Rattle.moment_core.specs.declared.colour.Mode.{Mode}
 use Rattle.moment_core.specs.declared.colour.Mode.TheVariants.{Blind, Aware}
@@ -155,6 +157,21 @@ quote_given given = do
   contract ← given (codes "contract")
   asked ← asked_given given
   Some (domain, contract, asked)
+
+-- the device that a word names
+abbrev pub device_said : List ℕ → Option Device
+device_said text =
+    if bytes_eq text (codes "tc") then Some Police
+    else if bytes_eq text (codes "dpdk") then Some RteMeter
+    else None
+
+-- the file of a domain, the name of a meter, and the device that is to be set to it
+unfoldable pub export_given : Given → Option (List ℕ × List ℕ × Device)
+export_given given = do
+  domain ← given (codes "domain")
+  meter ← given (codes "meter")
+  device ← given (codes "to") >>= device_said
+  Some (domain, meter, device)
 
 -- workers, 1 to 64
 abbrev pub workers_said : List ℕ → Option ℕ

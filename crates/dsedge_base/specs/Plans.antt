@@ -5,13 +5,13 @@ use Rattle.clap.specs.Words.{IsAmong, Row, Text, fault_of, first_of, subcommand_
 use Rattle.clap.specs.declared.error.kind.ErrorKind.{ErrorKind}
 use Rattle.clap.specs.declared.error.kind.ErrorKind.TheVariants.{DisplayHelp, DisplayVersion}
 use Rattle.dsedge_base.specs.CommandLine.{dsedge}
-use Rattle.dsedge_base.specs.Options.{Given, drive_given, envelope_given, is_set, marking_given, meter_given, place_given, quote_given, table_given, workers_given, ◌>>=◌}
+use Rattle.dsedge_base.specs.Options.{Given, drive_given, envelope_given, export_given, is_set, marking_given, meter_given, place_given, quote_given, table_given, workers_given, ◌>>=◌}
 use Rattle.dsedge_base.specs.declared.explanation.Explanation.{Explanation}
 use Rattle.dsedge_base.specs.declared.explanation.Explanation.TheVariants.{Form, Value, Workers}
 use Rattle.dsedge_base.specs.declared.fault.UsageFault.{UsageFault}
 use Rattle.dsedge_base.specs.declared.fault.UsageFault.TheVariants.{Usage, NoMemory}
 use Rattle.dsedge_base.specs.declared.work.Plan.{Plan}
-use Rattle.dsedge_base.specs.declared.work.Plan.TheVariants.{Arrivals, Audit, Book, Certify, Check, Drive, Envelope, Headroom, Mark, Meter, Quote, Show}
+use Rattle.dsedge_base.specs.declared.work.Plan.TheVariants.{Arrivals, Audit, Book, Certify, Check, Draw, Drive, Envelope, Export, Headroom, Mark, Meter, Quote, Show}
 
 -- the texts that the options of a command were given
 abbrev pub given_by : List Row → Given
@@ -53,8 +53,10 @@ plan_of c =
     else if bytes_eq c.0 (codes "envelope") then envelope_given (given_by c.1) >>= (λ e. Some (Envelope e.0 e.1))
     else if bytes_eq c.0 (codes "certify") then given_by c.1 (codes "domain") >>= (λ domain. Some (Certify domain))
     else if bytes_eq c.0 (codes "headroom") then given_by c.1 (codes "domain") >>= (λ domain. Some (Headroom domain))
+    else if bytes_eq c.0 (codes "draw") then given_by c.1 (codes "domain") >>= (λ domain. Some (Draw domain))
     else if bytes_eq c.0 (codes "quote") then
     quote_given (given_by c.1) >>= (λ q. Some (Quote q.0 q.1 q.2))
+    else if bytes_eq c.0 (codes "export") then export_given (given_by c.1) >>= (λ e. Some (Export e.0 e.1 e.2))
     else if bytes_eq c.0 (codes "drive") then drive_given (given_by c.1) >>= (λ d. Some (Drive d.0 d.1 d.2))
     else if bytes_eq c.0 (codes "book") then book_given (given_by c.1)
     else if bytes_eq c.0 (codes "check") then check_given (given_by c.1)
@@ -84,7 +86,9 @@ IsPlanOf words (Envelope rate burst) = IsWellFormed words × (asked_by words ≡
 IsPlanOf words (Certify domain) = IsWellFormed words × (asked_by words ≡ Some (Certify domain))
 IsPlanOf words (Check domain certificate) = IsWellFormed words × (asked_by words ≡ Some (Check domain certificate))
 IsPlanOf words (Headroom domain) = IsWellFormed words × (asked_by words ≡ Some (Headroom domain))
+IsPlanOf words (Draw domain) = IsWellFormed words × (asked_by words ≡ Some (Draw domain))
 IsPlanOf words (Quote domain contract asked) = IsWellFormed words × (asked_by words ≡ Some (Quote domain contract asked))
+IsPlanOf words (Export domain meter device) = IsWellFormed words × (asked_by words ≡ Some (Export domain meter device))
 IsPlanOf words (Audit domain certificate) = IsWellFormed words × (asked_by words ≡ Some (Audit domain certificate))
 IsPlanOf words (Drive domain limits book) = IsWellFormed words × (asked_by words ≡ Some (Drive domain limits book))
 IsPlanOf words (Book domain book to_domain) = IsWellFormed words × (asked_by words ≡ Some (Book domain book to_domain))
@@ -132,7 +136,9 @@ IsShown (Envelope rate burst) = ⊥
 IsShown (Certify domain) = ⊥
 IsShown (Check domain certificate) = ⊥
 IsShown (Headroom domain) = ⊥
+IsShown (Draw domain) = ⊥
 IsShown (Quote domain contract asked) = ⊥
+IsShown (Export domain meter device) = ⊥
 IsShown (Audit domain certificate) = ⊥
 IsShown (Drive domain limits book) = ⊥
 IsShown (Book domain book to_domain) = ⊥

@@ -165,6 +165,11 @@ const COMMANDS: &[CommandEntry] = &[
         arguments: &[DOMAIN],
     },
     CommandEntry {
+        name: "draw",
+        about: "Draws the domain for Graphviz (DOT), with what is taken of what there is at each meter.",
+        arguments: &[DOMAIN],
+    },
+    CommandEntry {
         name: "quote",
         about: "Prints the greatest value of a field of a contract that fits beside the others, or how many like it fit.",
         arguments: &[
@@ -186,6 +191,25 @@ const COMMANDS: &[CommandEntry] = &[
                 name: "count",
                 value: "",
                 help: "in place of --most: how many contracts like it fit at most, itself being one of them",
+            },
+        ],
+    },
+    CommandEntry {
+        name: "export",
+        about: "Prints the words that set a device to a meter, what it makes of them, and whether the domain is accepted so.",
+        arguments: &[
+            DOMAIN,
+            ArgumentEntry {
+                form: Form::Needed,
+                name: "meter",
+                value: "NAME",
+                help: "the meter",
+            },
+            ArgumentEntry {
+                form: Form::Needed,
+                name: "to",
+                value: "DEVICE",
+                help: "the device: tc (policers of Linux) or dpdk (rte_meter)",
             },
         ],
     },

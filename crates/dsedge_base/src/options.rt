@@ -2,6 +2,7 @@ ghost use Rattle.std.specs.Prelude.{◌≡◌, ◌≤◌, ◌^◌, IfSome, codes
 ghost use Rattle.clap.specs.Words.{first_of, found_of, rows_of};
 ghost use Rattle.dsedge_base.specs.Options.{burst_given, burst_said, envelope_burst_said, asked_given, envelope_given};
 ghost use Rattle.dsedge_base.specs.Options.{commands_asked, contracts_asked, drive_given, is_given, is_set, number_within};
+ghost use Rattle.dsedge_base.specs.Options.{device_said, export_given};
 ghost use Rattle.dsedge_base.specs.Options.{marking_given, meter_given, mode_said, moment_said, opened};
 ghost use Rattle.dsedge_base.specs.Options.{origin_said, parameters_given, quote_given, rate_given, rate_said, red_said};
 ghost use Rattle.dsedge_base.specs.Options.{place_given, separate_rates_given, single_rate_given, table_given, two_rate_given};
@@ -10,6 +11,7 @@ ghost use Rattle.dsedge_base.specs.Plans.{given_by};
 
 use crate::work::GivenPort;
 use clap::ArgMatches;
+use device_core::Device;
 use ds_broker::Limits;
 use ds_quotes::{Asked, Field};
 use dsedge_lines::GivenName;
@@ -81,6 +83,30 @@ pub(crate) fn quote_in<'a>(
     let contract = name_in(options, "contract")?;
     let asked = asked_in(options)?;
     Some((domain, contract, asked))
+}
+
+/// The file of a domain, the name of a meter and the device that the options of `export` ask for.
+#[tactic(auto, unfolding(crate::specs::Options::export_given))]
+pub(crate) fn export_in<'a>(
+    options: &ArgMatches<'a>,
+) -> Option<(GivenName<'a>, GivenName<'a>, Device)>
+    ensures { result ≡ export_given (given_by (rows_of (found_of options.now))) }
+{
+    let domain = name_in(options, "domain")?;
+    let meter = name_in(options, "meter")?;
+    let device = device_said_by(text_in(options, "to")?)?;
+    Some((domain, meter, device))
+}
+
+/// The device that a word names.
+fn device_said_by(text: &str) -> Option<Device>
+    ensures { result ≡ device_said text.now }
+{
+    match text {
+        "tc" => Some(Device::Police),
+        "dpdk" => Some(Device::RteMeter),
+        _ => None,
+    }
 }
 
 /// What the options of `quote` ask for: the field that one names, or how many fit, and not both.

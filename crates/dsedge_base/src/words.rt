@@ -8,8 +8,8 @@ use crate::command_line::command_line;
 use crate::explanation::Explanation;
 use crate::fault::UsageFault;
 use crate::options::{
-    drive_in, envelope_in, is_set, marking_in, meter_in, name_in, place_in, quote_in, table_in,
-    workers_in,
+    drive_in, envelope_in, export_in, is_set, marking_in, meter_in, name_in, place_in, quote_in,
+    table_in, workers_in,
 };
 use crate::work::Plan;
 use clap::error::ErrorKind;
@@ -112,12 +112,24 @@ fn asked_of<'a>(name: &str, options: &ArgMatches<'a>) -> Option<Plan<'a>>
             let domain = name_in(options, "domain")?;
             Some(Plan::Headroom { domain })
         }
+        "draw" => {
+            let domain = name_in(options, "domain")?;
+            Some(Plan::Draw { domain })
+        }
         "quote" => {
             let (domain, contract, asked) = quote_in(options)?;
             Some(Plan::Quote {
                 domain,
                 contract,
                 asked,
+            })
+        }
+        "export" => {
+            let (domain, meter, device) = export_in(options)?;
+            Some(Plan::Export {
+                domain,
+                meter,
+                device,
             })
         }
         "drive" => {

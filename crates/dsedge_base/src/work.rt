@@ -1,6 +1,7 @@
 ghost use Rattle.std.specs.Prelude.{◌≡◌, IfOk};
 ghost use Rattle.dsedge_base.specs.Files.{files_of, names_of};
 
+use device_core::Device;
 use ds_broker::Limits;
 use ds_quotes::Asked;
 use dsedge_lines::GivenName;
@@ -45,6 +46,11 @@ pub enum Plan<'a> {
         /// The file of the domain.
         domain: GivenName<'a>,
     },
+    /// Draw a domain, its contracts and what is taken at each meter.
+    Draw {
+        /// The file of the domain.
+        domain: GivenName<'a>,
+    },
     /// Tell the greatest value of a field of a contract of a domain that fits beside the others, or how many like it fit.
     Quote {
         /// The file of the domain.
@@ -53,6 +59,16 @@ pub enum Plan<'a> {
         contract: GivenName<'a>,
         /// What is asked for.
         asked: Asked,
+    },
+    /// Tell the words that set a device to a meter of a domain, what it makes of them, and whether the checker accepts the
+    /// domain so.
+    Export {
+        /// The file of the domain.
+        domain: GivenName<'a>,
+        /// The name of the meter.
+        meter: GivenName<'a>,
+        /// The device.
+        device: Device,
     },
     /// Judge the run of standard input over a domain with a certificate of its contracts.
     Audit {
@@ -148,7 +164,9 @@ impl<'a> Plan<'a> {
             } => names.push(GivenName::new(place.domain.text()))?,
             Plan::Certify { domain }
             | Plan::Headroom { domain }
+            | Plan::Draw { domain }
             | Plan::Quote { domain, .. }
+            | Plan::Export { domain, .. }
             | Plan::Drive { domain, .. }
             | Plan::Book { domain, .. } => names.push(GivenName::new(domain.text()))?,
             Plan::Check {

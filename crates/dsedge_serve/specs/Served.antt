@@ -5,7 +5,9 @@ use Rattle.dsedge_arrivals.specs.Tellings.{is_broken_off as is_telling_broken_of
 use Rattle.dsedge_arrivals.specs.declared.asking.ArrivalsFault.{ArrivalsFault}
 use Rattle.dsedge_base.specs.Files.{Names}
 use Rattle.dsedge_base.specs.declared.work.Plan.{Plan}
-use Rattle.dsedge_base.specs.declared.work.Plan.TheVariants.{Arrivals, Audit, Book as BookPlan, Certify, Check, Drive, Envelope, Headroom, Mark, Meter, Quote, Show}
+use Rattle.dsedge_base.specs.declared.work.Plan.TheVariants.{Arrivals, Audit, Book as BookPlan, Certify, Check, Draw, Drive, Envelope, Export, Headroom, Mark, Meter, Quote, Show}
+use Rattle.dsedge_draw.specs.Drawings.{drawn_in}
+use Rattle.dsedge_export.specs.Exported.{export_in}
 use Rattle.ds_domain.specs.DomainTexts.{parse_of}
 use Rattle.ds_domain_base.specs.Domains.{Domain, is_port}
 use Rattle.ds_domain_base.specs.declared.contract.Contract.{Contract}
@@ -175,7 +177,8 @@ IsQuoteReplied (Err (quotes.Domain fault)) outcome before after =
     IsServed (record { text = []; conclusion = Unsound fault }) outcome before after
 IsQuoteReplied (Err fault) outcome before after = (outcome ≡ Err pump_faults.NoMemory) × (after ≡ before)
 
--- a quote was answered, or nothing was written since there is no contract of the name, or it has no such field
+-- a quote or an export was answered, or nothing was written since there is no contract of the name, or no such field or
+-- meter
 abbrev pub IsQuoted : Result Told QuoteFault → Outcome → List ℕ → List ℕ → Type 0
 IsQuoted found (Answered outcome) before after = IsQuoteReplied found outcome before after
 IsQuoted found Unnamed before after = (found ≡ Err quotes.Unnamed) × (after ≡ before)
@@ -199,8 +202,12 @@ IsAnswered stands (Check domain certificate) texts bytes more outcome before aft
     IsReplied (reply_on (accepted_in (first_text texts) (second_text texts))) outcome before after
 IsAnswered stands (Headroom domain) texts bytes more outcome before after =
     IsReplied (reply_told (headroom_in (first_text texts))) outcome before after
+IsAnswered stands (Draw domain) texts bytes more outcome before after =
+    IsReplied (reply_by (drawn_in (first_text texts))) outcome before after
 IsAnswered stands (Quote domain contract asked) texts bytes more outcome before after =
     IsQuoted (quote_in (first_text texts) contract asked) outcome before after
+IsAnswered stands (Export domain meter device) texts bytes more outcome before after =
+    IsQuoted (export_in (first_text texts) meter device) outcome before after
 IsAnswered stands (Audit domain certificate) texts bytes more outcome before after =
     IsReplied (reply_over (accepted_in (first_text texts) (second_text texts)) (lines_of bytes)) outcome before after
 IsAnswered stands (Drive domain limits book) texts bytes more outcome before after =
@@ -242,7 +249,9 @@ IsForeseen (Envelope rate burst) texts outcome = ⊤
 IsForeseen (Certify domain) texts outcome = ⊤
 IsForeseen (Check domain certificate) texts outcome = ⊤
 IsForeseen (Headroom domain) texts outcome = ⊤
+IsForeseen (Draw domain) texts outcome = ⊤
 IsForeseen (Quote domain contract asked) texts outcome = ⊤
+IsForeseen (Export domain meter device) texts outcome = ⊤
 IsForeseen (Audit domain certificate) texts outcome =
     IsRefusedBefore (accepted_in (first_text texts) (second_text texts)) outcome
 IsForeseen (Drive domain limits book) texts outcome = IsUnsoundBefore (parse_of (first_text texts)) outcome

@@ -2,6 +2,7 @@
 #![tactic(auto)]
 
 mod ended;
+mod exporting;
 mod marking;
 mod outcome;
 mod quoting;

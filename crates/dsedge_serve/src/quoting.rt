@@ -42,7 +42,7 @@ pub(crate) fn answer_quote<O: Outlet>(
 }
 
 /// How an answer ends that tells a value, or none.
-fn ending_of(is_found: bool) -> Ending
+pub(crate) fn ending_of(is_found: bool) -> Ending
     ensures { result ≡ (if is_found then Ending.Whole else Ending.Refused) }
 {
     if is_found {

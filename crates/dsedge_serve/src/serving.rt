@@ -15,6 +15,7 @@ ghost use Rattle.line_text.specs.Lines.{lines_of};
 ghost use Rattle.pcap_capture.specs.Counts.{IsOfReads};
 
 use crate::ended::Ended;
+use crate::exporting::answer_export;
 use crate::marking::{
     Marking, answer_mark, capture_fault, marking_advice, marking_status, tell_marking,
 };
@@ -26,8 +27,8 @@ use ds_checker::Accepted;
 use ds_conductor::RedRule;
 use ds_ledger_base::Shelf;
 use dsedge_answers::{
-    Conclusion, answer_certify, answer_check, answer_headroom, answer_lines, answer_text,
-    refusal_outcome, status_for, tell_fault, tell_outcome,
+    Conclusion, answer_certify, answer_check, answer_draw, answer_headroom, answer_lines,
+    answer_text, refusal_outcome, status_for, tell_fault, tell_outcome,
 };
 use dsedge_audit::AuditCommand;
 use dsedge_base::{Plan, PlanNames};
@@ -125,11 +126,15 @@ fn answer<R: Wait + Threads + Sync, S: Shelf, I: Intake, O: Outlet>(
         Plan::Headroom { .. } => {
             Outcome::Answered(answer_headroom(alloc, texts[0].as_slice(), output))
         }
+        Plan::Draw { .. } => { Outcome::Answered(answer_draw(alloc, texts[0].as_slice(), output)) }
         Plan::Quote {
             contract,
             asked,
             ..
         } => answer_quote(alloc, texts[0].as_slice(), contract.text(), *asked, output),
+        Plan::Export { meter, device, .. } => {
+            answer_export(alloc, texts[0].as_slice(), meter.text(), *device, output)
+        }
         Plan::Audit { .. } => {
             let (domain, certificate) = (texts[0].as_slice(), texts[1].as_slice());
             Outcome::Answered(answer_audit(alloc, domain, certificate, intake, output))

@@ -9,6 +9,8 @@ mod arrival_rows;
 #[cfg(test)]
 mod book_rows;
 #[cfg(test)]
+mod draw_rows;
+#[cfg(test)]
 mod drive_rows;
 #[cfg(test)]
 mod excess_rows;

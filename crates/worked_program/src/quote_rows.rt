@@ -54,6 +54,40 @@ fn what_a_contract_may_have_at_most(rt: HostRuntime) -> Result<(), Fail> {
     expect_on_domain(&rt, rt.alloc(), words, none)
 }
 
+/// The words that set policers to the meter of the wide domain, and what is made of it: there is room for a byte less.
+const POLICERS: &str =
+    "actions add action police rate 24000000bit burst 13500 mtu 65535 conform-exceed pipe/ok index 1\n\
+    actions add action police rate 24000000bit burst 13500 mtu 65535 conform-exceed drop/pipe index 2\n\
+    rate cir 24000000 24000000\nrate pir 24000000 24000000\n\
+    burst cbs 13500 13499\nburst pbs 13500 13499\naccepted\n";
+
+/// The words that set a meter of DPDK to that of the tight domain, and what is made of it.
+const METER: &str =
+    "struct rte_meter_trtcm_params params = { .cir = 2000000, .pir = 3000000, .cbs = 4500, .pbs = 13500 };\n\
+    rate cir 16000000 16000000\nrate pir 24000000 24024024\n\
+    burst cbs 4500 4500\nburst pbs 13500 13500\nrefused 5 GreenBurst m 9000 4500\n";
+
+#[test]
+fn what_sets_a_device(rt: HostRuntime) -> Result<(), Fail> {
+    let domain = wide(rt.alloc())?;
+    for (words, wanted) in [
+        ("export domain.toml --meter m --to tc", (POLICERS, "", 0)),
+        (
+            "export domain.toml --meter p --to tc",
+            ("", "dsedge: usage\n", 2),
+        ),
+        (
+            "export domain.toml --meter m --to ovs",
+            ("", "dsedge: usage\n", 2),
+        ),
+    ] {
+        expect_on_domain(&rt, rt.alloc(), (words, domain.as_str()), wanted)?;
+    }
+    let domain = tight(rt.alloc())?;
+    let words = ("export domain.toml --meter m --to dpdk", domain.as_str());
+    expect_on_domain(&rt, rt.alloc(), words, (METER, "", 1))
+}
+
 /// Quotes of a broker, before and behind a sale: beside what is held, but the contract of the same name.
 const QUOTED: [(&str, &str); 14] = [
     (

@@ -1,3 +1,4 @@
+use device_core::Device;
 use ds_quotes::{Asked, Field};
 use dsedge_base::{Plan, UsageFault, plan};
 use dsedge_lines::GivenName;
@@ -166,10 +167,12 @@ fn certificates(rt: HostRuntime) -> Result<(), Fail> {
 }
 
 #[test]
-fn headrooms_and_quotes(rt: HostRuntime) -> Result<(), Fail> {
+fn headrooms_pictures_and_quotes(rt: HostRuntime) -> Result<(), Fail> {
     let domain = GivenName::new("domain.toml");
     let plan = Plan::Headroom { domain };
     expect_plan(&rt, rt.alloc(), "headroom domain.toml", &plan)?;
+    let domain = GivenName::new("domain.toml");
+    expect_plan(&rt, rt.alloc(), "draw domain.toml", &Plan::Draw { domain })?;
     for (line, asked) in [
         (
             "quote domain.toml --contract b --most cbs",
@@ -185,6 +188,22 @@ fn headrooms_and_quotes(rt: HostRuntime) -> Result<(), Fail> {
             domain: GivenName::new("domain.toml"),
             contract: GivenName::new("b"),
             asked,
+        };
+        expect_plan(&rt, rt.alloc(), line, &plan)?;
+    }
+    Ok(())
+}
+
+#[test]
+fn exports(rt: HostRuntime) -> Result<(), Fail> {
+    for (line, device) in [
+        ("export domain.toml --meter m --to tc", Device::Police),
+        ("export --to=dpdk --meter m domain.toml", Device::RteMeter),
+    ] {
+        let plan = Plan::Export {
+            domain: GivenName::new("domain.toml"),
+            meter: GivenName::new("m"),
+            device,
         };
         expect_plan(&rt, rt.alloc(), line, &plan)?;
     }

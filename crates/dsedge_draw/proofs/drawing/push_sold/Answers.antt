@@ -1,0 +1,10 @@
+use Rattle.std.proofs.Common.{append_assoc}
+use Rattle.dsedge_draw.proofs.drawing.push_sold.Goals as goal
+
+pub returns : goal.returns
+returns c =
+    rw c.in_ok-extend_from_slice-2.ensures.items
+    (rw c.in_ok-push_contracts.ensures
+    (rw c.in_ok-extend_from_slice.ensures.items
+    (rw c.as_bytes.ensures.value
+    (simp append_assoc))))

@@ -1,0 +1,4 @@
+-- Domains drawn.
+pub mod Bars
+pub mod Drawings
+pub mod Ways
