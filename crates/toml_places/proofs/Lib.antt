@@ -1,0 +1,2 @@
+-- Lemmas on what follows values and expressions.
+pub mod Walks
