@@ -1,0 +1,2 @@
+-- Where a fault of a domain's text stands.
+pub mod Spots
