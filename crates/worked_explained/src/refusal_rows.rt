@@ -33,10 +33,8 @@ fn expect_said(rt: &impl Abort, alloc: Global, certificate: &str, wanted: &str) 
         contracts,
         certificate,
     };
-    let said = match check(alloc, candidate) {
-        Ok(_) => String::new(alloc),
-        Err((candidate, refusal)) => refusal_said(alloc, &candidate, &refusal).expect(rt, "words"),
-    };
+    let (candidate, refusal) = check(alloc, candidate).err().expect(rt, "a refusal");
+    let said = refusal_said(alloc, &candidate, &refusal).expect(rt, "words");
     assert_eq!(rt; said.as_str(), wanted);
 }
 
