@@ -17,47 +17,53 @@ _dsedge() {
         return
     fi
     case $command in
-        meter) COMPREPLY=($(compgen -W '--kind --mode --cir --cbs --ebs --pir --pbs --eir --origin --levels --help' -- "$word")) ;;
-        envelope) COMPREPLY=($(compgen -W '--rate --burst --help' -- "$word")) ;;
+        meter) COMPREPLY=($(compgen -W '--kind --mode --cir --cbs --ebs --pir --pbs --eir --origin --levels --json --explain --help' -- "$word")) ;;
+        envelope) COMPREPLY=($(compgen -W '--rate --burst --json --explain --help' -- "$word")) ;;
         mark)
             case $word in
-                -*) COMPREPLY=($(compgen -W '--port --workers --red --verdict --help' -- "$word")) ;;
+                -*) COMPREPLY=($(compgen -W '--port --workers --red --verdict --json --explain --help' -- "$word")) ;;
                 *) COMPREPLY=($(compgen -f -- "$word")) ;;
             esac
             ;;
         quote)
             case $word in
-                -*) COMPREPLY=($(compgen -W '--contract --most --count --help' -- "$word")) ;;
+                -*) COMPREPLY=($(compgen -W '--contract --most --count --json --explain --help' -- "$word")) ;;
                 *) COMPREPLY=($(compgen -f -- "$word")) ;;
             esac
             ;;
         export)
             case $word in
-                -*) COMPREPLY=($(compgen -W '--meter --to --help' -- "$word")) ;;
+                -*) COMPREPLY=($(compgen -W '--meter --to --explain --help' -- "$word")) ;;
                 *) COMPREPLY=($(compgen -f -- "$word")) ;;
             esac
             ;;
         arrivals)
             case $word in
-                -*) COMPREPLY=($(compgen -W '--port --contract --colours --help' -- "$word")) ;;
+                -*) COMPREPLY=($(compgen -W '--port --contract --colours --explain --help' -- "$word")) ;;
                 *) COMPREPLY=($(compgen -f -- "$word")) ;;
             esac
             ;;
         book)
             case $word in
-                -*) COMPREPLY=($(compgen -W '--to-domain --help' -- "$word")) ;;
+                -*) COMPREPLY=($(compgen -W '--to-domain --explain --help' -- "$word")) ;;
                 *) COMPREPLY=($(compgen -f -- "$word")) ;;
             esac
             ;;
         drive)
             case $word in
-                -*) COMPREPLY=($(compgen -W '--book --contracts --commands --help' -- "$word")) ;;
+                -*) COMPREPLY=($(compgen -W '--book --contracts --commands --json --explain --help' -- "$word")) ;;
                 *) COMPREPLY=($(compgen -f -- "$word")) ;;
             esac
             ;;
-        certify | check | headroom | draw | audit)
+        draw)
             case $word in
-                -*) COMPREPLY=($(compgen -W '--help' -- "$word")) ;;
+                -*) COMPREPLY=($(compgen -W '--explain --help' -- "$word")) ;;
+                *) COMPREPLY=($(compgen -f -- "$word")) ;;
+            esac
+            ;;
+        certify | check | headroom | audit)
+            case $word in
+                -*) COMPREPLY=($(compgen -W '--json --explain --help' -- "$word")) ;;
                 *) COMPREPLY=($(compgen -f -- "$word")) ;;
             esac
             ;;

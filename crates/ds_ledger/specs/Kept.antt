@@ -14,7 +14,6 @@ use Rattle.ds_ledger_rows.specs.Cells.{cells_of, id_of}
 use Rattle.ds_ledger_rows.specs.Sound.{IsSound}
 use Rattle.ds_ledger_table.specs.Form.{no_schema}
 use Rattle.ds_ledger_table.specs.Rows.{Holds, rows_in}
-use Rattle.ds_ledger.specs.Lasting.{IsBehind}
 use Rattle.ds_ledger.specs.declared.ledger.End.{End}
 
 -- the rows of commands that were accepted behind these, with their serials and their ids
@@ -89,14 +88,13 @@ pub record AreFound (db : Trees) (found : List Command) : Type 0 where
 abbrev pub MayLeave : State → List Command → Type 0
 MayLeave s found = (db : Trees) × s.may_leave db × AreFound db found
 
+-- whatever a crash at this moment leaves has the rows of commands
+abbrev pub Recovers : State → Type 0
+Recovers s = (db : Trees) → s.may_leave db → (found : List Command) × AreFound db found
+
 -- whatever a crash at this moment leaves has the rows of these commands
 abbrev pub Outlasts : State → List Command → Type 0
 Outlasts s history = (db : Trees) → s.may_leave db → AreFound db history
-
--- Commands that were answered: whatever a crash leaves has those that were kept before, with these behind them.
-abbrev pub Lasts : State → End → State → List Command → Type 0
-Lasts old end new commands =
-    IsTold old × ((found : List Command) → MayLeave new found → IsBehind (Keeps old end) commands found)
 
 -- What an open finds that begins with these contents of the two files: the database that they hold.
 pub record IsFound (image : Image) (found : Trees) : Type 0 where

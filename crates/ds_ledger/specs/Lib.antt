@@ -1,5 +1,4 @@
 pub mod Faults
 pub mod Kept
-pub mod Lasting
 pub mod Laws
 pub mod Opened

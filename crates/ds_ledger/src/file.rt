@@ -1,9 +1,8 @@
-ghost use Rattle.std.specs.Prelude.{◌<◌, IfOk, OnErr, OnOk, length};
+ghost use Rattle.std.specs.Prelude.{IfOk};
 ghost use Rattle.sqlite.specs.Files.{file_state};
-ghost use Rattle.sqlite.specs.State.{HasCleanDisk, Survives};
+ghost use Rattle.sqlite.specs.State.{HasCleanDisk};
 ghost use Rattle.sqlite.specs.WalFiles.{image_at};
-ghost use Rattle.ds_ledger.specs.Lasting.{KeepsMore, KeepsSame};
-ghost use Rattle.ds_ledger.specs.Kept.{IsTold, Keeps, Lasts, MayKeep, Outlasts, WasFoundIn};
+ghost use Rattle.ds_ledger.specs.Kept.{IsTold, Keeps, Outlasts, WasFoundIn};
 
 use crate::fault::fault_of_open;
 use crate::ledger::SqlLedger;
@@ -71,24 +70,20 @@ impl Drop for FileLedger {
 }
 
 impl Ledger for FileLedger {
+    ghost use Rattle.sqlite.specs.State.{HasCleanDisk};
+    ghost use Rattle.ds_ledger.specs.Kept.{IsTold, Keeps, MayLeave, Recovers};
+
+    ghost honest = { λ ledger. HasCleanDisk (file_state ledger.rows.conn) };
+
     ghost tells = { λ ledger. IsTold (file_state ledger.rows.conn) };
 
     ghost keeps = { λ ledger history. Keeps (file_state ledger.rows.conn) ledger.rows.end history };
 
-    fn append(&mut self, commands: &[Command]) -> Result<(), LedgerFault>
-        ensures appended { IsTold (file_state self.new.rows.conn) → OnOk result (KeepsMore
-            (Keeps (file_state self.old.rows.conn) self.old.rows.end)
-            (Keeps (file_state self.new.rows.conn) self.new.rows.end) commands.now) }
-        ensures unchanged { IsTold (file_state self.new.rows.conn) → OnErr result (KeepsSame
-            (Keeps (file_state self.old.rows.conn) self.old.rows.end)
-            (Keeps (file_state self.new.rows.conn) self.new.rows.end)) }
-        ensures told { IsTold (file_state self.new.rows.conn) → IsTold (file_state self.old.rows.conn) }
-        ensures lasting { HasCleanDisk (file_state self.new.rows.conn) → OnOk result (0 < length commands.now →
-            Lasts (file_state self.old.rows.conn) self.old.rows.end (file_state self.new.rows.conn)
-            commands.now) }
-        ensures crash { Survives (file_state self.old.rows.conn) (file_state self.new.rows.conn)
-            (MayKeep (file_state self.old.rows.conn) self.old.rows.end commands.now) }
-    {
+    ghost leaves = { λ ledger found. MayLeave (file_state ledger.rows.conn) found };
+
+    ghost recovers = { λ ledger. Recovers (file_state ledger.rows.conn) };
+
+    fn append(&mut self, commands: &[Command]) -> Result<(), LedgerFault> {
         self.rows.append(commands)
     }
 }

@@ -1,11 +1,11 @@
 ghost use Rattle.std.specs.Prelude.{◌≡◌, ◌<◌, ◌++◌, All, [], ◌∷◌, IfOk, IfSome, IsTrue, OnErr, OnOk, length};
 ghost use Rattle.sqlite.specs.Held.{state};
 ghost use Rattle.sqlite.specs.State.{HasCleanDisk, Survives};
-ghost use Rattle.ds_ledger.specs.Lasting.{KeepsMore, KeepsSame};
+ghost use Rattle.ds_ledger_base.specs.Lasting.{KeepsMore, KeepsSame};
 ghost use Rattle.ds_ledger_rows.specs.Cells.{id_of};
 ghost use Rattle.ds_ledger_rows.specs.Sound.{IsSound};
 ghost use Rattle.ds_ledger_table.specs.Rows.{IsRow};
-ghost use Rattle.ds_ledger.specs.Kept.{IsTold, Keeps, Lasts, MayKeep, end_after, granted_by, next_end, row_at, rows_from};
+ghost use Rattle.ds_ledger.specs.Kept.{IsTold, Keeps, MayKeep, end_after, granted_by, next_end, row_at, rows_from};
 
 use crate::fault::fault_of_write;
 use ds_broker::Command;
@@ -150,24 +150,20 @@ impl<S: Alter + Drop> SqlLedger<S> {
 }
 
 impl<S: Alter + Drop> Ledger for SqlLedger<S> {
-    ghost use Rattle.ds_ledger.specs.Kept.{IsTold, Keeps};
+    ghost use Rattle.sqlite.specs.State.{HasCleanDisk};
+    ghost use Rattle.ds_ledger.specs.Kept.{IsTold, Keeps, MayLeave, Recovers};
+
+    ghost honest = { λ ledger. HasCleanDisk (state S.Store ledger.conn) };
 
     ghost tells = { λ ledger. IsTold (state S.Store ledger.conn) };
 
     ghost keeps = { λ ledger history. Keeps (state S.Store ledger.conn) ledger.end history };
 
-    fn append(&mut self, commands: &[Command]) -> Result<(), LedgerFault>
-        ensures appended { IsTold (state S.Store self.new.conn) → OnOk result (KeepsMore
-            (Keeps (state S.Store self.old.conn) self.old.end) (Keeps (state S.Store self.new.conn) self.new.end)
-            commands.now) }
-        ensures unchanged { IsTold (state S.Store self.new.conn) → OnErr result (KeepsSame
-            (Keeps (state S.Store self.old.conn) self.old.end) (Keeps (state S.Store self.new.conn) self.new.end)) }
-        ensures told { IsTold (state S.Store self.new.conn) → IsTold (state S.Store self.old.conn) }
-        ensures lasting { HasCleanDisk (state S.Store self.new.conn) → OnOk result (0 < length commands.now →
-            Lasts (state S.Store self.old.conn) self.old.end (state S.Store self.new.conn) commands.now) }
-        ensures crash { Survives (state S.Store self.old.conn) (state S.Store self.new.conn)
-            (MayKeep (state S.Store self.old.conn) self.old.end commands.now) }
-    {
+    ghost leaves = { λ ledger found. MayLeave (state S.Store ledger.conn) found };
+
+    ghost recovers = { λ ledger. Recovers (state S.Store ledger.conn) };
+
+    fn append(&mut self, commands: &[Command]) -> Result<(), LedgerFault> {
         self.keep(commands)
     }
 }

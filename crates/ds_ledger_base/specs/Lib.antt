@@ -1,2 +1,3 @@
+pub mod Lasting
 pub mod Numbers
 pub mod Replays

@@ -1,6 +1,5 @@
 -- What is answered of texts, how an answer ends, and what is told of that.
-use Rattle.std.specs.Prelude.{◌≡◌, ℕ, Bool, if◌then◌else◌, List, [], ◌++◌, Option, None, Some, Result, Ok, Err, IfOk, OnErr, codes, option_and_then}
-use Rattle.std.specs.Option.{option_map_or}
+use Rattle.std.specs.Prelude.{◌≡◌, ℕ, Bool, true, false, if◌then◌else◌, List, [], ◌++◌, Option, None, Some, Result, Ok, Err, IfOk, OnErr, codes, option_and_then}
 use Rattle.pcap_capture.specs.Counts.{next_count}
 use Rattle.pcap_capture.specs.Fronts.{IsFrontOf}
 use Rattle.ds_checker.specs.Acceptance.{Table}
@@ -11,12 +10,17 @@ use Rattle.dsedge_lines.specs.declared.fault.PumpFault.{PumpFault}
 use Rattle.dsedge_lines.specs.declared.fault.PumpFault.TheVariants as pump_faults
 use Rattle.dsedge_texts.specs.declared.accepting.TableFault.{TableFault}
 use Rattle.dsedge_texts.specs.declared.accepting.TableFault.TheVariants as tables
+use Rattle.dsedge_texts.specs.Accepted.{accepted_in}
+use Rattle.dsedge_texts.specs.Certified.{certified}
+use Rattle.dsedge_texts.specs.Headed.{headroom_in}
+use Rattle.dsedge_json.specs.Told.{Told, certified_in, checked_in, headed_in}
 use Rattle.dsedge_faults.specs.Advised.{advice_behind}
-use Rattle.dsedge_faults.specs.Faults.{notice_text, status_of}
+use Rattle.dsedge_faults.specs.Faults.{status_of}
 use Rattle.dsedge_faults.specs.declared.advice.Advice.{Advice}
 use Rattle.dsedge_faults.specs.declared.fault.Fault.TheVariants as faults
 use Rattle.dsedge_faults.specs.declared.notice.Notice.{Notice}
 use Rattle.dsedge_faults.specs.declared.notice.Notice.TheVariants as notices
+use Rattle.dsedge_json_faults.specs.FaultObjects.{IsNoticeTold}
 use Rattle.dsedge_answers.specs.declared.conclusion.Conclusion.{Conclusion}
 use Rattle.dsedge_answers.specs.declared.conclusion.Conclusion.TheVariants.{Ended, Unaccepted, Uncertified, Unkept, Unsound}
 
@@ -56,6 +60,27 @@ abbrev pub reply_told : Result (List ℕ) TableFault → Reply
 reply_told (Ok text) = whole_text text
 reply_told (Err fault) = reply_against fault
 
+-- a line that answers with yes or with no, or what stands against it, is the reply
+abbrev pub reply_of_object : Result Told TableFault → Reply
+reply_of_object (Ok told) =
+    record { text = told.0; conclusion = Ended (if told.1 then endings.Whole else endings.Refused) }
+reply_of_object (Err fault) = reply_against fault
+
+-- the least certificate of the domain that a text says, by its text or by an object
+abbrev pub reply_certified : Bool → List ℕ → Reply
+reply_certified false domain = reply_by (certified domain)
+reply_certified true domain = reply_of_object (certified_in domain)
+
+-- whether the table that two texts say is accepted, by a line or by an object
+abbrev pub reply_checked : Bool → List ℕ → List ℕ → Reply
+reply_checked false domain certificate = reply_on (accepted_in domain certificate)
+reply_checked true domain certificate = reply_of_object (checked_in domain certificate)
+
+-- what there is at the meters of the domain that a text says, by lines or by an object
+abbrev pub reply_headed : Bool → List ℕ → Reply
+reply_headed false domain = reply_told (headroom_in domain)
+reply_headed true domain = reply_of_object (headed_in domain)
+
 -- a reply was written behind what stood, to its end; or a front of it, where a device failed or memory ran out
 pub record IsServed (reply : Reply) (outcome : Result Conclusion PumpFault) (before after : List ℕ) : Type 0 where
   pub whole : IfOk outcome (λ conclusion. (after ≡ before ++ reply.text) × (conclusion ≡ reply.conclusion))
@@ -89,9 +114,14 @@ status_for (Err pump_faults.Read) = status_of faults.Read
 status_for (Err pump_faults.Write) = status_of faults.Write
 status_for (Err pump_faults.NoMemory) = status_of faults.Memory
 
+-- a text tells what there is to tell, by lines or by objects; nothing is told where there is nothing
+abbrev pub IsNoticeIn : Bool → Option Notice → List ℕ → Type 0
+IsNoticeIn in_json None text = text ≡ []
+IsNoticeIn in_json (Some notice) text = IsNoticeTold in_json notice text
+
 -- what is told of an outcome on standard error
-abbrev pub told_of : Result Conclusion PumpFault → List ℕ
-told_of outcome = option_map_or notice_text (notice_of outcome) []
+abbrev pub IsOutcomeTold : Bool → Result Conclusion PumpFault → List ℕ → Type 0
+IsOutcomeTold in_json outcome text = IsNoticeIn in_json (notice_of outcome) text
 
 -- a write fault is an outcome where the output failed once, and no other outcome is one where it failed
 abbrev pub IsOfWrites : Bool → ℕ → ℕ → Type 0

@@ -1,13 +1,15 @@
 ghost use Rattle.std.specs.Prelude.{◌≡◌};
-ghost use Rattle.dsedge_answers.specs.Replies.{advice_for, notice_of, refusal_outcome, status_for, told_of};
+ghost use Rattle.dsedge_answers.specs.Replies.{IsOutcomeTold, advice_for, notice_of, refusal_outcome, status_for};
 ghost use Rattle.dsedge_faults.specs.Advised.{advice_on};
-ghost use Rattle.dsedge_faults.specs.Faults.{IsTold, fault_text};
+ghost use Rattle.dsedge_json_faults.specs.FaultObjects.{IsFaultTold, IsToldBy, advice_as};
 
 use crate::conclusion::Conclusion;
 use dsedge_faults::{Advice, Fault, Notice};
+use dsedge_json_faults::tell_notice;
 use dsedge_lines::{Ending, PumpFault};
 use dsedge_texts::TableFault;
 use pcap_capture::Outlet;
+use std::alloc::Global;
 
 /// How a plan ends whose table is not accepted.
 pub fn refusal_outcome(fault: TableFault) -> Result<Conclusion, PumpFault>
@@ -58,32 +60,46 @@ pub fn status_for(outcome: &Result<Conclusion, PumpFault>) -> u8
     }
 }
 
-/// Tells an outcome on standard error, where there is anything to tell, and gives what there is to say behind it. A
-/// failure to write there is passed over.
+/// Tells an outcome on standard error, where there is anything to tell, by lines or by objects, and gives what there is to
+/// say behind it. A failure to write there is passed over.
 pub fn tell_outcome<F: Outlet>(
+    alloc: Global,
     outcome: Result<Conclusion, PumpFault>,
+    in_json: bool,
     faults: &mut F,
 ) -> Option<Advice>
     ensures still { F.tells faults.old → F.tells faults.new }
-    ensures told { F.tells faults.old →
-        IsTold (told_of outcome) (F.held faults.old) (F.held faults.new) (F.failed faults.old) (F.failed faults.new) }
-    ensures advice { result ≡ advice_for outcome }
+    ensures told { F.tells faults.old → IsToldBy (IsOutcomeTold in_json outcome) (F.held faults.old) (F.held faults.new)
+        (F.failed faults.old) (F.failed faults.new) }
+    ensures advice { result ≡ advice_as in_json (advice_for outcome) }
 {
     let Some(notice) = notice(outcome) else {
         return None;
     };
-    let _told = notice.tell(faults);
-    notice.advice()
+    let _told = tell_notice(alloc, &notice, in_json, faults);
+    advice_as(in_json, notice.advice())
 }
 
-/// Tells a fault, and gives what there is to say behind it. A failure to write there is passed over.
-pub fn tell_fault<F: Outlet>(fault: &Fault<'_>, faults: &mut F) -> Option<Advice>
+/// Tells a fault, by its line or by its object, and gives what there is to say behind it. A failure to write there is
+/// passed over.
+pub fn tell_fault<F: Outlet>(
+    alloc: Global,
+    fault: &Fault<'_>,
+    in_json: bool,
+    faults: &mut F,
+) -> Option<Advice>
     ensures still { F.tells faults.old → F.tells faults.new }
-    ensures told { F.tells faults.old →
-        IsTold (fault_text fault.now) (F.held faults.old) (F.held faults.new) (F.failed faults.old)
-        (F.failed faults.new) }
-    ensures advice { result ≡ advice_on fault.now }
+    ensures told { F.tells faults.old → IsToldBy (IsFaultTold in_json fault.now) (F.held faults.old) (F.held faults.new)
+        (F.failed faults.old) (F.failed faults.new) }
+    ensures advice { result ≡ advice_as in_json (advice_on fault.now) }
 {
-    let _told = fault.tell(faults);
-    fault.advice()
+    let _told = dsedge_json_faults::tell_fault(alloc, fault, in_json, faults);
+    advice_as(in_json, fault.advice())
+}
+
+/// What there is to say behind what is told: behind an object nothing.
+pub fn advice_as(in_json: bool, advice: Option<Advice>) -> Option<Advice>
+    ensures { result ≡ advice_as in_json advice }
+{
+    if in_json { None } else { advice }
 }

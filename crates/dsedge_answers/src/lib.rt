@@ -6,7 +6,8 @@ mod concluding;
 mod conclusion;
 
 pub use answering::{
-    answer_certify, answer_check, answer_draw, answer_headroom, answer_lines, answer_text,
+    answer_certify, answer_check, answer_draw, answer_headroom, answer_lines, answer_lines_by,
+    answer_text, ending_of,
 };
-pub use concluding::{refusal_outcome, status_for, tell_fault, tell_outcome};
+pub use concluding::{advice_as, refusal_outcome, status_for, tell_fault, tell_outcome};
 pub use conclusion::Conclusion;

@@ -1,5 +1,5 @@
 -- The answer of `audit`, a line at a time.
-use Rattle.std.proofs.Common.{◌≡◌, ℕ, ◌+◌, List, ◌∷◌, [], Option, None, Some, Ok, Err, Result, ap, refl, sym, option_map, append-nil}
+use Rattle.std.proofs.Common.{◌≡◌, ℕ, Bool, ◌+◌, List, ◌∷◌, [], Option, None, Some, Ok, Err, Result, ap, refl, sym, option_map, append-nil}
 use Rattle.ds_domain_base.specs.declared.contract.Contract.{Contract}
 use Rattle.ds_checker.specs.Acceptance.{Table}
 use Rattle.meter_fabric_base.specs.Grounds.{contract_of, ground_of}
@@ -21,18 +21,18 @@ behind_stopped : (out : List ℕ) (ending : Ending) → ◌≡◌ {A = Answer} (
 behind_stopped out ending = rw (append-nil out) refl
 
 -- a line that says no step
-pub bad_line : (t : Table) (g : Stage) (number : ℕ) (line : List ℕ) (later : List (List ℕ)) (out : List ℕ)
+pub bad_line : (in_json : Bool) (t : Table) (g : Stage) (number : ℕ) (line : List ℕ) (later : List (List ℕ)) (out : List ℕ)
     → step_in t.contracts line ≡ None
-    → ◌≡◌ {A = Answer} (record { text = out; ending = BadLine number }) (behind out (audit_from t g number (line ∷ later)))
+    → ◌≡◌ {A = Answer} (record { text = out; ending = BadLine number }) (behind out (audit_from in_json t g number (line ∷ later)))
 unfolding audit_from
-bad_line t g number line later out e = rw e (behind_stopped out (BadLine number))
+bad_line in_json t g number line later out e = rw e (behind_stopped out (BadLine number))
 
 -- a line of a step that is made
-pub made_line : (t : Table) (g h : Stage) (number : ℕ) (line : List ℕ) (later : List (List ℕ)) (s : Step)
+pub made_line : (in_json : Bool) (t : Table) (g h : Stage) (number : ℕ) (line : List ℕ) (later : List (List ℕ)) (s : Step)
     → step_in t.contracts line ≡ Some s → stepped t g s ≡ Ok h
-    → audit_from t h (number + 1) later ≡ audit_from t g number (line ∷ later)
+    → audit_from in_json t h (number + 1) later ≡ audit_from in_json t g number (line ∷ later)
 unfolding audit_from
-made_line t g h number line later s e f = rw (e, f) refl
+made_line in_json t g h number line later s e f = rw (e, f) refl
 
 -- a refusal other than want of memory is what stands against the step
 told_bad : (r : Result Stage StepFault) → BadStep ≡ refusal_of r → r ≡ Err BadStep
@@ -44,18 +44,18 @@ told_full (Ok h) told = absurd cc
 told_full (Err own) told = ap (λ (f : StepFault). Err f) (sym told)
 
 -- a line of a step that cannot be made
-pub bad_step : (t : Table) (g : Stage) (number : ℕ) (line : List ℕ) (later : List (List ℕ)) (out : List ℕ) (s : Step)
+pub bad_step : (in_json : Bool) (t : Table) (g : Stage) (number : ℕ) (line : List ℕ) (later : List (List ℕ)) (out : List ℕ) (s : Step)
     → step_in t.contracts line ≡ Some s → BadStep ≡ refusal_of (stepped t g s)
-    → ◌≡◌ {A = Answer} (record { text = out; ending = BadLine number }) (behind out (audit_from t g number (line ∷ later)))
+    → ◌≡◌ {A = Answer} (record { text = out; ending = BadLine number }) (behind out (audit_from in_json t g number (line ∷ later)))
 unfolding audit_from
-bad_step t g number line later out s e told = rw (e, told_bad (stepped t g s) told) (behind_stopped out (BadLine number))
+bad_step in_json t g number line later out s e told = rw (e, told_bad (stepped t g s) told) (behind_stopped out (BadLine number))
 
 -- a line of a step that finds a journal full
-pub full_line : (t : Table) (g : Stage) (number : ℕ) (line : List ℕ) (later : List (List ℕ)) (out : List ℕ) (s : Step)
+pub full_line : (in_json : Bool) (t : Table) (g : Stage) (number : ℕ) (line : List ℕ) (later : List (List ℕ)) (out : List ℕ) (s : Step)
     → step_in t.contracts line ≡ Some s → JournalFull ≡ refusal_of (stepped t g s)
-    → ◌≡◌ {A = Answer} (record { text = out; ending = Full }) (behind out (audit_from t g number (line ∷ later)))
+    → ◌≡◌ {A = Answer} (record { text = out; ending = Full }) (behind out (audit_from in_json t g number (line ∷ later)))
 unfolding audit_from
-full_line t g number line later out s e told = rw (e, told_full (stepped t g s) told) (behind_stopped out Full)
+full_line in_json t g number line later out s e told = rw (e, told_full (stepped t g s) told) (behind_stopped out Full)
 
 -- what stands against the first step: nothing, where it sends a packet of a contract that is there
 pub known_first : (t : Table) (flow packet size dscp moment : ℕ) (c : Contract) → Some c ≡ contract_of (ground_of t) flow
@@ -77,6 +77,6 @@ unfolding stepped
 visit_first t packet moment = refl
 
 -- the end of the lines
-pub last_line : (t : Table) (g : Stage) (number : ℕ) → audit_from t g number [] ≡ audit_of t (run_so_far g)
+pub last_line : (in_json : Bool) (t : Table) (g : Stage) (number : ℕ) → audit_from in_json t g number [] ≡ audit_of in_json t (run_so_far g)
 unfolding audit_from
-last_line t g number = refl
+last_line in_json t g number = refl

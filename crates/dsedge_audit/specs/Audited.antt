@@ -1,5 +1,6 @@
 -- What `audit` answers to lines of steps.
-use Rattle.std.specs.Prelude.{ℕ, ◌+◌, ◌-◌, nat_lt, List, [], ◌∷◌, ◌++◌, codes, flat_map, length, option_map, slice_get, slice_index, unwrap_or, Result, Ok, Err, if◌then◌else◌}
+use Rattle.std.specs.Prelude.{ℕ, ◌+◌, Bool, true, false, List, [], ◌∷◌, ◌++◌, codes, flat_map, option_map, slice_index, unwrap_or, Result, Ok, Err}
+use Rattle.json_lines.specs.JsonLines.{line_of as object_line}
 use Rattle.meter_book.specs.Replay.{Journal, accounts_of, journal_rows}
 use Rattle.meter_book.specs.declared.accounts.Accounts.{Accounts}
 use Rattle.ds_checker.specs.Acceptance.{Table}
@@ -16,15 +17,9 @@ use Rattle.ds_runs.specs.Conducting.{run_so_far}
 use Rattle.ds_runs.specs.Steps.{Stage, stepped}
 use Rattle.ds_runs.specs.declared.fault.StepFault.{StepFault}
 use Rattle.ds_runs.specs.declared.fault.StepFault.TheVariants.{BadStep, JournalFull, NoMemory}
+use Rattle.dsedge_audit.specs.AuditObjects.{audit_data}
+use Rattle.dsedge_audit.specs.SiteNames.{site_name}
 use Rattle.dsedge_audit.specs.StepLines.{step_in}
-
--- the name of a site: the meter's, or behind the meters that of the contract whose edge it is
-abbrev pub site_name : Table → ℕ → List ℕ
-site_name t site =
-    if nat_lt site (length t.domain.meters) then
-    unwrap_or (option_map (λ entry. entry.0) (slice_get t.domain.meters site)) []
-    else
-    codes "edge:" ++ name_of t.contracts (site - length t.domain.meters)
 
 -- the line of a verdict
 abbrev pub verdict_line : Table → Verdict → List ℕ
@@ -51,9 +46,14 @@ accounts_line_of name a =
 abbrev pub accounts_line : Table → Journal → List ℕ
 accounts_line t j = accounts_line_of (site_name t j.site) (accounts_of (journal_rows j))
 
--- the verdict on a run, then the accounts of each site
-abbrev pub audit_text : Table → Run → List ℕ
-audit_text t run = verdict_line t (verdict_of (ground_of t) run) ++ flat_map (accounts_line t) run.journals
+-- a verdict, then the accounts of each site
+abbrev pub audit_text : Table → Verdict → List Journal → List ℕ
+audit_text t verdict journals = verdict_line t verdict ++ flat_map (accounts_line t) journals
+
+-- as lines, or as an object of JSON
+abbrev pub audit_said : Bool → Table → Verdict → List Journal → List ℕ
+audit_said false t verdict journals = audit_text t verdict journals
+audit_said true t verdict journals = object_line (audit_data t verdict journals)
 
 -- a run that broke a premise is answered with no
 abbrev pub ending_by : Verdict → Ending
@@ -63,8 +63,12 @@ ending_by (SourceOver flow column packet) = Refused
 ending_by (DelayOver packet hop) = Refused
 ending_by (Late site place late) = Refused
 
-abbrev pub audit_of : Table → Run → Answer
-audit_of t run = record { text = audit_text t run; ending = ending_by (verdict_of (ground_of t) run) }
+abbrev pub audit_of : Bool → Table → Run → Answer
+audit_of in_json t run =
+    record {
+      text = audit_said in_json t (verdict_of (ground_of t) run) run.journals;
+      ending = ending_by (verdict_of (ground_of t) run);
+    }
 
 -- nothing is answered, since a line stopped the steps
 abbrev pub stopped : Ending → Answer
@@ -79,10 +83,16 @@ going_on number later (Err NoMemory) = stopped (BadLine number)
 
 -- The answer to lines from a number on, behind the steps so far: each line says a step that can be made, and at the end
 -- the run is judged.
-unfoldable pub audit_from : Table → Stage → ℕ → List (List ℕ) → Answer
-audit_from t g number [] = audit_of t (run_so_far g)
-audit_from t g number (line ∷ lines) =
+unfoldable pub audit_from : Bool → Table → Stage → ℕ → List (List ℕ) → Answer
+audit_from in_json t g number [] = audit_of in_json t (run_so_far g)
+audit_from in_json t g number (line ∷ lines) =
     unwrap_or
-    (option_map (λ s. going_on number (λ h. audit_from t h (number + 1) lines) (stepped t g s))
+    (option_map (λ s. going_on number (λ h. audit_from in_json t h (number + 1) lines) (stepped t g s))
     (step_in t.contracts line))
     (stopped (BadLine number))
+
+-- what the command stands at: its table, how far its run is, and whether it answers with an object
+pub record Auditing : Type 0 where
+  pub table : Table
+  pub stage : Stage
+  pub in_json : Bool

@@ -1,4 +1,6 @@
+pub mod AuditObjects
 pub mod Audited
 pub mod ByName
 pub mod Kept
+pub mod SiteNames
 pub mod StepLines

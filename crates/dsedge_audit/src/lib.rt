@@ -6,8 +6,10 @@ mod accounts_text;
 pub mod command;
 mod flows;
 mod names;
+mod objects;
 mod step_line;
 mod verdict_text;
 
 pub use command::AuditCommand;
+pub use objects::verdict_value;
 pub use verdict_text::VerdictLine;

@@ -1,7 +1,7 @@
 ghost use Rattle.std.specs.Prelude.{◌≡◌, ◌+◌, ◌≤◌, ◌++◌, OnOk};
 ghost use Rattle.arrayvec.specs.ArrayVec.{array_vec_len};
 ghost use Rattle.dsedge_texts.specs.Wording.{name_of};
-ghost use Rattle.dsedge_audit.specs.Audited.{site_name};
+ghost use Rattle.dsedge_audit.specs.SiteNames.{site_name};
 
 use ds_checker::Accepted;
 use ds_domain_base::Contract;

@@ -1,7 +1,8 @@
 ghost use Rattle.std.specs.Prelude.{◌≡◌, ◌++◌, OnOk, codes};
 ghost use Rattle.arrayvec.specs.ArrayVec.{array_vec_len};
 ghost use Rattle.dsedge_texts.specs.Wording.{column_text, figure, name_of};
-ghost use Rattle.dsedge_audit.specs.Audited.{site_name, verdict_line};
+ghost use Rattle.dsedge_audit.specs.Audited.{verdict_line};
+ghost use Rattle.dsedge_audit.specs.SiteNames.{site_name};
 
 use crate::names::{write_name, write_site};
 use ds_checker::Accepted;
@@ -92,7 +93,7 @@ fn write_source(line: &mut Line, contracts: &[Contract], flow: u32, column: Colu
     push(line, b"source-over ");
     write_name(line, contracts, flow as usize);
     push(line, b" ");
-    push(line, column_text(column));
+    push(line, column_text(column).as_bytes());
     push_figure(line, u128::from(packet));
     push(line, b"\n");
 }

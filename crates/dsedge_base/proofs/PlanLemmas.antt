@@ -30,57 +30,65 @@ pub dsedge-simple_and_free : is_simple_and_free dsedge ≡ true
 unfolding clap_on_literals
 dsedge-simple_and_free = refl
 
-meter-no_text : (meter : Option AnyMeter) (has_levels : Bool) (text : String Global) → (meter >>= (λ m. Some (Meter m has_levels))) ≡ Some (Show text) → ⊥
-meter-no_text None has_levels text e = cc
-meter-no_text (Some m) has_levels text e = cc
+meter-no_text : (meter : Option AnyMeter) (has_levels in_json : Bool) (text : String Global)
+    → (meter >>= (λ m. Some (Meter m has_levels in_json))) ≡ Some (Show text) → ⊥
+meter-no_text None has_levels in_json text e = cc
+meter-no_text (Some m) has_levels in_json text e = cc
 
-envelope-no_text : (envelope : Option (ℕ × ℕ)) (text : String Global)
-    → (envelope >>= (λ e. Some (Envelope e.0 e.1))) ≡ Some (Show text) → ⊥
-envelope-no_text None text e = cc
-envelope-no_text (Some c) text e = cc
+envelope-no_text : (envelope : Option (ℕ × ℕ)) (in_json : Bool) (text : String Global)
+    → (envelope >>= (λ e. Some (Envelope e.0 e.1 in_json))) ≡ Some (Show text) → ⊥
+envelope-no_text None in_json text e = cc
+envelope-no_text (Some c) in_json text e = cc
 
-certify-no_text : (domain : Option (List ℕ)) (text : String Global) → (domain >>= (λ d. Some (Certify d))) ≡ Some (Show text) → ⊥
-certify-no_text None text e = cc
-certify-no_text (Some d) text e = cc
+certify-no_text : (domain : Option (List ℕ)) (in_json : Bool) (text : String Global)
+    → (domain >>= (λ d. Some (Certify d in_json))) ≡ Some (Show text) → ⊥
+certify-no_text None in_json text e = cc
+certify-no_text (Some d) in_json text e = cc
 
-headroom-no_text : (domain : Option (List ℕ)) (text : String Global) → (domain >>= (λ d. Some (Headroom d))) ≡ Some (Show text) → ⊥
-headroom-no_text None text e = cc
-headroom-no_text (Some d) text e = cc
+headroom-no_text : (domain : Option (List ℕ)) (in_json : Bool) (text : String Global)
+    → (domain >>= (λ d. Some (Headroom d in_json))) ≡ Some (Show text) → ⊥
+headroom-no_text None in_json text e = cc
+headroom-no_text (Some d) in_json text e = cc
 
 draw-no_text : (domain : Option (List ℕ)) (text : String Global) → (domain >>= (λ d. Some (Draw d))) ≡ Some (Show text) → ⊥
 draw-no_text None text e = cc
 draw-no_text (Some d) text e = cc
 
-quote-no_text : (quote : Option (List ℕ × List ℕ × Asked)) (text : String Global) → (quote >>= (λ q. Some (Quote q.0 q.1 q.2))) ≡ Some (Show text) → ⊥
-quote-no_text None text e = cc
-quote-no_text (Some q) text e = cc
+quote-no_text : (quote : Option (List ℕ × List ℕ × Asked)) (in_json : Bool) (text : String Global)
+    → (quote >>= (λ q. Some (Quote q.0 q.1 q.2 in_json))) ≡ Some (Show text) → ⊥
+quote-no_text None in_json text e = cc
+quote-no_text (Some q) in_json text e = cc
 
 export-no_text : (export : Option (List ℕ × List ℕ × Device)) (text : String Global)
     → (export >>= (λ e. Some (Export e.0 e.1 e.2))) ≡ Some (Show text) → ⊥
 export-no_text None text e = cc
 export-no_text (Some x) text e = cc
 
-drive-no_text : (drive : Option (List ℕ × Limits × Option (List ℕ))) (text : String Global) → (drive >>= (λ d. Some (Drive d.0 d.1 d.2))) ≡ Some (Show text) → ⊥
-drive-no_text None text e = cc
-drive-no_text (Some d) text e = cc
+drive-no_text : (drive : Option (List ℕ × Limits × Option (List ℕ))) (in_json : Bool) (text : String Global)
+    → (drive >>= (λ d. Some (Drive d.0 d.1 d.2 in_json))) ≡ Some (Show text) → ⊥
+drive-no_text None in_json text e = cc
+drive-no_text (Some d) in_json text e = cc
 
-check-no_text : (files : Option (List ℕ × List ℕ)) (text : String Global) → (files >>= (λ f. Some (Check f.0 f.1))) ≡ Some (Show text) → ⊥
-check-no_text None text e = cc
-check-no_text (Some f) text e = cc
+check-no_text : (files : Option (List ℕ × List ℕ)) (in_json : Bool) (text : String Global)
+    → (files >>= (λ f. Some (Check f.0 f.1 in_json))) ≡ Some (Show text) → ⊥
+check-no_text None in_json text e = cc
+check-no_text (Some f) in_json text e = cc
 
-audit-no_text : (files : Option (List ℕ × List ℕ)) (text : String Global) → (files >>= (λ f. Some (Audit f.0 f.1))) ≡ Some (Show text) → ⊥
-audit-no_text None text e = cc
-audit-no_text (Some f) text e = cc
+audit-no_text : (files : Option (List ℕ × List ℕ)) (in_json : Bool) (text : String Global)
+    → (files >>= (λ f. Some (Audit f.0 f.1 in_json))) ≡ Some (Show text) → ⊥
+audit-no_text None in_json text e = cc
+audit-no_text (Some f) in_json text e = cc
 
-mark_with-no_text : (files : Option (List ℕ × List ℕ)) (marking : Option (List ℕ × Option ℕ × Bool)) (has_verdict : Bool) (text : String Global)
-    → (files >>= (λ f. marking >>= (λ m. Some (Mark f.0 f.1 m.0 m.1 m.2 has_verdict)))) ≡ Some (Show text) → ⊥
-mark_with-no_text None marking has_verdict text e = cc
-mark_with-no_text (Some f) None has_verdict text e = cc
-mark_with-no_text (Some f) (Some m) has_verdict text e = cc
+mark_with-no_text : (files : Option (List ℕ × List ℕ)) (marking : Option (List ℕ × Option ℕ × Bool)) (has_verdict in_json : Bool) (text : String Global)
+    → (files >>= (λ f. marking >>= (λ m. Some (Mark f.0 f.1 m.0 m.1 m.2 has_verdict in_json)))) ≡ Some (Show text) → ⊥
+mark_with-no_text None marking has_verdict in_json text e = cc
+mark_with-no_text (Some f) None has_verdict in_json text e = cc
+mark_with-no_text (Some f) (Some m) has_verdict in_json text e = cc
 
 mark-no_text : (given : Given) (text : String Global) → mark_given given ≡ Some (Show text) → ⊥
 unfolding mark_given
-mark-no_text given text e = mark_with-no_text (table_given given) (marking_given given) (is_set (given (codes "verdict"))) text e
+mark-no_text given text e =
+    mark_with-no_text (table_given given) (marking_given given) (is_set (given (codes "verdict"))) (is_set (given (codes "json"))) text e
 
 arrivals-no_text : (place : Option (Option GivenPort)) (has_colours : Bool) (text : String Global) → (place >>= (λ p. Some (Arrivals p has_colours))) ≡ Some (Show text) → ⊥
 arrivals-no_text None has_colours text e = cc
@@ -107,17 +115,17 @@ either-no_text false first others text a b e = b e
 command-no_text : (c : Text × List Row) (text : String Global) → plan_of c ≡ Some (Show text) → ⊥
 command-no_text c text =
     let given = given_by c.1 in
-    either-no_text (bytes_eq c.0 (codes "meter")) _ _ text (meter-no_text (meter_given given) (is_set (given (codes "levels"))) text)
-    (either-no_text (bytes_eq c.0 (codes "envelope")) _ _ text (envelope-no_text (envelope_given given) text)
-    (either-no_text (bytes_eq c.0 (codes "certify")) _ _ text (certify-no_text (given (codes "domain")) text)
-    (either-no_text (bytes_eq c.0 (codes "headroom")) _ _ text (headroom-no_text (given (codes "domain")) text)
+    either-no_text (bytes_eq c.0 (codes "meter")) _ _ text (meter-no_text (meter_given given) (is_set (given (codes "levels"))) (is_set (given (codes "json"))) text)
+    (either-no_text (bytes_eq c.0 (codes "envelope")) _ _ text (envelope-no_text (envelope_given given) (is_set (given (codes "json"))) text)
+    (either-no_text (bytes_eq c.0 (codes "certify")) _ _ text (certify-no_text (given (codes "domain")) (is_set (given (codes "json"))) text)
+    (either-no_text (bytes_eq c.0 (codes "headroom")) _ _ text (headroom-no_text (given (codes "domain")) (is_set (given (codes "json"))) text)
     (either-no_text (bytes_eq c.0 (codes "draw")) _ _ text (draw-no_text (given (codes "domain")) text)
-    (either-no_text (bytes_eq c.0 (codes "quote")) _ _ text (quote-no_text (quote_given given) text)
+    (either-no_text (bytes_eq c.0 (codes "quote")) _ _ text (quote-no_text (quote_given given) (is_set (given (codes "json"))) text)
     (either-no_text (bytes_eq c.0 (codes "export")) _ _ text (export-no_text (export_given given) text)
-    (either-no_text (bytes_eq c.0 (codes "drive")) _ _ text (drive-no_text (drive_given given) text)
+    (either-no_text (bytes_eq c.0 (codes "drive")) _ _ text (drive-no_text (drive_given given) (is_set (given (codes "json"))) text)
     (either-no_text (bytes_eq c.0 (codes "book")) _ _ text (book-no_text given text)
-    (either-no_text (bytes_eq c.0 (codes "check")) _ _ text (check-no_text (table_given given) text)
-    (either-no_text (bytes_eq c.0 (codes "audit")) _ _ text (audit-no_text (table_given given) text)
+    (either-no_text (bytes_eq c.0 (codes "check")) _ _ text (check-no_text (table_given given) (is_set (given (codes "json"))) text)
+    (either-no_text (bytes_eq c.0 (codes "audit")) _ _ text (audit-no_text (table_given given) (is_set (given (codes "json"))) text)
     (either-no_text (bytes_eq c.0 (codes "mark")) _ _ text (mark-no_text given text)
     (either-no_text (bytes_eq c.0 (codes "arrivals")) _ _ text
     (arrivals-no_text (place_given given) (is_set (given (codes "colours"))) text) (λ e. cc)))))))))))))
@@ -130,18 +138,18 @@ plan_of-no_text (Some c) text e = command-no_text c text e
 pub asked_by-answers : (words : List Text) (asked : Option Plan) → IsWellFormed words → asked ≡ asked_by words
     → IfOk (ok_or asked Usage) (IsPlanOf words) × IfErr (ok_or asked Usage) (IsRefusalOf words)
 asked_by-answers words None formed e = (tt, inr (formed, sym e))
-asked_by-answers words (Some (Meter m has_levels)) formed e = ((formed, sym e), tt)
-asked_by-answers words (Some (Envelope rate burst)) formed e = ((formed, sym e), tt)
-asked_by-answers words (Some (Certify domain)) formed e = ((formed, sym e), tt)
-asked_by-answers words (Some (Check domain certificate)) formed e = ((formed, sym e), tt)
-asked_by-answers words (Some (Headroom domain)) formed e = ((formed, sym e), tt)
+asked_by-answers words (Some (Meter m has_levels in_json)) formed e = ((formed, sym e), tt)
+asked_by-answers words (Some (Envelope rate burst in_json)) formed e = ((formed, sym e), tt)
+asked_by-answers words (Some (Certify domain in_json)) formed e = ((formed, sym e), tt)
+asked_by-answers words (Some (Check domain certificate in_json)) formed e = ((formed, sym e), tt)
+asked_by-answers words (Some (Headroom domain in_json)) formed e = ((formed, sym e), tt)
 asked_by-answers words (Some (Draw domain)) formed e = ((formed, sym e), tt)
-asked_by-answers words (Some (Quote domain contract asked)) formed e = ((formed, sym e), tt)
+asked_by-answers words (Some (Quote domain contract asked in_json)) formed e = ((formed, sym e), tt)
 asked_by-answers words (Some (Export domain meter device)) formed e = ((formed, sym e), tt)
-asked_by-answers words (Some (Audit domain certificate)) formed e = ((formed, sym e), tt)
-asked_by-answers words (Some (Drive domain limits book)) formed e = ((formed, sym e), tt)
+asked_by-answers words (Some (Audit domain certificate in_json)) formed e = ((formed, sym e), tt)
+asked_by-answers words (Some (Drive domain limits book in_json)) formed e = ((formed, sym e), tt)
 asked_by-answers words (Some (Book domain book to_domain)) formed e = ((formed, sym e), tt)
-asked_by-answers words (Some (Mark domain certificate port workers keeps_red has_verdict)) formed e = ((formed, sym e), tt)
+asked_by-answers words (Some (Mark domain certificate port workers keeps_red has_verdict in_json)) formed e = ((formed, sym e), tt)
 asked_by-answers words (Some (Arrivals place has_colours)) formed e = ((formed, sym e), tt)
 asked_by-answers words (Some (Show text)) formed e = absurd (plan_of-no_text (subcommand_of dsedge words) text (sym e))
 
@@ -197,18 +205,18 @@ no_memory kind (inr version) memory = let apart : DisplayVersion ≡ OutOfMemory
 -- a wish for a text is answered with one
 pub wish-answers : (words : List Text) (kind : ErrorKind) (plan : Plan) → MayFail words kind → IsWish kind × IsShown plan
     → IsPlanOf words plan
-wish-answers words kind (Meter m has_levels) fails help = absurd help.1
-wish-answers words kind (Envelope rate burst) fails help = absurd help.1
-wish-answers words kind (Certify domain) fails help = absurd help.1
-wish-answers words kind (Check domain certificate) fails help = absurd help.1
-wish-answers words kind (Headroom domain) fails help = absurd help.1
+wish-answers words kind (Meter m has_levels in_json) fails help = absurd help.1
+wish-answers words kind (Envelope rate burst in_json) fails help = absurd help.1
+wish-answers words kind (Certify domain in_json) fails help = absurd help.1
+wish-answers words kind (Check domain certificate in_json) fails help = absurd help.1
+wish-answers words kind (Headroom domain in_json) fails help = absurd help.1
 wish-answers words kind (Draw domain) fails help = absurd help.1
-wish-answers words kind (Quote domain contract asked) fails help = absurd help.1
+wish-answers words kind (Quote domain contract asked in_json) fails help = absurd help.1
 wish-answers words kind (Export domain meter device) fails help = absurd help.1
-wish-answers words kind (Audit domain certificate) fails help = absurd help.1
-wish-answers words kind (Drive domain limits book) fails help = absurd help.1
+wish-answers words kind (Audit domain certificate in_json) fails help = absurd help.1
+wish-answers words kind (Drive domain limits book in_json) fails help = absurd help.1
 wish-answers words kind (Book domain book to_domain) fails help = absurd help.1
-wish-answers words kind (Mark domain certificate port workers keeps_red has_verdict) fails help = absurd help.1
+wish-answers words kind (Mark domain certificate port workers keeps_red has_verdict in_json) fails help = absurd help.1
 wish-answers words kind (Arrivals place has_colours) fails help = absurd help.1
 wish-answers words kind (Show text) (inl memory) help = absurd (no_memory kind help.0 memory)
 wish-answers words kind (Show text) (inr among) help = (kind, among, help.0)

@@ -23,9 +23,13 @@ optional_word name = record (new_rule name) { value_names = 1 }
 abbrev pub flag : Text → Rule
 flag name = record (new_rule name) { long = Some name; action = Some SetTrue }
 
+-- an answer is an object of JSON where that is asked for
+abbrev pub in_json : Rule
+in_json = flag (codes "json")
+
 -- the parameters of a meter, of which each kind has its own, and what every meter has; levels are told where asked for
 abbrev pub meter : App
-meter = with_rule (with_rule (with_rule (with_rule (with_rule (with_rule (with_rule (with_rule (with_rule (with_rule (new_app (codes "meter"))
+meter = with_rule (with_rule (with_rule (with_rule (with_rule (with_rule (with_rule (with_rule (with_rule (with_rule (with_rule (new_app (codes "meter"))
     (required (codes "kind")))
     (required (codes "mode")))
     (required (codes "cir")))
@@ -35,7 +39,8 @@ meter = with_rule (with_rule (with_rule (with_rule (with_rule (with_rule (with_r
     (optional (codes "eir")))
     (optional (codes "ebs")))
     (optional (codes "origin")))
-    (flag (codes "levels"))
+    (flag (codes "levels")))
+    in_json
 
 -- the words stand alone, with no name of the program before them, and name a command, or ask for the version
 abbrev pub program : App
@@ -44,13 +49,14 @@ program = let a = new_app (codes "dsedge") in
 
 -- an envelope has a rate and a burst
 abbrev pub envelope : App
-envelope = with_rule (with_rule (new_app (codes "envelope"))
+envelope = with_rule (with_rule (with_rule (new_app (codes "envelope"))
     (required (codes "rate")))
-    (required (codes "burst"))
+    (required (codes "burst")))
+    in_json
 
 -- a certificate is that of a domain
 abbrev pub certify : App
-certify = with_rule (new_app (codes "certify")) (positional (codes "domain"))
+certify = with_rule (with_rule (new_app (codes "certify")) (positional (codes "domain"))) in_json
 
 -- a command on a domain and a certificate
 abbrev pub on_table : Text → App
@@ -60,11 +66,11 @@ on_table name = with_rule (with_rule (new_app name)
 
 -- a check is of a domain and a certificate
 abbrev pub check : App
-check = on_table (codes "check")
+check = with_rule (on_table (codes "check")) in_json
 
 -- what is left at the meters is that of a domain
 abbrev pub headroom : App
-headroom = with_rule (new_app (codes "headroom")) (positional (codes "domain"))
+headroom = with_rule (with_rule (new_app (codes "headroom")) (positional (codes "domain"))) in_json
 
 -- a picture is that of a domain
 abbrev pub draw : App
@@ -72,11 +78,12 @@ draw = with_rule (new_app (codes "draw")) (positional (codes "domain"))
 
 -- a quote is of a contract of a domain, and of a field of it, or of how many fit
 abbrev pub quote : App
-quote = with_rule (with_rule (with_rule (with_rule (new_app (codes "quote"))
+quote = with_rule (with_rule (with_rule (with_rule (with_rule (new_app (codes "quote"))
     (positional (codes "domain")))
     (required (codes "contract")))
     (optional (codes "most")))
-    (flag (codes "count"))
+    (flag (codes "count")))
+    in_json
 
 -- an export is of a meter of a domain, to a device
 abbrev pub export_to : App
@@ -87,15 +94,16 @@ export_to = with_rule (with_rule (with_rule (new_app (codes "export"))
 
 -- an audit is of a run over a domain with a certificate
 abbrev pub audit : App
-audit = on_table (codes "audit")
+audit = with_rule (on_table (codes "audit")) in_json
 
 -- contracts are sold of a domain, by a book that a file keeps and that takes so much where these are said
 abbrev pub drive : App
-drive = with_rule (with_rule (with_rule (with_rule (new_app (codes "drive"))
+drive = with_rule (with_rule (with_rule (with_rule (with_rule (new_app (codes "drive"))
     (positional (codes "domain")))
     (optional (codes "book")))
     (optional (codes "contracts")))
-    (optional (codes "commands"))
+    (optional (codes "commands")))
+    in_json
 
 -- what a book of a domain holds that a file keeps is told, as a domain text where that is asked for
 abbrev pub book : App
@@ -107,11 +115,12 @@ book = with_rule (with_rule (with_rule (new_app (codes "book"))
 -- a capture is marked at a port, by workers where it is said by how many, with a rule for red frames, and the verdict is
 -- told where asked for
 abbrev pub mark : App
-mark = with_rule (with_rule (with_rule (with_rule (on_table (codes "mark"))
+mark = with_rule (with_rule (with_rule (with_rule (with_rule (on_table (codes "mark"))
     (required (codes "port")))
     (optional (codes "workers")))
     (required (codes "red")))
-    (flag (codes "verdict"))
+    (flag (codes "verdict")))
+    in_json
 
 -- the packets of a capture are told, of a port of a domain, of one contract there, or of all, with colours or without
 abbrev pub arrivals : App

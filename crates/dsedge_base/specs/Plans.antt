@@ -26,21 +26,46 @@ book_given given = do
 
 -- what `check` and `audit` ask for with their words
 abbrev pub check_given : Given → Option Plan
-check_given given = table_given given >>= (λ files. Some (Check files.0 files.1))
+check_given given = table_given given >>= (λ files. Some (Check files.0 files.1 (is_set (given (codes "json")))))
 
 abbrev pub audit_given : Given → Option Plan
-audit_given given = table_given given >>= (λ files. Some (Audit files.0 files.1))
+audit_given given = table_given given >>= (λ files. Some (Audit files.0 files.1 (is_set (given (codes "json")))))
 
 -- what `meter` asks for with its options
 abbrev pub meter_asked : Given → Option Plan
-meter_asked given = meter_given given >>= (λ m. Some (Meter m (is_set (given (codes "levels")))))
+meter_asked given =
+    meter_given given >>= (λ m. Some (Meter m (is_set (given (codes "levels"))) (is_set (given (codes "json")))))
+
+-- what `envelope` asks for with its options
+abbrev pub envelope_asked : Given → Option Plan
+envelope_asked given =
+    envelope_given given >>= (λ e. Some (Envelope e.0 e.1 (is_set (given (codes "json")))))
+
+-- what `certify` asks for with its words
+abbrev pub certify_given : Given → Option Plan
+certify_given given =
+    given (codes "domain") >>= (λ domain. Some (Certify domain (is_set (given (codes "json")))))
+
+-- what `quote` asks for with its words
+abbrev pub quote_asked : Given → Option Plan
+quote_asked given = quote_given given >>= (λ q. Some (Quote q.0 q.1 q.2 (is_set (given (codes "json")))))
+
+-- what `headroom` asks for with its words
+abbrev pub headroom_given : Given → Option Plan
+headroom_given given =
+    given (codes "domain") >>= (λ domain. Some (Headroom domain (is_set (given (codes "json")))))
 
 -- what `mark` asks for with its options
 unfoldable pub mark_given : Given → Option Plan
 mark_given given = do
   files ← table_given given
   marking ← marking_given given
-  Some (Mark files.0 files.1 marking.0 marking.1 marking.2 (is_set (given (codes "verdict"))))
+  Some (Mark files.0 files.1 marking.0 marking.1 marking.2 (is_set (given (codes "verdict")))
+      (is_set (given (codes "json"))))
+
+-- what `drive` asks for with its words
+abbrev pub drive_asked : Given → Option Plan
+drive_asked given = drive_given given >>= (λ d. Some (Drive d.0 d.1 d.2 (is_set (given (codes "json")))))
 
 -- what `arrivals` asks for with its words
 abbrev pub arrivals_given : Given → Option Plan
@@ -50,14 +75,13 @@ arrivals_given given = place_given given >>= (λ place. Some (Arrivals place (is
 abbrev pub plan_of : Text × List Row → Option Plan
 plan_of c =
     if bytes_eq c.0 (codes "meter") then meter_asked (given_by c.1)
-    else if bytes_eq c.0 (codes "envelope") then envelope_given (given_by c.1) >>= (λ e. Some (Envelope e.0 e.1))
-    else if bytes_eq c.0 (codes "certify") then given_by c.1 (codes "domain") >>= (λ domain. Some (Certify domain))
-    else if bytes_eq c.0 (codes "headroom") then given_by c.1 (codes "domain") >>= (λ domain. Some (Headroom domain))
+    else if bytes_eq c.0 (codes "envelope") then envelope_asked (given_by c.1)
+    else if bytes_eq c.0 (codes "certify") then certify_given (given_by c.1)
+    else if bytes_eq c.0 (codes "headroom") then headroom_given (given_by c.1)
     else if bytes_eq c.0 (codes "draw") then given_by c.1 (codes "domain") >>= (λ domain. Some (Draw domain))
-    else if bytes_eq c.0 (codes "quote") then
-    quote_given (given_by c.1) >>= (λ q. Some (Quote q.0 q.1 q.2))
+    else if bytes_eq c.0 (codes "quote") then quote_asked (given_by c.1)
     else if bytes_eq c.0 (codes "export") then export_given (given_by c.1) >>= (λ e. Some (Export e.0 e.1 e.2))
-    else if bytes_eq c.0 (codes "drive") then drive_given (given_by c.1) >>= (λ d. Some (Drive d.0 d.1 d.2))
+    else if bytes_eq c.0 (codes "drive") then drive_asked (given_by c.1)
     else if bytes_eq c.0 (codes "book") then book_given (given_by c.1)
     else if bytes_eq c.0 (codes "check") then check_given (given_by c.1)
     else if bytes_eq c.0 (codes "audit") then audit_given (given_by c.1)
@@ -81,19 +105,25 @@ IsWish kind = (kind ≡ DisplayHelp) ⊎ (kind ≡ DisplayVersion)
 -- well formed words ask for.
 abbrev pub IsPlanOf : List Text → Plan → Type 0
 IsPlanOf words (Show text) = (kind : ErrorKind) × IsAmong kind (fault_of dsedge words) × IsWish kind
-IsPlanOf words (Meter m has_levels) = IsWellFormed words × (asked_by words ≡ Some (Meter m has_levels))
-IsPlanOf words (Envelope rate burst) = IsWellFormed words × (asked_by words ≡ Some (Envelope rate burst))
-IsPlanOf words (Certify domain) = IsWellFormed words × (asked_by words ≡ Some (Certify domain))
-IsPlanOf words (Check domain certificate) = IsWellFormed words × (asked_by words ≡ Some (Check domain certificate))
-IsPlanOf words (Headroom domain) = IsWellFormed words × (asked_by words ≡ Some (Headroom domain))
+IsPlanOf words (Meter m has_levels in_json) =
+    IsWellFormed words × (asked_by words ≡ Some (Meter m has_levels in_json))
+IsPlanOf words (Envelope rate burst in_json) =
+    IsWellFormed words × (asked_by words ≡ Some (Envelope rate burst in_json))
+IsPlanOf words (Certify domain in_json) = IsWellFormed words × (asked_by words ≡ Some (Certify domain in_json))
+IsPlanOf words (Check domain certificate in_json) =
+    IsWellFormed words × (asked_by words ≡ Some (Check domain certificate in_json))
+IsPlanOf words (Headroom domain in_json) = IsWellFormed words × (asked_by words ≡ Some (Headroom domain in_json))
 IsPlanOf words (Draw domain) = IsWellFormed words × (asked_by words ≡ Some (Draw domain))
-IsPlanOf words (Quote domain contract asked) = IsWellFormed words × (asked_by words ≡ Some (Quote domain contract asked))
+IsPlanOf words (Quote domain contract asked in_json) =
+    IsWellFormed words × (asked_by words ≡ Some (Quote domain contract asked in_json))
 IsPlanOf words (Export domain meter device) = IsWellFormed words × (asked_by words ≡ Some (Export domain meter device))
-IsPlanOf words (Audit domain certificate) = IsWellFormed words × (asked_by words ≡ Some (Audit domain certificate))
-IsPlanOf words (Drive domain limits book) = IsWellFormed words × (asked_by words ≡ Some (Drive domain limits book))
+IsPlanOf words (Audit domain certificate in_json) =
+    IsWellFormed words × (asked_by words ≡ Some (Audit domain certificate in_json))
+IsPlanOf words (Drive domain limits book in_json) =
+    IsWellFormed words × (asked_by words ≡ Some (Drive domain limits book in_json))
 IsPlanOf words (Book domain book to_domain) = IsWellFormed words × (asked_by words ≡ Some (Book domain book to_domain))
-IsPlanOf words (Mark domain certificate port workers keeps_red has_verdict) =
-    IsWellFormed words × (asked_by words ≡ Some (Mark domain certificate port workers keeps_red has_verdict))
+IsPlanOf words (Mark domain certificate port workers keeps_red has_verdict in_json) =
+    IsWellFormed words × (asked_by words ≡ Some (Mark domain certificate port workers keeps_red has_verdict in_json))
 IsPlanOf words (Arrivals place has_colours) = IsWellFormed words × (asked_by words ≡ Some (Arrivals place has_colours))
 
 -- something other than a wish for a text stands against the form of the words
@@ -131,16 +161,16 @@ IsOfForm Value = ⊥
 
 abbrev pub IsShown : Plan → Type 0
 IsShown (Show text) = Unit {0}
-IsShown (Meter m has_levels) = ⊥
-IsShown (Envelope rate burst) = ⊥
-IsShown (Certify domain) = ⊥
-IsShown (Check domain certificate) = ⊥
-IsShown (Headroom domain) = ⊥
+IsShown (Meter m has_levels in_json) = ⊥
+IsShown (Envelope rate burst in_json) = ⊥
+IsShown (Certify domain in_json) = ⊥
+IsShown (Check domain certificate in_json) = ⊥
+IsShown (Headroom domain in_json) = ⊥
 IsShown (Draw domain) = ⊥
-IsShown (Quote domain contract asked) = ⊥
+IsShown (Quote domain contract asked in_json) = ⊥
 IsShown (Export domain meter device) = ⊥
-IsShown (Audit domain certificate) = ⊥
-IsShown (Drive domain limits book) = ⊥
+IsShown (Audit domain certificate in_json) = ⊥
+IsShown (Drive domain limits book in_json) = ⊥
 IsShown (Book domain book to_domain) = ⊥
-IsShown (Mark domain certificate port workers keeps_red has_verdict) = ⊥
+IsShown (Mark domain certificate port workers keeps_red has_verdict in_json) = ⊥
 IsShown (Arrivals place has_colours) = ⊥

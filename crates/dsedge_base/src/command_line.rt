@@ -11,6 +11,10 @@ use std::alloc::{AllocError, Global};
 /// The version of `dsedge`, and the logic that it is proved with, as `rt version` names it whatever the kit's letter.
 const VERSION: &str = "0.1.0\nlogic dac8208d650f15bf";
 
+/// What the help says at its end.
+const MORE: &str =
+    "With --explain among the words more is said behind the line of a fault or of a refusal, as at a terminal.";
+
 /// The command line of `dsedge`.
 pub(crate) fn command_line<'a>(alloc: Global) -> Result<Command<'a>, AllocError>
     ensures { IfOk result (λ command. app_of command ≡ dsedge) }
@@ -51,6 +55,7 @@ fn program<'a>(alloc: Global) -> Result<Command<'a>, AllocError>
 {
     Command::new(alloc, "dsedge")
         .about("A DiffServ traffic conditioner: meters, marks and certificates.")
+        .after_help(MORE)
         .version(VERSION)
         .no_binary_name(true)
         .subcommand_required(true)
@@ -62,7 +67,9 @@ fn command_of<'a>(alloc: Global, entry: &CommandEntry) -> Result<Command<'a>, Al
     ensures shape { IfOk result (λ command. app_of command ≡ app_in entry.now) }
     ensures local { IfOk result (λ command. (fields_of command).has_globals ≡ false) }
 {
-    let mut command = Command::new(alloc, entry.name).about(entry.about);
+    let mut command = Command::new(alloc, entry.name)
+        .about(entry.about)
+        .after_help(MORE);
     for argument in entry.arguments {
         command = command.arg(argument_of(alloc, argument))?;
     }

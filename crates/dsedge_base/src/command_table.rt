@@ -49,6 +49,14 @@ const CERTIFICATE: ArgumentEntry = ArgumentEntry {
     help: "the certificate of its contracts, as certify prints one",
 };
 
+/// The option of each command that answers with an object of JSON where that is asked for.
+const JSON: ArgumentEntry = ArgumentEntry {
+    form: Form::Flag,
+    name: "json",
+    value: "",
+    help: "answers with objects of JSON, each on one line",
+};
+
 /// What the help says of `arrivals`.
 const ARRIVALS_ABOUT: &str =
     "Prints the packets of the capture on standard input: lines MOMENT SIZE, as envelope reads them.";
@@ -129,6 +137,12 @@ const COMMANDS: &[CommandEntry] = &[
                 value: "",
                 help: "prints COLOUR COMMITTED SECOND: the levels that the packet left in the buckets, in bytes",
             },
+            ArgumentEntry {
+                form: Form::Flag,
+                name: "json",
+                value: "",
+                help: "prints the accounts as an object of JSON, on one line",
+            },
         ],
     },
     CommandEntry {
@@ -147,22 +161,23 @@ const COMMANDS: &[CommandEntry] = &[
                 value: "BYTES",
                 help: "the bytes that they may send beyond it, at any time",
             },
+            JSON,
         ],
     },
     CommandEntry {
         name: "certify",
         about: "Prints the least certificate of the contracts of a domain.",
-        arguments: &[DOMAIN],
+        arguments: &[DOMAIN, JSON],
     },
     CommandEntry {
         name: "check",
         about: "Checks a certificate: accepted, or the first test that fails.",
-        arguments: &[DOMAIN, CERTIFICATE],
+        arguments: &[DOMAIN, CERTIFICATE, JSON],
     },
     CommandEntry {
         name: "headroom",
         about: "Prints what is taken and what there is at each meter, for each test: METER KIND TAKEN AVAILABLE.",
-        arguments: &[DOMAIN],
+        arguments: &[DOMAIN, JSON],
     },
     CommandEntry {
         name: "draw",
@@ -192,6 +207,7 @@ const COMMANDS: &[CommandEntry] = &[
                 value: "",
                 help: "in place of --most: how many contracts like it fit at most, itself being one of them",
             },
+            JSON,
         ],
     },
     CommandEntry {
@@ -216,7 +232,7 @@ const COMMANDS: &[CommandEntry] = &[
     CommandEntry {
         name: "audit",
         about: "Judges the run on standard input: lines send CONTRACT PACKET SIZE DSCP MOMENT and visit PACKET MOMENT.",
-        arguments: &[DOMAIN, CERTIFICATE],
+        arguments: &[DOMAIN, CERTIFICATE, JSON],
     },
     CommandEntry {
         name: "drive",
@@ -241,6 +257,7 @@ const COMMANDS: &[CommandEntry] = &[
                 value: "COUNT",
                 help: "how many commands the book accepts, 1 to 16,777,216 [default: 65,536]",
             },
+            JSON,
         ],
     },
     CommandEntry {
@@ -292,6 +309,7 @@ const COMMANDS: &[CommandEntry] = &[
                 value: "",
                 help: "ends the report with the verdict on the run behind the capture, as audit tells it",
             },
+            JSON,
         ],
     },
     CommandEntry {

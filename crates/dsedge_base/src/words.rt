@@ -3,6 +3,7 @@ ghost use Rattle.std.specs.Prelude.{option_and_then, if◌then◌else◌};
 ghost use Rattle.clap.specs.Words.{found_of, kind_of, rows_of, subcommand_rows_of};
 ghost use Rattle.dsedge_base.specs.Plans.{IsExplanationOf, IsOfForm, IsPlanOf, IsRefusalOf, IsShown, IsWish};
 ghost use Rattle.dsedge_base.specs.Plans.{arrivals_given, asks_other_workers, audit_given, book_given, check_given, given_by, mark_given, meter_asked, plan_of};
+ghost use Rattle.dsedge_base.specs.Plans.{certify_given, drive_asked, envelope_asked, headroom_given, quote_asked};
 
 use crate::command_line::command_line;
 use crate::explanation::Explanation;
@@ -100,30 +101,14 @@ fn asked_of<'a>(name: &str, options: &ArgMatches<'a>) -> Option<Plan<'a>>
 {
     match name {
         "meter" => meter_asked(options),
-        "envelope" => {
-            let (rate, burst) = envelope_in(options)?;
-            Some(Plan::Envelope { rate, burst })
-        }
-        "certify" => {
-            let domain = name_in(options, "domain")?;
-            Some(Plan::Certify { domain })
-        }
-        "headroom" => {
-            let domain = name_in(options, "domain")?;
-            Some(Plan::Headroom { domain })
-        }
+        "envelope" => envelope_asked(options),
+        "certify" => certify_asked(options),
+        "headroom" => headroom_asked(options),
         "draw" => {
             let domain = name_in(options, "domain")?;
             Some(Plan::Draw { domain })
         }
-        "quote" => {
-            let (domain, contract, asked) = quote_in(options)?;
-            Some(Plan::Quote {
-                domain,
-                contract,
-                asked,
-            })
-        }
+        "quote" => quote_asked(options),
         "export" => {
             let (domain, meter, device) = export_in(options)?;
             Some(Plan::Export {
@@ -132,14 +117,7 @@ fn asked_of<'a>(name: &str, options: &ArgMatches<'a>) -> Option<Plan<'a>>
                 device,
             })
         }
-        "drive" => {
-            let (domain, limits, book) = drive_in(options)?;
-            Some(Plan::Drive {
-                domain,
-                limits,
-                book,
-            })
-        }
+        "drive" => drive_asked(options),
         "book" => book_asked(options),
         "check" => check_asked(options),
         "audit" => audit_asked(options),
@@ -170,7 +148,57 @@ fn meter_asked<'a>(options: &ArgMatches<'a>) -> Option<Plan<'a>>
 {
     let meter = meter_in(options)?;
     let has_levels = is_set(options, "levels");
-    Some(Plan::Meter { meter, has_levels })
+    let in_json = is_set(options, "json");
+    Some(Plan::Meter {
+        meter,
+        has_levels,
+        in_json,
+    })
+}
+
+/// What `envelope` asks for with its options.
+fn envelope_asked<'a>(options: &ArgMatches<'a>) -> Option<Plan<'a>>
+    ensures { result ≡ envelope_asked (given_by (rows_of (found_of options.now))) }
+{
+    let (rate, burst) = envelope_in(options)?;
+    let in_json = is_set(options, "json");
+    Some(Plan::Envelope {
+        rate,
+        burst,
+        in_json,
+    })
+}
+
+/// What `certify` asks for with its words.
+fn certify_asked<'a>(options: &ArgMatches<'a>) -> Option<Plan<'a>>
+    ensures { result ≡ certify_given (given_by (rows_of (found_of options.now))) }
+{
+    let domain = name_in(options, "domain")?;
+    let in_json = is_set(options, "json");
+    Some(Plan::Certify { domain, in_json })
+}
+
+/// What `quote` asks for with its words.
+fn quote_asked<'a>(options: &ArgMatches<'a>) -> Option<Plan<'a>>
+    ensures { result ≡ quote_asked (given_by (rows_of (found_of options.now))) }
+{
+    let (domain, contract, asked) = quote_in(options)?;
+    let in_json = is_set(options, "json");
+    Some(Plan::Quote {
+        domain,
+        contract,
+        asked,
+        in_json,
+    })
+}
+
+/// What `headroom` asks for with its words.
+fn headroom_asked<'a>(options: &ArgMatches<'a>) -> Option<Plan<'a>>
+    ensures { result ≡ headroom_given (given_by (rows_of (found_of options.now))) }
+{
+    let domain = name_in(options, "domain")?;
+    let in_json = is_set(options, "json");
+    Some(Plan::Headroom { domain, in_json })
 }
 
 /// What `check` asks for with its words.
@@ -178,9 +206,11 @@ fn check_asked<'a>(options: &ArgMatches<'a>) -> Option<Plan<'a>>
     ensures { result ≡ check_given (given_by (rows_of (found_of options.now))) }
 {
     let (domain, certificate) = table_in(options)?;
+    let in_json = is_set(options, "json");
     Some(Plan::Check {
         domain,
         certificate,
+        in_json,
     })
 }
 
@@ -189,9 +219,25 @@ fn audit_asked<'a>(options: &ArgMatches<'a>) -> Option<Plan<'a>>
     ensures { result ≡ audit_given (given_by (rows_of (found_of options.now))) }
 {
     let (domain, certificate) = table_in(options)?;
+    let in_json = is_set(options, "json");
     Some(Plan::Audit {
         domain,
         certificate,
+        in_json,
+    })
+}
+
+/// What `drive` asks for with its words.
+fn drive_asked<'a>(options: &ArgMatches<'a>) -> Option<Plan<'a>>
+    ensures { result ≡ drive_asked (given_by (rows_of (found_of options.now))) }
+{
+    let (domain, limits, book) = drive_in(options)?;
+    let in_json = is_set(options, "json");
+    Some(Plan::Drive {
+        domain,
+        limits,
+        book,
+        in_json,
     })
 }
 
@@ -212,6 +258,7 @@ fn mark_asked<'a>(options: &ArgMatches<'a>) -> Option<Plan<'a>>
     let (domain, certificate) = table_in(options)?;
     let (port, workers, keeps_red) = marking_in(options)?;
     let has_verdict = is_set(options, "verdict");
+    let in_json = is_set(options, "json");
     Some(Plan::Mark {
         domain,
         certificate,
@@ -219,6 +266,7 @@ fn mark_asked<'a>(options: &ArgMatches<'a>) -> Option<Plan<'a>>
         workers,
         keeps_red,
         has_verdict,
+        in_json,
     })
 }
 

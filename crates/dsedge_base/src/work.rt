@@ -1,5 +1,5 @@
 ghost use Rattle.std.specs.Prelude.{◌≡◌, IfOk};
-ghost use Rattle.dsedge_base.specs.Files.{files_of, names_of};
+ghost use Rattle.dsedge_base.specs.Files.{files_of, in_json_of, names_of};
 
 use device_core::Device;
 use ds_broker::Limits;
@@ -21,6 +21,8 @@ pub enum Plan<'a> {
         meter: AnyMeter,
         /// Whether the levels that packets leave in its buckets are told.
         has_levels: bool,
+        /// Whether its accounts are told as an object of JSON.
+        in_json: bool,
     },
     /// Test whether the sized moments of standard input keep an envelope.
     Envelope {
@@ -28,11 +30,15 @@ pub enum Plan<'a> {
         rate: Rate,
         /// Its burst, in bytes: 0 to 10^15.
         burst: u64,
+        /// Whether that is answered with an object of JSON.
+        in_json: bool,
     },
     /// Give the least certificate of a domain and its contracts.
     Certify {
         /// The file of the domain.
         domain: GivenName<'a>,
+        /// Whether that is answered with an object of JSON.
+        in_json: bool,
     },
     /// Check a certificate of a domain and its contracts.
     Check {
@@ -40,11 +46,15 @@ pub enum Plan<'a> {
         domain: GivenName<'a>,
         /// The file of the certificate.
         certificate: GivenName<'a>,
+        /// Whether that is answered with an object of JSON.
+        in_json: bool,
     },
     /// Tell what is taken and what there is at each meter of a domain.
     Headroom {
         /// The file of the domain.
         domain: GivenName<'a>,
+        /// Whether that is answered with an object of JSON.
+        in_json: bool,
     },
     /// Draw a domain, its contracts and what is taken at each meter.
     Draw {
@@ -59,6 +69,8 @@ pub enum Plan<'a> {
         contract: GivenName<'a>,
         /// What is asked for.
         asked: Asked,
+        /// Whether that is answered with an object of JSON.
+        in_json: bool,
     },
     /// Tell the words that set a device to a meter of a domain, what it makes of them, and whether the checker accepts the
     /// domain so.
@@ -76,6 +88,8 @@ pub enum Plan<'a> {
         domain: GivenName<'a>,
         /// The file of the certificate.
         certificate: GivenName<'a>,
+        /// Whether that is answered with an object of JSON.
+        in_json: bool,
     },
     /// Sell the contracts of a domain by the commands of standard input.
     Drive {
@@ -85,6 +99,8 @@ pub enum Plan<'a> {
         limits: Limits,
         /// The file that keeps its book, if one does.
         book: Option<GivenName<'a>>,
+        /// Whether commands are answered with objects of JSON.
+        in_json: bool,
     },
     /// Tell what a broker's book of a domain holds.
     Book {
@@ -109,6 +125,8 @@ pub enum Plan<'a> {
         keeps_red: bool,
         /// Whether the verdict on the run behind the capture is told.
         has_verdict: bool,
+        /// Whether the report is told as an object of JSON, with the verdict.
+        in_json: bool,
     },
     /// Tell the packets of the capture of standard input.
     Arrivals {
@@ -162,8 +180,8 @@ impl<'a> Plan<'a> {
                 place: Some(place),
                 ..
             } => names.push(GivenName::new(place.domain.text()))?,
-            Plan::Certify { domain }
-            | Plan::Headroom { domain }
+            Plan::Certify { domain, .. }
+            | Plan::Headroom { domain, .. }
             | Plan::Draw { domain }
             | Plan::Quote { domain, .. }
             | Plan::Export { domain, .. }
@@ -172,10 +190,12 @@ impl<'a> Plan<'a> {
             Plan::Check {
                 domain,
                 certificate,
+                ..
             }
             | Plan::Audit {
                 domain,
                 certificate,
+                ..
             }
             | Plan::Mark {
                 domain,
@@ -197,6 +217,28 @@ impl<'a> Plan<'a> {
         PlanNames {
             port: self.port(),
             contract: self.contract(),
+        }
+    }
+
+    /// Whether it asks for objects of JSON.
+    pub fn in_json(&self) -> bool
+        ensures { result ≡ in_json_of self.now }
+    {
+        match self {
+            Plan::Meter { in_json, .. }
+            | Plan::Envelope { in_json, .. }
+            | Plan::Certify { in_json, .. }
+            | Plan::Check { in_json, .. }
+            | Plan::Headroom { in_json, .. }
+            | Plan::Quote { in_json, .. }
+            | Plan::Audit { in_json, .. }
+            | Plan::Drive { in_json, .. }
+            | Plan::Mark { in_json, .. } => *in_json,
+            Plan::Show(_)
+            | Plan::Draw { .. }
+            | Plan::Export { .. }
+            | Plan::Book { .. }
+            | Plan::Arrivals { .. } => false,
         }
     }
 

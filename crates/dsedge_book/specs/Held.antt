@@ -14,9 +14,10 @@ use Rattle.ds_domain_base.specs.declared.fault.Kind.TheVariants as kinds
 use Rattle.ds_domain_base.specs.declared.fault.Section.TheVariants as sections
 use Rattle.ds_ledger_base.specs.Replays.{replay}
 use Rattle.ds_ledger_base.specs.declared.fault.BookFault.TheVariants as books
+use Rattle.ds_ledger_base.specs.declared.fault.LedgerFault.{LedgerFault}
 use Rattle.ds_ledger_base.specs.declared.fault.LedgerFault.TheVariants as ledgers
 use Rattle.dsedge_drive.specs.Driven.{opening_book}
-use Rattle.dsedge_drive.specs.Sold.{list_text}
+use Rattle.dsedge_sold.specs.Sold.{list_text}
 use Rattle.dsedge_book.specs.declared.fault.HeldFault.{HeldFault}
 use Rattle.dsedge_book.specs.declared.fault.HeldFault.TheVariants as faults
 use Rattle.dsedge_book.specs.declared.held.HeldForm.{HeldForm}
@@ -38,13 +39,13 @@ Says forms.List b text = text ≡ list_text (entries_of b)
 Says forms.Domain b text = parse_of text ≡ Ok (b.domain, contracts_in (held_of b))
 
 -- a ledger that stands so keeps a history, of which a domain makes this book, or refuses this command
-pub record IsReplayed (stands : List Command → Type 0) (d : Domain) (found : Result Book (ℕ × BrokerRefusal)) : Type 0 where
+pub record IsReplayed (stands : Result (List Command) LedgerFault → Type 0) (d : Domain) (found : Result Book (ℕ × BrokerRefusal)) : Type 0 where
   pub history : List Command
-  pub stood : stands history
+  pub stood : stands (Ok history)
   pub replayed : replay (opening_book d roomy) history ≡ found
 
 -- a text says what the book holds that a domain makes of a ledger's history
-abbrev pub IsHeldText : (List Command → Type 0) → Result Domain DomainFault → HeldForm → List ℕ → Type 0
+abbrev pub IsHeldText : (Result (List Command) LedgerFault → Type 0) → Result Domain DomainFault → HeldForm → List ℕ → Type 0
 IsHeldText stands (Ok d) form text = (b : Book) × IsReplayed stands d (Ok b) × Says form b text
 IsHeldText stands (Err fault) form text = ⊥
 
@@ -62,16 +63,17 @@ IsRefused found (faults.Book (books.Command refused)) = found ≡ Err (refused.s
 IsRefused found faults.NoMemory = Unit {0}
 IsRefused found _ = ⊥
 
--- Why a ledger's history makes no book of a domain. Memory may run out.
-abbrev pub IsUnmade : (List Command → Type 0) → Domain → HeldFault → Type 0
-IsUnmade stands d (faults.Book (books.Ledger fault)) = fault ≢ ledgers.NoMemory
+-- Why a ledger's history makes no book of a domain: none can be had, for the reason that is told, or the domain refuses a
+-- command. Memory may run out.
+abbrev pub IsUnmade : (Result (List Command) LedgerFault → Type 0) → Domain → HeldFault → Type 0
+IsUnmade stands d (faults.Book (books.Ledger fault)) = (fault ≢ ledgers.NoMemory) × stands (Err fault)
 IsUnmade stands d (faults.Book (books.Command refused)) =
     IsReplayed stands d (Err (refused.serial, refused.refusal))
 IsUnmade stands d faults.NoMemory = Unit {0}
 IsUnmade stands d _ = ⊥
 
 -- Why it is not told what a domain makes of a ledger's history: there is no book, or no text says what it holds.
-abbrev pub IsUntold : (List Command → Type 0) → Result Domain DomainFault → HeldForm → HeldFault → Type 0
+abbrev pub IsUntold : (Result (List Command) LedgerFault → Type 0) → Result Domain DomainFault → HeldForm → HeldFault → Type 0
 IsUntold stands (Ok d) form fault =
     IsUnmade stands d fault ⊎ ((b : Book) × IsReplayed stands d (Ok b) × IsUnsaid form b fault)
 IsUntold stands (Err fault) form told = (told ≡ faults.Domain fault) ⊎ (told ≡ faults.NoMemory)

@@ -10,47 +10,47 @@ use Rattle.dsedge_drive.specs.Kept.{Selling, with_reply}
 use Rattle.dsedge_drive.specs.Opened.{answer_behind}
 
 -- a line that is answered: its answer is held back behind what was held back
-pub replied_line : (s mid : Selling) (number : ℕ) (line : List ℕ) (later : List (List ℕ)) → is_some (replied s.offered s.book line) ≡ true
-    → mid ≡ with_reply s (replied s.offered s.book line)
+pub replied_line : (s mid : Selling) (number : ℕ) (line : List ℕ) (later : List (List ℕ)) → is_some (replied s.in_json s.offered s.book line) ≡ true
+    → mid ≡ with_reply s (replied s.in_json s.offered s.book line)
     → answer_behind mid (number + 1) later ≡ answer_behind s number (line ∷ later)
 unfolding drive_from
-replied_line s mid number line later known is = rw is (by (replied s.offered s.book line) known)
+replied_line s mid number line later known is = rw is (by (replied s.in_json s.offered s.book line) known)
   where
     by : (r : Option Reply) → is_some r ≡ true
         → answer_behind (with_reply s r) (number + 1) later
-        ≡ behind s.unsaid (unwrap_or (option_map (λ (r : Reply). behind r.text (drive_from r.offered r.book (number + 1) later)) r) (stopped number))
-    by (Some r) h = behind-append s.unsaid r.text (drive_from r.offered r.book (number + 1) later)
+        ≡ behind s.unsaid (unwrap_or (option_map (λ (r : Reply). behind r.text (drive_from s.in_json r.offered r.book (number + 1) later)) r) (stopped number))
+    by (Some r) h = behind-append s.unsaid r.text (drive_from s.in_json r.offered r.book (number + 1) later)
     by None h = absurd cc
 
 -- a line that asks for nothing changes nothing, and ends the answer
-unknown_line : (s : Selling) (number : ℕ) (line : List ℕ) (later : List (List ℕ)) → is_some (replied s.offered s.book line) ≡ false
-    → (with_reply s (replied s.offered s.book line) ≡ s) × (answer_behind s number (line ∷ later) ≡ behind s.unsaid (stopped number))
+unknown_line : (s : Selling) (number : ℕ) (line : List ℕ) (later : List (List ℕ)) → is_some (replied s.in_json s.offered s.book line) ≡ false
+    → (with_reply s (replied s.in_json s.offered s.book line) ≡ s) × (answer_behind s number (line ∷ later) ≡ behind s.unsaid (stopped number))
 unfolding drive_from
-unknown_line s number line later unknown = by (replied s.offered s.book line) unknown
+unknown_line s number line later unknown = by (replied s.in_json s.offered s.book line) unknown
   where
     by : (r : Option Reply) → is_some r ≡ false
         → (with_reply s r ≡ s)
-        × (behind s.unsaid (unwrap_or (option_map (λ (r : Reply). behind r.text (drive_from r.offered r.book (number + 1) later)) r) (stopped number))
+        × (behind s.unsaid (unwrap_or (option_map (λ (r : Reply). behind r.text (drive_from s.in_json r.offered r.book (number + 1) later)) r) (stopped number))
         ≡ behind s.unsaid (stopped number))
     by (Some r) h = absurd cc
     by None h = (refl, refl)
 
 -- one that is given out, with what was held back
-pub given_line : (s mid new : Selling) (number : ℕ) (line : List ℕ) (later : List (List ℕ)) (out written : List ℕ) → is_some (replied s.offered s.book line) ≡ true
-    → mid ≡ with_reply s (replied s.offered s.book line) → written ≡ out ++ mid.unsaid → new ≡ record mid { unsaid = []; kept = length mid.book.history }
+pub given_line : (s mid new : Selling) (number : ℕ) (line : List ℕ) (later : List (List ℕ)) (out written : List ℕ) → is_some (replied s.in_json s.offered s.book line) ≡ true
+    → mid ≡ with_reply s (replied s.in_json s.offered s.book line) → written ≡ out ++ mid.unsaid → new ≡ record mid { unsaid = []; kept = length mid.book.history }
     → behind written (answer_behind new (number + 1) later) ≡ behind out (answer_behind s number (line ∷ later))
 given_line s mid new number line later out written known is text given =
-    rw (text, given) (behind-append out mid.unsaid (drive_from mid.offered mid.book (number + 1) later) ∙ ap (behind out) (replied_line s mid number line later known is))
+    rw (text, given) (behind-append out mid.unsaid (drive_from mid.in_json mid.offered mid.book (number + 1) later) ∙ ap (behind out) (replied_line s mid number line later known is))
 
 -- one that is held back
-pub held_line : (s mid : Selling) (number : ℕ) (line : List ℕ) (later : List (List ℕ)) (out written : List ℕ) → is_some (replied s.offered s.book line) ≡ true
-    → mid ≡ with_reply s (replied s.offered s.book line) → written ≡ out
+pub held_line : (s mid : Selling) (number : ℕ) (line : List ℕ) (later : List (List ℕ)) (out written : List ℕ) → is_some (replied s.in_json s.offered s.book line) ≡ true
+    → mid ≡ with_reply s (replied s.in_json s.offered s.book line) → written ≡ out
     → behind written (answer_behind mid (number + 1) later) ≡ behind out (answer_behind s number (line ∷ later))
 held_line s mid number line later out written known is same = rw same (ap (behind out) (replied_line s mid number line later known is))
 
 -- a line that asks for nothing, behind what was held back
-pub given_bad_line : (s mid : Selling) (number : ℕ) (line : List ℕ) (later : List (List ℕ)) (out written : List ℕ) → is_some (replied s.offered s.book line) ≡ false
-    → mid ≡ with_reply s (replied s.offered s.book line) → written ≡ out ++ mid.unsaid
+pub given_bad_line : (s mid : Selling) (number : ℕ) (line : List ℕ) (later : List (List ℕ)) (out written : List ℕ) → is_some (replied s.in_json s.offered s.book line) ≡ false
+    → mid ≡ with_reply s (replied s.in_json s.offered s.book line) → written ≡ out ++ mid.unsaid
     → ◌≡◌ {A = Answer} (record { text = written; ending = BadLine number }) (behind out (answer_behind s number (line ∷ later)))
 given_bad_line s mid number line later out written unknown is text =
     let bad = unknown_line s number line later unknown in

@@ -2,4 +2,3 @@ pub mod Driven
 pub mod Kept
 pub mod Opened
 pub mod Requests
-pub mod Sold

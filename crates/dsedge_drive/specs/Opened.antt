@@ -1,5 +1,5 @@
 -- How a broker goes on from what its ledger keeps.
-use Rattle.std.specs.Prelude.{◌≡◌, ◌⊎◌, ◌++◌, ℕ, List, [], length, None, Ok, Err}
+use Rattle.std.specs.Prelude.{◌≡◌, ◌⊎◌, ℕ, List, [], length, None, Ok, Err}
 use Rattle.ds_broker.specs.Books.{Book}
 use Rattle.ds_broker.specs.declared.command.Command.{Command}
 use Rattle.ds_broker.specs.declared.refusal.BrokerRefusal.TheVariants.{NoMemory}
@@ -14,11 +14,11 @@ use Rattle.dsedge_drive.specs.declared.command.Sale.{Sale}
 
 -- what is answered to lines from a number on, behind what is answered and not given out
 abbrev pub answer_behind : Selling → ℕ → List (List ℕ) → Answer
-answer_behind s number lines = behind s.unsaid (drive_from s.offered s.book number lines)
+answer_behind s number lines = behind s.unsaid (drive_from s.in_json s.offered s.book number lines)
 
--- commands came behind those of a book, if any, and nothing else changed in it
+-- a book accepted commands behind those that it had, if any, and nothing else changed in it
 abbrev pub HasGrown : Book → Book → Type 0
-HasGrown old new = (more : List Command) × (new ≡ record old { history = old.history ++ more })
+HasGrown old new = (more : List Command) × (replay old more ≡ Ok new)
 
 -- all commands of the book are kept, or this is so
 abbrev pub IsKeptOr : Type 0 → Selling → Type 0
@@ -26,6 +26,7 @@ IsKeptOr other s = (s.kept ≡ length s.book.history) ⊎ other
 
 -- The book is what becomes of that of the domain as it is asked the commands of the ledger. All of them are kept.
 pub record IsOpened (sale : Sale) (history : List Command) (s : Selling) : Type 0 where
+  pub in_json : s.in_json ≡ sale.in_json
   pub offered : s.offered ≡ sale.contracts.items
   pub replayed : replay (opening_book sale.domain sale.limits) history ≡ Ok s.book
   pub unsaid : s.unsaid ≡ []

@@ -1,18 +1,16 @@
 ghost use Rattle.std.specs.Prelude.{◌≡◌, ℕ, ◌+◌, ◌<◌, List, [], ◌∷◌, ◌++◌, false, IsTrue, IfErr, IfOk, IfSome, OnErr, OnOk};
-ghost use Rattle.std.specs.Prelude.{Some, is_some, length, option_and_then, option_map, slice_get};
+ghost use Rattle.std.specs.Prelude.{Some, is_some, length, take, option_and_then, option_map, slice_get};
 ghost use Rattle.line_text.specs.Lines.{has_byte, lines_of};
 ghost use Rattle.dsedge_lines.specs.Answers.{Answers, AnswersAll, AnswersFront, behind};
 ghost use Rattle.dsedge_drive.specs.Opened.{HasGrown, IsKeptOr, IsOpened, IsUnopened, answer_behind};
-ghost use Rattle.ds_broker.specs.Books.{table_of};
 ghost use Rattle.ds_broker.specs.Entries.{entries_of};
-ghost use Rattle.ds_quotes.specs.Quotes.{others_of};
-ghost use Rattle.dsedge_texts.specs.Quoted.{told_of};
-ghost use Rattle.dsedge_drive.specs.Driven.{offer_of, offered_in, opening_book, quoted, released, replied, reserved};
+ghost use Rattle.dsedge_drive.specs.Driven.{look_said, offer_of, offered_in, opening_book, quoted, released, replied, reserved};
 ghost use Rattle.dsedge_drive.specs.Driven.{retired, said, sold};
-ghost use Rattle.dsedge_drive.specs.Kept.{with_reply};
-ghost use Rattle.dsedge_drive.specs.Sold.{list_text, look_line};
+ghost use Rattle.dsedge_drive.specs.Kept.{IsFoundAgain, with_reply};
+ghost use Rattle.ds_broker.specs.declared.command.Command as commands;
+ghost use Rattle.dsedge_sold.specs.Said.{list_said};
+ghost use Rattle.dsedge_sold.specs.Sold.{list_text};
 
-use crate::answer::{push_fault, push_list, push_outcome, push_sale, push_sight};
 use crate::keeper::{Keeper, MOST_AT_ONCE};
 use crate::offering::{offer, offer_in};
 use crate::request::{Request, asked};
@@ -24,7 +22,9 @@ use ds_ledger_base::{BookFault, Ledger, LedgerFault};
 use ds_offers::Offers;
 use ds_quotes::Asked;
 use dsedge_lines::{Command, Ending};
-use dsedge_texts::{kind_text, push_asked_without, push_headroom};
+use dsedge_sold::{
+    push_asked, push_fault, push_list, push_outcome, push_room, push_sale, push_sight,
+};
 use line_text::cut;
 use moment_core::Moment;
 use std::alloc::{AllocError, Global};
@@ -41,6 +41,7 @@ const MOST_HELD: usize = 65_536;
 #[derive(Drop)]
 pub struct DriveCommand<J: Naming, R: Wait + Drop, L: Ledger + Drop> {
     alloc: Global,
+    in_json: bool,
     offers: Offers,
     shop: Shop<J, R>,
     keeper: Keeper<L>,
@@ -49,12 +50,12 @@ pub struct DriveCommand<J: Naming, R: Wait + Drop, L: Ledger + Drop> {
 }
 
 impl<J: Naming, R: Wait + Drop, L: Ledger + Drop> Model for DriveCommand<J, R, L> {
-    ghost use Rattle.std.specs.Prelude.{◌≤◌, length, take};
-    ghost use Rattle.dsedge_drive.specs.Kept.{Selling};
+    ghost use Rattle.dsedge_drive.specs.Kept.{IsFold, IsKept, Selling};
 
     ghost Value = { Selling };
 
     ghost view = { λ c. record {
+      in_json = c.in_json;
       offered = c.offers;
       book = c.shop;
       unsaid = c.answers.items;
@@ -62,8 +63,7 @@ impl<J: Naming, R: Wait + Drop, L: Ledger + Drop> Model for DriveCommand<J, R, L
       fault = c.keeper.fault;
     } };
 
-    ghost invariant = { λ c. (c.keeper.kept ≤ length c.shop.history)
-        × (L.tells c.keeper.ledger → L.keeps c.keeper.ledger (take c.keeper.kept c.shop.history)) };
+    ghost invariant = { λ c. IsKept L.Ledger c.keeper.ledger c.keeper.kept c.shop.history × IsFold c.shop };
 }
 
 /// What a broker sells: the contracts that are offered of a domain, in a book that takes so much.
@@ -75,6 +75,8 @@ pub struct Sale {
     pub limits: Limits,
     /// The contracts that are offered before its first line.
     pub contracts: Vec<Contract>,
+    /// Whether what is answered is told by objects of JSON.
+    pub in_json: bool,
 }
 
 impl<J: Naming, R: Wait + Drop, L: Ledger + Drop> DriveCommand<J, R, L> {
@@ -92,6 +94,8 @@ impl<J: Naming, R: Wait + Drop, L: Ledger + Drop> DriveCommand<J, R, L> {
         requires log { opened ≡ J.log }
         requires opening { J.opening ≡ opening_book sale.domain sale.limits }
         requires kept { L.tells ledger → L.keeps ledger kept.items }
+        requires lasting { L.honest ledger → L.recovers ledger
+            × ((found : List commands.Command) → L.leaves ledger found → found ≡ kept.items) }
         ensures opened { IfOk result (IsOpened sale kept.items) }
         ensures refused { IfErr result (IsUnopened sale kept.items) }
     {
@@ -99,6 +103,7 @@ impl<J: Naming, R: Wait + Drop, L: Ledger + Drop> DriveCommand<J, R, L> {
             domain,
             limits,
             contracts,
+            in_json,
         } = sale;
         let Ok(offers) = Offers::of(alloc, contracts) else {
             return Err(BookFault::Ledger(LedgerFault::NoMemory));
@@ -112,11 +117,23 @@ impl<J: Naming, R: Wait + Drop, L: Ledger + Drop> DriveCommand<J, R, L> {
         let keeper = Keeper::new(ledger, shop.book().history().len());
         Ok(DriveCommand {
             alloc,
+            in_json,
             offers,
             shop,
             keeper,
             answers: Vec::new(alloc),
         })
+    }
+
+    /// Its ledger. Whatever a crash leaves of it now, the next open finds a beginning of the book's history that has all
+    /// commands which the ledger keeps, and so all that were answered; the domain makes of it the book as it was then.
+    pub fn ledger(&self) -> &L
+        ensures kept { L.tells result.now → L.keeps result.now (take self.now.kept self.now.book.history) }
+        ensures recovers { L.honest result.now → L.recovers result.now }
+        ensures again { L.honest result.now →
+            (found : List commands.Command) → L.leaves result.now found → IsFoundAgain self.now found }
+    {
+        self.keeper.ledger()
     }
 
     /// Why its ledger keeps no more, if it does not: then it is of no more use.
@@ -129,7 +146,8 @@ impl<J: Naming, R: Wait + Drop, L: Ledger + Drop> DriveCommand<J, R, L> {
     /// Offers the contract that a line says, and holds the answer back. Where memory runs out nothing is answered.
     fn offer(&mut self, contract: &[u8]) -> Result<(), AllocError>
         ensures { OnOk result (self.new ≡ with_reply self.old
-            (Some (offer_of self.old.book (offered_in self.old.book.domain self.old.offered contract.now)))) }
+            (Some (offer_of self.old.book
+            (offered_in self.old.in_json self.old.book.domain self.old.offered contract.now)))) }
     {
         offer(
             self.alloc,
@@ -137,6 +155,7 @@ impl<J: Naming, R: Wait + Drop, L: Ledger + Drop> DriveCommand<J, R, L> {
             &mut self.offers,
             &mut self.answers,
             contract,
+            self.in_json,
         )
     }
 
@@ -144,8 +163,10 @@ impl<J: Naming, R: Wait + Drop, L: Ledger + Drop> DriveCommand<J, R, L> {
     /// nothing is answered.
     #[tactic(auto, unfolding(crate::specs::Driven::replied))]
     fn reply(&mut self, line: &[u8]) -> Result<bool, AllocError>
-        ensures known { IfOk result (λ known. known ≡ is_some (replied self.old.offered self.old.book line.now)) }
-        ensures said { OnOk result (self.new ≡ with_reply self.old (replied self.old.offered self.old.book line.now)) }
+        ensures known { IfOk result (λ known.
+            known ≡ is_some (replied self.old.in_json self.old.offered self.old.book line.now)) }
+        ensures said { OnOk result (self.new
+            ≡ with_reply self.old (replied self.old.in_json self.old.offered self.old.book line.now)) }
     {
         if let Some(contract) = offer_in(line) {
             self.offer(contract)?;
@@ -163,8 +184,8 @@ impl<J: Naming, R: Wait + Drop, L: Ledger + Drop> DriveCommand<J, R, L> {
     /// Does what a line asks for. Where memory runs out nothing is answered.
     fn say(&mut self, request: Request) -> Result<(), AllocError>
         ensures { OnOk result (self.new ≡ record self.old {
-          book = (said self.old.offered self.old.book request).book;
-          unsaid = self.old.unsaid ++ (said self.old.offered self.old.book request).text;
+          book = (said self.old.in_json self.old.offered self.old.book request).book;
+          unsaid = self.old.unsaid ++ (said self.old.in_json self.old.offered self.old.book request).text;
         }) }
     {
         say(
@@ -173,6 +194,7 @@ impl<J: Naming, R: Wait + Drop, L: Ledger + Drop> DriveCommand<J, R, L> {
             &mut self.shop,
             &mut self.answers,
             request,
+            self.in_json,
         )
     }
 
@@ -208,27 +230,30 @@ fn has_line_end(text: &[u8]) -> bool
 }
 
 /// Does what a line asks for, and appends the answer. Where memory runs out nothing is answered.
+#[tactic(auto, using(crate::proofs::KeepLaws::grown_same))]
 fn say<J: Naming, R: Wait + Drop>(
     alloc: Global,
     offered: &[Contract],
     shop: &mut Shop<J, R>,
     text: &mut Vec<u8>,
     request: Request,
+    in_json: bool,
 ) -> Result<(), AllocError>
-    ensures text { OnOk result (text.new.items ≡ text.old.items ++ (said offered.now shop.old request).text) }
-    ensures book { OnOk result (shop.new ≡ (said offered.now shop.old request).book) }
+    ensures text { OnOk result (text.new.items ≡ text.old.items ++ (said in_json offered.now shop.old request).text) }
+    ensures book { OnOk result (shop.new ≡ (said in_json offered.now shop.old request).book) }
     ensures grown { HasGrown shop.old shop.new }
 {
     match request {
-        Request::Reserve(place) => reserve(alloc, shop, text, contract_at(offered, place)),
-        Request::Release { id, at } => release(shop, text, id, at),
-        Request::Retire { id, moment } => retire(shop, text, id, moment),
+        Request::Reserve(place) => reserve(alloc, shop, text, contract_at(offered, place), in_json),
+        Request::Release { id, at } => release(alloc, shop, text, id, at, in_json),
+        Request::Retire { id, moment } => retire(alloc, shop, text, id, moment, in_json),
         Request::Quote { place, asked } => {
-            quote(shop.book(), text, contract_at(offered, place), asked)
+            let contract = contract_at(offered, place);
+            quote(alloc, shop.book(), text, contract, asked, in_json)
         }
-        Request::Headroom => push_headroom(text, shop.book().table()),
-        Request::List => list(alloc, shop.book(), text),
-        Request::Look => look(shop, text),
+        Request::Headroom => push_room(alloc, text, shop.book().table(), in_json),
+        Request::List => list_as(alloc, shop.book(), text, in_json),
+        Request::Look => look(alloc, shop, text, in_json),
     }
 }
 
@@ -240,21 +265,23 @@ fn contract_at(offered: &[Contract], place: Option<usize>) -> Option<&Contract>
 }
 
 /// Reserves a contract, and appends the answer; where there is none, its name is unknown.
+#[tactic(auto, using(crate::proofs::KeepLaws::grown_same))]
 fn reserve<J: Naming, R: Wait + Drop>(
     alloc: Global,
     shop: &mut Shop<J, R>,
     text: &mut Vec<u8>,
     contract: Option<&Contract>,
+    in_json: bool,
 ) -> Result<(), AllocError>
     ensures text { OnOk result (text.new.items
-        ≡ text.old.items ++ (reserved shop.old (option_map (λ c. c.now) contract.entry)).text) }
-    ensures book { OnOk result (shop.new ≡ (reserved shop.old (option_map (λ c. c.now) contract.entry)).book) }
+        ≡ text.old.items ++ (reserved in_json shop.old (option_map (λ c. c.now) contract.entry)).text) }
+    ensures book { OnOk result (shop.new ≡ (reserved in_json shop.old (option_map (λ c. c.now) contract.entry)).book) }
     ensures grown { HasGrown shop.old shop.new }
 {
     match contract {
-        None => push_fault(text, kind_text(Kind::UnknownName)),
+        None => push_fault(alloc, text, Kind::UnknownName, in_json),
         Some(contract) => match contract.copy(alloc) {
-            Ok(own) => sell(shop, text, own),
+            Ok(own) => sell(alloc, shop, text, own, in_json),
             Err(_) => Err(AllocError),
         },
     }
@@ -262,78 +289,71 @@ fn reserve<J: Naming, R: Wait + Drop>(
 
 /// Reserves a contract, and appends the answer.
 fn sell<J: Naming, R: Wait + Drop>(
+    alloc: Global,
     shop: &mut Shop<J, R>,
     text: &mut Vec<u8>,
     contract: Contract,
+    in_json: bool,
 ) -> Result<(), AllocError>
-    ensures text { OnOk result (text.new.items ≡ text.old.items ++ (sold shop.old contract).text) }
-    ensures book { OnOk result (shop.new ≡ (sold shop.old contract).book) }
+    ensures text { OnOk result (text.new.items ≡ text.old.items ++ (sold in_json shop.old contract).text) }
+    ensures book { OnOk result (shop.new ≡ (sold in_json shop.old contract).book) }
     ensures grown { HasGrown shop.old shop.new }
 {
     let sale = shop.reserve(contract);
-    push_sale(text, shop.book(), sale)
+    push_sale(alloc, text, shop.book(), sale, in_json)
 }
 
 /// Releases the contract of an id, and appends the answer.
 fn release<J: Naming, R: Wait + Drop>(
+    alloc: Global,
     shop: &mut Shop<J, R>,
     text: &mut Vec<u8>,
     id: u64,
     at: Moment,
+    in_json: bool,
 ) -> Result<(), AllocError>
-    ensures text { OnOk result (text.new.items ≡ text.old.items ++ (released shop.old id at).text) }
-    ensures book { OnOk result (shop.new ≡ (released shop.old id at).book) }
+    ensures text { OnOk result (text.new.items ≡ text.old.items ++ (released in_json shop.old id at).text) }
+    ensures book { OnOk result (shop.new ≡ (released in_json shop.old id at).book) }
     ensures grown { HasGrown shop.old shop.new }
 {
     let done = shop.release(id, at);
-    push_outcome(text, shop.book(), "released", id, done)
+    push_outcome(alloc, text, shop.book(), ("released", id), done, in_json)
 }
 
 /// Retires the contract of an id, and appends the answer.
 fn retire<J: Naming, R: Wait + Drop>(
+    alloc: Global,
     shop: &mut Shop<J, R>,
     text: &mut Vec<u8>,
     id: u64,
     moment: Moment,
+    in_json: bool,
 ) -> Result<(), AllocError>
-    ensures text { OnOk result (text.new.items ≡ text.old.items ++ (retired shop.old id moment).text) }
-    ensures book { OnOk result (shop.new ≡ (retired shop.old id moment).book) }
+    ensures text { OnOk result (text.new.items ≡ text.old.items ++ (retired in_json shop.old id moment).text) }
+    ensures book { OnOk result (shop.new ≡ (retired in_json shop.old id moment).book) }
     ensures grown { HasGrown shop.old shop.new }
 {
     let done = shop.retire(id, moment);
-    push_outcome(text, shop.book(), "retired", id, done)
+    push_outcome(alloc, text, shop.book(), ("retired", id), done, in_json)
 }
 
 /// Appends what is asked for of a contract, beside what a book holds but the contract of its name; where
 /// there is no contract, its name is unknown.
 fn quote(
+    alloc: Global,
     book: &Book,
     text: &mut Vec<u8>,
     contract: Option<&Contract>,
     asked: Asked,
+    in_json: bool,
 ) -> Result<(), AllocError>
     ensures { OnOk result (text.new.items
-        ≡ text.old.items ++ (quoted book.now (option_map (λ c. c.now) contract.entry) asked).text) }
+        ≡ text.old.items ++ (quoted in_json book.now (option_map (λ c. c.now) contract.entry) asked).text) }
 {
     match contract {
-        None => push_fault(text, kind_text(Kind::UnknownName)),
-        Some(contract) => quote_beside(book, text, contract, asked),
+        None => push_fault(alloc, text, Kind::UnknownName, in_json),
+        Some(contract) => push_asked(alloc, text, book, contract, asked, in_json),
     }
-}
-
-/// Appends what is asked for of a contract, beside what a book holds but the contract of its name.
-fn quote_beside(
-    book: &Book,
-    text: &mut Vec<u8>,
-    contract: &Contract,
-    asked: Asked,
-) -> Result<(), AllocError>
-    ensures { OnOk result (text.new.items
-        ≡ text.old.items ++ (told_of (others_of (table_of book.now) contract.now.name) contract.now asked).0) }
-{
-    let left_out = book.place_of(contract.name);
-    let _found = push_asked_without(text, book.table(), left_out, contract, asked)?;
-    Ok(())
 }
 
 /// Appends what a book holds: for each contract a line `ID NAME SINCE UNTIL`, or `none`. `AllocError` where memory runs
@@ -341,20 +361,29 @@ fn quote_beside(
 pub fn list(alloc: Global, book: &Book, text: &mut Vec<u8>) -> Result<(), AllocError>
     ensures { OnOk result (text.new.items ≡ text.old.items ++ list_text (entries_of book.now)) }
 {
+    list_as(alloc, book, text, false)
+}
+
+/// Appends what a book holds: as lines, or as an object.
+fn list_as(alloc: Global, book: &Book, text: &mut Vec<u8>, in_json: bool) -> Result<(), AllocError>
+    ensures { OnOk result (text.new.items ≡ text.old.items ++ list_said in_json (entries_of book.now)) }
+{
     let entries = book.list(alloc)?;
-    push_list(text, entries.as_slice())
+    push_list(alloc, text, entries.as_slice(), in_json)
 }
 
 /// Appends what the feed sees. Where it is handed back, which must not happen, nothing is answered.
 fn look<J: Naming, R: Wait + Drop>(
+    alloc: Global,
     shop: &mut Shop<J, R>,
     text: &mut Vec<u8>,
+    in_json: bool,
 ) -> Result<(), AllocError>
-    ensures text { OnOk result (text.new.items ≡ text.old.items ++ look_line shop.old) }
+    ensures text { OnOk result (text.new.items ≡ text.old.items ++ look_said in_json shop.old) }
     ensures book { shop.new ≡ shop.old }
 {
     match shop.look() {
-        Some(sight) => push_sight(text, sight),
+        Some(sight) => push_sight(alloc, text, sight.serial, sight.contracts, in_json),
         None => Err(AllocError),
     }
 }

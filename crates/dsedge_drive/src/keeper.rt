@@ -1,5 +1,6 @@
 //! The ledger of a broker, and how much of its book stands there.
-ghost use Rattle.std.specs.Prelude.{◌≡◌, ◌≤◌, ◌<◌, length, take, IsSome, OnErr, OnOk};
+ghost use Rattle.std.specs.Prelude.{◌≡◌, ◌<◌, length, IsSome, OnErr, OnOk};
+ghost use Rattle.dsedge_drive.specs.Kept.{IsKept};
 
 use ds_broker::Command;
 use ds_ledger_base::{Ledger, LedgerFault};
@@ -36,6 +37,13 @@ impl<L: Ledger + Drop> Keeper<L> {
         self.kept
     }
 
+    /// The ledger.
+    pub(crate) fn ledger(&self) -> &L
+        ensures { result.now ≡ self.now.ledger }
+    {
+        &self.ledger
+    }
+
     /// Why it keeps no more, if it does not.
     pub(crate) fn fault(&self) -> Option<LedgerFault>
         ensures { result ≡ self.now.fault }
@@ -46,11 +54,9 @@ impl<L: Ledger + Drop> Keeper<L> {
     /// Keeps all commands of a book, so many at once at most. Where the ledger refuses, that is noted, and it keeps
     /// those that it kept before, or some of those that came.
     pub(crate) fn settle(&mut self, history: &[Command]) -> Result<(), AllocError>
-        requires { self.old.kept ≤ length history.now }
+        requires { IsKept L.Ledger self.old.ledger self.old.kept history.now }
         ensures all { OnOk result (self.new.kept ≡ length history.now) }
-        ensures within { self.new.kept ≤ length history.now }
-        ensures kept { (L.tells self.old.ledger → L.keeps self.old.ledger (take self.old.kept history.now)) →
-            L.tells self.new.ledger → L.keeps self.new.ledger (take self.new.kept history.now) }
+        ensures kept { IsKept L.Ledger self.new.ledger self.new.kept history.now }
         ensures faultless { OnOk result (self.new.fault ≡ self.old.fault) }
         ensures fault { OnErr result (IsSome self.new.fault) }
     {
@@ -62,11 +68,10 @@ impl<L: Ledger + Drop> Keeper<L> {
 
     /// Keeps the next commands of a book.
     fn keep_next(&mut self, history: &[Command]) -> Result<(), AllocError>
-        requires { self.old.kept < length history.now }
+        requires some { self.old.kept < length history.now }
+        requires kept { IsKept L.Ledger self.old.ledger self.old.kept history.now }
         ensures more { OnOk result (self.old.kept < self.new.kept) }
-        ensures within { self.new.kept ≤ length history.now }
-        ensures kept { (L.tells self.old.ledger → L.keeps self.old.ledger (take self.old.kept history.now)) →
-            L.tells self.new.ledger → L.keeps self.new.ledger (take self.new.kept history.now) }
+        ensures kept { IsKept L.Ledger self.new.ledger self.new.kept history.now }
         ensures faultless { OnOk result (self.new.fault ≡ self.old.fault) }
         ensures fault { OnErr result (IsSome self.new.fault) }
     {

@@ -1,7 +1,6 @@
 //! The command `drive`: contracts of a domain, sold by the lines of its input.
 #![tactic(auto)]
 
-mod answer;
 mod command;
 mod keeper;
 mod offering;

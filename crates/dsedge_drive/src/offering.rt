@@ -1,15 +1,14 @@
 //! Contracts that lines offer.
-ghost use Rattle.std.specs.Prelude.{◌≡◌, ◌≢◌, ◌++◌, OnOk};
+ghost use Rattle.std.specs.Prelude.{◌≡◌, ◌++◌, OnOk};
 ghost use Rattle.std.specs.Option.{option_copied};
 ghost use Rattle.dsedge_drive.specs.Driven.{offered_in};
 ghost use Rattle.dsedge_drive.specs.Requests.{offer_in};
-ghost use Rattle.dsedge_drive.specs.Sold.{offered_line, unoffered_line};
 
 use crate::request::has_return;
 use ds_domain::read_contract;
-use ds_domain_base::{Domain, DomainFault, Kind, Name};
+use ds_domain_base::Domain;
 use ds_offers::Offers;
-use dsedge_texts::{kind_text, text_or_dash};
+use dsedge_sold::{push_offered, push_unoffered};
 use std::alloc::{AllocError, Global};
 
 /// The contract that a line offers, `offer CONTRACT`, if it does.
@@ -34,42 +33,17 @@ pub(crate) fn offer(
     offers: &mut Offers,
     text: &mut Vec<u8>,
     contract: &[u8],
+    in_json: bool,
 ) -> Result<(), AllocError>
     ensures text { OnOk result (text.new.items ≡ text.old.items
-        ++ (offered_in domain.now offers.old contract.now).text) }
-    ensures offers { OnOk result (offers.new ≡ (offered_in domain.now offers.old contract.now).offered) }
+        ++ (offered_in in_json domain.now offers.old contract.now).text) }
+    ensures offers { OnOk result (offers.new ≡ (offered_in in_json domain.now offers.old contract.now).offered) }
 {
     match read_contract(alloc, domain, offers, contract) {
         Ok(contract) => {
-            push_offered(text, contract.name)?;
+            push_offered(alloc, text, contract.name, in_json)?;
             offers.push(contract)
         }
-        Err(fault) => push_unoffered(text, fault),
+        Err(fault) => push_unoffered(alloc, text, fault, in_json),
     }
-}
-
-/// Appends the name of a contract that is offered: `offered NAME`.
-fn push_offered(text: &mut Vec<u8>, name: Name) -> Result<(), AllocError>
-    ensures { OnOk result (text.new.items ≡ text.old.items ++ offered_line name) }
-{
-    text.extend_from_slice(b"offered ")?;
-    text.extend_from_slice(name.bytes())?;
-    text.push(b'\n')?;
-    Ok(())
-}
-
-/// Appends why a contract is not offered: `refused 1 KIND FIELD`. Want of memory is no answer: `AllocError`.
-fn push_unoffered(text: &mut Vec<u8>, fault: DomainFault) -> Result<(), AllocError>
-    ensures line { OnOk result (text.new.items ≡ text.old.items ++ unoffered_line fault) }
-    ensures answered { OnOk result (fault.kind ≢ Kind.NoMemory) }
-{
-    if fault.kind == Kind::NoMemory {
-        return Err(AllocError);
-    }
-    text.extend_from_slice(b"refused 1 ")?;
-    text.extend_from_slice(kind_text(fault.kind).as_bytes())?;
-    text.push(b' ')?;
-    text.extend_from_slice(text_or_dash(fault.field.text()).as_bytes())?;
-    text.push(b'\n')?;
-    Ok(())
 }

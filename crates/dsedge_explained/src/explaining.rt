@@ -1,11 +1,11 @@
+use crate::exporting::export_explained;
+use crate::quoting::{has_contract, quote_explained};
 use ds_certificate::{CertificateFault, make, read};
 use ds_checker::{Accepted, Candidate, Refusal, check};
 use ds_domain::{Contract, Domain, Kind, parse};
 use dsedge_base::Plan;
 use dsedge_lines::GivenName;
-use dsedge_words::{
-    certificate_said, contracts_said, flaw_said, meters_said, ports_said, refusal_said,
-};
+use dsedge_words::{certificate_said, contracts_said, flaw_said, ports_said, refusal_said};
 use std::alloc::{AllocError, Global};
 
 /// What the texts of a plan's files say of why it was not done, in the order in which faults are found; nothing where they
@@ -38,10 +38,14 @@ fn explained_by(
             certificate_explained(alloc, domain, contracts, texts, Some(port))
         }
         Plan::Headroom { .. } => least_explained(alloc, domain, contracts),
-        Plan::Quote { contract, .. } => {
-            contract_explained(alloc, contracts.as_slice(), contract.text())
+        Plan::Quote {
+            contract,
+            asked,
+            ..
+        } => quote_explained(alloc, domain, contracts, contract.text(), *asked),
+        Plan::Export { meter, device, .. } => {
+            export_explained(alloc, &domain, contracts, meter.text(), *device)
         }
-        Plan::Export { meter, .. } => meter_explained(alloc, &domain, meter.text()),
         Plan::Arrivals {
             place: Some(place),
             ..
@@ -111,7 +115,7 @@ fn port_explained(
 }
 
 /// What is said of contracts whose least certificate the checker refuses.
-fn least_explained(
+pub(crate) fn least_explained(
     alloc: Global,
     domain: Domain,
     contracts: Vec<Contract>,
@@ -135,18 +139,8 @@ fn contract_explained(
     contracts: &[Contract],
     name: &str,
 ) -> Result<String, AllocError> {
-    for contract in contracts {
-        if contract.name.bytes() == name.as_bytes() {
-            return Ok(String::new(alloc));
-        }
+    if has_contract(contracts, name) {
+        return Ok(String::new(alloc));
     }
     contracts_said(alloc, contracts, name)
-}
-
-/// What is said of a meter that a domain has not.
-fn meter_explained(alloc: Global, domain: &Domain, name: &str) -> Result<String, AllocError> {
-    match domain.meter_named(name) {
-        Some(_) => Ok(String::new(alloc)),
-        None => meters_said(alloc, domain, name),
-    }
 }

@@ -11,7 +11,7 @@ use Rattle.dsedge_texts.specs.Wording.{kind_text}
 use Rattle.ds_ledger_base.specs.declared.fault.BookFault.TheVariants as books
 use Rattle.ds_ledger_base.specs.declared.fault.RefusedReplay.{RefusedReplay}
 use Rattle.dsedge_texts.specs.Wording.{text_or_dash}
-use Rattle.dsedge_faults.specs.Faults.{IsTold, broker_refusal_text, fault_text}
+use Rattle.dsedge_faults.specs.Faults.{IsTold, broker_refusal_text, coded_text, fault_text}
 use Rattle.dsedge_faults.specs.declared.fault.Fault.TheVariants.{Book, Domain}
 
 -- what a call gave of a text: all of it, or a front
@@ -73,6 +73,16 @@ pub domain_line : (fault : DomainFault) (code kind section index field : List �
     ≡ fault_text (Domain fault)
 domain_line fault code kind section index field is_code is_kind is_section is_index is_field =
     rw (is_code, is_kind, is_section, is_index, is_field) (ap (λ t. codes "dsedge: domain " ++ t) (simp append_assoc))
+
+-- a line of a number and a kind, by its parts
+pub coded_line : (front digits : List ℕ) (code : ℕ) (kind : List ℕ) → digits ≡ decimal code
+    → front ++ (digits ++ (codes " " ++ (kind ++ (codes "\n" ++ [])))) ≡ front ++ (coded_text code kind ++ codes "\n")
+coded_line front digits code kind is_code = rw is_code (ap (λ t. front ++ t) (simp append_assoc))
+
+-- the line of a number and a kind that are the same
+pub kind_told : (front : List ℕ) (code number : ℕ) (text kind : List ℕ) → code ≡ number → text ≡ kind
+    → front ++ (coded_text code text ++ codes "\n") ≡ front ++ (coded_text number kind ++ codes "\n")
+kind_told front code number text kind is_code is_kind = rw (is_code, is_kind) refl
 
 -- the line of a command that its book refuses, by its parts
 pub refused_line : (refused : RefusedReplay) (serial refusal : List ℕ) → serial ≡ decimal refused.serial → refusal ≡ broker_refusal_text refused.refusal

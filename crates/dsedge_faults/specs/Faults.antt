@@ -2,6 +2,7 @@
 use Rattle.std.specs.Prelude.{◌≡◌, ◌⊎◌, ℕ, ◌==◌, ◌||◌, nat_lt, if◌then◌else◌, List, [], ◌∷◌, ◌++◌, flat_map, codes, decimal}
 use Rattle.ds_domain_base.specs.Faults.{field_text, kind_code, section_text}
 use Rattle.ds_domain_base.specs.declared.fault.DomainFault.{DomainFault}
+use Rattle.ds_certificate.specs.Faults.{fault_code}
 use Rattle.ds_certificate.specs.declared.fault.CertificateFault.{CertificateFault}
 use Rattle.ds_certificate.specs.declared.fault.CertificateFault.TheVariants as certificates
 use Rattle.ds_broker.specs.declared.refusal.BrokerRefusal.{BrokerRefusal}
@@ -11,6 +12,7 @@ use Rattle.ds_ledger_base.specs.declared.fault.BookFault.TheVariants as books
 use Rattle.ds_ledger_base.specs.declared.fault.LedgerFault.{LedgerFault}
 use Rattle.ds_ledger_base.specs.declared.fault.LedgerFault.TheVariants as ledgers
 use Rattle.dsedge_texts.specs.Wording.{kind_text, text_or_dash}
+use Rattle.pcap_capture.specs.Codes.{code_of}
 use Rattle.pcap_capture.specs.Counts.{next_count}
 use Rattle.pcap_capture.specs.Fronts.{IsFrontOf}
 use Rattle.pcap_capture.specs.declared.fault.PcapFault.{PcapFault}
@@ -35,30 +37,41 @@ domain_fault_text fault =
     ++ codes " "
     ++ decimal fault.index ++ codes " " ++ text_or_dash (field_text fault.field)
 
--- what is wrong with a certificate: CODE KIND
-abbrev pub certificate_fault_text : CertificateFault → List ℕ
-certificate_fault_text certificates.Text = codes "1 Text"
-certificate_fault_text certificates.Shape = codes "2 Shape"
-certificate_fault_text certificates.Range = codes "3 Range"
-certificate_fault_text certificates.NoMemory = codes "4 NoMemory"
+-- the kind of what is wrong with a certificate
+abbrev pub certificate_kind_text : CertificateFault → List ℕ
+certificate_kind_text certificates.Text = codes "Text"
+certificate_kind_text certificates.Shape = codes "Shape"
+certificate_kind_text certificates.Range = codes "Range"
+certificate_kind_text certificates.NoMemory = codes "NoMemory"
 
--- what is wrong with a capture: CODE KIND
+-- the kind of what is wrong with a capture
+abbrev pub capture_kind_text : PcapFault → List ℕ
+capture_kind_text pcaps.NotPcap = codes "NotPcap"
+capture_kind_text pcaps.IsPcapng = codes "IsPcapng"
+capture_kind_text pcaps.BadVersion = codes "BadVersion"
+capture_kind_text (pcaps.LinkType number) = codes "LinkType"
+capture_kind_text (pcaps.RecordTooLong count) = codes "RecordTooLong"
+capture_kind_text pcaps.Truncated = codes "Truncated"
+capture_kind_text pcaps.ReadFault = codes "ReadFault"
+capture_kind_text pcaps.WriteFault = codes "WriteFault"
+capture_kind_text pcaps.NoMemory = codes "NoMemory"
+capture_kind_text pcaps.Failed = codes "Failed"
+capture_kind_text pcaps.BadMagic = codes "BadMagic"
+capture_kind_text (pcaps.BadLength size) = codes "BadLength"
+capture_kind_text (pcaps.BlockTooLong size) = codes "BlockTooLong"
+capture_kind_text pcaps.LengthsDiffer = codes "LengthsDiffer"
+capture_kind_text (pcaps.UnknownInterface number) = codes "UnknownInterface"
+
+-- CODE KIND
+abbrev pub coded_text : ℕ → List ℕ → List ℕ
+coded_text code kind = decimal code ++ codes " " ++ kind
+
+-- what is wrong with a certificate, and with a capture
+abbrev pub certificate_fault_text : CertificateFault → List ℕ
+certificate_fault_text fault = coded_text (fault_code fault) (certificate_kind_text fault)
+
 abbrev pub capture_fault_text : PcapFault → List ℕ
-capture_fault_text pcaps.NotPcap = codes "1 NotPcap"
-capture_fault_text pcaps.IsPcapng = codes "2 IsPcapng"
-capture_fault_text pcaps.BadVersion = codes "3 BadVersion"
-capture_fault_text (pcaps.LinkType number) = codes "4 LinkType"
-capture_fault_text (pcaps.RecordTooLong count) = codes "5 RecordTooLong"
-capture_fault_text pcaps.Truncated = codes "6 Truncated"
-capture_fault_text pcaps.ReadFault = codes "7 ReadFault"
-capture_fault_text pcaps.WriteFault = codes "8 WriteFault"
-capture_fault_text pcaps.NoMemory = codes "9 NoMemory"
-capture_fault_text pcaps.Failed = codes "10 Failed"
-capture_fault_text pcaps.BadMagic = codes "11 BadMagic"
-capture_fault_text (pcaps.BadLength size) = codes "12 BadLength"
-capture_fault_text (pcaps.BlockTooLong size) = codes "13 BlockTooLong"
-capture_fault_text pcaps.LengthsDiffer = codes "14 LengthsDiffer"
-capture_fault_text (pcaps.UnknownInterface number) = codes "15 UnknownInterface"
+capture_fault_text fault = coded_text (code_of fault) (capture_kind_text fault)
 
 -- what is wrong with the file of a book
 abbrev pub ledger_fault_text : LedgerFault → List ℕ

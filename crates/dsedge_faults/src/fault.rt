@@ -3,7 +3,7 @@ ghost use Rattle.pcap_capture.specs.Counts.{next_count};
 ghost use Rattle.pcap_capture.specs.Fronts.{IsFrontOf};
 ghost use Rattle.dsedge_faults.specs.Advised.{advice_on};
 ghost use Rattle.dsedge_faults.specs.Faults.{book_status, broker_refusal_text, ledger_fault_text};
-ghost use Rattle.dsedge_faults.specs.Faults.{capture_fault_text, certificate_fault_text, fault_text};
+ghost use Rattle.dsedge_faults.specs.Faults.{capture_kind_text, certificate_kind_text, coded_text, fault_text};
 ghost use Rattle.dsedge_faults.specs.Faults.{shown, status_of};
 
 use crate::advice::Advice;
@@ -98,13 +98,21 @@ impl Fault<'_> {
             }
             Fault::Domain(fault) => tell_domain(fault, faults),
             Fault::Certificate(place) => {
-                tell_line(
+                tell_kind(
                     "dsedge: certificate ",
-                    certificate_text(place.fault),
+                    place.fault.code(),
+                    certificate_kind(place.fault),
                     faults,
                 )
             }
-            Fault::Capture(fault) => tell_line("dsedge: capture ", capture_text(*fault), faults),
+            Fault::Capture(fault) => {
+                tell_kind(
+                    "dsedge: capture ",
+                    fault.code(),
+                    capture_kind(*fault),
+                    faults,
+                )
+            }
             Fault::Port(name) => tell_name("dsedge: port ", name.text(), faults),
             Fault::Contract(name) => tell_name("dsedge: contract ", name.text(), faults),
             Fault::File(name, _) => tell_name("dsedge: file ", name.text(), faults),
@@ -134,7 +142,7 @@ fn book_status(fault: &BookFault) -> u8
 }
 
 /// How a fault of a ledger is written.
-fn ledger_text(fault: LedgerFault) -> &'static str
+pub fn ledger_text(fault: LedgerFault) -> &'static str
     ensures { result.now ≡ ledger_fault_text fault }
 {
     match fault {
@@ -149,7 +157,7 @@ fn ledger_text(fault: LedgerFault) -> &'static str
 }
 
 /// How it is written why a book refuses a command that it sold before.
-fn refusal_text(refusal: &BrokerRefusal) -> &'static str
+pub fn refusal_text(refusal: &BrokerRefusal) -> &'static str
     ensures { result.now ≡ broker_refusal_text refusal.now }
 {
     match refusal {
@@ -199,6 +207,26 @@ fn tell_line<F: Outlet>(front: &str, back: &str, faults: &mut F) -> Result<(), D
     give_parts(faults, &[front, back, "\n"])
 }
 
+/// Writes a line of a text, a number and a kind.
+fn tell_kind<F: Outlet>(
+    front: &str,
+    code: u8,
+    kind: &str,
+    faults: &mut F,
+) -> Result<(), DeviceFault>
+    ensures told { F.tells faults.old → F.tells faults.new }
+    ensures line { F.tells faults.old → let line = front.now ++ (coded_text code kind.now ++ codes "\n") in MatchResult result
+        (λ _. F.held faults.new ≡ F.held faults.old ++ line)
+        (λ _. IsFrontOf (F.held faults.old) line (F.held faults.new)) }
+    ensures failures { F.failed faults.new
+        ≡ (if is_ok result then F.failed faults.old else next_count (F.failed faults.old)) }
+{
+    give_parts(
+        faults,
+        &[front, Buffer::new().format(code), " ", kind, "\n"],
+    )
+}
+
 /// Writes a line of a text and a name, whose control characters are shown as `?`.
 fn tell_name<F: Outlet>(front: &str, name: &str, faults: &mut F) -> Result<(), DeviceFault>
     ensures told { F.tells faults.old → F.tells faults.new }
@@ -240,37 +268,37 @@ fn tell_domain<F: Outlet>(fault: &DomainFault, faults: &mut F) -> Result<(), Dev
     )
 }
 
-/// How a fault of a certificate is written, its number and its kind.
-fn certificate_text(fault: CertificateFault) -> &'static str
-    ensures { result.now ≡ certificate_fault_text fault }
+/// How the kind of a fault of a certificate is written.
+pub fn certificate_kind(fault: CertificateFault) -> &'static str
+    ensures { result.now ≡ certificate_kind_text fault }
 {
     match fault {
-        CertificateFault::Text => "1 Text",
-        CertificateFault::Shape => "2 Shape",
-        CertificateFault::Range => "3 Range",
-        CertificateFault::NoMemory => "4 NoMemory",
+        CertificateFault::Text => "Text",
+        CertificateFault::Shape => "Shape",
+        CertificateFault::Range => "Range",
+        CertificateFault::NoMemory => "NoMemory",
     }
 }
 
-/// How a fault of a capture is written, its number and its kind.
-fn capture_text(fault: PcapFault) -> &'static str
-    ensures { result.now ≡ capture_fault_text fault }
+/// How the kind of a fault of a capture is written.
+pub fn capture_kind(fault: PcapFault) -> &'static str
+    ensures { result.now ≡ capture_kind_text fault }
 {
     match fault {
-        PcapFault::NotPcap => "1 NotPcap",
-        PcapFault::IsPcapng => "2 IsPcapng",
-        PcapFault::BadVersion => "3 BadVersion",
-        PcapFault::LinkType(_) => "4 LinkType",
-        PcapFault::RecordTooLong(_) => "5 RecordTooLong",
-        PcapFault::Truncated => "6 Truncated",
-        PcapFault::ReadFault => "7 ReadFault",
-        PcapFault::WriteFault => "8 WriteFault",
-        PcapFault::NoMemory => "9 NoMemory",
-        PcapFault::Failed => "10 Failed",
-        PcapFault::BadMagic => "11 BadMagic",
-        PcapFault::BadLength(_) => "12 BadLength",
-        PcapFault::BlockTooLong(_) => "13 BlockTooLong",
-        PcapFault::LengthsDiffer => "14 LengthsDiffer",
-        PcapFault::UnknownInterface(_) => "15 UnknownInterface",
+        PcapFault::NotPcap => "NotPcap",
+        PcapFault::IsPcapng => "IsPcapng",
+        PcapFault::BadVersion => "BadVersion",
+        PcapFault::LinkType(_) => "LinkType",
+        PcapFault::RecordTooLong(_) => "RecordTooLong",
+        PcapFault::Truncated => "Truncated",
+        PcapFault::ReadFault => "ReadFault",
+        PcapFault::WriteFault => "WriteFault",
+        PcapFault::NoMemory => "NoMemory",
+        PcapFault::Failed => "Failed",
+        PcapFault::BadMagic => "BadMagic",
+        PcapFault::BadLength(_) => "BadLength",
+        PcapFault::BlockTooLong(_) => "BlockTooLong",
+        PcapFault::LengthsDiffer => "LengthsDiffer",
+        PcapFault::UnknownInterface(_) => "UnknownInterface",
     }
 }

@@ -10,6 +10,6 @@ mod shown;
 
 pub use advice::Advice;
 pub use advising::advise;
-pub use fault::Fault;
+pub use fault::{Fault, capture_kind, certificate_kind, ledger_text, refusal_text};
 pub use notice::Notice;
 pub use parts::give_parts;

@@ -1,5 +1,5 @@
 -- The answer of `meter`, a line at a time.
-use Rattle.std.proofs.Common.{◌≡◌, ℕ, ◌+◌, ◌-◌, ◌<◌, ◌≤◌, zero, suc, Bool, true, false, List, [], ◌∷◌, ◌++◌, length, take, None, Some, arith, refl, sym, ap, ◌∙◌, append_assoc, inl, inr}
+use Rattle.std.proofs.Common.{◌≡◌, ℕ, ◌+◌, ◌-◌, ◌<◌, ◌≤◌, zero, suc, Bool, true, false, List, [], ◌∷◌, ◌++◌, length, take, None, Some, arith, refl, sym, ap, ◌∙◌, append_assoc, inl, inr, codes, decimal}
 use Rattle.std.specs.Prelude.{slice_index}
 use Rattle.std.proofs.lemmas.List.{append-nil}
 use Rattle.std.proofs.lemmas.Bool.{cases_lt}
@@ -16,7 +16,12 @@ use Rattle.meter_book.specs.Replay.{accounts_with, offer_of}
 use Rattle.meter_book.specs.Running.{counted}
 use Rattle.meter_book.proofs.StandingLaws.{standing_after-append}
 use Rattle.dsedge_meter.specs.Arrivals.{arrival_in, arrivals_from}
-use Rattle.dsedge_meter.specs.Metered.{Telling, accounts_text_of, answer_of, answer_to, closing, ending_of, line_for, lines_from, packet_line, room_of, told_on}
+use Rattle.serde_json.specs.Data.{Data, depth, member, no_members, object, string}
+use Rattle.serde_json.specs.Read.{max_depth}
+use Rattle.serde_json.specs.Written.{has_float}
+use Rattle.json_lines.specs.JsonLines.{count_data, count_keys, line_of, words_before}
+use Rattle.json_lines.proofs.FigureLaws.{count_nests, count_plain, figure_said}
+use Rattle.dsedge_meter.specs.Metered.{Telling, account_line, accounts_data, accounts_said, accounts_text_in, accounts_text_of, answer_of, answer_to, closing, ending_of, line_for, lines_from, packet_line, room_of, told_on}
 
 -- a list that room is made for by one, with an element in front
 take-suc : {X : Type 0} (room : ℕ) (x : X) (xs : List X) → 0 < room → take room (x ∷ xs) ≡ x ∷ take (room - 1) xs
@@ -86,10 +91,10 @@ answer_to-full t number lines a more full =
     rw (full, lines_from-nil t.has_levels t.meter.standing.meter t.meter.standing.place, ends) refl
 
 -- a line in front of an answer
-in_front : (line rows text : List ℕ) (e f : Ending) (a b : Accounts) → text ≡ line ++ rows → e ≡ f → a ≡ b
-    → record { text = text ++ closing e a; ending = e } ≡ behind line (record { text = rows ++ closing f b; ending = f })
-in_front line rows text e f a b parts ends same =
-    rw (parts, ends, same) (ap (λ t. let answer : Answer = record { text = t; ending = f } in answer) (append_assoc line rows (closing f b)))
+in_front : (in_json : Bool) (line rows text : List ℕ) (e f : Ending) (a b : Accounts) → text ≡ line ++ rows → e ≡ f → a ≡ b
+    → record { text = text ++ closing in_json e a; ending = e } ≡ behind line (record { text = rows ++ closing in_json f b; ending = f })
+in_front in_json line rows text e f a b parts ends same =
+    rw (parts, ends, same) (ap (λ t. let answer : Answer = record { text = t; ending = f } in answer) (append_assoc line rows (closing in_json f b)))
 
 -- the line of an arrival stands in front of those of the arrivals behind it
 lines_from-more : (has_levels : Bool) (m : AnyMeter) (place : ℕ) (a : Arrival) (more : List Arrival)
@@ -106,7 +111,7 @@ answer_to-more t number lines a more room =
     let stood = t.meter.standing in
     let accounts = ap (λ (s : Standing). s.accounts) (sym (standing_after-append stood (a ∷ []) (take (room_of t.meter - 1) more) None None)) in
     rw (take-suc (room_of t.meter) a more room, less)
-    (in_front (line_for t a) _ _ _ _ _ _ (lines_from-more t.has_levels stood.meter stood.place a (take (room_of t.meter - 1) more))
+    (in_front t.in_json (line_for t a) _ _ _ _ _ _ (lines_from-more t.has_levels stood.meter stood.place a (take (room_of t.meter - 1) more))
     (ending_of-more number (room_of t.meter) (length more) lines room) accounts)
 
 pub answer_of-bad : (t : Telling) (number : ℕ) (line : List ℕ) (later : List (List ℕ)) → arrival_in number line ≡ None
@@ -132,12 +137,57 @@ accounts_text-none a =
     let none : (n : ℕ) → n + 0 ≡ n = λ n. omega arith in
     rw (none (slice_index a.packets 0), none (slice_index a.packets 1), none (slice_index a.packets 2), none (slice_index a.bytes 0), none (slice_index a.bytes 1), none (slice_index a.bytes 2)) refl
 
-pub answer_of-end : (t : Telling) (number : ℕ) → answer_of t number [] ≡ record { text = accounts_text_of t.meter.standing.accounts; ending = Whole }
+accounts_data-none : (a : Accounts) → accounts_data (accounts_with a []) ≡ accounts_data a
+accounts_data-none a =
+    let none : (n : ℕ) → n + 0 ≡ n = λ n. omega arith in
+    rw (none (slice_index a.packets 0), none (slice_index a.packets 1), none (slice_index a.packets 2), none (slice_index a.bytes 0), none (slice_index a.bytes 1), none (slice_index a.bytes 2)) refl
+
+accounts_said-none : (in_json : Bool) (a : Accounts) → accounts_said in_json (accounts_with a []) ≡ accounts_said in_json a
+accounts_said-none false a = accounts_text-none a
+accounts_said-none true a = ap line_of (accounts_data-none a)
+
+pub answer_of-end : (t : Telling) (number : ℕ) → answer_of t number [] ≡ record { text = accounts_said t.in_json t.meter.standing.accounts; ending = Whole }
 unfolding answer_to arrivals_from
 answer_of-end t number =
     let ends : ending_of number (room_of t.meter) 0 0 ≡ Whole = ending_of-whole number _ 0 0 (omega arith) (omega arith) in
     rw (take-nil (room_of t.meter), lines_from-nil t.has_levels t.meter.standing.meter t.meter.standing.place, ends)
-    (ap (λ text. let answer : Answer = record { text = text; ending = Whole } in answer) (accounts_text-none t.meter.standing.accounts))
+    (ap (λ text. let answer : Answer = record { text = text; ending = Whole } in answer) (accounts_said-none t.in_json t.meter.standing.accounts))
+
+-- the object of accounts has no float, nests twice, and makes the lines
+abbrev three_counts : Data → Data → Data → Data
+three_counts a b c = object
+    (member (codes "answer") (string (codes "accounts")) (member (codes "green") a (member (codes "red") b (member (codes "yellow") c no_members))))
+
+three_plain : (a b c : Data) → has_float a ≡ false → has_float b ≡ false → has_float c ≡ false → has_float (three_counts a b c) ≡ false
+three_plain a b c pa pb pc = rw (pa, pb, pc) refl
+
+three_nest : (a b c : Data) → depth a ≡ 1 → depth b ≡ 1 → depth c ≡ 1 → depth (three_counts a b c) ≡ 2
+three_nest a b c na nb nc = rw (na, nb, nc) refl
+
+pub accounts_plain : (a : Accounts) → has_float (accounts_data a) ≡ false
+accounts_plain a = three_plain (count_data (slice_index a.packets 0) (slice_index a.bytes 0)) (count_data (slice_index a.packets 2) (slice_index a.bytes 2)) (count_data (slice_index a.packets 1) (slice_index a.bytes 1))
+    (count_plain (slice_index a.packets 0) (slice_index a.bytes 0)) (count_plain (slice_index a.packets 2) (slice_index a.bytes 2))
+    (count_plain (slice_index a.packets 1) (slice_index a.bytes 1))
+
+pub accounts_shallow : (a : Accounts) → depth (accounts_data a) ≤ max_depth
+accounts_shallow a =
+    let two : depth (accounts_data a) ≡ 2 = three_nest (count_data (slice_index a.packets 0) (slice_index a.bytes 0)) (count_data (slice_index a.packets 2) (slice_index a.bytes 2)) (count_data (slice_index a.packets 1) (slice_index a.bytes 1)) (count_nests (slice_index a.packets 0) (slice_index a.bytes 0)) (count_nests (slice_index a.packets 2) (slice_index a.bytes 2))
+    (count_nests (slice_index a.packets 1) (slice_index a.bytes 1)) in
+    rw two (omega arith)
+
+line_joined : (name packets bytes : List ℕ) → name ++ (32 ∷ (packets ++ (32 ∷ (bytes ++ (10 ∷ []))))) ≡ name ++ codes " " ++ packets ++ codes " " ++ bytes ++ codes "\n"
+line_joined name packets bytes = simp append_assoc
+
+count_said : (name : List ℕ) (packets bytes : ℕ)
+    → name ++ words_before count_keys (count_data packets bytes) (codes "\n") ≡ account_line name packets bytes
+count_said name packets bytes = rw (figure_said bytes, figure_said packets) (line_joined name (decimal packets) (decimal bytes))
+
+three_lines : (a b c d e f : List ℕ) → a ≡ d → b ≡ e → c ≡ f → a ++ b ++ c ≡ d ++ e ++ f
+three_lines a b c d e f first second third = cc
+
+pub accounts_made : (a : Accounts) → accounts_text_in (accounts_data a) ≡ accounts_text_of a
+accounts_made a = three_lines _ _ _ _ _ _ (count_said (codes "green") (slice_index a.packets 0) (slice_index a.bytes 0))
+    (count_said (codes "yellow") (slice_index a.packets 1) (slice_index a.bytes 1)) (count_said (codes "red") (slice_index a.packets 2) (slice_index a.bytes 2))
 
 -- an answer that ends here adds nothing to what stands
 pub behind-nothing : (out : List ℕ) (ending : Ending) → record { text = out; ending = ending } ≡ behind out (record { text = []; ending = ending })

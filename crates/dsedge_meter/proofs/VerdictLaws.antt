@@ -8,7 +8,10 @@ use Rattle.envelope_core.proofs.LeakyBuckets.{overflow_from-nil, overflow_from-o
 use Rattle.dsedge_lines.specs.Answers.{Answer}
 use Rattle.dsedge_lines.specs.declared.command.Ending.TheVariants.{BadLine}
 use Rattle.dsedge_meter.specs.Arrivals.{sized_from, sized_in, sized_since}
-use Rattle.dsedge_meter.specs.Verdicts.{Testing, first_over, tested, verdict_behind, verdict_of, verdict_to}
+use Rattle.serde_json.specs.Data.{depth}
+use Rattle.serde_json.specs.Read.{max_depth}
+use Rattle.serde_json.specs.Written.{has_float}
+use Rattle.dsedge_meter.specs.Verdicts.{Testing, first_over, tested, verdict_behind, verdict_data, verdict_line_in, verdict_of, verdict_text_of, verdict_to}
 
 -- an answer with no text, which ends at a bad line
 abbrev pub bad_line : ℕ → Answer
@@ -33,7 +36,7 @@ unfolding verdict_to
 verdict_to-short t number lines items short = rw (lt-ltb (length items) lines short) refl
 
 verdict_to-all : (t : Testing) (number lines : ℕ) (items : List (ℕ × ℕ)) → lines ≤ length items
-    → verdict_to t number lines items ≡ verdict_of (first_over t.bucket t.over number items)
+    → verdict_to t number lines items ≡ verdict_of t.in_json (first_over t.bucket t.over number items)
 unfolding verdict_to
 verdict_to-all t number lines items all = rw (le-ltb (length items) lines all) refl
 
@@ -63,7 +66,7 @@ verdict_to-more t number lines item items =
           ∙ (ap (λ n. bad_line n) place ∙ sym (verdict_to-short (tested t number item) (number + 1) lines items short))
       | inr all ↦
           verdict_to-all t number (suc lines) (item ∷ items) (omega arith)
-          ∙ (ap (λ over. verdict_of over) (first_over-more t.bucket t.over number item items)
+          ∙ (ap (λ over. verdict_of t.in_json over) (first_over-more t.bucket t.over number item items)
           ∙ sym (verdict_to-all (tested t number item) (number + 1) lines items all))
     ]
 
@@ -85,10 +88,10 @@ over_at_end : (b : Bucket) (over : Option ℕ) (number : ℕ) → first_over b o
 over_at_end b None number = overflow_from-nil b.curve.rate b.curve.burst b.level b.since number
 over_at_end b (Some line) number = refl
 
-pub verdict_behind-end : (t : Testing) (number : ℕ) → verdict_behind t number [] ≡ verdict_of t.over
+pub verdict_behind-end : (t : Testing) (number : ℕ) → verdict_behind t number [] ≡ verdict_of t.in_json t.over
 verdict_behind-end t number =
     rw (sized_from-nil t.bucket.since)
-    (verdict_to-all t number 0 [] (omega arith) ∙ ap (λ over. verdict_of over) (over_at_end t.bucket t.over number))
+    (verdict_to-all t number 0 [] (omega arith) ∙ ap (λ over. verdict_of t.in_json over) (over_at_end t.bucket t.over number))
 
 -- a sized moment that is taken is not before the newest one
 pub sized_since_not_before : (newest : ℕ) (line : List ℕ) (item : ℕ × ℕ) → sized_since newest line ≡ Some item → newest ≤ item.0
@@ -106,3 +109,16 @@ sized_since_not_before newest line item e = not_before newest (sized_in line) it
               let same : said ≡ item = cc in
               rw (← same) later
         ]
+
+-- the object of a verdict has no float, nests once, and makes the line
+pub verdict_plain : (over : Option ℕ) → has_float (verdict_data over) ≡ false
+verdict_plain None = refl
+verdict_plain (Some line) = refl
+
+pub verdict_shallow : (over : Option ℕ) → depth (verdict_data over) ≤ max_depth
+verdict_shallow None = omega arith
+verdict_shallow (Some line) = omega arith
+
+pub verdict_made : (over : Option ℕ) → verdict_line_in (verdict_data over) ≡ verdict_text_of over
+verdict_made None = refl
+verdict_made (Some line) = refl

@@ -1,6 +1,10 @@
 -- What `meter` answers to lines of arrivals.
 use Rattle.std.specs.Prelude.{ℕ, ◌+◌, ◌-◌, ◌^◌, Bool, true, false, nat_lt, None, List, [], ◌∷◌, ◌++◌, length, take, flat_map, codes, decimal, slice_index}
 use Rattle.std.specs.Prelude.{if◌then◌else◌}
+use Rattle.std.specs.Option.{option_map_or}
+use Rattle.serde_json.specs.Data.{Data, member, no_members, object, string}
+use Rattle.serde_json.specs.Find.{get}
+use Rattle.json_lines.specs.JsonLines.{count_data, count_keys, line_of, words_before}
 use Rattle.moment_core.specs.declared.colour.Colour.{Colour}
 use Rattle.moment_core.specs.declared.colour.Colour.TheVariants.{Green, Yellow, Red}
 use Rattle.meter_book.specs.declared.accounts.Accounts.{Accounts}
@@ -67,6 +71,29 @@ accounts_text_of a =
     ++ account_line (codes "yellow") (slice_index a.packets 1) (slice_index a.bytes 1)
     ++ account_line (codes "red") (slice_index a.packets 2) (slice_index a.bytes 2)
 
+-- the accounts as an object of JSON
+abbrev pub accounts_data : Accounts → Data
+accounts_data a = object
+    (member (codes "answer") (string (codes "accounts"))
+    (member (codes "green") (count_data (slice_index a.packets 0) (slice_index a.bytes 0))
+    (member (codes "red") (count_data (slice_index a.packets 2) (slice_index a.bytes 2))
+    (member (codes "yellow") (count_data (slice_index a.packets 1) (slice_index a.bytes 1)) no_members))))
+
+-- the line that a colour's member of an object is made of
+abbrev pub colour_line_in : List ℕ → Data → List ℕ
+colour_line_in name content =
+    option_map_or (λ count. name ++ words_before count_keys count (codes "\n")) (get name content) []
+
+-- the lines that the object of accounts is made of
+abbrev pub accounts_text_in : Data → List ℕ
+accounts_text_in content =
+    colour_line_in (codes "green") content ++ colour_line_in (codes "yellow") content ++ colour_line_in (codes "red") content
+
+-- how accounts are written: as lines, or as an object
+abbrev pub accounts_said : Bool → Accounts → List ℕ
+accounts_said false accounts = accounts_text_of accounts
+accounts_said true accounts = line_of (accounts_data accounts)
+
 -- how an answer to so many lines ends that begins at a line's number, where so many of them say arrivals before any
 -- says none, and there is room for so many
 unfoldable pub ending_of : ℕ → ℕ → ℕ → ℕ → Ending
@@ -74,19 +101,25 @@ ending_of number room arrivals lines =
     if nat_lt room arrivals then Full else if nat_lt arrivals lines then BadLine (number + arrivals) else Whole
 
 -- the accounts, where the whole input was answered
-abbrev pub closing : Ending → Accounts → List ℕ
-closing Whole accounts = accounts_text_of accounts
-closing _ accounts = []
+abbrev pub closing : Bool → Ending → Accounts → List ℕ
+closing in_json Whole accounts = accounts_said in_json accounts
+closing in_json _ accounts = []
 
--- a meter whose answers are told, and whether the levels that packets leave are told too
+-- a meter whose answers are told, whether the levels that packets leave are told too, and whether its accounts are an
+-- object
 pub record Telling : Type 0 where
   pub meter : Running
   pub has_levels : Bool
+  pub in_json : Bool
 
 -- a meter before any arrival, which takes 2^44 arrivals
-abbrev pub fresh_meter : AnyMeter → Bool → Telling
-fresh_meter meter has_levels =
-    record { meter = record { standing = fresh meter 0; most = 2 ^ 44 }; has_levels = has_levels }
+abbrev pub fresh_meter : AnyMeter → Bool → Bool → Telling
+fresh_meter meter has_levels in_json =
+    record {
+      meter = record { standing = fresh meter 0; most = 2 ^ 44 };
+      has_levels = has_levels;
+      in_json = in_json;
+    }
 
 -- how many arrivals a meter still takes
 abbrev pub room_of : Running → ℕ
@@ -101,7 +134,7 @@ answer_to t number lines arrivals =
     let ending = ending_of number (room_of t.meter) (length arrivals) lines in
     record {
       text = lines_from t.has_levels stood.meter stood.place noted
-          ++ closing ending (standing_after stood noted None).accounts;
+          ++ closing t.in_json ending (standing_after stood noted None).accounts;
       ending = ending;
     }
 

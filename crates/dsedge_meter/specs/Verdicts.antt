@@ -1,7 +1,10 @@
 -- What `envelope` answers to lines of sized moments.
-use Rattle.std.specs.Prelude.{ℕ, ◌+◌, ◌^◌, nat_lt, min, List, [], ◌++◌, length, codes, decimal, Option, None, Some}
+use Rattle.std.specs.Prelude.{ℕ, ◌+◌, ◌^◌, nat_lt, min, Bool, true, false, List, [], ◌∷◌, ◌++◌, length, codes, decimal, Option, None, Some}
 use Rattle.std.specs.Prelude.{if◌then◌else◌}
 use Rattle.std.specs.Option.{option_or}
+use Rattle.serde_json.specs.Data.{Data, member, no_members, object, string, unsigned}
+use Rattle.serde_json.specs.Data as json
+use Rattle.json_lines.specs.JsonLines.{line_of, words_line}
 use Rattle.dsedge_lines.specs.Answers.{Answer}
 use Rattle.dsedge_lines.specs.declared.command.Ending.{Ending}
 use Rattle.dsedge_lines.specs.declared.command.Ending.TheVariants.{Whole, Refused, BadLine}
@@ -23,17 +26,36 @@ abbrev pub verdict_ending_of : Option ℕ → Ending
 verdict_ending_of None = Whole
 verdict_ending_of (Some line) = Refused
 
-abbrev pub verdict_of : Option ℕ → Answer
-verdict_of over = record { text = verdict_text_of over; ending = verdict_ending_of over }
+-- the same as an object of JSON
+abbrev pub verdict_data : Option ℕ → Data
+verdict_data None = object (member (codes "answer") (string (codes "kept")) no_members)
+verdict_data (Some line) = object
+    (member (codes "answer") (string (codes "over"))
+    (member (codes "line") (json.number (unsigned line)) no_members))
 
--- a test that is under way: the leaky bucket of the envelope, and the line of the first sized moment that was over it
+-- the line that the object is made of
+abbrev pub verdict_line_in : Data → List ℕ
+verdict_line_in content = words_line (codes "answer" ∷ codes "line" ∷ []) content
+
+-- how a verdict is written: as a line, or as an object
+abbrev pub verdict_said : Bool → Option ℕ → List ℕ
+verdict_said false over = verdict_text_of over
+verdict_said true over = line_of (verdict_data over)
+
+abbrev pub verdict_of : Bool → Option ℕ → Answer
+verdict_of in_json over = record { text = verdict_said in_json over; ending = verdict_ending_of over }
+
+-- a test that is under way: the leaky bucket of the envelope, the line of the first sized moment that was over it, and
+-- whether an object is answered
 pub record Testing : Type 0 where
   pub bucket : Bucket
   pub over : Option ℕ
+  pub in_json : Bool
 
 -- a test before any line
-abbrev pub untested : Curve → Testing
-untested envelope = record { bucket = record { curve = envelope; level = 0; since = 0 }; over = None }
+abbrev pub untested : Curve → Bool → Testing
+untested envelope in_json =
+    record { bucket = record { curve = envelope; level = 0; since = 0 }; over = None; in_json = in_json }
 
 -- a test with one more sized moment, on the line of a number
 abbrev pub tested : Testing → ℕ → ℕ × ℕ → Testing
@@ -41,6 +63,7 @@ tested t number item =
     record {
       bucket = poured t.bucket item;
       over = option_or t.over (if overflows t.bucket item then Some number else None);
+      in_json = t.in_json;
     }
 
 -- the first line that is over, if one is: one that was, or else of these sized moments, the first on the line of a number
@@ -53,12 +76,12 @@ first_over b (Some line) number items = Some line
 unfoldable pub verdict_to : Testing → ℕ → ℕ → List (ℕ × ℕ) → Answer
 verdict_to t number lines items =
     if nat_lt (length items) lines then record { text = []; ending = BadLine (number + length items) }
-    else verdict_of (first_over t.bucket t.over number items)
+    else verdict_of t.in_json (first_over t.bucket t.over number items)
 
 -- the answer to lines from a number on, behind sized moments of which the last was at the bucket's moment
 abbrev pub verdict_behind : Testing → ℕ → List (List ℕ) → Answer
 verdict_behind t number lines = verdict_to t number (length lines) (sized_from t.bucket.since lines)
 
 -- the answer to all lines, which are counted from 1
-abbrev pub verdict_on : Curve → List (List ℕ) → Answer
-verdict_on envelope lines = verdict_behind (untested envelope) 1 lines
+abbrev pub verdict_on : Curve → Bool → List (List ℕ) → Answer
+verdict_on envelope in_json lines = verdict_behind (untested envelope in_json) 1 lines

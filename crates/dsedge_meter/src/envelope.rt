@@ -1,13 +1,17 @@
 ghost use Rattle.std.specs.Prelude.{◌≡◌, ◌≤◌, IfOk, if◌then◌else◌, None, Some};
 ghost use Rattle.std.specs.Option.{option_or};
-ghost use Rattle.dsedge_meter.specs.Verdicts.{envelope_for, untested, verdict_behind, verdict_ending_of};
-ghost use Rattle.dsedge_meter.specs.Verdicts.{verdict_text_of};
+ghost use Rattle.serde_json.specs.View.{view};
+ghost use Rattle.json_lines.specs.JsonLines.{IsLineOf};
+ghost use Rattle.dsedge_meter.specs.Verdicts.{envelope_for, untested, verdict_behind, verdict_data, verdict_ending_of};
+ghost use Rattle.dsedge_meter.specs.Verdicts.{verdict_line_in, verdict_said, verdict_text_of};
 
 use crate::arrivals::{front_sized_moment, sized_moment};
 use dsedge_lines::{Command, Ending};
 use envelope_core::{Envelope, LeakyBucket};
+use json_lines::line_of;
 use line_text::push_number;
 use moment_core::{Moment, Rate};
+use serde_json::{Value, json};
 use std::alloc::{AllocError, Global};
 use std::marker::Model;
 
@@ -18,6 +22,7 @@ pub struct EnvelopeCommand {
     alloc: Global,
     bucket: LeakyBucket,
     over: Option<u64>,
+    in_json: bool,
 }
 
 impl Model for EnvelopeCommand {
@@ -25,7 +30,7 @@ impl Model for EnvelopeCommand {
 
     ghost Value = { Testing };
 
-    ghost view = { λ c. record { bucket = c.bucket; over = c.over } };
+    ghost view = { λ c. record { bucket = c.bucket; over = c.over; in_json = c.in_json } };
 }
 
 /// The first line that is over, behind one more line of a number, which may be.
@@ -55,6 +60,38 @@ fn verdict_text(alloc: Global, over: Option<u64>) -> Result<Vec<u8>, AllocError>
     Ok(text)
 }
 
+/// The line of the object of a verdict: `kept`, or `over` and the number of the line.
+#[tactic(auto, using(crate::proofs::VerdictLaws::verdict_plain, crate::proofs::VerdictLaws::verdict_shallow, crate::proofs::VerdictLaws::verdict_made))]
+fn verdict_object(alloc: Global, over: Option<u64>) -> Result<Vec<u8>, AllocError>
+    ensures object { IfOk result (λ text. IsLineOf (verdict_data over) text.items) }
+    // The line of the verdict is made of the object.
+    ensures says { verdict_line_in (verdict_data over) ≡ verdict_text_of over }
+{
+    let value = verdict_value(alloc, over)?;
+    line_of(alloc, &value)
+}
+
+/// The object of a verdict.
+fn verdict_value(alloc: Global, over: Option<u64>) -> Result<Value, AllocError>
+    ensures { IfOk result (λ value. view value ≡ verdict_data over) }
+{
+    match over {
+        None => json!(in alloc; {"answer": "kept"}),
+        Some(line) => json!(in alloc; {"answer": "over", "line": line}),
+    }
+}
+
+/// A verdict as a line, or as the line of an object.
+fn verdict_said(alloc: Global, in_json: bool, over: Option<u64>) -> Result<Vec<u8>, AllocError>
+    ensures { IfOk result (λ text. text.items ≡ verdict_said in_json over) }
+{
+    if in_json {
+        verdict_object(alloc, over)
+    } else {
+        verdict_text(alloc, over)
+    }
+}
+
 /// How the answer ends with a verdict.
 fn verdict_ending(over: Option<u64>) -> Ending
     ensures { result ≡ verdict_ending_of over }
@@ -66,15 +103,17 @@ fn verdict_ending(over: Option<u64>) -> Ending
 }
 
 impl EnvelopeCommand {
-    /// The command for the envelope of a rate and a burst in bytes, of which it holds at most 10^19.
-    pub fn new(alloc: Global, rate: Rate, burst: u64) -> Self
-        ensures { result ≡ untested (envelope_for rate burst) }
+    /// The command for the envelope of a rate and a burst in bytes, of which it holds at most 10^19; it answers with an
+    /// object of JSON where that is asked for.
+    pub fn new(alloc: Global, rate: Rate, burst: u64, in_json: bool) -> Self
+        ensures { result ≡ untested (envelope_for rate burst) in_json }
     {
         let envelope = Envelope::new(rate.get(), burst.min(Envelope::MOST_BURST)).unwrap();
         EnvelopeCommand {
             alloc,
             bucket: LeakyBucket::new(envelope),
             over: None,
+            in_json,
         }
     }
 
@@ -123,7 +162,7 @@ impl Command for EnvelopeCommand {
     }
 
     fn end(&mut self, _number: u64, out: &mut Vec<u8>) -> Result<Ending, AllocError> {
-        let text = verdict_text(self.alloc, self.over)?;
+        let text = verdict_said(self.alloc, self.in_json, self.over)?;
         out.extend_from_slice(text.as_slice())?;
         Ok(verdict_ending(self.over))
     }

@@ -1,25 +1,30 @@
 ghost use Rattle.std.specs.Prelude.{◌≡◌, ℕ, ◌+◌, List, ◌∷◌, ◌++◌, Some, IfOk, OnErr, OnOk};
 ghost use Rattle.std.specs.Prelude.{◌≤◌, codes, decimal, drop, vec_capacity, vec_len};
-ghost use Rattle.dsedge_meter.specs.Metered.{account_line, accounts_text_of, answer_of, colour_line_of, colour_word};
-ghost use Rattle.dsedge_meter.specs.Metered.{levels_line_of, packet_line};
+ghost use Rattle.serde_json.specs.View.{view};
+ghost use Rattle.json_lines.specs.JsonLines.{IsLineOf};
+ghost use Rattle.dsedge_meter.specs.Metered.{account_line, accounts_data, accounts_said, accounts_text_in, accounts_text_of};
+ghost use Rattle.dsedge_meter.specs.Metered.{answer_of, colour_line_of, colour_word, levels_line_of, packet_line};
 
 use crate::arrivals::{arrival, front_arrival};
 use dsedge_lines::{Command, Ending};
 use itoa::write_digits;
+use json_lines::{count, line_of};
 use line_text::push_number;
 use meter_book::{Accounts, AnyMeter, Arrival, BucketLevels, RunningMeter};
 use moment_core::{Colour, Gap};
+use serde_json::{Value, json};
 use std::alloc::{AllocError, Global};
 use std::marker::Model;
 
 /// The command `meter`: it answers each arrival with the colour that the packet leaves with, and the levels that it
-/// leaves in the buckets where these are asked for; at the end the accounts. It keeps sums and no rows, so its memory
-/// does not grow.
+/// leaves in the buckets where these are asked for; at the end the accounts, as lines or as an object of JSON. It keeps
+/// sums and no rows, so its memory does not grow.
 #[derive(Drop)]
 pub struct MeterCommand {
     alloc: Global,
     meter: RunningMeter,
     has_levels: bool,
+    in_json: bool,
 }
 
 impl Model for MeterCommand {
@@ -27,7 +32,7 @@ impl Model for MeterCommand {
 
     ghost Value = { Telling };
 
-    ghost view = { λ c. record { meter = c.meter; has_levels = c.has_levels } };
+    ghost view = { λ c. record { meter = c.meter; has_levels = c.has_levels; in_json = c.in_json } };
 }
 
 /// Writes a line with the name of a colour. A branch for each has a copy of a known length.
@@ -121,6 +126,38 @@ fn accounts_text(alloc: Global, accounts: &Accounts) -> Result<Vec<u8>, AllocErr
     Ok(text)
 }
 
+/// The line of the object of accounts.
+#[tactic(auto, using(crate::proofs::MeteredLaws::accounts_plain, crate::proofs::MeteredLaws::accounts_shallow, crate::proofs::MeteredLaws::accounts_made))]
+fn accounts_object(alloc: Global, accounts: &Accounts) -> Result<Vec<u8>, AllocError>
+    ensures object { IfOk result (λ text. IsLineOf (accounts_data accounts.now) text.items) }
+    // The lines are made of the object.
+    ensures says { accounts_text_in (accounts_data accounts.now) ≡ accounts_text_of accounts.now }
+{
+    let value = accounts_value(alloc, accounts)?;
+    line_of(alloc, &value)
+}
+
+/// The object of accounts.
+fn accounts_value(alloc: Global, accounts: &Accounts) -> Result<Value, AllocError>
+    ensures { IfOk result (λ value. view value ≡ accounts_data accounts.now) }
+{
+    let green = count(alloc, accounts.packets[0], accounts.bytes[0])?;
+    let yellow = count(alloc, accounts.packets[1], accounts.bytes[1])?;
+    let red = count(alloc, accounts.packets[2], accounts.bytes[2])?;
+    json!(in alloc; {"answer": "accounts", "green": green, "yellow": yellow, "red": red})
+}
+
+/// Accounts as lines, or as the line of an object.
+fn accounts_said(alloc: Global, in_json: bool, accounts: &Accounts) -> Result<Vec<u8>, AllocError>
+    ensures { IfOk result (λ text. text.items ≡ accounts_said in_json accounts.now) }
+{
+    if in_json {
+        accounts_object(alloc, accounts)
+    } else {
+        accounts_text(alloc, accounts)
+    }
+}
+
 impl MeterCommand {
     ghost use Rattle.dsedge_meter.specs.Metered.{fresh_meter};
 
@@ -128,14 +165,15 @@ impl MeterCommand {
     const MOST_ARRIVALS: u64 = 1 << 44;
 
     /// The command over a meter before any arrival, which tells the levels that packets leave in its buckets, or colours
-    /// alone.
-    pub fn new(alloc: Global, meter: AnyMeter, has_levels: bool) -> Self
-        ensures { result ≡ fresh_meter meter has_levels }
+    /// alone, and its accounts as lines, or as an object of JSON.
+    pub fn new(alloc: Global, meter: AnyMeter, has_levels: bool, in_json: bool) -> Self
+        ensures { result ≡ fresh_meter meter has_levels in_json }
     {
         MeterCommand {
             alloc,
             meter: RunningMeter::new(meter, Gap::NONE, Self::MOST_ARRIVALS),
             has_levels,
+            in_json,
         }
     }
 
@@ -207,7 +245,7 @@ impl Command for MeterCommand {
     }
 
     fn end(&mut self, _number: u64, out: &mut Vec<u8>) -> Result<Ending, AllocError> {
-        let text = accounts_text(self.alloc, &self.meter.accounts())?;
+        let text = accounts_said(self.alloc, self.in_json, &self.meter.accounts())?;
         out.extend_from_slice(text.as_slice())?;
         Ok(Ending::Whole)
     }

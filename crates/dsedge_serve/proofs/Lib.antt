@@ -1,6 +1,7 @@
 pub mod HeldLemmas
 pub mod MarkLemmas
+pub mod NameLemmas
 pub mod QuoteLemmas
-pub mod ReportLemmas
 pub mod SaleLemmas
 pub mod StartLemmas
+pub mod TellLemmas

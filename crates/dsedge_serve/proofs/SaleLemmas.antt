@@ -97,52 +97,52 @@ unopened_faults (books.Ledger fault) = unkept_faults fault
 unopened_faults (books.Command refused) = refused_faults refused refused.refusal
 
 -- want of memory ends a sale before its first line
-starved : (led : Result Book (ℕ × BrokerRefusal)) (offered : List Contract) (lines : List (List ℕ)) (before : List ℕ)
-    → IsSoldBehind led offered lines (Err pump_faults.NoMemory) before before
-starved (Ok b) offered lines before =
-    failed (reply_of (drive_from offered b 1 lines)) pump_faults.NoMemory before before (IsFrontOf-none before (drive_from offered b 1 lines).text)
-starved (Err refused) offered lines before = (refl, inl refl)
+starved : (in_json : Bool) (led : Result Book (ℕ × BrokerRefusal)) (offered : List Contract) (lines : List (List ℕ)) (before : List ℕ)
+    → IsSoldBehind in_json led offered lines (Err pump_faults.NoMemory) before before
+starved in_json (Ok b) offered lines before =
+    failed (reply_of (drive_from in_json offered b 1 lines)) pump_faults.NoMemory before before (IsFrontOf-none before (drive_from in_json offered b 1 lines).text)
+starved in_json (Err refused) offered lines before = (refl, inl refl)
 
-refused_sold : (led : Result Book (ℕ × BrokerRefusal)) (offered : List Contract) (lines : List (List ℕ)) (before : List ℕ) (refused : RefusedReplay) (refusal : BrokerRefusal)
-    → refused.refusal ≡ refusal → (refusal ≡ refusals.NoMemory) ⊎ (led ≡ Err (refused.serial, refusal)) → IsSoldBehind led offered lines (refused_as refused refusal) before before
-refused_sold led offered lines before refused refusals.NoMemory is told = starved led offered lines before
-refused_sold led offered lines before refused (refusals.Contract fault) is (inr told) = rw told (refl, inr (rw (← is) refl))
-refused_sold led offered lines before refused refusals.TableFull is (inr told) = rw told (refl, inr (rw (← is) refl))
-refused_sold led offered lines before refused (refusals.Checker refusal) is (inr told) = rw told (refl, inr (rw (← is) refl))
-refused_sold led offered lines before refused refusals.UnknownId is (inr told) = rw told (refl, inr (rw (← is) refl))
-refused_sold led offered lines before refused refusals.AlreadyReleased is (inr told) = rw told (refl, inr (rw (← is) refl))
-refused_sold led offered lines before refused refusals.HistoryFull is (inr told) = rw told (refl, inr (rw (← is) refl))
-refused_sold led offered lines before refused refusals.NotReleased is (inr told) = rw told (refl, inr (rw (← is) refl))
-refused_sold led offered lines before refused (refusals.HoldLeft nanoseconds) is (inr told) = rw told (refl, inr (rw (← is) refl))
-refused_sold led offered lines before refused (refusals.Contract fault) is (inl memory) = absurd (let e = memory in cc)
-refused_sold led offered lines before refused refusals.TableFull is (inl memory) = absurd (let e = memory in cc)
-refused_sold led offered lines before refused (refusals.Checker refusal) is (inl memory) = absurd (let e = memory in cc)
-refused_sold led offered lines before refused refusals.UnknownId is (inl memory) = absurd (let e = memory in cc)
-refused_sold led offered lines before refused refusals.AlreadyReleased is (inl memory) = absurd (let e = memory in cc)
-refused_sold led offered lines before refused refusals.HistoryFull is (inl memory) = absurd (let e = memory in cc)
-refused_sold led offered lines before refused refusals.NotReleased is (inl memory) = absurd (let e = memory in cc)
-refused_sold led offered lines before refused (refusals.HoldLeft nanoseconds) is (inl memory) = absurd (let e = memory in cc)
+refused_sold : (in_json : Bool) (led : Result Book (ℕ × BrokerRefusal)) (offered : List Contract) (lines : List (List ℕ)) (before : List ℕ) (refused : RefusedReplay) (refusal : BrokerRefusal)
+    → refused.refusal ≡ refusal → (refusal ≡ refusals.NoMemory) ⊎ (led ≡ Err (refused.serial, refusal)) → IsSoldBehind in_json led offered lines (refused_as refused refusal) before before
+refused_sold in_json led offered lines before refused refusals.NoMemory is told = starved in_json led offered lines before
+refused_sold in_json led offered lines before refused (refusals.Contract fault) is (inr told) = rw told (refl, inr (rw (← is) refl))
+refused_sold in_json led offered lines before refused refusals.TableFull is (inr told) = rw told (refl, inr (rw (← is) refl))
+refused_sold in_json led offered lines before refused (refusals.Checker refusal) is (inr told) = rw told (refl, inr (rw (← is) refl))
+refused_sold in_json led offered lines before refused refusals.UnknownId is (inr told) = rw told (refl, inr (rw (← is) refl))
+refused_sold in_json led offered lines before refused refusals.AlreadyReleased is (inr told) = rw told (refl, inr (rw (← is) refl))
+refused_sold in_json led offered lines before refused refusals.HistoryFull is (inr told) = rw told (refl, inr (rw (← is) refl))
+refused_sold in_json led offered lines before refused refusals.NotReleased is (inr told) = rw told (refl, inr (rw (← is) refl))
+refused_sold in_json led offered lines before refused (refusals.HoldLeft nanoseconds) is (inr told) = rw told (refl, inr (rw (← is) refl))
+refused_sold in_json led offered lines before refused (refusals.Contract fault) is (inl memory) = absurd (let e = memory in cc)
+refused_sold in_json led offered lines before refused refusals.TableFull is (inl memory) = absurd (let e = memory in cc)
+refused_sold in_json led offered lines before refused (refusals.Checker refusal) is (inl memory) = absurd (let e = memory in cc)
+refused_sold in_json led offered lines before refused refusals.UnknownId is (inl memory) = absurd (let e = memory in cc)
+refused_sold in_json led offered lines before refused refusals.AlreadyReleased is (inl memory) = absurd (let e = memory in cc)
+refused_sold in_json led offered lines before refused refusals.HistoryFull is (inl memory) = absurd (let e = memory in cc)
+refused_sold in_json led offered lines before refused refusals.NotReleased is (inl memory) = absurd (let e = memory in cc)
+refused_sold in_json led offered lines before refused (refusals.HoldLeft nanoseconds) is (inl memory) = absurd (let e = memory in cc)
 
 -- a book that does not go on ends a sale before its first line
 pub unopened_sold : (sale : Sale) (history : List Command) (fault : BookFault) (offered : List Contract) (lines : List (List ℕ)) (before : List ℕ)
-    → IsUnopened sale history fault → IsSoldBehind (replay (opening_book sale.domain sale.limits) history) offered lines (unopened_as fault) before before
+    → IsUnopened sale history fault → IsSoldBehind sale.in_json (replay (opening_book sale.domain sale.limits) history) offered lines (unopened_as fault) before before
 unopened_sold sale history (books.Ledger fault) offered lines before is =
-    rw is (starved (replay (opening_book sale.domain sale.limits) history) offered lines before)
+    rw is (starved sale.in_json (replay (opening_book sale.domain sale.limits) history) offered lines before)
 unopened_sold sale history (books.Command refused) offered lines before is =
-    refused_sold (replay (opening_book sale.domain sale.limits) history) offered lines before refused refused.refusal refl is
+    refused_sold sale.in_json (replay (opening_book sale.domain sale.limits) history) offered lines before refused refused.refusal refl is
 
 -- where no ledger keeps the book, the sale is from its first command on
-pub unledgered_served : (b : Book) (offered : List Contract) (lines : List (List ℕ)) (outcome : Result Conclusion PumpFault) (before after : List ℕ)
-    → IsSoldBehind (replay b []) offered lines outcome before after
-    → IsServed (reply_of (drive_from offered b 1 lines)) (unledgered_as outcome) before after
+pub unledgered_served : (in_json : Bool) (b : Book) (offered : List Contract) (lines : List (List ℕ)) (outcome : Result Conclusion PumpFault) (before after : List ℕ)
+    → IsSoldBehind in_json (replay b []) offered lines outcome before after
+    → IsServed (reply_of (drive_from in_json offered b 1 lines)) (unledgered_as outcome) before after
 unfolding replay
-unledgered_served b offered lines (Err fault) before after sold = sold
-unledgered_served b offered lines (Ok (Ended ending)) before after sold = sold
-unledgered_served b offered lines (Ok (Unsound fault)) before after sold = sold
-unledgered_served b offered lines (Ok (Uncertified fault)) before after sold = sold
-unledgered_served b offered lines (Ok (Unaccepted line)) before after sold = sold
-unledgered_served b offered lines (Ok (Unkept fault)) before after sold =
-    failed (reply_of (drive_from offered b 1 lines)) pump_faults.NoMemory before after sold
+unledgered_served in_json b offered lines (Err fault) before after sold = sold
+unledgered_served in_json b offered lines (Ok (Ended ending)) before after sold = sold
+unledgered_served in_json b offered lines (Ok (Unsound fault)) before after sold = sold
+unledgered_served in_json b offered lines (Ok (Uncertified fault)) before after sold = sold
+unledgered_served in_json b offered lines (Ok (Unaccepted line)) before after sold = sold
+unledgered_served in_json b offered lines (Ok (Unkept fault)) before after sold =
+    failed (reply_of (drive_from in_json offered b 1 lines)) pump_faults.NoMemory before after sold
 
 pub unledgered_faults : (outcome : Result Conclusion PumpFault)
     → (is_write_fault (unledgered_as outcome) ≡ is_write_fault outcome) × (is_read_fault (unledgered_as outcome) ≡ is_read_fault outcome)
@@ -153,20 +153,20 @@ unledgered_faults (Ok (Uncertified fault)) = (refl, refl)
 unledgered_faults (Ok (Unaccepted line)) = (refl, refl)
 unledgered_faults (Ok (Unkept fault)) = (refl, refl)
 
--- a ledger that cannot be opened ends a sale before its first line
-pub unshelved : (fault : LedgerFault) (before : List ℕ) → IsUnshelved (unkept_as fault) before before
-unshelved fault before = (fault, refl, refl)
+-- a ledger that cannot be had ends a sale before its first line
+pub unshelved : (stands : Result (List Command) LedgerFault → Type 0) (fault : LedgerFault) (before : List ℕ) → stands (Err fault) → IsUnshelved stands (unkept_as fault) before before
+unshelved stands fault before why = (refl, inr (fault, why, refl))
 
 -- a sale goes on from the commands of a ledger
-pub sold_on : (stands : List Command → Type 0) (limits : Limits) (parsed : Domain × List Contract) (lines : List (List ℕ)) (outcome : Result Conclusion PumpFault)
-    (before after : List ℕ) (history : List Command) → stands history
-    → IsSoldBehind (replay (opening_book parsed.0 limits) history) parsed.1 lines outcome before after
-    → IsSoldOn stands limits parsed lines outcome before after
-sold_on stands limits parsed lines outcome before after history stood sold = record { history = history; stood = stood; sold = sold }
+pub sold_on : (stands : Result (List Command) LedgerFault → Type 0) (in_json : Bool) (limits : Limits) (parsed : Domain × List Contract) (lines : List (List ℕ)) (outcome : Result Conclusion PumpFault)
+    (before after : List ℕ) (history : List Command) → stands (Ok history)
+    → IsSoldBehind in_json (replay (opening_book parsed.0 limits) history) parsed.1 lines outcome before after
+    → IsSoldOn stands in_json limits parsed lines outcome before after
+sold_on stands in_json limits parsed lines outcome before after history stood sold = record { history = history; stood = stood; sold = sold }
 
 -- want of memory ends a sale before its first line, whatever the text says
-pub starved_from : (stands : List Command → Type 0) (limits : Limits) (found : Result (Domain × List Contract) DomainFault) (lines : List (List ℕ)) (before : List ℕ)
-    → IsSoldFrom stands limits found lines (Err pump_faults.NoMemory) before before
-starved_from stands limits (Ok parsed) lines before = inl (unshelved ledgers.NoMemory before)
-starved_from stands limits (Err fault) lines before =
+pub starved_from : (stands : Result (List Command) LedgerFault → Type 0) (in_json : Bool) (limits : Limits) (found : Result (Domain × List Contract) DomainFault) (lines : List (List ℕ)) (before : List ℕ)
+    → IsSoldFrom stands in_json limits found lines (Err pump_faults.NoMemory) before before
+starved_from stands in_json limits (Ok parsed) lines before = inl (refl, inl refl)
+starved_from stands in_json limits (Err fault) lines before =
     failed (record { text = []; conclusion = Unsound fault }) pump_faults.NoMemory before before (IsFrontOf-none before [])

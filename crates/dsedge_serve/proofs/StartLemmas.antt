@@ -1,5 +1,6 @@
 -- What becomes of a start.
-use Rattle.std.proofs.Common.{◌≡◌, ◌≢◌, ℕ, List, [], ◌∷◌, None, Some, Ok, Err, refl, arith, inr, subst, sym, true, false, map, length, ◌==◌}
+use Rattle.std.proofs.Common.{◌≡◌, ◌≢◌, ℕ, List, [], ◌∷◌, None, Some, Result, Ok, Err, refl, arith, inr, subst, sym, true, false, map, length, ◌==◌, ◌||◌, ap, bytes_eq, codes}
+use Rattle.std.specs.List.{list_any}
 use Rattle.pcap_capture.specs.Counts.{IsOfReads}
 use Rattle.pcap_capture.proofs.CountLaws.{reads_from}
 use Rattle.pcap_capture.specs.declared.fault.PcapFault.TheVariants as pcaps
@@ -15,13 +16,14 @@ use Rattle.dsedge_lines.specs.declared.command.Ending.TheVariants as endings
 use Rattle.dsedge_lines.specs.declared.fault.PumpFault.TheVariants as pump_faults
 use Rattle.ds_broker.specs.declared.command.Command.{Command}
 use Rattle.ds_ledger_base.specs.declared.fault.BookFault.TheVariants as books
+use Rattle.ds_ledger_base.specs.declared.fault.LedgerFault.{LedgerFault}
 use Rattle.ds_ledger_base.specs.declared.fault.LedgerFault.TheVariants as ledgers
 use Rattle.ds_marking.specs.declared.fault.MarkFault.TheVariants as marks
 use Rattle.dsedge_answers.specs.declared.conclusion.Conclusion.TheVariants.{Ended, Unaccepted, Uncertified, Unkept, Unsound}
 use Rattle.dsedge_serve.specs.declared.outcome.Outcome.{Outcome}
 use Rattle.dsedge_serve.specs.declared.outcome.Outcome.TheVariants.{Answered, Marked, Misused, Portless, Told, Unnamed}
 use Rattle.dsedge_serve.specs.Served.{IsAnswered, is_misused, status_after}
-use Rattle.dsedge_serve.specs.Started.{Course, HasWords, IsCourseFrom, IsCourseOn, IsCourseWith, IsRefused, IsWordless, IsWritten, LacksWords, fault_of_line, fault_of_words, input_from, is_broken_off, is_read, is_unread, status_in, words_from}
+use Rattle.dsedge_serve.specs.Started.{Course, HasWords, IsCourseFrom, IsCourseOn, IsCourseWith, IsRefused, IsWordless, IsWritten, LacksWords, asks_json, fault_of_line, fault_of_words, input_from, is_broken_off, is_read, is_unread, status_in, words_from}
 use Rattle.dsedge_serve.specs.Started.Course.{Refused, Served, Unread}
 
 -- words that are given are some
@@ -33,6 +35,12 @@ some_mapped f (x ∷ xs) some = λ e. cc
 pub none_mapped : {X Y : Type 0} (f : X → Y) (xs : List X) → (length xs == 0) ≡ true → map f xs ≡ []
 none_mapped f [] none = refl
 none_mapped f (x ∷ xs) none = let e : length (x ∷ xs) ≡ 0 = grind (arith, none) in absurd (omega (arith, e))
+
+-- words ask for objects as their texts do
+pub asks_mapped : {X : Type 0} (text : X → List ℕ) (words : List X)
+    → list_any (λ (word : X). bytes_eq (text word) (codes "--json")) words ≡ asks_json (map text words)
+asks_mapped text [] = refl
+asks_mapped text (word ∷ words) = ap (λ b. bytes_eq (text word) (codes "--json") || b) (asks_mapped text words)
 
 -- words that are refused ask for nothing
 pub is_refused : (words : List (List ℕ)) (fault : UsageFault) → IsRefusalOf words fault → IsRefused words (fault_of_words fault)
@@ -118,23 +126,23 @@ served_is_no_usage port (Told (Some pcaps.LengthsDiffer)) e = absurd (omega (ari
 served_is_no_usage port (Told (Some (pcaps.UnknownInterface number))) e = absurd (omega (arith, e))
 
 -- a course that ends as usage does writes nothing
-pub usage_unwritten : (stands : List ℕ → List Command → Type 0) (course : Course) (tells : Type 0) (input more before after : List ℕ) → status_in course ≡ 2
+pub usage_unwritten : (stands : List ℕ → Result (List Command) LedgerFault → Type 0) (course : Course) (tells : Type 0) (input more before after : List ℕ) → status_in course ≡ 2
     → IsWritten stands course tells input more before after → after ≡ before
-usage_unwritten stands (Refused fault) tells input more before after usage is = is
+usage_unwritten stands (Refused in_json fault) tells input more before after usage is = is
 usage_unwritten stands (Unread plan fault) tells input more before after usage is = is
 usage_unwritten stands (Served plan texts outcome) tells input more before after usage is =
     is.1 (served_is_no_usage (names_of plan) outcome usage)
 
 -- a course with the plan that words ask for is one on them
 pub on_plan : (words : List (List ℕ)) (plan : Plan) (course : Course) → IsPlanOf words plan → IsCourseWith plan course → IsCourseOn words course
-on_plan words plan (Refused fault) asked with = absurd with
+on_plan words plan (Refused in_json fault) asked with = absurd with
 on_plan words plan (Unread other fault) asked with = let P : Plan → Type 0 = IsPlanOf words in subst P (sym with) asked
 on_plan words plan (Served other texts outcome) asked with = let P : Plan → Type 0 = IsPlanOf words in subst P (sym with) asked
 
 -- a course on the words that there are
 pub from_words : (given : List (List ℕ)) (bytes : List ℕ) (course : Course) → HasWords given bytes → IsCourseOn (words_from given bytes) course
     → IsCourseFrom given bytes course
-from_words given bytes (Refused fault) has is = inr (has, is)
+from_words given bytes (Refused in_json fault) has is = inr (has, is.0, is.1)
 from_words given bytes (Unread plan fault) has is = (has, is)
 from_words given bytes (Served plan texts outcome) has is = (has, is)
 
@@ -149,9 +157,9 @@ input_given [] bytes some = absurd (some refl)
 input_given (word ∷ words) bytes some = refl
 
 -- what was written for what an input has left is what was written for the input
-pub written_behind : (stands : List ℕ → List Command → Type 0) (course : Course) (T U : Type 0) (left input more before after : List ℕ) → (T → U) → (T → left ≡ input)
+pub written_behind : (stands : List ℕ → Result (List Command) LedgerFault → Type 0) (course : Course) (T U : Type 0) (left input more before after : List ℕ) → (T → U) → (T → left ≡ input)
     → IsWritten stands course U left more before after → IsWritten stands course T input more before after
-written_behind stands (Refused fault) T U left input more before after tells behind is = is
+written_behind stands (Refused in_json fault) T U left input more before after tells behind is = is
 written_behind stands (Unread plan fault) T U left input more before after tells behind is = is
 written_behind stands (Served plan texts outcome) T U left input more before after tells behind is =
     let P : List ℕ → Type 0 = λ bytes. IsAnswered stands plan texts bytes more outcome before after in

@@ -1,5 +1,6 @@
 -- What the program does for a plan.
 pub mod Advised
+pub mod Explained
 pub mod Marked
 pub mod Sales
 pub mod Served

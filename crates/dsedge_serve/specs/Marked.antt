@@ -1,5 +1,5 @@
 -- What `mark` writes and tells.
-use Rattle.std.specs.Prelude.{◌≡◌, ◌⊎◌, ℕ, Bool, true, false, List, [], ◌∷◌, ◌++◌, flat_map, nat_lt, Option, None, Some, Result, Ok, Err, codes, decimal, slice_index, unwrap_or}
+use Rattle.std.specs.Prelude.{◌≡◌, ◌⊎◌, ℕ, Bool, true, false, List, [], ◌++◌, nat_lt, Option, None, Some, IfSome, Result, Ok, Err, option_map, unwrap_or}
 use Rattle.pcap_capture.specs.declared.fault.PcapFault.{PcapFault}
 use Rattle.pcap_capture.specs.declared.fault.PcapFault.TheVariants as pcaps
 use Rattle.ds_conductor.specs.Workings.{IsMarkedBy}
@@ -10,6 +10,12 @@ use Rattle.ds_conditioner.specs.declared.rule.RedRule.{RedRule}
 use Rattle.ds_conditioner.specs.declared.rule.RedRule.TheVariants.{Drop, Keep}
 use Rattle.run_audit.specs.declared.verdict.Verdict.{Verdict}
 use Rattle.dsedge_audit.specs.Audited.{verdict_line}
+use Rattle.json_lines.specs.JsonLines.{line_of}
+use Rattle.dsedge_json_faults.specs.FaultObjects.{IsFaultTold, IsObjectOf}
+use Rattle.dsedge_report.specs.ReportObjects.{report_data}
+use Rattle.dsedge_report.specs.Reports.{report_text}
+use Rattle.dsedge_serve.specs.declared.outcome.ReportText.{ReportText}
+use Rattle.dsedge_serve.specs.declared.outcome.ReportText.TheVariants.{Lines, Object}
 use Rattle.ds_checker.specs.Acceptance.{Table}
 use Rattle.dsedge_lines.specs.declared.fault.PumpFault.{PumpFault}
 use Rattle.dsedge_lines.specs.declared.fault.PumpFault.TheVariants as pump_faults
@@ -19,42 +25,6 @@ use Rattle.dsedge_answers.specs.Replies.{refusal_outcome}
 use Rattle.dsedge_answers.specs.declared.conclusion.Conclusion.{Conclusion}
 use Rattle.dsedge_faults.specs.declared.fault.Fault.{Fault}
 use Rattle.dsedge_faults.specs.declared.fault.Fault.TheVariants as faults
-
--- a line with a count, behind its name
-abbrev pub count_line : List ℕ → ℕ → List ℕ
-count_line name count = name ++ decimal count ++ codes "\n"
-
--- a line with two counts, behind their name
-abbrev pub counts_line : List ℕ → ℕ → ℕ → List ℕ
-counts_line name packets bytes = name ++ decimal packets ++ codes " " ++ decimal bytes ++ codes "\n"
-
--- lines, one behind the other
-abbrev pub lines_text : List (List ℕ) → List ℕ
-lines_text lines = flat_map (λ line. line) lines
-
--- the frames of a report, counted by what became of them
-abbrev pub counts_text : Report → List ℕ
-counts_text r = lines_text (
-    count_line (codes "records ") r.records
-    ∷ count_line (codes "marked ") r.marked
-    ∷ count_line (codes "unmatched ") r.unmatched
-    ∷ count_line (codes "skipped ") r.skipped
-    ∷ count_line (codes "unverified ") r.unverified
-    ∷ count_line (codes "dropped ") r.dropped
-    ∷ []
-    )
-
--- its packets and their bytes by colour
-abbrev pub colours_text : Report → List ℕ
-colours_text r = lines_text (
-    counts_line (codes "green ") (slice_index r.packets 0) (slice_index r.bytes 0)
-    ∷ counts_line (codes "yellow ") (slice_index r.packets 1) (slice_index r.bytes 1)
-    ∷ counts_line (codes "red ") (slice_index r.packets 2) (slice_index r.bytes 2)
-    ∷ []
-    )
-
-abbrev pub report_text : Report → List ℕ
-report_text r = counts_text r ++ colours_text r
 
 -- what is told of a fault of a capture: a device's by its own line, the others by their number and kind
 abbrev pub capture_fault : PcapFault → Fault
@@ -84,7 +54,54 @@ judged (Some verdict) has_verdict found = None
 abbrev pub judged_text : Report → Option (List ℕ) → List ℕ
 judged_text report line = report_text report ++ unwrap_or line []
 
--- what is told of a marked capture: its report, the line of its verdict, and behind them the fault
+-- the report of a marking over a table was made: its lines, with that of the verdict where it is asked for; or its object
+abbrev pub IsReportLine : Result Table TableFault → Report → List ℕ → Type 0
+IsReportLine (Ok t) report line = line ≡ line_of (report_data t report)
+IsReportLine (Err fault) report line = ⊥
+
+abbrev pub IsReportFor : Bool → Bool → Result Table TableFault → Report → ReportText → Type 0
+IsReportFor in_json has_verdict found report (Lines line) =
+    (in_json ≡ false) × (line ≡ judged report.verdict has_verdict found)
+IsReportFor in_json has_verdict found report (Object line) =
+    (in_json ≡ true) × IfSome line (λ text. IsReportLine found report text.items)
+
+-- whether a report is told by an object
+abbrev pub is_object : ReportText → Bool
+is_object (Lines line) = false
+is_object (Object line) = true
+
+-- a text is the line of an object; where memory ran out for it, that
+abbrev pub IsObjectText : Option (List ℕ) → List ℕ → Type 0
+IsObjectText (Some line) text = text ≡ line
+IsObjectText None text = IsObjectOf faults.Memory text
+
+-- a text tells a report
+abbrev pub IsReportTold : Report → ReportText → List ℕ → Type 0
+IsReportTold report (Lines line) text = text ≡ judged_text report line
+IsReportTold report (Object line) text = IsObjectText (option_map (λ l. l.items) line) text
+
+-- a text tells the fault of a marking, if any
+abbrev pub IsMarkFaultTold : Bool → List ℕ → Option MarkFault → List ℕ → Type 0
+IsMarkFaultTold in_json port None text = text ≡ []
+IsMarkFaultTold in_json port (Some fault) text = IsFaultTold in_json (marking_fault port fault) text
+
+-- a text is the line of an object, and behind it that of the fault of a marking, if any
+pub record IsObjectsText (line : Option (List ℕ)) (fault : Option MarkFault) (port text : List ℕ) : Type 0 where
+  pub front : List ℕ
+  pub back : List ℕ
+  pub both : text ≡ front ++ back
+  pub reported : IsObjectText line front
+  pub faulted : IsMarkFaultTold true port fault back
+
+-- what is told of a marked capture: its report with the verdict, and behind them the fault
+pub record IsMarkingTold (report : Report) (told : ReportText) (fault : Option MarkFault) (port text : List ℕ) : Type 0 where
+  pub front : List ℕ
+  pub back : List ℕ
+  pub both : text ≡ front ++ back
+  pub reported : IsReportTold report told front
+  pub faulted : IsMarkFaultTold (is_object told) port fault back
+
+-- its lines
 abbrev pub marking_told : Report → Option (List ℕ) → Option MarkFault → List ℕ → List ℕ
 marking_told report line fault port = judged_text report line ++ marking_fault_text port fault
 

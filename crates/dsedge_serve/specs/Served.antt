@@ -37,45 +37,46 @@ use Rattle.dsedge_book.specs.declared.held.HeldForm.{HeldForm}
 use Rattle.dsedge_book.specs.declared.held.HeldForm.TheVariants as forms
 use Rattle.dsedge_drive.specs.Driven.{drive_from, driven, opening_book}
 use Rattle.dsedge_texts.specs.Accepted.{accepted_in}
-use Rattle.dsedge_texts.specs.Certified.{certified}
-use Rattle.dsedge_texts.specs.Headed.{headroom_in}
+use Rattle.dsedge_json.specs.Quotations.{quote_said}
 use Rattle.dsedge_texts.specs.Quoted.{Told, quote_in}
 use Rattle.dsedge_texts.specs.declared.quoting.QuoteFault.{QuoteFault}
 use Rattle.dsedge_texts.specs.declared.quoting.QuoteFault.TheVariants as quotes
 use Rattle.dsedge_texts.specs.declared.accepting.TableFault.{TableFault}
 use Rattle.dsedge_texts.specs.declared.accepting.TableFault.TheVariants as tables
 use Rattle.pcap_capture.specs.Takings.{is_read_fault as is_telling_unread}
-use Rattle.dsedge_serve.specs.Told.{AreToldFor, outcome_of, refusal_for, telling_answer, telling_status, telling_told}
-use Rattle.dsedge_answers.specs.Replies.{IsServed, Reply, refusal_outcome, reply_by, reply_of, reply_on, reply_told, status_for, told_of, whole_text}
+use Rattle.dsedge_serve.specs.Told.{AreToldFor, outcome_of, refusal_for, IsTellingTold, telling_answer, telling_status}
+use Rattle.dsedge_answers.specs.Replies.{IsOutcomeTold, IsServed, Reply, refusal_outcome, reply_by, reply_certified, reply_checked, reply_headed, reply_of, status_for, whole_text}
 use Rattle.dsedge_answers.specs.declared.conclusion.Conclusion.{Conclusion}
 use Rattle.dsedge_answers.specs.declared.conclusion.Conclusion.TheVariants.{Ended, Unaccepted, Uncertified, Unkept, Unsound}
 use Rattle.dsedge_faults.specs.declared.fault.Fault.TheVariants as faults
 use Rattle.pcap_capture.specs.Fronts.{IsFrontOf}
-use Rattle.dsedge_faults.specs.Faults.{fault_text, status_of}
+use Rattle.dsedge_faults.specs.Faults.{status_of}
+use Rattle.dsedge_json_faults.specs.FaultObjects.{IsFaultTold}
 use Rattle.dsedge_serve.specs.Sales.{unkept_as}
-use Rattle.dsedge_serve.specs.Marked.{IsMarkedOver, IsUnmarked, is_sole, judged, marking_answer, marking_status, marking_told, rule_said}
+use Rattle.dsedge_serve.specs.Marked.{IsMarkedOver, IsMarkingTold, IsReportFor, IsUnmarked, is_sole, marking_answer, marking_status, rule_said}
 use Rattle.dsedge_serve.specs.declared.outcome.Outcome.{Outcome}
+use Rattle.dsedge_serve.specs.declared.outcome.ReportText.{ReportText}
 use Rattle.dsedge_serve.specs.declared.outcome.Outcome.TheVariants.{Answered, Marked, Misused, Portless, Told as ToldTo, Unnamed}
 
 -- The run that lines say is judged over an accepted table; where the checker refuses the table, or a text has a fault,
 -- that ends it before anything is written. Want of memory stands in no text.
-abbrev pub reply_over : Result Table TableFault → List (List ℕ) → Reply
-reply_over (Ok table) lines = reply_of (audit_from table (opened table) 1 lines)
-reply_over (Err (tables.Refused line)) lines = record { text = []; conclusion = Unaccepted line }
-reply_over (Err (tables.Domain fault)) lines = record { text = []; conclusion = Unsound fault }
-reply_over (Err (tables.Certificate fault)) lines = record { text = []; conclusion = Uncertified fault }
-reply_over (Err tables.NoMemory) lines = whole_text []
+abbrev pub reply_over : Bool → Result Table TableFault → List (List ℕ) → Reply
+reply_over in_json (Ok table) lines = reply_of (audit_from in_json table (opened table) 1 lines)
+reply_over in_json (Err (tables.Refused line)) lines = record { text = []; conclusion = Unaccepted line }
+reply_over in_json (Err (tables.Domain fault)) lines = record { text = []; conclusion = Unsound fault }
+reply_over in_json (Err (tables.Certificate fault)) lines = record { text = []; conclusion = Uncertified fault }
+reply_over in_json (Err tables.NoMemory) lines = whole_text []
 
 -- lines that tell a value, or `none` with the checker's line, which answers with no
 abbrev pub reply_quoted : Told → Reply
 reply_quoted told =
     record { text = told.0; conclusion = Ended (if told.1 then endings.Whole else endings.Refused) }
 
--- The contracts that a domain text says are sold by lines, by a book that takes so much; the fault of the text ends it
--- before anything is written.
-abbrev pub reply_sold : Limits → Result (Domain × List Contract) DomainFault → List (List ℕ) → Reply
-reply_sold limits (Ok parsed) lines = reply_of (driven parsed.0 limits parsed.1 lines)
-reply_sold limits (Err fault) lines = record { text = []; conclusion = Unsound fault }
+-- The contracts that a domain text says are sold by lines, and answered by lines or by objects, by a book that takes so
+-- much; the fault of the text ends it before anything is written.
+abbrev pub reply_sold : Bool → Limits → Result (Domain × List Contract) DomainFault → List (List ℕ) → Reply
+reply_sold in_json limits (Ok parsed) lines = reply_of (driven in_json parsed.0 limits parsed.1 lines)
+reply_sold in_json limits (Err fault) lines = record { text = []; conclusion = Unsound fault }
 
 -- the text of the first file, and of the second
 abbrev pub first_text : List (List ℕ) → List ℕ
@@ -103,45 +104,47 @@ IsKeptServed reply outcome before after = IsServed reply outcome before after
 
 -- Contracts that are offered were sold by lines from the book on that the commands of a ledger led to; or one of these
 -- was refused, which is told, and nothing was written. Memory may run out.
-abbrev pub IsSoldBehind : Result Book (ℕ × BrokerRefusal) → List Contract → List (List ℕ) → Result Conclusion PumpFault
+abbrev pub IsSoldBehind : Bool → Result Book (ℕ × BrokerRefusal) → List Contract → List (List ℕ) → Result Conclusion PumpFault
     → List ℕ → List ℕ → Type 0
-IsSoldBehind (Ok b) offered lines outcome before after =
-    IsKeptServed (reply_of (drive_from offered b 1 lines)) outcome before after
-IsSoldBehind (Err refused) offered lines outcome before after =
+IsSoldBehind in_json (Ok b) offered lines outcome before after =
+    IsKeptServed (reply_of (drive_from in_json offered b 1 lines)) outcome before after
+IsSoldBehind in_json (Err refused) offered lines outcome before after =
     (after ≡ before) × ((outcome ≡ Err pump_faults.NoMemory)
     ⊎ (outcome ≡ Ok (Unkept (books.Command (record { serial = refused.0; refusal = refused.1 })))))
 
 -- a book of a domain went on from a history that a ledger keeps which stands so
-pub record IsSoldOn (stands : List Command → Type 0) (limits : Limits) (parsed : Domain × List Contract)
+pub record IsSoldOn (stands : Result (List Command) LedgerFault → Type 0) (in_json : Bool) (limits : Limits) (parsed : Domain × List Contract)
     (lines : List (List ℕ)) (outcome : Result Conclusion PumpFault) (before after : List ℕ) : Type 0 where
   pub history : List Command
-  pub stood : stands history
-  pub sold : IsSoldBehind (replay (opening_book parsed.0 limits) history) parsed.1 lines outcome before after
+  pub stood : stands (Ok history)
+  pub sold : IsSoldBehind in_json (replay (opening_book parsed.0 limits) history) parsed.1 lines outcome before after
 
--- a ledger could not be opened, which is told, and nothing was written
-abbrev pub IsUnshelved : Result Conclusion PumpFault → List ℕ → List ℕ → Type 0
-IsUnshelved outcome before after = (fault : LedgerFault) × (outcome ≡ unkept_as fault) × (after ≡ before)
+-- a ledger could not be had, and nothing was written: why not is told; or memory ran out
+abbrev pub IsUnshelved : (Result (List Command) LedgerFault → Type 0) → Result Conclusion PumpFault → List ℕ → List ℕ → Type 0
+IsUnshelved stands outcome before after =
+    (after ≡ before)
+    × ((outcome ≡ Err pump_faults.NoMemory) ⊎ ((fault : LedgerFault) × stands (Err fault) × (outcome ≡ unkept_as fault)))
 
-abbrev pub IsSoldFrom : (List Command → Type 0) → Limits → Result (Domain × List Contract) DomainFault
+abbrev pub IsSoldFrom : (Result (List Command) LedgerFault → Type 0) → Bool → Limits → Result (Domain × List Contract) DomainFault
     → List (List ℕ) → Result Conclusion PumpFault → List ℕ → List ℕ → Type 0
-IsSoldFrom stands limits (Ok parsed) lines outcome before after =
-    IsUnshelved outcome before after ⊎ IsSoldOn stands limits parsed lines outcome before after
-IsSoldFrom stands limits (Err fault) lines outcome before after =
+IsSoldFrom stands in_json limits (Ok parsed) lines outcome before after =
+    IsUnshelved stands outcome before after ⊎ IsSoldOn stands in_json limits parsed lines outcome before after
+IsSoldFrom stands in_json limits (Err fault) lines outcome before after =
     IsServed (record { text = []; conclusion = Unsound fault }) outcome before after
 
 -- Contracts were sold: from the first command on, or where a file keeps the book, from those on that it keeps, as files
 -- stand by their names.
-abbrev pub IsSold : (List ℕ → List Command → Type 0) → Option (List ℕ) → Limits
+abbrev pub IsSold : (List ℕ → Result (List Command) LedgerFault → Type 0) → Option (List ℕ) → Bool → Limits
     → Result (Domain × List Contract) DomainFault → List (List ℕ) → Outcome → List ℕ → List ℕ → Type 0
-IsSold stands None limits found lines outcome before after =
-    IsReplied (reply_sold limits found lines) outcome before after
-IsSold stands (Some name) limits found lines (Answered outcome) before after =
-    IsSoldFrom (stands name) limits found lines outcome before after
-IsSold stands (Some name) limits found lines Unnamed before after = ⊥
-IsSold stands (Some name) limits found lines Misused before after = ⊥
-IsSold stands (Some name) limits found lines (Marked report fault line) before after = ⊥
-IsSold stands (Some name) limits found lines Portless before after = ⊥
-IsSold stands (Some name) limits found lines (ToldTo fault) before after = ⊥
+IsSold stands None in_json limits found lines outcome before after =
+    IsReplied (reply_sold in_json limits found lines) outcome before after
+IsSold stands (Some name) in_json limits found lines (Answered outcome) before after =
+    IsSoldFrom (stands name) in_json limits found lines outcome before after
+IsSold stands (Some name) in_json limits found lines Unnamed before after = ⊥
+IsSold stands (Some name) in_json limits found lines Misused before after = ⊥
+IsSold stands (Some name) in_json limits found lines (Marked report fault line) before after = ⊥
+IsSold stands (Some name) in_json limits found lines Portless before after = ⊥
+IsSold stands (Some name) in_json limits found lines (ToldTo fault) before after = ⊥
 
 -- how what a book holds is told, by whether that is asked for as a domain text
 abbrev pub form_said : Bool → HeldForm
@@ -149,7 +152,7 @@ form_said false = forms.List
 form_said true = forms.Domain
 
 -- what a book holds was told, and no capture was marked
-abbrev pub IsHeld : (List Command → Type 0) → Result Domain DomainFault → HeldForm → Outcome → List ℕ → List ℕ → Type 0
+abbrev pub IsHeld : (Result (List Command) LedgerFault → Type 0) → Result Domain DomainFault → HeldForm → Outcome → List ℕ → List ℕ → Type 0
 IsHeld stands found form (Answered outcome) before after = IsBookTold stands found form outcome before after
 IsHeld stands found form Unnamed before after = ⊥
 IsHeld stands found form Misused before after = ⊥
@@ -157,17 +160,17 @@ IsHeld stands found form (Marked report fault line) before after = ⊥
 IsHeld stands found form Portless before after = ⊥
 IsHeld stands found form (ToldTo fault) before after = ⊥
 
--- a capture was marked at this port of a table, if that is accepted, by one worker or by several, and the verdict is told
--- or not
-abbrev pub IsMarkedAt : Bool → Bool → Result Table TableFault → List ℕ → RedRule → List ℕ → List ℕ → Outcome → List ℕ
+-- a capture was marked at this port of a table, if that is accepted, by one worker or by several, and the report is told
+-- by an object, or by lines, with the verdict or without
+abbrev pub IsMarkedAt : Bool → Bool → Bool → Result Table TableFault → List ℕ → RedRule → List ℕ → List ℕ → Outcome → List ℕ
     → List ℕ → Type 0
-IsMarkedAt has_verdict sole found port red bytes more (Answered outcome) before after = IsUnmarked found outcome before after
-IsMarkedAt has_verdict sole found port red bytes more Unnamed before after = ⊥
-IsMarkedAt has_verdict sole found port red bytes more Misused before after = ⊥
-IsMarkedAt has_verdict sole found port red bytes more (Marked report fault line) before after =
-    IsMarkedOver sole found port red bytes more report fault before after × (line ≡ judged report.verdict has_verdict found)
-IsMarkedAt has_verdict sole found port red bytes more Portless before after = ⊥
-IsMarkedAt has_verdict sole found port red bytes more (ToldTo fault) before after = ⊥
+IsMarkedAt in_json has_verdict sole found port red bytes more (Answered outcome) before after = IsUnmarked found outcome before after
+IsMarkedAt in_json has_verdict sole found port red bytes more Unnamed before after = ⊥
+IsMarkedAt in_json has_verdict sole found port red bytes more Misused before after = ⊥
+IsMarkedAt in_json has_verdict sole found port red bytes more (Marked report fault told) before after =
+    IsMarkedOver sole found port red bytes more report fault before after × IsReportFor in_json has_verdict found report told
+IsMarkedAt in_json has_verdict sole found port red bytes more Portless before after = ⊥
+IsMarkedAt in_json has_verdict sole found port red bytes more (ToldTo fault) before after = ⊥
 
 -- a quote was answered, or the fault of the domain's text ended it before anything was written; for another fault memory
 -- ran out before it was found
@@ -189,33 +192,34 @@ IsQuoted found (ToldTo fault) before after = ⊥
 
 -- What a plan asks for was written, for the texts of its files and the bytes that the input had, of which it still has
 -- more.
-abbrev pub IsAnswered : (List ℕ → List Command → Type 0) → Plan → List (List ℕ) → List ℕ → List ℕ → Outcome → List ℕ → List ℕ → Type 0
+abbrev pub IsAnswered : (List ℕ → Result (List Command) LedgerFault → Type 0) → Plan → List (List ℕ) → List ℕ → List ℕ → Outcome
+    → List ℕ → List ℕ → Type 0
 IsAnswered stands (Show text) texts bytes more outcome before after =
     IsReplied (whole_text (string_bytes text)) outcome before after
-IsAnswered stands (Meter meter has_levels) texts bytes more outcome before after =
-    IsReplied (reply_of (answer_of (fresh_meter meter has_levels) 1 (lines_of bytes))) outcome before after
-IsAnswered stands (Envelope rate burst) texts bytes more outcome before after =
-    IsReplied (reply_of (verdict_on (envelope_for rate burst) (lines_of bytes))) outcome before after
-IsAnswered stands (Certify domain) texts bytes more outcome before after =
-    IsReplied (reply_by (certified (first_text texts))) outcome before after
-IsAnswered stands (Check domain certificate) texts bytes more outcome before after =
-    IsReplied (reply_on (accepted_in (first_text texts) (second_text texts))) outcome before after
-IsAnswered stands (Headroom domain) texts bytes more outcome before after =
-    IsReplied (reply_told (headroom_in (first_text texts))) outcome before after
+IsAnswered stands (Meter meter has_levels in_json) texts bytes more outcome before after =
+    IsReplied (reply_of (answer_of (fresh_meter meter has_levels in_json) 1 (lines_of bytes))) outcome before after
+IsAnswered stands (Envelope rate burst in_json) texts bytes more outcome before after =
+    IsReplied (reply_of (verdict_on (envelope_for rate burst) in_json (lines_of bytes))) outcome before after
+IsAnswered stands (Certify domain in_json) texts bytes more outcome before after =
+    IsReplied (reply_certified in_json (first_text texts)) outcome before after
+IsAnswered stands (Check domain certificate in_json) texts bytes more outcome before after =
+    IsReplied (reply_checked in_json (first_text texts) (second_text texts)) outcome before after
+IsAnswered stands (Headroom domain in_json) texts bytes more outcome before after =
+    IsReplied (reply_headed in_json (first_text texts)) outcome before after
 IsAnswered stands (Draw domain) texts bytes more outcome before after =
     IsReplied (reply_by (drawn_in (first_text texts))) outcome before after
-IsAnswered stands (Quote domain contract asked) texts bytes more outcome before after =
-    IsQuoted (quote_in (first_text texts) contract asked) outcome before after
+IsAnswered stands (Quote domain contract asked in_json) texts bytes more outcome before after =
+    IsQuoted (quote_said in_json (quote_in (first_text texts) contract asked)) outcome before after
 IsAnswered stands (Export domain meter device) texts bytes more outcome before after =
     IsQuoted (export_in (first_text texts) meter device) outcome before after
-IsAnswered stands (Audit domain certificate) texts bytes more outcome before after =
-    IsReplied (reply_over (accepted_in (first_text texts) (second_text texts)) (lines_of bytes)) outcome before after
-IsAnswered stands (Drive domain limits book) texts bytes more outcome before after =
-    IsSold stands book limits (parse_of (first_text texts)) (lines_of bytes) outcome before after
+IsAnswered stands (Audit domain certificate in_json) texts bytes more outcome before after =
+    IsReplied (reply_over in_json (accepted_in (first_text texts) (second_text texts)) (lines_of bytes)) outcome before after
+IsAnswered stands (Drive domain limits book in_json) texts bytes more outcome before after =
+    IsSold stands book in_json limits (parse_of (first_text texts)) (lines_of bytes) outcome before after
 IsAnswered stands (BookPlan domain book to_domain) texts bytes more outcome before after =
     IsHeld (stands book) (domain_in (parse_of (first_text texts))) (form_said to_domain) outcome before after
-IsAnswered stands (Mark domain certificate port workers keeps_red has_verdict) texts bytes more outcome before after =
-    IsMarkedAt has_verdict (is_sole workers) (accepted_in (first_text texts) (second_text texts)) port
+IsAnswered stands (Mark domain certificate port workers keeps_red has_verdict in_json) texts bytes more outcome before after =
+    IsMarkedAt in_json has_verdict (is_sole workers) (accepted_in (first_text texts) (second_text texts)) port
     (rule_said keeps_red) bytes more outcome before after
 IsAnswered stands (Arrivals place has_colours) texts bytes more outcome before after =
     AreToldFor place has_colours (first_text texts) bytes more outcome before after
@@ -229,9 +233,11 @@ IsSettled known outcome = (outcome ≡ known) ⊎ (outcome ≡ Answered (Err pum
 abbrev pub IsRefusedBefore : Result Table TableFault → Outcome → Type 0
 IsRefusedBefore found outcome = IfErr found (λ fault. IsSettled (Answered (refusal_outcome fault)) outcome)
 
-abbrev pub IsPortlessBefore : Result Table TableFault → List ℕ → Outcome → Type 0
-IsPortlessBefore found port outcome = IfOk found
-    (λ t. is_port t.domain port ≡ false → IsSettled (Marked nothing_read (Some marks.UnknownPort) None) outcome)
+abbrev pub IsPortlessBefore : Bool → Bool → Result Table TableFault → List ℕ → Outcome → Type 0
+IsPortlessBefore in_json has_verdict found port outcome = IfOk found
+    (λ t. is_port t.domain port ≡ false → (told : ReportText)
+    × IsReportFor in_json has_verdict (Ok t) nothing_read told
+    × IsSettled (Marked nothing_read (Some marks.UnknownPort) told) outcome)
 
 -- Where a domain's text has a fault, the outcome is settled whatever the devices do.
 abbrev pub IsUnsoundBefore : Result (Domain × List Contract) DomainFault → Outcome → Type 0
@@ -244,21 +250,21 @@ IsRefusedAhead refusal outcome = IfSome refusal (λ fault. IsSettled (outcome_of
 -- what is settled of a plan's outcome, for the texts of its files
 abbrev pub IsForeseen : Plan → List (List ℕ) → Outcome → Type 0
 IsForeseen (Show text) texts outcome = ⊤
-IsForeseen (Meter meter has_levels) texts outcome = ⊤
-IsForeseen (Envelope rate burst) texts outcome = ⊤
-IsForeseen (Certify domain) texts outcome = ⊤
-IsForeseen (Check domain certificate) texts outcome = ⊤
-IsForeseen (Headroom domain) texts outcome = ⊤
+IsForeseen (Meter meter has_levels in_json) texts outcome = ⊤
+IsForeseen (Envelope rate burst in_json) texts outcome = ⊤
+IsForeseen (Certify domain in_json) texts outcome = ⊤
+IsForeseen (Check domain certificate in_json) texts outcome = ⊤
+IsForeseen (Headroom domain in_json) texts outcome = ⊤
 IsForeseen (Draw domain) texts outcome = ⊤
-IsForeseen (Quote domain contract asked) texts outcome = ⊤
+IsForeseen (Quote domain contract asked in_json) texts outcome = ⊤
 IsForeseen (Export domain meter device) texts outcome = ⊤
-IsForeseen (Audit domain certificate) texts outcome =
+IsForeseen (Audit domain certificate in_json) texts outcome =
     IsRefusedBefore (accepted_in (first_text texts) (second_text texts)) outcome
-IsForeseen (Drive domain limits book) texts outcome = IsUnsoundBefore (parse_of (first_text texts)) outcome
+IsForeseen (Drive domain limits book in_json) texts outcome = IsUnsoundBefore (parse_of (first_text texts)) outcome
 IsForeseen (BookPlan domain book to_domain) texts outcome = IsUnsoundBefore (parse_of (first_text texts)) outcome
-IsForeseen (Mark domain certificate port workers keeps_red has_verdict) texts outcome =
+IsForeseen (Mark domain certificate port workers keeps_red has_verdict in_json) texts outcome =
     IsRefusedBefore (accepted_in (first_text texts) (second_text texts)) outcome
-    × IsPortlessBefore (accepted_in (first_text texts) (second_text texts)) port outcome
+    × IsPortlessBefore in_json has_verdict (accepted_in (first_text texts) (second_text texts)) port outcome
 IsForeseen (Arrivals place has_colours) texts outcome = IsRefusedAhead (refusal_for place has_colours (first_text texts)) outcome
 
 -- whether the output could not be written
@@ -302,11 +308,11 @@ status_after names (Marked report fault line) = marking_status fault names.port
 status_after names Portless = status_of (faults.Port names.port)
 status_after names (ToldTo fault) = telling_status fault
 
--- what is told of it on standard error
-abbrev pub told_after : Names → Outcome → List ℕ
-told_after names (Answered outcome) = told_of outcome
-told_after names Unnamed = fault_text (faults.Contract names.contract)
-told_after names Misused = fault_text faults.Usage
-told_after names (Marked report fault line) = marking_told report line fault names.port
-told_after names Portless = fault_text (faults.Port names.port)
-told_after names (ToldTo fault) = telling_told fault
+-- a text tells that on standard error, by lines or by objects
+abbrev pub IsToldAfter : Bool → Names → Outcome → List ℕ → Type 0
+IsToldAfter in_json names (Answered outcome) text = IsOutcomeTold in_json outcome text
+IsToldAfter in_json names Unnamed text = IsFaultTold in_json (faults.Contract names.contract) text
+IsToldAfter in_json names Misused text = IsFaultTold in_json faults.Usage text
+IsToldAfter in_json names (Marked report fault told) text = IsMarkingTold report told fault names.port text
+IsToldAfter in_json names Portless text = IsFaultTold in_json (faults.Port names.port) text
+IsToldAfter in_json names (ToldTo fault) text = IsTellingTold in_json fault text

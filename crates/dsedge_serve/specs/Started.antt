@@ -1,10 +1,12 @@
 -- How the program starts: the words of its command, its input, and what becomes of them.
-use Rattle.std.specs.Prelude.{◌≡◌, ℕ, ◌<◌, ◌≤◌, ◌⊎◌, Bool, true, false, List, [], ◌∷◌, length, Option, Ok, Err, Contains, IsUtf8}
+use Rattle.std.specs.Prelude.{◌≡◌, ℕ, ◌<◌, ◌≤◌, ◌⊎◌, Bool, true, false, List, [], ◌∷◌, length, Option, Result, Ok, Err, Contains, IsUtf8, bytes_eq, codes}
+use Rattle.std.specs.List.{list_any}
 use Rattle.std.specs.declared.io.ErrorKind.{ErrorKind}
 use Rattle.std.specs.declared.io.ErrorKind.TheVariants.{OutOfMemory}
 use Rattle.line_text.specs.Lines.{fields_of}
 use Rattle.ds_broker.specs.declared.command.Command.{Command}
-use Rattle.dsedge_base.specs.Files.{files_of, names_of}
+use Rattle.ds_ledger_base.specs.declared.fault.LedgerFault.{LedgerFault}
+use Rattle.dsedge_base.specs.Files.{files_of, in_json_of, names_of}
 use Rattle.dsedge_base.specs.Plans.{IsPlanOf, IsRefusalOf}
 use Rattle.dsedge_base.specs.declared.fault.UsageFault.{UsageFault}
 use Rattle.dsedge_base.specs.declared.fault.UsageFault.TheVariants as usage_faults
@@ -19,8 +21,9 @@ use Rattle.dsedge_faults.specs.declared.fault.Fault.TheVariants.{File, Memory, R
 use Rattle.dsedge_serve.specs.declared.outcome.Outcome.{Outcome}
 use Rattle.dsedge_faults.specs.Advised.{advice_on}
 use Rattle.dsedge_serve.specs.Advised.{advice_after}
-use Rattle.dsedge_faults.specs.Faults.{fault_text, status_of}
-use Rattle.dsedge_serve.specs.Served.{IsAnswered, IsForeseen, is_broken_off as is_outcome_broken_off, is_input_fault, is_misused, is_output_fault, status_after, told_after}
+use Rattle.dsedge_faults.specs.Faults.{status_of}
+use Rattle.dsedge_json_faults.specs.FaultObjects.{IsFaultTold, advice_as}
+use Rattle.dsedge_serve.specs.Served.{IsAnswered, IsForeseen, IsToldAfter, is_broken_off as is_outcome_broken_off, is_input_fault, is_misused, is_output_fault, status_after}
 
 -- the words of a command: those given, or where there are none, those of the first line of the input
 abbrev pub words_from : List (List ℕ) → List ℕ → List (List ℕ)
@@ -85,10 +88,15 @@ IsRefused words Usage = IsRefusalOf words usage_faults.Usage
 IsRefused words Memory = Unit {0}
 IsRefused words _ = ⊥
 
--- Why there is no plan: there are no words, or those that there are have none.
-abbrev pub IsRefusalFrom : List (List ℕ) → List ℕ → Fault → Type 0
-IsRefusalFrom given bytes fault =
-    IsWordless given bytes fault ⊎ (HasWords given bytes × IsRefused (words_from given bytes) fault)
+-- whether objects are asked for by words, whatever else they ask for
+abbrev pub asks_json : List (List ℕ) → Bool
+asks_json words = list_any (λ word. bytes_eq word (codes "--json")) words
+
+-- Why there is no plan, and whether that is told by an object: there are no words, or those that there are have none.
+abbrev pub IsRefusalFrom : List (List ℕ) → List ℕ → Bool → Fault → Type 0
+IsRefusalFrom given bytes in_json fault =
+    ((in_json ≡ false) × IsWordless given bytes fault) ⊎ (HasWords given bytes
+    × (in_json ≡ asks_json (words_from given bytes)) × IsRefused (words_from given bytes) fault)
 
 -- whether a fault says that the input could not be read
 abbrev pub is_read : Fault → Bool
@@ -102,53 +110,53 @@ IsUnreadable tells holds names (File name reason) = Contains names name × (tell
 IsUnreadable tells holds names Memory = Unit {0}
 IsUnreadable tells holds names _ = ⊥
 
--- how a start went: refused with a fault before anything was read but the words, or a plan with a fault of its files,
--- or a plan was served with the texts of its files, with an outcome
+-- how a start went: refused with a fault before anything was read but the words, which is told by an object or not, or a
+-- plan with a fault of its files, or a plan was served with the texts of its files, with an outcome
 pub data Course : Type 0 where
-  Refused : Fault → Course
+  Refused : Bool → Fault → Course
   Unread : Plan → Fault → Course
   Served : Plan → List (List ℕ) → Outcome → Course
 
 -- the exit status of a start
 abbrev pub status_in : Course → ℕ
-status_in (Refused fault) = status_of fault
+status_in (Refused in_json fault) = status_of fault
 status_in (Unread plan fault) = status_of fault
 status_in (Served plan texts outcome) = status_after (names_of plan) outcome
 
 -- what there is to say behind what is told of a start
 abbrev pub advice_in : Course → Option Advice
-advice_in (Refused fault) = advice_on fault
-advice_in (Unread plan fault) = advice_on fault
-advice_in (Served plan texts outcome) = advice_after (names_of plan) outcome
+advice_in (Refused in_json fault) = advice_as in_json (advice_on fault)
+advice_in (Unread plan fault) = advice_as (in_json_of plan) (advice_on fault)
+advice_in (Served plan texts outcome) = advice_after (in_json_of plan) (names_of plan) outcome
 
--- what is told of a start on standard error
-abbrev pub told_in : Course → List ℕ
-told_in (Refused fault) = fault_text fault
-told_in (Unread plan fault) = fault_text fault
-told_in (Served plan texts outcome) = told_after (names_of plan) outcome
+-- a text tells a start on standard error
+abbrev pub IsToldIn : Course → List ℕ → Type 0
+IsToldIn (Refused in_json fault) text = IsFaultTold in_json fault text
+IsToldIn (Unread plan fault) text = IsFaultTold (in_json_of plan) fault text
+IsToldIn (Served plan texts outcome) text = IsToldAfter (in_json_of plan) (names_of plan) outcome text
 
 -- A plan is served, or its files refuse it.
 abbrev pub IsCourseWith : Plan → Course → Type 0
-IsCourseWith given (Refused fault) = ⊥
+IsCourseWith given (Refused in_json fault) = ⊥
 IsCourseWith given (Unread plan fault) = plan ≡ given
 IsCourseWith given (Served plan texts outcome) = plan ≡ given
 
 -- A plan is what the words ask for, and a refusal why they ask for nothing.
 abbrev pub IsCourseOn : List (List ℕ) → Course → Type 0
-IsCourseOn words (Refused fault) = IsRefused words fault
+IsCourseOn words (Refused in_json fault) = (in_json ≡ asks_json words) × IsRefused words fault
 IsCourseOn words (Unread plan fault) = IsPlanOf words plan
 IsCourseOn words (Served plan texts outcome) = IsPlanOf words plan
 
 -- A start goes as the words and the input have it.
 abbrev pub IsCourseFrom : List (List ℕ) → List ℕ → Course → Type 0
-IsCourseFrom given bytes (Refused fault) = IsRefusalFrom given bytes fault
+IsCourseFrom given bytes (Refused in_json fault) = IsRefusalFrom given bytes in_json fault
 IsCourseFrom given bytes (Unread plan fault) = IsPlanFrom given bytes plan
 IsCourseFrom given bytes (Served plan texts outcome) = IsPlanFrom given bytes plan
 
 -- A plan is served with the texts of its files, as many as it names, and with no others where the files tell what they
 -- hold. What its files settle of its outcome is so whatever the devices do.
 abbrev pub IsCourseOf : Type 0 → (List ℕ → Option (List ℕ)) → Course → Type 0
-IsCourseOf tells holds (Refused fault) = Unit {0}
+IsCourseOf tells holds (Refused in_json fault) = Unit {0}
 IsCourseOf tells holds (Unread plan fault) = IsUnreadable tells holds (files_of plan) fault
 IsCourseOf tells holds (Served plan texts outcome) =
     (length texts ≡ length (files_of plan))
@@ -157,8 +165,8 @@ IsCourseOf tells holds (Served plan texts outcome) =
 
 -- What was written, where the devices tell their bytes: the answer to the input, which still has more, or a front of
 -- it; a refusal writes nothing, and so does a field that its contract has not.
-abbrev pub IsWritten : (List ℕ → List Command → Type 0) → Course → Type 0 → List ℕ → List ℕ → List ℕ → List ℕ → Type 0
-IsWritten stands (Refused fault) tells input more before after = after ≡ before
+abbrev pub IsWritten : (List ℕ → Result (List Command) LedgerFault → Type 0) → Course → Type 0 → List ℕ → List ℕ → List ℕ → List ℕ → Type 0
+IsWritten stands (Refused in_json fault) tells input more before after = after ≡ before
 IsWritten stands (Unread plan fault) tells input more before after = after ≡ before
 IsWritten stands (Served plan texts outcome) tells input more before after =
     (tells → IsAnswered stands plan texts input more outcome before after)
@@ -171,7 +179,7 @@ is_unwritten _ = false
 
 -- whether it went so that the input could not be read
 abbrev pub is_unread : Course → Bool
-is_unread (Refused fault) = is_read fault
+is_unread (Refused in_json fault) = is_read fault
 is_unread (Unread plan fault) = false
 is_unread (Served plan texts outcome) = is_input_fault outcome
 

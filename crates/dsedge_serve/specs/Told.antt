@@ -9,7 +9,8 @@ use Rattle.dsedge_arrivals.specs.declared.asking.ArrivalsFault.{ArrivalsFault}
 use Rattle.dsedge_arrivals.specs.declared.asking.ArrivalsFault.TheVariants as arrivals
 use Rattle.dsedge_base.specs.declared.work.GivenPort.{GivenPort}
 use Rattle.dsedge_faults.specs.Advised.{advice_on}
-use Rattle.dsedge_faults.specs.Faults.{fault_text, status_of}
+use Rattle.dsedge_faults.specs.Faults.{status_of}
+use Rattle.dsedge_json_faults.specs.FaultObjects.{IsFaultTold}
 use Rattle.dsedge_faults.specs.declared.advice.Advice.{Advice}
 use Rattle.dsedge_lines.specs.declared.fault.PumpFault.TheVariants as pump_faults
 use Rattle.dsedge_serve.specs.Marked.{capture_fault}
@@ -27,10 +28,10 @@ abbrev pub telling_status : Option PcapFault → ℕ
 telling_status None = 0
 telling_status (Some fault) = status_of (capture_fault fault)
 
--- what is told of it on standard error
-abbrev pub telling_told : Option PcapFault → List ℕ
-telling_told None = []
-telling_told (Some fault) = fault_text (capture_fault fault)
+-- a text tells that on standard error
+abbrev pub IsTellingTold : Bool → Option PcapFault → List ℕ → Type 0
+IsTellingTold in_json None text = text ≡ []
+IsTellingTold in_json (Some fault) text = IsFaultTold in_json (capture_fault fault) text
 
 abbrev pub telling_advice : Option PcapFault → Option Advice
 telling_advice None = None

@@ -5,8 +5,7 @@ ghost use Rattle.dsedge_serve.specs.Served.{IsQuoted, is_broken_off, is_input_fa
 ghost use Rattle.dsedge_serve.specs.Served.{is_output_fault};
 
 use crate::outcome::Outcome;
-use crate::quoting::ending_of;
-use dsedge_answers::{Conclusion, answer_text};
+use dsedge_answers::{Conclusion, answer_text, ending_of};
 use dsedge_export::{Device, export};
 use dsedge_lines::PumpFault;
 use dsedge_texts::QuoteFault;

@@ -6,7 +6,6 @@ mod exporting;
 mod marking;
 mod outcome;
 mod quoting;
-mod report;
 mod running;
 mod selling;
 mod serving;
@@ -16,8 +15,8 @@ mod terminal;
 
 pub use dsedge_answers::Conclusion;
 pub use dsedge_faults::{Advice, Fault};
-pub use ended::Ended;
-pub use outcome::Outcome;
+pub use ended::{Ended, Served, Started};
+pub use outcome::{Outcome, ReportText};
 pub use running::run;
 pub use serving::serve;
 pub use starting::{refuse, start};

@@ -1,10 +1,12 @@
-ghost use Rattle.std.specs.Prelude.{◌≡◌, ◌≤◌, ◌++◌, false, true, None, Some, Ok, [], unwrap_or, IfSome, MatchResult, is_ok, if◌then◌else◌};
+ghost use Rattle.std.specs.Prelude.{◌≡◌, ◌≤◌, ◌++◌, List, ℕ, false, true, None, Some, Ok, [], option_map, unwrap_or, IfSome, MatchResult, is_ok, if◌then◌else◌};
 ghost use Rattle.ds_conditioner.specs.Reports.{nothing_read};
 ghost use Rattle.ds_domain_base.specs.Domains.{is_port};
 ghost use Rattle.pcap_capture.specs.Fronts.{IsFrontOf};
 ghost use Rattle.dsedge_serve.specs.Advised.{marking_advice};
+ghost use Rattle.dsedge_serve.specs.Marked.{IsMarkFaultTold, IsMarkingTold, IsObjectText, IsObjectsText, IsReportFor};
 ghost use Rattle.dsedge_serve.specs.Marked.{judged, judged_text};
 ghost use Rattle.dsedge_serve.specs.Marked.{capture_fault, is_sole, marking_fault, marking_fault_text, marking_status};
+ghost use Rattle.dsedge_serve.specs.declared.outcome.ReportText.{ReportText};
 ghost use Rattle.dsedge_serve.specs.Marked.{marking_told};
 ghost use Rattle.dsedge_answers.specs.Replies.{IsOfWrites};
 ghost use Rattle.dsedge_serve.specs.Served.{IsMarkedAt, IsPortlessBefore, IsRefusedBefore};
@@ -12,14 +14,15 @@ ghost use Rattle.dsedge_serve.specs.Served.{is_broken_off, is_input_fault, is_mi
 ghost use Rattle.dsedge_texts.specs.Accepted.{accepted_in};
 ghost use Rattle.pcap_capture.specs.Counts.{IsOfReads, next_count};
 
-use crate::outcome::Outcome;
-use crate::report::tell_report;
+use crate::outcome::{Outcome, ReportText};
 use ds_checker::Accepted;
 use ds_conductor::{MarkFault, OpenGate, RedRule, Report, mark_by};
 use dsedge_answers::refusal_outcome;
 use dsedge_audit::VerdictLine;
 use dsedge_faults::{Advice, Fault};
+use dsedge_json_faults::tell_object;
 use dsedge_lines::GivenName;
+use dsedge_report::{report_object, tell_report};
 use dsedge_texts::accept;
 use pcap_capture::{DeviceFault, Intake, Outlet, PcapFault, VecOutlet, give_all};
 use run_audit::Verdict;
@@ -39,8 +42,10 @@ pub(crate) struct Marking<'a> {
     pub(crate) workers: Option<u32>,
     /// What is done with red frames.
     pub(crate) red: RedRule,
-    /// Whether the verdict is told.
+    /// Whether the verdict is told by a line.
     pub(crate) has_verdict: bool,
+    /// Whether the report is told by an object, with the verdict.
+    pub(crate) in_json: bool,
 }
 
 /// Answers with the capture of the input, marked at a port of the table that two texts say.
@@ -54,11 +59,12 @@ pub(crate) fn answer_mark<R: Threads + Wait + Sync, I: Intake, O: Outlet>(
     output: &mut O,
 ) -> Outcome
     ensures served { I.tells intake.old → O.tells output.old →
-        IsMarkedAt marking.now.has_verdict (is_sole marking.now.workers) (accepted_in domain.now certificate.now)
-        marking.now.port.now marking.now.red (I.left intake.old) (I.left intake.new) result (O.held output.old)
+        IsMarkedAt marking.now.in_json marking.now.has_verdict (is_sole marking.now.workers)
+        (accepted_in domain.now certificate.now) marking.now.port.now marking.now.red (I.left intake.old) (I.left intake.new) result (O.held output.old)
         (O.held output.new) }
     ensures refused { IsRefusedBefore (accepted_in domain.now certificate.now) result }
-    ensures unknown { IsPortlessBefore (accepted_in domain.now certificate.now) marking.now.port.now result }
+    ensures unknown { IsPortlessBefore marking.now.in_json marking.now.has_verdict
+        (accepted_in domain.now certificate.now) marking.now.port.now result }
     ensures writes { IsOfWrites (is_output_fault result) (O.failed output.old) (O.failed output.new) }
     ensures reads { is_broken_off result ≡ false
         → IsOfReads (is_input_fault result) (I.failed intake.old) (I.failed intake.new) (I.calls intake.new) }
@@ -80,10 +86,11 @@ fn mark_over<R: Threads + Wait + Sync, I: Intake, O: Outlet>(
     output: &mut O,
 ) -> Outcome
     ensures served { I.tells intake.old → O.tells output.old →
-        IsMarkedAt marking.now.has_verdict (is_sole marking.now.workers) (Ok accepted.now) marking.now.port.now
-        marking.now.red (I.left intake.old) (I.left intake.new) result (O.held output.old) (O.held output.new) }
+        IsMarkedAt marking.now.in_json marking.now.has_verdict (is_sole marking.now.workers) (Ok accepted.now)
+        marking.now.port.now marking.now.red (I.left intake.old) (I.left intake.new) result (O.held output.old) (O.held output.new) }
     ensures unknown { is_port accepted.now.domain marking.now.port.now ≡ false
-        → result ≡ Outcome.Marked nothing_read (Some MarkFault.UnknownPort) None }
+        → (told : ReportText) × IsReportFor marking.now.in_json marking.now.has_verdict (Ok accepted.now) nothing_read told
+        × (result ≡ Outcome.Marked nothing_read (Some MarkFault.UnknownPort) told) }
     ensures writes { IsOfWrites (is_output_fault result) (O.failed output.old) (O.failed output.new) }
     ensures reads { is_broken_off result ≡ false
         → IsOfReads (is_input_fault result) (I.failed intake.old) (I.failed intake.new) (I.calls intake.new) }
@@ -102,13 +109,32 @@ fn mark_over<R: Threads + Wait + Sync, I: Intake, O: Outlet>(
         &OpenGate,
     ) {
         Ok(report) => {
-            let line = judged(accepted, report.verdict, marking.has_verdict);
-            Outcome::Marked(report, None, line)
+            let told = report_text(alloc, accepted, &report, marking);
+            Outcome::Marked(report, None, told)
         }
         Err((report, fault)) => {
-            let line = judged(accepted, report.verdict, marking.has_verdict);
-            Outcome::Marked(report, Some(fault), line)
+            let told = report_text(alloc, accepted, &report, marking);
+            Outcome::Marked(report, Some(fault), told)
         }
+    }
+}
+
+/// How the report of a marking over an accepted table is told.
+fn report_text(
+    alloc: Global,
+    accepted: &Accepted,
+    report: &Report,
+    marking: &Marking<'_>,
+) -> ReportText
+    ensures { IsReportFor marking.now.in_json marking.now.has_verdict (Ok accepted.now) report.now result }
+{
+    if marking.in_json {
+        match report_object(alloc, accepted, report) {
+            Ok(line) => ReportText::Object(Some(line)),
+            Err(_) => ReportText::Object(None),
+        }
+    } else {
+        ReportText::Lines(judged(accepted, report.verdict, marking.has_verdict))
     }
 }
 
@@ -188,9 +214,89 @@ pub(crate) fn marking_advice(fault: Option<MarkFault>, port: &str) -> Option<Adv
     }
 }
 
-/// Tells the report of a marking, the line of its verdict, if there is one, and behind them the fault, if any, in one piece;
-/// or part by part, where there is no memory to put it together.
+/// Tells the report of a marking, and behind it the fault, if any.
 pub(crate) fn tell_marking<F: Outlet>(
+    alloc: Global,
+    report: &Report,
+    told: &ReportText,
+    fault: Option<MarkFault>,
+    port: &str,
+    faults: &mut F,
+) -> Result<(), DeviceFault>
+    ensures told { F.tells faults.old → F.tells faults.new }
+    ensures line { F.tells faults.old → (text : List ℕ) × IsMarkingTold report.now told.now fault port.now text
+        × MatchResult result (λ _. F.held faults.new ≡ F.held faults.old ++ text)
+        (λ _. IsFrontOf (F.held faults.old) text (F.held faults.new)) }
+    ensures failures { F.failed faults.new
+        ≡ (if is_ok result then F.failed faults.old else next_count (F.failed faults.old)) }
+{
+    match told {
+        ReportText::Lines(line) => tell_lines(alloc, report, line, fault, port, faults),
+        ReportText::Object(line) => tell_objects(alloc, line, fault, port, faults),
+    }
+}
+
+/// Tells the object of a report, and behind it that of the fault of its marking, if any.
+fn tell_objects<F: Outlet>(
+    alloc: Global,
+    line: &Option<Vec<u8>>,
+    fault: Option<MarkFault>,
+    port: &str,
+    faults: &mut F,
+) -> Result<(), DeviceFault>
+    ensures told { F.tells faults.old → F.tells faults.new }
+    ensures line { F.tells faults.old → (text : List ℕ) × IsObjectsText (option_map (λ line. line.items) line.now) fault port.now text
+        × MatchResult result (λ _. F.held faults.new ≡ F.held faults.old ++ text)
+        (λ _. IsFrontOf (F.held faults.old) text (F.held faults.new)) }
+    ensures failures { F.failed faults.new
+        ≡ (if is_ok result then F.failed faults.old else next_count (F.failed faults.old)) }
+{
+    tell_object_of(alloc, line, faults)?;
+    tell_fault_object(alloc, fault, port, faults)
+}
+
+/// Tells the object of a report; where memory ran out for it, that.
+fn tell_object_of<F: Outlet>(
+    alloc: Global,
+    line: &Option<Vec<u8>>,
+    faults: &mut F,
+) -> Result<(), DeviceFault>
+    ensures told { F.tells faults.old → F.tells faults.new }
+    ensures line { F.tells faults.old → (text : List ℕ) × IsObjectText (option_map (λ line. line.items) line.now) text
+        × MatchResult result (λ _. F.held faults.new ≡ F.held faults.old ++ text)
+        (λ _. IsFrontOf (F.held faults.old) text (F.held faults.new)) }
+    ensures failures { F.failed faults.new
+        ≡ (if is_ok result then F.failed faults.old else next_count (F.failed faults.old)) }
+{
+    match line {
+        Some(line) => give_all(faults, line.as_slice()),
+        None => tell_object(alloc, &Fault::Memory, faults),
+    }
+}
+
+/// Tells the object of the fault of a marking, if any.
+fn tell_fault_object<F: Outlet>(
+    alloc: Global,
+    fault: Option<MarkFault>,
+    port: &str,
+    faults: &mut F,
+) -> Result<(), DeviceFault>
+    ensures told { F.tells faults.old → F.tells faults.new }
+    ensures line { F.tells faults.old → (text : List ℕ) × IsMarkFaultTold true port.now fault text × MatchResult result
+        (λ _. F.held faults.new ≡ F.held faults.old ++ text)
+        (λ _. IsFrontOf (F.held faults.old) text (F.held faults.new)) }
+    ensures failures { F.failed faults.new
+        ≡ (if is_ok result then F.failed faults.old else next_count (F.failed faults.old)) }
+{
+    match fault {
+        None => Ok(()),
+        Some(fault) => tell_object(alloc, &marking_fault(fault, port), faults),
+    }
+}
+
+/// Tells the lines of a report of a marking, the line of its verdict, if there is one, and behind them that of the fault, if
+/// any, in one piece; or part by part, where there is no memory to put it together.
+fn tell_lines<F: Outlet>(
     alloc: Global,
     report: &Report,
     line: &Option<VerdictLine>,

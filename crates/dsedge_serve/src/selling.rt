@@ -1,6 +1,7 @@
-ghost use Rattle.std.specs.Prelude.{◌≡◌, []};
+ghost use Rattle.std.specs.Prelude.{◌≡◌, List, []};
 ghost use Rattle.line_text.specs.Lines.{lines_of};
 ghost use Rattle.ds_domain.specs.DomainTexts.{parse_of};
+ghost use Rattle.ds_broker.specs.declared.command.Command as commands;
 ghost use Rattle.ds_ledger_base.specs.Replays.{replay};
 ghost use Rattle.dsedge_drive.specs.Driven.{drive_from, opening_book};
 ghost use Rattle.pcap_capture.specs.Counts.{IsOfReads};
@@ -21,25 +22,34 @@ use std::alloc::Global;
 use std::marker::Brand;
 use std::sync::Wait;
 
-/// Where a broker's book is kept, and how much it takes.
+/// How a broker sells.
+#[derive(Clone, Copy)]
+pub(crate) struct Manner {
+    /// How much its book takes.
+    pub(crate) limits: Limits,
+    /// Whether its answers are objects of JSON.
+    pub(crate) in_json: bool,
+}
+
+/// Where a broker's book is kept, and how it sells.
 #[derive(Drop)]
 pub(crate) struct Place<'a, S> {
     pub(crate) shelf: &'a S,
     pub(crate) name: &'a str,
-    pub(crate) limits: Limits,
+    pub(crate) manner: Manner,
 }
 
 /// Sells the contracts of the domain that a text says, by the lines of the input.
 pub(crate) fn answer_drive<R: Wait, I: Intake, O: Outlet>(
     alloc: Global,
     rt: &R,
-    limits: Limits,
+    manner: Manner,
     text: &[u8],
     intake: &mut I,
     output: &mut O,
 ) -> Result<Conclusion, PumpFault>
     ensures served { I.tells intake.old → O.tells output.old →
-        IsServed (reply_sold limits (parse_of text.now) (lines_of (I.left intake.old))) result (O.held output.old)
+        IsServed (reply_sold manner.in_json manner.limits (parse_of text.now) (lines_of (I.left intake.old))) result (O.held output.old)
         (O.held output.new) }
     ensures unsound { IsUnsoundBefore (parse_of text.now) (Outcome.Answered result) }
     ensures writes { IsOfWrites (is_write_fault result) (O.failed output.old) (O.failed output.new) }
@@ -49,8 +59,9 @@ pub(crate) fn answer_drive<R: Wait, I: Intake, O: Outlet>(
         Ok((domain, contracts)) => {
             let sale = Sale {
                 domain,
-                limits,
+                limits: manner.limits,
                 contracts,
+                in_json: manner.in_json,
             };
             let nothing = (Unkept, Vec::new(alloc));
             let sold = sell::<Brand, R, Unkept, I, O>(
@@ -85,7 +96,8 @@ pub(crate) fn answer_kept<R: Wait, S: Shelf, I: Intake, O: Outlet>(
     output: &mut O,
 ) -> Result<Conclusion, PumpFault>
     ensures served { I.tells intake.old → O.tells output.old →
-        IsSoldFrom (S.stands place.now.shelf.now place.now.name.now) place.now.limits (parse_of text.now) (lines_of (I.left intake.old)) result (O.held output.old)
+        IsSoldFrom (S.stands place.now.shelf.now place.now.name.now) place.now.manner.in_json place.now.manner.limits
+        (parse_of text.now) (lines_of (I.left intake.old)) result (O.held output.old)
         (O.held output.new) }
     ensures unsound { IsUnsoundBefore (parse_of text.now) (Outcome.Answered result) }
     ensures writes { IsOfWrites (is_write_fault result) (O.failed output.old) (O.failed output.new) }
@@ -95,8 +107,9 @@ pub(crate) fn answer_kept<R: Wait, S: Shelf, I: Intake, O: Outlet>(
         Ok((domain, contracts)) => {
             let sale = Sale {
                 domain,
-                limits: place.limits,
+                limits: place.manner.limits,
                 contracts,
+                in_json: place.manner.in_json,
             };
             match place.shelf.open(alloc, place.name) {
                 Ok(kept) => sell::<Brand, R, S::Kept, I, O>(
@@ -135,8 +148,10 @@ fn sell<J: Naming, R: Wait, L: Ledger + Drop, I: Intake, O: Outlet>(
     requires log { opened ≡ J.log }
     requires opening { J.opening ≡ opening_book sale.domain sale.limits }
     requires kept { L.tells kept.0 → L.keeps kept.0 kept.1.items }
+    requires lasting { L.honest kept.0 → L.recovers kept.0
+        × ((found : List commands.Command) → L.leaves kept.0 found → found ≡ kept.1.items) }
     ensures served { I.tells intake.old → O.tells output.old →
-        IsSoldBehind (replay (opening_book sale.domain sale.limits) kept.1.items) sale.contracts.items
+        IsSoldBehind sale.in_json (replay (opening_book sale.domain sale.limits) kept.1.items) sale.contracts.items
         (lines_of (I.left intake.old)) result (O.held output.old) (O.held output.new) }
     ensures writes { IsOfWrites (is_write_fault result) (O.failed output.old) (O.failed output.new) }
     ensures reads { IsOfReads (is_read_fault result) (I.failed intake.old) (I.failed intake.new) (I.calls intake.new) }
@@ -158,7 +173,7 @@ fn sell_by<J: Naming, R: Wait + Drop, L: Ledger + Drop, I: Intake, O: Outlet>(
 ) -> Result<Conclusion, PumpFault>
     requires { command.unsaid ≡ [] }
     ensures served { I.tells intake.old → O.tells output.old →
-        IsKeptServed (reply_of (drive_from command.offered command.book 1 (lines_of (I.left intake.old)))) result
+        IsKeptServed (reply_of (drive_from command.in_json command.offered command.book 1 (lines_of (I.left intake.old)))) result
         (O.held output.old) (O.held output.new) }
     ensures writes { IsOfWrites (is_write_fault result) (O.failed output.old) (O.failed output.new) }
     ensures reads { IsOfReads (is_read_fault result) (I.failed intake.old) (I.failed intake.new) (I.calls intake.new) }

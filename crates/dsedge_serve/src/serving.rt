@@ -1,10 +1,10 @@
 ghost use Rattle.std.specs.Prelude.{◌≡◌, false, length, map, true};
-ghost use Rattle.dsedge_base.specs.Files.{files_of, names_of};
+ghost use Rattle.dsedge_base.specs.Files.{files_of, in_json_of, names_of};
 ghost use Rattle.dsedge_lines.specs.Faults.{is_read_fault, is_write_fault};
 ghost use Rattle.dsedge_answers.specs.Replies.{IsOfWrites, IsServed, reply_of};
 ghost use Rattle.dsedge_serve.specs.Served.{IsAnswered, IsForeseen, IsRefusedBefore, form_said, is_broken_off, is_input_fault};
-ghost use Rattle.dsedge_serve.specs.Served.{is_misused, is_output_fault, reply_over, status_after, told_after};
-ghost use Rattle.dsedge_faults.specs.Faults.{IsTold};
+ghost use Rattle.dsedge_serve.specs.Served.{IsToldAfter, is_misused, is_output_fault, reply_over, status_after};
+ghost use Rattle.dsedge_json_faults.specs.FaultObjects.{IsToldBy};
 ghost use Rattle.dsedge_serve.specs.Advised.{advice_after};
 ghost use Rattle.dsedge_serve.specs.Marked.{rule_said};
 ghost use Rattle.dsedge_serve.specs.declared.outcome.Outcome.{Outcome};
@@ -14,21 +14,22 @@ ghost use Rattle.dsedge_texts.specs.Accepted.{accepted_in};
 ghost use Rattle.line_text.specs.Lines.{lines_of};
 ghost use Rattle.pcap_capture.specs.Counts.{IsOfReads};
 
-use crate::ended::Ended;
+use crate::ended::Served;
 use crate::exporting::answer_export;
 use crate::marking::{
     Marking, answer_mark, capture_fault, marking_advice, marking_status, tell_marking,
 };
 use crate::outcome::Outcome;
 use crate::quoting::answer_quote;
-use crate::selling::{Place, answer_drive, answer_kept};
+use crate::selling::{Manner, Place, answer_drive, answer_kept};
 use crate::telling::{answer_arrivals, answer_every_arrival, telling_status};
 use ds_checker::Accepted;
 use ds_conductor::RedRule;
 use ds_ledger_base::Shelf;
 use dsedge_answers::{
-    Conclusion, answer_certify, answer_check, answer_draw, answer_headroom, answer_lines,
-    answer_text, refusal_outcome, status_for, tell_fault, tell_outcome,
+    Conclusion, advice_as, answer_certify, answer_check, answer_draw, answer_headroom,
+    answer_lines, answer_lines_by, answer_text, refusal_outcome, status_for, tell_fault,
+    tell_outcome,
 };
 use dsedge_audit::AuditCommand;
 use dsedge_base::{Plan, PlanNames};
@@ -42,47 +43,58 @@ use std::alloc::Global;
 use std::sync::Wait;
 use std::thread::Threads;
 
-/// Judges the run that the lines of the input say, over the table that two texts say.
+/// Judges the run that the lines of the input say, over the table that two texts say, and sets words to what more there is
+/// to say of the verdict.
 fn answer_audit<I: Intake, O: Outlet>(
     alloc: Global,
     domain: &[u8],
     certificate: &[u8],
+    in_json: bool,
     intake: &mut I,
     output: &mut O,
+    words: &mut String,
 ) -> Result<Conclusion, PumpFault>
     ensures served { I.tells intake.old → O.tells output.old →
-        IsServed (reply_over (accepted_in domain.now certificate.now) (lines_of (I.left intake.old))) result
+        IsServed (reply_over in_json (accepted_in domain.now certificate.now) (lines_of (I.left intake.old))) result
         (O.held output.old) (O.held output.new) }
     ensures refused { IsRefusedBefore (accepted_in domain.now certificate.now) (Outcome.Answered result) }
     ensures writes { IsOfWrites (is_write_fault result) (O.failed output.old) (O.failed output.new) }
     ensures reads { IsOfReads (is_read_fault result) (I.failed intake.old) (I.failed intake.new) (I.calls intake.new) }
 {
     match accept(alloc, domain, certificate) {
-        Ok(accepted) => judge_run(alloc, &accepted, intake, output),
+        Ok(accepted) => judge_run(alloc, &accepted, in_json, intake, output, words),
         Err(fault) => refusal_outcome(fault),
     }
 }
 
-/// Judges the run that the lines of the input say, over an accepted table.
+/// Judges the run that the lines of the input say, over an accepted table, likewise.
 fn judge_run<I: Intake, O: Outlet>(
     alloc: Global,
     accepted: &Accepted,
+    in_json: bool,
     intake: &mut I,
     output: &mut O,
+    words: &mut String,
 ) -> Result<Conclusion, PumpFault>
     ensures served { I.tells intake.old → O.tells output.old →
-        IsServed (reply_of (audit_from accepted.now (opened accepted.now) 1 (lines_of (I.left intake.old)))) result
-        (O.held output.old) (O.held output.new) }
+        IsServed (reply_of (audit_from in_json accepted.now (opened accepted.now) 1 (lines_of (I.left intake.old))))
+        result (O.held output.old) (O.held output.new) }
     ensures writes { IsOfWrites (is_write_fault result) (O.failed output.old) (O.failed output.new) }
     ensures reads { IsOfReads (is_read_fault result) (I.failed intake.old) (I.failed intake.new) (I.calls intake.new) }
 {
-    match AuditCommand::new(alloc, accepted) {
-        Ok(command) => answer_lines(alloc, command, intake, output),
+    match AuditCommand::new(alloc, accepted, in_json) {
+        Ok(command) => {
+            let mut command = command;
+            let answered = answer_lines_by(alloc, &mut command, intake, output);
+            *words = command.take_words();
+            answered
+        }
         Err(_) => Err(PumpFault::NoMemory),
     }
 }
 
-/// Answers what a plan asks for, on the output, from the texts of its files.
+/// Answers what a plan asks for, on the output, from the texts of its files. Words are set to what more there is to say of
+/// the verdict on a run.
 #[tactic(auto, using(crate::proofs::HeldLemmas::unsound_held))]
 fn answer<R: Wait + Threads + Sync, S: Shelf, I: Intake, O: Outlet>(
     alloc: Global,
@@ -92,6 +104,7 @@ fn answer<R: Wait + Threads + Sync, S: Shelf, I: Intake, O: Outlet>(
     shelf: &S,
     intake: &mut I,
     output: &mut O,
+    words: &mut String,
 ) -> Outcome
     requires { length texts.now ≡ length (files_of plan.now) }
     ensures served { I.tells intake.old → O.tells output.old →
@@ -108,55 +121,78 @@ fn answer<R: Wait + Threads + Sync, S: Shelf, I: Intake, O: Outlet>(
         Plan::Show(text) => {
             Outcome::Answered(answer_text(text.as_bytes(), Ending::Whole, output))
         }
-        Plan::Meter { meter, has_levels } => {
-            let command = MeterCommand::new(alloc, *meter, *has_levels);
+        Plan::Meter {
+            meter,
+            has_levels,
+            in_json,
+        } => {
+            let command = MeterCommand::new(alloc, *meter, *has_levels, *in_json);
             Outcome::Answered(answer_lines(alloc, command, intake, output))
         }
-        Plan::Envelope { rate, burst } => {
-            let command = EnvelopeCommand::new(alloc, *rate, *burst);
+        Plan::Envelope {
+            rate,
+            burst,
+            in_json,
+        } => {
+            let command = EnvelopeCommand::new(alloc, *rate, *burst, *in_json);
             Outcome::Answered(answer_lines(alloc, command, intake, output))
         }
-        Plan::Certify { .. } => {
-            Outcome::Answered(answer_certify(alloc, texts[0].as_slice(), output))
+        Plan::Certify { in_json, .. } => {
+            Outcome::Answered(answer_certify(alloc, texts[0].as_slice(), *in_json, output))
         }
-        Plan::Check { .. } => {
+        Plan::Check { in_json, .. } => {
             let (domain, certificate) = (texts[0].as_slice(), texts[1].as_slice());
-            Outcome::Answered(answer_check(alloc, domain, certificate, output))
+            Outcome::Answered(answer_check(alloc, domain, certificate, *in_json, output))
         }
-        Plan::Headroom { .. } => {
-            Outcome::Answered(answer_headroom(alloc, texts[0].as_slice(), output))
+        Plan::Headroom { in_json, .. } => {
+            Outcome::Answered(answer_headroom(alloc, texts[0].as_slice(), *in_json, output))
         }
         Plan::Draw { .. } => { Outcome::Answered(answer_draw(alloc, texts[0].as_slice(), output)) }
         Plan::Quote {
             contract,
             asked,
+            in_json,
             ..
-        } => answer_quote(alloc, texts[0].as_slice(), contract.text(), *asked, output),
+        } => {
+            let domain = texts[0].as_slice();
+            answer_quote(alloc, domain, contract.text(), *asked, *in_json, output)
+        }
         Plan::Export { meter, device, .. } => {
             answer_export(alloc, texts[0].as_slice(), meter.text(), *device, output)
         }
-        Plan::Audit { .. } => {
+        Plan::Audit { in_json, .. } => {
             let (domain, certificate) = (texts[0].as_slice(), texts[1].as_slice());
-            Outcome::Answered(answer_audit(alloc, domain, certificate, intake, output))
+            let judged = answer_audit(alloc, domain, certificate, *in_json, intake, output, words);
+            Outcome::Answered(judged)
         }
         Plan::Drive {
             limits,
             book: None,
+            in_json,
             ..
         } => {
             let domain = texts[0].as_slice();
-            Outcome::Answered(answer_drive(alloc, rt, *limits, domain, intake, output))
+            let manner = Manner {
+                limits: *limits,
+                in_json: *in_json,
+            };
+            Outcome::Answered(answer_drive(alloc, rt, manner, domain, intake, output))
         }
         Plan::Drive {
             limits,
             book: Some(name),
+            in_json,
             ..
         } => {
             let domain = texts[0].as_slice();
+            let manner = Manner {
+                limits: *limits,
+                in_json: *in_json,
+            };
             let place = Place {
                 shelf,
                 name: name.text(),
-                limits: *limits,
+                manner,
             };
             Outcome::Answered(answer_kept(alloc, rt, &place, domain, intake, output))
         }
@@ -184,6 +220,7 @@ fn answer<R: Wait + Threads + Sync, S: Shelf, I: Intake, O: Outlet>(
             workers,
             keeps_red,
             has_verdict,
+            in_json,
             ..
         } => {
             let (domain, certificate) = (texts[0].as_slice(), texts[1].as_slice());
@@ -192,6 +229,7 @@ fn answer<R: Wait + Threads + Sync, S: Shelf, I: Intake, O: Outlet>(
                 workers: *workers,
                 red: rule_said(*keeps_red),
                 has_verdict: *has_verdict,
+                in_json: *in_json,
             };
             answer_mark(rt, alloc, domain, certificate, &marking, intake, output)
         }
@@ -234,36 +272,42 @@ fn status_after(names: &PlanNames<'_>, outcome: &Outcome) -> u8
     }
 }
 
-/// Tells how a plan went, where there is anything to tell, and gives what there is to say behind it. A failure to write
-/// there is passed over.
+/// Tells how a plan went, where there is anything to tell, by lines or by objects, and gives what there is to say behind it.
+/// A failure to write there is passed over.
 fn tell_after<F: Outlet>(
     alloc: Global,
+    in_json: bool,
     names: &PlanNames<'_>,
     outcome: Outcome,
     faults: &mut F,
 ) -> Option<Advice>
     ensures still { F.tells faults.old → F.tells faults.new }
-    ensures told { F.tells faults.old →
-        IsTold (told_after names.now outcome) (F.held faults.old) (F.held faults.new) (F.failed faults.old)
-        (F.failed faults.new) }
-    ensures advice { result ≡ advice_after names.now outcome }
+    ensures told { F.tells faults.old → IsToldBy (IsToldAfter in_json names.now outcome) (F.held faults.old)
+        (F.held faults.new) (F.failed faults.old) (F.failed faults.new) }
+    ensures advice { result ≡ advice_after in_json names.now outcome }
 {
     match outcome {
-        Outcome::Answered(outcome) => tell_outcome(outcome, faults),
-        Outcome::Unnamed => tell_fault(&Fault::Contract(GivenName::new(names.contract)), faults),
-        Outcome::Misused => tell_fault(&Fault::Usage, faults),
-        Outcome::Marked(report, fault, line) => {
-            let _told = tell_marking(alloc, &report, &line, fault, names.port, faults);
-            marking_advice(fault, names.port)
+        Outcome::Answered(outcome) => tell_outcome(alloc, outcome, in_json, faults),
+        Outcome::Unnamed => {
+            let fault = Fault::Contract(GivenName::new(names.contract));
+            tell_fault(alloc, &fault, in_json, faults)
         }
-        Outcome::Portless => tell_fault(&Fault::Port(GivenName::new(names.port)), faults),
+        Outcome::Misused => tell_fault(alloc, &Fault::Usage, in_json, faults),
+        Outcome::Marked(report, fault, told) => {
+            let _told = tell_marking(alloc, &report, &told, fault, names.port, faults);
+            advice_as(in_json, marking_advice(fault, names.port))
+        }
+        Outcome::Portless => {
+            let fault = Fault::Port(GivenName::new(names.port));
+            tell_fault(alloc, &fault, in_json, faults)
+        }
         Outcome::Told(None) => None,
-        Outcome::Told(Some(fault)) => tell_fault(&capture_fault(fault), faults),
+        Outcome::Told(Some(fault)) => tell_fault(alloc, &capture_fault(fault), in_json, faults),
     }
 }
 
 /// Does what a plan asks for: answers on the output, tells a fault on `faults`, and gives the exit status, with what
-/// there is to say behind the fault.
+/// there is to say behind the fault, and of the verdict on a run.
 ///
 /// `texts` are the contents of the files that the plan names, in the order of its words. `drive` keeps `rt`: its broker
 /// waits for feeds that look; a book that it keeps stands on `shelf`. `mark` starts threads with `rt`.
@@ -276,7 +320,7 @@ pub fn serve<R: Wait + Threads + Sync, S: Shelf, I: Intake, O: Outlet, F: Outlet
     intake: &mut I,
     output: &mut O,
     faults: &mut F,
-) -> Ended
+) -> Served
     requires { length texts.now ≡ length (files_of plan.now) }
     ensures still { F.tells faults.old → F.tells faults.new }
     // One outcome stands behind what is written, what is told, the status and the advice.
@@ -286,19 +330,23 @@ pub fn serve<R: Wait + Threads + Sync, S: Shelf, I: Intake, O: Outlet, F: Outlet
         IsAnswered (S.stands shelf.now) plan.now (map (λ text. text.items) texts.now) (I.left intake.old)
         (I.left intake.new) outcome
         (O.held output.old) (O.held output.new))
-        × (F.tells faults.old →
-        IsTold (told_after names outcome) (F.held faults.old) (F.held faults.new) (F.failed faults.old)
-        (F.failed faults.new))
+        × (F.tells faults.old → IsToldBy (IsToldAfter (in_json_of plan.now) names outcome) (F.held faults.old)
+        (F.held faults.new) (F.failed faults.old) (F.failed faults.new))
         × IsOfWrites (is_output_fault outcome) (O.failed output.old) (O.failed output.new)
         × (is_broken_off outcome ≡ false
         → IsOfReads (is_input_fault outcome) (I.failed intake.old) (I.failed intake.new) (I.calls intake.new))
         × IsForeseen plan.now (map (λ text. text.items) texts.now) outcome
-        × (result.advice ≡ advice_after names outcome)
+        × (result.advice ≡ advice_after (in_json_of plan.now) names outcome)
         × (is_misused outcome ≡ true → O.held output.new ≡ O.held output.old) }
 {
-    let outcome = answer(alloc, rt, plan, texts, shelf, intake, output);
+    let mut words = String::new(alloc);
+    let outcome = answer(alloc, rt, plan, texts, shelf, intake, output, &mut words);
     let names = plan.names();
     let status = status_after(&names, &outcome);
-    let advice = tell_after(alloc, &names, outcome, faults);
-    Ended { status, advice }
+    let advice = tell_after(alloc, plan.in_json(), &names, outcome, faults);
+    Served {
+        status,
+        advice,
+        verdict: words,
+    }
 }

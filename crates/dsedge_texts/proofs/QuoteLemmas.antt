@@ -15,7 +15,8 @@ use Rattle.ds_domain_base.specs.declared.terms.Terms.{Terms}
 use Rattle.ds_quotes.specs.Quotes.{least_refusal, least_terms, quote_of, with_least}
 use Rattle.ds_quotes.specs.declared.asked.Asked.{Asked}
 use Rattle.ds_quotes.specs.declared.field.Field.{Field}
-use Rattle.dsedge_texts.specs.Quoted.{Told, asked_on, none_lines, quote_at, quote_of_contract, quote_on, told_at, told_beside, told_by, told_none}
+use Rattle.dsedge_texts.specs.Quotation.{said_in}
+use Rattle.dsedge_texts.specs.Quoted.{Nothing, Quote, asked_on, lines_of_quote, named_in, none_lines, nothing_told, quote_at, quote_beside, quote_by_value, quote_none, quote_of_contract, quote_on, quote_with, told_beside, told_by}
 use Rattle.dsedge_texts.specs.declared.quoting.QuoteFault.{QuoteFault}
 use Rattle.dsedge_texts.specs.declared.quoting.Quoted.{Quoted}
 use Rattle.dsedge_texts.specs.Refused.{refusal_line}
@@ -66,28 +67,77 @@ quote-found d contracts others name place c asked is_place is_others is_contract
 -- ---- beside the others, which the checker accepts
 pub quote-over : (d : Domain) (others : List Contract) (place : ℕ) (c : Contract) (field : Field) (terms : Terms) (t : Table) → least_terms field c.terms ≡ Some terms
     → refusal_of (with_least d others) ≡ None → t ≡ with_least d others
-    → quote_on d others place c field (least_terms field c.terms) ≡ Ok (told_beside t c field)
+    → quote_on d others place c field (least_terms field c.terms) ≡ Ok (quote_beside t c field)
 quote-over d others place c field terms t is_terms unrefused same =
     ap (quote_on d others place c field) is_terms
-    ∙ ap (λ refusal. Ok (told_at d others place c field terms refusal)) unrefused
-    ∙ ap (λ table. Ok (told_beside table c field)) (sym same)
+    ∙ ap (λ refusal. Ok (quote_with d others place c field terms refusal)) unrefused
+    ∙ ap (λ table. Ok (quote_beside table c field)) (sym same)
 
 none-at : (d : Domain) (others : List Contract) (place : ℕ) (c : Contract) (field : Field) (terms : Terms) (refusal : Option Refusal) → IsSome refusal
-    → told_at d others place c field terms refusal ≡ told_none d others place c terms
+    → quote_with d others place c field terms refusal ≡ quote_none d others place c terms
 none-at d others place c field terms None refused = absurd (search rules)
 none-at d others place c field terms (Some refusal) refused = refl
 
 -- beside the others, which the checker refuses
 pub quote-none : (d : Domain) (others : List Contract) (place : ℕ) (c : Contract) (field : Field) (terms : Terms) → least_terms field c.terms ≡ Some terms
-    → IsSome (refusal_of (with_least d others)) → quote_on d others place c field (least_terms field c.terms) ≡ Ok (told_none d others place c terms)
+    → IsSome (refusal_of (with_least d others)) → quote_on d others place c field (least_terms field c.terms) ≡ Ok (quote_none d others place c terms)
 quote-none d others place c field terms is_terms refused =
     ap (quote_on d others place c field) is_terms
     ∙ ap Ok (none-at d others place c field terms (refusal_of (with_least d others)) refused)
 
-pub told-ok : (r : Result Quoted QuoteFault) (told : Told) (whole : Result Told QuoteFault) → whole ≡ Ok told
-    → IfOk r (λ quoted. told ≡ (quoted.text.items, quoted.is_found)) → IfOk r (λ quoted. whole ≡ Ok (quoted.text.items, quoted.is_found))
-told-ok (Ok quoted) told whole is holds = is ∙ ap Ok holds
-told-ok (Err fault) told whole is holds = holds
+pub said-ok : (r : Result Quoted QuoteFault) (said : Quote) (whole : Result Quote QuoteFault) → whole ≡ Ok said
+    → IfOk r (λ quoted. said ≡ said_in quoted) → IfOk r (λ quoted. whole ≡ Ok (said_in quoted))
+said-ok (Ok quoted) said whole is holds = is ∙ ap Ok holds
+said-ok (Err fault) said whole is holds = holds
+
+pub said-one : (quoted : Quoted) (said : Quote) (whole : Result Quote QuoteFault) → whole ≡ Ok said → said ≡ said_in quoted → whole ≡ Ok (said_in quoted)
+said-one quoted said whole is holds = is ∙ ap Ok holds
+
+-- where a refusal names no contract, none are needed
+nameless_named : (refusal : Option Refusal) (contracts others : List Contract) → IfSome refusal IsNameless → named_in contracts refusal ≡ named_in others refusal
+nameless_named None contracts others none = refl
+nameless_named (Some (refusals.Shape place)) contracts others none = refl
+nameless_named (Some (refusals.FirstBound place column needed given)) contracts others none = absurd none
+nameless_named (Some (refusals.HopBound place hop column needed given)) contracts others none = absurd none
+nameless_named (Some (refusals.GreenRate meter needed available)) contracts others none = refl
+nameless_named (Some (refusals.GreenBurst meter needed available)) contracts others none = refl
+nameless_named (Some (refusals.AllRate meter needed available)) contracts others none = refl
+nameless_named (Some (refusals.AllBurst meter needed available)) contracts others none = refl
+nameless_named (Some refusals.NoMemory) contracts others none = refl
+
+-- what is answered beside a table: a value, or the refusal of the least one
+pub quote-value : (t : Table) (c : Contract) (field : Field) (value : Option ℕ) → value ≡ quote_of t c field
+    → quote_beside t c field ≡ quote_by_value t.contracts field (least_refusal t c field) value
+quote-value t c field value is = ap (quote_by_value t.contracts field (least_refusal t c field)) (sym is)
+
+pub quote-nothing : (t : Table) (c : Contract) (field : Field) (contracts : List Contract) (refusal : Option Refusal)
+    → quote_of t c field ≡ None → refusal ≡ least_refusal t c field → IfSome refusal IsNameless
+    → quote_beside t c field ≡ nothing_told contracts refusal
+quote-nothing t c field contracts refusal none is nameless =
+    ap (quote_by_value t.contracts field (least_refusal t c field)) none
+    ∙ ap (nothing_told t.contracts) (sym is)
+    ∙ ap (λ xs. Nothing xs refusal) (nameless_named refusal t.contracts contracts nameless)
+
+-- the contracts that a refusal does not name are not told
+pub named_lines : (contracts : List Contract) (refusal : Option Refusal) → none_lines (named_in contracts refusal) refusal ≡ none_lines contracts refusal
+named_lines contracts None = refl
+named_lines contracts (Some (refusals.Shape place)) = refl
+named_lines contracts (Some (refusals.FirstBound place column needed given)) = refl
+named_lines contracts (Some (refusals.HopBound place hop column needed given)) = refl
+named_lines contracts (Some (refusals.GreenRate meter needed available)) = refl
+named_lines contracts (Some (refusals.GreenBurst meter needed available)) = refl
+named_lines contracts (Some (refusals.AllRate meter needed available)) = refl
+named_lines contracts (Some (refusals.AllBurst meter needed available)) = refl
+named_lines contracts (Some refusals.NoMemory) = refl
+
+-- the lines of an answer are those that drive tells
+by_value_lines : (contracts : List Contract) (field : Field) (refusal : Option Refusal) (value : Option ℕ)
+    → lines_of_quote (quote_by_value contracts field refusal value) ≡ told_by contracts field refusal value
+by_value_lines contracts field refusal None = ap (λ lines. (lines, false)) (named_lines contracts refusal)
+by_value_lines contracts field refusal (Some value) = refl
+
+pub lines-beside : (t : Table) (c : Contract) (field : Field) → lines_of_quote (quote_beside t c field) ≡ told_beside t c field
+lines-beside t c field = by_value_lines t.contracts field (least_refusal t c field) (quote_of t c field)
 
 -- the line of a refusal that names no contract is the same for any contracts
 nameless_line : (refusal : Refusal) (contracts others : List Contract) → IsNameless refusal → refusal_line contracts refusal ≡ refusal_line others refusal

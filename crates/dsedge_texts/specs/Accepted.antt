@@ -31,16 +31,24 @@ table_with parsed certificate = record { domain = parsed.0; contracts = parsed.1
 abbrev pub tabled_by : Domain × List Contract → List ℕ → Result (List (List Bound)) CertificateFault
     → Result Table TableFault
 tabled_by parsed text (Err fault) = Err (faults.Certificate (record { fault = fault; line = fault_line parsed.1 text }))
-tabled_by parsed text (Ok certificate) =
-    judged (table_with parsed certificate) (refusal_of (table_with parsed certificate))
+tabled_by parsed text (Ok certificate) = Ok (table_with parsed certificate)
 
 abbrev pub tabled : Domain × List Contract → List ℕ → Result Table TableFault
 tabled parsed text = tabled_by parsed text (certificate_in parsed.1 text)
 
-abbrev pub accepted_by : Result (Domain × List Contract) DomainFault → List ℕ → Result Table TableFault
-accepted_by (Err fault) certificate = Err (faults.Domain fault)
-accepted_by (Ok parsed) certificate = tabled parsed certificate
+abbrev pub table_by : Result (Domain × List Contract) DomainFault → List ℕ → Result Table TableFault
+table_by (Err fault) certificate = Err (faults.Domain fault)
+table_by (Ok parsed) certificate = tabled parsed certificate
 
--- the domain's fault before the certificate's, and that before the checker's refusal
+-- the table that two texts say; the domain's fault before the certificate's
+abbrev pub table_in : List ℕ → List ℕ → Result Table TableFault
+table_in domain certificate = table_by (parse_of domain) certificate
+
+-- what the checker makes of a table, if there is one
+abbrev pub judged_on : Result Table TableFault → Result Table TableFault
+judged_on (Ok t) = judged t (refusal_of t)
+judged_on (Err fault) = Err fault
+
+-- the faults of the texts before the checker's refusal
 abbrev pub accepted_in : List ℕ → List ℕ → Result Table TableFault
-accepted_in domain certificate = accepted_by (parse_of domain) certificate
+accepted_in domain certificate = judged_on (table_in domain certificate)

@@ -2,6 +2,7 @@
 pub mod Accepted
 pub mod Certified
 pub mod Headed
+pub mod Quotation
 pub mod Quoted
 pub mod Readable
 pub mod Refused

@@ -2,7 +2,7 @@ ghost use Rattle.std.specs.Prelude.{◌≡◌, ◌⊎◌, Err, IfErr, IfOk, None
 ghost use Rattle.ds_certificate.specs.Readings.{certificate_in};
 ghost use Rattle.ds_checker.specs.Acceptance.{bounds_refusal_of, refusal_of, table_of};
 ghost use Rattle.ds_domain_base.specs.Domains.{Domain};
-ghost use Rattle.dsedge_texts.specs.Accepted.{IsUnfaulty, accepted_in, judged, tabled};
+ghost use Rattle.dsedge_texts.specs.Accepted.{IsUnfaulty, accepted_in, judged, table_in, tabled};
 ghost use Rattle.dsedge_texts.specs.Refused.{refusal_line};
 
 use crate::refusing::RefusalLine;
@@ -43,35 +43,51 @@ pub fn accept(alloc: Global, domain: &[u8], certificate: &[u8]) -> Result<Accept
     ensures refused { IfErr result (λ fault. (fault ≡ TableFault.NoMemory)
         ⊎ (accepted_in domain.now certificate.now ≡ Err fault)) }
 {
+    match candidate_in(alloc, domain, certificate) {
+        Ok(candidate) => judge(alloc, candidate),
+        Err(fault) => Err(fault),
+    }
+}
+
+/// The domain, the contracts and the certificate that two texts say, which the checker has not seen.
+///
+/// Refused: `Domain` with the first fault of the domain text, `Certificate` with that of the certificate text, in this
+/// order; `NoMemory` where memory runs out.
+pub fn candidate_in(
+    alloc: Global,
+    domain: &[u8],
+    certificate: &[u8],
+) -> Result<Candidate, TableFault>
+    ensures ok { IfOk result (λ candidate. table_in domain.now certificate.now ≡ Ok (table_of candidate)) }
+    ensures refused { IfErr result (λ fault. (fault ≡ TableFault.NoMemory)
+        ⊎ (table_in domain.now certificate.now ≡ Err fault)) }
+{
     match parse(alloc, domain) {
-        Ok((domain, contracts)) => accept_parsed(alloc, domain, contracts, certificate),
+        Ok((domain, contracts)) => candidate_of(alloc, domain, contracts, certificate),
         Err(fault) if fault.kind == Kind::NoMemory => Err(TableFault::NoMemory),
         Err(fault) => Err(TableFault::Domain(fault)),
     }
 }
 
-/// The table of a domain, of its contracts and of the certificate that a text says.
-fn accept_parsed(
+/// The same of a domain, of its contracts and of the certificate that a text says.
+fn candidate_of(
     alloc: Global,
     domain: Domain,
     contracts: Vec<Contract>,
     certificate: &[u8],
-) -> Result<Accepted, TableFault>
-    ensures ok { IfOk result (λ accepted.
-        tabled (domain, contracts.items) certificate.now ≡ Ok accepted) }
+) -> Result<Candidate, TableFault>
+    ensures ok { IfOk result (λ candidate.
+        tabled (domain, contracts.items) certificate.now ≡ Ok (table_of candidate)) }
     ensures refused { IfErr result (λ fault.
         ((fault ≡ TableFault.NoMemory) × IsUnfaulty (certificate_in contracts.items certificate.now))
         ⊎ (tabled (domain, contracts.items) certificate.now ≡ Err fault)) }
 {
     match certificate_said(alloc, certificate, contracts.as_slice()) {
-        Ok(certificate) => judge(
-            alloc,
-            Candidate {
-                domain,
-                contracts,
-                certificate,
-            },
-        ),
+        Ok(certificate) => Ok(Candidate {
+            domain,
+            contracts,
+            certificate,
+        }),
         Err(fault) => Err(fault),
     }
 }

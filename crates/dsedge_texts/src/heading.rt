@@ -1,7 +1,10 @@
 ghost use Rattle.std.specs.Prelude.{◌≡◌, ◌⊎◌, ◌++◌, Err, IfErr, IfOk, Ok, OnOk, true};
 ghost use Rattle.std.specs.List.{list_all};
 ghost use Rattle.ds_certificate.specs.Bounds.{fits};
-ghost use Rattle.dsedge_texts.specs.Headed.{headroom_in, headroom_text, least_judged, lines_at, meter_lines, test_line, text_by};
+ghost use Rattle.dsedge_texts.specs.Headed.{headroom_in, headroom_text, least_in, least_table, lines_at, meter_lines};
+ghost use Rattle.dsedge_texts.specs.Headed.{test_line, text_by};
+ghost use Rattle.dsedge_texts.specs.Accepted.{judged_on};
+ghost use Rattle.ds_checker.specs.Acceptance.{table_of};
 
 use crate::accepting::{TableFault, judge};
 use crate::certifying::least_certificate;
@@ -19,53 +22,56 @@ pub fn headroom(alloc: Global, text: &[u8]) -> Result<Vec<u8>, TableFault>
     ensures ok { IfOk result (λ lines. headroom_in text.now ≡ Ok lines.items) }
     ensures refused { IfErr result (λ fault. (fault ≡ TableFault.NoMemory) ⊎ (headroom_in text.now ≡ Err fault)) }
 {
+    match least_candidate(alloc, text) {
+        Ok(candidate) => candidate_headroom(alloc, candidate),
+        Err(fault) => Err(fault),
+    }
+}
+
+/// The domain and the contracts that a text says, with their least certificate, which the checker has not seen.
+///
+/// Refused: `Domain` with the first fault of the text; `NoMemory` where memory runs out.
+pub fn least_candidate(alloc: Global, text: &[u8]) -> Result<Candidate, TableFault>
+    ensures ok { IfOk result (λ candidate. least_in text.now ≡ Ok (table_of candidate)) }
+    ensures refused { IfErr result (λ fault. (fault ≡ TableFault.NoMemory) ⊎ (least_in text.now ≡ Err fault)) }
+{
     match parse(alloc, text) {
-        Ok((domain, contracts)) => least_headroom(alloc, domain, contracts),
+        Ok((domain, contracts)) => with_least(alloc, domain, contracts),
         Err(fault) if fault.kind == Kind::NoMemory => Err(TableFault::NoMemory),
         Err(fault) => Err(TableFault::Domain(fault)),
     }
 }
 
-/// The same of a domain and of contracts that fit it.
-fn least_headroom(
+/// A domain and contracts that fit it, with their least certificate; `NoMemory` where memory runs out.
+fn with_least(
     alloc: Global,
     domain: Domain,
     contracts: Vec<Contract>,
-) -> Result<Vec<u8>, TableFault>
+) -> Result<Candidate, TableFault>
     requires { list_all (fits domain) contracts.items ≡ true }
-    ensures ok { IfOk result (λ lines. text_by (least_judged (domain, contracts.items)) ≡ Ok lines.items) }
-    ensures refused { IfErr result (λ fault. (fault ≡ TableFault.NoMemory)
-        ⊎ (text_by (least_judged (domain, contracts.items)) ≡ Err fault)) }
+    ensures ok { IfOk result (λ candidate. table_of candidate ≡ least_table (domain, contracts.items)) }
+    ensures memory { IfErr result (λ fault. fault ≡ TableFault.NoMemory) }
 {
-    match accept_least(alloc, domain, contracts) {
-        Ok(accepted) => headroom_of(alloc, &accepted),
-        Err(fault) => Err(fault),
+    match least_certificate(alloc, &domain, contracts.as_slice()) {
+        Ok(certificate) => Ok(Candidate {
+            domain,
+            contracts,
+            certificate,
+        }),
+        Err(_) => Err(TableFault::NoMemory),
     }
 }
 
-/// The table of a domain, of contracts that fit it, and of their least certificate.
-///
-/// Refused: `Refused` with the line of the first test of the checker that fails; `NoMemory` where memory runs out.
-pub(crate) fn accept_least(
-    alloc: Global,
-    domain: Domain,
-    contracts: Vec<Contract>,
-) -> Result<Accepted, TableFault>
-    requires { list_all (fits domain) contracts.items ≡ true }
-    ensures ok { IfOk result (λ accepted. least_judged (domain, contracts.items) ≡ Ok accepted) }
+/// The lines of a candidate; `Refused` with the line of the first test of the checker that fails, and `NoMemory` where
+/// memory runs out.
+fn candidate_headroom(alloc: Global, candidate: Candidate) -> Result<Vec<u8>, TableFault>
+    ensures ok { IfOk result (λ lines. text_by (judged_on (Ok (table_of candidate))) ≡ Ok lines.items) }
     ensures refused { IfErr result (λ fault. (fault ≡ TableFault.NoMemory)
-        ⊎ (least_judged (domain, contracts.items) ≡ Err fault)) }
+        ⊎ (text_by (judged_on (Ok (table_of candidate))) ≡ Err fault)) }
 {
-    match least_certificate(alloc, &domain, contracts.as_slice()) {
-        Ok(certificate) => judge(
-            alloc,
-            Candidate {
-                domain,
-                contracts,
-                certificate,
-            },
-        ),
-        Err(_) => Err(TableFault::NoMemory),
+    match judge(alloc, candidate) {
+        Ok(accepted) => headroom_of(alloc, &accepted),
+        Err(fault) => Err(fault),
     }
 }
 

@@ -58,9 +58,12 @@ impl Folder for MemoryFolder<'_> {
 }
 
 impl Shelf for MemoryFolder<'_> {
+    ghost use Rattle.std.specs.Prelude.{◌≡◌, Err};
+    ghost use Rattle.ds_ledger_base.specs.declared.fault.LedgerFault.TheVariants.{Open};
+
     type Kept = Unkept;
 
-    ghost stands = { λ _ _ _. ⊥ };
+    ghost stands = { λ _ _ found. found ≡ Err Open };
 
     /// Memory keeps no book: no ledger stands there.
     fn open(&self, _alloc: Global, _name: &str) -> Result<(Unkept, Vec<Command>), LedgerFault> {

@@ -1,13 +1,14 @@
-ghost use Rattle.std.specs.Prelude.{◌≡◌, ◌⊎◌, ◌++◌, ◌<◌, ◌≤◌, Err, IfErr, IfOk, IfSome, IsSome, None, Ok, OnOk};
-ghost use Rattle.std.specs.Prelude.{false, length, true};
+ghost use Rattle.std.specs.Prelude.{◌≡◌, ◌⊎◌, ◌++◌, ◌<◌, ◌≤◌, Err, IfErr, IfOk, IfSome, IsSome, None, Ok, OnOk, Some};
+ghost use Rattle.std.specs.Prelude.{length, true};
 ghost use Rattle.std.specs.List.{list_all};
 ghost use Rattle.ds_certificate.specs.Bounds.{fits};
 ghost use Rattle.ds_checker.specs.Acceptance.{refusal_of};
 ghost use Rattle.ds_checker.specs.Besides.{rest_of};
 ghost use Rattle.ds_quotes.specs.Quotes.{least_terms, with_least};
-ghost use Rattle.dsedge_texts.specs.Quoted.{asked_on, count_told, told_count, told_of};
-ghost use Rattle.dsedge_texts.specs.Quoted.{none_lines, quote_at, quote_in, quote_on, told_beside, told_none};
+ghost use Rattle.dsedge_texts.specs.Quoted.{asked_on, count_beside, nothing_told, quote_beside, told_beside, told_count, told_of};
+ghost use Rattle.dsedge_texts.specs.Quoted.{count_line, lines_of_quote, none_lines, quote_at, quote_in, quote_none, quote_on};
 ghost use Rattle.dsedge_texts.specs.Quoted.{value_line};
+ghost use Rattle.dsedge_texts.specs.Quotation.{said_in};
 ghost use Rattle.dsedge_texts.specs.Wording.{place_named};
 
 use crate::certifying::least_certificate;
@@ -20,11 +21,53 @@ use std::alloc::{AllocError, Global};
 
 /// What is answered to a quote.
 #[derive(Debug, Drop)]
-pub struct Quoted {
-    /// The lines.
-    pub text: Vec<u8>,
-    /// Whether they tell a value.
-    pub is_found: bool,
+pub enum Quoted {
+    /// The greatest value of a field.
+    Most {
+        /// The field.
+        field: Field,
+        /// Its value.
+        value: u64,
+    },
+    /// How many contracts fit.
+    Count {
+        /// Their number.
+        number: u64,
+    },
+    /// No value is.
+    None {
+        /// The contracts that the refusal speaks of; none are needed where it names none.
+        contracts: Vec<Contract>,
+        /// What the checker says against them, if anything.
+        refusal: Option<Refusal>,
+    },
+}
+
+impl Quoted {
+    /// Whether it is a value.
+    pub fn is_found(&self) -> bool
+        ensures { result ≡ (lines_of_quote (said_in self.now)).1 }
+    {
+        match self {
+            Quoted::Most { .. } | Quoted::Count { .. } => true,
+            Quoted::None { .. } => false,
+        }
+    }
+
+    /// Its lines: `FIELD VALUE`, `count N`, or `none` and the checker's line behind it, if there is one.
+    pub fn lines(&self, alloc: Global) -> Result<Vec<u8>, AllocError>
+        ensures { IfOk result (λ text. text.items ≡ (lines_of_quote (said_in self.now)).0) }
+    {
+        let mut text = Vec::new(alloc);
+        match self {
+            Quoted::Most { field, value } => push_value(&mut text, *field, *value)?,
+            Quoted::Count { number } => push_count(&mut text, *number)?,
+            Quoted::None { contracts, refusal } => {
+                push_none(&mut text, contracts.as_slice(), *refusal)?
+            }
+        }
+        Ok(text)
+    }
 }
 
 /// Why a domain text gives no quote.
@@ -50,7 +93,7 @@ pub enum QuoteFault {
 /// Refused: `Domain` with the first fault of the text, `Unnamed`, `NoField`, in this order; `NoMemory` where memory runs
 /// out.
 pub fn quote(alloc: Global, text: &[u8], name: &[u8], asked: Asked) -> Result<Quoted, QuoteFault>
-    ensures ok { IfOk result (λ quoted. quote_in text.now name.now asked ≡ Ok (quoted.text.items, quoted.is_found)) }
+    ensures ok { IfOk result (λ quoted. quote_in text.now name.now asked ≡ Ok (said_in quoted)) }
     ensures refused { IfErr result (λ fault. (fault ≡ QuoteFault.NoMemory)
         ⊎ (quote_in text.now name.now asked ≡ Err fault)) }
 {
@@ -71,7 +114,7 @@ fn quote_named(
 ) -> Result<Quoted, QuoteFault>
     requires { list_all (fits domain) contracts.items ≡ true }
     ensures ok { IfOk result (λ quoted. quote_at domain contracts.items asked (place_named contracts.items name.now)
-        ≡ Ok (quoted.text.items, quoted.is_found)) }
+        ≡ Ok (said_in quoted)) }
     ensures refused { IfErr result (λ fault. (fault ≡ QuoteFault.NoMemory)
         ⊎ (quote_at domain contracts.items asked (place_named contracts.items name.now) ≡ Err fault)) }
 {
@@ -107,7 +150,7 @@ fn asked_beside(
     requires own { fits domain contract ≡ true }
     requires place { place ≤ length others.items }
     ensures ok { IfOk result (λ quoted. asked_on domain others.items place contract asked
-        ≡ Ok (quoted.text.items, quoted.is_found)) }
+        ≡ Ok (said_in quoted)) }
     ensures refused { IfErr result (λ fault. (fault ≡ QuoteFault.NoMemory)
         ⊎ (asked_on domain others.items place contract asked ≡ Err fault)) }
 {
@@ -125,30 +168,16 @@ fn count_beside(
     contract: &Contract,
 ) -> Result<Quoted, QuoteFault>
     requires { list_all (fits domain) others.items ≡ true }
-    ensures told { IfOk result (λ quoted. count_told domain others.items contract.now
-        (refusal_of (with_least domain others.items)) ≡ (quoted.text.items, quoted.is_found)) }
+    ensures told { IfOk result (λ quoted. count_beside domain others.items contract.now
+        (refusal_of (with_least domain others.items)) ≡ said_in quoted) }
     ensures memory { IfErr result (λ fault. fault ≡ QuoteFault.NoMemory) }
 {
     match accepted_by(alloc, domain, others) {
-        Ok(accepted) => count_over(alloc, &accepted, contract),
+        Ok(accepted) => Ok(Quoted::Count {
+            number: count_without(&accepted, None, contract),
+        }),
         Err(Some((domain, others))) => none_with(alloc, domain, others),
         Err(None) => Err(QuoteFault::NoMemory),
-    }
-}
-
-/// How many contracts like one fit beside an accepted table.
-fn count_over(alloc: Global, accepted: &Accepted, contract: &Contract) -> Result<Quoted, QuoteFault>
-    ensures told { IfOk result (λ quoted. told_count accepted.now contract.now
-        ≡ (quoted.text.items, quoted.is_found)) }
-    ensures memory { IfErr result (λ fault. fault ≡ QuoteFault.NoMemory) }
-{
-    let mut text = Vec::new(alloc);
-    match push_count_without(&mut text, accepted, None, contract) {
-        Ok(()) => Ok(Quoted {
-            text,
-            is_found: true,
-        }),
-        Err(_) => Err(QuoteFault::NoMemory),
     }
 }
 
@@ -164,8 +193,15 @@ fn push_count_without(
     ensures { OnOk result (text.new.items
         ≡ text.old.items ++ (told_count (rest_of accepted.now left_out) contract.now).0) }
 {
+    push_count(text, count_without(accepted, left_out, contract))
+}
+
+/// Appends how many fit: `count N`.
+fn push_count(text: &mut Vec<u8>, number: u64) -> Result<(), AllocError>
+    ensures { OnOk result (text.new.items ≡ text.old.items ++ count_line number) }
+{
     text.extend_from_slice(b"count")?;
-    push_figure(text, count_without(accepted, left_out, contract))?;
+    push_figure(text, number)?;
     text.push(b'\n')?;
     Ok(())
 }
@@ -207,7 +243,7 @@ fn quote_beside(
     requires own { fits domain contract ≡ true }
     requires place { place ≤ length others.items }
     ensures ok { IfOk result (λ quoted. quote_on domain others.items place contract field (least_terms field contract.terms)
-        ≡ Ok (quoted.text.items, quoted.is_found)) }
+        ≡ Ok (said_in quoted)) }
     ensures refused { IfErr result (λ fault. (fault ≡ QuoteFault.NoMemory)
         ⊎ (quote_on domain others.items place contract field (least_terms field contract.terms) ≡ Err fault)) }
 {
@@ -215,7 +251,7 @@ fn quote_beside(
         return Err(QuoteFault::NoField);
     };
     match accepted_by(alloc, domain, others) {
-        Ok(accepted) => quote_over(alloc, &accepted, &contract, field),
+        Ok(accepted) => Ok(quote_over(alloc, &accepted, &contract, field)),
         Err(Some((domain, others))) => none_of(alloc, domain, others, place, contract, terms),
         Err(None) => Err(QuoteFault::NoMemory),
     }
@@ -263,39 +299,21 @@ fn parts_of(candidate: Candidate) -> (Domain, Vec<Contract>)
 }
 
 /// What is answered to a quote beside an accepted table.
-fn quote_over(
-    alloc: Global,
-    accepted: &Accepted,
-    contract: &Contract,
-    field: Field,
-) -> Result<Quoted, QuoteFault>
-    ensures told { IfOk result (λ quoted. told_beside accepted.now contract.now field
-        ≡ (quoted.text.items, quoted.is_found)) }
-    ensures memory { IfErr result (λ fault. fault ≡ QuoteFault.NoMemory) }
+fn quote_over(alloc: Global, accepted: &Accepted, contract: &Contract, field: Field) -> Quoted
+    ensures { quote_beside accepted.now contract.now field ≡ said_in result }
 {
-    let mut text = Vec::new(alloc);
-    match push_quote(&mut text, accepted, contract, field) {
-        Ok(is_found) => Ok(Quoted { text, is_found }),
-        Err(_) => Err(QuoteFault::NoMemory),
+    match quoted_without(accepted, None, contract, field) {
+        Ok(value) => Quoted::Most { field, value },
+        Err(refusal) => Quoted::None {
+            contracts: Vec::new(alloc),
+            refusal,
+        },
     }
 }
 
-/// Appends the greatest value of a field of a contract beside an accepted table, `FIELD VALUE`; or `none`, and behind it
-/// the checker's line for the least valid value, if there is one. Tells whether there was a value.
-fn push_quote(
-    text: &mut Vec<u8>,
-    accepted: &Accepted,
-    contract: &Contract,
-    field: Field,
-) -> Result<bool, AllocError>
-    ensures text { OnOk result (text.new.items
-        ≡ text.old.items ++ (told_beside accepted.now contract.now field).0) }
-    ensures found { IfOk result (λ found. found ≡ (told_beside accepted.now contract.now field).1) }
-{
-    push_quote_without(text, accepted, None, contract, field)
-}
-
-/// The same beside what an accepted table holds but the contract at a place, if one is left out.
+/// Appends the greatest value of a field of a contract beside what an accepted table holds but the contract at a place, if
+/// one is left out: `FIELD VALUE`; or `none`, and behind it the checker's line for the least valid value, if there is one.
+/// Tells whether there was a value.
 fn push_quote_without(
     text: &mut Vec<u8>,
     accepted: &Accepted,
@@ -358,8 +376,7 @@ fn none_of(
     requires fit { list_all (fits domain) others.items ≡ true }
     requires own { fits domain contract ≡ true }
     requires place { place ≤ length others.items }
-    ensures told { IfOk result (λ quoted. told_none domain others.items place contract terms
-        ≡ (quoted.text.items, quoted.is_found)) }
+    ensures told { IfOk result (λ quoted. quote_none domain others.items place contract terms ≡ said_in quoted) }
     ensures memory { IfErr result (λ fault. fault ≡ QuoteFault.NoMemory) }
 {
     let mut contracts = others;
@@ -371,12 +388,11 @@ fn none_of(
     none_with(alloc, domain, contracts)
 }
 
-/// `none`, and what the checker says of contracts that fit a domain with their least certificate.
+/// No value, and what the checker says of contracts that fit a domain with their least certificate.
 fn none_with(alloc: Global, domain: Domain, contracts: Vec<Contract>) -> Result<Quoted, QuoteFault>
     requires { list_all (fits domain) contracts.items ≡ true }
     ensures told { IfOk result (λ quoted.
-        (quoted.text.items ≡ none_lines contracts.items (refusal_of (with_least domain contracts.items)))
-        × (quoted.is_found ≡ false)) }
+        nothing_told contracts.items (refusal_of (with_least domain contracts.items)) ≡ said_in quoted) }
     ensures memory { IfErr result (λ fault. fault ≡ QuoteFault.NoMemory) }
 {
     let Ok(certificate) = least_certificate(alloc, &domain, contracts.as_slice()) else {
@@ -388,37 +404,22 @@ fn none_with(alloc: Global, domain: Domain, contracts: Vec<Contract>) -> Result<
         certificate,
     };
     match check(alloc, candidate) {
-        Ok(accepted) => none_told(alloc, accepted.contracts(), None),
+        Ok(_accepted) => Ok(Quoted::None {
+            contracts: Vec::new(alloc),
+            refusal: None,
+        }),
         Err((_, Refusal::NoMemory)) => Err(QuoteFault::NoMemory),
-        Err((candidate, refusal)) => none_against(alloc, candidate, refusal),
+        Err((candidate, refusal)) => Ok(none_against(candidate, refusal)),
     }
 }
 
-/// `none`, and the checker's line of a refusal of a candidate, which is let go here.
-fn none_against(alloc: Global, candidate: Candidate, refusal: Refusal) -> Result<Quoted, QuoteFault>
-    ensures told { IfOk result (λ quoted.
-        (quoted.text.items ≡ none_lines candidate.contracts.items (Some refusal)) × (quoted.is_found ≡ false)) }
-    ensures memory { IfErr result (λ fault. fault ≡ QuoteFault.NoMemory) }
+/// No value, and a refusal of a candidate.
+fn none_against(candidate: Candidate, refusal: Refusal) -> Quoted
+    ensures { nothing_told candidate.contracts.items (Some refusal) ≡ said_in result }
 {
-    none_told(alloc, candidate.contracts.as_slice(), Some(refusal))
-}
-
-/// `none`, and the checker's line of a refusal of some contracts, if there is one.
-fn none_told(
-    alloc: Global,
-    contracts: &[Contract],
-    refusal: Option<Refusal>,
-) -> Result<Quoted, QuoteFault>
-    ensures told { IfOk result (λ quoted. (quoted.text.items ≡ none_lines contracts.now refusal)
-        × (quoted.is_found ≡ false)) }
-    ensures memory { IfErr result (λ fault. fault ≡ QuoteFault.NoMemory) }
-{
-    let mut text = Vec::new(alloc);
-    match push_none(&mut text, contracts, refusal) {
-        Ok(()) => Ok(Quoted {
-            text,
-            is_found: false,
-        }),
-        Err(_) => Err(QuoteFault::NoMemory),
+    let (_, contracts) = parts_of(candidate);
+    Quoted::None {
+        contracts,
+        refusal: Some(refusal),
     }
 }

@@ -164,7 +164,7 @@ fn push_column(text: &mut Line, column: Column, needed: u128, given: u128)
     ensures room { array_vec_len text.new < 192 }
 {
     push(text, b" ");
-    push(text, column_text(column));
+    push(text, column_text(column).as_bytes());
     push_figures(text, needed, given);
 }
 

@@ -1,7 +1,7 @@
 ghost use Rattle.std.specs.Prelude.{◌≡◌, ◌++◌, OnOk};
 ghost use Rattle.dsedge_texts.specs.Wording.{column_text, figure, kind_text, name_of, text_or_dash};
 
-use ds_domain::{Contract, Kind};
+use ds_domain::{Contract, Kind, Name};
 use itoa::Buffer;
 use line_text::push_number;
 use moment_core::Column;
@@ -21,14 +21,35 @@ pub fn push_name(
     }
 }
 
+/// A name as text.
+#[tactic(auto, using(ds_offers::proofs::NameLaws::name_is_text))]
+pub fn name_text(name: &Name) -> &str
+    ensures { result.now ≡ name.now }
+{
+    match std::str::from_utf8(name.bytes()) {
+        Ok(text) => text,
+        Err(_) => unreachable!(),
+    }
+}
+
+/// The name of the contract at a place, as text; none where there is none.
+pub fn contract_text(contracts: &[Contract], place: usize) -> &str
+    ensures { result.now ≡ name_of contracts.now place }
+{
+    match contracts.get(place) {
+        Some(contract) => name_text(&contract.name),
+        None => "",
+    }
+}
+
 /// How a column is written.
-pub fn column_text(column: Column) -> &'static [u8]
+pub fn column_text(column: Column) -> &'static str
     ensures { result.now ≡ column_text column }
 {
     match column {
-        Column::Green => "green".as_bytes(),
-        Column::All => "all".as_bytes(),
-        Column::Excess => "excess".as_bytes(),
+        Column::Green => "green",
+        Column::All => "all",
+        Column::Excess => "excess",
     }
 }
 

@@ -2,7 +2,7 @@ use itoa::Buffer;
 use std::alloc::AllocError;
 
 /// Appends a number with a comma before each three digits, as `23,060`.
-pub(crate) fn push_figure(words: &mut String, number: u128) -> Result<(), AllocError> {
+pub fn push_figure(words: &mut String, number: u128) -> Result<(), AllocError> {
     let mut buffer = Buffer::new();
     let digits = buffer.format(number);
     let mut left = digits.len();

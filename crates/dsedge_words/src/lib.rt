@@ -18,6 +18,7 @@ mod usages;
 mod ways;
 
 pub use absences::{contracts_said, meters_said, ports_said};
+pub use figures::push_figure;
 pub use flaws::flaw_said;
-pub use refusals::{certificate_said, refusal_said};
+pub use refusals::{certificate_said, column_said, refusal_said};
 pub use usages::usage_said;

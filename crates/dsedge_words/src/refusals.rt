@@ -58,7 +58,7 @@ pub fn refusal_said(
 }
 
 /// Which packets a column is of.
-fn column_said(column: Column) -> &'static str {
+pub fn column_said(column: Column) -> &'static str {
     match column {
         Column::Green => "green packets",
         Column::All => "green and yellow packets",

@@ -1,24 +1,27 @@
 -- Rules by the bits of addresses for which they ask: rows in order, a run of rows, tuples, and the first rule that holds.
-use Rattle.std.proofs.Common.{◌≡◌, ◌⊎◌, inl, inr, ◌<◌, ◌≤◌, ◌+◌, ◌-◌, ◌/◌, ◌%◌, ◌^◌, ℕ, zero, suc, nat_eq, Bool, true, false, ◌&&◌, cond, ltb, List, [], ◌∷◌, ◌++◌, length, length-drop, map, drop, take, get_or, Option, None, Some, refl, subst, sym, ap, ◌∙◌, arith}
-use Rattle.std.specs.Prelude.{◌||◌, All, IfSome, slice_get, IsPermutation, ⊤}
+use Rattle.std.proofs.Common.{◌≡◌, ◌⊎◌, inl, inr, ◌<◌, ◌≤◌, ◌+◌, ◌-◌, ◌/◌, ◌%◌, ◌^◌, ℕ, zero, suc, nat_eq, Bool, true, false, ◌&&◌, cond, ltb, List, [], ◌∷◌, ◌++◌, length, length-drop, map, drop, take, get_or, option_map, Option, None, Some, refl, subst, sym, ap, ◌∙◌, arith}
+use Rattle.std.specs.Prelude.{◌||◌, All, IfSome, slice_get, IsPermutation, ⊤, is_none, not}
 use Rattle.std.specs.Cmp.{IsTotalOrder, IsStrictWeakOrder}
 use Rattle.std.specs.List.{list_any}
 use Rattle.std.specs.List.Sorted.{IsNonDecreasingBy, IsPartitionPoint, IsSorted}
 use Rattle.std.specs.Ordering.{is_lt, nat_cmp, ordering_then}
-use Rattle.std.proofs.Math.Nat.{div-eq_of_lt}
+use Rattle.std.proofs.Math.Nat.{div-eq_of_lt, div-le_self}
 use Rattle.std.proofs.lemmas.Bool.{cases_lt}
 use Rattle.std.proofs.lemmas.Bool.Decides.{nat_tests}
 use Rattle.std.proofs.lemmas.Cmp.{nat_cmp_total, on_total, then_total}
 use Rattle.std.proofs.lemmas.List.{drop_more, get_or-drop, get_or_default, get_or_read, map_push, take_more}
 use Rattle.std.proofs.lemmas.List.Elements.{All-cons, All-nil, All-push, All-weaker}
 use Rattle.std.proofs.lemmas.List.Sorted.{All-permutation, list_any-IsPermutation, ranks_by, sorted_far}
-use Rattle.std.proofs.lemmas.Option.{MatchOption-at_some, get_or_from_slice_get, none-some, same_Some, slice_get_within}
-use Rattle.flow_classifier.specs.Matching.{holds, holds_where_given, is_in_prefix, numbers_hold, ports_hold}
-use Rattle.flow_classifier.specs.Keys.{source_of, target_of}
+use Rattle.std.proofs.lemmas.Option.{MatchOption-at_some, get_or_from_slice_get, none-some, same_Some, slice_get-map, slice_get_within}
+use Rattle.flow_classifier.specs.Families.{asks_ipv6, can_take_ipv4}
+use Rattle.flow_classifier.specs.Matching.{addresses_hold, holds, holds_where_given, is_in_prefix, is_in_range, numbers_hold, ports_hold}
+use Rattle.flow_classifier.specs.Keys.{are_ipv4, source_of, target_of}
 use Rattle.flow_classifier.specs.Tables.{first_flow_of}
-use Rattle.flow_classifier.specs.Tuples.{AreTuplesOf, IsAddress, IsHeldAt, IsNotHeldAt, IsTupleOf, addresses_of, addresses_under, as_one, bits_asked, last_bits, length_asked, lengths_of, row_at, row_cmp, rows_from, same_lengths}
+use Rattle.flow_classifier.specs.Tuples.{AreTuplesOf, AsksNoMore, IsAddress, IsDecided, IsHeldAt, IsNotHeldAt, IsTupleOf, addresses_of, addresses_under, as_one, bits_asked, last_bits, length_asked, lengths_of, row_at, row_cmp, rows_from, same_lengths}
 use Rattle.flow_classifier.specs.declared.key.Address.{Address}
 use Rattle.flow_classifier.specs.declared.key.Address.TheVariants as addresses
+use Rattle.flow_classifier.specs.declared.key.Addresses.{Addresses}
+use Rattle.flow_classifier.specs.declared.key.Addresses.TheVariants as pairs
 use Rattle.flow_classifier.specs.declared.key.Key.{Key}
 use Rattle.flow_classifier.specs.declared.prefix.Prefix.{Prefix}
 use Rattle.flow_classifier.specs.declared.prefix.Prefix.TheVariants as prefixes
@@ -223,6 +226,93 @@ none_of_tuple t rules key start place source target kept before none k row at sa
                 false_true : false ≡ true → ⊥
                 false_true e = absurd cc
 
+-- ---- rules that ask for no more than addresses
+
+and_first : (a b : Bool) → (a && b) ≡ true → a ≡ true
+and_first true b all = refl
+and_first false b all = absurd cc
+
+and_second : (a b : Bool) → (a && b) ≡ true → b ≡ true
+and_second true b all = all
+and_second false b all = absurd cc
+
+and_both : (a b : Bool) → a ≡ true → b ≡ true → (a && b) ≡ true
+and_both true b first second = second
+and_both false b first second = absurd cc
+
+neither : (a b : Bool) → not (a || b) ≡ true → (a ≡ false) × (b ≡ false)
+neither false false none = (refl, refl)
+neither false true none = absurd cc
+neither true b none = absurd cc
+
+-- a part that is not given holds
+holds_not_given : {P V : Type 0} (test : P → V → Bool) (part : Option P) (value : V) → is_none part ≡ true → holds_where_given test part value ≡ true
+holds_not_given test None value none = refl
+holds_not_given test (Some part) value none = absurd cc
+
+-- a prefix holds of an address of IPv4 that has the bits which it asks for
+held_by_bits : (prefix : Option Prefix) (address : ℕ) → asks_ipv6 prefix ≡ false → bits_asked prefix ≡ last_bits (length_asked prefix) (addresses.V4 address)
+    → holds_where_given is_in_prefix prefix (addresses.V4 address) ≡ true
+held_by_bits None a own same = refl
+held_by_bits (Some (prefixes.V4 p)) a own same = equal (a / 2 ^ (32 - p.length)) (p.address / 2 ^ (32 - p.length)) (sym same)
+  where
+    equal : (m n : ℕ) → m ≡ n → nat_eq m n ≡ true
+    equal m n same = grind (arith, nat_tests)
+held_by_bits (Some (prefixes.V6 p)) a own same = absurd cc
+
+halves : (a b c d : ℕ) → b < 2 ^ 32 → d < 2 ^ 32 → as_one a b ≡ as_one c d → (a ≡ c) × (b ≡ d)
+halves a b c d low other same = (omega (arith, low, other, same), omega (arith, low, other, same))
+
+-- a rule that asks for no more than addresses holds of a packet of IPv4 that has these
+held_by_addresses : (rule : Rule) (key : Key) (lengths : Lengths) (source target : ℕ) → source_of key.addresses ≡ addresses.V4 source → target_of key.addresses ≡ addresses.V4 target
+    → target < 2 ^ 32 → IsDecided lengths rule → addresses_of rule ≡ addresses_under lengths key → holds rule key ≡ true
+held_by_addresses rule key lengths source target from to fits decided asked =
+    let long = same_test (lengths_of rule) lengths decided.0 in
+    let most = decided.1.1 in
+    let numbers = and_first _ (is_none rule.target_ports) most in
+    let others = and_first _ (is_none rule.source_ports) numbers in
+    let parts = and_first _ (is_none rule.dscp) others in
+    let own = neither (asks_ipv6 rule.source) (asks_ipv6 rule.target) (and_first (can_take_ipv4 rule) (is_none rule.protocol) parts) in
+    let here : as_one (bits_asked rule.source) (bits_asked rule.target) ≡ as_one (source / 2 ^ (32 - lengths.source)) (target / 2 ^ (32 - lengths.target)) =
+    asked ∙ ap (λ (a : Address). as_one (last_bits lengths.source a) (last_bits lengths.target (target_of key.addresses))) from
+    ∙ ap (λ (a : Address). as_one (source / 2 ^ (32 - lengths.source)) (last_bits lengths.target a)) to in
+    let low : target / 2 ^ (32 - lengths.target) < 2 ^ 32 = omega (arith, fits, div-le_self target (2 ^ (32 - lengths.target))) in
+    let same = halves (bits_asked rule.source) (bits_asked rule.target) (source / 2 ^ (32 - lengths.source)) (target / 2 ^ (32 - lengths.target)) decided.1.0 low here in
+    let first : holds_where_given is_in_prefix rule.source (source_of key.addresses) ≡ true =
+    ap (λ (a : Address). holds_where_given is_in_prefix rule.source a) from
+    ∙ held_by_bits rule.source source own.0 (same.0 ∙ ap (λ n. source / 2 ^ (32 - n)) (sym long.0)) in
+    let second : holds_where_given is_in_prefix rule.target (target_of key.addresses) ≡ true =
+    ap (λ (a : Address). holds_where_given is_in_prefix rule.target a) to
+    ∙ held_by_bits rule.target target own.1 (same.1 ∙ ap (λ n. target / 2 ^ (32 - n)) (sym long.1)) in
+    let ports =
+    and_both _ _ (holds_not_given (is_in_range (λ ports. ports.0)) rule.source_ports key.ports (and_second _ (is_none rule.source_ports) numbers))
+    (holds_not_given (is_in_range (λ ports. ports.1)) rule.target_ports key.ports (and_second _ (is_none rule.target_ports) most)) in
+    let rest =
+    and_both _ _ (holds_not_given nat_eq rule.protocol key.protocol (and_second (can_take_ipv4 rule) (is_none rule.protocol) parts))
+    (holds_not_given nat_eq rule.dscp key.dscp (and_second _ (is_none rule.dscp) others)) in
+    and_both (addresses_hold rule key) (ports_hold rule key && numbers_hold rule key) (and_both _ _ first second) (and_both (ports_hold rule key) (numbers_hold rule key) ports rest)
+
+-- so do those of rows that ask for them
+pub decided_rows : (t : Tuple) (rules : List FlowRule) (key : Key) (start : ℕ) → IsTupleOf rules t → t.decides ≡ true → are_ipv4 key.addresses ≡ true → IsAddress (target_of key.addresses)
+    → All (λ r. r.addresses ≡ addresses_under t.lengths key → IsHeldAt rules key r.place) (drop start t.rows.items)
+decided_rows t rules key start kept sure ipv4 fits = by key.addresses refl
+  where
+    rows : List Row
+    rows = t.rows.items
+
+    by : (a : Addresses) → key.addresses ≡ a → All (λ r. r.addresses ≡ addresses_under t.lengths key → IsHeldAt rules key r.place) (drop start rows)
+    by (pairs.V4 source target) is k d within =
+        let inside : start + k < length rows = omega (arith, within, length-drop start rows) in
+        let low : target < 2 ^ 32 = subst (λ (a : Addresses). IsAddress (target_of a)) is fits in
+        rw (get_or-drop start rows k d)
+        (λ asked row at.
+        held_by_addresses row.rule key t.lengths source target (ap source_of is) (ap target_of is) low (kept.decided sure (start + k) d inside row at)
+        (sym (kept.asked (start + k) d inside row at) ∙ asked))
+    by (pairs.V6 source target) is k d within = absurd (wrong (sym (ap are_ipv4 is) ∙ ipv4))
+      where
+        wrong : false ≡ true → ⊥
+        wrong e = absurd cc
+
 -- ---- all tuples
 
 pub tuple_at : (rules seen_rules : List FlowRule) (tuples seen : List Tuple) (i : ℕ) (t : Tuple) → All (λ u. IsTupleOf rules u) tuples → seen_rules ≡ rules → seen ≡ tuples
@@ -292,6 +382,18 @@ found_at (r ∷ rules) key (suc place) here before row at =
     found_at rules key place (λ other there. here other there) (λ k other there less. before (suc k) other there (omega (arith, less))) row at
     ∙ ap (λ b. cond b (Some r.flow) (first_flow_of rules key)) (sym (before 0 r refl (omega arith)))
 
+-- the flow at its place, where flows stand by themselves
+pub flow_found : (rules : List FlowRule) (flows : List ℕ) (key : Key) (place flow : ℕ) → flows ≡ map (λ row. row.flow) rules → slice_get flows place ≡ Some flow
+    → IsHeldAt rules key place → ((k : ℕ) (row : FlowRule) → slice_get rules k ≡ Some row → k < place → holds row.rule key ≡ false) → Some flow ≡ first_flow_of rules key
+flow_found rules flows key place flow are at here before = by (slice_get rules place) refl
+  where
+    there : option_map (λ (row : FlowRule). row.flow) (slice_get rules place) ≡ Some flow
+    there = sym (slice_get-map (λ (row : FlowRule). row.flow) rules place) ∙ sym (ap (λ (fs : List ℕ). slice_get fs place) are) ∙ at
+
+    by : (found : Option FlowRule) → slice_get rules place ≡ found → Some flow ≡ first_flow_of rules key
+    by (Some row) is = sym (sym (ap (option_map (λ (r : FlowRule). r.flow)) is) ∙ there) ∙ found_at rules key place here before row is
+    by None is = absurd (none-some flow (sym (ap (option_map (λ (r : FlowRule). r.flow)) is) ∙ there))
+
 pub found_none : (rules : List FlowRule) (key : Key) (place : ℕ) → length rules ≤ place
     → ((k : ℕ) (row : FlowRule) → slice_get rules k ≡ Some row → k < place → holds row.rule key ≡ false) → None ≡ first_flow_of rules key
 found_none [] key place ended before = refl
@@ -308,18 +410,22 @@ pub rows_next : (lengths : Lengths) (rules : List FlowRule) (place : ℕ) (row :
 rows_next lengths rules place row inside is =
     ap (rows_from lengths place) (drop_more rules place row inside ∙ ap (λ (r : FlowRule). r ∷ drop (place + 1) rules) (sym is))
 
--- the row of one of some rules, the first of which stands at a place
-abbrev IsRowOf : ℕ → List FlowRule → Row → Type 0
-IsRowOf place rules r =
-    (place ≤ r.place) × ((r.place < place + length rules) × ((row : FlowRule) → slice_get rules (r.place - place) ≡ Some row → r.addresses ≡ addresses_of row.rule))
+-- the row of a rule that asks for so many bits
+abbrev IsRowFor : Lengths → FlowRule → Row → Type 0
+IsRowFor lengths row r = (r.addresses ≡ addresses_of row.rule) × (same_lengths (lengths_of row.rule) lengths ≡ true)
 
-rows_are : (lengths : Lengths) (place : ℕ) (rules : List FlowRule) → All (IsRowOf place rules) (rows_from lengths place rules)
-rows_are lengths place [] = All-nil (IsRowOf place [])
+-- that of one of some rules, the first of which stands at a place
+abbrev IsRowOf : Lengths → ℕ → List FlowRule → Row → Type 0
+IsRowOf lengths place rules r =
+    (place ≤ r.place) × ((r.place < place + length rules) × ((row : FlowRule) → slice_get rules (r.place - place) ≡ Some row → IsRowFor lengths row r))
+
+rows_are : (lengths : Lengths) (place : ℕ) (rules : List FlowRule) → All (IsRowOf lengths place rules) (rows_from lengths place rules)
+rows_are lengths place [] = All-nil (IsRowOf lengths place [])
 rows_are lengths place (row ∷ rules) =
-    by (same_lengths (lengths_of row.rule) lengths)
-    (All-weaker (IsRowOf (place + 1) rules) (IsRowOf place (row ∷ rules)) one_on (rows_from lengths (place + 1) rules) (rows_are lengths (place + 1) rules))
+    by (same_lengths (lengths_of row.rule) lengths) refl
+    (All-weaker (IsRowOf lengths (place + 1) rules) (IsRowOf lengths place (row ∷ rules)) one_on (rows_from lengths (place + 1) rules) (rows_are lengths (place + 1) rules))
   where
-    one_on : (r : Row) → IsRowOf (place + 1) rules r → IsRowOf place (row ∷ rules) r
+    one_on : (r : Row) → IsRowOf lengths (place + 1) rules r → IsRowOf lengths place (row ∷ rules) r
     one_on r its = (
       omega (arith, its.0),
       (
@@ -328,19 +434,21 @@ rows_are lengths place (row ∷ rules) =
       ),
     )
 
-    own : IsRowOf place (row ∷ rules) (row_at place row)
-    own = (
+    own : same_lengths (lengths_of row.rule) lengths ≡ true → IsRowOf lengths place (row ∷ rules) (row_at place row)
+    own same = (
       omega arith,
       (
         omega arith,
-        λ other at. ap (λ (r : FlowRule). addresses_of r.rule) (same_Some row other (sym (ap (slice_get (row ∷ rules)) (let e : place - place ≡ 0 = omega arith in e)) ∙ at)),
+        λ other at.
+            let it : row ≡ other = same_Some row other (sym (ap (slice_get (row ∷ rules)) (let e : place - place ≡ 0 = omega arith in e)) ∙ at) in
+            (ap (λ (r : FlowRule). addresses_of r.rule) it, sym (ap (λ (r : FlowRule). same_lengths (lengths_of r.rule) lengths) it) ∙ same),
       ),
     )
 
-    by : (here : Bool) → All (IsRowOf place (row ∷ rules)) (rows_from lengths (place + 1) rules)
-        → All (IsRowOf place (row ∷ rules)) (cond here (row_at place row ∷ rows_from lengths (place + 1) rules) (rows_from lengths (place + 1) rules))
-    by true later = All-cons (IsRowOf place (row ∷ rules)) (row_at place row) (rows_from lengths (place + 1) rules) own later
-    by false later = later
+    by : (here : Bool) → same_lengths (lengths_of row.rule) lengths ≡ here → All (IsRowOf lengths place (row ∷ rules)) (rows_from lengths (place + 1) rules)
+        → All (IsRowOf lengths place (row ∷ rules)) (cond here (row_at place row ∷ rows_from lengths (place + 1) rules) (rows_from lengths (place + 1) rules))
+    by true same later = All-cons (IsRowOf lengths place (row ∷ rules)) (row_at place row) (rows_from lengths (place + 1) rules) (own same) later
+    by false same later = later
 
 -- each rule that asks for the bits has its row
 rows_have : (lengths : Lengths) (place : ℕ) (rules : List FlowRule) (k : ℕ) (row : FlowRule) → slice_get rules k ≡ Some row → same_lengths (lengths_of row.rule) lengths ≡ true
@@ -367,13 +475,20 @@ rows_have lengths place (r ∷ rules) (suc k) row at same =
     by true later = ap (λ b. nat_eq place (place + suc k) || b) later ∙ or_true (nat_eq place (place + suc k))
     by false later = later
 
+-- the rules that ask for so many bits ask for no more
+abbrev pub AskNoMore : Lengths → List FlowRule → Type 0
+AskNoMore lengths rules = All (λ row. same_lengths (lengths_of row.rule) lengths ≡ true → AsksNoMore row.rule) rules
+
 -- rows that are sorted are a tuple
-pub made_tuple : (rules : List FlowRule) (t : Tuple) (rows : List Row) → rows ≡ rows_from t.lengths 0 rules → IsPermutation rows t.rows.items → IsSorted row_cmp t.rows.items → IsTupleOf rules t
-made_tuple rules t rows is moved up = record {
+pub made_tuple : (rules : List FlowRule) (t : Tuple) (rows : List Row) → rows ≡ rows_from t.lengths 0 rules → IsPermutation rows t.rows.items → IsSorted row_cmp t.rows.items
+    → (t.decides ≡ true → AskNoMore t.lengths rules) → IsTupleOf rules t
+made_tuple rules t rows is moved up alone = record {
   sorted = up;
-  within = All-weaker (IsRowOf 0 rules) (λ r. r.place < length rules) (λ r its. omega (arith, its.1.0)) t.rows.items all;
-  asked = All-weaker (IsRowOf 0 rules) (λ r. (row : FlowRule) → slice_get rules r.place ≡ Some row → r.addresses ≡ addresses_of row.rule)
-      (λ r its row at. its.1.1 row (ap (slice_get rules) (let e : r.place - 0 ≡ r.place = omega arith in e) ∙ at)) t.rows.items all;
+  within = All-weaker (IsRowOf t.lengths 0 rules) (λ r. r.place < length rules) (λ r its. omega (arith, its.1.0)) t.rows.items all;
+  asked = All-weaker (IsRowOf t.lengths 0 rules) (λ r. (row : FlowRule) → slice_get rules r.place ≡ Some row → r.addresses ≡ addresses_of row.rule)
+      (λ r its row at. (its.1.1 row (here r row at)).0) t.rows.items all;
+  decided = λ sure. All-weaker (IsRowOf t.lengths 0 rules) (λ r. (row : FlowRule) → slice_get rules r.place ≡ Some row → IsDecided t.lengths row.rule)
+      (λ r its row at. let same = (its.1.1 row (here r row at)).1 in (same, at_place (alone sure) r.place row at same)) t.rows.items all;
   placed = λ k row at same.
       sym (list_any-IsPermutation (λ r. nat_eq r.place k) rows t.rows.items moved)
       ∙ ap (list_any (λ r. nat_eq r.place k)) is
@@ -381,8 +496,32 @@ made_tuple rules t rows is moved up = record {
       ∙ rows_have t.lengths 0 rules k row at same;
 }
   where
-    all : All (IsRowOf 0 rules) t.rows.items
-    all = All-permutation (IsRowOf 0 rules) rows t.rows.items moved (subst (λ (rs : List Row). All (IsRowOf 0 rules) rs) (sym is) (rows_are t.lengths 0 rules))
+    all : All (IsRowOf t.lengths 0 rules) t.rows.items
+    all = All-permutation (IsRowOf t.lengths 0 rules) rows t.rows.items moved (subst (λ (rs : List Row). All (IsRowOf t.lengths 0 rules) rs) (sym is) (rows_are t.lengths 0 rules))
+
+    here : (r : Row) (row : FlowRule) → slice_get rules r.place ≡ Some row → slice_get rules (r.place - 0) ≡ Some row
+    here r row at = ap (slice_get rules) (let e : r.place - 0 ≡ r.place = omega arith in e) ∙ at
+
+    at_place : AskNoMore t.lengths rules → (k : ℕ) (row : FlowRule) → slice_get rules k ≡ Some row → same_lengths (lengths_of row.rule) t.lengths ≡ true → AsksNoMore row.rule
+    at_place all k row at =
+        subst (λ (r : FlowRule). same_lengths (lengths_of r.rule) t.lengths ≡ true → AsksNoMore r.rule) (get_or_from_slice_get rules k row row at)
+        (all k row (slice_get_within rules k row at))
+
+-- so do the first rules
+abbrev pub AskNoMoreSoFar : Lengths → List FlowRule → ℕ → Type 0
+AskNoMoreSoFar lengths rules count =
+    (k : ℕ) (d : FlowRule) → k < count → same_lengths (lengths_of (get_or rules k d).rule) lengths ≡ true → AsksNoMore (get_or rules k d).rule
+
+-- one rule more
+pub no_more_next : (lengths : Lengths) (rules : List FlowRule) (count : ℕ) (row : FlowRule) → count < length rules → row ≡ get_or rules count row
+    → (same_lengths (lengths_of row.rule) lengths ≡ true → AsksNoMore row.rule) → AskNoMoreSoFar lengths rules count → AskNoMoreSoFar lengths rules (count + 1)
+no_more_next lengths rules count row inside is here before k d within = by (cases_lt k count)
+  where
+    by : (k < count) ⊎ (count ≤ k) → same_lengths (lengths_of (get_or rules k d).rule) lengths ≡ true → AsksNoMore (get_or rules k d).rule
+    by (inl first) = before k d first
+    by (inr last) =
+        let it : row ≡ get_or rules k d = get_or_read rules count row inside is d ∙ ap (λ i. get_or rules i d) (let e : count ≡ k = omega (arith, last, within) in e) in
+        subst (λ (r : FlowRule). same_lengths (lengths_of r.rule) lengths ≡ true → AsksNoMore r.rule) it here
 
 -- one tuple more
 pub tuples_more : (rules : List FlowRule) (tuples : List Tuple) (lengths : List Lengths) (count : ℕ) (t : Tuple) (e : Lengths) → count < length lengths → All (λ u. IsTupleOf rules u) tuples

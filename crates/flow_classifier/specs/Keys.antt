@@ -1,4 +1,5 @@
 -- What rules ask of a packet, by its header.
+use Rattle.std.specs.Prelude.{Bool, true, false}
 use Rattle.af_marker.specs.declared.ipv4.Ipv4Header.{Ipv4Header}
 use Rattle.af_marker.specs.declared.ipv6.Ipv6Header.{Ipv6Header}
 use Rattle.af_marker.specs.declared.packet.Header.{Header}
@@ -17,6 +18,11 @@ source_of (pairs.V6 source target) = addresses.V6 source
 abbrev pub target_of : Addresses → Address
 target_of (pairs.V4 source target) = addresses.V4 target
 target_of (pairs.V6 source target) = addresses.V6 target
+
+-- the addresses are those of IPv4
+abbrev pub are_ipv4 : Addresses → Bool
+are_ipv4 (pairs.V4 source target) = true
+are_ipv4 (pairs.V6 source target) = false
 
 -- a packet with a header of IPv4, and one with a header of IPv6
 abbrev pub ipv4_key : Ipv4Header → Key

@@ -1,10 +1,11 @@
 -- Rules by how many bits of addresses they ask for: a source's and a target's.
 use Rattle.std.specs.Prelude.{◌≡◌, ℕ, ◌+◌, ◌-◌, ◌*◌, ◌/◌, ◌%◌, ◌^◌, ◌<◌, if◌then◌else◌, Bool, true, false, nat_eq, ◌&&◌, List, []}
-use Rattle.std.specs.Prelude.{◌∷◌, All, length, slice_get, Option, None, Some}
+use Rattle.std.specs.Prelude.{◌∷◌, All, length, slice_get, Option, None, Some, is_none}
 use Rattle.std.specs.List.{list_any}
 use Rattle.std.specs.List.Sorted.{IsSorted}
 use Rattle.std.specs.Ordering.{nat_cmp, ordering_then}
 use Rattle.std.specs.declared.cmp.Ordering.{Ordering}
+use Rattle.flow_classifier.specs.Families.{can_take_ipv4}
 use Rattle.flow_classifier.specs.Matching.{holds}
 use Rattle.flow_classifier.specs.Keys.{source_of, target_of}
 use Rattle.flow_classifier.specs.declared.key.Address.{Address}
@@ -60,6 +61,12 @@ abbrev pub addresses_under : Lengths → Key → ℕ
 addresses_under lengths key =
     as_one (last_bits lengths.source (source_of key.addresses)) (last_bits lengths.target (target_of key.addresses))
 
+-- a rule asks a packet of IPv4 for nothing beside addresses
+abbrev pub asks_no_more : Rule → Bool
+asks_no_more rule =
+    can_take_ipv4 rule && is_none rule.protocol && is_none rule.dscp && is_none rule.source_ports
+    && is_none rule.target_ports
+
 -- by what rows ask for, then by their places
 abbrev pub row_cmp : Row → Row → Ordering
 row_cmp r s = ordering_then (nat_cmp r.addresses s.addresses) (nat_cmp r.place s.place)
@@ -83,13 +90,23 @@ IsHeldAt rules key place = (row : FlowRule) → slice_get rules place ≡ Some r
 abbrev pub IsNotHeldAt : List FlowRule → Key → ℕ → Type 0
 IsNotHeldAt rules key place = (row : FlowRule) → slice_get rules place ≡ Some row → holds row.rule key ≡ false
 
+-- a rule asks for no more than addresses, the target's of so many bits
+abbrev pub AsksNoMore : Rule → Type 0
+AsksNoMore rule = (bits_asked rule.target < 2 ^ 32) × (asks_no_more rule ≡ true)
+
+-- so does one that asks for so many bits
+abbrev pub IsDecided : Lengths → Rule → Type 0
+IsDecided lengths rule = (same_lengths (lengths_of rule) lengths ≡ true) × AsksNoMore rule
+
 -- The rows of a tuple are in order, each is that of the rule at its place, and each rule that asks for as many bits as
--- the tuple has one.
+-- the tuple has one. Where addresses decide, these rules ask for no more.
 pub record IsTupleOf (rules : List FlowRule) (t : Tuple) : Type 0 where
   pub sorted : IsSorted row_cmp t.rows.items
   pub within : All (λ r. r.place < length rules) t.rows.items
   pub asked : All (λ r. (row : FlowRule) → slice_get rules r.place ≡ Some row → r.addresses ≡ addresses_of row.rule)
       t.rows.items
+  pub decided : t.decides ≡ true
+      → All (λ r. (row : FlowRule) → slice_get rules r.place ≡ Some row → IsDecided t.lengths row.rule) t.rows.items
   pub placed : (k : ℕ) (row : FlowRule) → slice_get rules k ≡ Some row → same_lengths (lengths_of row.rule) t.lengths ≡ true
       → list_any (λ r. nat_eq r.place k) t.rows.items ≡ true
 

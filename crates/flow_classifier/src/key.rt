@@ -1,5 +1,5 @@
 ghost use Rattle.std.specs.Prelude.{◌≡◌};
-ghost use Rattle.flow_classifier.specs.Keys.{ipv4_key, ipv6_key, key_of, source_of, target_of};
+ghost use Rattle.flow_classifier.specs.Keys.{are_ipv4, ipv4_key, ipv6_key, key_of, source_of, target_of};
 
 use af_marker::{Dscp, Header, Ipv4Header, Ipv6Header};
 
@@ -32,6 +32,14 @@ pub enum Addresses {
 }
 
 impl Addresses {
+    /// Whether they are of IPv4.
+    #[inline(always)]
+    pub fn are_ipv4(&self) -> bool
+        ensures { result ≡ are_ipv4 self.now }
+    {
+        matches!(self, Addresses::V4 { .. })
+    }
+
     /// The address that it comes from.
     #[inline(always)]
     pub fn source(&self) -> Address

@@ -1,4 +1,4 @@
-ghost use Rattle.std.specs.Prelude.{◌≡◌, ◌≤◌};
+ghost use Rattle.std.specs.Prelude.{◌≡◌, ◌<◌, ◌^◌, ◌≤◌};
 ghost use Rattle.std.specs.Result.{OkIff};
 ghost use Rattle.flow_classifier.specs.Matching.{agree};
 ghost use Rattle.flow_classifier.specs.Parts.{mask_of, network_of};
@@ -105,6 +105,7 @@ impl Ipv4Prefix {
     pub fn length(self) -> u8
         ensures value { result ≡ self.length }
         ensures range { result ≤ 32 }
+        ensures address { self.address < 2 ^ 32 }
     {
         self.length
     }

@@ -5,8 +5,9 @@ ghost use Rattle.std.specs.List.Sorted.{IsSorted};
 ghost use Rattle.flow_classifier.specs.Matching.{holds};
 ghost use Rattle.flow_classifier.specs.Tables.{first_flow_of};
 ghost use Rattle.flow_classifier.specs.Keys.{source_of, target_of};
-ghost use Rattle.flow_classifier.specs.Tuples.{IsAddress, IsHeldAt, IsNotHeldAt, IsTupleOf, addresses_of};
-ghost use Rattle.flow_classifier.specs.Tuples.{addresses_under, as_one, bits_asked, last_bits, length_asked};
+ghost use Rattle.flow_classifier.specs.Tuples.{AsksNoMore, IsAddress, IsHeldAt, IsNotHeldAt, IsTupleOf, addresses_of};
+ghost use Rattle.flow_classifier.specs.Tuples.{addresses_under, as_one, asks_no_more, bits_asked, last_bits};
+ghost use Rattle.flow_classifier.specs.Tuples.{length_asked};
 ghost use Rattle.flow_classifier.specs.Tuples.{lengths_of, row_cmp, rows_from, same_lengths};
 ghost use Rattle.flow_classifier.specs.declared.table.FlowRule.{FlowRule};
 ghost use Rattle.flow_classifier.specs.declared.tuples.Row.{Row};
@@ -27,7 +28,8 @@ struct Lengths {
 
 /// How many first bits of an address a rule asks for: none where it asks for no address.
 fn length_asked(prefix: &Option<Prefix>) -> u8
-    ensures { result ≡ length_asked prefix.now }
+    ensures value { result ≡ length_asked prefix.now }
+    ensures bits { bits_asked prefix.now < 2 ^ 32 }
 {
     match prefix {
         None => 0,
@@ -80,7 +82,8 @@ fn bits_asked(prefix: &Option<Prefix>) -> u32
 impl Lengths {
     /// Those of a rule.
     fn of(rule: &Rule) -> Self
-        ensures { result ≡ lengths_of rule.now }
+        ensures value { result ≡ lengths_of rule.now }
+        ensures target { bits_asked rule.now.target < 2 ^ 32 }
     {
         Lengths {
             source: length_asked(&rule.source),
@@ -127,6 +130,8 @@ struct Row {
 struct Tuple {
     lengths: Lengths,
     rows: Vec<Row>,
+    /// Whether these bits decide of a packet of IPv4: then no rule is looked at.
+    decides: bool,
 }
 
 impl Tuple {
@@ -137,7 +142,12 @@ impl Tuple {
     {
         let mut rows = rows_of(alloc, lengths, rules)?;
         rows.sort_unstable();
-        Ok(Tuple { lengths, rows })
+        let decides = ask_no_more(lengths, rules);
+        Ok(Tuple {
+            lengths,
+            rows,
+            decides,
+        })
     }
 
     /// The first place before another at which a rule of these holds of a packet; that other where none does.
@@ -150,7 +160,8 @@ impl Tuple {
     {
         let addresses = self.lengths.addresses(key);
         let start = self.start_of(addresses);
-        first_of_run(&self.rows[start..], addresses, rules, key, most)
+        let decided = self.decides && key.addresses.are_ipv4();
+        first_of_run(&self.rows[start..], addresses, decided, rules, key, most)
     }
 
     /// Where the rows begin that do not ask for smaller addresses: found by halves.
@@ -180,9 +191,18 @@ fn rows_of(alloc: Global, lengths: Lengths, rules: &[FlowRule]) -> Result<Vec<Ro
 }
 
 /// The place of the first of some neighbouring rows that asks for addresses, stands before a place, and whose rule holds
-/// of a packet; that place where none does. None of them asks for smaller addresses.
-fn first_of_run(run: &[Row], addresses: u64, rules: &[FlowRule], key: &Key, most: usize) -> usize
-    requires { All (λ r. r.place < length rules.now) run.now }
+/// of a packet; that place where none does. None of them asks for smaller addresses. Where it is decided that those that
+/// ask for these addresses hold, no rule is looked at.
+fn first_of_run(
+    run: &[Row],
+    addresses: u64,
+    decided: bool,
+    rules: &[FlowRule],
+    key: &Key,
+    most: usize,
+) -> usize
+    requires within { All (λ r. r.place < length rules.now) run.now }
+    requires decided { decided ≡ true → All (λ r. r.addresses ≡ addresses → IsHeldAt rules.now key.now r.place) run.now }
     ensures at_most { result ≤ most }
     ensures held { result < most → IsHeldAt rules.now key.now result }
     ensures none { IsSorted row_cmp run.now → All (λ r. addresses ≤ r.addresses) run.now
@@ -192,11 +212,46 @@ fn first_of_run(run: &[Row], addresses: u64, rules: &[FlowRule], key: &Key, most
         if row.addresses != addresses || most <= row.place {
             return most;
         }
-        if rules[row.place].rule.holds(key) {
+        if decided || rules[row.place].rule.holds(key) {
             return row.place;
         }
     }
     most
+}
+
+/// Whether a rule asks a packet of IPv4 for nothing beside addresses.
+fn asks_no_more(rule: &Rule) -> bool
+    ensures { result ≡ asks_no_more rule.now }
+{
+    rule.can_take_ipv4()
+        && rule.protocol.is_none()
+        && rule.dscp.is_none()
+        && rule.source_ports.is_none()
+        && rule.target_ports.is_none()
+}
+
+/// Whether the rules that ask for so many bits ask a packet of IPv4 for nothing beside them.
+fn ask_no_more(lengths: Lengths, rules: &[FlowRule]) -> bool
+    ensures { result ≡ true
+        → All (λ row. same_lengths (lengths_of row.rule) lengths ≡ true → AsksNoMore row.rule) rules.now }
+{
+    for row in rules {
+        if Lengths::of(&row.rule) == lengths && !asks_no_more(&row.rule) {
+            return false;
+        }
+    }
+    true
+}
+
+/// The flows of rules, in their order; `AllocError` where memory runs out.
+fn flows_of(alloc: Global, rules: &[FlowRule]) -> Result<Vec<u32>, AllocError>
+    ensures { IfOk result (λ flows. flows.items ≡ map (λ row. row.flow) rules.now) }
+{
+    let mut flows = Vec::with_capacity(alloc, rules.len())?;
+    for row in rules {
+        flows.push(row.flow)?;
+    }
+    Ok(flows)
 }
 
 /// Of how many bits rules ask, each once, where there are at most so many of them; `AllocError` where memory runs out.
@@ -244,19 +299,23 @@ fn tuples_of(
 #[derive(Drop)]
 pub(crate) struct TupleTable {
     rules: Vec<FlowRule>,
+    /// Their flows, side by side: a packet is asked for many rules, and has one flow.
+    flows: Vec<u32>,
     tuples: Vec<Tuple>,
 }
 
 impl Model for TupleTable {
     ghost use Rattle.std.specs.Prelude.{List};
     ghost use Rattle.flow_classifier.specs.declared.table.FlowRule.{FlowRule};
+    ghost use Rattle.std.specs.Prelude.{◌≡◌, map};
     ghost use Rattle.flow_classifier.specs.Tuples.{AreTuplesOf};
 
     ghost Value = { List FlowRule };
 
     ghost view = { λ t. t.rules.items };
 
-    ghost invariant = { λ t. AreTuplesOf t.rules.items t.tuples.items };
+    ghost invariant = { λ t. (t.flows.items ≡ map (λ row. row.flow) t.rules.items)
+        × AreTuplesOf t.rules.items t.tuples.items };
 }
 
 impl TupleTable {
@@ -266,6 +325,7 @@ impl TupleTable {
     {
         TupleTable {
             rules: Vec::new(alloc),
+            flows: Vec::new(alloc),
             tuples: Vec::new(alloc),
         }
     }
@@ -282,7 +342,12 @@ impl TupleTable {
             return Ok(None);
         };
         let tuples = tuples_of(alloc, &lengths, &rules)?;
-        Ok(Some(TupleTable { rules, tuples }))
+        let flows = flows_of(alloc, &rules)?;
+        Ok(Some(TupleTable {
+            rules,
+            flows,
+            tuples,
+        }))
     }
 
     /// Puts these rules behind others; `AllocError` where memory runs out.
@@ -310,7 +375,7 @@ impl TupleTable {
         ensures { result ≡ first_flow_of self.now key }
     {
         let first = self.first_held(&key);
-        Some(self.rules.get(first)?.flow)
+        Some(*self.flows.get(first)?)
     }
 
     /// The place of the first rule that holds of a packet; how many there are where none does.

@@ -18,8 +18,8 @@ fn all_trails(alloc: Global, trails: &[Trail]) -> Result<Vec<&Trail>, AllocError
     trails.iter().collect(alloc)
 }
 
-/// The trails of a run contract by contract, each contract's as they are sent.
-pub(crate) fn by_contract<'a>(alloc: Global, run: &'a Run<'_>) -> Result<Vec<&'a Trail>, AllocError>
+/// The trails of a run contract by contract, each contract's as they are sent. `AllocError` where memory runs out.
+pub fn by_contract<'a>(alloc: Global, run: &'a Run<'_>) -> Result<Vec<&'a Trail>, AllocError>
     ensures { IfOk result (λ trails. map (λ trail. passage_of trail.now) trails.items
         ≡ by_contract run.now.run.passages) }
 {

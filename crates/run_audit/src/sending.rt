@@ -11,13 +11,13 @@ use std::marker::Model;
 
 /// A packet as it is sent: when, with what colour, and its receipts of the meters that it has visited since.
 #[derive(Drop)]
-pub(crate) struct Sending<'a> {
+pub struct Sending<'a> {
     /// When it is sent.
-    pub(crate) moment: Moment,
+    pub moment: Moment,
     /// The colour that it is sent with.
-    pub(crate) colour: Colour,
+    pub colour: Colour,
     /// Its receipts since.
-    pub(crate) receipts: &'a [Receipt],
+    pub receipts: &'a [Receipt],
 }
 
 impl<'a> Model for Sending<'a> {
@@ -30,7 +30,7 @@ impl<'a> Model for Sending<'a> {
 
 /// The packet of a trail as it is sent under its contract: as it begins where that is trusted, else as it leaves its
 /// edge, if it has come there.
-pub(crate) fn sent_of<'a>(contract: &Contract, trail: &'a Trail) -> Option<Sending<'a>>
+pub fn sent_of<'a>(contract: &Contract, trail: &'a Trail) -> Option<Sending<'a>>
     ensures { result ≡ sending_of contract.now (passage_of trail.now) }
 {
     let receipts = trail.receipts.as_slice();

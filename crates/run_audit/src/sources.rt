@@ -25,7 +25,7 @@ const BYTE: u128 = TOKEN as u128;
 
 /// The level of a bucket just after a packet, in bit-nanoseconds; it had a level since a moment in nanoseconds, and
 /// drains at a rate.
-fn filled(envelope: Envelope, level: u128, since: u64, moment: Moment, size: PacketSize) -> u128
+pub fn filled(envelope: Envelope, level: u128, since: u64, moment: Moment, size: PacketSize) -> u128
     requires { level ≤ 8000000000 * envelope.burst }
     ensures { result ≡ filled envelope.rate level since (moment, size) }
 {

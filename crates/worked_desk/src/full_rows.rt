@@ -113,6 +113,7 @@ fn filled<J: Naming, R: Wait + Abort + Copy + Drop>(
         domain,
         limits,
         contracts,
+        in_json: false,
     };
     let made = DriveCommand::<J, R, Unkept>::new(alloc, rt, log, sale, Unkept, Vec::new(alloc));
     let mut command = made.expect(&rt, "memory");

@@ -11,6 +11,8 @@ mod device_rows;
 #[cfg(test)]
 mod expecting;
 #[cfg(test)]
+mod json_rows;
+#[cfg(test)]
 mod lane_rows;
 #[cfg(test)]
 mod line_rows;

@@ -22,9 +22,15 @@ struct Failing {
 }
 
 impl Ledger for Failing {
+    ghost honest = { λ _. ⊥ };
+
     ghost tells = { λ _. ⊥ };
 
     ghost keeps = { λ _ _. Unit {0} };
+
+    ghost leaves = { λ _ _. ⊥ };
+
+    ghost recovers = { λ _. ⊥ };
 
     fn append(&mut self, _commands: &[Command]) -> Result<(), LedgerFault> {
         if self.times == 0 {

@@ -12,26 +12,40 @@ use worked_texts::{MOST_CONTRACTS, most_contracts, tight, wide};
 fn run_drive(
     rt: &(impl Wait + Threads + Sync),
     alloc: Global,
-    domain: &str,
+    (words, domain): (&str, &str),
     intake: SliceIntake,
     output: VecOutlet,
 ) -> Result<Done, Fail> {
     let files = [("domain.toml", domain.as_bytes())];
     let folder = MemoryFolder { files: &files };
-    run(rt, alloc, "drive domain.toml", folder, intake, output)
+    run(rt, alloc, words, folder, intake, output)
 }
+
+/// The words of `drive`.
+const WORDS: &str = "drive domain.toml";
 
 /// Expects of `drive` on lines, over a domain, what it leaves behind.
 pub(crate) fn expect_of_drive(
     rt: &(impl Abort + Wait + Threads + Sync),
     alloc: Global,
+    asked: (&str, &str),
+    wanted: Wanted<'_>,
+) -> Result<(), Fail> {
+    expect_of_words(rt, alloc, WORDS, asked, wanted)
+}
+
+/// Expects of words of `drive` on lines, over a domain, what they leave behind.
+fn expect_of_words(
+    rt: &(impl Abort + Wait + Threads + Sync),
+    alloc: Global,
+    words: &str,
     (domain, lines): (&str, &str),
     wanted: Wanted<'_>,
 ) -> Result<(), Fail> {
     let intake = SliceIntake::new(lines.as_bytes());
     let outlet = VecOutlet::new(Vec::new(alloc));
-    let done = run_drive(rt, alloc, domain, intake, outlet)?;
-    expect_done(rt, ("drive", lines), &done, wanted);
+    let done = run_drive(rt, alloc, (words, domain), intake, outlet)?;
+    expect_done(rt, (words, lines), &done, wanted);
     Ok(())
 }
 
@@ -40,6 +54,16 @@ pub(crate) fn expect_answers(
     rt: &(impl Abort + Wait + Threads + Sync),
     alloc: Global,
     domain: &str,
+    answered: &[(&str, &str)],
+) -> Result<(), Fail> {
+    expect_answers_to(rt, alloc, (WORDS, domain), answered)
+}
+
+/// Expects of words of `drive`, over a domain, an answer to each line.
+pub(crate) fn expect_answers_to(
+    rt: &(impl Abort + Wait + Threads + Sync),
+    alloc: Global,
+    (words, domain): (&str, &str),
     answered: &[(&str, &str)],
 ) -> Result<(), Fail> {
     let mut lines = String::new(alloc);
@@ -51,7 +75,7 @@ pub(crate) fn expect_answers(
         answers.push('\n')?;
     }
     let wanted = (answers.as_str(), "", 0);
-    expect_of_drive(rt, alloc, (domain, lines.as_str()), wanted)
+    expect_of_words(rt, alloc, words, (domain, lines.as_str()), wanted)
 }
 
 #[test]
@@ -84,6 +108,78 @@ const SOLD_AGAIN: [(&str, &str); 14] = [
 fn a_share_is_sold_again_once_its_hold_has_passed(rt: HostRuntime) -> Result<(), Fail> {
     let domain = tight(rt.alloc())?;
     expect_answers(&rt, rt.alloc(), domain.as_str(), &SOLD_AGAIN)
+}
+
+/// The lines of examples/tight_commands.txt, and examples/json/drive.json.
+const SOLD_IN_JSON: [(&str, &str); 9] = [
+    (
+        "reserve a",
+        "{\"answer\":\"granted\",\"id\":1,\"serial\":1,\"since\":0}",
+    ),
+    (
+        "release 1 1000000000",
+        "{\"answer\":\"released\",\"id\":1,\"serial\":2}",
+    ),
+    (
+        "reserve b",
+        "{\"answer\":\"refused\",\"available\":4500,\"code\":5,\"kind\":\"GreenBurst\",\"meter\":\"m\",\"needed\":9000}",
+    ),
+    (
+        "list",
+        "{\"answer\":\"list\",\"contracts\":[{\"id\":1,\"name\":\"a\",\"since\":0,\"until\":1000000000}]}",
+    ),
+    (
+        "retire 1 1005999999",
+        "{\"answer\":\"refused\",\"code\":9,\"kind\":\"HoldLeft\",\"left\":1}",
+    ),
+    (
+        "retire 1 1006000000",
+        "{\"answer\":\"retired\",\"id\":1,\"serial\":3}",
+    ),
+    (
+        "reserve b",
+        "{\"answer\":\"granted\",\"id\":2,\"serial\":4,\"since\":1006000000}",
+    ),
+    (
+        "list",
+        "{\"answer\":\"list\",\"contracts\":[{\"id\":2,\"name\":\"b\",\"since\":1006000000,\"until\":null}]}",
+    ),
+    ("look", "{\"answer\":\"look\",\"contracts\":1,\"serial\":4}"),
+];
+
+#[test]
+fn a_share_is_sold_by_objects(rt: HostRuntime) -> Result<(), Fail> {
+    let domain = tight(rt.alloc())?;
+    let words = "drive --json domain.toml";
+    expect_answers_to(&rt, rt.alloc(), (words, domain.as_str()), &SOLD_IN_JSON)
+}
+
+#[test]
+fn faults_of_drive_as_objects(rt: HostRuntime) -> Result<(), Fail> {
+    let words = "drive --json domain.toml";
+    for (domain, lines, wanted) in [
+        (
+            "version = 4",
+            "look\n",
+            (
+                "",
+                "{\"code\":3,\"fault\":\"domain\",\"field\":\"version\",\"index\":0,\"kind\":\"Range\",\"section\":\"top\"}\n",
+                3,
+            ),
+        ),
+        (
+            "",
+            "list\nbook\n",
+            (
+                "{\"answer\":\"list\",\"contracts\":[]}\n",
+                "{\"fault\":\"line\",\"line\":2}\n",
+                3,
+            ),
+        ),
+    ] {
+        expect_of_words(&rt, rt.alloc(), words, (domain, lines), wanted)?;
+    }
+    Ok(())
 }
 
 /// Lines that ask for nothing, the empty one first.
@@ -134,7 +230,7 @@ fn answers_before_a_read_that_fails(rt: HostRuntime) -> Result<(), Fail> {
         ..SliceIntake::new(b"reserve a\nreserve b\nlook\n")
     };
     let outlet = VecOutlet::new(Vec::new(rt.alloc()));
-    let done = run_drive(&rt, rt.alloc(), domain.as_str(), intake, outlet)?;
+    let done = run_drive(&rt, rt.alloc(), (WORDS, domain.as_str()), intake, outlet)?;
     let wanted = ("granted 1 1 0\ngranted 2 2 0\n", "dsedge: read\n", 4);
     expect_done(&rt, ("drive", "three lines"), &done, wanted);
     Ok(())

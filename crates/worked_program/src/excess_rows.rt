@@ -1,4 +1,5 @@
-use crate::rows::{expect_of_audit, expect_of_check, expect_on_domain};
+use crate::audit_rows::expect_of_audit;
+use crate::rows::{expect_of_check, expect_on_domain};
 use std::alloc::{AllocError, Global};
 use std::process::Abort;
 use std::sync::Wait;

@@ -7,6 +7,8 @@ mod advice_rows;
 #[cfg(test)]
 mod arrival_rows;
 #[cfg(test)]
+mod audit_rows;
+#[cfg(test)]
 mod book_rows;
 #[cfg(test)]
 mod draw_rows;
@@ -14,6 +16,8 @@ mod draw_rows;
 mod drive_rows;
 #[cfg(test)]
 mod excess_rows;
+#[cfg(test)]
+mod explained_rows;
 #[cfg(test)]
 mod mark_rows;
 #[cfg(test)]

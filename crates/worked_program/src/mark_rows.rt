@@ -93,6 +93,39 @@ fn a_tagged_frame_is_marked(rt: HostRuntime) -> Result<(), Fail> {
     expect_of_mark(&rt, rt.alloc(), words, captures, (judged.as_str(), 0))
 }
 
+/// The object of the report of a marking of a tagged frame and another.
+const OBJECT_OF_TAGGED: &str =
+    "{\"answer\":\"mark\",\"dropped\":0,\"green\":{\"bytes\":115,\"packets\":1},\"marked\":1,\
+    \"records\":2,\"red\":{\"bytes\":0,\"packets\":0},\"skipped\":1,\"unmatched\":0,\"unverified\":0,\
+    \"verdict\":{\"kind\":\"kept\"},\"yellow\":{\"bytes\":0,\"packets\":0}}\n";
+
+#[test]
+fn a_report_as_an_object(rt: HostRuntime) -> Result<(), Fail> {
+    let marked = marked(0x28, 0x39);
+    let words = (TWO_RATES, "--port p --workers 1 --red keep --json");
+    let captures: (&[&[u8]], &[&[u8]]) = (
+        &[&HEADING, &TAGGED, &OTHER],
+        &[&HEADING, &marked, &OTHER],
+    );
+    expect_of_mark(&rt, rt.alloc(), words, captures, (OBJECT_OF_TAGGED, 0))
+}
+
+/// The object of the report of a capture that is cut behind its first frame, and that of the fault.
+const OBJECTS_OF_CUT: &str =
+    "{\"answer\":\"mark\",\"dropped\":0,\"green\":{\"bytes\":115,\"packets\":1},\"marked\":1,\
+    \"records\":1,\"red\":{\"bytes\":0,\"packets\":0},\"skipped\":0,\"unmatched\":0,\"unverified\":0,\
+    \"verdict\":null,\"yellow\":{\"bytes\":0,\"packets\":0}}\n\
+    {\"code\":6,\"fault\":\"capture\",\"kind\":\"Truncated\"}\n";
+
+#[test]
+fn a_report_and_a_fault_as_objects(rt: HostRuntime) -> Result<(), Fail> {
+    let marked = marked(0x28, 0x39);
+    let words = (TWO_RATES, "--port p --workers 1 --red keep --json");
+    let given: &[&[u8]] = &[&HEADING, &TAGGED, &TAGGED[..40]];
+    let captures: (&[&[u8]], &[&[u8]]) = (given, &[&HEADING, &marked]);
+    expect_of_mark(&rt, rt.alloc(), words, captures, (OBJECTS_OF_CUT, 3))
+}
+
 #[test]
 fn a_red_frame_is_left_out(rt: HostRuntime) -> Result<(), Fail> {
     let (green, yellow) = (marked(0x28, 0x39), marked(0x30, 0x31));

@@ -1,7 +1,7 @@
 //! `drive` sells contracts that its lines offer.
-use crate::drive_rows::{expect_answers, expect_of_drive};
+use crate::drive_rows::{expect_answers, expect_answers_to, expect_of_drive};
 use std::test::Fail;
-use worked_texts::{over_excess, wide};
+use worked_texts::{over_excess, tight, wide};
 
 /// A contract that a text could have, but for what stands behind it.
 const X: &str =
@@ -34,6 +34,47 @@ const OFFERED: [(&str, &str); 10] = [
 fn contracts_that_are_offered_are_sold(rt: HostRuntime) -> Result<(), Fail> {
     let domain = wide(rt.alloc())?;
     expect_answers(&rt, rt.alloc(), domain.as_str(), &OFFERED)
+}
+
+/// The lines of examples/offer_commands.txt, and examples/json/offers.json.
+const OFFERED_IN_JSON: [(&str, &str); 9] = [
+    (
+        "reserve x",
+        "{\"answer\":\"refused\",\"code\":1,\"kind\":\"UnknownName\"}",
+    ),
+    (X, "{\"answer\":\"offered\",\"name\":\"x\"}"),
+    (
+        X,
+        "{\"answer\":\"refused\",\"code\":1,\"field\":\"name\",\"kind\":\"Twice\"}",
+    ),
+    (
+        "offer {",
+        "{\"answer\":\"refused\",\"code\":1,\"field\":null,\"kind\":\"Text\"}",
+    ),
+    (
+        "quote x cbs",
+        "{\"answer\":\"quote\",\"field\":\"cbs\",\"value\":3000}",
+    ),
+    ("quote x count", "{\"answer\":\"count\",\"count\":1}"),
+    (
+        "headroom",
+        "{\"answer\":\"headroom\",\"tests\":[{\"available\":16000000,\"kind\":\"GreenRate\",\"meter\":\"m\",\"taken\":0},\
+        {\"available\":4500,\"kind\":\"GreenBurst\",\"meter\":\"m\",\"taken\":0},\
+        {\"available\":24000000,\"kind\":\"AllRate\",\"meter\":\"m\",\"taken\":0},\
+        {\"available\":13500,\"kind\":\"AllBurst\",\"meter\":\"m\",\"taken\":0}]}",
+    ),
+    ("list", "{\"answer\":\"list\",\"contracts\":[]}"),
+    (
+        "release 1 0",
+        "{\"answer\":\"refused\",\"code\":4,\"kind\":\"UnknownId\"}",
+    ),
+];
+
+#[test]
+fn contracts_are_offered_by_objects(rt: HostRuntime) -> Result<(), Fail> {
+    let domain = tight(rt.alloc())?;
+    let words = "drive --json domain.toml";
+    expect_answers_to(&rt, rt.alloc(), (words, domain.as_str()), &OFFERED_IN_JSON)
 }
 
 /// What is no contract of the domain, a text of the first version, with the fault that its text would have.

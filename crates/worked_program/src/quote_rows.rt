@@ -10,6 +10,13 @@ fn what_is_left_at_the_meters(rt: HostRuntime) -> Result<(), Fail> {
         m AllRate 16000000 24000000\nm AllBurst 9000 13500\n";
     let words = ("headroom domain.toml", domain.as_str());
     expect_on_domain(&rt, rt.alloc(), words, (lines, "", 0))?;
+    let object = "{\"answer\":\"headroom\",\"tests\":[\
+        {\"available\":24000000,\"kind\":\"GreenRate\",\"meter\":\"m\",\"taken\":16000000},\
+        {\"available\":13500,\"kind\":\"GreenBurst\",\"meter\":\"m\",\"taken\":9000},\
+        {\"available\":24000000,\"kind\":\"AllRate\",\"meter\":\"m\",\"taken\":16000000},\
+        {\"available\":13500,\"kind\":\"AllBurst\",\"meter\":\"m\",\"taken\":9000}]}\n";
+    let words = ("headroom --json domain.toml", domain.as_str());
+    expect_on_domain(&rt, rt.alloc(), words, (object, "", 0))?;
     let domain = tight(rt.alloc())?;
     let refused = "refused 5 GreenBurst m 9000 4500\n";
     let words = ("headroom domain.toml", domain.as_str());
@@ -45,13 +52,33 @@ fn what_a_contract_may_have_at_most(rt: HostRuntime) -> Result<(), Fail> {
             "quote domain.toml --contract b --count --most cbs",
             ("", "dsedge: usage\n", 2),
         ),
+        (
+            "quote --json domain.toml --contract b --most cbs",
+            (
+                "{\"answer\":\"quote\",\"field\":\"cbs\",\"value\":7500}\n",
+                "",
+                0,
+            ),
+        ),
+        (
+            "quote domain.toml --contract b --count --json",
+            ("{\"answer\":\"count\",\"count\":2}\n", "", 0),
+        ),
     ] {
         expect_on_domain(&rt, rt.alloc(), (words, domain.as_str()), wanted)?;
     }
     let domain = tight(rt.alloc())?;
     let words = ("quote domain.toml --contract b --most cbs", domain.as_str());
     let none = ("none\nrefused 5 GreenBurst m 6000 4500\n", "", 1);
-    expect_on_domain(&rt, rt.alloc(), words, none)
+    expect_on_domain(&rt, rt.alloc(), words, none)?;
+    let words = (
+        "quote domain.toml --contract b --most cbs --json",
+        domain.as_str(),
+    );
+    let none =
+        "{\"answer\":\"none\",\"refusal\":{\"answer\":\"refused\",\"available\":4500,\"code\":5,\
+        \"kind\":\"GreenBurst\",\"meter\":\"m\",\"needed\":6000}}\n";
+    expect_on_domain(&rt, rt.alloc(), words, (none, "", 1))
 }
 
 /// The words that set policers to the meter of the wide domain, and what is made of it: there is room for a byte less.

@@ -120,6 +120,13 @@ fn colours_and_accounts(rt: HostRuntime) -> Result<(), Fail> {
             "green 0 3000\nyellow 0 2000\nred 0 2001\nyellow 0 1999\n\
             green 1 1500\nyellow 2 1002\nred 1 1\n",
         ),
+        (
+            "meter --kind rfc4115 --mode aware --cir 8 --cbs 1500 --eir 16 --ebs 3000 --json --levels",
+            "0 1500 g\n0 1000 g\n500000000 1 r\n500000000 2 y\n",
+            "green 0 3000\nyellow 0 2000\nred 0 2001\nyellow 0 1999\n\
+            {\"answer\":\"accounts\",\"green\":{\"bytes\":1500,\"packets\":1},\
+            \"red\":{\"bytes\":1,\"packets\":1},\"yellow\":{\"bytes\":1002,\"packets\":2}}\n",
+        ),
     ] {
         expect(&rt, rt.alloc(), (words, input), (output, "", 0))?;
     }
@@ -206,6 +213,18 @@ fn envelopes_kept_and_left(rt: HostRuntime) -> Result<(), Fail> {
             1,
         ),
         ("envelope --rate 1 --burst 1", "0 2\n0 2\n", "over 1\n", 1),
+        (
+            "envelope --json --rate 8000000000 --burst 10",
+            "0 10\n5 5\n6 2\n",
+            "{\"answer\":\"over\",\"line\":3}\n",
+            1,
+        ),
+        (
+            "envelope --rate 1 --burst 0 --json",
+            "",
+            "{\"answer\":\"kept\"}\n",
+            0,
+        ),
     ] {
         expect(&rt, rt.alloc(), (words, input), (output, "", status))?;
     }
@@ -318,7 +337,7 @@ fn a_write_that_fails(rt: HostRuntime) -> Result<(), Fail> {
 pub(crate) const ALONE: [&str; 3] = [TRUSTED, A, SHARE];
 
 /// A contract that is policed by a meter of two rates.
-const AT_EDGE: [&str; 4] = [POLICED, U, TWO_RATES, UDP];
+pub(crate) const AT_EDGE: [&str; 4] = [POLICED, U, TWO_RATES, UDP];
 
 /// The text of a domain of one meter with a skew, behind a port with a skew and a link with a jitter, and of one
 /// contract.
@@ -388,6 +407,59 @@ fn least_certificates(rt: HostRuntime) -> Result<(), Fail> {
     Ok(())
 }
 
+/// The object of the bounds of a policed contract.
+const OBJECT_OF_POLICED: &str = "{\"answer\":\"certificate\",\"bounds\":[\
+    {\"all\":3003,\"contract\":\"u\",\"excess\":3003,\"green\":1502,\"hop\":0},\
+    {\"all\":5003,\"contract\":\"u\",\"excess\":5003,\"green\":2502,\"hop\":1}],\"version\":1}\n";
+
+#[test]
+fn least_certificates_as_objects(rt: HostRuntime) -> Result<(), Fail> {
+    let alloc = rt.alloc();
+    let none = "{\"answer\":\"certificate\",\"bounds\":[],\"version\":1}\n";
+    expect_on_domain(
+        &rt,
+        alloc,
+        ("certify --json domain.toml", ""),
+        (none, "", 0),
+    )?;
+    let domain = domain_text(alloc, (500_000, 1_000), 1_000_000, &AT_EDGE)?;
+    let asked = ("certify domain.toml --json", domain.as_str());
+    expect_on_domain(&rt, alloc, asked, (OBJECT_OF_POLICED, "", 0))
+}
+
+#[test]
+fn faults_of_domains_and_words_as_objects(rt: HostRuntime) -> Result<(), Fail> {
+    for (words, domain, wanted) in [
+        (
+            "certify --json domain.toml",
+            "[",
+            (
+                "",
+                "{\"code\":1,\"fault\":\"domain\",\"field\":null,\"index\":0,\"kind\":\"Text\",\"section\":\"text\"}\n",
+                3,
+            ),
+        ),
+        (
+            "certify --json other.toml",
+            "",
+            (
+                "",
+                "{\"fault\":\"file\",\"name\":\"other.toml\",\"reason\":\"Absent\"}\n",
+                4,
+            ),
+        ),
+        (
+            "quote --json domain.toml --contract c --count",
+            "",
+            ("", "{\"fault\":\"contract\",\"name\":\"c\"}\n", 3),
+        ),
+        ("certify --json", "", ("", "{\"fault\":\"usage\"}\n", 2)),
+    ] {
+        expect_on_domain(&rt, rt.alloc(), (words, domain), wanted)?;
+    }
+    Ok(())
+}
+
 #[test]
 fn faults_of_domains_and_files(rt: HostRuntime) -> Result<(), Fail> {
     for (words, domain, wanted) in [
@@ -446,6 +518,51 @@ pub(crate) fn expect_of_check(
     let done = run_on_table(rt, alloc, words, domain, certificate.as_bytes(), b"")?;
     expect_done(rt, (words, certificate), &done, wanted);
     Ok(())
+}
+
+/// Expects of `check --json` on a domain and a certificate what it leaves behind.
+fn expect_object(
+    rt: &(impl Abort + Wait + Threads + Sync),
+    alloc: Global,
+    (domain, certificate): (&str, &str),
+    wanted: Wanted<'_>,
+) -> Result<(), Fail> {
+    let words = "check --json domain.toml domain.cert";
+    let done = run_on_table(rt, alloc, words, domain, certificate.as_bytes(), b"")?;
+    expect_done(rt, (words, certificate), &done, wanted);
+    Ok(())
+}
+
+// The objects of examples/json, and others with their lines beside them above and below.
+#[test]
+fn checks_are_answered_with_objects(rt: HostRuntime) -> Result<(), Fail> {
+    let alloc = rt.alloc();
+    let full = three_contracts(alloc, 24_000_000, 13_500)?;
+    let accepted = ("{\"answer\":\"accepted\"}\n", "", 0);
+    expect_object(&rt, alloc, (full.as_str(), LEAST_OF_THREE), accepted)?;
+    let short = "{\"code\":2,\"fault\":\"certificate\",\"kind\":\"Shape\",\"line\":7}\n";
+    expect_object(
+        &rt,
+        alloc,
+        (full.as_str(), ALL_BUT_THE_LAST),
+        ("", short, 3),
+    )?;
+    let tight = three_contracts(alloc, 24_000_000, 13_499)?;
+    let burst =
+        "{\"answer\":\"refused\",\"available\":13499,\"code\":5,\"kind\":\"GreenBurst\",\"meter\":\"m\",\
+        \"needed\":13500}\n";
+    expect_object(&rt, alloc, (tight.as_str(), LEAST_OF_THREE), (burst, "", 1))?;
+    let plain = single_rate(alloc, "")?;
+    let low = "dscert 1\na 0 499 500\na 1 500 500\n";
+    let first =
+        "{\"answer\":\"refused\",\"code\":2,\"column\":\"green\",\"contract\":\"a\",\"given\":499,\
+        \"kind\":\"FirstBound\",\"needed\":500}\n";
+    expect_object(&rt, alloc, (plain.as_str(), low), (first, "", 1))?;
+    let low = "dscert 1\na 0 500 500\na 1 499 500\n";
+    let hop =
+        "{\"answer\":\"refused\",\"code\":3,\"column\":\"green\",\"contract\":\"a\",\"given\":499,\"hop\":1,\
+        \"kind\":\"HopBound\",\"needed\":500}\n";
+    expect_object(&rt, alloc, (plain.as_str(), low), (hop, "", 1))
 }
 
 #[test]
@@ -546,132 +663,4 @@ pub(crate) fn run_on_table(
     let intake = SliceIntake::new(input);
     let output = VecOutlet::new(Vec::new(alloc));
     run(rt, alloc, words, folder, intake, output)
-}
-
-/// `audit` on steps, over a domain with a certificate.
-fn run_audit(
-    rt: &(impl Wait + Threads + Sync),
-    alloc: Global,
-    domain: &str,
-    certificate: &[u8],
-    steps: &str,
-) -> Result<Done, Fail> {
-    let words = "audit domain.toml domain.cert";
-    run_on_table(rt, alloc, words, domain, certificate, steps.as_bytes())
-}
-
-/// Expects of `audit` on steps, over a domain with its least certificate, how the output begins, what is told, and a
-/// status. The name says what the row is about.
-fn expect_named_audit(
-    rt: &(impl Abort + Wait + Threads + Sync),
-    alloc: Global,
-    name: &str,
-    (domain, steps): (&str, &str),
-    (beginning, told, status): Wanted<'_>,
-) -> Result<(), Fail> {
-    let least = run_on_domain(rt, alloc, "certify domain.toml", domain)?;
-    let done = run_audit(rt, alloc, domain, least.output.as_slice(), steps)?;
-    let begins = done.output.as_slice().starts_with(beginning.as_bytes());
-    assert_eq!(rt; (name, begins), (name, true));
-    assert_eq!(rt; (name, done.told.as_slice()), (name, told.as_bytes()));
-    assert_eq!(rt; (name, done.status), (name, status));
-    Ok(())
-}
-
-/// The same of a row that its steps name.
-pub(crate) fn expect_of_audit(
-    rt: &(impl Abort + Wait + Threads + Sync),
-    alloc: Global,
-    asked: (&str, &str),
-    wanted: Wanted<'_>,
-) -> Result<(), Fail> {
-    expect_named_audit(rt, alloc, asked.1, asked, wanted)
-}
-
-/// What a row is about, steps over a domain of a trusted contract, how what comes of them begins, and the status.
-type Audited = (&'static str, &'static str, &'static str, u8);
-
-/// The meter of these keeps time within 100 ns, and its link takes no longer.
-static WITHIN_A_CLOSE_SKEW: [Audited; 4] = [
-    (
-        "a visit late by the skew is kept",
-        "send a 1 100 10 1000\nvisit 1 1000\nsend a 2 100 10 900\nvisit 2 900\n",
-        "kept\nm green 2 200 yellow 0 0 red 0 0\n",
-        0,
-    ),
-    (
-        "a visit later than the skew is late",
-        "send a 1 100 10 1000\nvisit 1 1000\nsend a 2 100 10 899\nvisit 2 899\n",
-        "late m 1 101\n",
-        1,
-    ),
-    (
-        "a link that takes too long",
-        "send a 1 100 10 1000\nvisit 1 1001\n",
-        "delay-over 1 1\n",
-        1,
-    ),
-    (
-        "a source over its contract",
-        "send a 1 1500 10 0\nsend a 2 1500 10 0\nsend a 3 1 10 0\n",
-        "source-over a green 3\n",
-        1,
-    ),
-];
-
-#[test]
-fn visits_within_a_close_skew(rt: HostRuntime) -> Result<(), Fail> {
-    let domain = domain_text(rt.alloc(), (100, 0), 0, &ALONE)?;
-    for (name, steps, beginning, status) in &WITHIN_A_CLOSE_SKEW {
-        let asked = (domain.as_str(), *steps);
-        expect_named_audit(&rt, rt.alloc(), name, asked, (beginning, "", *status))?;
-    }
-    Ok(())
-}
-
-#[test]
-fn a_packet_after_the_end_of_its_contract(rt: HostRuntime) -> Result<(), Fail> {
-    let ended = [TRUSTED, A, SHARE, "until = 5\n"];
-    let domain = domain_text(rt.alloc(), (500_000, 0), 1_000_000, &ended)?;
-    let steps = "send a 1 100 10 5\n";
-    let outside = ("outside 1\n", "", 1);
-    expect_of_audit(&rt, rt.alloc(), (domain.as_str(), steps), outside)
-}
-
-#[test]
-fn packets_policed_at_the_edge(rt: HostRuntime) -> Result<(), Fail> {
-    let domain = domain_text(rt.alloc(), (500_000, 0), 1_000_000, &AT_EDGE)?;
-    let steps = "send u 1 1500 0 0\nvisit 1 0\nvisit 1 0\n\
-        send u 2 1500 0 0\nvisit 2 0\nvisit 2 500\nsend u 3 1 0 0\nvisit 3 0\n";
-    let accounts =
-        "kept\nm green 1 1500 yellow 1 1500 red 0 0\nedge:u green 1 1500 yellow 1 1500 red 1 1\n";
-    expect_of_audit(&rt, rt.alloc(), (domain.as_str(), steps), (accounts, "", 0))
-}
-
-#[test]
-fn a_visit_of_no_packet(rt: HostRuntime) -> Result<(), Fail> {
-    let domain = domain_text(rt.alloc(), (500_000, 0), 1_000_000, &ALONE)?;
-    let done = run_audit(
-        &rt,
-        rt.alloc(),
-        domain.as_str(),
-        LEAST_OF_TRUSTED.as_bytes(),
-        "visit 7 0\n",
-    )?;
-    assert!(rt; done.output.is_empty());
-    assert_eq!(rt; done.told.as_slice(), b"dsedge: line 1\n".as_slice());
-    assert_eq!(rt; done.status, 3);
-    Ok(())
-}
-
-#[test]
-fn an_audit_of_a_refused_table(rt: HostRuntime) -> Result<(), Fail> {
-    let domain = domain_text(rt.alloc(), (500_000, 0), 1_000_000, &ALONE)?;
-    let low = b"dscert 1\na 0 3000 3000\na 1 3999 4000\n";
-    let done = run_audit(&rt, rt.alloc(), domain.as_str(), low, "visit 7 0\n")?;
-    let told = b"refused 3 HopBound a 1 green 4000 3999\n";
-    assert!(rt; done.output.is_empty());
-    assert_eq!(rt; done.told.as_slice(), told.as_slice());
-    assert_eq!(rt; done.status, 1);
-    Ok(())
 }

@@ -24,19 +24,19 @@ impl IsTerminal for Faults {
 
 /// What the program left behind.
 #[derive(Drop)]
-struct Left {
-    output: Vec<u8>,
-    told: Vec<u8>,
-    status: u8,
+pub(crate) struct Left {
+    pub output: Vec<u8>,
+    pub told: Vec<u8>,
+    pub status: u8,
 }
 
-/// The program on a command line, whose words stand one space apart, with the files of a trusted contract's domain and
-/// an input, where faults are read at a terminal, or not.
-fn run_line(
+/// The program on a command line, whose words stand one space apart, with files and an input, where faults are read at a
+/// terminal, or not.
+pub(crate) fn run_with(
     rt: &(impl Abort + Wait + Threads + Sync),
     alloc: Global,
-    line: &str,
-    at_terminal: bool,
+    (line, at_terminal): (&str, bool),
+    files: &[(&str, &[u8])],
     input: &[u8],
 ) -> Left {
     let mut words = Vec::new(alloc);
@@ -44,12 +44,6 @@ fn run_line(
         let word = String::from_str(alloc, word).expect(rt, "a word");
         words.push(word).expect(rt, "words");
     }
-    let domain = domain_text(alloc, (500_000, 0), 1_000_000, &ALONE).expect(rt, "a domain");
-    let files = [
-        ("domain.toml", domain.as_bytes()),
-        ("domain.cert", LEAST_OF_TRUSTED.as_bytes()),
-        ("bad.cert", b"dscert 4\n".as_slice()),
-    ];
     let mut output = VecOutlet::new(Vec::new(alloc));
     let mut faults = VecOutlet::new(Vec::new(alloc));
     let status = run(
@@ -57,7 +51,7 @@ fn run_line(
         rt,
         Ok(words),
         AtTerminal::of(&Faults { at_terminal }),
-        &MemoryFolder { files: &files },
+        &MemoryFolder { files },
         &mut SliceIntake::new(input),
         &mut output,
         &mut faults,
@@ -67,6 +61,23 @@ fn run_line(
         told: faults.bytes,
         status,
     }
+}
+
+/// The same with the files of a trusted contract's domain.
+fn run_line(
+    rt: &(impl Abort + Wait + Threads + Sync),
+    alloc: Global,
+    line: &str,
+    at_terminal: bool,
+    input: &[u8],
+) -> Left {
+    let domain = domain_text(alloc, (500_000, 0), 1_000_000, &ALONE).expect(rt, "a domain");
+    let files = [
+        ("domain.toml", domain.as_bytes()),
+        ("domain.cert", LEAST_OF_TRUSTED.as_bytes()),
+        ("bad.cert", b"dscert 4\n".as_slice()),
+    ];
+    run_with(rt, alloc, (line, at_terminal), &files, input)
 }
 
 /// Expects of the program on a command line an output and a status, what is told in a pipe, and what stands behind that
@@ -142,7 +153,8 @@ fn captures_in_a_pipe_and_at_a_terminal(rt: HostRuntime) {
     let fault = ("dsedge: capture 5 RecordTooLong\n", long);
     let heading = &LONG_RECORD[..24];
     expect_capture(&rt, rt.alloc(), ("p", &LONG_RECORD), heading, fault);
-    let fault = ("dsedge: port q?r\n", "");
+    let ports = "ports: p\nnothing of the name \"q?r\"; the nearest is \"p\"\n";
+    let fault = ("dsedge: port q?r\n", ports);
     expect_capture(&rt, rt.alloc(), ("q\nr", &OTHER_LINK), b"", fault);
 }
 
@@ -186,7 +198,8 @@ static LINES: [(&str, &[u8], &str, u8, &str, &str); 9] = [
         "",
         2,
         "dsedge: usage\n",
-        "error: a value is none that its option takes, or an option goes with another kind of meter\n\n\
+        "--rate 0: it takes 1 to 10000000000000, in bits per second\n\
+        error: a value is none that its option takes, or an option goes with another kind of meter\n\n\
         For more information, try 'dsedge envelope --help'.\n",
     ),
     (
@@ -195,7 +208,8 @@ static LINES: [(&str, &[u8], &str, u8, &str, &str); 9] = [
         "",
         2,
         "dsedge: usage\n",
-        "error: a capture is marked by 1 to 64 workers, as --workers 4\n\n\
+        "--workers 65: it takes 1 to 64\n\
+        error: a capture is marked by 1 to 64 workers, as --workers 4\n\n\
         For more information, try 'dsedge mark --help'.\n",
     ),
     (

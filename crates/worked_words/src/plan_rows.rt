@@ -56,10 +56,14 @@ fn expect_meter(
     (parameters, mode, origin): (Parameters, Mode, u64),
 ) -> Result<(), Fail> {
     let meter = AnyMeter::new(parameters, mode, Moment::new(origin)?)?;
-    let wanted = format!(in alloc; "Meter {{ meter: {meter:?}, has_levels: false }}")?;
+    let wanted = format!(in alloc;
+        "Meter {{ meter: {meter:?}, has_levels: false, in_json: false }}"
+    )?;
     expect_shown(rt, alloc, line, wanted.as_str())?;
-    let wanted = format!(in alloc; "Meter {{ meter: {meter:?}, has_levels: true }}")?;
-    let line = format!(in alloc; "{line} --levels")?;
+    let wanted = format!(in alloc;
+        "Meter {{ meter: {meter:?}, has_levels: true, in_json: true }}"
+    )?;
+    let line = format!(in alloc; "{line} --levels --json")?;
     expect_shown(rt, alloc, line.as_str(), wanted.as_str())
 }
 
@@ -139,55 +143,80 @@ fn expect_plan(rt: &impl Abort, alloc: Global, line: &str, plan: &Plan<'_>) -> R
 
 #[test]
 fn envelopes(rt: HostRuntime) -> Result<(), Fail> {
-    for (line, rate, burst) in [
-        ("envelope --rate 800000000 --burst 21", 800_000_000, 21),
-        ("envelope --burst=0 --rate=01", 1, 0),
+    for (line, rate, burst, in_json) in [
+        (
+            "envelope --rate 800000000 --burst 21",
+            800_000_000,
+            21,
+            false,
+        ),
+        ("envelope --burst=0 --rate=01", 1, 0, false),
+        ("envelope --json --burst 0 --rate 1", 1, 0, true),
         (
             "envelope --rate 10000000000000 --burst 1000000000000000",
             10_000_000_000_000,
             1_000_000_000_000_000,
+            false,
         ),
     ] {
         let rate = Rate::new(rate)?;
-        expect_plan(&rt, rt.alloc(), line, &Plan::Envelope { rate, burst })?;
+        let plan = Plan::Envelope {
+            rate,
+            burst,
+            in_json,
+        };
+        expect_plan(&rt, rt.alloc(), line, &plan)?;
     }
     Ok(())
 }
 
 #[test]
 fn certificates(rt: HostRuntime) -> Result<(), Fail> {
-    for (line, name) in [
-        ("certify domain.toml", "domain.toml"),
-        ("certify -- --kind", "--kind"),
+    for (line, name, in_json) in [
+        ("certify domain.toml", "domain.toml", false),
+        ("certify -- --kind", "--kind", false),
+        ("certify domain.toml --json", "domain.toml", true),
     ] {
         let domain = GivenName::new(name);
-        expect_plan(&rt, rt.alloc(), line, &Plan::Certify { domain })?;
+        expect_plan(&rt, rt.alloc(), line, &Plan::Certify { domain, in_json })?;
     }
     Ok(())
 }
 
 #[test]
 fn headrooms_pictures_and_quotes(rt: HostRuntime) -> Result<(), Fail> {
-    let domain = GivenName::new("domain.toml");
-    let plan = Plan::Headroom { domain };
-    expect_plan(&rt, rt.alloc(), "headroom domain.toml", &plan)?;
+    for (line, in_json) in [
+        ("headroom domain.toml", false),
+        ("headroom --json domain.toml", true),
+    ] {
+        let domain = GivenName::new("domain.toml");
+        let plan = Plan::Headroom { domain, in_json };
+        expect_plan(&rt, rt.alloc(), line, &plan)?;
+    }
     let domain = GivenName::new("domain.toml");
     expect_plan(&rt, rt.alloc(), "draw domain.toml", &Plan::Draw { domain })?;
-    for (line, asked) in [
+    for (line, asked, in_json) in [
         (
             "quote domain.toml --contract b --most cbs",
             Asked::Most(Field::CommittedBurst),
+            false,
         ),
         (
-            "quote --most=eir --contract b domain.toml",
+            "quote --json --most=eir --contract b domain.toml",
             Asked::Most(Field::ExcessRate),
+            true,
         ),
-        ("quote --count domain.toml --contract b", Asked::Count),
+        (
+            "quote --count domain.toml --contract b",
+            Asked::Count,
+            false,
+        ),
     ] {
         let plan = Plan::Quote {
             domain: GivenName::new("domain.toml"),
             contract: GivenName::new("b"),
             asked,
+            in_json,
         };
         expect_plan(&rt, rt.alloc(), line, &plan)?;
     }
@@ -211,18 +240,20 @@ fn exports(rt: HostRuntime) -> Result<(), Fail> {
 }
 
 /// The plan of a check of two files.
-fn check_of_two() -> Plan<'static> {
+fn check_of_two(in_json: bool) -> Plan<'static> {
     Plan::Check {
         domain: GivenName::new("domain.toml"),
         certificate: GivenName::new("domain.cert"),
+        in_json,
     }
 }
 
 /// The plan of an audit over the same files.
-fn audit_of_two() -> Plan<'static> {
+fn audit_of_two(in_json: bool) -> Plan<'static> {
     Plan::Audit {
         domain: GivenName::new("domain.toml"),
         certificate: GivenName::new("domain.cert"),
+        in_json,
     }
 }
 
@@ -235,6 +266,7 @@ fn mark_over_two(workers: Option<u32>, keeps_red: bool, has_verdict: bool) -> Pl
         workers,
         keeps_red,
         has_verdict,
+        in_json: false,
     }
 }
 
@@ -277,9 +309,13 @@ fn a_mark_names_two_files_a_port_and_a_rule(rt: HostRuntime) -> Result<(), Fail>
 fn checks_and_audits_name_two_files(rt: HostRuntime) -> Result<(), Fail> {
     let alloc = rt.alloc();
     let check = "check domain.toml domain.cert";
-    expect_plan(&rt, alloc, check, &check_of_two())?;
+    expect_plan(&rt, alloc, check, &check_of_two(false))?;
+    let check = "check --json domain.toml domain.cert";
+    expect_plan(&rt, alloc, check, &check_of_two(true))?;
     let audit = "audit domain.toml domain.cert";
-    expect_plan(&rt, alloc, audit, &audit_of_two())
+    expect_plan(&rt, alloc, audit, &audit_of_two(false))?;
+    let audit = "audit domain.toml --json domain.cert";
+    expect_plan(&rt, alloc, audit, &audit_of_two(true))
 }
 
 #[test]
@@ -313,6 +349,12 @@ envelope --rate 1 --burst -1
 certify
 certify one.toml two.toml
 certify --domain one.toml
+certify one.toml --json --json
+certify one.toml --json=yes
+draw one.toml --json
+export one.toml --meter m --to tc --json
+book one.toml one.book --json
+arrivals --json
 check domain.toml
 check domain.toml domain.cert more
 mark domain.toml domain.cert --port p --workers 65 --red keep
@@ -421,11 +463,13 @@ fn expect_help(rt: &impl Abort, alloc: Global, lines: &[&str], parts: &[&str]) -
 fn help_for_the_program_and_its_commands(rt: HostRuntime) -> Result<(), Fail> {
     let alloc = rt.alloc();
     let lines = ["--help", "-h", "help", "--help meter"];
-    expect_help(&rt, alloc, &lines, &["Usage: dsedge <COMMAND>", "meter"])?;
+    let own = ["Usage: dsedge <COMMAND>", "meter", "--explain"];
+    expect_help(&rt, alloc, &lines, &own)?;
     let parts = [
         "Usage: dsedge envelope ",
         "--rate <RATE>",
         "--burst <BYTES>",
+        "--explain",
     ];
     expect_help(&rt, alloc, &["envelope --help", "help envelope"], &parts)?;
     let lines = [

@@ -28,7 +28,8 @@ fn run_in<W: Wait + Threads + Sync, D: Folder + Shelf, I: Intake, O: Outlet, F: 
     output: &mut O,
     faults: &mut F,
 ) -> u8 {
-    start(alloc, rt, words, folder, intake, output, faults).status
+    let ended = start(alloc, rt, words, folder, intake, output, faults);
+    ended.status
 }
 
 /// Runs the program on an input in memory, likewise.

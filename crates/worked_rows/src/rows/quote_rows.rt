@@ -145,13 +145,14 @@ static THE_GREATEST_VALUES: [Quotation; 18] = [
 ];
 
 /// What is told of a quote, or why there is none.
-fn told(answer: &Result<Quoted, QuoteFault>) -> &[u8] {
-    match answer {
-        Ok(quoted) => quoted.text.as_slice(),
-        Err(QuoteFault::Unnamed) => b"no contract",
-        Err(QuoteFault::NoField) => b"no field",
-        Err(_) => b"a text with a fault",
-    }
+fn told(rt: &impl Abort, alloc: Global, answer: Result<Quoted, QuoteFault>) -> Vec<u8> {
+    let text = match answer {
+        Ok(quoted) => quoted.lines(alloc),
+        Err(QuoteFault::Unnamed) => b"no contract".to_vec(alloc),
+        Err(QuoteFault::NoField) => b"no field".to_vec(alloc),
+        Err(_) => b"a text with a fault".to_vec(alloc),
+    };
+    text.expect(rt, "memory for what is told")
 }
 
 /// Expects of a row what is told of its contract's field.
@@ -159,7 +160,8 @@ fn expect_told(rt: &impl Abort, alloc: Global, (parts, name, field, wanted): &Qu
     let text = text_of(rt, alloc, parts);
     let asked = Asked::Most(*field);
     let answer = quote(alloc, text.as_str().as_bytes(), name.as_bytes(), asked);
-    assert_eq!(rt; (wanted, told(&answer)), (wanted, wanted.as_bytes()));
+    let told = told(rt, alloc, answer);
+    assert_eq!(rt; (wanted, told.as_slice()), (wanted, wanted.as_bytes()));
 }
 
 #[test]
@@ -215,7 +217,8 @@ fn expect_count(rt: &impl Abort, alloc: Global, (parts, name, wanted): &Counted)
         name.as_bytes(),
         Asked::Count,
     );
-    assert_eq!(rt; (wanted, told(&answer)), (wanted, wanted.as_bytes()));
+    let told = told(rt, alloc, answer);
+    assert_eq!(rt; (wanted, told.as_slice()), (wanted, wanted.as_bytes()));
 }
 
 #[test]

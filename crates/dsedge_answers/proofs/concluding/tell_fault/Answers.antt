@@ -1,8 +1,8 @@
-use Rattle.dsedge_faults.specs.Faults.{fault_text}
-use Rattle.dsedge_faults.proofs.FrontLemmas.{told_since}
+use Rattle.dsedge_json_faults.specs.FaultObjects.{IsFaultTold}
+use Rattle.dsedge_json_faults.proofs.TellingLaws.{told_by}
 use Rattle.dsedge_answers.proofs.concluding.tell_fault.Goals as goal
 
 pub returns-clause-told : goal.returns-clause-told
 returns-clause-told g c told =
-    told_since c.tell-told.result (g.F.Outlet.held c.args.faults.now) (g.F.Outlet.held c.tell-told.new.faults) (fault_text c.args.fault.now)
-    (g.F.Outlet.failed c.args.faults.now) (g.F.Outlet.failed c.tell-told.new.faults) (c.tell-told.ensures.line told) c.tell-told.ensures.failures
+    told_by c.tell_fault-told.result (IsFaultTold c.args.in_json c.args.fault.now) (g.F.Outlet.held c.args.faults.now) (g.F.Outlet.held c.tell_fault-told.new.faults)
+    (g.F.Outlet.failed c.args.faults.now) (g.F.Outlet.failed c.tell_fault-told.new.faults) (c.tell_fault-told.ensures.line told) c.tell_fault-told.ensures.failures

@@ -8,9 +8,11 @@ use Rattle.dsedge_base.proofs.command_line.command_of.Goals as goal
 
 pub loop-argument-init : goal.loop-argument-init
 loop-argument-init c =
-    let named : app_of c.about-command.result ≡ new_app c.args.entry.now.name.now = ap app_of_fields c.about-command.ensures ∙ c.new.ensures.app in
-    let local : (fields_of c.about-command.result).has_globals ≡ false = rw c.about-command.ensures c.new.ensures.local in
-    (ap (λ app. with_arguments app c.args.entry.now.arguments.now) named, local)
+    let named : app_of c.about.result ≡ new_app c.args.entry.now.name.now = ap app_of_fields c.about.ensures ∙ c.new.ensures.app in
+    let alone : (fields_of c.about.result).has_globals ≡ false = rw c.about.ensures c.new.ensures.local in
+    let helped : app_of c.after_help-command.result ≡ new_app c.args.entry.now.name.now = ap app_of_fields c.after_help-command.ensures ∙ named in
+    let local : (fields_of c.after_help-command.result).has_globals ≡ false = rw c.after_help-command.ensures alone in
+    (ap (λ app. with_arguments app c.args.entry.now.arguments.now) helped, local)
 
 pub loop-argument-preserved : goal.loop-argument-preserved
 loop-argument-preserved c =

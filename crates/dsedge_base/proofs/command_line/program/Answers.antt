@@ -8,7 +8,8 @@ use Rattle.dsedge_base.proofs.command_line.program.Goals as goal
 pub returns : goal.returns
 returns c =
     let named : app_of c.about.result ≡ new_app (codes "dsedge") = ap app_of_fields c.about.ensures ∙ c.new.ensures.app in
-    let dated = ap app_of_fields c.version.ensures ∙ ap (λ (a : App). record a { top = record a.top { has_version = true } }) named in
+    let helped : app_of c.after_help.result ≡ new_app (codes "dsedge") = ap app_of_fields c.after_help.ensures ∙ named in
+    let dated = ap app_of_fields c.version.ensures ∙ ap (λ (a : App). record a { top = record a.top { has_version = true } }) helped in
     let alone = ap app_of_fields c.no_binary_name.ensures ∙ ap (λ (a : App). record a { top = record a.top { no_binary_name = true } }) dated in
     let whole : app_of c.subcommand_required.result ≡ program =
     ap app_of_fields c.subcommand_required.ensures ∙ ap (λ (a : App). record a { top = record a.top { subcommand_required = true } }) alone in

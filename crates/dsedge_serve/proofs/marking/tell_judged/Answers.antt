@@ -1,6 +1,6 @@
 use Rattle.std.proofs.Common.{[], unwrap_or}
 use Rattle.std.proofs.lemmas.Result.{err_from_is_err_and}
-use Rattle.dsedge_serve.specs.Marked.{report_text}
+use Rattle.dsedge_report.specs.Reports.{report_text}
 use Rattle.pcap_capture.proofs.FrontLaws.{IsFrontOf-first}
 use Rattle.dsedge_faults.proofs.FrontLemmas.{behind_told}
 use Rattle.dsedge_serve.proofs.marking.tell_judged.Goals as goal

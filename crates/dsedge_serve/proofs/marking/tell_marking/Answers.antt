@@ -1,14 +1,16 @@
-use Rattle.std.proofs.Common.{◌∙◌, refl}
 use Rattle.dsedge_serve.specs.Marked.{marking_told}
-use Rattle.dsedge_faults.proofs.FrontLemmas.{given_as, given_or_front}
+use Rattle.dsedge_serve.proofs.TellLemmas.{told_by_lines, told_by_objects}
 use Rattle.dsedge_serve.proofs.marking.tell_marking.Goals as goal
 
--- what was put together in memory is what is told
-pub returns-in-Ok-clause-line : goal.returns-in-Ok-clause-line
-returns-in-Ok-clause-line g c told =
-    let before = g.F.Outlet.held c.args.faults.now in
-    let after = g.F.Outlet.held c.give_all.new.outlet in
-    let line = marking_told c.args.report.now c.args.line.now c.args.fault c.args.port.now in
-    given_as c.give_all.result before after c.as_slice.result.now line
-    (c.as_slice.ensures.value ∙ c.in-Ok.ensures.line tt ∙ rw (c.new-text.ensures.bytes, c.new.ensures.items) refl)
-    (given_or_front c.give_all.result before after c.as_slice.result.now (c.give_all.ensures.bytes told))
+pub returns-in-Lines-clause-line : goal.returns-in-Lines-clause-line
+returns-in-Lines-clause-line g c told =
+    rw c.in-Lines.is (
+      marking_told c.args.report.now c.in-Lines.line c.args.fault c.args.port.now,
+      told_by_lines c.args.report.now c.in-Lines.line c.args.fault c.args.port.now,
+      c.tell_lines.ensures.line told,
+    )
+
+pub returns-in-Object-clause-line : goal.returns-in-Object-clause-line
+returns-in-Object-clause-line g c told =
+    let given = c.tell_objects.ensures.line told in
+    rw c.in-Object.is (given.0, told_by_objects c.args.report.now c.in-Object.line c.args.fault c.args.port.now given.0 given.1, given.2)

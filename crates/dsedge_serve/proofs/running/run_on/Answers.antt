@@ -1,21 +1,35 @@
+use Rattle.std.proofs.Common.{ap, map, not, string_bytes, sym, ◌&&◌, ◌∙◌, ℕ, List, Bool, subst}
+use Rattle.dsedge_explained.specs.Asked.{IsSaid}
+use Rattle.dsedge_serve.proofs.StartLemmas.{asks_mapped}
 use Rattle.dsedge_serve.proofs.running.run_on.Goals as goal
 
--- what is told is told by the start, and behind it by the advice
+-- what is told is told by the start, behind it by the texts of the files, and behind that by the advice
 pub returns : goal.returns
 returns g c =
-    let started = c.start-ended.ensures.course in record {
+    let started = c.start-ended.ensures.course in
+    let behind = g.F.Outlet.held c.start-ended.new.faults in
+    let failures = g.F.Outlet.failed c.start-ended.new.faults in
+    let same = c.is_explained-is_explained.ensures ∙ ap (λ b. c.args.is_asked && not b) (asks_mapped string_bytes c.args.words.now) in
+    let P : Bool → Type 0 = λ asked. IsSaid asked behind (g.F.Outlet.held c.explain.new.faults) failures (g.F.Outlet.failed c.explain.new.faults) in record {
       course = (
         started.0,
         started.1,
         started.2,
         started.3,
         started.4,
-        λ tells. record {
-          between = g.F.Outlet.held c.start-ended.new.faults;
-          failures = g.F.Outlet.failed c.start-ended.new.faults;
-          told = started.5 tells;
-          advised = rw (← started.8) (c.advise.ensures (c.start-ended.ensures.still tells));
-        },
+        λ tells. let told = started.5 tells in (
+          told.0,
+          told.1,
+          record {
+            behind_line = behind;
+            line_failures = failures;
+            behind_texts = g.F.Outlet.held c.explain.new.faults;
+            texts_failures = g.F.Outlet.failed c.explain.new.faults;
+            told = told.2;
+            said = subst P same (c.explain.ensures.said (c.start-ended.ensures.still tells));
+            advised = rw (← started.8) (c.advise.ensures (c.explain.ensures.still (c.start-ended.ensures.still tells)));
+          },
+        ),
         started.6,
         started.7,
       );

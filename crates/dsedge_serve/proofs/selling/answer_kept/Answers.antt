@@ -6,5 +6,5 @@ use Rattle.dsedge_serve.proofs.selling.answer_kept.Goals as goal
 
 pub returns-in-Err-NoMemory-clause-served : goal.returns-in-Err-NoMemory-clause-served
 returns-in-Err-NoMemory-clause-served g c tells told =
-    starved_from (g.S.Shelf.stands c.args.place.now.shelf.now c.args.place.now.name.now) c.args.place.now.limits (parse_of c.args.text.now)
+    starved_from (g.S.Shelf.stands c.args.place.now.shelf.now c.args.place.now.name.now) c.args.place.now.manner.in_json c.args.place.now.manner.limits (parse_of c.args.text.now)
     (lines_of (g.I.Intake.left c.args.intake.now)) (g.O.Outlet.held c.args.output.now)

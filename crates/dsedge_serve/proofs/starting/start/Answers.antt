@@ -1,4 +1,4 @@
-use Rattle.std.proofs.Common.{Err, List, ℕ, ap, inl, map, refl, string_bytes, subst, sym, ◌∙◌, []}
+use Rattle.std.proofs.Common.{Err, List, ℕ, ap, false, inl, map, refl, string_bytes, subst, sym, ◌∙◌, []}
 use Rattle.dsedge_serve.specs.Started.{IsCourseOn}
 use Rattle.dsedge_serve.specs.Started.Course.{Refused}
 use Rattle.dsedge_serve.proofs.StartLemmas.{from_given, from_words, input_given, is_wordless, none_mapped, reads_behind, some_mapped, unread_line, usage_unwritten, written_behind}
@@ -15,7 +15,7 @@ returns-then-not-is_empty-clause-course g c =
       started.1,
       λ known. from_given texts left started.0 some started.2,
       started.3,
-      written_behind _ started.0 _ _ left _ _ _ _ (λ told. told) (λ told. input_given texts left some) started.4,
+      written_behind (g.D.Shelf.stands c.args.folder.now) started.0 _ _ left _ _ _ _ (λ told. told) (λ told. input_given texts left some) started.4,
       started.5,
       started.6,
       started.7,
@@ -34,7 +34,7 @@ returns-in-Ok-clause-course g c =
       λ tells. let words = first.words tells in
           from_words [] (g.I.Intake.left c.args.intake.now) started.0 (words.1, words.2) (subst P (ap (map string_bytes) c.as_slice.ensures.value ∙ words.0) started.2),
       started.3,
-      written_behind _ started.0 _ _ _ _ _ _ _ (λ tells. (first.told tells.0, tells.1)) (λ tells. first.taken tells.0) started.4,
+      written_behind (g.D.Shelf.stands c.args.folder.now) started.0 _ _ _ _ _ _ _ (λ tells. (first.told tells.0, tells.1)) (λ tells. first.taken tells.0) started.4,
       started.5,
       started.6,
       reads_behind started.0 _ _ _ _ first.reads started.7,
@@ -48,24 +48,24 @@ returns-in-Err-clause-course g c =
     let fault = c.in-Err.fault in
     let first = c.in-Err.ensures in
     let bytes = g.I.Intake.left c.args.intake.now in rw none (
-      Refused c.fault_of_line.result,
-      c.refuse.ensures.status,
-      λ tells. inl (rw c.fault_of_line.ensures (is_wordless bytes fault (λ usage. first.usage tells (ap (λ f. Err f) usage)))),
+      Refused false c.fault_of_line.result,
+      c.refuse_start.ensures.status,
+      λ tells. inl (refl, rw c.fault_of_line.ensures (is_wordless bytes fault (λ usage. first.usage tells (ap (λ f. Err f) usage)))),
       tt,
       refl,
-      c.refuse.ensures.told,
+      c.refuse_start.ensures.told,
       refl,
       λ whole. rw c.fault_of_line.ensures (unread_line fault _ _ _ first.reads),
-      c.refuse.ensures.advice,
+      c.refuse_start.ensures.advice,
     )
 
 -- words that are refused write nothing
 pub returns-then-not-is_empty-clause-usage : goal.returns-then-not-is_empty-clause-usage
 returns-then-not-is_empty-clause-usage g c usage =
     let started = c.start_on.ensures.course in
-    usage_unwritten _ started.0 _ _ _ _ _ (sym started.1 ∙ usage) started.4
+    usage_unwritten (g.D.Shelf.stands c.args.folder.now) started.0 _ _ _ _ _ (sym started.1 ∙ usage) started.4
 
 pub returns-in-Ok-clause-usage : goal.returns-in-Ok-clause-usage
 returns-in-Ok-clause-usage g c usage =
     let started = c.start_on-in-Ok.ensures.course in
-    usage_unwritten _ started.0 _ _ _ _ _ (sym started.1 ∙ usage) started.4
+    usage_unwritten (g.D.Shelf.stands c.args.folder.now) started.0 _ _ _ _ _ (sym started.1 ∙ usage) started.4

@@ -1,6 +1,6 @@
-use Rattle.std.proofs.Common.{map, refl, string_bytes}
+use Rattle.std.proofs.Common.{map, refl, string_bytes, ◌∙◌}
 use Rattle.dsedge_serve.specs.Started.Course.{Refused}
-use Rattle.dsedge_serve.proofs.StartLemmas.{is_refused, on_plan, refused_unread}
+use Rattle.dsedge_serve.proofs.StartLemmas.{asks_mapped, is_refused, on_plan, refused_unread}
 use Rattle.dsedge_serve.proofs.starting.start_on.Goals as goal
 
 pub returns-in-Ok-clause-course : goal.returns-in-Ok-clause-course
@@ -11,13 +11,13 @@ returns-in-Ok-clause-course g c =
 pub returns-in-Err-clause-course : goal.returns-in-Err-clause-course
 returns-in-Err-clause-course g c =
     let fault = c.in-Err.fault in (
-      Refused c.fault_of_words.result,
-      c.refuse.ensures.status,
-      rw (c.fault_of_words.ensures) (is_refused (map string_bytes c.args.words.now) fault c.in-Err.ensures.err),
+      Refused c.asks_json.result c.fault_of_words.result,
+      c.refuse_start.ensures.status,
+      (c.asks_json.ensures ∙ asks_mapped string_bytes c.args.words.now, rw (c.fault_of_words.ensures) (is_refused (map string_bytes c.args.words.now) fault c.in-Err.ensures.err)),
       tt,
       refl,
-      c.refuse.ensures.told,
+      c.refuse_start.ensures.told,
       refl,
       λ whole. rw (c.fault_of_words.ensures) (refused_unread fault (g.I.Intake.failed c.args.intake.now) (g.I.Intake.calls c.args.intake.now)),
-      c.refuse.ensures.advice,
+      c.refuse_start.ensures.advice,
     )

@@ -8,7 +8,7 @@ returns-in-Ok-clause-course g c =
     let plan = c.args.plan.now in
     let read = c.in-Ok.ensures in
     let slice = c.as_slice in
-    let served = c.serve.ensures.outcome in (
+    let served = c.serve-ended.ensures.outcome in (
       Served plan (map (λ text. text.items) slice.result.now) served.0,
       served.1,
       refl,
@@ -27,12 +27,12 @@ returns-in-Ok-clause-course g c =
 pub returns-in-Err-clause-course : goal.returns-in-Err-clause-course
 returns-in-Err-clause-course g c = (
   Unread c.args.plan.now c.in-Err.fault,
-  c.refuse.ensures.status,
+  c.refuse_start.ensures.status,
   refl,
   c.in-Err.ensures.refused,
   refl,
-  c.refuse.ensures.told,
+  rw (← c.in_json.ensures) c.refuse_start.ensures.told,
   refl,
   λ whole. refl,
-  c.refuse.ensures.advice,
+  rw (← c.in_json.ensures) c.refuse_start.ensures.advice,
 )

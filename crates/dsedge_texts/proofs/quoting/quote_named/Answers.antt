@@ -1,7 +1,8 @@
 use Rattle.std.proofs.Common.{arith, ◌≡◌, ◌⊎◌, ◌<◌, length, Result, Ok, Err, IfErr, IfOk, ap, subst, sym, ◌∙◌}
 use Rattle.std.specs.List.{list_all}
 use Rattle.ds_certificate.specs.Bounds.{fits}
-use Rattle.dsedge_texts.specs.Quoted.{Told}
+use Rattle.dsedge_texts.specs.Quotation.{said_in}
+use Rattle.dsedge_texts.specs.Quoted.{Quote}
 use Rattle.dsedge_texts.specs.declared.quoting.QuoteFault.{QuoteFault}
 use Rattle.dsedge_texts.specs.declared.quoting.QuoteFault.TheVariants.{NoMemory}
 use Rattle.dsedge_texts.specs.Wording.{place_named}
@@ -32,11 +33,11 @@ returns-in-Some-clause-ok c =
     let named = c.in-Some.ensures ∙ ap (λ xs. place_named xs c.args.name.now) c.as_slice.ensures.value in
     let e = quote-found c.args.domain c.args.contracts.items _ c.args.name.now c.in-Some.place c.remove-contract.result c.args.asked named c.remove-contract.ensures.items
     c.remove-contract.ensures.value in
-    subst (λ (r : Result Told QuoteFault). IfOk c.asked_beside.result (λ quoted. r ≡ Ok (quoted.text.items, quoted.is_found))) (sym e) c.asked_beside.ensures.ok
+    subst (λ (r : Result Quote QuoteFault). IfOk c.asked_beside.result (λ quoted. r ≡ Ok (said_in quoted))) (sym e) c.asked_beside.ensures.ok
 
 pub returns-in-Some-clause-refused : goal.returns-in-Some-clause-refused
 returns-in-Some-clause-refused c =
     let named = c.in-Some.ensures ∙ ap (λ xs. place_named xs c.args.name.now) c.as_slice.ensures.value in
     let e = quote-found c.args.domain c.args.contracts.items _ c.args.name.now c.in-Some.place c.remove-contract.result c.args.asked named c.remove-contract.ensures.items
     c.remove-contract.ensures.value in
-    subst (λ (r : Result Told QuoteFault). IfErr c.asked_beside.result (λ fault. (fault ≡ NoMemory) ⊎ (r ≡ Err fault))) (sym e) c.asked_beside.ensures.refused
+    subst (λ (r : Result Quote QuoteFault). IfErr c.asked_beside.result (λ fault. (fault ≡ NoMemory) ⊎ (r ≡ Err fault))) (sym e) c.asked_beside.ensures.refused

@@ -1,9 +1,23 @@
-use Rattle.std.proofs.Common.{arith, subst, take}
-use Rattle.dsedge_drive.proofs.KeepLaws.{take-further}
+use Rattle.std.proofs.Common.{◌<◌, ◌≤◌, ◌-◌, arith, length, take, drop}
+use Rattle.dsedge_drive.proofs.KeepLaws.{kept-more, kept-same, some-taken}
 use Rattle.dsedge_drive.proofs.keeper.Keeper.keep_next.Goals as goal
 
 pub returns-in-Ok-clause-kept : goal.returns-in-Ok-clause-kept
-returns-in-Ok-clause-kept g c before told =
-    subst (g.L.Ledger.keeps c.append.new.self)
-    (take-further c.args.history.now c.args.self.now.kept c.min-end.result (omega (arith, c.min-end.ensures, c.requires)))
-    (c.in-Ok.ensures.appended told (take c.args.self.now.kept c.args.history.now) (before (c.append.ensures.told told)))
+returns-in-Ok-clause-kept g c =
+    let old = c.args.self.now in
+    let end = c.min-end.result in
+    let some : old.kept < end = omega (arith, c.min-end.ensures, c.requires.some) in
+    let within : end ≤ length c.args.history.now = omega (arith, c.min-end.ensures) in
+    let took = c.append.ensures in
+    kept-more g.L.Ledger old.ledger c.append.new.self old.kept end c.args.history.now c.requires.kept some within took.truthful
+    took.told c.in-Ok.ensures.appended c.in-Ok.ensures.lasting took.recovers (some-taken c.args.history.now old.kept end some within)
+
+pub returns-in-Err-clause-kept : goal.returns-in-Err-clause-kept
+returns-in-Err-clause-kept g c =
+    let old = c.args.self.now in
+    let end = c.min-end.result in
+    let some : old.kept < end = omega (arith, c.min-end.ensures, c.requires.some) in
+    let within : end ≤ length c.args.history.now = omega (arith, c.min-end.ensures) in
+    let took = c.append.ensures in
+    kept-same g.L.Ledger old.ledger c.append.new.self old.kept end c.args.history.now c.requires.kept some within took.truthful
+    took.told c.in-Err.ensures.unchanged took.crash took.recovers

@@ -1,13 +1,11 @@
-use Rattle.std.proofs.Common.{length, take, ◌-◌, ◌≡◌, ◌≤◌}
+use Rattle.std.proofs.Common.{length, ◌-◌, ◌≡◌}
+use Rattle.dsedge_drive.specs.Kept.{IsKept}
 use Rattle.dsedge_drive.proofs.keeper.Keeper.settle.Given as goal
 
--- it keeps a beginning, if it did so before, and no fault came
+-- it keeps a beginning, and no fault came
 abbrev pub invariant-loop-self : goal.invariant-loop-self
 invariant-loop-self g l =
-    (l.self.kept ≤ length l.history)
-    × ((g.L.Ledger.tells l.initial.self.ledger → g.L.Ledger.keeps l.initial.self.ledger (take l.initial.self.kept l.history))
-    → g.L.Ledger.tells l.self.ledger → g.L.Ledger.keeps l.self.ledger (take l.self.kept l.history))
-    × (l.self.fault ≡ l.initial.self.fault)
+    IsKept g.L.Ledger l.self.ledger l.self.kept l.history × (l.self.fault ≡ l.initial.self.fault)
 
 abbrev pub decreases-loop-self : goal.decreases-loop-self
 decreases-loop-self g l = length l.history - l.self.kept

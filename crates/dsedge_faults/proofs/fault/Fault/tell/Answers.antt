@@ -1,7 +1,7 @@
 use Rattle.std.proofs.Common.{◌++◌, ap, codes}
 use Rattle.dsedge_faults.specs.Faults.{fault_text, shown}
 use Rattle.dsedge_faults.specs.declared.fault.Fault.TheVariants.{Capture, Certificate, Line, Port}
-use Rattle.dsedge_faults.proofs.FrontLemmas.{given_as, given_or_front}
+use Rattle.dsedge_faults.proofs.FrontLemmas.{given_as, given_or_front, kind_told}
 use Rattle.dsedge_faults.proofs.fault.Fault.tell.Goals as goal
 
 pub returns-in-Usage-clause-line : goal.returns-in-Usage-clause-line
@@ -39,13 +39,13 @@ returns-in-File-clause-line g c told =
 
 pub returns-in-Certificate-clause-line : goal.returns-in-Certificate-clause-line
 returns-in-Certificate-clause-line g c told =
-    rw c.in-Certificate.is (given_as c.tell_line-in-Certificate.result (g.F.Outlet.held c.args.faults.now) (g.F.Outlet.held c.tell_line-in-Certificate.new.faults) _ (fault_text (Certificate c.in-Certificate.place))
-    (ap (λ text. codes "dsedge: certificate " ++ text ++ codes "\n") c.certificate_text.ensures) (c.tell_line-in-Certificate.ensures.line told))
+    rw c.in-Certificate.is (given_as c.tell_kind.result (g.F.Outlet.held c.args.faults.now) (g.F.Outlet.held c.tell_kind.new.faults) _ (fault_text (Certificate c.in-Certificate.place))
+    (kind_told (codes "dsedge: certificate ") _ _ _ _ c.code.ensures c.certificate_kind.ensures) (c.tell_kind.ensures.line told))
 
 pub returns-in-Capture-clause-line : goal.returns-in-Capture-clause-line
 returns-in-Capture-clause-line g c told =
-    rw c.in-Capture.is (given_as c.tell_line-in-Capture.result (g.F.Outlet.held c.args.faults.now) (g.F.Outlet.held c.tell_line-in-Capture.new.faults) _ (fault_text (Capture c.in-Capture.fault))
-    (ap (λ text. codes "dsedge: capture " ++ text ++ codes "\n") c.capture_text.ensures) (c.tell_line-in-Capture.ensures.line told))
+    rw c.in-Capture.is (given_as c.tell_kind-in-Capture.result (g.F.Outlet.held c.args.faults.now) (g.F.Outlet.held c.tell_kind-in-Capture.new.faults) _ (fault_text (Capture c.in-Capture.fault))
+    (kind_told (codes "dsedge: capture ") _ _ _ _ c.code-in-Capture.ensures c.capture_kind.ensures) (c.tell_kind-in-Capture.ensures.line told))
 
 pub returns-in-Port-clause-line : goal.returns-in-Port-clause-line
 returns-in-Port-clause-line g c told =

@@ -5,5 +5,5 @@ use Rattle.dsedge_meter.proofs.envelope.EnvelopeCommandCommand.end.Goals as goal
 
 pub returns : goal.returns
 returns c =
-    let t : Testing = record { bucket = c.self.inside.bucket; over = c.self.inside.over } in
+    let t : Testing = record { bucket = c.self.inside.bucket; over = c.self.inside.over; in_json = c.self.inside.in_json } in
     rw (← c.self.view_is, verdict_behind-end t c.args._number, c.in_ok-extend_from_slice.ensures.items, c.as_slice.ensures.value, c.in_ok-text.ensures, c.verdict_ending.ensures) refl

@@ -9,7 +9,7 @@ use Rattle.flow_classifier.proofs.tuples.TupleTable.first_held.Goals as goal
 pub first_held-first-requires : goal.first_held-first-requires
 first_held-first-requires c =
     tuple_at c.self.inside.rules.items c.deref.result.now c.self.inside.tuples.items c.deref-tuple-items.result.now c.loop-tuple.tuple-index c.tuple-item.result
-    c.self.invariant.each c.deref.ensures.value c.deref-tuple-items.ensures.value c.loop-tuple-test.true c.tuple-item.is
+    c.self.invariant.1.each c.deref.ensures.value c.deref-tuple-items.ensures.value c.loop-tuple-test.true c.tuple-item.is
 
 pub loop-tuple-preserved : goal.loop-tuple-preserved
 loop-tuple-preserved c =
@@ -32,5 +32,5 @@ loop-tuple-preserved c =
 pub returns-clause-none : goal.returns-clause-none
 returns-clause-none c = λ k row at.
     none_in_all c.self.inside.tuples.items c.self.inside.rules.items c.args.key.now c.loop-tuple.tuple-index c.loop-tuple.first
-    (subst (λ (ts : List Tuple). length ts ≤ c.loop-tuple.tuple-index) c.deref-tuple-items.ensures.value c.loop-tuple-test.false) c.self.invariant c.loop-tuple.invariant.before
+    (subst (λ (ts : List Tuple). length ts ≤ c.loop-tuple.tuple-index) c.deref-tuple-items.ensures.value c.loop-tuple-test.false) c.self.invariant.1 c.loop-tuple.invariant.before
     k row (ap (λ (rs : List FlowRule). slice_get rs k) c.self.view_is ∙ at)

@@ -1,0 +1,2 @@
+-- What is said of why a plan was not done.
+pub mod Asked

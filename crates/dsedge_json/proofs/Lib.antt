@@ -1,0 +1,5 @@
+-- What objects say.
+pub mod BlankLaws
+pub mod CertificateLaws
+pub mod ObjectLaws
+pub mod QuotationLaws

@@ -1,0 +1,2 @@
+-- What is told of faults as objects of JSON.
+pub mod FaultObjects

@@ -1,0 +1,2 @@
+-- Values as lines of JSON.
+pub mod JsonLines
