@@ -1,4 +1,6 @@
-//! Objects of JSON, beside their lines: those of examples/json.
+//! Worked rows of the libraries below: faults as objects of JSON, as examples/json has them. They stand here, and not
+//! beside those calls, since a crate with tests is proved twice.
 #![tactic(auto)]
 
+#[cfg(test)]
 mod fault_rows;
