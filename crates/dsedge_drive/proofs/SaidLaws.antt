@@ -1,5 +1,5 @@
 -- What is said of a command, by what became of it.
-use Rattle.std.proofs.Common.{◌≡◌, ◌≢◌, ℕ, Bool, List, ◌++◌, Option, None, Some, Result, Ok, Err, ap, ◌∙◌, inl, inr, IfErr, IfOk, MatchResult, OnErr, OnOk}
+use Rattle.std.proofs.Common.{◌≡◌, ◌≢◌, ℕ, Bool, List, ◌++◌, Option, None, Result, Ok, Err, ap, ◌∙◌, inl, inr, IfErr, IfOk, MatchResult, OnErr, OnOk}
 use Rattle.std.proofs.lemmas.Result.{on_err_weaker}
 use Rattle.ds_broker.specs.Books.{Book, contracts_in, held_of, with_command}
 use Rattle.ds_broker.specs.Refusals.{IsRefusal}

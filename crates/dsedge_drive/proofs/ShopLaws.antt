@@ -1,12 +1,9 @@
 -- Which ids a book can hold, and what a feed sees that has learned all of it.
-use Rattle.std.proofs.Common.{◌≡◌, ◌<◌, ◌≤◌, ℕ, false, List, [], ◌∷◌, length, None, Some, refl, sym, ap, subst, ◌∙◌, arith, nat_eq}
+use Rattle.std.proofs.Common.{◌≡◌, ◌<◌, ℕ, false, List, [], ◌∷◌, length, None, refl, arith, nat_eq}
 use Rattle.std.specs.List.{AllByRecursion}
-use mathlib.Core.List.{IsPrefix}
 use Rattle.ds_broker.specs.Books.{Book, held_of, holding_of}
 use Rattle.ds_broker.specs.Histories.{Holding, standing_of}
-use Rattle.ds_broker.specs.declared.command.Command.{Command}
 use Rattle.ds_broker.proofs.StandingLaws.{IsBounded, granted-most, standing-bounded}
-use Rattle.ds_desk.proofs.Fronts.{prefix_trans, prefix_whole}
 
 unheld : (granted newest id : ℕ) (held : List Holding) → granted < id → AllByRecursion (IsBounded granted newest) held → holding_of id held ≡ None
 unheld granted newest id [] late all = refl

@@ -15,6 +15,7 @@ use crate::keeper::{Keeper, MOST_AT_ONCE};
 use crate::offering::{offer, offer_in};
 use crate::request::{Request, asked};
 use crate::shop::Shop;
+use crate::wording::words_on;
 use ds_broker::{Book, Limits};
 use ds_desk::{Naming, Opened};
 use ds_domain_base::{Contract, Domain, Kind};
@@ -22,6 +23,7 @@ use ds_ledger_base::{BookFault, Ledger, LedgerFault};
 use ds_offers::Offers;
 use ds_quotes::Asked;
 use dsedge_lines::{Command, Ending};
+use dsedge_saying::Speaker;
 use dsedge_sold::{
     push_asked, push_fault, push_list, push_outcome, push_room, push_sale, push_sight,
 };
@@ -37,7 +39,7 @@ const MOST_HELD: usize = 65_536;
 /// The command `drive`: each line asks something of a broker of a domain, and is answered once what it tells is kept.
 ///
 /// Lines that come in one piece of the input are kept together. It keeps a handle, since the broker waits for feeds that
-/// look.
+/// look. Where more is said, for a person, it has words behind what it refuses.
 #[derive(Drop)]
 pub struct DriveCommand<J: Naming, R: Wait + Drop, L: Ledger + Drop> {
     alloc: Global,
@@ -47,6 +49,10 @@ pub struct DriveCommand<J: Naming, R: Wait + Drop, L: Ledger + Drop> {
     keeper: Keeper<L>,
     /// What is answered and not given out, since not all that it tells is kept yet.
     answers: Vec<u8>,
+    /// Whether there are words behind what it refuses, for a person.
+    is_explained: bool,
+    /// These words, as far as they were not taken.
+    words: String,
 }
 
 impl<J: Naming, R: Wait + Drop, L: Ledger + Drop> Model for DriveCommand<J, R, L> {
@@ -77,6 +83,8 @@ pub struct Sale {
     pub contracts: Vec<Contract>,
     /// Whether what is answered is told by objects of JSON.
     pub in_json: bool,
+    /// Whether there are words behind what is refused, for a person.
+    pub is_explained: bool,
 }
 
 impl<J: Naming, R: Wait + Drop, L: Ledger + Drop> DriveCommand<J, R, L> {
@@ -104,6 +112,7 @@ impl<J: Naming, R: Wait + Drop, L: Ledger + Drop> DriveCommand<J, R, L> {
             limits,
             contracts,
             in_json,
+            is_explained,
         } = sale;
         let Ok(offers) = Offers::of(alloc, contracts) else {
             return Err(BookFault::Ledger(LedgerFault::NoMemory));
@@ -122,6 +131,8 @@ impl<J: Naming, R: Wait + Drop, L: Ledger + Drop> DriveCommand<J, R, L> {
             shop,
             keeper,
             answers: Vec::new(alloc),
+            is_explained,
+            words: String::new(alloc),
         })
     }
 
@@ -175,6 +186,7 @@ impl<J: Naming, R: Wait + Drop, L: Ledger + Drop> DriveCommand<J, R, L> {
         match asked(&self.offers, line) {
             Some(request) => {
                 self.say(request)?;
+                self.explain(line);
                 Ok(true)
             }
             None => Ok(false),
@@ -196,6 +208,24 @@ impl<J: Naming, R: Wait + Drop, L: Ledger + Drop> DriveCommand<J, R, L> {
             request,
             self.in_json,
         )
+    }
+
+    /// Puts what more there is to say of what a line asked for, once it is answered, behind the words that it has,
+    /// where they are for a person. Where memory runs out nothing is said of it.
+    fn explain(&mut self, line: &[u8])
+        ensures { self.new ≡ self.old }
+    {
+        if !self.is_explained {
+            return;
+        }
+        let Some(request) = asked(&self.offers, line) else {
+            return;
+        };
+        let (offered, book) = (self.offers.contracts(), self.shop.book());
+        let said = words_on(self.alloc, offered, book, request, line);
+        if let Ok(words) = said {
+            let _added = self.words.push_str(words.as_str());
+        }
     }
 
     /// Gives out what is answered, once all of it is kept.
@@ -449,5 +479,17 @@ impl<J: Naming, R: Wait + Drop, L: Ledger + Drop> Command for DriveCommand<J, R,
     {
         self.give(out)?;
         Ok(Ending::Whole)
+    }
+}
+
+impl<J: Naming, R: Wait + Drop, L: Ledger + Drop> Speaker for DriveCommand<J, R, L> {
+    /// Takes the words behind what it refused, once all that it answered was given out.
+    fn take_words(&mut self) -> String
+        ensures { self.new ≡ self.old }
+    {
+        if !self.answers.is_empty() {
+            return String::new(self.alloc);
+        }
+        std::mem::replace(&mut self.words, String::new(self.alloc))
     }
 }

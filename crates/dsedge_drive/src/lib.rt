@@ -7,6 +7,7 @@ mod offering;
 mod request;
 mod shop;
 mod sight;
+mod wording;
 
 pub use command::{DriveCommand, Sale, list};
 pub use ds_desk::{Naming, Opened};

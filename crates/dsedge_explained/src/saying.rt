@@ -1,4 +1,4 @@
-ghost use Rattle.dsedge_explained.specs.Asked.{IsSaid};
+ghost use Rattle.dsedge_saying.specs.Saying.{IsSaid};
 
 use crate::explaining::explained;
 use crate::findings::Findings;

@@ -1,5 +1,5 @@
 -- Objects have no float, nest no deeper than twice, and their lines are made of them.
-use Rattle.std.proofs.Common.{◌≡◌, ◌≢◌, ℕ, ◌≤◌, ◌||◌, max, false, suc, List, [], ◌∷◌, ◌++◌, codes, flat_map, Option, None, Some, append_assoc, append-nil, refl, sym, ap, ◌∙◌, arith}
+use Rattle.std.proofs.Common.{◌≡◌, ◌≢◌, ℕ, ◌≤◌, max, false, suc, List, [], ◌∷◌, ◌++◌, codes, flat_map, Option, None, Some, append_assoc, append-nil, refl, sym, ap, ◌∙◌, arith}
 use Rattle.std.proofs.lemmas.Fmt.{decimal_digit}
 use Rattle.std.proofs.lemmas.Bool.Decides.{nat_tests}
 use Rattle.std.specs.Option.{option_map_or}

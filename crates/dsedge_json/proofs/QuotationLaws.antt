@@ -1,5 +1,5 @@
 -- The object of what is answered to a quote has no float, nests no deeper than twice, and the lines are made of it.
-use Rattle.std.proofs.Common.{◌≡◌, ◌≢◌, ℕ, ◌≤◌, suc, max, false, List, [], ◌∷◌, ◌++◌, codes, decimal, None, Some, append-nil, refl, ap, ◌∙◌, arith, append_assoc}
+use Rattle.std.proofs.Common.{◌≡◌, ℕ, ◌≤◌, suc, max, false, List, [], ◌∷◌, ◌++◌, codes, decimal, None, Some, append-nil, refl, ap, arith, append_assoc}
 use Rattle.std.proofs.lemmas.Bool.Decides.{nat_tests}
 use Rattle.serde_json.specs.Data.{depth}
 use Rattle.serde_json.specs.Read.{max_depth}

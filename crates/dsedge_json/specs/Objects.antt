@@ -1,6 +1,6 @@
 -- The objects of JSON that say what the checker's lines say, and how the lines are made of them. Members stand in the order
 -- of their keys.
-use Rattle.std.specs.Prelude.{◌≡◌, ℕ, List, [], ◌∷◌, ◌++◌, codes, flat_map, Option, None, Some}
+use Rattle.std.specs.Prelude.{ℕ, List, [], ◌∷◌, ◌++◌, codes, flat_map, Option, None, Some}
 use Rattle.std.specs.Option.{option_map_or}
 use Rattle.moment_core.specs.declared.column.Column.{Column}
 use Rattle.serde_json.specs.Data.{Data, Items, array, item, member, no_items, no_members, null, number, object, string, unsigned, boolean}

@@ -1,5 +1,5 @@
 -- What is answered of texts as an object, and whether that answers with yes.
-use Rattle.std.specs.Prelude.{◌≡◌, ℕ, Bool, true, false, List, Option, None, Some, Result, Ok, Err}
+use Rattle.std.specs.Prelude.{ℕ, Bool, true, false, List, Option, None, Some, Result, Ok, Err}
 use Rattle.serde_json.specs.Data.{Data}
 use Rattle.json_lines.specs.JsonLines.{line_of}
 use Rattle.ds_checker.specs.Acceptance.{Table, refusal_of}

@@ -1,5 +1,5 @@
 -- What is told of a fault is its object, or that memory ran out.
-use Rattle.std.proofs.Common.{◌≡◌, ℕ, List, ◌++◌, Result, Ok, Err, MatchResult, codes, cond, is_ok, refl, take}
+use Rattle.std.proofs.Common.{◌≡◌, ℕ, List, ◌++◌, Result, MatchResult, codes, cond, is_ok, refl, take}
 use Rattle.serde_json.proofs.OnLiterals.{serde_json_on_literals}
 use Rattle.json_lines.specs.JsonLines.{line_of}
 use Rattle.pcap_capture.specs.Counts.{next_count}

@@ -1,5 +1,5 @@
 -- What comes of the bytes that are still to come, from where a command stands.
-use Rattle.std.specs.Prelude.{ℕ, List, ◌++◌}
+use Rattle.std.specs.Prelude.{◌≡◌, ℕ, List, [], ◌++◌}
 use Rattle.line_text.specs.Lines.{lines_of}
 use Rattle.dsedge_lines.specs.Answers.{Answer, behind}
 use Rattle.dsedge_lines.specs.declared.progress.Progress.{Progress}
@@ -8,3 +8,9 @@ use Rattle.dsedge_lines.specs.declared.progress.Progress.{Progress}
 abbrev pub answer_with : (ℕ → List (List ℕ) → Answer) → Progress → List ℕ → Answer
 answer_with answer progress bytes =
     behind progress.out.items (answer progress.number (lines_of (progress.carry.items ++ bytes)))
+
+-- nothing is answered so far
+pub record IsFresh (progress : Progress) : Type 0 where
+  pub number : progress.number ≡ 1
+  pub carry : progress.carry.items ≡ []
+  pub out : progress.out.items ≡ []

@@ -1,10 +1,10 @@
-ghost use Rattle.std.specs.Prelude.{◌≡◌, ◌≢◌, ℕ, ◌+◌, ◌^◌, ◌<◌, ◌≤◌, ◌⊎◌, true, false, List, [], ◌++◌, take, vec_len};
+ghost use Rattle.std.specs.Prelude.{◌≡◌, ◌≢◌, ℕ, ◌+◌, ◌^◌, ◌<◌, ◌≤◌, ◌⊎◌, true, false, List, ◌++◌, take, vec_len};
 ghost use Rattle.std.specs.Prelude.{Err, MatchResult, IfOk, IfNone, OnErr, OnOk, if◌then◌else◌};
 ghost use Rattle.line_text.specs.Lines.{lines_of, has_byte};
 ghost use Rattle.pcap_capture.specs.Counts.{IsOfReads, next_count};
 ghost use Rattle.dsedge_lines.specs.Answers.{Answers, BeginsWith};
 ghost use Rattle.dsedge_lines.specs.Faults.{is_read_fault, is_write_fault};
-ghost use Rattle.dsedge_lines.specs.Underway.{answer_with};
+ghost use Rattle.dsedge_lines.specs.Underway.{IsFresh, answer_with};
 
 use super::command::{Command, Ending};
 use super::fault::PumpFault;
@@ -12,8 +12,12 @@ use super::progress::{Progress, answer_end, answer_piece};
 use pcap_capture::{Intake, Outlet, PIECE, hand_over, room};
 use std::alloc::Global;
 
-/// Takes a piece of the input, and answers the lines that end in it, or the end of the input.
-fn answer_next<C: Command, I: Intake>(
+/// Takes a piece of the input, and answers the lines that end in it, or the end of the input, for an engine that does
+/// more than [`pump`] between two pieces.
+///
+/// The piece has room for a byte, the lines are numbered in 64 bits, and what is carried over has no LF. `Read` is the
+/// answer too where the input answers no more calls; `Write` is none.
+pub fn answer_next<C: Command, I: Intake>(
     command: &mut C,
     progress: &mut Progress,
     intake: &mut I,
@@ -114,9 +118,7 @@ fn pump_through<C: Command, I: Intake, O: Outlet>(
     piece: &mut Vec<u8>,
 ) -> Result<Ending, PumpFault>
     requires room { vec_len piece.old ≡ 65536 }
-    requires number { progress.old.number ≡ 1 }
-    requires carry { progress.old.carry.items ≡ [] }
-    requires out { progress.old.out.items ≡ [] }
+    requires fresh { IsFresh progress.old }
     ensures whole { I.tells intake.old → O.tells outlet.old → IfOk result (λ ending.
         let whole = C.answer command.old 1 (lines_of (I.left intake.old)) in
         (O.held outlet.new ≡ O.held outlet.old ++ whole.text) × (ending ≡ whole.ending)) }

@@ -11,9 +11,10 @@ mod quantities;
 mod words;
 
 pub use command::{Command, Ending};
-pub use engine::pump;
+pub use engine::{answer_next, pump};
 pub use fault::PumpFault;
 pub use fronts::{behind, behind_word, number_before};
 pub use given_name::GivenName;
+pub use progress::Progress;
 pub use quantities::{moment, size, sized_of};
 pub use words::{FirstLineFault, Words, first_line};

@@ -1,5 +1,5 @@
 -- The object of a report has no float, nests two deep at most, and makes the lines.
-use Rattle.std.proofs.Common.{◌≡◌, ℕ, ◌≤◌, max, suc, false, List, [], ◌∷◌, ◌++◌, codes, decimal, Option, None, Some, append_assoc, refl, ap, ◌∙◌, arith}
+use Rattle.std.proofs.Common.{◌≡◌, ℕ, ◌≤◌, max, suc, false, List, [], ◌∷◌, ◌++◌, codes, Option, None, Some, append_assoc, refl, ap, ◌∙◌, arith}
 use Rattle.std.specs.Prelude.{slice_index}
 use Rattle.std.specs.Option.{option_map_or}
 use Rattle.std.proofs.lemmas.Bool.Decides.{nat_tests}

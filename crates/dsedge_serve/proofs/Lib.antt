@@ -2,6 +2,5 @@ pub mod HeldLemmas
 pub mod MarkLemmas
 pub mod NameLemmas
 pub mod QuoteLemmas
-pub mod SaleLemmas
 pub mod StartLemmas
 pub mod TellLemmas

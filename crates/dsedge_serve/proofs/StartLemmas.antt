@@ -22,7 +22,9 @@ use Rattle.ds_marking.specs.declared.fault.MarkFault.TheVariants as marks
 use Rattle.dsedge_answers.specs.declared.conclusion.Conclusion.TheVariants.{Ended, Unaccepted, Uncertified, Unkept, Unsound}
 use Rattle.dsedge_serve.specs.declared.outcome.Outcome.{Outcome}
 use Rattle.dsedge_serve.specs.declared.outcome.Outcome.TheVariants.{Answered, Marked, Misused, Portless, Told, Unnamed}
+use Rattle.dsedge_json_faults.specs.FaultObjects.{IsToldBy}
 use Rattle.dsedge_serve.specs.Served.{IsAnswered, is_misused, status_after}
+use Rattle.dsedge_serve.specs.Spoken.{IsToldBehind}
 use Rattle.dsedge_serve.specs.Started.{Course, HasWords, IsCourseFrom, IsCourseOn, IsCourseWith, IsRefused, IsWordless, IsWritten, LacksWords, asks_json, fault_of_line, fault_of_words, input_from, is_broken_off, is_read, is_unread, status_in, words_from}
 use Rattle.dsedge_serve.specs.Started.Course.{Refused, Served, Unread}
 
@@ -169,3 +171,8 @@ written_behind stands (Served plan texts outcome) T U left input more before aft
 pub reads_behind : (course : Course) (failed first now calls : ℕ) → first ≡ failed → (is_broken_off course ≡ false → IsOfReads (is_unread course) first now calls)
     → is_broken_off course ≡ false → IsOfReads (is_unread course) failed now calls
 reads_behind course failed first now calls same reads whole = reads_from (is_unread course) first failed now calls same (reads whole)
+
+-- where nothing is said beside an answer, what is told stands behind what stood
+pub told_alone : (is : List ℕ → Type 0) (before after : List ℕ) (failed now : ℕ) → IsToldBy is before after failed now
+    → IsToldBehind false is before after failed now
+told_alone is before after failed now told = record { behind_words = before; words_failures = failed; said = (refl, refl); told = told }

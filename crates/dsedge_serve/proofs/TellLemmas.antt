@@ -16,7 +16,6 @@ use Rattle.dsedge_texts.specs.declared.accepting.TableFault.TheVariants as table
 use Rattle.dsedge_faults.proofs.FrontLemmas.{behind_told}
 use Rattle.dsedge_json_faults.specs.FaultObjects.{fault_data}
 use Rattle.dsedge_serve.specs.Marked.{IsMarkFaultTold, IsMarkingTold, IsObjectText, IsObjectsText, IsReportFor, judged, judged_text, marking_fault, marking_fault_text, marking_told}
-use Rattle.dsedge_serve.specs.declared.outcome.Outcome.{Outcome}
 use Rattle.dsedge_serve.specs.Served.{IsPortlessBefore}
 use Rattle.dsedge_serve.specs.declared.outcome.Outcome.TheVariants.{Answered, Marked}
 use Rattle.dsedge_serve.specs.declared.outcome.ReportText.{ReportText}

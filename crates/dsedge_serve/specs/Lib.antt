@@ -2,7 +2,7 @@
 pub mod Advised
 pub mod Explained
 pub mod Marked
-pub mod Sales
 pub mod Served
+pub mod Spoken
 pub mod Started
 pub mod Told

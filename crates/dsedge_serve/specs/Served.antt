@@ -25,17 +25,13 @@ use Rattle.dsedge_meter.specs.Verdicts.{envelope_for, verdict_on}
 use Rattle.ds_checker.specs.Acceptance.{Table}
 use Rattle.ds_conductor.specs.Steps.{opened}
 use Rattle.dsedge_audit.specs.Audited.{audit_from}
-use Rattle.ds_broker.specs.Books.{Book, Limits}
+use Rattle.ds_broker.specs.Books.{Limits}
 use Rattle.ds_broker.specs.declared.command.Command.{Command}
-use Rattle.ds_broker.specs.declared.refusal.BrokerRefusal.{BrokerRefusal}
-use Rattle.ds_ledger_base.specs.Replays.{replay}
-use Rattle.ds_ledger_base.specs.declared.fault.BookFault.TheVariants as books
 use Rattle.ds_ledger_base.specs.declared.fault.LedgerFault.{LedgerFault}
 use Rattle.dsedge_book.specs.Held.{domain_in}
 use Rattle.dsedge_book.specs.Told.{IsBookTold}
 use Rattle.dsedge_book.specs.declared.held.HeldForm.{HeldForm}
 use Rattle.dsedge_book.specs.declared.held.HeldForm.TheVariants as forms
-use Rattle.dsedge_drive.specs.Driven.{drive_from, driven, opening_book}
 use Rattle.dsedge_texts.specs.Accepted.{accepted_in}
 use Rattle.dsedge_json.specs.Quotations.{quote_said}
 use Rattle.dsedge_texts.specs.Quoted.{Told, quote_in}
@@ -47,12 +43,11 @@ use Rattle.pcap_capture.specs.Takings.{is_read_fault as is_telling_unread}
 use Rattle.dsedge_serve.specs.Told.{AreToldFor, outcome_of, refusal_for, IsTellingTold, telling_answer, telling_status}
 use Rattle.dsedge_answers.specs.Replies.{IsOutcomeTold, IsServed, Reply, refusal_outcome, reply_by, reply_certified, reply_checked, reply_headed, reply_of, status_for, whole_text}
 use Rattle.dsedge_answers.specs.declared.conclusion.Conclusion.{Conclusion}
-use Rattle.dsedge_answers.specs.declared.conclusion.Conclusion.TheVariants.{Ended, Unaccepted, Uncertified, Unkept, Unsound}
+use Rattle.dsedge_answers.specs.declared.conclusion.Conclusion.TheVariants.{Ended, Unaccepted, Uncertified, Unsound}
 use Rattle.dsedge_faults.specs.declared.fault.Fault.TheVariants as faults
-use Rattle.pcap_capture.specs.Fronts.{IsFrontOf}
 use Rattle.dsedge_faults.specs.Faults.{status_of}
 use Rattle.dsedge_json_faults.specs.FaultObjects.{IsFaultTold}
-use Rattle.dsedge_serve.specs.Sales.{unkept_as}
+use Rattle.dsedge_selling.specs.Sold.{IsSoldFrom, reply_sold}
 use Rattle.dsedge_serve.specs.Marked.{IsMarkedOver, IsMarkingTold, IsReportFor, IsUnmarked, is_sole, marking_answer, marking_status, rule_said}
 use Rattle.dsedge_serve.specs.declared.outcome.Outcome.{Outcome}
 use Rattle.dsedge_serve.specs.declared.outcome.ReportText.{ReportText}
@@ -72,12 +67,6 @@ abbrev pub reply_quoted : Told → Reply
 reply_quoted told =
     record { text = told.0; conclusion = Ended (if told.1 then endings.Whole else endings.Refused) }
 
--- The contracts that a domain text says are sold by lines, and answered by lines or by objects, by a book that takes so
--- much; the fault of the text ends it before anything is written.
-abbrev pub reply_sold : Bool → Limits → Result (Domain × List Contract) DomainFault → List (List ℕ) → Reply
-reply_sold in_json limits (Ok parsed) lines = reply_of (driven in_json parsed.0 limits parsed.1 lines)
-reply_sold in_json limits (Err fault) lines = record { text = []; conclusion = Unsound fault }
-
 -- the text of the first file, and of the second
 abbrev pub first_text : List (List ℕ) → List ℕ
 first_text [] = []
@@ -95,42 +84,6 @@ IsReplied reply Misused before after = ⊥
 IsReplied reply (Marked report fault line) before after = ⊥
 IsReplied reply Portless before after = ⊥
 IsReplied reply (ToldTo fault) before after = ⊥
-
--- Text was written behind what stood, as a reply has it: to its end, or a front of it, where a device failed, memory ran
--- out, or the ledger kept the book no more.
-abbrev pub IsKeptServed : Reply → Result Conclusion PumpFault → List ℕ → List ℕ → Type 0
-IsKeptServed reply (Ok (Unkept fault)) before after = IsFrontOf before reply.text after
-IsKeptServed reply outcome before after = IsServed reply outcome before after
-
--- Contracts that are offered were sold by lines from the book on that the commands of a ledger led to; or one of these
--- was refused, which is told, and nothing was written. Memory may run out.
-abbrev pub IsSoldBehind : Bool → Result Book (ℕ × BrokerRefusal) → List Contract → List (List ℕ) → Result Conclusion PumpFault
-    → List ℕ → List ℕ → Type 0
-IsSoldBehind in_json (Ok b) offered lines outcome before after =
-    IsKeptServed (reply_of (drive_from in_json offered b 1 lines)) outcome before after
-IsSoldBehind in_json (Err refused) offered lines outcome before after =
-    (after ≡ before) × ((outcome ≡ Err pump_faults.NoMemory)
-    ⊎ (outcome ≡ Ok (Unkept (books.Command (record { serial = refused.0; refusal = refused.1 })))))
-
--- a book of a domain went on from a history that a ledger keeps which stands so
-pub record IsSoldOn (stands : Result (List Command) LedgerFault → Type 0) (in_json : Bool) (limits : Limits) (parsed : Domain × List Contract)
-    (lines : List (List ℕ)) (outcome : Result Conclusion PumpFault) (before after : List ℕ) : Type 0 where
-  pub history : List Command
-  pub stood : stands (Ok history)
-  pub sold : IsSoldBehind in_json (replay (opening_book parsed.0 limits) history) parsed.1 lines outcome before after
-
--- a ledger could not be had, and nothing was written: why not is told; or memory ran out
-abbrev pub IsUnshelved : (Result (List Command) LedgerFault → Type 0) → Result Conclusion PumpFault → List ℕ → List ℕ → Type 0
-IsUnshelved stands outcome before after =
-    (after ≡ before)
-    × ((outcome ≡ Err pump_faults.NoMemory) ⊎ ((fault : LedgerFault) × stands (Err fault) × (outcome ≡ unkept_as fault)))
-
-abbrev pub IsSoldFrom : (Result (List Command) LedgerFault → Type 0) → Bool → Limits → Result (Domain × List Contract) DomainFault
-    → List (List ℕ) → Result Conclusion PumpFault → List ℕ → List ℕ → Type 0
-IsSoldFrom stands in_json limits (Ok parsed) lines outcome before after =
-    IsUnshelved stands outcome before after ⊎ IsSoldOn stands in_json limits parsed lines outcome before after
-IsSoldFrom stands in_json limits (Err fault) lines outcome before after =
-    IsServed (record { text = []; conclusion = Unsound fault }) outcome before after
 
 -- Contracts were sold: from the first command on, or where a file keeps the book, from those on that it keeps, as files
 -- stand by their names.

@@ -1,5 +1,5 @@
 -- What `arrivals` writes and tells.
-use Rattle.std.specs.Prelude.{◌≡◌, ⊤, ℕ, Bool, List, [], Option, None, Some, IfSome, Result, Ok, Err}
+use Rattle.std.specs.Prelude.{◌≡◌, ⊤, ℕ, Bool, List, [], Option, None, Some, Result, Ok, Err}
 use Rattle.ds_domain.specs.DomainTexts.{parse_of}
 use Rattle.pcap_capture.specs.declared.fault.PcapFault.{PcapFault}
 use Rattle.dsedge_arrivals.specs.Arrivals.{Filter}

@@ -7,9 +7,9 @@ mod marking;
 mod outcome;
 mod quoting;
 mod running;
-mod selling;
 mod serving;
 mod starting;
+mod supplies;
 mod telling;
 mod terminal;
 
@@ -20,4 +20,5 @@ pub use outcome::{Outcome, ReportText};
 pub use running::run;
 pub use serving::serve;
 pub use starting::{refuse, start};
+pub use supplies::Supplies;
 pub use terminal::AtTerminal;

@@ -8,6 +8,7 @@ ghost use Rattle.dsedge_faults.specs.Faults.{status_of};
 ghost use Rattle.dsedge_json_faults.specs.FaultObjects.{IsFaultTold, IsToldBy};
 ghost use Rattle.dsedge_answers.specs.Replies.{IsOfWrites};
 ghost use Rattle.dsedge_serve.specs.Explained.{IsToldMore, is_asked};
+ghost use Rattle.dsedge_serve.specs.Spoken.{is_spoken_in};
 ghost use Rattle.dsedge_serve.specs.Started.{AreKnown, Course, IsCourseFrom, IsCourseOf, IsWritten};
 ghost use Rattle.dsedge_serve.specs.Started.{advice_in, behind_name, input_from, is_broken_off, is_unread, is_unwritten};
 ghost use Rattle.dsedge_serve.specs.Started.{IsToldIn, status_in, wordless};
@@ -28,7 +29,8 @@ use std::thread::Threads;
 /// Runs the program on the words of its command line, the first of which is its own name, and gives its exit status.
 /// Where there are no others, the first line of the input gives them, and the rest is the input. Files that the words
 /// name come from `folder`. Where faults are read at a terminal, and where one of the words is `--explain`, what there
-/// is to say stands behind a fault's line, and nowhere else; that word says nothing else.
+/// is to say stands behind a fault's line, and behind what a broker refuses, and nowhere else; that word says nothing
+/// else.
 ///
 /// Words that could not be had are refused: for want of memory, or since one of them is not UTF-8.
 pub fn run<R: Wait + Threads + Sync, D: Folder + Shelf, I: Intake, O: Outlet, F: Outlet>(
@@ -57,8 +59,8 @@ pub fn run<R: Wait + Threads + Sync, D: Folder + Shelf, I: Intake, O: Outlet, F:
         (O.held output.old) (O.held output.new)
         × (F.tells faults.old →
         (text : List ℕ) × IsToldIn course text
-        × IsToldMore (is_asked at_terminal given) words (advice_in course) text (F.held faults.old) (F.held faults.new)
-        (F.failed faults.old) (F.failed faults.new))
+        × IsToldMore (is_spoken_in (is_asked at_terminal given) course) (is_asked at_terminal given) words
+        (advice_in course) text (F.held faults.old) (F.held faults.new) (F.failed faults.old) (F.failed faults.new))
         × IsOfWrites (is_unwritten course) (O.failed output.old) (O.failed output.new)
         × (is_broken_off course ≡ false
         → IsOfReads (is_unread course) (I.failed intake.old) (I.failed intake.new) (I.calls intake.new))) }
@@ -124,13 +126,13 @@ fn run_on<R: Wait + Threads + Sync, D: Folder + Shelf, I: Intake, O: Outlet, F: 
         (O.held output.old) (O.held output.new)
         × (F.tells faults.old →
         (text : List ℕ) × IsToldIn course text
-        × IsToldMore is_asked texts (advice_in course) text (F.held faults.old) (F.held faults.new)
-        (F.failed faults.old) (F.failed faults.new))
+        × IsToldMore (is_spoken_in is_asked course) is_asked texts (advice_in course) text (F.held faults.old)
+        (F.held faults.new) (F.failed faults.old) (F.failed faults.new))
         × IsOfWrites (is_unwritten course) (O.failed output.old) (O.failed output.new)
         × (is_broken_off course ≡ false
         → IsOfReads (is_unread course) (I.failed intake.old) (I.failed intake.new) (I.calls intake.new)) }
 {
-    let ended = start(alloc, rt, words, folder, intake, output, faults);
+    let ended = start(alloc, rt, words, is_asked, folder, intake, output, faults);
     let status = ended.status;
     let is_explained = is_explained(is_asked, words);
     explain(alloc, words, is_explained, status, &ended.findings, faults);

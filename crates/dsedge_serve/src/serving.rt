@@ -1,11 +1,13 @@
-ghost use Rattle.std.specs.Prelude.{◌≡◌, false, length, map, true};
+ghost use Rattle.std.specs.Prelude.{◌≡◌, ◌&&◌, false, length, map, not, true};
 ghost use Rattle.dsedge_base.specs.Files.{files_of, in_json_of, names_of};
 ghost use Rattle.dsedge_lines.specs.Faults.{is_read_fault, is_write_fault};
 ghost use Rattle.dsedge_answers.specs.Replies.{IsOfWrites, IsServed, reply_of};
 ghost use Rattle.dsedge_serve.specs.Served.{IsAnswered, IsForeseen, IsRefusedBefore, form_said, is_broken_off, is_input_fault};
 ghost use Rattle.dsedge_serve.specs.Served.{IsToldAfter, is_misused, is_output_fault, reply_over, status_after};
 ghost use Rattle.dsedge_json_faults.specs.FaultObjects.{IsToldBy};
+ghost use Rattle.dsedge_saying.specs.Saying.{HasSaid};
 ghost use Rattle.dsedge_serve.specs.Advised.{advice_after};
+ghost use Rattle.dsedge_serve.specs.Spoken.{IsToldBehind, is_spoken};
 ghost use Rattle.dsedge_serve.specs.Marked.{rule_said};
 ghost use Rattle.dsedge_serve.specs.declared.outcome.Outcome.{Outcome};
 ghost use Rattle.ds_conductor.specs.Steps.{opened};
@@ -21,7 +23,7 @@ use crate::marking::{
 };
 use crate::outcome::Outcome;
 use crate::quoting::answer_quote;
-use crate::selling::{Manner, Place, answer_drive, answer_kept};
+use crate::supplies::Supplies;
 use crate::telling::{answer_arrivals, answer_every_arrival, telling_status};
 use ds_checker::Accepted;
 use ds_conductor::RedRule;
@@ -37,6 +39,7 @@ use dsedge_book::{HeldForm, answer_book};
 use dsedge_faults::{Advice, Fault};
 use dsedge_lines::{Ending, GivenName, PumpFault};
 use dsedge_meter::{EnvelopeCommand, MeterCommand};
+use dsedge_selling::{Manner, Place, answer_drive, answer_kept};
 use dsedge_texts::accept;
 use pcap_capture::{Intake, Outlet};
 use std::alloc::Global;
@@ -93,30 +96,31 @@ fn judge_run<I: Intake, O: Outlet>(
     }
 }
 
-/// Answers what a plan asks for, on the output, from the texts of its files. Words are set to what more there is to say of
-/// the verdict on a run.
-#[tactic(auto, using(crate::proofs::HeldLemmas::unsound_held))]
-fn answer<R: Wait + Threads + Sync, S: Shelf, I: Intake, O: Outlet>(
+/// Answers what a plan asks for, on the output, from the texts of its files, and says more beside answers on `faults`,
+/// where that is asked for. Words are set to what more there is to say of the verdict on a run.
+#[tactic(auto, using(crate::proofs::HeldLemmas::unsound_held, dsedge_saying::proofs::SayingLaws::unsaid))]
+fn answer<R: Wait + Threads + Sync, S: Shelf, I: Intake, O: Outlet, F: Outlet>(
     alloc: Global,
     rt: &R,
     plan: &Plan<'_>,
-    texts: &[Vec<u8>],
-    shelf: &S,
+    supplies: &Supplies<'_, S>,
     intake: &mut I,
     output: &mut O,
+    faults: &mut F,
     words: &mut String,
 ) -> Outcome
-    requires { length texts.now ≡ length (files_of plan.now) }
+    requires { length supplies.now.texts.now ≡ length (files_of plan.now) }
     ensures served { I.tells intake.old → O.tells output.old →
-        IsAnswered (S.stands shelf.now) plan.now (map (λ text. text.items) texts.now) (I.left intake.old)
-        (I.left intake.new) result
-        (O.held output.old) (O.held output.new) }
-    ensures foreseen { IsForeseen plan.now (map (λ text. text.items) texts.now) result }
+        IsAnswered (S.stands supplies.now.shelf.now) plan.now (map (λ text. text.items) supplies.now.texts.now)
+        (I.left intake.old) (I.left intake.new) result (O.held output.old) (O.held output.new) }
+    ensures foreseen { IsForeseen plan.now (map (λ text. text.items) supplies.now.texts.now) result }
     ensures writes { IsOfWrites (is_output_fault result) (O.failed output.old) (O.failed output.new) }
     ensures reads { is_broken_off result ≡ false
         → IsOfReads (is_input_fault result) (I.failed intake.old) (I.failed intake.new) (I.calls intake.new) }
     ensures misused { is_misused result ≡ true → O.held output.new ≡ O.held output.old }
+    ensures said { HasSaid F.Outlet (is_spoken supplies.now.is_asked plan.now) faults.old faults.new }
 {
+    let texts = supplies.texts;
     match plan {
         Plan::Show(text) => {
             Outcome::Answered(answer_text(text.as_bytes(), Ending::Whole, output))
@@ -175,8 +179,9 @@ fn answer<R: Wait + Threads + Sync, S: Shelf, I: Intake, O: Outlet>(
             let manner = Manner {
                 limits: *limits,
                 in_json: *in_json,
+                is_explained: speaks(supplies.is_asked, *in_json),
             };
-            Outcome::Answered(answer_drive(alloc, rt, manner, domain, intake, output))
+            Outcome::Answered(answer_drive(alloc, rt, manner, domain, intake, output, faults))
         }
         Plan::Drive {
             limits,
@@ -188,13 +193,14 @@ fn answer<R: Wait + Threads + Sync, S: Shelf, I: Intake, O: Outlet>(
             let manner = Manner {
                 limits: *limits,
                 in_json: *in_json,
+                is_explained: speaks(supplies.is_asked, *in_json),
             };
             let place = Place {
-                shelf,
+                shelf: supplies.shelf,
                 name: name.text(),
                 manner,
             };
-            Outcome::Answered(answer_kept(alloc, rt, &place, domain, intake, output))
+            Outcome::Answered(answer_kept(alloc, rt, &place, domain, intake, output, faults))
         }
         Plan::Book {
             book,
@@ -202,7 +208,8 @@ fn answer<R: Wait + Threads + Sync, S: Shelf, I: Intake, O: Outlet>(
             ..
         } => {
             let (domain, form) = (texts[0].as_slice(), form_said(*to_domain));
-            Outcome::Answered(answer_book(alloc, shelf, book.text(), domain, form, output))
+            let name = book.text();
+            Outcome::Answered(answer_book(alloc, supplies.shelf, name, domain, form, output))
         }
         Plan::Arrivals {
             place: None,
@@ -234,6 +241,13 @@ fn answer<R: Wait + Threads + Sync, S: Shelf, I: Intake, O: Outlet>(
             answer_mark(rt, alloc, domain, certificate, &marking, intake, output)
         }
     }
+}
+
+/// Whether more is said behind what a broker refuses: where that is asked for, and no objects are.
+fn speaks(is_asked: bool, in_json: bool) -> bool
+    ensures { result ≡ is_asked && not in_json }
+{
+    is_asked && !in_json
 }
 
 /// How what a book holds is told, by whether that is asked for as a domain text.
@@ -307,40 +321,41 @@ fn tell_after<F: Outlet>(
 }
 
 /// Does what a plan asks for: answers on the output, tells a fault on `faults`, and gives the exit status, with what
-/// there is to say behind the fault, and of the verdict on a run.
+/// there is to say behind the fault, and of the verdict on a run. Where more is asked for, it is said on `faults` too,
+/// behind what a broker refuses, and nothing beside other answers.
 ///
-/// `texts` are the contents of the files that the plan names, in the order of its words. `drive` keeps `rt`: its broker
-/// waits for feeds that look; a book that it keeps stands on `shelf`. `mark` starts threads with `rt`.
+/// `drive` keeps `rt`: its broker waits for feeds that look. `mark` starts threads with `rt`.
 pub fn serve<R: Wait + Threads + Sync, S: Shelf, I: Intake, O: Outlet, F: Outlet>(
     alloc: Global,
     rt: &R,
     plan: &Plan<'_>,
-    texts: &[Vec<u8>],
-    shelf: &S,
+    supplies: &Supplies<'_, S>,
     intake: &mut I,
     output: &mut O,
     faults: &mut F,
 ) -> Served
-    requires { length texts.now ≡ length (files_of plan.now) }
+    requires { length supplies.now.texts.now ≡ length (files_of plan.now) }
     ensures still { F.tells faults.old → F.tells faults.new }
     // One outcome stands behind what is written, what is told, the status and the advice.
     ensures outcome { let names = names_of plan.now in
         (outcome : Outcome) × (result.status ≡ status_after names outcome)
         × (I.tells intake.old → O.tells output.old →
-        IsAnswered (S.stands shelf.now) plan.now (map (λ text. text.items) texts.now) (I.left intake.old)
-        (I.left intake.new) outcome
-        (O.held output.old) (O.held output.new))
-        × (F.tells faults.old → IsToldBy (IsToldAfter (in_json_of plan.now) names outcome) (F.held faults.old)
-        (F.held faults.new) (F.failed faults.old) (F.failed faults.new))
+        IsAnswered (S.stands supplies.now.shelf.now) plan.now (map (λ text. text.items) supplies.now.texts.now)
+        (I.left intake.old) (I.left intake.new) outcome (O.held output.old) (O.held output.new))
+        × (F.tells faults.old → IsToldBehind (is_spoken supplies.now.is_asked plan.now)
+        (IsToldAfter (in_json_of plan.now) names outcome) (F.held faults.old) (F.held faults.new)
+        (F.failed faults.old) (F.failed faults.new))
         × IsOfWrites (is_output_fault outcome) (O.failed output.old) (O.failed output.new)
         × (is_broken_off outcome ≡ false
         → IsOfReads (is_input_fault outcome) (I.failed intake.old) (I.failed intake.new) (I.calls intake.new))
-        × IsForeseen plan.now (map (λ text. text.items) texts.now) outcome
+        × IsForeseen plan.now (map (λ text. text.items) supplies.now.texts.now) outcome
         × (result.advice ≡ advice_after (in_json_of plan.now) names outcome)
         × (is_misused outcome ≡ true → O.held output.new ≡ O.held output.old) }
 {
     let mut words = String::new(alloc);
-    let outcome = answer(alloc, rt, plan, texts, shelf, intake, output, &mut words);
+    let outcome = answer(
+        alloc, rt, plan, supplies, intake, output, faults, &mut words,
+    );
     let names = plan.names();
     let status = status_after(&names, &outcome);
     let advice = tell_after(alloc, plan.in_json(), &names, outcome, faults);

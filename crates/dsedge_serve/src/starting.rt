@@ -5,6 +5,7 @@ ghost use Rattle.dsedge_faults.specs.Advised.{advice_on};
 ghost use Rattle.dsedge_faults.specs.Faults.{status_of};
 ghost use Rattle.dsedge_json_faults.specs.FaultObjects.{IsFaultTold, IsToldBy, advice_as};
 ghost use Rattle.dsedge_answers.specs.Replies.{IsOfWrites};
+ghost use Rattle.dsedge_serve.specs.Spoken.{IsToldBehind, is_spoken_in};
 ghost use Rattle.dsedge_serve.specs.Started.{AreKnown, Course, IsCourseFrom, IsCourseOn, IsCourseWith};
 ghost use Rattle.dsedge_serve.specs.Started.{IsWritten, fault_of_line, fault_of_words};
 ghost use Rattle.dsedge_serve.specs.Started.{IsCourseOf, IsUnreadable, input_from, is_broken_off, is_unread, is_unwritten};
@@ -14,6 +15,7 @@ ghost use Rattle.dsedge_texts.specs.Readable.{texts_of};
 
 use crate::ended::{Ended, Started};
 use crate::serving::serve;
+use crate::supplies::Supplies;
 use ds_ledger_base::Shelf;
 use dsedge_answers::tell_fault;
 use dsedge_base::{Plan, UsageFault, plan};
@@ -120,6 +122,7 @@ fn start_with<R: Wait + Threads + Sync, D: Folder + Shelf, I: Intake, O: Outlet,
     alloc: Global,
     rt: &R,
     plan: &Plan<'_>,
+    is_asked: bool,
     folder: &D,
     intake: &mut I,
     output: &mut O,
@@ -131,8 +134,8 @@ fn start_with<R: Wait + Threads + Sync, D: Folder + Shelf, I: Intake, O: Outlet,
         × IsCourseOf (D.tells folder.now) (D.holds folder.now) course
         × IsWritten (D.stands folder.now) course (I.tells intake.old × O.tells output.old) (I.left intake.old) (I.left intake.new)
         (O.held output.old) (O.held output.new)
-        × (F.tells faults.old → IsToldBy (IsToldIn course) (F.held faults.old) (F.held faults.new) (F.failed faults.old)
-        (F.failed faults.new))
+        × (F.tells faults.old → IsToldBehind (is_spoken_in is_asked course) (IsToldIn course) (F.held faults.old)
+        (F.held faults.new) (F.failed faults.old) (F.failed faults.new))
         × IsOfWrites (is_unwritten course) (O.failed output.old) (O.failed output.new)
         × (is_broken_off course ≡ false
         → IsOfReads (is_unread course) (I.failed intake.old) (I.failed intake.new) (I.calls intake.new))
@@ -144,8 +147,11 @@ fn start_with<R: Wait + Threads + Sync, D: Folder + Shelf, I: Intake, O: Outlet,
                 alloc,
                 rt,
                 plan,
-                texts.as_slice(),
-                folder,
+                &Supplies {
+                    texts: texts.as_slice(),
+                    shelf: folder,
+                    is_asked,
+                },
                 intake,
                 output,
                 faults,
@@ -168,6 +174,7 @@ fn start_on<R: Wait + Threads + Sync, D: Folder + Shelf, I: Intake, O: Outlet, F
     alloc: Global,
     rt: &R,
     words: &[String],
+    is_asked: bool,
     folder: &D,
     intake: &mut I,
     output: &mut O,
@@ -179,22 +186,23 @@ fn start_on<R: Wait + Threads + Sync, D: Folder + Shelf, I: Intake, O: Outlet, F
         × IsCourseOf (D.tells folder.now) (D.holds folder.now) course
         × IsWritten (D.stands folder.now) course (I.tells intake.old × O.tells output.old) (I.left intake.old) (I.left intake.new)
         (O.held output.old) (O.held output.new)
-        × (F.tells faults.old → IsToldBy (IsToldIn course) (F.held faults.old) (F.held faults.new) (F.failed faults.old)
-        (F.failed faults.new))
+        × (F.tells faults.old → IsToldBehind (is_spoken_in is_asked course) (IsToldIn course) (F.held faults.old)
+        (F.held faults.new) (F.failed faults.old) (F.failed faults.new))
         × IsOfWrites (is_unwritten course) (O.failed output.old) (O.failed output.new)
         × (is_broken_off course ≡ false
         → IsOfReads (is_unread course) (I.failed intake.old) (I.failed intake.new) (I.calls intake.new))
         × (result.advice ≡ advice_in course) }
 {
     match plan(alloc, words) {
-        Ok(plan) => start_with(alloc, rt, &plan, folder, intake, output, faults),
+        Ok(plan) => start_with(alloc, rt, &plan, is_asked, folder, intake, output, faults),
         Err(fault) => refuse_start(alloc, &fault_of_words(fault), asks_json(words), faults),
     }
 }
 
 /// Runs the program on its words, the name of the program left out; where there are none, the first line of the input
 /// gives them, and the rest is the input. Files that the words name come from `folder`, and books stand there. Gives the
-/// exit status, what there is to say behind what was told, and what was found, of which more can be said.
+/// exit status, what there is to say behind what was told, and what was found, of which more can be said. What there is
+/// to say behind the answers of a broker is said, where that is asked for.
 ///
 /// Refused: `Usage` for a first line of more than 65,536 bytes or one that is not UTF-8, and for words that ask for
 /// nothing; `Read` where the first line could not be read, `File` where a file could not, `Memory` where memory ran out.
@@ -202,6 +210,7 @@ pub fn start<R: Wait + Threads + Sync, D: Folder + Shelf, I: Intake, O: Outlet, 
     alloc: Global,
     rt: &R,
     given: &[String],
+    is_asked: bool,
     folder: &D,
     intake: &mut I,
     output: &mut O,
@@ -218,18 +227,27 @@ pub fn start<R: Wait + Threads + Sync, D: Folder + Shelf, I: Intake, O: Outlet, 
         × IsWritten (D.stands folder.now) course (I.tells intake.old × O.tells output.old) (input_from texts (I.left intake.old))
         (I.left intake.new)
         (O.held output.old) (O.held output.new)
-        × (F.tells faults.old → IsToldBy (IsToldIn course) (F.held faults.old) (F.held faults.new) (F.failed faults.old)
-        (F.failed faults.new))
+        × (F.tells faults.old → IsToldBehind (is_spoken_in is_asked course) (IsToldIn course) (F.held faults.old)
+        (F.held faults.new) (F.failed faults.old) (F.failed faults.new))
         × IsOfWrites (is_unwritten course) (O.failed output.old) (O.failed output.new)
         × (is_broken_off course ≡ false
         → IsOfReads (is_unread course) (I.failed intake.old) (I.failed intake.new) (I.calls intake.new))
         × (result.advice ≡ advice_in course) }
 {
     if !given.is_empty() {
-        return start_on(alloc, rt, given, folder, intake, output, faults);
+        return start_on(alloc, rt, given, is_asked, folder, intake, output, faults);
     }
     match first_line(alloc, intake) {
-        Ok(words) => start_on(alloc, rt, words.as_slice(), folder, intake, output, faults),
+        Ok(words) => start_on(
+            alloc,
+            rt,
+            words.as_slice(),
+            is_asked,
+            folder,
+            intake,
+            output,
+            faults,
+        ),
         Err(fault) => refuse_start(alloc, &fault_of_line(fault), false, faults),
     }
 }

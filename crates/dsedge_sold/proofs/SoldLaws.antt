@@ -18,7 +18,7 @@ use Rattle.dsedge_json.proofs.BlankLaws.{text_flat, text_plain, text_said}
 use Rattle.dsedge_json.proofs.ObjectLaws.{refusal_says}
 use Rattle.dsedge_texts.specs.Refused.{refusal_line}
 use Rattle.dsedge_texts.specs.Wording.{kind_text, text_or_dash}
-use Rattle.dsedge_sold.specs.Sold.{done_line, fault_line, granted_line, hold_line, offered_line, refused_line, sight_line, unoffered_line}
+use Rattle.dsedge_sold.specs.Sold.{done_line, fault_line, granted_line, offered_line, refused_line, sight_line, unoffered_line}
 use Rattle.dsedge_sold.specs.SoldObjects.{done_data, granted_data, hold_data, kind_data, offered_data, refused_data, sight_data, sight_line_in, sold_line_in, unoffered_data}
 
 -- ---- commands that are accepted

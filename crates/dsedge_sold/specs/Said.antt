@@ -1,5 +1,5 @@
 -- What a broker answers, by its line, or by the line of its object: both say the same answer.
-use Rattle.std.specs.Prelude.{ℕ, Bool, true, false, List, Option}
+use Rattle.std.specs.Prelude.{ℕ, Bool, true, false, List}
 use Rattle.serde_json.specs.Data.{Data}
 use Rattle.json_lines.specs.JsonLines.{line_of}
 use Rattle.ds_broker.specs.declared.entry.Entry.{Entry}

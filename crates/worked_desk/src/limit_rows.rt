@@ -100,6 +100,7 @@ fn driven<J: Naming, R: Wait + Abort + Copy + Drop>(
         limits,
         contracts,
         in_json: false,
+        is_explained: false,
     };
     let made = DriveCommand::<J, R, Unkept>::new(alloc, rt, log, sale, Unkept, Vec::new(alloc));
     let mut command = made.expect(&rt, "memory");

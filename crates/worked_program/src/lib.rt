@@ -11,6 +11,8 @@ mod audit_rows;
 #[cfg(test)]
 mod book_rows;
 #[cfg(test)]
+mod conversation_rows;
+#[cfg(test)]
 mod draw_rows;
 #[cfg(test)]
 mod drive_rows;
@@ -28,3 +30,5 @@ mod quote_rows;
 mod rows;
 #[cfg(test)]
 mod terminal_rows;
+#[cfg(test)]
+mod verdict_rows;

@@ -28,7 +28,7 @@ fn run_in<W: Wait + Threads + Sync, D: Folder + Shelf, I: Intake, O: Outlet, F: 
     output: &mut O,
     faults: &mut F,
 ) -> u8 {
-    let ended = start(alloc, rt, words, folder, intake, output, faults);
+    let ended = start(alloc, rt, words, false, folder, intake, output, faults);
     ended.status
 }
 

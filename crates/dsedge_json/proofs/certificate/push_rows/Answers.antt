@@ -1,4 +1,4 @@
-use Rattle.std.proofs.Common.{◌≡◌, ◌++◌, ap, ◌∙◌, arith, length}
+use Rattle.std.proofs.Common.{◌++◌, ap, ◌∙◌, arith, length}
 use Rattle.std.proofs.lemmas.Slice.Zip.{Zip-more, either_empty_from_Zip}
 use Rattle.dsedge_json.specs.Certificates.{bounds_from, tokens_of}
 use Rattle.dsedge_json.proofs.CertificateLaws.{rows-ended, rows-more}

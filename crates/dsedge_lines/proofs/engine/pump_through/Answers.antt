@@ -12,13 +12,13 @@ use Rattle.dsedge_lines.proofs.engine.pump_through.Goals as goal
 pub loop-command-init : goal.loop-command-init
 loop-command-init g c = record {
   room = c.requires.room;
-  number = omega (arith, c.requires.number, g.met.I.Intake.few c.args.intake.now);
-  carried = rw c.requires.carry (has_byte-nil 10);
+  number = omega (arith, c.requires.fresh.number, g.met.I.Intake.few c.args.intake.now);
+  carried = rw c.requires.fresh.carry (has_byte-nil 10);
   told = λ tells. tells;
   told_outlet = λ tells. tells;
   failed = refl;
   failed_outlet = refl;
-  answer = λ tells tells_outlet. ([], sym (append-nil _), rw (c.requires.carry, c.requires.out, c.requires.number) refl);
+  answer = λ tells tells_outlet. ([], sym (append-nil _), rw (c.requires.fresh.carry, c.requires.fresh.out, c.requires.fresh.number) refl);
 }
 
 pub loop-command-preserved : goal.loop-command-preserved

@@ -1,9 +1,9 @@
-use Rattle.std.proofs.Common.{ap, map, not, string_bytes, sym, ◌&&◌, ◌∙◌, ℕ, List, Bool, subst}
-use Rattle.dsedge_explained.specs.Asked.{IsSaid}
+use Rattle.std.proofs.Common.{ap, not, string_bytes, ◌&&◌, ◌∙◌, Bool, subst}
+use Rattle.dsedge_saying.specs.Saying.{IsSaid}
 use Rattle.dsedge_serve.proofs.StartLemmas.{asks_mapped}
 use Rattle.dsedge_serve.proofs.running.run_on.Goals as goal
 
--- what is told is told by the start, behind it by the texts of the files, and behind that by the advice
+-- what is said and told is so by the start, behind it by the texts of the files, and behind that by the advice
 pub returns : goal.returns
 returns g c =
     let started = c.start-ended.ensures.course in
@@ -18,14 +18,17 @@ returns g c =
         started.3,
         started.4,
         λ tells. let told = started.5 tells in (
-          told.0,
-          told.1,
+          told.told.0,
+          told.told.1,
           record {
+            behind_words = told.behind_words;
+            words_failures = told.words_failures;
             behind_line = behind;
             line_failures = failures;
             behind_texts = g.F.Outlet.held c.explain.new.faults;
             texts_failures = g.F.Outlet.failed c.explain.new.faults;
-            told = told.2;
+            spoken_words = told.said;
+            told = told.told.2;
             said = subst P same (c.explain.ensures.said (c.start-ended.ensures.still tells));
             advised = rw (← started.8) (c.advise.ensures (c.explain.ensures.still (c.start-ended.ensures.still tells)));
           },

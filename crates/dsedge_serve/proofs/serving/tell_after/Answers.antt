@@ -1,4 +1,4 @@
-use Rattle.std.proofs.Common.{List, [], ℕ, ap, append-nil, inl, refl, subst, sym}
+use Rattle.std.proofs.Common.{List, [], ℕ, ap, subst}
 use Rattle.dsedge_base.specs.Files.{Names}
 use Rattle.dsedge_json_faults.specs.FaultObjects.{IsToldBy}
 use Rattle.dsedge_json_faults.proofs.TellingLaws.{told_by}

@@ -1,7 +1,7 @@
 use Rattle.std.proofs.Common.{Err, List, ℕ, ap, false, inl, map, refl, string_bytes, subst, sym, ◌∙◌, []}
-use Rattle.dsedge_serve.specs.Started.{IsCourseOn}
+use Rattle.dsedge_serve.specs.Started.{IsCourseOn, IsToldIn}
 use Rattle.dsedge_serve.specs.Started.Course.{Refused}
-use Rattle.dsedge_serve.proofs.StartLemmas.{from_given, from_words, input_given, is_wordless, none_mapped, reads_behind, some_mapped, unread_line, usage_unwritten, written_behind}
+use Rattle.dsedge_serve.proofs.StartLemmas.{from_given, from_words, input_given, is_wordless, none_mapped, reads_behind, some_mapped, told_alone, unread_line, usage_unwritten, written_behind}
 use Rattle.dsedge_serve.proofs.starting.start.Goals as goal
 
 -- a course on the words that are given
@@ -53,7 +53,7 @@ returns-in-Err-clause-course g c =
       λ tells. inl (refl, rw c.fault_of_line.ensures (is_wordless bytes fault (λ usage. first.usage tells (ap (λ f. Err f) usage)))),
       tt,
       refl,
-      c.refuse_start.ensures.told,
+      λ told. told_alone (IsToldIn (Refused false c.fault_of_line.result)) _ _ _ _ (c.refuse_start.ensures.told told),
       refl,
       λ whole. rw c.fault_of_line.ensures (unread_line fault _ _ _ first.reads),
       c.refuse_start.ensures.advice,

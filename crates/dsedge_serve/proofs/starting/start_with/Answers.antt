@@ -1,6 +1,8 @@
 use Rattle.std.proofs.Common.{Ok, ap, length, map, refl, sym, ◌∙◌}
 use Rattle.std.proofs.lemmas.List.{length-map}
+use Rattle.dsedge_serve.specs.Started.{IsToldIn}
 use Rattle.dsedge_serve.specs.Started.Course.{Served, Unread}
+use Rattle.dsedge_serve.proofs.StartLemmas.{told_alone}
 use Rattle.dsedge_serve.proofs.starting.start_with.Goals as goal
 
 pub returns-in-Ok-clause-course : goal.returns-in-Ok-clause-course
@@ -31,7 +33,7 @@ returns-in-Err-clause-course g c = (
   refl,
   c.in-Err.ensures.refused,
   refl,
-  rw (← c.in_json.ensures) c.refuse_start.ensures.told,
+  λ told. told_alone (IsToldIn (Unread c.args.plan.now c.in-Err.fault)) _ _ _ _ (rw (← c.in_json.ensures) (c.refuse_start.ensures.told told)),
   refl,
   λ whole. refl,
   rw (← c.in_json.ensures) c.refuse_start.ensures.advice,

@@ -1,7 +1,6 @@
-use Rattle.std.proofs.Common.{◌≡◌, ◌∷◌, [], length, None, Some, refl, sym, ap, subst, ◌∙◌, inl, inr, arith, rules, ◌+◌}
+use Rattle.std.proofs.Common.{◌≡◌, ◌∷◌, [], length, sym, ap, ◌∙◌, inl, inr, arith, rules, ◌+◌}
 use Rattle.std.proofs.lemmas.List.{nil_from_length}
 use Rattle.std.specs.Vec.Iter.{into_iter_items}
-use Rattle.ds_broker.specs.Entries.{next_serial}
 use Rattle.ds_ledger_base.specs.Replays.{replay}
 use Rattle.ds_ledger_base.proofs.ReplayLaws.{replay-accepted, replay-end, replay-refused}
 use Rattle.dsedge_drive.proofs.shop.Shop.replay.Goals as goal

@@ -1,8 +1,8 @@
-use Rattle.std.proofs.Common.{ℕ, List, []}
+use Rattle.std.proofs.Common.{[]}
 use Rattle.line_text.specs.Lines.{lines_of}
 use Rattle.dsedge_drive.specs.Driven.{opening_book}
-use Rattle.dsedge_serve.proofs.SaleLemmas.{unledgered_served}
-use Rattle.dsedge_serve.proofs.selling.answer_drive.Goals as goal
+use Rattle.dsedge_selling.proofs.SaleLemmas.{unledgered_served}
+use Rattle.dsedge_selling.proofs.selling.answer_drive.Goals as goal
 
 pub returns-in-Ok-clause-served : goal.returns-in-Ok-clause-served
 returns-in-Ok-clause-served g c tells told =

@@ -1,5 +1,5 @@
 -- How a sale ends whose book a ledger keeps.
-use Rattle.std.specs.Prelude.{Option, None, Some, Result, Ok, Err}
+use Rattle.std.specs.Prelude.{Option, Some, Result, Ok, Err}
 use Rattle.ds_broker.specs.declared.refusal.BrokerRefusal.{BrokerRefusal}
 use Rattle.ds_broker.specs.declared.refusal.BrokerRefusal.TheVariants as refusals
 use Rattle.ds_ledger_base.specs.declared.fault.BookFault.{BookFault}

@@ -1,5 +1,5 @@
 -- What a sale wrote whose book a ledger keeps, by how it ends.
-use Rattle.std.proofs.Common.{◌≡◌, ◌⊎◌, ℕ, List, [], ◌++◌, Bool, false, true, Option, None, Some, Result, Ok, Err, IfOk, OnErr, refl, sym, ap, subst, ◌∙◌, inl, inr}
+use Rattle.std.proofs.Common.{◌≡◌, ◌⊎◌, ℕ, List, [], ◌++◌, Bool, false, Option, None, Some, Result, Ok, Err, IfOk, OnErr, refl, sym, ap, ◌∙◌, inl, inr}
 use Rattle.ds_broker.specs.Books.{Book, Limits}
 use Rattle.ds_broker.specs.declared.command.Command.{Command}
 use Rattle.ds_broker.specs.declared.refusal.BrokerRefusal.{BrokerRefusal}
@@ -23,9 +23,9 @@ use Rattle.dsedge_drive.specs.Opened.{IsUnopened}
 use Rattle.dsedge_drive.specs.declared.command.Sale.{Sale}
 use Rattle.pcap_capture.specs.Fronts.{IsFrontOf}
 use Rattle.pcap_capture.proofs.FrontLaws.{IsFrontOf-none}
-use Rattle.dsedge_serve.specs.Sales.{concluded_as, refused_as, unkept_as, unledgered_as, unopened_as}
+use Rattle.dsedge_selling.specs.Sales.{concluded_as, refused_as, unkept_as, unledgered_as, unopened_as}
 use Rattle.dsedge_answers.specs.Replies.{IsServed, Reply, reply_of}
-use Rattle.dsedge_serve.specs.Served.{IsKeptServed, IsSoldBehind, IsSoldFrom, IsSoldOn, IsUnshelved}
+use Rattle.dsedge_selling.specs.Sold.{IsKeptServed, IsSoldBehind, IsSoldFrom, IsSoldOn, IsUnshelved}
 use Rattle.dsedge_answers.specs.declared.conclusion.Conclusion.{Conclusion}
 use Rattle.dsedge_answers.specs.declared.conclusion.Conclusion.TheVariants.{Ended, Unaccepted, Uncertified, Unkept, Unsound}
 

@@ -1,4 +1,4 @@
-ghost use Rattle.std.specs.Prelude.{◌≡◌, List, []};
+ghost use Rattle.std.specs.Prelude.{◌≡◌, ◌⊎◌, List, [], Ok, Err, IfErr};
 ghost use Rattle.line_text.specs.Lines.{lines_of};
 ghost use Rattle.ds_domain.specs.DomainTexts.{parse_of};
 ghost use Rattle.ds_broker.specs.declared.command.Command as commands;
@@ -7,16 +7,19 @@ ghost use Rattle.dsedge_drive.specs.Driven.{drive_from, opening_book};
 ghost use Rattle.pcap_capture.specs.Counts.{IsOfReads};
 ghost use Rattle.dsedge_lines.specs.Faults.{is_read_fault, is_write_fault};
 ghost use Rattle.dsedge_answers.specs.Replies.{IsOfWrites, IsServed, reply_of};
-ghost use Rattle.dsedge_serve.specs.Served.{IsKeptServed, IsSoldBehind, IsSoldFrom, IsUnsoundBefore, reply_sold};
-ghost use Rattle.dsedge_serve.specs.Sales.{concluded_as, unkept_as, unledgered_as, unopened_as};
-ghost use Rattle.dsedge_serve.specs.declared.outcome.Outcome.{Outcome};
+ghost use Rattle.dsedge_answers.specs.declared.conclusion.Conclusion.{Conclusion};
+ghost use Rattle.dsedge_lines.specs.declared.fault.PumpFault.{PumpFault};
+ghost use Rattle.dsedge_saying.specs.Saying.{HasSaid};
+ghost use Rattle.dsedge_selling.specs.Sales.{concluded_as, unkept_as, unledgered_as, unopened_as};
+ghost use Rattle.dsedge_selling.specs.Sold.{IsKeptServed, IsSoldBehind, IsSoldFrom, reply_sold};
 
 use ds_broker::{BrokerRefusal, Command, Limits};
 use ds_domain::{DomainFault, Kind, parse};
 use ds_ledger_base::{BookFault, Ledger, LedgerFault, RefusedReplay, Shelf, Unkept};
 use dsedge_answers::Conclusion;
 use dsedge_drive::{DriveCommand, Naming, Opened, Sale};
-use dsedge_lines::{Ending, PumpFault, pump};
+use dsedge_lines::{Ending, PumpFault};
+use dsedge_saying::pump_saying;
 use pcap_capture::{Intake, Outlet};
 use std::alloc::Global;
 use std::marker::Brand;
@@ -24,36 +27,46 @@ use std::sync::Wait;
 
 /// How a broker sells.
 #[derive(Clone, Copy)]
-pub(crate) struct Manner {
+pub struct Manner {
     /// How much its book takes.
-    pub(crate) limits: Limits,
+    pub limits: Limits,
     /// Whether its answers are objects of JSON.
-    pub(crate) in_json: bool,
+    pub in_json: bool,
+    /// Whether more is said behind what it refuses, for a person.
+    pub is_explained: bool,
 }
 
 /// Where a broker's book is kept, and how it sells.
 #[derive(Drop)]
-pub(crate) struct Place<'a, S> {
-    pub(crate) shelf: &'a S,
-    pub(crate) name: &'a str,
-    pub(crate) manner: Manner,
+pub struct Place<'a, S> {
+    /// Where books stand.
+    pub shelf: &'a S,
+    /// The name of the book.
+    pub name: &'a str,
+    /// How it sells.
+    pub manner: Manner,
 }
 
-/// Sells the contracts of the domain that a text says, by the lines of the input.
-pub(crate) fn answer_drive<R: Wait, I: Intake, O: Outlet>(
+/// Sells the contracts of the domain that a text says, by the lines of the input, and says more on `faults`, behind what
+/// it refuses, where that is asked for.
+#[tactic(auto, using(dsedge_saying::proofs::SayingLaws::unsaid))]
+pub fn answer_drive<R: Wait, I: Intake, O: Outlet, F: Outlet>(
     alloc: Global,
     rt: &R,
     manner: Manner,
     text: &[u8],
     intake: &mut I,
     output: &mut O,
+    faults: &mut F,
 ) -> Result<Conclusion, PumpFault>
     ensures served { I.tells intake.old → O.tells output.old →
         IsServed (reply_sold manner.in_json manner.limits (parse_of text.now) (lines_of (I.left intake.old))) result (O.held output.old)
         (O.held output.new) }
-    ensures unsound { IsUnsoundBefore (parse_of text.now) (Outcome.Answered result) }
+    ensures unsound { IfErr (parse_of text.now) (λ fault.
+        (result ≡ Ok (Conclusion.Unsound fault)) ⊎ (result ≡ Err PumpFault.NoMemory)) }
     ensures writes { IsOfWrites (is_write_fault result) (O.failed output.old) (O.failed output.new) }
     ensures reads { IsOfReads (is_read_fault result) (I.failed intake.old) (I.failed intake.new) (I.calls intake.new) }
+    ensures said { HasSaid F.Outlet manner.is_explained faults.old faults.new }
 {
     match parse(alloc, text) {
         Ok((domain, contracts)) => {
@@ -62,9 +75,10 @@ pub(crate) fn answer_drive<R: Wait, I: Intake, O: Outlet>(
                 limits: manner.limits,
                 contracts,
                 in_json: manner.in_json,
+                is_explained: manner.is_explained,
             };
             let nothing = (Unkept, Vec::new(alloc));
-            let sold = sell::<Brand, R, Unkept, I, O>(
+            let sold = sell::<Brand, R, Unkept, I, O, F>(
                 alloc,
                 rt,
                 Opened::new(),
@@ -72,6 +86,7 @@ pub(crate) fn answer_drive<R: Wait, I: Intake, O: Outlet>(
                 nothing,
                 intake,
                 output,
+                faults,
             );
             unledgered(sold)
         }
@@ -86,22 +101,25 @@ pub(crate) fn answer_drive<R: Wait, I: Intake, O: Outlet>(
 }
 
 /// Sells the contracts of the domain that a text says, by the lines of the input, from the commands on that a ledger
-/// keeps.
-pub(crate) fn answer_kept<R: Wait, S: Shelf, I: Intake, O: Outlet>(
+/// keeps, and says more likewise.
+#[tactic(auto, using(dsedge_saying::proofs::SayingLaws::unsaid))]
+pub fn answer_kept<R: Wait, S: Shelf, I: Intake, O: Outlet, F: Outlet>(
     alloc: Global,
     rt: &R,
     place: &Place<'_, S>,
     text: &[u8],
     intake: &mut I,
     output: &mut O,
+    faults: &mut F,
 ) -> Result<Conclusion, PumpFault>
     ensures served { I.tells intake.old → O.tells output.old →
         IsSoldFrom (S.stands place.now.shelf.now place.now.name.now) place.now.manner.in_json place.now.manner.limits
-        (parse_of text.now) (lines_of (I.left intake.old)) result (O.held output.old)
-        (O.held output.new) }
-    ensures unsound { IsUnsoundBefore (parse_of text.now) (Outcome.Answered result) }
+        (parse_of text.now) (lines_of (I.left intake.old)) result (O.held output.old) (O.held output.new) }
+    ensures unsound { IfErr (parse_of text.now) (λ fault.
+        (result ≡ Ok (Conclusion.Unsound fault)) ⊎ (result ≡ Err PumpFault.NoMemory)) }
     ensures writes { IsOfWrites (is_write_fault result) (O.failed output.old) (O.failed output.new) }
     ensures reads { IsOfReads (is_read_fault result) (I.failed intake.old) (I.failed intake.new) (I.calls intake.new) }
+    ensures said { HasSaid F.Outlet place.now.manner.is_explained faults.old faults.new }
 {
     match parse(alloc, text) {
         Ok((domain, contracts)) => {
@@ -110,9 +128,10 @@ pub(crate) fn answer_kept<R: Wait, S: Shelf, I: Intake, O: Outlet>(
                 limits: place.manner.limits,
                 contracts,
                 in_json: place.manner.in_json,
+                is_explained: place.manner.is_explained,
             };
             match place.shelf.open(alloc, place.name) {
-                Ok(kept) => sell::<Brand, R, S::Kept, I, O>(
+                Ok(kept) => sell::<Brand, R, S::Kept, I, O, F>(
                     alloc,
                     rt,
                     Opened::new(),
@@ -120,6 +139,7 @@ pub(crate) fn answer_kept<R: Wait, S: Shelf, I: Intake, O: Outlet>(
                     kept,
                     intake,
                     output,
+                    faults,
                 ),
                 Err(fault) => unkept(fault),
             }
@@ -135,8 +155,8 @@ pub(crate) fn answer_kept<R: Wait, S: Shelf, I: Intake, O: Outlet>(
 }
 
 /// Sells contracts by the lines of the input, from the commands on that a ledger keeps.
-#[tactic(auto, using(crate::proofs::SaleLemmas::unopened_sold, crate::proofs::SaleLemmas::unopened_faults))]
-fn sell<J: Naming, R: Wait, L: Ledger + Drop, I: Intake, O: Outlet>(
+#[tactic(auto, using(crate::proofs::SaleLemmas::unopened_sold, crate::proofs::SaleLemmas::unopened_faults, dsedge_saying::proofs::SayingLaws::unsaid))]
+fn sell<J: Naming, R: Wait, L: Ledger + Drop, I: Intake, O: Outlet, F: Outlet>(
     alloc: Global,
     rt: &R,
     opened: Opened,
@@ -144,6 +164,7 @@ fn sell<J: Naming, R: Wait, L: Ledger + Drop, I: Intake, O: Outlet>(
     kept: (L, Vec<Command>),
     intake: &mut I,
     output: &mut O,
+    faults: &mut F,
 ) -> Result<Conclusion, PumpFault>
     requires log { opened ≡ J.log }
     requires opening { J.opening ≡ opening_book sale.domain sale.limits }
@@ -155,21 +176,25 @@ fn sell<J: Naming, R: Wait, L: Ledger + Drop, I: Intake, O: Outlet>(
         (lines_of (I.left intake.old)) result (O.held output.old) (O.held output.new) }
     ensures writes { IsOfWrites (is_write_fault result) (O.failed output.old) (O.failed output.new) }
     ensures reads { IsOfReads (is_read_fault result) (I.failed intake.old) (I.failed intake.new) (I.calls intake.new) }
+    ensures said { HasSaid F.Outlet sale.is_explained faults.old faults.new }
 {
     let (ledger, commands) = kept;
+    let is_explained = sale.is_explained;
     match DriveCommand::<J, &R, L>::new(alloc, rt, opened, sale, ledger, commands) {
-        Ok(command) => sell_by(alloc, command, intake, output),
+        Ok(command) => sell_by(alloc, command, is_explained, intake, output, faults),
         Err(fault) => unopened(fault),
     }
 }
 
 /// Sells by a command before its first line.
 #[tactic(auto, using(crate::proofs::SaleLemmas::concluded_served, crate::proofs::SaleLemmas::concluded_faults))]
-fn sell_by<J: Naming, R: Wait + Drop, L: Ledger + Drop, I: Intake, O: Outlet>(
+fn sell_by<J: Naming, R: Wait + Drop, L: Ledger + Drop, I: Intake, O: Outlet, F: Outlet>(
     alloc: Global,
     command: DriveCommand<J, R, L>,
+    is_explained: bool,
     intake: &mut I,
     output: &mut O,
+    faults: &mut F,
 ) -> Result<Conclusion, PumpFault>
     requires { command.unsaid ≡ [] }
     ensures served { I.tells intake.old → O.tells output.old →
@@ -177,9 +202,10 @@ fn sell_by<J: Naming, R: Wait + Drop, L: Ledger + Drop, I: Intake, O: Outlet>(
         (O.held output.old) (O.held output.new) }
     ensures writes { IsOfWrites (is_write_fault result) (O.failed output.old) (O.failed output.new) }
     ensures reads { IsOfReads (is_read_fault result) (I.failed intake.old) (I.failed intake.new) (I.calls intake.new) }
+    ensures said { HasSaid F.Outlet is_explained faults.old faults.new }
 {
     let mut command = command;
-    let answered = pump(alloc, &mut command, intake, output);
+    let answered = pump_saying(alloc, &mut command, is_explained, intake, output, faults);
     let fault = command.fault();
     drop(command);
     concluded(answered, fault)

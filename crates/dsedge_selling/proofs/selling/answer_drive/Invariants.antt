@@ -1,5 +1,5 @@
 use Rattle.dsedge_drive.specs.Driven.{opening_book}
-use Rattle.dsedge_serve.proofs.selling.answer_drive.Given as goal
+use Rattle.dsedge_selling.proofs.selling.answer_drive.Given as goal
 
 -- the desk that is opened
 abbrev pub ghosts-sell : goal.ghosts-sell

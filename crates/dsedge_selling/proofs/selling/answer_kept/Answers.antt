@@ -1,8 +1,8 @@
-use Rattle.std.proofs.Common.{ℕ, List, [], inl}
+use Rattle.std.proofs.Common.{[]}
 use Rattle.line_text.specs.Lines.{lines_of}
 use Rattle.ds_domain.specs.DomainTexts.{parse_of}
-use Rattle.dsedge_serve.proofs.SaleLemmas.{starved_from, unshelved}
-use Rattle.dsedge_serve.proofs.selling.answer_kept.Goals as goal
+use Rattle.dsedge_selling.proofs.SaleLemmas.{starved_from}
+use Rattle.dsedge_selling.proofs.selling.answer_kept.Goals as goal
 
 pub returns-in-Err-NoMemory-clause-served : goal.returns-in-Err-NoMemory-clause-served
 returns-in-Err-NoMemory-clause-served g c tells told =

@@ -1,0 +1,2 @@
+-- Lemmas on what is said beside answers.
+pub mod SayingLaws

@@ -1,0 +1,2 @@
+-- What is said beside answers, for a person.
+pub mod Saying

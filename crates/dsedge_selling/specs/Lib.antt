@@ -1,0 +1,3 @@
+-- Contracts sold by the lines of an input.
+pub mod Sales
+pub mod Sold
