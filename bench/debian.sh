@@ -1,5 +1,5 @@
 #!/bin/bash
-# Marks every capture among the sources of Debian's packages wireshark, tcpdump, libpcap and tcpreplay by `dsedge
+# Marks every capture among the sources of Debian's packages wireshark, tcpdump, libpcap, tcpreplay and ndpi by `dsedge
 # mark`, and has it judged twice. Captures are found by their first four bytes, also within .gz files.
 #
 #     bench/debian.sh [FOLDER] [AT ONCE]
@@ -17,7 +17,8 @@
 # points as they should be, and no other changed. What `--red drop` left is compared with the capture as it was
 # without its red frames.
 #
-# TSHARK names another tshark, and none where it is empty.
+# TSHARK names another tshark, and none where it is empty; PACKAGES names other packages, and MOST is how many bytes a
+# file has at most that is looked at.
 #
 # It prints counts by format and link type, the refusals by their fault, and a line for each difference; and ends with
 # status 1 where there is one.
@@ -59,6 +60,12 @@ compares() {
                     column = said[3] == 6 ? count : count - 1
                     if (old[column] == "") { print "frame " said[1] ": tshark sees no such packet"; exit }
                     old[column] = put(old[column], said[2])
+                    # a wrong checksum stays as it is, and is by accident that of the header with the new code point
+                    split(after[place], new, "\t")
+                    if (old[9] ~ /^0/ && new[9] ~ /^1/) {
+                        sub(/^0/, "1", old[9])
+                        sub(/Bad checksum \[should be\],?/, "", old[8])
+                    }
                 }
                 line = old[1]
                 for (column = 2; column <= count; column++) line = line OFS old[column]
@@ -182,7 +189,7 @@ fetches() {
 }
 
 packages=()
-for package in wireshark tcpdump libpcap tcpreplay; do
+for package in ${PACKAGES:-wireshark tcpdump libpcap tcpreplay ndpi}; do
     if compgen -G "$kept/sources/${package}_*.orig.tar.*" > /dev/null || fetches "$package"; then
         packages+=("$package")
     else
@@ -209,7 +216,8 @@ rustc -O --edition 2021 -o "$folder/judge" "$bench/judge_marks/main.rs" || exit 
 : > "$folder/differences"
 : > "$folder/harms"
 : > "$folder/copies"
-find "$folder/all" -type f -print0 | xargs -0 "$folder/judge" captures > "$folder/paths"
+find "$folder/all" -type f ${MOST:+-size "-$((MOST + 1))c"} -print0 |
+    xargs -0 "$folder/judge" captures > "$folder/paths"
 echo "$(wc -l < "$folder/paths") captures of ${packages[*]}"
 tr '\n' '\0' < "$folder/paths" | xargs -0 -P "$at_once" -n 8 "$0" --judge "$folder" 2> /dev/null
 
